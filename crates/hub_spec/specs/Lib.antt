@@ -1,0 +1,13 @@
+pub mod Sums
+pub mod Problem
+pub mod Edges
+pub mod Plans
+pub mod Cuts
+pub mod Trees
+pub mod Certificates
+pub mod Lines
+pub mod Text
+pub mod Grammar
+pub mod Conditions
+pub mod Verdicts
+pub mod Theorems
