@@ -1,0 +1,4 @@
+pub mod NeededEdges
+pub mod Claims
+pub mod Decided
+pub mod VerdictLemmas
