@@ -1,18 +1,8 @@
 -- What number a token writes: a decimal cut to so many places, and a count.
 use Rattle.std.specs.Prelude.{ℕ, ◌+◌, ◌*◌, ◌/◌, ◌^◌, min, Bool, true, false, not, ◌&&◌, ◌||◌, if◌then◌else◌, ◌==◌, nat_le, nat_lt, List, [], ◌∷◌, ◌++◌, length, slice_index, ℤ, pos, neg_ℤ, Option, Some, None}
-use Rattle.std.specs.List.{list_any, list_all}
+use Rattle.std.specs.List.{list_any, list_all, before_first, after_first}
 use Rattle.std.specs.Char.{is_ascii_digit}
 use Rattle.std.specs.Str.Parse.{digits_value}
-
--- the bytes before the first that the test marks, or all where it marks none
-abbrev pub before : (ℕ → Bool) → List ℕ → List ℕ
-before marks [] = []
-before marks (b ∷ bytes) = if marks b then [] else b ∷ before marks bytes
-
--- the bytes behind the first that the test marks, or none
-abbrev pub behind : (ℕ → Bool) → List ℕ → List ℕ
-behind marks [] = []
-behind marks (b ∷ bytes) = if marks b then bytes else behind marks bytes
 
 -- `+` or `-`
 abbrev pub is_sign : ℕ → Bool
@@ -38,19 +28,19 @@ unsigned (b ∷ bytes) = if is_sign b then bytes else b ∷ bytes
 
 -- the part before the exponent's mark, as `12.5` of `-12.5e+3`
 abbrev pub mantissa : List ℕ → List ℕ
-mantissa token = before is_exponent_mark (unsigned token)
+mantissa token = before_first is_exponent_mark (unsigned token)
 
 -- what stands before the point, as `12` of `-12.5e+3`
 abbrev pub whole_part : List ℕ → List ℕ
-whole_part token = before is_point (mantissa token)
+whole_part token = before_first is_point (mantissa token)
 
 -- what stands behind the point, as `5` of `-12.5e+3`
 abbrev pub fraction : List ℕ → List ℕ
-fraction token = behind is_point (mantissa token)
+fraction token = after_first is_point (mantissa token)
 
 -- what stands behind the exponent's mark, as `+3` of `-12.5e+3`
 abbrev pub exponent : List ℕ → List ℕ
-exponent token = behind is_exponent_mark (unsigned token)
+exponent token = after_first is_exponent_mark (unsigned token)
 
 -- the digits of the whole part and of the fraction, in a row
 abbrev pub digits_of_both : List ℕ → List ℕ
