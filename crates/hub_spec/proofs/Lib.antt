@@ -1,0 +1,4 @@
+pub mod SumLemmas
+pub mod Sets
+pub mod WeakDuality
+pub mod Children
