@@ -56,7 +56,7 @@ cuts_hold p line [] e h = All-nil (IsCut p)
 cuts_hold p line (cut ∷ cuts) e h =
     let both = AllHold-split (dual_claims p (line + 1) (commodities p.size) cut.duals) _ h in
     let one : length cut.duals ≡ length (commodities p.size) =
-      All-head (λ (cut : Cut). length cut.duals ≡ length (commodities p.size)) cut cuts e in
+    All-head (λ (cut : Cut). length cut.duals ≡ length (commodities p.size)) cut cuts e in
     All-cons (IsCut p) cut cuts
     (record { duals = duals_hold p (line + 1) (commodities p.size) cut.duals one both.0; sums = both.1.0 })
     (cuts_hold p (line + p.size * p.size + 1) cuts (All-tail (λ (cut : Cut). length cut.duals ≡ length (commodities p.size)) cut cuts e) both.1.1)
@@ -88,32 +88,38 @@ tree_holds : (p : Problem) (cuts : List Cut) (target n line : ℕ) (b : Branchin
     → AllHold (tree_claims p cuts target line b t) → IsSound p cuts target b t
 tree_holds p cuts target n line b (branch k opened closed) r h =
     let rest : All (IsTreeLineText n) (preorder opened ++ preorder closed) =
-      All-tail (IsTreeLineText n) (branch_on k) (preorder opened ++ preorder closed) r in
-    let both = AllHold-split (tree_claims p cuts target (line + 1) (open_child b k) opened) _ h.1 in
-    (h.0
-    , tree_holds p cuts target n (line + 1) (open_child b k) opened (All-left n (preorder opened) (preorder closed) rest) both.0
-    , tree_holds p cuts target n (line + 1 + line_count opened) (closed_child b k) closed (All-right n (preorder opened) (preorder closed) rest) both.1)
+    All-tail (IsTreeLineText n) (branch_on k) (preorder opened ++ preorder closed) r in
+    let both = AllHold-split (tree_claims p cuts target (line + 1) (open_child b k) opened) _ h.1 in (
+      h.0,
+      tree_holds p cuts target n (line + 1) (open_child b k) opened (All-left n (preorder opened) (preorder closed) rest) both.0,
+      tree_holds p cuts target n (line + 1 + line_count opened) (closed_child b k) closed (All-right n (preorder opened) (preorder closed) rest) both.1,
+    )
 tree_holds p cuts target n line b (leaf denom weights) r h =
-    let one = All-head (IsTreeLineText n) (leaf_of denom weights) [] r in
-    (record {
-      denom_least = one.0;
-      denom_most = one.1;
-      numbers = All-both (λ (e : ℕ × ℕ). 1 ≤ e.0) (λ (e : ℕ × ℕ). e.0 ≤ length cuts) weights
-        (All-weaker (λ (e : ℕ × ℕ). (1 ≤ e.0) × (e.0 < 10 ^ 30) × (1 ≤ e.1) × (e.1 < 10 ^ 30)) (λ (e : ℕ × ℕ). 1 ≤ e.0) (λ e g. g.0) weights one.2.each)
-        h.0;
-      most = h.1.0;
-    }, h.1.1.0)
+    let one = All-head (IsTreeLineText n) (leaf_of denom weights) [] r in (
+      record {
+        denom_least = one.0;
+        denom_most = one.1;
+        numbers = All-both (λ (e : ℕ × ℕ). 1 ≤ e.0) (λ (e : ℕ × ℕ). e.0 ≤ length cuts) weights
+            (All-weaker (λ (e : ℕ × ℕ). (1 ≤ e.0) × (e.0 < 10 ^ 30) × (1 ≤ e.1) × (e.1 < 10 ^ 30)) (λ (e : ℕ × ℕ). 1 ≤ e.0) (λ e g. g.0) weights one.2.each)
+            h.0;
+        most = h.1.0;
+      },
+      h.1.1.0,
+    )
 tree_holds p cuts target n line b empty r h = h.0
 
 tree_claimed : (p : Problem) (cuts : List Cut) (target line : ℕ) (b : Branching) (t : Tree) → IsSound p cuts target b t
     → AllHold (tree_claims p cuts target line b t)
-tree_claimed p cuts target line b (branch k opened closed) h =
-    (h.0, AllHold-append (tree_claims p cuts target (line + 1) (open_child b k) opened) _
-    (tree_claimed p cuts target (line + 1) (open_child b k) opened h.1)
-    (tree_claimed p cuts target (line + 1 + line_count opened) (closed_child b k) closed h.2))
-tree_claimed p cuts target line b (leaf denom weights) h =
-    (All-weaker (λ (e : ℕ × ℕ). (1 ≤ e.0) × (e.0 ≤ length cuts)) (λ (e : ℕ × ℕ). e.0 ≤ length cuts) (λ e g. g.1) weights h.0.numbers
-    , (h.0.most, (h.1, tt)))
+tree_claimed p cuts target line b (branch k opened closed) h = (
+  h.0,
+  AllHold-append (tree_claims p cuts target (line + 1) (open_child b k) opened) _
+      (tree_claimed p cuts target (line + 1) (open_child b k) opened h.1)
+      (tree_claimed p cuts target (line + 1 + line_count opened) (closed_child b k) closed h.2),
+)
+tree_claimed p cuts target line b (leaf denom weights) h = (
+  All-weaker (λ (e : ℕ × ℕ). (1 ≤ e.0) × (e.0 ≤ length cuts)) (λ (e : ℕ × ℕ). e.0 ≤ length cuts) (λ e g. g.1) weights h.0.numbers,
+  (h.0.most, (h.1, tt)),
+)
 tree_claimed p cuts target line b empty h = (h, tt)
 
 -- a sum of equal numbers
@@ -147,19 +153,28 @@ holds_from_claims p k r h =
       };
       cost = routes.1.0;
       cuts = cuts_hold p (7 + k.size * k.size) k.cuts
-        (All-weaker (IsCutText k.size) (λ (cut : Cut). length cut.duals ≡ length (commodities p.size))
+          (All-weaker (IsCutText k.size) (λ (cut : Cut). length cut.duals ≡ length (commodities p.size))
           (λ cut g. g.one_for_each ∙ square ∙ sym all) k.cuts r.cuts) cuts.0;
       tree = tree_holds p k.cuts k.bound k.size _ (root p) k.tree r.tree cuts.1;
     }
 
 claims_from_holds : (p : Problem) (k : Proof) → Holds p k → AllHold (claims p k)
-claims_from_holds p k h =
-    ((h.size, h.candidates), (h.bound, (h.plan.hubs.are_candidates,
-    AllHold-append (route_claims k.plan.hubs 6 k.plan.routes) _
-    (routes_claimed p k.plan.hubs 6 (commodities p.size) k.plan.routes h.plan.routes)
-    (h.cost, AllHold-append (cut_claims p (7 + k.size * k.size) k.cuts) _
-    (cuts_claimed p (7 + k.size * k.size) k.cuts h.cuts)
-    (tree_claimed p k.cuts k.bound _ (root p) k.tree h.tree)))))
+claims_from_holds p k h = (
+  (h.size, h.candidates),
+  (
+    h.bound,
+    (
+      h.plan.hubs.are_candidates,
+      AllHold-append (route_claims k.plan.hubs 6 k.plan.routes) _
+          (routes_claimed p k.plan.hubs 6 (commodities p.size) k.plan.routes h.plan.routes) (
+            h.cost,
+            AllHold-append (cut_claims p (7 + k.size * k.size) k.cuts) _
+                (cuts_claimed p (7 + k.size * k.size) k.cuts h.cuts)
+                (tree_claimed p k.cuts k.bound _ (root p) k.tree h.tree),
+          ),
+    ),
+  ),
+)
 
 pub holds_exactly_by_claims : (p : Problem) (k : Proof) → IsInRange k → AllHold (claims p k) ↔ Holds p k
 holds_exactly_by_claims p k r = (holds_from_claims p k r, claims_from_holds p k)

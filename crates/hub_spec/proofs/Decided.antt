@@ -37,10 +37,12 @@ decided_eq a b = cases_eq a b
 pub decided_all : {X : Type 0} (P : X → Type 0) → ((x : X) → Decided (P x)) → (xs : List X) → Decided (All P xs)
 decided_all P d [] = inl (All-nil P)
 decided_all P d (x ∷ xs) = elim (d x) [
-    inl p ↦ elim (decided_all P d xs) [
-        inl ps ↦ inl (All-cons P x xs p ps)
-      | inr nps ↦ inr (λ h. nps (All-tail P x xs h)) ]
-  | inr np ↦ inr (λ h. np (All-head P x xs h)) ]
+  | inl p ↦ elim (decided_all P d xs) [
+    | inl ps ↦ inl (All-cons P x xs p ps)
+    | inr nps ↦ inr (λ h. nps (All-tail P x xs h))
+  ]
+  | inr np ↦ inr (λ h. np (All-head P x xs h))
+]
 
 -- what is in a longer list is its head or in the rest
 pub Contains-cases : {X : Type 0} (x : X) (xs : List X) (y : X) → Contains (x ∷ xs) y → (x ≡ y) ⊎ Contains xs y
@@ -59,10 +61,12 @@ Contains-none y (n, l, e) = omega arith
 pub decided_contains : (xs : List ℕ) (y : ℕ) → Decided (Contains xs y)
 decided_contains [] y = inr (Contains-none y)
 decided_contains (x ∷ xs) y = elim (decided_eq x y) [
-    inl same ↦ inl (let P : ℕ → Type 0 = λ z. Contains (x ∷ xs) z in subst P same (Contains-head x xs))
+  | inl same ↦ inl (let P : ℕ → Type 0 = λ z. Contains (x ∷ xs) z in subst P same (Contains-head x xs))
   | inr apart ↦ elim (decided_contains xs y) [
-      inl there ↦ inl (Contains-tail x xs y there)
-    | inr gone ↦ inr (λ h. elim (Contains-cases x xs y h) [ inl same ↦ apart same | inr there ↦ gone there ]) ] ]
+    | inl there ↦ inl (Contains-tail x xs y there)
+    | inr gone ↦ inr (λ h. elim (Contains-cases x xs y h) [ inl same ↦ apart same | inr there ↦ gone there ])
+  ]
+]
 
 -- the two hubs are the same, or the price is covered by the route through both and their values
 abbrev Covers : Problem → ℕ × ℕ → Prices → ℕ → ℕ → Type 0
@@ -83,21 +87,25 @@ dual_from_covers p c d h = record {
   are_candidates = h.0;
   one_hub = λ k in_k. All-contains (CoversSingle p c d) p.candidates k h.1.0 in_k;
   two_hubs = λ k m in_k in_m apart.
-    elim (All-contains (Covers p c d k) p.candidates m (All-contains (CoversAll p c d) p.candidates k h.1.1 in_k) in_m) [
-      inl same ↦ absurd (apart same)
-    | inr covered ↦ covered ];
+      elim (All-contains (Covers p c d k) p.candidates m (All-contains (CoversAll p c d) p.candidates k h.1.1 in_k) in_m) [
+        | inl same ↦ absurd (apart same)
+        | inr covered ↦ covered
+      ];
 }
 
 pub covers_from_dual : (p : Problem) (c : ℕ × ℕ) (d : Prices) → IsDual p c d
     → (All (λ (e : ℕ × ℕ). Contains p.candidates e.0) d.u × (All (CoversSingle p c d) p.candidates × All (CoversAll p c d) p.candidates))
-covers_from_dual p c d h =
-    (h.are_candidates
-    , (All-weaker (Contains p.candidates) (CoversSingle p c d) (λ k in_k. h.one_hub k in_k) p.candidates (All-contains_itself p.candidates)
-    , All-weaker (Contains p.candidates) (CoversAll p c d)
-      (λ k in_k. All-weaker (Contains p.candidates) (Covers p c d k)
+covers_from_dual p c d h = (
+  h.are_candidates,
+  (
+    All-weaker (Contains p.candidates) (CoversSingle p c d) (λ k in_k. h.one_hub k in_k) p.candidates (All-contains_itself p.candidates),
+    All-weaker (Contains p.candidates) (CoversAll p c d)
+        (λ k in_k. All-weaker (Contains p.candidates) (Covers p c d k)
         (λ m in_m. elim (decided_eq k m) [ inl same ↦ inl same | inr apart ↦ inr (h.two_hubs k m in_k in_m apart) ])
         p.candidates (All-contains_itself p.candidates))
-      p.candidates (All-contains_itself p.candidates)))
+        p.candidates (All-contains_itself p.candidates),
+  ),
+)
 
 pub decided_dual : (p : Problem) (c : ℕ × ℕ) (d : Prices) → Decided (IsDual p c d)
 decided_dual p c d = decided_by (dual_from_covers p c d) (covers_from_dual p c d)
@@ -151,49 +159,65 @@ cuts_decided p line (cut ∷ cuts) =
 
 tree_decided : (p : Problem) (cuts : List Cut) (target line : ℕ) (b : Branching) (t : Tree)
     → AllDecided (tree_claims p cuts target line b t)
-tree_decided p cuts target line b (branch k opened closed) =
-    (decided_contains b.free k
-    , AllDecided-append (tree_claims p cuts target (line + 1) (open_child b k) opened) _
-    (tree_decided p cuts target (line + 1) (open_child b k) opened)
-    (tree_decided p cuts target (line + 1 + line_count opened) (closed_child b k) closed))
-tree_decided p cuts target line b (leaf denom weights) =
-    (decided_all (λ (e : ℕ × ℕ). e.0 ≤ length cuts) (λ e. decided_le e.0 (length cuts)) weights
-    , (decided_le (weight_sum weights) denom
-    , (decided_below (pos (denom * target) -ℤ pos denom) (leaf_bound p cuts denom weights b), tt)))
+tree_decided p cuts target line b (branch k opened closed) = (
+  decided_contains b.free k,
+  AllDecided-append (tree_claims p cuts target (line + 1) (open_child b k) opened) _
+      (tree_decided p cuts target (line + 1) (open_child b k) opened)
+      (tree_decided p cuts target (line + 1 + line_count opened) (closed_child b k) closed),
+)
+tree_decided p cuts target line b (leaf denom weights) = (
+  decided_all (λ (e : ℕ × ℕ). e.0 ≤ length cuts) (λ e. decided_le e.0 (length cuts)) weights,
+  (
+    decided_le (weight_sum weights) denom,
+    (decided_below (pos (denom * target) -ℤ pos denom) (leaf_bound p cuts denom weights b), tt),
+  ),
+)
 tree_decided p cuts target line b empty = (decided_closed b, tt)
 
 pub claims_decided : (p : Problem) (k : Proof) → AllDecided (claims p k)
-claims_decided p k =
-    (decided_and (decided_eq k.size p.size) (decided_eq k.candidates (length p.candidates))
-    , (decided_le k.bound k.cost
-    , (decided_all (Contains p.candidates) (decided_contains p.candidates) k.plan.hubs
-    , AllDecided-append (route_claims k.plan.hubs 6 k.plan.routes) _ (routes_decided k.plan.hubs 6 k.plan.routes)
-    (decided_eq k.cost (plan_cost p k.plan)
-    , AllDecided-append (cut_claims p (7 + k.size * k.size) k.cuts) _ (cuts_decided p (7 + k.size * k.size) k.cuts)
-    (tree_decided p k.cuts k.bound _ (root p) k.tree)))))
+claims_decided p k = (
+  decided_and (decided_eq k.size p.size) (decided_eq k.candidates (length p.candidates)),
+  (
+    decided_le k.bound k.cost,
+    (
+      decided_all (Contains p.candidates) (decided_contains p.candidates) k.plan.hubs,
+      AllDecided-append (route_claims k.plan.hubs 6 k.plan.routes) _ (routes_decided k.plan.hubs 6 k.plan.routes) (
+        decided_eq k.cost (plan_cost p k.plan),
+        AllDecided-append (cut_claims p (7 + k.size * k.size) k.cuts) _ (cuts_decided p (7 + k.size * k.size) k.cuts)
+            (tree_decided p k.cuts k.bound _ (root p) k.tree),
+      ),
+    ),
+  ),
+)
 
 -- all of these conditions hold, or one of them is the first that fails
 pub first_failure : (cs : List Claim) → AllDecided cs → AllHold cs ⊎ ((kind : Kind) × (line : ℕ) × FailsFirst cs kind line)
 first_failure [] d = inl tt
 first_failure (c ∷ cs) d = elim d.0 [
-    inl holds ↦ elim (first_failure cs d.1) [
-        inl all ↦ inl (holds, all)
-      | inr some ↦ inr (some.0, some.1, inr (holds, some.2)) ]
-  | inr fails ↦ inr (c.kind, c.line, inl (fails, refl, refl)) ]
+  | inl holds ↦ elim (first_failure cs d.1) [
+    | inl all ↦ inl (holds, all)
+    | inr some ↦ inr (some.0, some.1, inr (holds, some.2))
+  ]
+  | inr fails ↦ inr (c.kind, c.line, inl (fails, refl, refl))
+]
 
 pub failure_or_all : (cs : List Claim) (kind : Kind) (line : ℕ) → AllHold cs → FailsFirst cs kind line → ⊥
 failure_or_all [] kind line a f = f
 failure_or_all (c ∷ cs) kind line a f = elim f [
-    inl here ↦ here.0 a.0
-  | inr later ↦ failure_or_all cs kind line a.1 later.1 ]
+  | inl here ↦ here.0 a.0
+  | inr later ↦ failure_or_all cs kind line a.1 later.1
+]
 
 pub one_failure : (cs : List Claim) (kind other : Kind) (line place : ℕ) → FailsFirst cs kind line → FailsFirst cs other place
     → (kind ≡ other) × (line ≡ place)
 one_failure [] kind other line place f g = absurd f
 one_failure (c ∷ cs) kind other line place f g = elim f [
-    inl here ↦ elim g [
-        inl there ↦ (sym here.1 ∙ there.1, sym here.2 ∙ there.2)
-      | inr later ↦ absurd (here.0 later.0) ]
+  | inl here ↦ elim g [
+    | inl there ↦ (sym here.1 ∙ there.1, sym here.2 ∙ there.2)
+    | inr later ↦ absurd (here.0 later.0)
+  ]
   | inr later ↦ elim g [
-        inl there ↦ absurd (there.0 later.0)
-      | inr further ↦ one_failure cs kind other line place later.1 further.1 ] ]
+    | inl there ↦ absurd (there.0 later.0)
+    | inr further ↦ one_failure cs kind other line place later.1 further.1
+  ]
+]

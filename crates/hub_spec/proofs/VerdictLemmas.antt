@@ -20,19 +20,26 @@ optimal_from_bound weak p bytes cost ok why =
     let bound : k.bound ≡ cost = why.certificate.3 in
     let is : k.cost ≡ cost = why.certificate.4 in
     let paid : k.cost ≡ plan_cost p k.plan = holds.cost in
-    let P : ℕ → Type 0 = λ n. NoPlanBelow p n in
-    (k, why.certificate.1
-    , record { is_plan = holds.plan; least = subst P (bound ∙ sym is ∙ paid) (weak p k ok holds) }
-    , sym paid ∙ is, is)
+    let P : ℕ → Type 0 = λ n. NoPlanBelow p n in (
+      k,
+      why.certificate.1,
+      record { is_plan = holds.plan; least = subst P (bound ∙ sym is ∙ paid) (weak p k ok holds) },
+      sym paid ∙ is,
+      is,
+    )
 
 pub bounds_from_bound : WeakDuality → (p : Problem) (bytes : List ℕ) (bound cost : ℕ) → IsProblem p → Why p bytes (bounds bound cost)
     → (k : Proof) × Spells bytes k × IsPlan p k.plan × (plan_cost p k.plan ≡ cost) × NoPlanBelow p bound
 bounds_from_bound weak p bytes bound cost ok why =
     let k : Proof = why.1.certificate.0 in
     let holds : Holds p k = why.1.certificate.2 in
-    let P : ℕ → Type 0 = λ n. NoPlanBelow p n in
-    (k, why.1.certificate.1, holds.plan, sym holds.cost ∙ why.1.certificate.4
-    , subst P why.1.certificate.3 (weak p k ok holds))
+    let P : ℕ → Type 0 = λ n. NoPlanBelow p n in (
+      k,
+      why.1.certificate.1,
+      holds.plan,
+      sym holds.cost ∙ why.1.certificate.4,
+      subst P why.1.certificate.3 (weak p k ok holds),
+    )
 
 -- what the verdict says of the certificate that the bytes spell
 abbrev Said : Problem → Proof → Verdict → Type 0
@@ -87,21 +94,25 @@ one_said p k v too_long r h g = absurd g
 
 some_said : (p : Problem) (k : Proof) → IsInRange k → (verdict : Verdict) × Said p k verdict
 some_said p k r = elim (first_failure (claims p k) (claims_decided p k)) [
-    inl all ↦ (let holds : Holds p k = (holds_exactly_by_claims p k r).0 all in
+  | inl all ↦ (let holds : Holds p k = (holds_exactly_by_claims p k r).0 all in
       elim (cases_lt k.bound k.cost) [
-        inl below ↦ (bounds k.bound k.cost, (below, holds, refl, refl))
-      | inr above ↦ (let e : k.bound ≡ k.cost = (let b : k.bound ≤ k.cost = holds.bound in omega arith) in
-          (optimal k.cost, (holds, e, refl))) ])
-  | inr some ↦ (fails some.0 some.1, some.2) ]
+        | inl below ↦ (bounds k.bound k.cost, (below, holds, refl, refl))
+        | inr above ↦ (let e : k.bound ≡ k.cost = (let b : k.bound ≤ k.cost = holds.bound in omega arith) in
+            (optimal k.cost, (holds, e, refl)))
+      ])
+  | inr some ↦ (fails some.0 some.1, some.2)
+]
 
 -- bytes that spell a certificate, and are not too long, have exactly one verdict
 spelled : OneCertificate → EachIsTextOrFault → (p : Problem) (bytes : List ℕ) (k : Proof)
     → length bytes ≤ 2 ^ 30 → Spells bytes k
     → (verdict : Verdict) × Why p bytes verdict × ((other : Verdict) → Why p bytes other → other ≡ verdict)
 spelled one text p bytes k short spells =
-    let some = some_said p k spells.in_range in
-    (some.0, why_from_said p bytes k some.0 short spells some.1
-    , λ other why. one_said p k other some.0 spells.in_range (said one text p bytes k other short spells why) some.1)
+    let some = some_said p k spells.in_range in (
+      some.0,
+      why_from_said p bytes k some.0 short spells some.1,
+      λ other why. one_said p k other some.0 spells.in_range (said one text p bytes k other short spells why) some.1,
+    )
 
 -- what bytes with a fault, and not too long, say
 misread_only : EachIsTextOrFault → (p : Problem) (bytes : List ℕ) (fault : TextFault) (other : Verdict)
@@ -123,7 +134,9 @@ long_only p bytes too_long long why = refl
 pub one_verdict_from : OneCertificate → EachIsTextOrFault → (p : Problem) (bytes : List ℕ)
     → (verdict : Verdict) × Why p bytes verdict × ((other : Verdict) → Why p bytes other → other ≡ verdict)
 one_verdict_from one text p bytes = elim (cases_lt (2 ^ 30) (length bytes)) [
-    inl long ↦ (too_long, long, λ other why. long_only p bytes other long why)
+  | inl long ↦ (too_long, long, λ other why. long_only p bytes other long why)
   | inr short ↦ elim ((text bytes).one_of) [
-      inl spelt ↦ spelled one text p bytes spelt.0 short spelt.1
-    | inr fault ↦ (misread fault.0, (short, fault.1), λ other why. misread_only text p bytes fault.0 other short fault.1 why) ] ]
+    | inl spelt ↦ spelled one text p bytes spelt.0 short spelt.1
+    | inr fault ↦ (misread fault.0, (short, fault.1), λ other why. misread_only text p bytes fault.0 other short fault.1 why)
+  ]
+]
