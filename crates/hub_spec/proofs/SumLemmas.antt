@@ -1,5 +1,5 @@
 -- Sums over lists: of natural numbers, and of integers.
-use Rattle.std.proofs.Common.{◌≡◌, ℕ, zero, suc, ◌+◌, ◌*◌, ◌≤◌, ℤ, pos, ◌+ℤ◌, ◌≤ℤ◌, Bool, true, false, cond, List, [], ◌∷◌, ◌++◌, length, sum_by, filter, Contains, ◌≢◌, ◌⊎◌, inl, inr, ⊎_elim, refl, ap, sym, nat_eq, nat_lt, eqb-true, mul-add, arith}
+use Rattle.std.proofs.Common.{◌≡◌, ℕ, zero, suc, ◌+◌, ◌*◌, ◌≤◌, ℤ, pos, ◌+ℤ◌, ◌≤ℤ◌, Bool, true, false, cond, List, [], ◌∷◌, ◌++◌, length, sum_by, zip, filter, Contains, ◌≢◌, ◌⊎◌, inl, inr, ⊎_elim, refl, ap, sym, nat_eq, nat_lt, eqb-true, mul-add, arith}
 use Rattle.std.specs.Int.{int_min}
 use Rattle.std.proofs.lemmas.Int.{ints, clamps}
 use Rattle.std.proofs.lemmas.Bool.{cond_both, eqb-false}
@@ -17,6 +17,13 @@ Contains-cons_cases x xs y (suc n, l, e) = inr (n, omega arith, e)
 
 pub nil_contains_none : {X : Type 0} {G : Type 0} (x : X) → Contains [] x → G
 nil_contains_none x (n, l, e) = absurd (omega arith)
+
+pub zip_push : {A B : Type 0} (xs : List A) (ys : List B) (x : A) (y : B) → length ys ≡ length xs
+    → zip (xs ++ x ∷ []) (ys ++ y ∷ []) ≡ zip xs ys ++ (x, y) ∷ []
+zip_push [] [] x y long = refl
+zip_push [] (b ∷ ys) x y long = absurd (omega arith)
+zip_push (a ∷ xs) [] x y long = absurd (omega arith)
+zip_push (a ∷ xs) (b ∷ ys) x y long = ap (λ ps. (a, b) ∷ ps) (zip_push xs ys x y (omega arith))
 
 -- ---- sums of natural numbers
 
