@@ -8,10 +8,8 @@
 
 mod duality;
 mod edges;
-mod texts;
 mod verdicts;
 
 pub use duality::{bound_of_children, weak_duality};
 pub use edges::needed_edges_suffice;
-pub use texts::{each_is_text_or_fault, each_lead_is_text, each_text_leads, one_certificate};
-pub use verdicts::{bounds_bound, holds_by_conditions, one_verdict, optimal_is_optimal};
+pub use verdicts::{bounds_bound, holds_by_conditions, optimal_is_optimal};
