@@ -106,11 +106,11 @@ unfolding flow
 flows_by_commodity p ok =
     let cs = commodities p.size in
     let long : length (map (flow_of p) cs) ≡ p.size * p.size = length-map cs (flow_of p) ∙ length_commodities p.size in
-    let same : map (flow_of p) cs ≡ p.flows = ext_get_or 0 (map (flow_of p) cs) p.flows (omega (arith, long, ok.flow_for_each_pair))
-    (λ t below.
+    let at = λ (t : ℕ) (below : t < length (map (flow_of p) cs)).
     get_or-map (flow_of p) cs t (0, 0) 0 (omega (arith, below, long, length_commodities p.size))
     ∙ ap (flow_of p) (commodity_at p.size t (0, 0) (omega (arith, below, long)))
-    ∙ ap (λ m. get_or p.flows m 0) (div-add-mod' t p.size)) in
+    ∙ ap (λ m. get_or p.flows m 0) (div-add-mod' t p.size) in
+    let same = ext_get_or 0 (map (flow_of p) cs) p.flows (omega (arith, long, ok.flow_for_each_pair)) at in
     sym (sum-map (flow_of p) cs) ∙ ap sum same
 
 pub commodities_are_nodes : (n : ℕ) → All (λ c. (c.0 < n) × (c.1 < n)) (commodities n)
