@@ -3,6 +3,7 @@ pub mod Problem
 pub mod Edges
 pub mod Plans
 pub mod Cuts
+pub mod Separation
 pub mod Trees
 pub mod Certificates
 pub mod Lines
