@@ -1,6 +1,12 @@
 //! What the text of a certificate says, both ways.
 
+ghost use Rattle.hub_spec.specs.Reading.{LinesReadBack};
 ghost use Rattle.hub_spec.specs.Theorems.{OneCertificate, EachTextLeads, EachLeadIsText, EachIsTextOrFault};
+
+/// At each stage that lines can lead to, a line is read as an item exactly where it may stand there and says this.
+pub fn lines_read_back()
+    ensures { LinesReadBack }
+{}
 
 /// The lines of a certificate within the grammar's ranges are as wanted, from the first to the last.
 pub fn each_text_leads()
