@@ -1,6 +1,5 @@
-use Rattle.hub_spec.proofs.Decoding.{item_of-back}
-use Rattle.hub_spec.proofs.Numbers.{number_of-decimal, spelled}
+use Rattle.hub_spec.proofs.Wanted.{lines_read_back_lem}
 use Rattle.hub_spec.proofs.texts.lines_read_back.Goals as goal
 
 pub returns : goal.returns
-returns c = ?
+returns c = lines_read_back_lem
