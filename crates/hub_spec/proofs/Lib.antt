@@ -1,3 +1,5 @@
 pub mod Numbers
 pub mod Decoding
 pub mod Wanted
+pub mod CommodityIndex
+pub mod Leads
