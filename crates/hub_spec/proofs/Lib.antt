@@ -3,3 +3,5 @@ pub mod Decoding
 pub mod Wanted
 pub mod CommodityIndex
 pub mod Leads
+pub mod Stages
+pub mod LeadsBack
