@@ -5,3 +5,4 @@ pub mod CommodityIndex
 pub mod Leads
 pub mod Stages
 pub mod LeadsBack
+pub mod OneText
