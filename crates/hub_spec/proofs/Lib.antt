@@ -6,3 +6,4 @@ pub mod Leads
 pub mod Stages
 pub mod LeadsBack
 pub mod OneText
+pub mod TextOrFault
