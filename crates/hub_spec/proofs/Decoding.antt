@@ -1,5 +1,5 @@
 -- What the words of a line say: those of an item say the item, and nothing else does.
-use Rattle.std.proofs.Common.{◌≡◌, ℕ, ◌+◌, Bool, true, false, List, [], ◌∷◌, length, map, decimal, codes, Option, Some, None, option_map, nat_eq, nat_lt, cond, ◌^◌, ◌<◌, inl, inr, refl, sym, ap, ◌∙◌, subst, arith, add-one, zero, suc}
+use Rattle.std.proofs.Common.{◌≡◌, ℕ, ◌+◌, List, [], ◌∷◌, map, decimal, codes, Option, Some, None, option_map, nat_eq, ◌^◌, ◌<◌, inl, inr, refl, sym, ap, ◌∙◌, subst, add-one, zero, suc}
 use Rattle.std.specs.Prelude.{option_and_then, bytes_eq}
 use Rattle.std.specs.List.{AllByRecursion}
 use Rattle.std.specs.Option.{option_zip}
@@ -7,10 +7,10 @@ use Rattle.std.specs.Cmp.Lexicographic.{bytes_decides}
 use Rattle.std.proofs.lemmas.Bool.{cases_Bool, cond-true, cond-false, eqb-true}
 use Rattle.std.proofs.lemmas.Option.{none-some, same_Some, cond_some}
 use Rattle.hub_spec.specs.Cuts.{Prices}
-use Rattle.hub_spec.specs.Trees.{TreeLine, branch_on, leaf_of, no_hub}
+use Rattle.hub_spec.specs.Trees.{branch_on, leaf_of, no_hub}
 use Rattle.hub_spec.specs.Lines.{Item, says_version, says_size, says_cost, says_bound, says_hubs, says_route, says_cuts, says_cut, says_dual, says_nodes, says_tree, says_end, keyword, numbers, value_numbers, weight_numbers}
 use Rattle.hub_spec.specs.Reading.{each_of, number_of, numbers_of, node_of, pairs_of, value_of, values_of, version_item, bare_item, number_item, size_item, hubs_item, route_of_nodes, route_item, dual_item, branch_item, leaf_item, readers, read_by, item_of}
-use Rattle.hub_spec.proofs.Numbers.{number_of-decimal, Spelled, spelled}
+use Rattle.hub_spec.proofs.Numbers.{number_of-decimal, spelled}
 
 -- what gave a value
 pub option_map_some : {A B : Type 0} (f : A → B) (o : Option A) (y : B) → option_map f o ≡ Some y → (x : A) × (o ≡ Some x) × (f x ≡ y)
@@ -210,31 +210,59 @@ leaf_back (denom ∷ rest) item e = let m = option_map_some (λ w. says_tree (le
     says_same _ _ (says_tree (leaf_of denom m.0)) item m.2 refl (ap (λ l. denom ∷ l) (numbers-pairs_of rest m.0 m.1))
 
 readers_back : AllByRecursion ReadsBack readers
-readers_back =
-    (version_back,
-    (size_back,
-    (number_back (codes "cost") says_cost (λ n. refl) (λ n. refl),
-    (number_back (codes "bound") says_bound (λ n. refl) (λ n. refl),
-    (hubs_back,
-    (route_back,
-    (number_back (codes "cuts") says_cuts (λ n. refl) (λ n. refl),
-    (number_back (codes "cut") says_cut (λ n. refl) (λ n. refl),
-    (dual_back,
-    (number_back (codes "nodes") says_nodes (λ n. refl) (λ n. refl),
-    (branch_back,
-    (leaf_back,
-    (bare_back (says_tree no_hub) refl,
-    (bare_back says_end refl,
-    tt))))))))))))))
+readers_back = (
+  version_back,
+  (
+    size_back,
+    (
+      number_back (codes "cost") says_cost (λ n. refl) (λ n. refl),
+      (
+        number_back (codes "bound") says_bound (λ n. refl) (λ n. refl),
+        (
+          hubs_back,
+          (
+            route_back,
+            (
+              number_back (codes "cuts") says_cuts (λ n. refl) (λ n. refl),
+              (
+                number_back (codes "cut") says_cut (λ n. refl) (λ n. refl),
+                (
+                  dual_back,
+                  (
+                    number_back (codes "nodes") says_nodes (λ n. refl) (λ n. refl),
+                    (
+                      branch_back,
+                      (
+                        leaf_back,
+                        (
+                          bare_back (says_tree no_hub) refl,
+                          (
+                            bare_back says_end refl,
+                            tt,
+                          ),
+                        ),
+                      ),
+                    ),
+                  ),
+                ),
+              ),
+            ),
+          ),
+        ),
+      ),
+    ),
+  ),
+)
 
 read_by-back : (rs : List (List ℕ × (List ℕ → Option Item))) → AllByRecursion ReadsBack rs
     → (word ns : List ℕ) (item : Item) → read_by rs word ns ≡ Some item → Says word ns item
 unfolding ReadsBack
 read_by-back [] h word ns item e = absurd (none-some item e)
 read_by-back (r ∷ rs) h word ns item e = elim (cases_Bool (bytes_eq r.0 word)) [
-    inl same ↦ subst (λ w. Says w ns item) ((bytes_decides r.0 word).0 same)
+  | inl same ↦ subst (λ w. Says w ns item) ((bytes_decides r.0 word).0 same)
       (h.0 ns item (sym (cond-true (bytes_eq r.0 word) (r.1 ns) (read_by rs word ns) same) ∙ e))
-  | inr other ↦ read_by-back rs h.1 word ns item (sym (cond-false (bytes_eq r.0 word) (r.1 ns) (read_by rs word ns) other) ∙ e) ]
+  | inr other ↦ read_by-back rs h.1 word ns item (sym (cond-false (bytes_eq r.0 word) (r.1 ns) (read_by rs word ns) other) ∙ e)
+]
 
 pub item_of-back : (word ns : List ℕ) (item : Item) → item_of word ns ≡ Some item → Says word ns item
 unfolding item_of

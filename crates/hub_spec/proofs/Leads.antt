@@ -1,5 +1,5 @@
 -- The lines of a certificate within the ranges are as wanted, from the first to the last.
-use Rattle.std.proofs.Common.{◌≡◌, ℕ, ◌+◌, ◌-◌, ◌*◌, ◌^◌, ◌<◌, ◌≤◌, List, [], ◌∷◌, ◌++◌, length, map, All, nat_eq, if◌then◌else◌,  mul-pos, refl, sym, ap, ◌∙◌, subst, arith, zero, suc, eq-eqb, ne_eqb}
+use Rattle.std.proofs.Common.{◌≡◌, ℕ, ◌+◌, ◌-◌, ◌*◌, ◌<◌, ◌≤◌, List, [], ◌∷◌, ◌++◌, length, map, nat_eq, mul-pos, refl, sym, ap, ◌∙◌, subst, arith, zero, suc, eq-eqb, ne_eqb}
 use Rattle.std.specs.Prelude.{flat_map, zip}
 use Rattle.std.specs.List.{AllByRecursion, enumerate_from}
 use Rattle.std.proofs.lemmas.List.{map-append}
@@ -7,11 +7,11 @@ use Rattle.std.proofs.lemmas.Bool.{cond-true, cond-false}
 use Rattle.std.proofs.lemmas.List.Elements.{recursion_from_All}
 use Rattle.hub_spec.specs.Problem.{commodities}
 use Rattle.hub_spec.specs.Cuts.{Prices, Cut}
-use Rattle.hub_spec.specs.Trees.{Tree, branch, leaf, empty, TreeLine, branch_on, leaf_of, no_hub, preorder, line_count}
+use Rattle.hub_spec.specs.Trees.{Tree, branch, leaf, empty, preorder, line_count}
 use Rattle.hub_spec.specs.Certificates.{Proof}
-use Rattle.hub_spec.specs.Lines.{Item, says_version, says_size, says_cost, says_bound, says_hubs, says_route, says_cuts, says_cut, says_dual, says_nodes, says_tree, says_end}
-use Rattle.hub_spec.specs.Text.{cut_items, certificate_items, IsShort, IsDualText, IsCutText, IsWeightsText, IsTreeLineText, IsInRange}
-use Rattle.hub_spec.specs.Grammar.{Stage, want_version, want_size, want_end, want_nothing, want_cost, want_bound, want_hubs, want_cuts, want_nodes, want_route, want_cut, want_dual, want_tree, commodity_at, places_after, IsOpen, Wants, after_route, after_cut, after_dual, after_tree, after, Leads}
+use Rattle.hub_spec.specs.Lines.{Item, says_route, says_cuts, says_dual, says_nodes, says_tree, says_end}
+use Rattle.hub_spec.specs.Text.{cut_items, IsDualText, IsCutText, IsTreeLineText, IsInRange}
+use Rattle.hub_spec.specs.Grammar.{Stage, want_end, want_nothing, want_cuts, want_nodes, want_route, want_cut, want_dual, want_tree, after_route, after_cut, after_dual, after_tree, after, Leads}
 use Rattle.hub_spec.specs.Theorems.{EachTextLeads}
 use Rattle.hub_spec.proofs.CommodityIndex.{commodities_from, commodities_by_number}
 
@@ -80,10 +80,12 @@ cut_leads n all x cut some h more =
     let pos : 1 ≤ n * n = mul-pos some some in
     let duals = duals_lead n all x 0 (n * n) cut.duals (omega arith) h.one_for_each (recursion_from_All (IsDualText n) cut.duals h.each) in
     Leads-from (after_cut n all x) (want_cut n all x) (after_cut n all (x + 1)) (cut_items n (x + 1, cut))
-    (after_cut-more n all x (λ e. omega arith))
-    (refl, Leads-from (want_dual n all x 0) (after_dual n all x 0) (after_cut n all (x + 1)) (dual_items (zip (commodities n) cut.duals))
-      (sym (after_dual-more n all x 0 (λ e. omega arith)))
-      (subst (λ cs. Leads (after_dual n all x 0) (dual_items (zip cs cut.duals)) (after_cut n all (x + 1))) (sym (commodities_by_number n)) duals))
+    (after_cut-more n all x (λ e. omega arith)) (
+      refl,
+      Leads-from (want_dual n all x 0) (after_dual n all x 0) (after_cut n all (x + 1)) (dual_items (zip (commodities n) cut.duals))
+          (sym (after_dual-more n all x 0 (λ e. omega arith)))
+          (subst (λ cs. Leads (after_dual n all x 0) (dual_items (zip cs cut.duals)) (after_cut n all (x + 1))) (sym (commodities_by_number n)) duals),
+    )
 
 cuts_lead : (n all x : ℕ) (cuts : List Cut) → 1 ≤ n → x + length cuts ≡ all → AllByRecursion (IsCutText n) cuts
     → Leads (after_cut n all x) (flat_map (cut_items n) (enumerate_from (x + 1) cuts)) (want_nodes n)
@@ -115,25 +117,26 @@ tree_leads n places left (branch k a b) some room all h =
     let first = tree_leads n (places + 1) (left - 1) a (omega arith) (omega arith) (λ e. omega arith) parts.0 in
     let second = tree_leads n places (left - 1 - line_count a) b some (omega arith) (λ e. omega (arith, all e)) parts.1 in
     let between : after_tree n (places + 1 - 1) (left - 1 - line_count a) ≡ want_tree n places (left - 1 - line_count a) =
-          ap (λ p. after_tree n p (left - 1 - line_count a)) (omega arith) ∙ after_tree-more n places (left - 1 - line_count a) (omega arith) in
+    ap (λ p. after_tree n p (left - 1 - line_count a)) (omega arith) ∙ after_tree-more n places (left - 1 - line_count a) (omega arith) in
     let end : left - 1 - line_count a - line_count b ≡ left - (1 + line_count a + line_count b) = omega arith in
     let joined : Leads (want_tree n (places + 1) (left - 1)) (map says_tree (preorder a) ++ map says_tree (preorder b)) (after_tree n (places - 1) (left - 1 - line_count a - line_count b)) =
-          Leads-append (want_tree n (places + 1) (left - 1)) (want_tree n places (left - 1 - line_count a)) (after_tree n (places - 1) (left - 1 - line_count a - line_count b))
-          (map says_tree (preorder a)) (map says_tree (preorder b))
-          (subst (Leads (want_tree n (places + 1) (left - 1)) (map says_tree (preorder a))) between first) second in
-    ((h.0, (omega arith, λ e. omega arith)),
-    Leads-from (after_tree n (places + 1) (left - 1)) (want_tree n (places + 1) (left - 1)) (after_tree n (places - 1) (left - (1 + line_count a + line_count b)))
-    (map says_tree (preorder a ++ preorder b))
-    (after_tree-more n (places + 1) (left - 1) (omega arith))
-    (subst (λ l. Leads (want_tree n (places + 1) (left - 1)) l (after_tree n (places - 1) (left - (1 + line_count a + line_count b)))) (sym (map-append says_tree (preorder a) (preorder b)))
-    (subst (λ m. Leads (want_tree n (places + 1) (left - 1)) (map says_tree (preorder a) ++ map says_tree (preorder b)) (after_tree n (places - 1) m)) end joined)))
+    Leads-append (want_tree n (places + 1) (left - 1)) (want_tree n places (left - 1 - line_count a)) (after_tree n (places - 1) (left - 1 - line_count a - line_count b))
+    (map says_tree (preorder a)) (map says_tree (preorder b))
+    (subst (Leads (want_tree n (places + 1) (left - 1)) (map says_tree (preorder a))) between first) second in (
+      (h.0, (omega arith, λ e. omega arith)),
+      Leads-from (after_tree n (places + 1) (left - 1)) (want_tree n (places + 1) (left - 1)) (after_tree n (places - 1) (left - (1 + line_count a + line_count b)))
+          (map says_tree (preorder a ++ preorder b))
+          (after_tree-more n (places + 1) (left - 1) (omega arith))
+          (subst (λ l. Leads (want_tree n (places + 1) (left - 1)) l (after_tree n (places - 1) (left - (1 + line_count a + line_count b)))) (sym (map-append says_tree (preorder a) (preorder b)))
+          (subst (λ m. Leads (want_tree n (places + 1) (left - 1)) (map says_tree (preorder a) ++ map says_tree (preorder b)) (after_tree n (places - 1) m)) end joined)),
+    )
 
 whole_tree_leads : (n : ℕ) (t : Tree) → AllByRecursion (IsTreeLineText n) (preorder t)
     → Leads (want_tree n 1 (line_count t)) (map says_tree (preorder t) ++ says_end ∷ []) want_nothing
 whole_tree_leads n t h =
     Leads-append (want_tree n 1 (line_count t)) want_end want_nothing (map says_tree (preorder t)) (says_end ∷ [])
     (subst (Leads (want_tree n 1 (line_count t)) (map says_tree (preorder t))) (after_tree-all n 0 (line_count t - line_count t) (omega arith))
-      (tree_leads n 1 (line_count t) t (omega arith) (omega arith) (λ e. refl) h))
+    (tree_leads n 1 (line_count t) t (omega arith) (omega arith) (λ e. refl) h))
     (tt, refl)
 
 -- the parts of a certificate's lines from the tree back
@@ -142,22 +145,37 @@ tree_part k h = ((line_count-least k.tree, h.line_count), whole_tree_leads k.siz
 
 cuts_part : (k : Proof) (rest : List Item) → IsInRange k → Leads (want_nodes k.size) rest want_nothing
     → Leads (want_cuts k.size) (says_cuts (length k.cuts) ∷ (flat_map (cut_items k.size) (enumerate_from 1 k.cuts) ++ rest)) want_nothing
-cuts_part k rest h more = (h.cut_count,
-    Leads-append (after_cut k.size (length k.cuts) 0) (want_nodes k.size) want_nothing (flat_map (cut_items k.size) (enumerate_from 1 k.cuts)) rest
-    (cuts_lead k.size (length k.cuts) 0 k.cuts h.some_node (omega arith) (recursion_from_All (IsCutText k.size) k.cuts h.cuts)) more)
+cuts_part k rest h more = (
+  h.cut_count,
+  Leads-append (after_cut k.size (length k.cuts) 0) (want_nodes k.size) want_nothing (flat_map (cut_items k.size) (enumerate_from 1 k.cuts)) rest
+      (cuts_lead k.size (length k.cuts) 0 k.cuts h.some_node (omega arith) (recursion_from_All (IsCutText k.size) k.cuts h.cuts)) more,
+)
 
 routes_part : (k : Proof) (rest : List Item) → IsInRange k → Leads (want_cuts k.size) rest want_nothing
     → Leads (want_route k.size 0) (route_items (zip (commodities k.size) k.plan.routes) ++ rest) want_nothing
 routes_part k rest h more =
     let pos : 1 ≤ k.size * k.size = mul-pos h.some_node h.some_node in
     let routes = routes_lead k.size 0 (k.size * k.size) k.plan.routes (omega arith) h.one_route_each
-          (recursion_from_All (λ (r : ℕ × ℕ). (r.0 < k.size) × (r.1 < k.size)) k.plan.routes h.routes) in
+    (recursion_from_All (λ (r : ℕ × ℕ). (r.0 < k.size) × (r.1 < k.size)) k.plan.routes h.routes) in
     Leads-from (want_route k.size 0) (after_route k.size 0) want_nothing (route_items (zip (commodities k.size) k.plan.routes) ++ rest)
     (sym (after_route-more k.size 0 (λ e. omega arith)))
     (Leads-append (after_route k.size 0) (want_cuts k.size) want_nothing (route_items (zip (commodities k.size) k.plan.routes)) rest
     (subst (λ cs. Leads (after_route k.size 0) (route_items (zip cs k.plan.routes)) (want_cuts k.size)) (sym (commodities_by_number k.size)) routes) more)
 
 pub each_text_leads_lem : EachTextLeads
-each_text_leads_lem k h =
-    (tt, ((h.some_node, h.size, h.some_candidate, h.candidates), (h.cost, (h.bound, ((h.some_hub, h.hubs_ascend, h.hubs),
-    routes_part k _ h (cuts_part k _ h (tree_part k h)))))))
+each_text_leads_lem k h = (
+  tt,
+  (
+    (h.some_node, h.size, h.some_candidate, h.candidates),
+    (
+      h.cost,
+      (
+        h.bound,
+        (
+          (h.some_hub, h.hubs_ascend, h.hubs),
+          routes_part k _ h (cuts_part k _ h (tree_part k h)),
+        ),
+      ),
+    ),
+  ),
+)

@@ -1,11 +1,10 @@
 -- Lines that are as wanted from the first to the last are those of a certificate within the ranges.
-use Rattle.std.proofs.Common.{◌≡◌, ℕ, ◌+◌, ◌-◌, ◌*◌, ◌^◌, ◌<◌, ◌≤◌, List, [], ◌∷◌, ◌++◌, length, map, All, refl, sym, ap, ◌∙◌, subst, arith, zero, suc, mul-pos, append_assoc, append-nil}
+use Rattle.std.proofs.Common.{◌≡◌, ℕ, ◌+◌, ◌-◌, ◌*◌, ◌<◌, ◌≤◌, List, [], ◌∷◌, ◌++◌, length, map, All, refl, sym, ap, ◌∙◌, subst, arith, zero, suc, mul-pos, append_assoc, append-nil}
 use Rattle.std.specs.Prelude.{flat_map, zip}
 use Rattle.std.specs.List.{AllByRecursion, enumerate_from}
 use Rattle.std.specs.List.Sorted.{IsStrictlyIncreasing}
 use Rattle.std.proofs.lemmas.List.Elements.{All-from_recursion}
 use Rattle.hub_spec.specs.Problem.{commodities}
-use Rattle.hub_spec.specs.Plans.{Plan}
 use Rattle.hub_spec.specs.Cuts.{Prices, Cut}
 use Rattle.hub_spec.specs.Trees.{Tree, branch, leaf, empty, TreeLine, branch_on, leaf_of, no_hub, preorder, line_count}
 use Rattle.hub_spec.specs.Certificates.{Proof}
@@ -94,27 +93,30 @@ record ReadRoutes (n t m : ℕ) (items : List Item) : Type 0 where
   nodes : AllByRecursion (λ (r : ℕ × ℕ). (r.0 < n) × (r.1 < n)) routes
   ends : Ends (want_cuts n) rest
 
-read_routes : (n t m : ℕ) (items : List Item) → t + m ≡ n * n → Ends (after_route n t) items → ReadRoutes n t m items
-read_routes n t zero items whole h = record {
-  routes = [];
-  rest = items;
-  are = refl;
-  long = refl;
-  nodes = tt;
-  ends = subst (λ s. Ends s items) (after_route-all n t (omega arith)) h;
-}
-read_routes n t (suc m) items whole h =
-    let line = first_line (want_route n t) items (λ e. cc) (subst (λ s. Ends s items) (after_route-more n t (λ e. omega arith)) h) in
+no_routes : (n t : ℕ) (items : List Item) → Ends (want_cuts n) items → ReadRoutes n t 0 items
+no_routes n t items h = record { routes = []; rest = items; are = refl; long = refl; nodes = tt; ends = h }
+
+with_route : (n t m : ℕ) (items : List Item) (line : First (want_route n t) items) → ReadRoutes n (t + 1) m line.rest → ReadRoutes n t (suc m) items
+with_route n t m items line more =
     let route = route_wanted n t line.item line.wanted in
-    let more = read_routes n (t + 1) m line.rest (omega arith) line.ends in
+    let head : items ≡ says_route (commodity_at n t) route.0 ∷ line.rest = line.are ∙ ap (λ i. i ∷ line.rest) route.1 in
     record {
       routes = route.0 ∷ more.routes;
       rest = more.rest;
-      are = line.are ∙ ap (λ i. i ∷ line.rest) route.1 ∙ ap (λ l. says_route (commodity_at n t) route.0 ∷ l) more.are;
+      are = head ∙ ap (λ l. says_route (commodity_at n t) route.0 ∷ l) more.are;
       long = ap suc more.long;
       nodes = (route.2, more.nodes);
       ends = more.ends;
     }
+
+first_route : (n t : ℕ) (items : List Item) → (t ≡ n * n → ⊥) → Ends (after_route n t) items → First (want_route n t) items
+first_route n t items left h = first_line (want_route n t) items (λ e. cc) (subst (λ s. Ends s items) (after_route-more n t left) h)
+
+read_routes : (n t m : ℕ) (items : List Item) → t + m ≡ n * n → Ends (after_route n t) items → ReadRoutes n t m items
+read_routes n t zero items whole h = no_routes n t items (subst (λ s. Ends s items) (after_route-all n t (omega arith)) h)
+read_routes n t (suc m) items whole h =
+    let line = first_route n t items (λ e. omega arith) h in
+    with_route n t m items line (read_routes n (t + 1) m line.rest (omega arith) line.ends)
 
 record ReadDuals (n all x t m : ℕ) (items : List Item) : Type 0 where
   duals : List Prices
@@ -124,27 +126,31 @@ record ReadDuals (n all x t m : ℕ) (items : List Item) : Type 0 where
   each : AllByRecursion (IsDualText n) duals
   ends : Ends (after_cut n all (x + 1)) rest
 
-read_duals : (n all x t m : ℕ) (items : List Item) → t + m ≡ n * n → Ends (after_dual n all x t) items → ReadDuals n all x t m items
-read_duals n all x t zero items whole h = record {
-  duals = [];
-  rest = items;
-  are = refl;
-  long = refl;
-  each = tt;
-  ends = subst (λ s. Ends s items) (after_dual-all n all x t (omega arith)) h;
-}
-read_duals n all x t (suc m) items whole h =
-    let line = first_line (want_dual n all x t) items (λ e. cc) (subst (λ s. Ends s items) (after_dual-more n all x t (λ e. omega arith)) h) in
+no_duals : (n all x t : ℕ) (items : List Item) → Ends (after_cut n all (x + 1)) items → ReadDuals n all x t 0 items
+no_duals n all x t items h = record { duals = []; rest = items; are = refl; long = refl; each = tt; ends = h }
+
+with_dual : (n all x t m : ℕ) (items : List Item) (line : First (want_dual n all x t) items) → ReadDuals n all x (t + 1) m line.rest
+    → ReadDuals n all x t (suc m) items
+with_dual n all x t m items line more =
     let dual = dual_wanted n all x t line.item line.wanted in
-    let more = read_duals n all x (t + 1) m line.rest (omega arith) line.ends in
+    let head : items ≡ says_dual (commodity_at n t) dual.0 ∷ line.rest = line.are ∙ ap (λ i. i ∷ line.rest) dual.1 in
     record {
       duals = dual.0 ∷ more.duals;
       rest = more.rest;
-      are = line.are ∙ ap (λ i. i ∷ line.rest) dual.1 ∙ ap (λ l. says_dual (commodity_at n t) dual.0 ∷ l) more.are;
+      are = head ∙ ap (λ l. says_dual (commodity_at n t) dual.0 ∷ l) more.are;
       long = ap suc more.long;
       each = (dual.2, more.each);
       ends = more.ends;
     }
+
+first_dual : (n all x t : ℕ) (items : List Item) → (t ≡ n * n → ⊥) → Ends (after_dual n all x t) items → First (want_dual n all x t) items
+first_dual n all x t items left h = first_line (want_dual n all x t) items (λ e. cc) (subst (λ s. Ends s items) (after_dual-more n all x t left) h)
+
+read_duals : (n all x t m : ℕ) (items : List Item) → t + m ≡ n * n → Ends (after_dual n all x t) items → ReadDuals n all x t m items
+read_duals n all x t zero items whole h = no_duals n all x t items (subst (λ s. Ends s items) (after_dual-all n all x t (omega arith)) h)
+read_duals n all x t (suc m) items whole h =
+    let line = first_dual n all x t items (λ e. omega arith) h in
+    with_dual n all x t m items line (read_duals n all x (t + 1) m line.rest (omega arith) line.ends)
 
 record ReadCuts (n x m : ℕ) (items : List Item) : Type 0 where
   cuts : List Cut
@@ -154,35 +160,42 @@ record ReadCuts (n x m : ℕ) (items : List Item) : Type 0 where
   each : AllByRecursion (IsCutText n) cuts
   ends : Ends (want_nodes n) rest
 
-read_cuts : (n all x m : ℕ) (items : List Item) → 1 ≤ n → x + m ≡ all → Ends (after_cut n all x) items → ReadCuts n x m items
-read_cuts n all x zero items some whole h = record {
-  cuts = [];
-  rest = items;
-  are = refl;
-  long = refl;
-  each = tt;
-  ends = subst (λ s. Ends s items) (after_cut-all n all x (omega arith)) h;
-}
-read_cuts n all x (suc m) items some whole h =
-    let pos : 1 ≤ n * n = mul-pos some some in
-    let line = first_line (want_cut n all x) items (λ e. cc) (subst (λ s. Ends s items) (after_cut-more n all x (λ e. omega arith)) h) in
-    let is = cut_wanted n all x line.item line.wanted in
-    let duals = read_duals n all x 0 (n * n) line.rest (omega arith) (subst (λ s. Ends s line.rest) (sym (after_dual-more n all x 0 (λ e. omega arith))) line.ends) in
-    let more = read_cuts n all (x + 1) m duals.rest some (omega arith) duals.ends in
-    let cut : Cut = record { duals = duals.duals } in
+no_cuts : (n x : ℕ) (items : List Item) → Ends (want_nodes n) items → ReadCuts n x 0 items
+no_cuts n x items h = record { cuts = []; rest = items; are = refl; long = refl; each = tt; ends = h }
+
+with_cut : (n all x m : ℕ) (items : List Item) (line : First (want_cut n all x) items) (duals : ReadDuals n all x 0 (n * n) line.rest)
+    → ReadCuts n (x + 1) m duals.rest → ReadCuts n x (suc m) items
+with_cut n all x m items line duals more =
+    let head : items ≡ says_cut (x + 1) ∷ line.rest = line.are ∙ ap (λ i. i ∷ line.rest) (cut_wanted n all x line.item line.wanted) in
     let here : line.rest ≡ dual_items (zip (commodities n) duals.duals) ++ duals.rest =
-          duals.are ∙ ap (λ cs. dual_items (zip cs duals.duals) ++ duals.rest) (sym (commodities_by_number n)) in
+    duals.are ∙ ap (λ cs. dual_items (zip cs duals.duals) ++ duals.rest) (sym (commodities_by_number n)) in
     let later : List Item = flat_map (cut_items n) (enumerate_from (x + 1 + 1) more.cuts) in
+    let all_here : line.rest ≡ (dual_items (zip (commodities n) duals.duals) ++ later) ++ more.rest =
+    here ∙ ap (λ l. dual_items (zip (commodities n) duals.duals) ++ l) more.are
+    ∙ sym (append_assoc (dual_items (zip (commodities n) duals.duals)) later more.rest) in
     record {
-      cuts = cut ∷ more.cuts;
+      cuts = record { duals = duals.duals } ∷ more.cuts;
       rest = more.rest;
-      are = line.are ∙ ap (λ i. i ∷ line.rest) is ∙ ap (λ l. says_cut (x + 1) ∷ l) here
-        ∙ ap (λ l. says_cut (x + 1) ∷ (dual_items (zip (commodities n) duals.duals) ++ l)) more.are
-        ∙ ap (λ l. says_cut (x + 1) ∷ l) (sym (append_assoc (dual_items (zip (commodities n) duals.duals)) later more.rest));
+      are = head ∙ ap (λ l. says_cut (x + 1) ∷ l) all_here;
       long = ap suc more.long;
       each = (record { one_for_each = duals.long; each = All-from_recursion (IsDualText n) duals.duals duals.each }, more.each);
       ends = more.ends;
     }
+
+first_cut : (n all x : ℕ) (items : List Item) → (x ≡ all → ⊥) → Ends (after_cut n all x) items → First (want_cut n all x) items
+first_cut n all x items left h = first_line (want_cut n all x) items (λ e. cc) (subst (λ s. Ends s items) (after_cut-more n all x left) h)
+
+cut_duals : (n all x : ℕ) (items : List Item) → 1 ≤ n → Ends (want_dual n all x 0) items → ReadDuals n all x 0 (n * n) items
+cut_duals n all x items some h =
+    let some_commodity : 1 ≤ n * n = mul-pos some some in
+    read_duals n all x 0 (n * n) items (omega arith) (subst (λ s. Ends s items) (sym (after_dual-more n all x 0 (λ e. omega arith))) h)
+
+read_cuts : (n all x m : ℕ) (items : List Item) → 1 ≤ n → x + m ≡ all → Ends (after_cut n all x) items → ReadCuts n x m items
+read_cuts n all x zero items some whole h = no_cuts n x items (subst (λ s. Ends s items) (after_cut-all n all x (omega arith)) h)
+read_cuts n all x (suc m) items some whole h =
+    let line = first_cut n all x items (λ e. omega arith) h in
+    let duals = cut_duals n all x line.rest some line.ends in
+    with_cut n all x m items line duals (read_cuts n all (x + 1) m duals.rest some (omega arith) duals.ends)
 
 -- the lines of several trees
 abbrev lines_of : List Tree → ℕ
@@ -237,30 +250,48 @@ with_line n places left (branch_on k) items rest some are text h =
       ends = ends;
     }
 
-read_trees : (n places left : ℕ) (items : List Item) → IsOpen places left → Ends (after_tree n places left) items → ReadTrees n places left items
-read_trees n places zero items room h = record {
-  trees = [];
-  rest = items;
-  are = refl;
-  many = omega (arith, room.0);
-  long = refl;
-  each = tt;
-  ends = subst (λ s. Ends s items) (after_tree-all n places 0 refl) h;
-}
-read_trees n places (suc left) items room h =
-    let line = first_line (want_tree n places (suc left)) items (λ e. cc) (subst (λ s. Ends s items) (after_tree-more n places (suc left) (omega arith)) h) in
+no_trees : (n : ℕ) (items : List Item) → Ends want_end items → ReadTrees n 0 0 items
+no_trees n items h = record { trees = []; rest = items; are = refl; many = refl; long = refl; each = tt; ends = h }
+
+some_place : (places left : ℕ) → IsOpen places (suc left) → 1 ≤ places
+some_place zero left room = absurd (omega (arith, room.1 refl))
+some_place (suc places) left room = omega arith
+
+first_tree_line : (n places left : ℕ) (items : List Item) → Ends (after_tree n places (suc left)) items → First (want_tree n places (suc left)) items
+first_tree_line n places left items h =
+    first_line (want_tree n places (suc left)) items (λ e. cc) (subst (λ s. Ends s items) (after_tree-more n places (suc left) (omega arith)) h)
+
+-- what a tree line is, with what is after it
+record TreeStep (n places left : ℕ) (items : List Item) : Type 0 where
+  line : TreeLine
+  rest : List Item
+  are : items ≡ says_tree line ∷ rest
+  text : IsTreeLineText n line
+  room : IsOpen (places_after places line) left
+  ends : Ends (after_tree n (places_after places line) left) rest
+
+tree_step : (n places left : ℕ) (items : List Item) → First (want_tree n places (suc left)) items → TreeStep n places left items
+tree_step n places left items line =
     let tree = tree_wanted n places (suc left) line.item line.wanted in
-    let some : 1 ≤ places = some_place places left room in
     let next : suc left - 1 ≡ left = omega arith in
-    let ends : Ends (after_tree n (places_after places tree.0) (suc left - 1)) line.rest = subst (λ i. Ends (after (want_tree n places (suc left)) i) line.rest) tree.1 line.ends in
-    with_line n places left tree.0 items line.rest some (line.are ∙ ap (λ i. i ∷ line.rest) tree.1) tree.2
-    (read_trees n (places_after places tree.0) left line.rest
-      (subst (IsOpen (places_after places tree.0)) next tree.3)
-      (subst (λ l. Ends (after_tree n (places_after places tree.0) l) line.rest) next ends))
-  where
-    some_place : (places left : ℕ) → IsOpen places (suc left) → 1 ≤ places
-    some_place zero left room = absurd (omega (arith, room.1 refl))
-    some_place (suc places) left room = omega arith
+    record {
+      line = tree.0;
+      rest = line.rest;
+      are = line.are ∙ ap (λ i. i ∷ line.rest) tree.1;
+      text = tree.2;
+      room = subst (IsOpen (places_after places tree.0)) next tree.3;
+      ends = subst (λ l. Ends (after_tree n (places_after places tree.0) l) line.rest) next
+          (subst (λ i. Ends (after (want_tree n places (suc left)) i) line.rest) tree.1 line.ends);
+    }
+
+read_trees : (n places left : ℕ) (items : List Item) → IsOpen places left → Ends (after_tree n places left) items → ReadTrees n places left items
+read_trees n places zero items room h =
+    let none : 0 ≡ places = omega (arith, room.0) in
+    subst (λ p. ReadTrees n p 0 items) none (no_trees n items (subst (λ s. Ends s items) (after_tree-all n places 0 refl) h))
+read_trees n places (suc left) items room h =
+    let step = tree_step n places left items (first_tree_line n places left items h) in
+    with_line n places left step.line items step.rest (some_place places left room) step.are step.text
+    (read_trees n (places_after places step.line) left step.rest step.room step.ends)
 
 -- the tree and the end
 record ReadEnd (n : ℕ) (items : List Item) : Type 0 where
@@ -273,12 +304,14 @@ nothing_left : (items : List Item) → Ends want_nothing items → items ≡ []
 nothing_left [] h = refl
 nothing_left (item ∷ items) h = absurd h.0
 
-just_end : (items : List Item) → Ends want_end items → items ≡ says_end ∷ []
-just_end items h =
-    let line = first_line want_end items (λ e. cc) h in
+one_end : (items : List Item) → First want_end items → items ≡ says_end ∷ []
+one_end items line =
     let is = end_wanted line.item line.wanted in
     let none = nothing_left line.rest (subst (λ i. Ends (after want_end i) line.rest) is line.ends) in
     line.are ∙ ap (λ i. i ∷ line.rest) is ∙ ap (λ l. says_end ∷ l) none
+
+just_end : (items : List Item) → Ends want_end items → items ≡ says_end ∷ []
+just_end items h = one_end items (first_line want_end items (λ e. cc) h)
 
 one_tree : (n all : ℕ) (items rest : List Item) → items ≡ says_nodes all ∷ rest → all ≤ 268435456 → ReadTrees n 1 all rest → ReadEnd n items
 one_tree n all items rest are few h = from_trees h.trees h.are h.many h.long h.each
@@ -291,19 +324,21 @@ one_tree n all items rest are few h = from_trees h.trees h.are h.many h.long h.e
         record {
           tree = t;
           are = are ∙ ap (λ a. says_nodes a ∷ rest) same
-            ∙ ap (λ l. says_nodes (line_count t) ∷ l) (is ∙ ap (λ l. map says_tree l ++ h.rest) (append-nil (preorder t)) ∙ ap (λ l. map says_tree (preorder t) ++ l) (just_end h.rest h.ends));
+              ∙ ap (λ l. says_nodes (line_count t) ∷ l) (is ∙ ap (λ l. map says_tree l ++ h.rest) (append-nil (preorder t)) ∙ ap (λ l. map says_tree (preorder t) ++ l) (just_end h.rest h.ends));
           few = omega arith;
           each = subst (AllByRecursion (IsTreeLineText n)) (append-nil (preorder t)) each;
         }
     from_trees (t ∷ u ∷ trees) is many long each = absurd (omega arith)
 
-read_end : (n : ℕ) (items : List Item) → Ends (want_nodes n) items → ReadEnd n items
-read_end n items h =
-    let line = first_line (want_nodes n) items (λ e. cc) h in
+end_from : (n : ℕ) (items : List Item) → First (want_nodes n) items → ReadEnd n items
+end_from n items line =
     let all = nodes_wanted n line.item line.wanted in
     let ends : Ends (want_tree n 1 all.0) line.rest = subst (λ i. Ends (after (want_nodes n) i) line.rest) all.1 line.ends in
     one_tree n all.0 items line.rest (line.are ∙ ap (λ i. i ∷ line.rest) all.1) all.3
     (read_trees n 1 all.0 line.rest (all.2, λ e. omega arith) (subst (λ s. Ends s line.rest) (sym (after_tree-more n 1 all.0 all.2)) ends))
+
+read_end : (n : ℕ) (items : List Item) → Ends (want_nodes n) items → ReadEnd n items
+read_end n items h = end_from n items (first_line (want_nodes n) items (λ e. cc) h)
 
 -- the cuts, with what is after them
 record ReadAllCuts (n : ℕ) (items : List Item) : Type 0 where
@@ -314,19 +349,24 @@ record ReadAllCuts (n : ℕ) (items : List Item) : Type 0 where
   each : AllByRecursion (IsCutText n) cuts
   ends : Ends (want_nodes n) rest
 
-read_all_cuts : (n : ℕ) (items : List Item) → 1 ≤ n → Ends (want_cuts n) items → ReadAllCuts n items
-read_all_cuts n items some h =
-    let line = first_line (want_cuts n) items (λ e. cc) h in
+all_cuts : (n all : ℕ) (items rest : List Item) → items ≡ says_cuts all ∷ rest → all ≤ 67108864 → ReadCuts n 0 all rest → ReadAllCuts n items
+all_cuts n all items rest are few more = record {
+  cuts = more.cuts;
+  rest = more.rest;
+  are = are ∙ ap (λ m. says_cuts m ∷ rest) (sym more.long) ∙ ap (λ l. says_cuts (length more.cuts) ∷ l) more.are;
+  few = omega (arith, more.long);
+  each = more.each;
+  ends = more.ends;
+}
+
+cuts_after : (n : ℕ) (items : List Item) → 1 ≤ n → First (want_cuts n) items → ReadAllCuts n items
+cuts_after n items some line =
     let all = count_wanted n line.item line.wanted in
-    let more = read_cuts n all.0 0 all.0 line.rest some (omega arith) (subst (λ i. Ends (after (want_cuts n) i) line.rest) all.1 line.ends) in
-    record {
-      cuts = more.cuts;
-      rest = more.rest;
-      are = line.are ∙ ap (λ i. i ∷ line.rest) (all.1 ∙ ap says_cuts (sym more.long)) ∙ ap (λ l. says_cuts (length more.cuts) ∷ l) more.are;
-      few = omega (arith, more.long, all.2);
-      each = more.each;
-      ends = more.ends;
-    }
+    all_cuts n all.0 items line.rest (line.are ∙ ap (λ i. i ∷ line.rest) all.1) all.2
+    (read_cuts n all.0 0 all.0 line.rest some (omega arith) (subst (λ i. Ends (after (want_cuts n) i) line.rest) all.1 line.ends))
+
+read_all_cuts : (n : ℕ) (items : List Item) → 1 ≤ n → Ends (want_cuts n) items → ReadAllCuts n items
+read_all_cuts n items some h = cuts_after n items some (first_line (want_cuts n) items (λ e. cc) h)
 
 -- the routes, with what is after them
 record ReadAllRoutes (n : ℕ) (items : List Item) : Type 0 where
@@ -337,18 +377,20 @@ record ReadAllRoutes (n : ℕ) (items : List Item) : Type 0 where
   nodes : AllByRecursion (λ (r : ℕ × ℕ). (r.0 < n) × (r.1 < n)) routes
   ends : Ends (want_cuts n) rest
 
+all_routes : (n : ℕ) (items : List Item) → ReadRoutes n 0 (n * n) items → ReadAllRoutes n items
+all_routes n items more = record {
+  routes = more.routes;
+  rest = more.rest;
+  are = more.are ∙ ap (λ cs. route_items (zip cs more.routes) ++ more.rest) (sym (commodities_by_number n));
+  long = more.long;
+  nodes = more.nodes;
+  ends = more.ends;
+}
+
 read_all_routes : (n : ℕ) (items : List Item) → 1 ≤ n → Ends (want_route n 0) items → ReadAllRoutes n items
 read_all_routes n items some h =
-    let pos : 1 ≤ n * n = mul-pos some some in
-    let more = read_routes n 0 (n * n) items (omega arith) (subst (λ s. Ends s items) (sym (after_route-more n 0 (λ e. omega arith))) h) in
-    record {
-      routes = more.routes;
-      rest = more.rest;
-      are = more.are ∙ ap (λ cs. route_items (zip cs more.routes) ++ more.rest) (sym (commodities_by_number n));
-      long = more.long;
-      nodes = more.nodes;
-      ends = more.ends;
-    }
+    let some_commodity : 1 ≤ n * n = mul-pos some some in
+    all_routes n items (read_routes n 0 (n * n) items (omega arith) (subst (λ s. Ends s items) (sym (after_route-more n 0 (λ e. omega arith))) h))
 
 -- all from the cuts on
 record FromCuts (n : ℕ) (items : List Item) : Type 0 where
@@ -419,26 +461,27 @@ certificate : (n q c b : ℕ) (items : List Item) → (1 ≤ n) × (n ≤ 200) �
     → IsRead (says_version ∷ says_size n q ∷ says_cost c ∷ says_bound b ∷ items)
 unfolding IsRead
 certificate n q c b items sizes cost bound h = (
-    record { size = n; candidates = q; cost = c; bound = b; plan = record { hubs = h.hubs; routes = h.routes }; cuts = h.later.cuts; tree = h.later.tree },
-    record {
-      some_node = sizes.0;
-      size = sizes.1;
-      some_candidate = sizes.2;
-      candidates = sizes.3;
-      cost = cost;
-      bound = bound;
-      some_hub = h.some;
-      hubs_ascend = h.ascend;
-      hubs = h.within;
-      one_route_each = h.long;
-      routes = All-from_recursion (λ (r : ℕ × ℕ). (r.0 < n) × (r.1 < n)) h.routes h.nodes;
-      cut_count = h.later.few_cuts;
-      cuts = All-from_recursion (IsCutText n) h.later.cuts h.later.each_cut;
-      line_count = h.later.few_lines;
-      tree = All-from_recursion (IsTreeLineText n) (preorder h.later.tree) h.later.each_line;
-    },
-    ap (λ l. says_version ∷ says_size n q ∷ says_cost c ∷ says_bound b ∷ l)
-    (h.are ∙ ap (λ l. says_hubs h.hubs ∷ (route_items (zip (commodities n) h.routes) ++ l)) h.later.are))
+  record { size = n; candidates = q; cost = c; bound = b; plan = record { hubs = h.hubs; routes = h.routes }; cuts = h.later.cuts; tree = h.later.tree },
+  record {
+    some_node = sizes.0;
+    size = sizes.1;
+    some_candidate = sizes.2;
+    candidates = sizes.3;
+    cost = cost;
+    bound = bound;
+    some_hub = h.some;
+    hubs_ascend = h.ascend;
+    hubs = h.within;
+    one_route_each = h.long;
+    routes = All-from_recursion (λ (r : ℕ × ℕ). (r.0 < n) × (r.1 < n)) h.routes h.nodes;
+    cut_count = h.later.few_cuts;
+    cuts = All-from_recursion (IsCutText n) h.later.cuts h.later.each_cut;
+    line_count = h.later.few_lines;
+    tree = All-from_recursion (IsTreeLineText n) (preorder h.later.tree) h.later.each_line;
+  },
+  ap (λ l. says_version ∷ says_size n q ∷ says_cost c ∷ says_bound b ∷ l)
+      (h.are ∙ ap (λ l. says_hubs h.hubs ∷ (route_items (zip (commodities n) h.routes) ++ l)) h.later.are),
+)
 
 -- the lines in front, from the last of them back
 read_bound : (n q c : ℕ) (items : List Item) → (1 ≤ n) × (n ≤ 200) × (1 ≤ q) × (q ≤ n) → IsShort c → First (want_bound n) items

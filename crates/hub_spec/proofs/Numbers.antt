@@ -1,5 +1,5 @@
 -- The words of a line: a number's decimal is read as the number, and nothing else is; words have no space and no line feed.
-use Rattle.std.proofs.Common.{◌≡◌, ℕ, ◌+◌, ◌*◌, ◌/◌, ◌%◌, ◌^◌, ◌<◌, ◌≤◌, Bool, true, false, ◌&&◌, ◌||◌, List, [], ◌∷◌, ◌++◌, length, map, get_or, All, decimal, Option, Some, None, nat_eq, nat_lt, nat_le, ◌⊎◌, inl, inr, ⊎_elim, refl, sym, ap, ◌∙◌, append_assoc, append-nil, arith}
+use Rattle.std.proofs.Common.{◌≡◌, ℕ, ◌+◌, ◌*◌, ◌/◌, ◌%◌, ◌^◌, ◌<◌, ◌≤◌, true, false, ◌&&◌, ◌||◌, List, [], ◌∷◌, ◌++◌, length, get_or, All, decimal, Some, None, nat_eq, nat_lt, nat_le, ◌⊎◌, inl, inr, ⊎_elim, refl, sym, ap, ◌∙◌, append_assoc, append-nil, arith}
 use native.Mathlib.Nat.{pow-le-pow_right}
 use Rattle.std.specs.List.{AllByRecursion, join_with_byte, slice_split, list_all}
 use Rattle.std.specs.Str.{all_ascii_digits}
@@ -60,8 +60,9 @@ has_front = decimal_by_steps_wide HasFront (λ n low. record { some = omega arit
 
 front_cases : (n : ℕ) → n < 10 ^ 64 → (nat_lt 48 (get_or (decimal n) 0 0) || nat_eq (length (decimal n)) 1) ≡ true
 front_cases n small = let h = has_front n small in elim (cases_lt n 10) [
-    inl low ↦ or_right (nat_lt 48 (get_or (decimal n) 0 0)) (nat_eq (length (decimal n)) 1) (eq-eqb (length (decimal n)) 1 (h.one low))
-  | inr high ↦ or_left (nat_lt 48 (get_or (decimal n) 0 0)) (nat_eq (length (decimal n)) 1) (lt-ltb 48 (get_or (decimal n) 0 0) (h.front (omega arith))) ]
+  | inl low ↦ or_right (nat_lt 48 (get_or (decimal n) 0 0)) (nat_eq (length (decimal n)) 1) (eq-eqb (length (decimal n)) 1 (h.one low))
+  | inr high ↦ or_left (nat_lt 48 (get_or (decimal n) 0 0)) (nat_eq (length (decimal n)) 1) (lt-ltb 48 (get_or (decimal n) 0 0) (h.front (omega arith)))
+]
 
 all_digits : IsNumeralModel (λ ds. all_ascii_digits ds ≡ true) (digits_value 10)
 all_digits = numerals_by_value (λ ds. all_ascii_digits ds ≡ true) tells_all_ascii_digits
@@ -90,8 +91,9 @@ spelled word n e =
     let digits : AllDigits 10 word = all_digits.to word parts.0 in
     let few : length word ≤ 30 = leb-true (length word) 30 rest.0 in
     let front : (48 < get_or word 0 0) ⊎ (length word ≡ 1) = elim (or_cases (nat_lt 48 (get_or word 0 0)) (nat_eq (length word) 1) rest.1) [
-        inl h ↦ inl (ltb-true 48 (get_or word 0 0) h)
-      | inr h ↦ inr (eqb-true (length word) 1 h) ] in
+      | inl h ↦ inl (ltb-true 48 (get_or word 0 0) h)
+      | inr h ↦ inr (eqb-true (length word) 1 h)
+    ] in
     let below : digits_value 10 word < 10 ^ length word = digits_value-lt 10 word digits in
     let most : 10 ^ length word ≤ 10 ^ 30 = pow-le-pow_right (omega arith) few in
     let is : digits_value 10 word ≡ n = k.1 in

@@ -1,18 +1,17 @@
 -- No two certificates have one text: the text gives the lines, each line what it says, and these the certificate.
-use Rattle.std.proofs.Common.{◌≡◌, ℕ, ◌+◌, ◌-◌, ◌*◌, ◌<◌, ◌≤◌, List, [], ◌∷◌, ◌++◌, length, map, nat_eq, refl, sym, ap, ◌∙◌, subst, arith, zero, suc, append_assoc, append-nil}
+use Rattle.std.proofs.Common.{◌≡◌, ℕ, ◌+◌, ◌*◌, List, [], ◌∷◌, ◌++◌, length, map, nat_eq, refl, sym, ap, ◌∙◌, subst, arith, zero, suc, append_assoc, append-nil}
 use Rattle.std.specs.Prelude.{flat_map, zip}
 use Rattle.std.specs.List.{AllByRecursion, enumerate_from, join_with_byte}
 use Rattle.std.proofs.lemmas.List.{map-append}
 use Rattle.std.proofs.lemmas.List.Elements.{recursion_from_All}
 use Rattle.std.proofs.lemmas.List.Splits.{slice_split_at}
 use Rattle.hub_spec.specs.Problem.{commodities}
-use Rattle.hub_spec.specs.Plans.{Plan}
 use Rattle.hub_spec.specs.Cuts.{Prices, Cut}
-use Rattle.hub_spec.specs.Trees.{Tree, branch, leaf, empty, TreeLine, branch_on, leaf_of, no_hub, preorder, line_count}
+use Rattle.hub_spec.specs.Trees.{Tree, branch, leaf, empty, branch_on, leaf_of, no_hub, preorder, line_count}
 use Rattle.hub_spec.specs.Certificates.{Proof}
-use Rattle.hub_spec.specs.Lines.{Item, says_version, says_size, says_cost, says_bound, says_hubs, says_route, says_cuts, says_cut, says_dual, says_nodes, says_tree, says_end, line_text}
-use Rattle.hub_spec.specs.Text.{cut_items, certificate_items, line_bytes, certificate_text, IsCutText, IsInRange, Spells}
-use Rattle.hub_spec.specs.Grammar.{Stage, want_version, want_nothing, commodity_at, Wants, after, Leads, IsLine, parts}
+use Rattle.hub_spec.specs.Lines.{Item, says_size, says_cost, says_bound, says_hubs, says_route, says_cuts, says_dual, says_nodes, says_tree, says_end, line_text}
+use Rattle.hub_spec.specs.Text.{cut_items, certificate_items, line_bytes, certificate_text, IsCutText, IsInRange}
+use Rattle.hub_spec.specs.Grammar.{Stage, want_version, want_nothing, commodity_at, Wants, after, Leads, parts}
 use Rattle.hub_spec.specs.Reading.{IsStage}
 use Rattle.hub_spec.specs.Theorems.{OneCertificate}
 use Rattle.hub_spec.proofs.Wanted.{line_has_no_feed, one_item}
@@ -109,7 +108,7 @@ same_cuts n x (y ∷ a) (z ∷ b) c d l h k e =
     let more_a : List Item = flat_map (cut_items n) (enumerate_from (x + 1) a) in
     let more_b : List Item = flat_map (cut_items n) (enumerate_from (x + 1) b) in
     let after_cuts : dual_items (zip (commodities n) y.duals) ++ (more_a ++ c) ≡ dual_items (zip (commodities n) z.duals) ++ (more_b ++ d) =
-          sym (append_assoc (dual_items (zip (commodities n) y.duals)) more_a c) ∙ (cons_same e).1 ∙ append_assoc (dual_items (zip (commodities n) z.duals)) more_b d in
+    sym (append_assoc (dual_items (zip (commodities n) y.duals)) more_a c) ∙ (cons_same e).1 ∙ append_assoc (dual_items (zip (commodities n) z.duals)) more_b d in
     let duals = all_duals_same n y.duals z.duals (more_a ++ c) (more_b ++ d) h.0.one_for_each k.0.one_for_each after_cuts in
     let rest = same_cuts n (x + 1) a b c d (omega arith) h.1 k.1 duals.1 in
     (ap (λ (ds : List Prices). record { duals = ds } ∷ a) duals.0 ∙ ap (λ l. z ∷ l) rest.0, rest.1)
@@ -183,11 +182,11 @@ same_from_items k m h g e =
     let four = (cons_same three).1 in
     let hubs = same_hubs k.plan.hubs m.plan.hubs (cons_same four).0 in
     let five : later_items k.size k.plan.routes k.cuts k.tree ≡ later_items k.size m.plan.routes m.cuts m.tree =
-          subst (λ n. later_items k.size k.plan.routes k.cuts k.tree ≡ later_items n m.plan.routes m.cuts m.tree) (sym size.0) (cons_same four).1 in
+    subst (λ n. later_items k.size k.plan.routes k.cuts k.tree ≡ later_items n m.plan.routes m.cuts m.tree) (sym size.0) (cons_same four).1 in
     let later = same_later k.size k.plan.routes m.plan.routes k.cuts m.cuts k.tree m.tree h.one_route_each
-          (subst (λ n. length m.plan.routes ≡ n * n) (sym size.0) g.one_route_each)
-          (recursion_from_All (IsCutText k.size) k.cuts h.cuts)
-          (subst (λ n. AllByRecursion (IsCutText n) m.cuts) (sym size.0) (recursion_from_All (IsCutText m.size) m.cuts g.cuts)) five in
+    (subst (λ n. length m.plan.routes ≡ n * n) (sym size.0) g.one_route_each)
+    (recursion_from_All (IsCutText k.size) k.cuts h.cuts)
+    (subst (λ n. AllByRecursion (IsCutText n) m.cuts) (sym size.0) (recursion_from_All (IsCutText m.size) m.cuts g.cuts)) five in
     λ i. record {
       size = size.0 i;
       candidates = size.1 i;
@@ -202,4 +201,4 @@ pub one_certificate_lem : OneCertificate
 one_certificate_lem bytes k m h g =
     same_from_items k m h.in_range g.in_range
     (same_items want_version (certificate_items k) (certificate_items m) tt (each_text_leads_lem k h.in_range) (each_text_leads_lem m g.in_range)
-      (sym (parts-text k h.in_range) ∙ ap parts (sym h.text ∙ g.text) ∙ parts-text m g.in_range))
+    (sym (parts-text k h.in_range) ∙ ap parts (sym h.text ∙ g.text) ∙ parts-text m g.in_range))

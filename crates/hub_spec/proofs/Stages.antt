@@ -1,30 +1,34 @@
 -- Lines lead from a stage with numbers within their ranges to such a stage.
-use Rattle.std.proofs.Common.{◌≡◌, ℕ, ◌+◌, ◌-◌, ◌*◌, ◌<◌, ◌≤◌, inl, inr, sym, subst, arith, mul-pos}
+use Rattle.std.proofs.Common.{ℕ, ◌+◌, ◌-◌, ◌*◌, ◌<◌, ◌≤◌, inl, inr, sym, subst, arith, mul-pos}
 use Rattle.std.proofs.lemmas.Bool.{cases_eq}
 use Rattle.hub_spec.specs.Lines.{Item, says_version, says_size, says_cost, says_bound, says_hubs, says_route, says_cuts, says_cut, says_dual, says_nodes, says_tree, says_end}
-use Rattle.hub_spec.specs.Grammar.{Stage, want_version, want_size, want_end, want_nothing, want_cost, want_bound, want_hubs, want_cuts, want_nodes, want_route, want_cut, want_dual, want_tree, places_after, Wants, after_route, after_cut, after_dual, after_tree, after}
+use Rattle.hub_spec.specs.Grammar.{Stage, want_version, want_size, want_end, want_cost, want_bound, want_hubs, want_cuts, want_nodes, want_route, want_cut, want_dual, want_tree, places_after, Wants, after_route, after_cut, after_dual, after_tree, after}
 use Rattle.hub_spec.specs.Reading.{IsStage, IsSize}
 use Rattle.hub_spec.proofs.Leads.{after_route-all, after_route-more, after_cut-all, after_cut-more, after_dual-all, after_dual-more, after_tree-all, after_tree-more}
 
 route_stage : (n t : ℕ) → IsSize n → t ≤ n * n → IsStage (after_route n t)
 route_stage n t size most = elim (cases_eq t (n * n)) [
-    inl all ↦ subst IsStage (sym (after_route-all n t all)) size
-  | inr more ↦ subst IsStage (sym (after_route-more n t more)) (size, omega arith) ]
+  | inl all ↦ subst IsStage (sym (after_route-all n t all)) size
+  | inr more ↦ subst IsStage (sym (after_route-more n t more)) (size, omega arith)
+]
 
 cut_stage : (n all x : ℕ) → IsSize n → all ≤ 67108864 → x ≤ all → IsStage (after_cut n all x)
 cut_stage n all x size few most = elim (cases_eq x all) [
-    inl every ↦ subst IsStage (sym (after_cut-all n all x every)) size
-  | inr more ↦ subst IsStage (sym (after_cut-more n all x more)) (size, (omega arith, few)) ]
+  | inl every ↦ subst IsStage (sym (after_cut-all n all x every)) size
+  | inr more ↦ subst IsStage (sym (after_cut-more n all x more)) (size, (omega arith, few))
+]
 
 dual_stage : (n all x t : ℕ) → IsSize n → all ≤ 67108864 → x < all → t ≤ n * n → IsStage (after_dual n all x t)
 dual_stage n all x t size few place most = elim (cases_eq t (n * n)) [
-    inl every ↦ subst IsStage (sym (after_dual-all n all x t every)) (cut_stage n all (x + 1) size few (omega arith))
-  | inr more ↦ subst IsStage (sym (after_dual-more n all x t more)) (size, (place, few), omega arith) ]
+  | inl every ↦ subst IsStage (sym (after_dual-all n all x t every)) (cut_stage n all (x + 1) size few (omega arith))
+  | inr more ↦ subst IsStage (sym (after_dual-more n all x t more)) (size, (place, few), omega arith)
+]
 
 tree_stage : (n places left : ℕ) → IsSize n → IsStage (after_tree n places left)
 tree_stage n places left size = elim (cases_eq left 0) [
-    inl none ↦ subst IsStage (sym (after_tree-all n places left none)) tt
-  | inr more ↦ subst IsStage (sym (after_tree-more n places left (omega arith))) size ]
+  | inl none ↦ subst IsStage (sym (after_tree-all n places left none)) tt
+  | inr more ↦ subst IsStage (sym (after_tree-more n places left (omega arith))) size
+]
 
 first_commodity : (n : ℕ) → IsSize n → 0 < n * n
 first_commodity n size = mul-pos size.0 size.0

@@ -1,5 +1,5 @@
 -- The reading of a line at a stage: it gives an item exactly where the line may stand there and says it.
-use Rattle.std.proofs.Common.{◌≡◌, ℕ, ◌+◌, ◌-◌, ◌*◌, ◌/◌, ◌%◌, ◌^◌, ◌<◌, ◌≤◌, ◌↔◌, Bool, true, false, not, ◌&&◌, ◌||◌, List, [], ◌∷◌, length, map, get_or, decimal, All, Decides, Option, Some, None, nat_eq, nat_lt, nat_le, inl, inr, ⊎_elim, refl, sym, ap, ◌∙◌, subst, arith, add-one, zero, suc}
+use Rattle.std.proofs.Common.{◌≡◌, ℕ, ◌+◌, ◌-◌, ◌*◌, ◌/◌, ◌%◌, ◌^◌, ◌<◌, ◌≤◌, Bool, true, false, not, ◌&&◌, ◌||◌, List, [], ◌∷◌, length, map, get_or, decimal, All, Decides, Some, None, nat_eq, nat_lt, nat_le, inl, inr, refl, sym, ap, ◌∙◌, subst, arith, add-one, zero, suc}
 use Rattle.std.specs.Prelude.{option_and_then}
 use Rattle.std.specs.List.{AllByRecursion, join_with_byte, slice_split, list_all}
 use Rattle.std.specs.List.Sorted.{IsStrictlyIncreasing}
@@ -13,10 +13,10 @@ use Rattle.hub_spec.specs.Cuts.{Prices}
 use Rattle.hub_spec.specs.Trees.{TreeLine, branch_on, leaf_of, no_hub}
 use Rattle.hub_spec.specs.Lines.{Item, says_version, says_size, says_cost, says_bound, says_hubs, says_route, says_cuts, says_cut, says_dual, says_nodes, says_tree, says_end, keyword, numbers, value_numbers, weight_numbers, line_text}
 use Rattle.hub_spec.specs.Text.{IsShort, IsDualText, IsWeightsText, IsTreeLineText}
-use Rattle.hub_spec.specs.Grammar.{Stage, want_version, want_size, want_end, want_nothing, want_cost, want_bound, want_hubs, want_cuts, want_nodes, want_route, want_cut, want_dual, want_tree, commodity_at, places_after, IsOpen, Wants, IsLine}
-use Rattle.hub_spec.specs.Reading.{is_short, ascends, same_pair, is_dual_text, is_weights_text, is_tree_line_text, is_open, wants, if_wanted, item_of, item_of_words, numbers_of, wanted_item, IsStage, IsSize, LinesReadBack}
+use Rattle.hub_spec.specs.Grammar.{Stage, want_version, want_size, want_end, want_cost, want_bound, want_hubs, want_cuts, want_nodes, want_route, want_cut, want_dual, want_tree, commodity_at, places_after, IsOpen, Wants, IsLine}
+use Rattle.hub_spec.specs.Reading.{is_short, ascends, same_pair, is_dual_text, is_weights_text, is_tree_line_text, is_open, wants, if_wanted, item_of, item_of_words, numbers_of, wanted_item, IsStage, LinesReadBack}
 use Rattle.hub_spec.proofs.Numbers.{IsWord, IsWord-decimal, IsWord-tested, slice_split-joined, no_line_feed}
-use Rattle.hub_spec.proofs.Decoding.{and_then_some, numbers_of-decimals, decimals-numbers_of, item_of-same, item_of-back, Says}
+use Rattle.hub_spec.proofs.Decoding.{and_then_some, numbers_of-decimals, decimals-numbers_of, item_of-same, item_of-back}
 
 Decides-leb : (a b : ℕ) → Decides (nat_le a b) (a ≤ b)
 Decides-leb a b = (leb-true a b, le-leb a b)
@@ -31,20 +31,23 @@ both : {P Q : Type 0} (x y : Bool) → Decides x P → Decides y Q → Decides (
 both x y p q = (λ e. (let k = and_parts x y e in (p.0 k.0, q.0 k.1)), λ h. and_from x y (p.1 h.0) (q.1 h.1))
 
 all_three : {P Q R : Type 0} (x y z : Bool) → Decides x P → Decides y Q → Decides z R → Decides (x && (y && z)) (P × Q × R)
-all_three x y z p q r =
-    (λ e. (let k = and_parts x (y && z) e in let m = and_parts y z k.1 in (p.0 k.0, q.0 m.0, r.0 m.1)),
-    λ h. and_from x (y && z) (p.1 h.0) (and_from y z (q.1 h.1) (r.1 h.2)))
+all_three x y z p q r = (
+  λ e. (let k = and_parts x (y && z) e in let m = and_parts y z k.1 in (p.0 k.0, q.0 m.0, r.0 m.1)),
+  λ h. and_from x (y && z) (p.1 h.0) (and_from y z (q.1 h.1) (r.1 h.2)),
+)
 
 all_four : {P Q R S : Type 0} (x y z w : Bool) → Decides x P → Decides y Q → Decides z R → Decides w S
     → Decides (x && (y && (z && w))) (P × Q × R × S)
-all_four x y z w p q r s =
-    (λ e. (let k = and_parts x (y && (z && w)) e in let m = and_parts y (z && w) k.1 in let n = and_parts z w m.1 in (p.0 k.0, q.0 m.0, r.0 n.0, s.0 n.1)),
-    λ h. and_from x (y && (z && w)) (p.1 h.0) (and_from y (z && w) (q.1 h.1) (and_from z w (r.1 h.2) (s.1 h.3))))
+all_four x y z w p q r s = (
+  λ e. (let k = and_parts x (y && (z && w)) e in let m = and_parts y (z && w) k.1 in let n = and_parts z w m.1 in (p.0 k.0, q.0 m.0, r.0 n.0, s.0 n.1)),
+  λ h. and_from x (y && (z && w)) (p.1 h.0) (and_from y (z && w) (q.1 h.1) (and_from z w (r.1 h.2) (s.1 h.3))),
+)
 
 implies : {P Q : Type 0} (x y : Bool) → Decides x P → Decides y Q → Decides (not x || y) (P → Q)
-implies x y p q =
-    (λ e h. elim (or_cases (not x) y e) [ inl off ↦ absurd (both_ways x (not-true x off) (p.1 h)) | inr on ↦ q.0 on ],
-    λ f. elim (cases_Bool x) [ inl on ↦ or_right (not x) y (q.1 (f (p.0 on))) | inr off ↦ or_left (not x) y (not_from_false x off) ])
+implies x y p q = (
+  λ e h. elim (or_cases (not x) y e) [ inl off ↦ absurd (both_ways x (not-true x off) (p.1 h)) | inr on ↦ q.0 on ],
+  λ f. elim (cases_Bool x) [ inl on ↦ or_right (not x) y (q.1 (f (p.0 on))) | inr off ↦ or_left (not x) y (not_from_false x off) ],
+)
 
 -- the test of an ascending list
 Rises : List ℕ → Type 0
@@ -59,38 +62,41 @@ rises_decides : (xs : List ℕ) → Decides (ascends xs) (Rises xs)
 unfolding Rises
 rises_decides [] = (λ e k h. absurd (omega (arith, h)), λ h. refl)
 rises_decides (x ∷ []) = (λ e k h. absurd (omega (arith, h)), λ h. refl)
-rises_decides (x ∷ y ∷ rest) =
-    (rises_more x y rest (rises_decides (y ∷ rest)).0,
-    λ h. and_from (nat_lt x y) (ascends (y ∷ rest)) (lt-ltb x y (h 0 (omega arith))) ((rises_decides (y ∷ rest)).1 (λ k m. h (suc k) (omega (arith, m)))))
+rises_decides (x ∷ y ∷ rest) = (
+  rises_more x y rest (rises_decides (y ∷ rest)).0,
+  λ h. and_from (nat_lt x y) (ascends (y ∷ rest)) (lt-ltb x y (h 0 (omega arith))) ((rises_decides (y ∷ rest)).1 (λ k m. h (suc k) (omega (arith, m)))),
+)
 
 ascends_decides : (xs : List ℕ) → Decides (ascends xs) (IsStrictlyIncreasing xs)
 unfolding Rises
-ascends_decides xs =
-    (λ e k. subst (λ m. m < length xs → get_or xs k 0 < get_or xs m 0) (sym (add-one k)) ((rises_decides xs).0 e k),
-    λ h. (rises_decides xs).1 (λ k. subst (λ m. m < length xs → get_or xs k 0 < get_or xs m 0) (add-one k) (h k)))
+ascends_decides xs = (
+  λ e k. subst (λ m. m < length xs → get_or xs k 0 < get_or xs m 0) (sym (add-one k)) ((rises_decides xs).0 e k),
+  λ h. (rises_decides xs).1 (λ k. subst (λ m. m < length xs → get_or xs k 0 < get_or xs m 0) (add-one k) (h k)),
+)
 
 all_decides : {X : Type 0} (p : X → Bool) (P : X → Type 0) → ((x : X) → Decides (p x) (P x)) → (xs : List X) → Decides (list_all p xs) (All P xs)
 all_decides p P each xs = Decides-by_and p P (list_all p) each refl (λ _ _. refl) xs
 
 same_pair_decides : (a b : ℕ × ℕ) → Decides (same_pair a b) (a ≡ b)
-same_pair_decides a b =
-    (λ e. (let k = and_parts (nat_eq a.0 b.0) (nat_eq a.1 b.1) e in let first = eqb-true a.0 b.0 k.0 in let last = eqb-true a.1 b.1 k.1 in λ i. (first i, last i)),
-    λ e. and_from (nat_eq a.0 b.0) (nat_eq a.1 b.1) (eq-eqb a.0 b.0 (ap (λ p. p.0) e)) (eq-eqb a.1 b.1 (ap (λ p. p.1) e)))
+same_pair_decides a b = (
+  λ e. (let k = and_parts (nat_eq a.0 b.0) (nat_eq a.1 b.1) e in let first = eqb-true a.0 b.0 k.0 in let last = eqb-true a.1 b.1 k.1 in λ i. (first i, last i)),
+  λ e. and_from (nat_eq a.0 b.0) (nat_eq a.1 b.1) (eq-eqb a.0 b.0 (ap (λ p. p.0) e)) (eq-eqb a.1 b.1 (ap (λ p. p.1) e)),
+)
 
 dual_decides : (n : ℕ) (dual : Prices) → Decides (is_dual_text n dual) (IsDualText n dual)
 dual_decides n dual =
     let k = all_three (is_short dual.a) (ascends (map (λ (e : ℕ × ℕ). e.0) dual.u)) (list_all (λ (e : ℕ × ℕ). nat_lt e.0 n && (nat_le 1 e.1 && is_short e.1)) dual.u)
-          (Decides-ltb dual.a (10 ^ 30)) (ascends_decides (map (λ (e : ℕ × ℕ). e.0) dual.u))
-          (all_decides (λ (e : ℕ × ℕ). nat_lt e.0 n && (nat_le 1 e.1 && is_short e.1)) (λ (e : ℕ × ℕ). (e.0 < n) × (1 ≤ e.1) × IsShort e.1)
-          (λ e. all_three (nat_lt e.0 n) (nat_le 1 e.1) (is_short e.1) (Decides-ltb e.0 n) (Decides-leb 1 e.1) (Decides-ltb e.1 (10 ^ 30))) dual.u) in
+    (Decides-ltb dual.a (10 ^ 30)) (ascends_decides (map (λ (e : ℕ × ℕ). e.0) dual.u))
+    (all_decides (λ (e : ℕ × ℕ). nat_lt e.0 n && (nat_le 1 e.1 && is_short e.1)) (λ (e : ℕ × ℕ). (e.0 < n) × (1 ≤ e.1) × IsShort e.1)
+    (λ e. all_three (nat_lt e.0 n) (nat_le 1 e.1) (is_short e.1) (Decides-ltb e.0 n) (Decides-leb 1 e.1) (Decides-ltb e.1 (10 ^ 30))) dual.u) in
     (λ e. record { a = (k.0 e).0; ascend = (k.0 e).1; each = (k.0 e).2 }, λ h. k.1 (h.a, h.ascend, h.each))
 
 weights_decides : (weights : List (ℕ × ℕ)) → Decides (is_weights_text weights) (IsWeightsText weights)
 weights_decides weights =
     let k = both (ascends (map (λ (e : ℕ × ℕ). e.0) weights)) (list_all (λ (e : ℕ × ℕ). nat_le 1 e.0 && (is_short e.0 && (nat_le 1 e.1 && is_short e.1))) weights)
-          (ascends_decides (map (λ (e : ℕ × ℕ). e.0) weights))
-          (all_decides (λ (e : ℕ × ℕ). nat_le 1 e.0 && (is_short e.0 && (nat_le 1 e.1 && is_short e.1))) (λ (e : ℕ × ℕ). (1 ≤ e.0) × IsShort e.0 × (1 ≤ e.1) × IsShort e.1)
-          (λ e. all_four (nat_le 1 e.0) (is_short e.0) (nat_le 1 e.1) (is_short e.1) (Decides-leb 1 e.0) (Decides-ltb e.0 (10 ^ 30)) (Decides-leb 1 e.1) (Decides-ltb e.1 (10 ^ 30))) weights) in
+    (ascends_decides (map (λ (e : ℕ × ℕ). e.0) weights))
+    (all_decides (λ (e : ℕ × ℕ). nat_le 1 e.0 && (is_short e.0 && (nat_le 1 e.1 && is_short e.1))) (λ (e : ℕ × ℕ). (1 ≤ e.0) × IsShort e.0 × (1 ≤ e.1) × IsShort e.1)
+    (λ e. all_four (nat_le 1 e.0) (is_short e.0) (nat_le 1 e.1) (is_short e.1) (Decides-leb 1 e.0) (Decides-ltb e.0 (10 ^ 30)) (Decides-leb 1 e.1) (Decides-ltb e.1 (10 ^ 30))) weights) in
     (λ e. record { ascend = (k.0 e).0; each = (k.0 e).1 }, λ h. k.1 (h.ascend, h.each))
 
 tree_line_decides : (n : ℕ) (line : TreeLine) → Decides (is_tree_line_text n line) (IsTreeLineText n line)
@@ -169,9 +175,16 @@ short_numbers (want_route n t) (says_route commodity route) s h =
 short_numbers (want_cuts n) (says_cuts all) s h = (omega (arith, h), tt)
 short_numbers (want_cut n all x) (says_cut number) s h = (omega (arith, h, s.1.0, s.1.1), tt)
 short_numbers (want_dual n all x t) (says_dual commodity dual) s h =
-    let c = commodity_nodes n t commodity s.0.0 s.2 h.0 in
-    (omega (arith, c.0, s.0.1), (omega (arith, c.1, s.0.1), (h.1.a,
-    short_values n dual.u s.0.1 (recursion_from_All (λ (e : ℕ × ℕ). (e.0 < n) × (1 ≤ e.1) × IsShort e.1) dual.u h.1.each))))
+    let c = commodity_nodes n t commodity s.0.0 s.2 h.0 in (
+      omega (arith, c.0, s.0.1),
+      (
+        omega (arith, c.1, s.0.1),
+        (
+          h.1.a,
+          short_values n dual.u s.0.1 (recursion_from_All (λ (e : ℕ × ℕ). (e.0 < n) × (1 ≤ e.1) × IsShort e.1) dual.u h.1.each),
+        ),
+      ),
+    )
 short_numbers (want_nodes n) (says_nodes all) s h = (omega (arith, h.1), tt)
 short_numbers (want_tree n places left) (says_tree line) s h = short_tree_line n line s.1 h.0
 short_numbers want_end says_end s h = tt
@@ -244,9 +257,10 @@ wanted_item-back stage line item e =
     record { wanted = wanted; text = text ∙ ap line_text m.1 }
 
 pub lines_read_back_lem : LinesReadBack
-lines_read_back_lem stage line item s =
-    (wanted_item-back stage line item,
-    λ h. ap (wanted_item stage) h.text ∙ wanted_item-line stage item s h.wanted)
+lines_read_back_lem stage line item s = (
+  wanted_item-back stage line item,
+  λ h. ap (wanted_item stage) h.text ∙ wanted_item-line stage item s h.wanted,
+)
 
 -- so a line says one item at most
 pub one_item : (stage : Stage) (line : List ℕ) (a b : Item) → IsStage stage → IsLine stage line a → IsLine stage line b → a ≡ b

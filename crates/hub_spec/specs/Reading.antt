@@ -46,35 +46,36 @@ value_of e = option_map (λ k. (k, e.1)) (node_of e.0)
 abbrev pub values_of : List ℕ → Option (List (ℕ × ℕ))
 values_of numbers = option_and_then (each_of value_of) (pairs_of numbers)
 
--- what the numbers say after each keyword: 1 after the first
+-- the first line has the number 1
 abbrev pub version_item : List ℕ → Option Item
 version_item (v ∷ []) = if nat_eq v 1 then Some says_version else None
 version_item other = None
 
--- nothing
+-- a line with no number
 abbrev pub bare_item : Item → List ℕ → Option Item
 bare_item item [] = Some item
 bare_item item other = None
 
--- one number
+-- a line with one number
 abbrev pub number_item : (ℕ → Item) → List ℕ → Option Item
 number_item item (n ∷ []) = Some (item n)
 number_item item other = None
 
--- the number of nodes and of candidates
+-- the number of nodes, and of candidates
 abbrev pub size_item : List ℕ → Option Item
 size_item (n ∷ q ∷ []) = Some (says_size n q)
 size_item other = None
 
--- hubs
+-- the nodes that are hubs
 abbrev pub hubs_item : List ℕ → Option Item
 hubs_item numbers = option_map says_hubs (each_of node_of numbers)
 
--- a commodity and its route
+-- the nodes of a commodity, and the hubs of its route
 abbrev pub route_of_nodes : List ℕ → Option Item
 route_of_nodes (i ∷ j ∷ k ∷ m ∷ []) = Some (says_route (i, j) (k, m))
 route_of_nodes other = None
 
+-- a commodity and its route
 abbrev pub route_item : List ℕ → Option Item
 route_item numbers = option_and_then route_of_nodes (each_of node_of numbers)
 
@@ -85,12 +86,12 @@ dual_item (i ∷ j ∷ a ∷ rest) =
     (option_zip (node_of i) (node_of j))
 dual_item other = None
 
--- a node
+-- the node of a branch
 abbrev pub branch_item : List ℕ → Option Item
 branch_item (k ∷ []) = option_map (λ m. says_tree (branch_on m)) (node_of k)
 branch_item other = None
 
--- a denominator and weights
+-- the denominator and the weights of a leaf
 abbrev pub leaf_item : List ℕ → Option Item
 leaf_item (denom ∷ rest) = option_map (λ weights. says_tree (leaf_of denom weights)) (pairs_of rest)
 leaf_item other = None
@@ -114,7 +115,7 @@ readers =
     ∷ (codes "end", bare_item says_end)
     ∷ []
 
--- read by the first reader of this keyword
+-- what the first reader of this keyword makes of the numbers
 abbrev pub read_by : List (List ℕ × (List ℕ → Option Item)) → List ℕ → List ℕ → Option Item
 read_by [] keyword numbers = None
 read_by (r ∷ rest) keyword numbers = if bytes_eq r.0 keyword then r.1 numbers else read_by rest keyword numbers
@@ -132,7 +133,7 @@ item_of_words (keyword ∷ words) = option_and_then (item_of keyword) (numbers_o
 abbrev pub is_short : ℕ → Bool
 is_short n = nat_lt n (10 ^ 30)
 
--- each number is below the next
+-- each number is below the one after it
 abbrev pub ascends : List ℕ → Bool
 ascends [] = true
 ascends (x ∷ []) = true

@@ -1,5 +1,4 @@
 use Rattle.hub_spec.proofs.LeadsBack.{each_lead_is_text_lem}
-use Rattle.hub_spec.proofs.Stages.{stage_after}
 use Rattle.hub_spec.proofs.texts.each_lead_is_text.Goals as goal
 
 pub returns : goal.returns
