@@ -1,3 +1,15 @@
+pub mod NeededEdges
+pub mod Claims
+pub mod Decided
+pub mod VerdictLemmas
+pub mod SumLemmas
+pub mod Sets
+pub mod WeakDuality
+pub mod Children
+pub mod Commodities
+pub mod Limits
+pub mod SetCosts
+pub mod AllSets
 pub mod Numbers
 pub mod Decoding
 pub mod Wanted

@@ -3,6 +3,7 @@ pub mod Problem
 pub mod Edges
 pub mod Plans
 pub mod Cuts
+pub mod Separation
 pub mod Trees
 pub mod Certificates
 pub mod Lines
@@ -12,3 +13,4 @@ pub mod Reading
 pub mod Conditions
 pub mod Verdicts
 pub mod Theorems
+pub mod AllSets
