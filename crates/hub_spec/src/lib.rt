@@ -16,4 +16,4 @@ pub use edges::needed_edges_suffice;
 pub use texts::{
     each_is_text_or_fault, each_lead_is_text, each_text_leads, lines_read_back, one_certificate,
 };
-pub use verdicts::{bounds_bound, holds_by_conditions, optimal_is_optimal};
+pub use verdicts::{bounds_bound, holds_by_conditions, one_verdict, optimal_is_optimal};
