@@ -11,15 +11,22 @@
 //!   at the calls of a list, and at each [`Partial`] put.
 #![tactic(auto)]
 
+// Reading.
+mod shelf;
+mod whole;
+
+// Writing.
 mod buffer;
+mod sink;
+
+// Workers.
 mod gate;
+
+// In memory.
 mod mem_shelf;
 mod mem_sink;
-mod shelf;
-mod sink;
 #[cfg(test)]
 mod tests;
-mod whole;
 
 pub use buffer::Buffer;
 pub use gate::{Gate, OpenGate};
