@@ -11,15 +11,17 @@
 //!   at the calls of a list, and at each [`Partial`] put.
 #![tactic(auto)]
 
-// Reading.
+// Where files are read.
 mod shelf;
 mod whole;
 
-// Writing.
-mod buffer;
+// Where texts are put.
 mod sink;
 
-// Workers.
+// Many small puts joined into few.
+mod buffer;
+
+// Where workers pass.
 mod gate;
 
 // In memory.

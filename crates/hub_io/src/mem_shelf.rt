@@ -1,7 +1,7 @@
 // A shelf in memory, which fails where it is told to.
 ghost use Rattle.std.specs.Prelude.{◌≡◌, ◌+◌, ◌-◌, ◌^◌, ◌<◌, ◌≤◌, ◌↔◌, ◌++◌, min, Contains, IsTrue, ℕ, Option, None, Some, [], length, take, drop, All, position, find, slice_get, string_bytes, false, IfOk, IfSome, MatchOption};
 ghost use Rattle.hub_io.specs.Outside.{Starts};
-ghost use Rattle.hub_io.specs.Memory.{has_name, held_bytes, left_bytes, ReadsOn};
+ghost use Rattle.hub_io.specs.MemShelf.{has_name, held_bytes, left_bytes, ReadsOn};
 
 use crate::{Failed, Shelf};
 use std::alloc::{AllocError, Global};

@@ -31,7 +31,7 @@ pub struct MemSink {
 }
 
 impl MemSink {
-    ghost use Rattle.hub_io.specs.Memory.{TakesAll};
+    ghost use Rattle.hub_io.specs.MemSink.{TakesAll};
 
     /// A sink with room for that many bytes, on which no put is to fail.
     pub fn new(alloc: Global, room: usize) -> Result<MemSink, AllocError>
@@ -115,7 +115,7 @@ impl MemSink {
 }
 
 impl Sink for MemSink {
-    ghost use Rattle.hub_io.specs.Memory.{TakesAll};
+    ghost use Rattle.hub_io.specs.MemSink.{TakesAll};
 
     ghost taken = { λ s. Some s.taken.items };
 
