@@ -1,1 +1,4 @@
 pub mod Turns
+pub mod Marks
+pub mod Values
+pub mod Exponents
