@@ -1,0 +1,58 @@
+-- What the objects outside the program hold, take and fail at.
+use Rattle.std.specs.Prelude.{◌≡◌, ◌<◌, ◌≤◌, ℕ, ◌+◌, ◌-◌, ◌^◌, min, List, ◌++◌, length, ⊤, Option, None, Some, IsSome, Result, OnOk, OnErr}
+use Rattle.std.specs.Io.KnownBytes.{Appends}
+
+-- the bytes under each name, or none where no file has it
+abbrev pub Files : Type 0
+Files = List ℕ → Option (List ℕ)
+
+-- a count of faults has risen, or stands at its last value
+abbrev pub Rose : ℕ → ℕ → Type 0
+Rose before now = min (before + 1) (2 ^ 64 - 1) ≤ now
+
+-- A call may fail only where the count of faults rose, and the count never falls.
+pub record HasCause {T E : Type 0} (before now : ℕ) (result : Result T E) : Type 0 where
+  pub later : before ≤ now
+  pub failed : OnErr result (Rose before now)
+
+-- the file of that name is at its first byte
+abbrev pub Starts : Option Files → List ℕ → Option (List ℕ) → Type 0
+Starts None name left = ⊤
+Starts (Some files) name left = IsSome left × (files name ≡ left)
+
+-- these bytes are held under the name
+abbrev pub Holds : Option Files → List ℕ → List ℕ → Type 0
+Holds None name bytes = ⊤
+Holds (Some files) name bytes = files name ≡ Some bytes
+
+-- more bytes than that are held under the name
+abbrev pub HoldsMore : Option Files → List ℕ → ℕ → Type 0
+HoldsMore None name limit = ⊤
+HoldsMore (Some files) name limit = (bytes : List ℕ) × (files name ≡ Some bytes) × (limit < length bytes)
+
+-- it is told that a file of that name is held
+abbrev pub TellsOf : Option Files → List ℕ → Type 0
+TellsOf None name = ⊥
+TellsOf (Some files) name = IsSome (files name)
+
+-- a front of the text was appended
+abbrev pub AppendsFront : Option (List ℕ) → Option (List ℕ) → List ℕ → Type 0
+AppendsFront old new text = (front : List ℕ) × (rest : List ℕ) × (front ++ rest ≡ text) × Appends old new front
+
+-- A text was put on a sink: all of it, or on a failure a front of it.
+pub record Puts {K E : Type 0} (taken : K → Option (List ℕ)) (faults : K → ℕ) (old new : K) (result : Result (Unit {0}) E) (text : List ℕ) : Type 0 where
+  pub whole : OnOk result (Appends (taken old) (taken new) text)
+  pub front : OnErr result (AppendsFront (taken old) (taken new) text)
+  pub later : faults old ≤ faults new
+  pub failed : OnErr result (Rose (faults old) (faults new))
+
+-- a front of the text was appended, and this is the rest of it
+abbrev pub AppendsBut : Option (List ℕ) → Option (List ℕ) → List ℕ → List ℕ → Type 0
+AppendsBut old new text rest = (front : List ℕ) × (front ++ rest ≡ text) × Appends old new front
+
+-- A text was put through a buffer, behind the bytes that waited there: the sink took a front of all that and the rest waits, or on a failure it took a front and no more.
+pub record PutsThrough {K E : Type 0} (taken : K → Option (List ℕ)) (faults : K → ℕ) (old new : K) (waiting rest : List ℕ) (result : Result (Unit {0}) E) (text : List ℕ) : Type 0 where
+  pub whole : OnOk result (AppendsBut (taken old) (taken new) (waiting ++ text) rest)
+  pub front : OnErr result (AppendsFront (taken old) (taken new) (waiting ++ text))
+  pub later : faults old ≤ faults new
+  pub failed : OnErr result (Rose (faults old) (faults new))
