@@ -1,5 +1,5 @@
 -- What digits write, read from the left with a cap, cut off at the right, and times a power of ten.
-use Rattle.std.proofs.Common.{◌≡◌, ℕ, zero, suc, ◌+◌, ◌-◌, ◌*◌, ◌/◌, ◌^◌, ◌<◌, ◌≤◌, ◌⊎◌, min, Bool, true, List, [], ◌∷◌, ◌++◌, length, get_or, take, drop, refl, sym, ◌∙◌, ap, inl, inr, arith, ap₂, lit<, lit≤, pow-suc, pow-add, mul_assoc, mul-div_cancel, mul-le-mul_right, le-mul_of_pos_right, one-mul, lt_of_lt_of_le, le_refl, le_trans, length-drop, take-append-drop, take_all}
+use Rattle.std.proofs.Common.{◌≡◌, ℕ, zero, suc, ◌+◌, ◌-◌, ◌*◌, ◌/◌, ◌%◌, ◌^◌, ◌<◌, ◌≤◌, ◌⊎◌, min, Bool, true, List, [], ◌∷◌, ◌++◌, length, get_or, take, drop, refl, sym, ◌∙◌, ap, inl, inr, arith, ap₂, lit<, lit≤, pow-suc, pow-add, mul_assoc, mul-div_cancel, mul-le-mul_right, le-mul_of_pos_right, one-mul, lt_of_lt_of_le, le_refl, le_trans, length-drop, take-append-drop, take_all}
 use Rattle.std.specs.List.{list_all}
 use Rattle.std.specs.Char.{is_ascii_digit, digit_value}
 use Rattle.std.specs.Str.Parse.{digits_value, digits_value_after}
@@ -7,7 +7,7 @@ use Rattle.std.proofs.lemmas.Bool.{cases_lt, and_parts, and_from}
 use Rattle.std.proofs.lemmas.List.{at_drop_more, at_drop_all, take_min}
 use Rattle.std.proofs.lemmas.List.Folds.{list_all-append}
 use Rattle.std.proofs.lemmas.Nat.{div-mul-add}
-use Rattle.std.proofs.Math.Nat.{pow-le-pow_right, div-eq_of_lt, mul-div-mul_right}
+use Rattle.std.proofs.Math.Nat.{mod-eq_of_lt, pow-le-pow_right, div-eq_of_lt, mul-div-mul_right}
 
 after_ge : (n : ℕ) (ds : List ℕ) → n ≤ digits_value_after 10 n ds
 after_ge n [] = le_refl n
@@ -46,7 +46,7 @@ pub passes_more : (p : ℕ → Bool) (i : ℕ) (ds : List ℕ) → i < length ds
 passes_more p i ds l h = and_parts (p (get_or ds i 0)) (list_all p (drop (i + 1) ds)) (sym (at_drop_more (list_all p) ds i 0 l) ∙ h)
 
 -- ten to a power is above 0, and grows
-ten_pos : (k : ℕ) → 0 < 10 ^ k
+pub ten_pos : (k : ℕ) → 0 < 10 ^ k
 ten_pos k = le_trans (lit≤ tt) (pow-le-pow_right {n = 10} (lit< tt) {i = 0} {j = k} (omega arith))
 
 pub ten_mono : (i j : ℕ) → i ≤ j → 10 ^ i ≤ 10 ^ j
@@ -182,3 +182,13 @@ pub three_digits : (most x : ℕ) (ds : List ℕ) → list_all is_ascii_digit ds
 three_digits most x ds h short large e =
     let small : digits_value 10 ds < 1000 = lt_of_lt_of_le (value_lt ds h) (ten_mono (length ds) 3 short) in
     (omega arith, omega arith)
+
+-- a number of 128 bits is below ten to any power above 38
+below_ten : (n k : ℕ) → n < 2 ^ 128 → 38 < k → n < 10 ^ k
+below_ten n k l far = lt_of_lt_of_le (lt_of_lt_of_le l (lit≤ tt)) (ten_mono 39 k (omega arith))
+
+pub no_whole : (n k : ℕ) → n < 2 ^ 128 → 38 < k → 0 ≡ n / 10 ^ k
+no_whole n k l far = sym (div-eq_of_lt (below_ten n k l far))
+
+pub all_rest : (n k : ℕ) → n < 2 ^ 128 → 38 < k → n ≡ n % 10 ^ k
+all_rest n k l far = sym (mod-eq_of_lt (below_ten n k l far))
