@@ -32,6 +32,7 @@ pub fn read_decimal(token: &[u8], places: u32) -> Result<i128, BadNumber>
     Ok(if has_minus(token) { -value } else { value })
 }
 
+// The number of a decimal without its sign.
 fn read_magnitude(token: &[u8], places: u32) -> Option<u128>
     requires { places ≤ 6 }
     ensures value { MatchOption result (is_decimal token.now ≡ false) (λ m. (is_decimal token.now ≡ true) × (m ≡ magnitude places token.now)) }

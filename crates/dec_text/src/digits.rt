@@ -4,7 +4,7 @@ ghost use Rattle.std.specs.Char.{is_ascii_digit, digit_value};
 ghost use Rattle.std.specs.Str.Parse.{digits_value_after};
 ghost use Rattle.text_spec.specs.Numbers.{largest_magnitude};
 
-/// The largest number that is told apart: one above is read as this one.
+/// 10^30. A number above is read as this one.
 pub(crate) const LARGEST: u128 = 1_000_000_000_000_000_000_000_000_000_000;
 
 pub(crate) fn are_all_digits(bytes: &[u8]) -> bool

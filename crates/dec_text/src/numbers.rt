@@ -5,6 +5,7 @@ ghost use Rattle.hub_io.specs.Outside.{Puts, PutsThrough};
 
 use hub_io::{Buffer, Failed, Sink};
 
+// The most places for which ten to that power is a `u128`.
 const MOST_PLACES: u32 = 38;
 
 /// Puts a number in decimal digits, behind a minus where it is below 0, as one put.
@@ -14,7 +15,8 @@ pub fn put_number<K: Sink>(value: i128, sink: &mut K) -> Result<(), Failed>
     sink.put(itoa::Buffer::new().format(value).as_bytes())
 }
 
-/// Puts a number in units of 10^-places: its whole part, a point, and just so many decimals.
+/// Puts a number in units of 10^-places: its whole part, a point, and just so many decimals,
+/// or a 0 where there are to be none.
 pub fn put_fixed<K: Sink>(value: i128, places: u32, sink: &mut K) -> Result<(), Failed>
     requires { pos 0 ≤ℤ value }
     ensures { Puts K.taken K.faults sink.old sink.new result (fixed_text places (nat_abs value)) }
@@ -86,7 +88,7 @@ fn put_zeros<K: Sink>(count: usize, buffer: &mut Buffer, sink: &mut K) -> Result
     Ok(())
 }
 
-// The whole part and the decimals of a number in units of 10^-places. No number has more than 38 decimals besides zeros.
+// The whole part and the decimals of a number in units of 10^-places.
 #[tactic(auto, using(crate::proofs::Values::ten_mono, crate::proofs::Values::ten_pos, crate::proofs::Values::no_whole, crate::proofs::Values::all_rest))]
 fn split_at_places(value: u128, places: u32) -> (u128, u128)
     ensures whole { result.0 ≡ value / 10 ^ places }

@@ -14,7 +14,8 @@ pub enum Piece<'a> {
     Number(i128),
     /// A number in decimal digits.
     Count(u128),
-    /// A number in units of 10^-places: its whole part, a point, and just so many decimals.
+    /// A number in units of 10^-places: its whole part, a point, and just so many decimals,
+    /// or a 0 where there are to be none.
     Fixed { value: u128, places: u32 },
 }
 
