@@ -5,3 +5,4 @@ pub mod Commands
 pub mod Endings
 pub mod Meanings
 pub mod Theorems
+pub mod Views

@@ -48,25 +48,24 @@ within limit number = None
 abbrev pub fixed_value : List ℕ → Option ℕ
 fixed_value word = within (10 ^ 18) (decimal_value 6 word)
 
--- the options at the end of a command: none, or one fixed cost
-abbrev pub options_asked : List (List ℕ) → Option Options
-options_asked [] = Some (plain_options None)
-options_asked (name ∷ value ∷ []) =
-    if bytes_eq name (codes "--fixed") then option_map (λ v. plain_options (Some v)) (fixed_value value) else None
-options_asked words = None
+-- the fixed cost that the words at the end of a command give: none, or one
+abbrev pub fixed_asked : List (List ℕ) → Option (Option ℕ)
+fixed_asked [] = Some None
+fixed_asked (name ∷ value ∷ []) = if bytes_eq name (codes "--fixed") then option_map (λ v. Some v) (fixed_value value) else None
+fixed_asked words = None
 
 -- a name of the layout, and of a file that does not begin with a dash
 abbrev pub names_matrix : List ℕ → List ℕ → Bool
 names_matrix layout file = bytes_eq layout (codes "cab-matrix") && not (begins_with_dash file)
 
 abbrev pub solve_asked : List (List ℕ) → Option Request
-solve_asked (layout ∷ file ∷ rest) = if names_matrix layout file then option_map (solve file) (options_asked rest) else None
+solve_asked (layout ∷ file ∷ rest) = if names_matrix layout file then option_map (λ f. solve file (plain_options f)) (fixed_asked rest) else None
 solve_asked words = None
 
 abbrev pub check_asked : List (List ℕ) → Option Request
 check_asked (layout ∷ file ∷ certificate ∷ rest) =
     if names_matrix layout file && not (begins_with_dash certificate)
-    then option_map (check file certificate) (options_asked rest)
+    then option_map (λ f. check file certificate (plain_options f)) (fixed_asked rest)
     else None
 check_asked words = None
 
