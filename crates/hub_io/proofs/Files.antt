@@ -8,7 +8,7 @@ use Rattle.std.proofs.lemmas.Grind.{common_steps}
 use Rattle.std.proofs.Math.Seq.{take-append_seam}
 use Rattle.std.specs.List.{position_or_len}
 use Rattle.hub_io.specs.Outside.{Starts}
-use Rattle.hub_io.specs.Memory.{has_name, held_bytes, left_bytes}
+use Rattle.hub_io.specs.MemShelf.{has_name, held_bytes, left_bytes}
 use Rattle.hub_io.specs.declared.mem_shelf.MemFile.{MemFile}
 use borrow.Author.Tests.{ltb-true, ltb-false}
 

@@ -1,2 +1,4 @@
-pub mod Memory
+pub mod MemShelf
+pub mod MemSink
 pub mod Outside
+pub mod Partial

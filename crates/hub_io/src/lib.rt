@@ -11,15 +11,24 @@
 //!   at the calls of a list, and at each [`Partial`] put.
 #![tactic(auto)]
 
+// Where files are read.
+mod shelf;
+mod whole;
+
+// Where texts are put.
+mod sink;
+
+// Many small puts joined into few.
 mod buffer;
+
+// Where workers pass.
 mod gate;
+
+// In memory.
 mod mem_shelf;
 mod mem_sink;
-mod shelf;
-mod sink;
 #[cfg(test)]
 mod tests;
-mod whole;
 
 pub use buffer::Buffer;
 pub use gate::{Gate, OpenGate};

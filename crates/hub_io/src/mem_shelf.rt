@@ -1,7 +1,7 @@
 // A shelf in memory, which fails where it is told to.
-ghost use Rattle.std.specs.Prelude.{◌≡◌, ◌+◌, ◌<◌, ◌≤◌, ◌++◌, ℕ, Option, None, Some, [], length, take, drop, All, position, find, slice_get, string_bytes, false, IfOk, IfSome, MatchOption};
-ghost use Rattle.hub_io.specs.Outside.{Rose, Starts};
-ghost use Rattle.hub_io.specs.Memory.{has_name, held_bytes, left_bytes, ReadsOn};
+ghost use Rattle.std.specs.Prelude.{◌≡◌, ◌+◌, ◌-◌, ◌^◌, ◌<◌, ◌≤◌, ◌↔◌, ◌++◌, min, Contains, IsTrue, ℕ, Option, None, Some, [], length, take, drop, All, position, find, slice_get, string_bytes, false, IfOk, IfSome, MatchOption};
+ghost use Rattle.hub_io.specs.Outside.{Starts};
+ghost use Rattle.hub_io.specs.MemShelf.{has_name, held_bytes, left_bytes, ReadsOn};
 
 use crate::{Failed, Shelf};
 use std::alloc::{AllocError, Global};
@@ -85,6 +85,8 @@ impl MemShelf {
     fn call_fails(&mut self) -> bool
         ensures counted { self.new ≡ record self.old { calls = self.new.calls } }
         ensures later { self.old.calls ≤ self.new.calls }
+        ensures next { self.new.calls ≡ min (self.old.calls + 1) (2 ^ 64 - 1) }
+        ensures listed { self.old.calls < self.new.calls → IsTrue result ↔ Contains self.old.failing.items self.new.calls }
         ensures sound { All (λ n. n ≤ self.old.calls) self.old.failing.items → result ≡ false }
     {
         match self.calls.checked_add(1) {
@@ -99,8 +101,8 @@ impl MemShelf {
     // Counts a fault.
     fn fault(&mut self) -> Failed
         ensures counted { self.new ≡ record self.old { faults = self.new.faults } }
+        ensures once { self.new.faults ≡ min (self.old.faults + 1) (2 ^ 64 - 1) }
         ensures later { self.old.faults ≤ self.new.faults }
-        ensures rose { Rose self.old.faults self.new.faults }
     {
         self.faults = self.faults.saturating_add(1);
         Failed

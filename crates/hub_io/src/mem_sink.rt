@@ -1,6 +1,7 @@
 // A sink in memory, which fails where it is told to and past its room.
-ghost use Rattle.std.specs.Prelude.{◌≡◌, ◌+◌, ◌≤◌, ◌++◌, ℕ, [], None, Some, All, length, take, IfOk, IsOk, vec_capacity};
-ghost use Rattle.hub_io.specs.Outside.{Puts, Rose};
+ghost use Rattle.std.specs.Prelude.{◌≡◌, ◌+◌, ◌-◌, ◌^◌, ◌<◌, ◌≤◌, ◌++◌, min, ℕ, [], None, Some, All, length, take, IfOk, IsOk, vec_capacity};
+ghost use Rattle.hub_io.specs.Outside.{Puts};
+ghost use Rattle.hub_io.specs.Partial.{partial_at};
 
 use crate::{Failed, Sink};
 use std::alloc::{AllocError, Global};
@@ -30,7 +31,7 @@ pub struct MemSink {
 }
 
 impl MemSink {
-    ghost use Rattle.hub_io.specs.Memory.{TakesAll};
+    ghost use Rattle.hub_io.specs.MemSink.{TakesAll};
 
     /// A sink with room for that many bytes, on which no put is to fail.
     pub fn new(alloc: Global, room: usize) -> Result<MemSink, AllocError>
@@ -78,23 +79,21 @@ impl MemSink {
     // number none is.
     fn failing_put(&mut self) -> Option<usize>
         ensures taken { self.new.taken ≡ self.old.taken }
-        ensures faults { self.new.faults ≡ self.old.faults }
-        ensures room { self.new.room ≡ self.old.room }
-        ensures none { All (λ p. p.call ≤ self.old.calls) self.old.failing.items → result ≡ None × All (λ p. p.call ≤ self.new.calls) self.new.failing.items }
+        ensures same { (self.new.room ≡ self.old.room) × (self.new.failing ≡ self.old.failing) × (self.new.faults ≡ self.old.faults) }
+        ensures next { self.new.calls ≡ min (self.old.calls + 1) (2 ^ 64 - 1) }
+        ensures listed { self.old.calls < self.new.calls → result ≡ partial_at self.old.failing.items self.new.calls }
+        ensures none { All (λ p. p.call ≤ self.old.calls) self.old.failing.items → result ≡ None × All (λ p. p.call ≤ self.new.calls) self.old.failing.items }
     {
         let call = self.calls.checked_add(1)?;
         self.calls = call;
-        let partial = self.failing.iter().find(|partial| partial.call == call)?;
-        Some(partial.taken)
+        taken_at(&self.failing, call)
     }
 
     // Takes the front of the piece, as much as fits and at most so many bytes, and answers how much.
     fn take_front(&mut self, piece: &[u8], most: usize) -> usize
-        ensures within { result ≤ length piece.now }
+        ensures count { result ≡ min (min (length piece.now) most) (self.old.room - length self.old.taken.items) }
         ensures taken { self.new.taken.items ≡ self.old.taken.items ++ take result piece.now }
-        ensures faults { self.new.faults ≡ self.old.faults }
-        ensures fits { length piece.now ≤ most → length self.old.taken.items + length piece.now ≤ self.old.room → result ≡ length piece.now }
-        ensures same { (self.new.room ≡ self.old.room) × (self.new.calls ≡ self.old.calls) × (self.new.failing ≡ self.old.failing) }
+        ensures same { (self.new.room ≡ self.old.room) × (self.new.calls ≡ self.old.calls) × (self.new.failing ≡ self.old.failing) × (self.new.faults ≡ self.old.faults) }
     {
         let room = self.room - self.taken.len();
         let count = piece.len().min(most).min(room);
@@ -106,8 +105,9 @@ impl MemSink {
     // Counts a fault.
     fn fault(&mut self) -> Failed
         ensures taken { self.new.taken ≡ self.old.taken }
+        ensures same { (self.new.room ≡ self.old.room) × (self.new.calls ≡ self.old.calls) × (self.new.failing ≡ self.old.failing) }
+        ensures once { self.new.faults ≡ min (self.old.faults + 1) (2 ^ 64 - 1) }
         ensures later { self.old.faults ≤ self.new.faults }
-        ensures rose { Rose self.old.faults self.new.faults }
     {
         self.faults = self.faults.saturating_add(1);
         Failed
@@ -115,7 +115,7 @@ impl MemSink {
 }
 
 impl Sink for MemSink {
-    ghost use Rattle.hub_io.specs.Memory.{TakesAll};
+    ghost use Rattle.hub_io.specs.MemSink.{TakesAll};
 
     ghost taken = { λ s. Some s.taken.items };
 
@@ -133,4 +133,15 @@ impl Sink for MemSink {
         }
         Ok(())
     }
+}
+
+// How many bytes are taken of the put of that number, where it is to fail.
+fn taken_at(failing: &[Partial], call: u64) -> Option<usize>
+    ensures listed { result ≡ partial_at failing.now call }
+    ensures none { (last : ℕ) → last < call → All (λ p. p.call ≤ last) failing.now → result ≡ None }
+{
+    failing
+        .iter()
+        .find(|partial| partial.call == call)
+        .map(|partial| partial.taken)
 }

@@ -1,9 +1,8 @@
--- What a shelf in memory holds and has left, and what a sink in memory takes.
-use Rattle.std.specs.Prelude.{◌≡◌, ◌<◌, ◌≤◌, ℕ, ◌+◌, List, All, Bool, Option, None, Some, IsSome, length, take, drop, find, option_map, slice_get, bytes_eq, string_bytes}
+-- What a shelf in memory holds and has left.
+use Rattle.std.specs.Prelude.{◌≡◌, ◌<◌, ℕ, List, Bool, Option, None, Some, IsSome, length, take, drop, find, option_map, slice_get, bytes_eq, string_bytes}
 use Rattle.std.specs.Io.KnownBytes.{Consumes, IsAtEnd}
 use Rattle.hub_io.specs.declared.mem_shelf.MemFile.{MemFile}
 use Rattle.hub_io.specs.declared.mem_shelf.Place.{Place}
-use Rattle.hub_io.specs.declared.mem_sink.MemSink.{MemSink}
 
 -- whether the file has this name
 abbrev pub has_name : List ℕ → MemFile → Bool
@@ -22,7 +21,3 @@ left_bytes files (Some place) = option_map (λ f. drop place.byte f.bytes.items)
 abbrev pub ReadsOn : Option (List ℕ) → (Place → Option (List ℕ)) → Option (Place × ℕ) → List ℕ → Type 0
 ReadsOn left left_at None into = left ≡ None
 ReadsOn left left_at (Some r) into = IsSome left × IsSome (left_at r.0) × Consumes left (left_at r.0) (take r.1 into) × (r.1 ≡ 0 → 0 < length into → IsAtEnd (left_at r.0))
-
--- no put on the sink is to fail any more, and it has room for so many bytes
-abbrev pub TakesAll : MemSink → ℕ → Type 0
-TakesAll sink count = All (λ p. p.call ≤ sink.calls) sink.failing.items × (length sink.taken.items + count ≤ sink.room)
