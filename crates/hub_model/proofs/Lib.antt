@@ -1,1 +1,6 @@
 pub mod HeldNumbers
+pub mod Ceilings
+pub mod HeldLists
+pub mod Gathered
+pub mod MadeLimits
+pub mod Built

@@ -3,3 +3,4 @@ pub mod Asked
 pub mod Defaults
 pub mod Given
 pub mod Faults
+pub mod Building

@@ -5,13 +5,16 @@
 //! in 10^-3, fixed costs as read in 10^-6, held fixed costs and costs in 10^-12. Nodes are `u32`, counted from 0.
 #![tactic(auto)]
 
+mod drafts;
 mod faults;
+mod instance;
 mod nodes;
 mod numbers;
 mod parts;
 mod terms;
 
 pub use faults::{InstanceFault, Refusal, Wanted};
+pub use instance::{Instance, route_cost, route_cost_held};
 pub use nodes::{Nodes, is_node_list};
 pub use numbers::Numbers;
 pub use parts::{Factors, Parts};
