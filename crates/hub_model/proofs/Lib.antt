@@ -4,3 +4,4 @@ pub mod HeldLists
 pub mod Gathered
 pub mod MadeLimits
 pub mod Built
+pub mod HeldPairs

@@ -4,3 +4,5 @@ pub mod Defaults
 pub mod Given
 pub mod Faults
 pub mod Building
+pub mod Held
+pub mod Lines
