@@ -1,0 +1,5 @@
+pub mod Naturals
+pub mod Asked
+pub mod Defaults
+pub mod Given
+pub mod Faults
