@@ -1,0 +1,91 @@
+ghost use Rattle.std.specs.Prelude.{◌≡◌, ℕ, ◌+◌, ◌*◌, ◌^◌, ◌<◌, ◌≤◌, List, [], ◌∷◌, length, Some, None, IfOk, IfErr, OnOk};
+ghost use Rattle.std.specs.List.{slice_get};
+ghost use Rattle.text_spec.specs.Numbers.{decimal_value};
+ghost use Rattle.file_spec.specs.Places.{a_size, a_quantity, nothing};
+ghost use Rattle.hub_model.specs.declared.faults.InstanceFault.TheVariants.{Missing};
+ghost use Rattle.hub_model.specs.declared.faults.Wanted.TheVariants.{Token as of_token};
+ghost use Rattle.instance_cab.specs.Unread.{Unread, whole, later, fault_here, value_here, told};
+
+use crate::numbers::{read_quantity, read_size};
+use dec_text::Tokens;
+use hub_model::{InstanceFault, Wanted};
+use std::marker::Model;
+
+/// A file from its next token on.
+#[derive(Drop)]
+pub(crate) struct Reader<'a> {
+    tokens: Tokens<'a>,
+    next: u64,
+}
+
+impl<'a> Model for Reader<'a> {
+    ghost use Rattle.std.specs.Prelude.{◌+◌, ◌^◌, ◌≤◌, length};
+    ghost use Rattle.dec_text.specs.Views.{tokens_left};
+    ghost use Rattle.instance_cab.specs.Unread.{Unread};
+
+    ghost Value = { Unread };
+
+    ghost view = { λ r. record { next = r.next; tokens = tokens_left r.tokens } };
+
+    ghost invariant = { λ r. r.next + length (tokens_left r.tokens) ≤ 2 ^ 63 };
+}
+
+impl<'a> Reader<'a> {
+    /// A file of which nothing is read.
+    pub(crate) fn over(bytes: &'a [u8]) -> Self
+        ensures { result ≡ whole bytes.now }
+    {
+        Reader {
+            tokens: Tokens::over(bytes),
+            next: 1,
+        }
+    }
+
+    /// Reads the next token as the number of nodes.
+    #[tactic(auto, unfolding(crate::specs::Unread::fault_here, crate::specs::Unread::value_here))]
+    pub(crate) fn size(&mut self) -> Result<u32, InstanceFault>
+        ensures fault { told result ≡ fault_here a_size self.old }
+        ensures value { IfOk result (λ n. n ≡ value_here 0 self.old) }
+        ensures limit { IfOk result (λ n. n ≤ 200) }
+        ensures moved { OnOk result (self.new ≡ later 1 self.old) }
+    {
+        let (at, token) = self.token()?;
+        read_size(at, token)
+    }
+
+    /// Reads the next token as a number in units of 10^-places that is not negative and at most the limit.
+    #[tactic(auto, unfolding(crate::specs::Unread::fault_here, crate::specs::Unread::value_here))]
+    fn quantity(&mut self, places: u32, limit: u64) -> Result<u64, InstanceFault>
+        requires { places ≤ 6 }
+        ensures fault { told result ≡ fault_here (a_quantity places limit) self.old }
+        ensures value { IfOk result (λ v. v ≡ value_here places self.old) }
+        ensures moved { OnOk result (self.new ≡ later 1 self.old) }
+    {
+        let (at, token) = self.token()?;
+        read_quantity(at, token, places, limit)
+    }
+
+    /// Sees that no token is left.
+    #[tactic(auto, unfolding(crate::specs::Unread::fault_here))]
+    pub(crate) fn end(&mut self) -> Result<(), InstanceFault>
+        ensures { told result ≡ fault_here nothing self.old }
+    {
+        match self.token() {
+            Ok((at, _)) => Err(InstanceFault::Extra { at }),
+            Err(_) => Ok(()),
+        }
+    }
+
+    // The next token with its place, or the fault that it is missing.
+    fn token(&mut self) -> Result<(u64, &'a [u8]), InstanceFault>
+        ensures token { IfOk result (λ t. slice_get self.old.tokens 0 ≡ Some (t.0, t.1.now)) }
+        ensures moved { OnOk result (self.new ≡ later 1 self.old) }
+        ensures missing { IfErr result (λ f. (slice_get self.old.tokens 0 ≡ None) × (f ≡ Missing (of_token self.old.next))) }
+    {
+        let Some((at, token)) = self.tokens.next() else {
+            return Err(InstanceFault::Missing { what: Wanted::Token(self.next) });
+        };
+        self.next += 1;
+        Ok((at as u64, token))
+    }
+}
