@@ -31,9 +31,9 @@ abbrev pub held_of : Kind → ℕ → ℕ → ℕ → ℕ
 held_of Flow n s read = read
 held_of (Distance divide) n s read = held_distance divide n s read
 
--- what is held of a matrix of this kind that is next to be read
-unfoldable pub matrix_of : Kind → ℕ → Unread → List ℕ
-matrix_of kind n r = map (λ s. held_of kind n s (value_here (places_of kind) (later s r))) (range_with_len 0 (n * n))
+-- what is held of the next m numbers of a matrix
+unfoldable pub held_front : Kind → ℕ → ℕ → Unread → List ℕ
+held_front kind n m r = map (λ s. held_of kind n s (value_here (places_of kind) (later s r))) (range_with_len 0 m)
 
 -- the kinds of the two matrices, in the order of the file
 abbrev pub first_kind : Order → ℕ → Kind

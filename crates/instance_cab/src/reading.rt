@@ -4,11 +4,14 @@ ghost use Rattle.text_spec.specs.Numbers.{decimal_value};
 ghost use Rattle.file_spec.specs.Places.{a_size, a_quantity, nothing};
 ghost use Rattle.hub_model.specs.declared.faults.InstanceFault.TheVariants.{Missing};
 ghost use Rattle.hub_model.specs.declared.faults.Wanted.TheVariants.{Token as of_token};
-ghost use Rattle.instance_cab.specs.Unread.{Unread, whole, later, fault_here, value_here, told};
+ghost use Rattle.instance_cab.specs.Unread.{Unread, whole, later, fault_here, value_here, AreLegal, StoppedAt, told};
+ghost use Rattle.instance_cab.specs.Matrices.{places_of, wanted_of, IsKind, held_of, held_front};
 
+use crate::kinds::Kind;
 use crate::numbers::{read_quantity, read_size};
 use dec_text::Tokens;
-use hub_model::{InstanceFault, Wanted};
+use hub_model::{InstanceFault, Numbers, Refusal, Wanted};
+use std::alloc::{AllocError, Global};
 use std::marker::Model;
 
 /// A file from its next token on.
@@ -63,6 +66,35 @@ impl<'a> Reader<'a> {
     {
         let (at, token) = self.token()?;
         read_quantity(at, token, places, limit)
+    }
+
+    // Reads the next number of a matrix, and gives what is held of it for the pair of this place.
+    fn held(&mut self, kind: &Kind, n: u32, place: u32) -> Result<u64, InstanceFault>
+        requires kind { IsKind kind.now }
+        requires place { place < n * n }
+        ensures fault { told result ≡ fault_here (wanted_of kind.now) self.old }
+        ensures value { IfOk result (λ v. v ≡ held_of kind.now n place (value_here (places_of kind.now) self.old)) }
+        ensures moved { OnOk result (self.new ≡ later 1 self.old) }
+    {
+        let read = self.quantity(kind.places(), kind.limit())?;
+        Ok(kind.held(n, place, read))
+    }
+
+    /// Reads a matrix of n rows, and gives what is held of it row by row.
+    pub(crate) fn matrix(&mut self, alloc: Global, kind: &Kind, n: u32) -> Result<Numbers, Refusal>
+        requires kind { IsKind kind.now }
+        requires size { n ≤ 200 }
+        ensures legal { OnOk result (AreLegal (wanted_of kind.now) (n * n) self.old) }
+        ensures held { IfOk result (λ m. m ≡ held_front kind.now n (n * n) self.old) }
+        ensures moved { OnOk result (self.new ≡ later (n * n) self.old) }
+        ensures fault { IfErr result (StoppedAt (wanted_of kind.now) (n * n) self.old) }
+    {
+        let mut items = Vec::with_capacity(alloc, n as usize * n as usize)?;
+        for place in 0..n * n {
+            let held = self.held(kind, n, place).map_err(Refusal::Fault)?;
+            items.push(held as i128).map_err(AllocError::from)?;
+        }
+        Ok(Numbers::from_vec(items))
     }
 
     /// Sees that no token is left.
