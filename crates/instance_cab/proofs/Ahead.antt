@@ -1,10 +1,9 @@
 -- What is unread later on.
-use Rattle.std.proofs.Common.{◌≡◌, ℕ, zero, suc, ◌+◌, ◌-◌, ◌<◌, ◌≤◌, List, [], ◌∷◌, length, drop, Option, Some, None, refl, sym, ap, ap₂, ◌∙◌, arith, add-zero}
+use Rattle.std.proofs.Common.{◌≡◌, ℕ, zero, suc, ◌+◌, List, [], ◌∷◌, drop, refl, sym, ap, ap₂, arith, add-zero}
 use Rattle.std.proofs.lemmas.List.{drop-drop}
 use Rattle.std.specs.List.{slice_get}
-use Rattle.text_spec.specs.Tokens.{Token, tokens_of}
-use Rattle.file_spec.specs.Places.{Wanted, token_fault, token_value, token_at}
-use Rattle.instance_cab.specs.Unread.{Unread, whole, later, fault_here, value_here}
+use Rattle.text_spec.specs.Tokens.{Token}
+use Rattle.instance_cab.specs.Unread.{Unread, later}
 
 pub later-none : (r : Unread) → later 0 r ≡ r
 unfolding later
@@ -22,7 +21,7 @@ pub later-one : (next : ℕ) (token : Token) (all rest : List Token) → all ≡
 unfolding later
 later-one next token all rest e = ap (λ ts. record { next = next + 1; tokens = drop 1 ts }) (sym e)
 
-slice_get-drop : {A : Type 0} (k : ℕ) (xs : List A) → slice_get (drop k xs) 0 ≡ slice_get xs k
+pub slice_get-drop : {A : Type 0} (k : ℕ) (xs : List A) → slice_get (drop k xs) 0 ≡ slice_get xs k
 slice_get-drop zero xs = refl
 slice_get-drop (suc k) [] = refl
 slice_get-drop (suc k) (x ∷ xs) = slice_get-drop k xs

@@ -1,5 +1,5 @@
 -- A file has no more tokens than bytes.
-use Rattle.std.proofs.Common.{ℕ, suc, ◌+◌, ◌≤◌, Bool, true, false, not, List, [], ◌∷◌, length, drop, refl, arith, cond, length-drop}
+use Rattle.std.proofs.Common.{ℕ, ◌+◌, ◌≤◌, Bool, true, false, List, [], ◌∷◌, length, drop, arith, cond, length-drop}
 use Rattle.text_spec.specs.Tokens.{Token, is_separator, begins_inside, with_byte, runs, mark_length, tokens_of}
 
 with_byte_count : (joins : Bool) (place b : ℕ) (tokens : List Token) → length (with_byte joins place b tokens) ≤ length tokens + 1
@@ -16,7 +16,7 @@ runs_count place [] = omega arith
 runs_count place (b ∷ bytes) =
     let rest = runs_count (place + 1) bytes in
     let all = either_count (is_separator b) (length bytes) (runs (place + 1) bytes) (with_byte (begins_inside bytes) place b (runs (place + 1) bytes))
-        (omega arith) (omega (arith, with_byte_count (begins_inside bytes) place b (runs (place + 1) bytes))) in
+    (omega arith) (omega (arith, with_byte_count (begins_inside bytes) place b (runs (place + 1) bytes))) in
     omega arith
 
 pub tokens_of_count : (bytes : List ℕ) → length (tokens_of bytes) ≤ length bytes

@@ -1,9 +1,9 @@
 -- The two matrices of a file, and what they are read as.
-use Rattle.std.specs.Prelude.{ℕ, ◌+◌, ◌*◌, ◌≤◌, List, map, None}
+use Rattle.std.specs.Prelude.{ℕ, ◌≤◌, List, map, None}
 use Rattle.std.specs.List.{range_with_len}
-use Rattle.file_spec.specs.Options.{Layout, cab_matrix, Order, flow_first, distance_first, Options}
+use Rattle.file_spec.specs.Options.{cab_matrix, Order, flow_first, distance_first, Options}
 use Rattle.file_spec.specs.Contents.{Contents}
-use Rattle.file_spec.specs.Places.{Wanted, a_quantity, a_flow, a_distance}
+use Rattle.file_spec.specs.Places.{Wanted, a_flow, a_distance}
 use Rattle.file_spec.specs.Files.{held_distance, HasFault}
 use Rattle.hub_model.specs.Faults.{fault_of}
 use Rattle.hub_model.specs.declared.faults.Refusal.{Refusal}

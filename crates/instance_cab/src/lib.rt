@@ -6,8 +6,8 @@
 #![tactic(auto)]
 
 mod kinds;
+mod layout;
 mod numbers;
 mod reading;
-mod layout;
 
 pub use layout::read_matrix;

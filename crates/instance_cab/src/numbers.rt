@@ -22,7 +22,12 @@ pub(crate) fn read_size(at: u64, token: &[u8]) -> Result<u32, InstanceFault>
 }
 
 /// The number in units of 10^-places that the token at this place writes, or what is wrong with it.
-pub(crate) fn read_quantity(at: u64, token: &[u8], places: u32, limit: u64) -> Result<u64, InstanceFault>
+pub(crate) fn read_quantity(
+    at: u64,
+    token: &[u8],
+    places: u32,
+    limit: u64,
+) -> Result<u64, InstanceFault>
     requires { places ≤ 6 }
     ensures fault { told result ≡ quantity_fault at limit (decimal_value places token.now) }
     ensures value { IfOk result (λ v. v ≡ quantity (decimal_value places token.now)) }

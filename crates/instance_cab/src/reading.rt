@@ -115,7 +115,9 @@ impl<'a> Reader<'a> {
         ensures missing { IfErr result (λ f. (slice_get self.old.tokens 0 ≡ None) × (f ≡ Missing (of_token self.old.next))) }
     {
         let Some((at, token)) = self.tokens.next() else {
-            return Err(InstanceFault::Missing { what: Wanted::Token(self.next) });
+            return Err(InstanceFault::Missing {
+                what: Wanted::Token(self.next),
+            });
         };
         self.next += 1;
         Ok((at as u64, token))
