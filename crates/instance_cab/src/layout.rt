@@ -1,4 +1,4 @@
-ghost use Rattle.std.specs.Prelude.{◌≡◌, List, IfOk, IfErr};
+ghost use Rattle.std.specs.Prelude.{◌≡◌, IfOk, IfErr};
 ghost use Rattle.file_spec.specs.Options.{cab_matrix, IsOptions};
 ghost use Rattle.file_spec.specs.Contents.{IsContents};
 ghost use Rattle.file_spec.specs.Files.{HasContents};

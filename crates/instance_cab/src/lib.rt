@@ -5,9 +5,16 @@
 //! in the order of tokens.
 #![tactic(auto)]
 
-mod kinds;
+// The file as a whole.
 mod layout;
-mod numbers;
+
+// Its tokens in turn.
 mod reading;
+
+// What a number is to be, and what a token writes.
+mod kinds;
+mod numbers;
+#[cfg(test)]
+mod tests;
 
 pub use layout::read_matrix;

@@ -1,10 +1,9 @@
-ghost use Rattle.std.specs.Prelude.{◌≡◌, ℕ, ◌+◌, ◌*◌, ◌^◌, ◌<◌, ◌≤◌, List, [], ◌∷◌, length, Some, None, IfOk, IfErr, OnOk};
+ghost use Rattle.std.specs.Prelude.{◌≡◌, ◌*◌, ◌<◌, ◌≤◌, Some, None, IfOk, IfErr, OnOk};
 ghost use Rattle.std.specs.List.{slice_get};
-ghost use Rattle.text_spec.specs.Numbers.{decimal_value};
 ghost use Rattle.file_spec.specs.Places.{a_size, a_quantity, nothing};
 ghost use Rattle.hub_model.specs.declared.faults.InstanceFault.TheVariants.{Missing};
 ghost use Rattle.hub_model.specs.declared.faults.Wanted.TheVariants.{Token as of_token};
-ghost use Rattle.instance_cab.specs.Unread.{Unread, whole, later, fault_here, value_here, AreLegal, StoppedAt, told};
+ghost use Rattle.instance_cab.specs.Unread.{whole, later, fault_here, value_here, AreLegal, StoppedAt, told};
 ghost use Rattle.instance_cab.specs.Matrices.{places_of, wanted_of, IsKind, held_of, held_front};
 
 use crate::kinds::Kind;
