@@ -5,14 +5,27 @@
 //! in 10^-3, fixed costs as read in 10^-6, held fixed costs and costs in 10^-12. Nodes are `u32`, counted from 0.
 #![tactic(auto)]
 
+mod branches;
+mod drafts;
+mod duals;
 mod faults;
+mod instance;
 mod nodes;
 mod numbers;
 mod parts;
+mod plans;
 mod terms;
+#[cfg(test)]
+mod tests;
+mod tree_lines;
 
+pub use branches::Branch;
+pub use duals::Dual;
 pub use faults::{InstanceFault, Refusal, Wanted};
+pub use instance::{Instance, route_cost, route_cost_held};
 pub use nodes::{Nodes, is_node_list};
 pub use numbers::Numbers;
 pub use parts::{Factors, Parts};
+pub use plans::{HubSet, Plan};
 pub use terms::{Order, Tail, Terms};
+pub use tree_lines::{Mix, TreeLine};

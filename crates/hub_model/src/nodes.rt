@@ -7,7 +7,7 @@ ghost use Rattle.file_spec.specs.Options.{IsNodeList};
 use std::marker::Model;
 
 /// A nonempty list of nodes that may be asked for as candidates: strictly ascending, each below 200.
-#[derive(Debug, Drop)]
+#[derive(Clone, Debug, Drop)]
 pub struct Nodes {
     items: Vec<u32>,
 }

@@ -6,7 +6,7 @@ ghost use Rattle.hub_model.specs.Naturals.{natural, IsHeld};
 use std::marker::Model;
 
 /// Numbers from 0 to 10^30, seen as a list of natural numbers.
-#[derive(Debug, Drop)]
+#[derive(Clone, Debug, Drop)]
 pub struct Numbers {
     items: Vec<i128>,
 }

@@ -46,3 +46,14 @@ impl Model for Parts {
 
     ghost invariant = { AreParts };
 }
+
+impl Parts {
+    ghost use Rattle.file_spec.specs.Contents.{IsContents};
+
+    /// Tells that the contents are within their limits.
+    pub fn limits(&self)
+        ensures { IsContents self.now }
+    {
+        let _ = &self.n;
+    }
+}

@@ -1,6 +1,7 @@
 //! The instance options.
 
 ghost use Rattle.std.specs.Prelude.{◌≡◌, ◌^◌, pos, ◌≤ℤ◌, Some};
+ghost use Rattle.file_spec.specs.Options.{IsOptions};
 ghost use Rattle.hub_model.specs.Naturals.{natural};
 ghost use Rattle.hub_model.specs.Defaults.{plain_options};
 
@@ -85,5 +86,12 @@ impl Terms {
             candidates: None,
             no_self: false,
         }
+    }
+
+    /// Tells that the options are within their limits.
+    pub fn limits(&self)
+        ensures { IsOptions self.now }
+    {
+        let _ = &self.divide;
     }
 }
