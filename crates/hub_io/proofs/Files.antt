@@ -12,6 +12,7 @@ use Rattle.hub_io.specs.MemShelf.{has_name, held_bytes, left_bytes}
 use Rattle.hub_io.specs.declared.mem_shelf.MemFile.{MemFile}
 use borrow.Author.Tests.{ltb-true, ltb-false}
 
+-- an index within the list has an element
 some_within : {A B : Type 0} (f : A → B) (xs : List A) (k : ℕ) → k < length xs → IsSome (option_map f (slice_get xs k))
 some_within f xs k h = elim (slice_get_cases xs k).1 as (λ _. IsSome (option_map f (slice_get xs k))) [
   | inl w ↦ rw (w.2) refl
@@ -23,13 +24,16 @@ module _ (files : List MemFile) (name : List ℕ) where
   abbrev Named : Option ℕ → Type 0
   Named found = MatchOption found (held_bytes files name ≡ None) (λ k. Starts (Some (held_bytes files)) name (left_bytes files (Some (record { file = k; byte = 0 }))))
 
+  -- by whether the index of the first file of that name is within the list
   named_by : (k : ℕ) → find (has_name name) files ≡ slice_get files k → (b : Bool) → nat_lt k (length files) ≡ b → Named (cond b (Some k) None)
   named_by k at true e = (some_within (λ (f : MemFile). drop 0 f.bytes.items) files k (ltb-true k (length files) e), ap (option_map (λ f. f.bytes.items)) at)
   named_by k at false e = ap (option_map (λ f. f.bytes.items)) (at ∙ slice_get_past files k (ltb-false k (length files) e))
 
+  -- what `position` finds is what `held_bytes` finds
   pub first_named : (found : Option ℕ) → found ≡ position (has_name name) files → Named found
   first_named found e = let p = has_name name in subst Named (sym e) (named_by (position_or_len p files) (find_at p files) (nat_lt (position_or_len p files) (length files)) refl)
 
+-- nothing stands past the end
 drop-min : (bytes : List ℕ) (byte : ℕ) → drop byte bytes ≡ drop (min byte (length bytes)) bytes
 drop-min bytes byte = grind (arith, common_steps, drop_all)
 

@@ -148,6 +148,7 @@ fn file_named(files: &[MemFile], name: &str) -> Option<usize>
     position_named(files, name)
 }
 
+// The same as a search through the list.
 fn position_named(files: &[MemFile], name: &str) -> Option<usize>
     ensures { result ≡ position (has_name name.now) files.now }
 {
