@@ -1,3 +1,6 @@
 pub mod Asked
 pub mod MinimalDuals
 pub mod SetCuts
+pub mod BestRoutes
+pub mod Assigned
+pub mod HeldCosts

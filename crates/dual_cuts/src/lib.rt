@@ -1,6 +1,11 @@
 //! Least routes, the minimal dual of a commodity, and the Benders cut of a hub set.
 #![tactic(auto)]
 
+mod held;
 mod laws;
+mod routes;
+mod assignments;
 
+pub use assignments::{Assignment, assign};
 pub use laws::{minimal_is_dual, no_load_on_hubs, set_cut_is_cut, set_cut_is_tight};
+pub use routes::{Route, least_route};
