@@ -4,3 +4,4 @@ pub mod SetCuts
 pub mod BestRoutes
 pub mod Assigned
 pub mod HeldCosts
+pub mod OutsideNodes

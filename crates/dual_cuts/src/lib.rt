@@ -5,7 +5,9 @@ mod held;
 mod laws;
 mod routes;
 mod assignments;
+mod orders;
 
 pub use assignments::{Assignment, assign};
 pub use laws::{minimal_is_dual, no_load_on_hubs, set_cut_is_cut, set_cut_is_tight};
+pub use orders::outside;
 pub use routes::{Route, least_route};
