@@ -5,3 +5,4 @@ pub mod BestRoutes
 pub mod Assigned
 pub mod HeldCosts
 pub mod OutsideNodes
+pub mod Turns

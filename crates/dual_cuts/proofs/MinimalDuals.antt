@@ -7,7 +7,8 @@ use Rattle.hub_spec.specs.Problem.{Problem, route_cost}
 use Rattle.hub_spec.specs.Edges.{single_cost, edge_cost}
 use Rattle.hub_spec.specs.Cuts.{Prices, value_at, IsDual}
 use Rattle.hub_spec.specs.Separation.{IsOrder, IsMinimalDual}
-use Rattle.dual_cuts.proofs.Asked.{asks_single, asks_hub, asks_earlier, asked_within, asked_over}
+use Rattle.dual_cuts.proofs.Asked.{asks_single, asks_hub, asks_earlier}
+use Rattle.dual_cuts.specs.Values.{asked_over}
 
 -- the node has, in its turn, the least value that it may have
 pub record HasTurn (p : Problem) (hubs order : List ℕ) (c : ℕ × ℕ) (d : Prices) (k : ℕ) : Type 0 where
@@ -18,6 +19,7 @@ pub record HasTurn (p : Problem) (hubs order : List ℕ) (c : ℕ × ℕ) (d : P
 
 pub turn_of : (p : Problem) (hubs order : List ℕ) (c : ℕ × ℕ) (d : Prices) (k : ℕ) → IsMinimalDual p hubs order c d → Contains order k
     → HasTurn p hubs order c d k
+unfolding asked_over
 turn_of p hubs order c d k minimal (t, l, e) =
     let here : get_or order t 0 ≡ k = get_or_default order t 0 k l ∙ e in
     record {

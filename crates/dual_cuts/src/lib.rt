@@ -6,6 +6,7 @@ mod laws;
 mod routes;
 mod assignments;
 mod orders;
+mod duals;
 
 pub use assignments::{Assignment, assign};
 pub use laws::{minimal_is_dual, no_load_on_hubs, set_cut_is_cut, set_cut_is_tight};
