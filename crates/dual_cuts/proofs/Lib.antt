@@ -6,3 +6,4 @@ pub mod Assigned
 pub mod HeldCosts
 pub mod OutsideNodes
 pub mod Turns
+pub mod Entries

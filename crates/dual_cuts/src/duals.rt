@@ -4,9 +4,11 @@ ghost use Rattle.std.specs.Prelude.{◌≡◌, ℕ, ◌^◌, ◌<◌, ◌≤◌,
 ghost use Rattle.hub_spec.specs.Edges.{edge_cost, IsLeastCost};
 ghost use Rattle.hub_spec.specs.Plans.{IsHubSet};
 ghost use Rattle.hub_spec.specs.Separation.{IsOrder, IsMinimalDual};
-ghost use Rattle.dual_cuts.specs.Values.{asked_over, AreInTurn, HaveNoneElse};
+ghost use Rattle.dual_cuts.specs.Values.{asked_over, AreInTurn, HaveNoneElse, entries_from};
 
-use hub_model::{Instance, route_cost_held};
+use crate::held::signed;
+use hub_model::{Dual, Instance, route_cost_held};
+use std::alloc::{AllocError, Global};
 
 /// The cost of the commodity through the hub edge of `k` and `m`, in its cheaper direction.
 fn edge_cost_held(instance: &Instance, i: u32, j: u32, k: u32, m: u32) -> u128
@@ -60,4 +62,21 @@ fn set_values(instance: &Instance, i: u32, j: u32, price: u128, hubs: &[u32], or
         let k = order[t];
         values[k as usize] = asked_value(instance, i, j, price, hubs, &order[..t], values, k);
     }
+}
+
+/// The dual of this price that lists the nodes that have a value.
+fn dual_of(alloc: Global, price: u128, values: &[u128]) -> Result<Dual, AllocError>
+    requires price { price ≤ 10 ^ 29 }
+    requires few { length values.now ≤ 200 }
+    requires values { All (λ v. v ≤ 10 ^ 29) values.now }
+    ensures { IfOk result (λ d. d ≡ record { a = price; u = entries_from 0 values.now }) }
+{
+    let mut u = Vec::new(alloc);
+    for k in 0..values.len() {
+        let value = values[k];
+        if value > 0 {
+            u.push((k as u32, signed(value)))?;
+        }
+    }
+    Ok(Dual::of(signed(price), u))
 }
