@@ -7,3 +7,4 @@ pub mod HeldCosts
 pub mod OutsideNodes
 pub mod Turns
 pub mod Entries
+pub mod ListedDuals

@@ -7,7 +7,8 @@ ghost use Rattle.hub_spec.specs.Separation.{IsOrder, IsMinimalDual};
 ghost use Rattle.dual_cuts.specs.Values.{asked_over, AreInTurn, HaveNoneElse, entries_from};
 
 use crate::held::signed;
-use hub_model::{Dual, Instance, route_cost_held};
+use crate::routes::least_route_held;
+use hub_model::{Dual, HubSet, Instance, route_cost_held};
 use std::alloc::{AllocError, Global};
 
 /// The cost of the commodity through the hub edge of `k` and `m`, in its cheaper direction.
@@ -79,4 +80,38 @@ fn dual_of(alloc: Global, price: u128, values: &[u128]) -> Result<Dual, AllocErr
         }
     }
     Ok(Dual::of(signed(price), u))
+}
+
+/// The minimal dual of the commodity from `i` to `j`: its price is what its least route through the hubs costs, and
+/// each candidate of the order, all candidates outside the hubs, has in its turn the least value that it may have.
+pub fn minimal_dual(alloc: Global, instance: &Instance, i: u32, j: u32, hubs: &HubSet, order: &[u32]) -> Result<Dual, AllocError>
+    requires from { i < instance.now.size }
+    requires to { j < instance.now.size }
+    requires hubs { IsHubSet instance.now hubs.now }
+    requires order { IsOrder instance.now hubs.now order.now }
+    ensures { IfOk result (λ d. IsMinimalDual instance.now hubs.now order.now (i, j) d) }
+{
+    instance.limits();
+    let mut values = vec![in alloc; 0; instance.size() as usize]?;
+    let price = least_route_held(instance, hubs.members(), i, j).cost;
+    priced_dual(alloc, instance, i, j, price, hubs.members(), order, &mut values)
+}
+
+/// The minimal dual by its price. The values of the nodes stay in `values`.
+pub(crate) fn priced_dual(alloc: Global, instance: &Instance, i: u32, j: u32, price: u128, hubs: &[u32], order: &[u32], values: &mut [u128]) -> Result<Dual, AllocError>
+    requires from { i < instance.now.size }
+    requires to { j < instance.now.size }
+    requires set { IsHubSet instance.now hubs.now }
+    requires order { IsOrder instance.now hubs.now order.now }
+    requires price { IsLeastCost instance.now hubs.now (i, j) price }
+    requires limit { price ≤ 10 ^ 29 }
+    requires by_node { length values.old ≡ instance.now.size }
+    requires none_else { HaveNoneElse order.now values.old }
+    ensures none_else { HaveNoneElse order.now values.new }
+    ensures minimal { IfOk result (λ d. IsMinimalDual instance.now hubs.now order.now (i, j) d) }
+    ensures listed { IfOk result (λ d. d ≡ record { a = price; u = entries_from 0 values.new }) }
+{
+    instance.limits();
+    set_values(instance, i, j, price, hubs, order, values);
+    dual_of(alloc, price, values)
 }
