@@ -79,7 +79,7 @@ fn dual_of(alloc: Global, price: u128, values: &[u128]) -> Result<Dual, AllocErr
             u.push((k as u32, signed(value)))?;
         }
     }
-    Ok(Dual::of(signed(price), u))
+    Ok(Dual::new(signed(price), u))
 }
 
 /// The minimal dual of the commodity from `i` to `j`: its price is what its least route through the hubs costs, and
@@ -109,7 +109,6 @@ pub(crate) fn priced_dual(alloc: Global, instance: &Instance, i: u32, j: u32, pr
     requires none_else { HaveNoneElse order.now values.old }
     ensures none_else { HaveNoneElse order.now values.new }
     ensures minimal { IfOk result (λ d. IsMinimalDual instance.now hubs.now order.now (i, j) d) }
-    ensures listed { IfOk result (λ d. d ≡ record { a = price; u = entries_from 0 values.new }) }
 {
     instance.limits();
     set_values(instance, i, j, price, hubs, order, values);

@@ -1,4 +1,5 @@
 use Rattle.std.proofs.Common.{◌≡◌, ℕ, ℤ, List, map, pos, ◌≤◌, ◌^◌, get_or, ap₂, ap, ◌∙◌, arith}
+use Rattle.std.proofs.lemmas.Int.{ints}
 use Rattle.std.proofs.lemmas.List.Elements.{All-get_or}
 use Rattle.dual_cuts.proofs.HeldCosts.{handed_on}
 use Rattle.hub_model.specs.Naturals.{natural}
@@ -21,15 +22,19 @@ loop-k-preserved c = elim c.if-value-gt0.branch [
 all : (c : After-loop-k) → c.loop-k.u.items ≡ map held_entry (entries_from 0 c.args.values.now)
 all c = held_all c.args.values.now c.loop-k.k c.loop-k.u.items c.loop-k-test.false c.loop-k.invariant
 
-pub of-requires-clause-ascend : goal.of-requires-clause-ascend
-of-requires-clause-ascend c = held_ascend c.args.values.now c.loop-k.u.items (all (goal.at.of-requires-clause-ascend c).After-loop-k)
-
-pub of-requires-clause-values : goal.of-requires-clause-values
-of-requires-clause-values c = held_positive c.args.values.now c.loop-k.u.items (all (goal.at.of-requires-clause-values c).After-loop-k)
+pub new-requires : goal.new-requires
+new-requires c =
+    let items = all (goal.at.new-requires c).After-loop-k in
+    let price = handed_on c.signed-2.result c.args.price c.signed-2.ensures c.requires.price in
+    record {
+      price = rw price (omega (arith, ints));
+      values = held_positive c.args.values.now c.loop-k.u.items items;
+      ascend = held_ascend c.args.values.now c.loop-k.u.items items;
+    }
 
 pub returns : goal.returns
 returns c =
     let price = ap natural (handed_on c.signed-2.result c.args.price c.signed-2.ensures c.requires.price) in
     let entries = held_naturals c.args.values.now c.loop-k.u.items (all (goal.at.returns c).After-loop-k) in
     let same : ℕ → List (ℕ × ℕ) → Prices = λ a u. record { a = a; u = u } in
-    c.of.ensures ∙ ap₂ same price entries
+    c.new.ensures ∙ ap₂ same price entries
