@@ -124,7 +124,7 @@ held_positive vs held same =
     subst P (sym same) (All-map (λ (e : ℕ × ℤ). pos 1 ≤ℤ e.1) held_entry (entries_from 0 vs)
       (All-weaker (λ (e : ℕ × ℕ). 1 ≤ e.1) (λ (e : ℕ × ℕ). pos 1 ≤ℤ pos e.1) (λ e l. omega (arith, ints, l)) (entries_from 0 vs) (entries_positive 0 vs)))
 
-naturals_held : (es : List (ℕ × ℕ)) → map (λ (e : ℕ × ℤ). (e.0, natural e.1)) (map held_entry es) ≡ es
+pub naturals_held : (es : List (ℕ × ℕ)) → map (λ (e : ℕ × ℤ). (e.0, natural e.1)) (map held_entry es) ≡ es
 naturals_held [] = refl
 naturals_held (e ∷ es) = ap (λ xs. e ∷ xs) (naturals_held es)
 

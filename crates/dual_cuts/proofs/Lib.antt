@@ -8,3 +8,4 @@ pub mod OutsideNodes
 pub mod Turns
 pub mod Entries
 pub mod ListedDuals
+pub mod RowLoads

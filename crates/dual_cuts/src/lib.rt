@@ -7,6 +7,7 @@ mod routes;
 mod assignments;
 mod orders;
 mod duals;
+mod cut_sums;
 
 pub use assignments::{Assignment, assign};
 pub use duals::minimal_dual;
