@@ -9,3 +9,5 @@ pub mod Turns
 pub mod Entries
 pub mod ListedDuals
 pub mod RowLoads
+pub mod WholeCuts
+pub mod RowsSoFar

@@ -18,7 +18,7 @@ use Rattle.dual_cuts.proofs.MinimalDuals.{HasTurn, turn_of, minimal_is_dual}
 
 -- ---- values within the price
 
-unlisted_value : (order : List ℕ) (u : List (ℕ × ℕ)) (k : ℕ) → All (λ (e : ℕ × ℕ). Contains order e.0) u → (Contains order k → ⊥)
+pub unlisted_value : (order : List ℕ) (u : List (ℕ × ℕ)) (k : ℕ) → All (λ (e : ℕ × ℕ). Contains order e.0) u → (Contains order k → ⊥)
     → value_at u k ≡ 0
 unlisted_value order [] k listed none = refl
 unlisted_value order (e ∷ u) k listed none =

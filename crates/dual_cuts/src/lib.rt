@@ -8,8 +8,10 @@ mod assignments;
 mod orders;
 mod duals;
 mod cut_sums;
+mod cuts;
 
 pub use assignments::{Assignment, assign};
+pub use cuts::{Cut, cut_of};
 pub use duals::minimal_dual;
 pub use laws::{minimal_is_dual, no_load_on_hubs, set_cut_is_cut, set_cut_is_tight};
 pub use orders::outside;

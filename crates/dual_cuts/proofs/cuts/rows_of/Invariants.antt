@@ -1,0 +1,13 @@
+use Rattle.std.proofs.Common.{◌+◌, ◌*◌, ◌≡◌, length, take}
+use Rattle.std.specs.List.{AllZip}
+use Rattle.hub_spec.specs.Problem.{commodities}
+use Rattle.hub_spec.specs.Separation.{IsMinimalDual}
+use Rattle.dual_cuts.specs.Values.{HaveNoneElse}
+use Rattle.dual_cuts.proofs.RowsSoFar.{AreRowsUpTo}
+use Rattle.dual_cuts.proofs.cuts.rows_of.Given as goal
+
+abbrev pub invariant-loop-j : goal.invariant-loop-j
+invariant-loop-j l = AreRowsUpTo l.instance l.hubs l.order (l.i * l.instance.size + l.j) l.rows.items l.values
+
+abbrev pub invariant-loop-i : goal.invariant-loop-i
+invariant-loop-i l = AreRowsUpTo l.instance l.hubs l.order (l.i * l.instance.size) l.rows.items l.values
