@@ -1,5 +1,5 @@
 -- The least value that a node may have, by the values that earlier nodes have: each thing that it asks is below it, and it is within the price.
-use Rattle.std.proofs.Common.{◌≡◌, ℕ, zero, suc, ◌+◌, ◌-◌, ◌<◌, ◌≤◌, List, [], ◌∷◌, ◌++◌, length, get_or, take, map, max, fold, All, Contains, refl, ap, ap₂, sym, ◌∙◌, arith}
+use Rattle.std.proofs.Common.{◌≡◌, ℕ, zero, suc, ◌+◌, ◌-◌, ◌<◌, ◌≤◌, List, [], ◌∷◌, ◌++◌, length, get_or, take, map, max, fold, All, Contains, refl, ap, ap₂, ◌∙◌, arith}
 use Rattle.std.proofs.lemmas.List.{map_more, take_all}
 use Rattle.std.proofs.lemmas.List.Elements.{All-head, All-tail, All-cons, All-append, All-map, All-contains, Contains-append_left, Contains-append_right}
 use Rattle.hub_spec.specs.Problem.{Problem, greatest}
@@ -7,7 +7,7 @@ use Rattle.hub_spec.specs.Edges.{single_cost, edge_cost}
 use Rattle.dual_cuts.specs.Values.{asks, asked_over}
 use Rattle.hub_spec.proofs.Limits.{within_greatest}
 use Rattle.hub_spec.proofs.Sets.{Contains-head, Contains-later}
-use Rattle.hub_spec.proofs.SumLemmas.{nil_contains_none, Contains-cons_cases}
+use Rattle.hub_spec.proofs.SumLemmas.{nil_contains_none}
 
 Contains-map : (f : ℕ → ℕ) (ks : List ℕ) (k : ℕ) → Contains ks k → Contains (map f ks) (f k)
 Contains-map f [] k c = nil_contains_none k c
@@ -41,7 +41,7 @@ asks_earlier p hubs c a values earlier k m before =
     let back = map (λ x. a - edge_cost p c k x - values x) earlier in
     below_greatest (asks p hubs c a values earlier k) (a - edge_cost p c k m - values m)
     (Contains-later _ (front ++ back) _
-      (Contains-append_right front back _ (Contains-map (λ x. a - edge_cost p c k x - values x) earlier m before)))
+    (Contains-append_right front back _ (Contains-map (λ x. a - edge_cost p c k x - values x) earlier m before)))
 
 -- ---- it is within the price
 
@@ -105,7 +105,7 @@ greatest_map_more : (f : ℕ → ℕ) (ks : List ℕ) (i : ℕ) → i < length k
 greatest_map_more f ks i below =
     ap greatest (map_more f ks i 0 below)
     ∙ let e : greatest (map f (take i ks) ++ f (get_or ks i 0) ∷ []) ≡ max (greatest (map f (take i ks))) (f (get_or ks i 0)) =
-        omega (arith, greatest-append (map f (take i ks)) (f (get_or ks i 0) ∷ []), greatest-cons (f (get_or ks i 0)) [], greatest-nil) in e
+    omega (arith, greatest-append (map f (take i ks)) (f (get_or ks i 0) ∷ []), greatest-cons (f (get_or ks i 0)) [], greatest-nil) in e
 
 pub asked_by_hubs_more : (p : Problem) (c : ℕ × ℕ) (a k : ℕ) (hubs : List ℕ) (i : ℕ) → i < length hubs
     → asked_by_hubs p c a k (take (i + 1) hubs) ≡ max (asked_by_hubs p c a k (take i hubs)) (a - edge_cost p c k (get_or hubs i 0))
@@ -126,7 +126,7 @@ pub asked_same : (p : Problem) (hubs : List ℕ) (c : ℕ × ℕ) (a : ℕ) (f g
     → ((m : ℕ) → Contains earlier m → f m ≡ g m) → asked_over p hubs c a f earlier k ≡ asked_over p hubs c a g earlier k
 asked_same p hubs c a f g earlier k agree =
     let same : map (λ m. a - edge_cost p c k m - f m) earlier ≡ map (λ m. a - edge_cost p c k m - g m) earlier =
-      map_agree earlier agree in
+    map_agree earlier agree in
     let parts = ap greatest same in
     omega (arith, asked_parts p hubs c a f earlier k, asked_parts p hubs c a g earlier k, parts)
   where

@@ -1,12 +1,11 @@
 -- The least routes and their cost so far, in a loop over all commodities by i and j; the opening cost so far.
-use Rattle.std.proofs.Common.{◌≡◌, ℕ, ◌+◌, ◌*◌, ◌<◌, ◌≤◌, ◌^◌, List, [], ◌∷◌, ◌++◌, length, take, get_or, subst, sym, ap, ◌∙◌, arith}
+use Rattle.std.proofs.Common.{◌≡◌, ℕ, ◌+◌, ◌*◌, ◌<◌, ◌≤◌, ◌^◌, List, [], ◌∷◌, ◌++◌, length, take, get_or, subst, sym, ap, arith}
 use Rattle.std.specs.List.{AllZip}
 use Rattle.std.proofs.lemmas.List.{take_all}
-use Rattle.std.proofs.lemmas.List.Elements.{All-get_or}
 use Rattle.std.proofs.lemmas.List.Sums.{sum_by_more_le}
 use Rattle.hub_spec.specs.Problem.{Problem, IsProblem, fixed_cost, route_cost, opening_cost, commodities}
 use Rattle.hub_spec.specs.Plans.{IsHubSet, IsLeastRoute, IsSetCost, routing_cost, plan_cost}
-use Rattle.hub_spec.proofs.Commodities.{next_route, next_cost, length_commodities, take_commodities_row}
+use Rattle.hub_spec.proofs.Commodities.{next_route, next_cost, length_commodities}
 use Rattle.hub_spec.proofs.Limits.{next_limit, opening_limit, plan_cost_limit}
 use Rattle.hub_spec.proofs.SetCosts.{set_cost_is, plan_of_least}
 
@@ -25,9 +24,9 @@ pub assigned_more : (p : Problem) (hubs : List ℕ) (i j : ℕ) (routes : List (
     → IsAssigned p hubs (i * p.size + j) routes cost → IsLeastRoute p hubs (i, j) r
     → IsAssigned p hubs (i * p.size + (j + 1)) (routes ++ r ∷ []) (cost + route_cost p i j r.0 r.1)
 assigned_more p hubs i j routes cost r row column so_far here = record {
-      least = next_route (IsLeastRoute p hubs) p.size i j routes r row column so_far.least here;
-      sum = omega (arith, so_far.sum, next_cost p (IsLeastRoute p hubs) p.size i j routes r row column so_far.least);
-    }
+  least = next_route (IsLeastRoute p hubs) p.size i j routes r row column so_far.least here;
+  sum = omega (arith, so_far.sum, next_cost p (IsLeastRoute p hubs) p.size i j routes r row column so_far.least);
+}
 
 -- all of them
 pub record IsWhole (p : Problem) (hubs : List ℕ) (routes : List (ℕ × ℕ)) (cost : ℕ) : Type 0 where
@@ -42,7 +41,7 @@ assigned_all p hubs t routes cost ok set all so_far =
     let whole : take t (commodities p.size) ≡ commodities p.size = take_all t (commodities p.size) (omega (arith, length_commodities p.size)) in
     let least = subst (λ (cs : List (ℕ × ℕ)). AllZip (IsLeastRoute p hubs) cs routes) whole so_far.least in
     let cost : cost ≡ plan_cost p (record { hubs = hubs; routes = routes }) =
-      omega (arith, so_far.sum, ap (λ (cs : List (ℕ × ℕ)). routing_cost p cs routes) whole) in
+    omega (arith, so_far.sum, ap (λ (cs : List (ℕ × ℕ)). routing_cost p cs routes) whole) in
     record {
       least = least;
       sum = cost;

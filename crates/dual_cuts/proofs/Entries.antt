@@ -1,5 +1,5 @@
 -- The list of the nodes that have a value: it ascends, lists values above 0 only, and gives each value back.
-use Rattle.std.proofs.Common.{◌≡◌, ℕ, zero, suc, ◌+◌, ◌-◌, ◌<◌, ◌≤◌, ◌^◌, ℤ, pos, ◌≤ℤ◌, Bool, true, false, cond, nat_eq, List, [], ◌∷◌, ◌++◌, length, get_or, take, map, slice_index, All, Contains, refl, ap, sym, subst, ◌∙◌, eqb-true, eq-eqb, ne_eqb, arith}
+use Rattle.std.proofs.Common.{◌≡◌, ℕ, zero, suc, ◌+◌, ◌-◌, ◌<◌, ◌≤◌, ℤ, pos, ◌≤ℤ◌, true, false, cond, nat_eq, List, [], ◌∷◌, ◌++◌, length, get_or, take, map, slice_index, All, refl, ap, sym, subst, ◌∙◌, eqb-true, eq-eqb, ne_eqb, arith}
 use Rattle.std.specs.List.Sorted.{IsStrictlyIncreasing}
 use Rattle.std.specs.List.{AllPairs}
 use Rattle.std.proofs.lemmas.Bool.{eqb-false}
@@ -26,7 +26,7 @@ entries_push k [] v =
 entries_push k (x ∷ vs) v =
     let place : k + 1 + length vs ≡ k + length (x ∷ vs) = omega arith in
     let rest : entries_from (k + 1) (vs ++ v ∷ []) ≡ entries_from (k + 1) vs ++ entry_of (k + length (x ∷ vs)) v =
-      entries_push (k + 1) vs v ∙ ap (λ m. entries_from (k + 1) vs ++ entry_of m v) place in
+    entries_push (k + 1) vs v ∙ ap (λ m. entries_from (k + 1) vs ++ entry_of m v) place in
     by_test (nat_eq x 0) (λ t. rw t rest) (λ t. rw t (ap (λ es. (k, x) ∷ es) rest))
 
 entries_more : (vs : List ℕ) (k : ℕ) → k < length vs
@@ -55,8 +55,8 @@ held_more vs k held z below some is_value so_far =
     let apart : nat_eq v 0 ≡ false = ne_eqb v 0 (λ e. absurd (omega (arith, e, some))) in
     let one : entry_of k v ≡ (k, v) ∷ [] = rw apart refl in
     let whole : map held_entry (entries_from 0 (take (k + 1) vs)) ≡ map held_entry (entries_from 0 (take k vs)) ++ (k, pos v) ∷ [] =
-      ap (map held_entry) (entries_more vs k below ∙ ap (λ es. entries_from 0 (take k vs) ++ es) one)
-      ∙ map_held-append (entries_from 0 (take k vs)) ((k, v) ∷ []) in
+    ap (map held_entry) (entries_more vs k below ∙ ap (λ es. entries_from 0 (take k vs) ++ es) one)
+    ∙ map_held-append (entries_from 0 (take k vs)) ((k, v) ∷ []) in
     record { is = ap (λ (y : ℤ). held ++ (k, y) ∷ []) is_value ∙ ap (λ (hs : List (ℕ × ℤ)). hs ++ (k, pos v) ∷ []) so_far.is ∙ sym whole }
 
 -- a node without
@@ -66,7 +66,7 @@ held_none vs k held below none so_far =
     let zero_value : get_or vs k 0 ≡ 0 = omega arith in
     let nothing : entry_of k (get_or vs k 0) ≡ [] = rw zero_value refl in
     let whole : entries_from 0 (take (k + 1) vs) ≡ entries_from 0 (take k vs) =
-      entries_more vs k below ∙ ap (λ es. entries_from 0 (take k vs) ++ es) nothing ∙ append-nil (entries_from 0 (take k vs)) in
+    entries_more vs k below ∙ ap (λ es. entries_from 0 (take k vs) ++ es) nothing ∙ append-nil (entries_from 0 (take k vs)) in
     record { is = so_far.is ∙ sym (ap (map held_entry) whole) }
 
 pub held_all : (vs : List ℕ) (k : ℕ) (held : List (ℕ × ℤ)) → length vs ≤ k → AreHeld vs k held → held ≡ map held_entry (entries_from 0 vs)
@@ -100,7 +100,7 @@ entries_ascend k [] = λ i j d less below. absurd (omega arith)
 entries_ascend k (v ∷ vs) =
     let rest = entries_ascend (k + 1) vs in
     let above = All-map (λ (x : ℕ). k < x) first_of (entries_from (k + 1) vs)
-      (All-weaker (λ (e : ℕ × ℕ). k + 1 ≤ e.0) (λ (e : ℕ × ℕ). k < first_of e) (λ e l. omega (arith, l)) (entries_from (k + 1) vs) (entries_above (k + 1) vs)) in
+    (All-weaker (λ (e : ℕ × ℕ). k + 1 ≤ e.0) (λ (e : ℕ × ℕ). k < first_of e) (λ e l. omega (arith, l)) (entries_from (k + 1) vs) (entries_above (k + 1) vs)) in
     by_test (nat_eq v 0) (λ t. rw t rest)
     (λ t. rw t (AllPairs-cons (λ (x y : ℕ). x < y) k (map first_of (entries_from (k + 1) vs)) above rest))
 
@@ -114,7 +114,7 @@ pub held_ascend : (vs : List ℕ) (held : List (ℕ × ℤ)) → held ≡ map he
 held_ascend vs held same =
     let P : List ℕ → Type 0 = IsStrictlyIncreasing in
     let firsts : map first_of (entries_from 0 vs) ≡ map (λ (e : ℕ × ℤ). e.0) held =
-      sym (ap (map (λ (e : ℕ × ℤ). e.0)) same ∙ firsts_held (entries_from 0 vs)) in
+    sym (ap (map (λ (e : ℕ × ℤ). e.0)) same ∙ firsts_held (entries_from 0 vs)) in
     subst P firsts (λ k below. entries_ascend 0 vs k (k + 1) 0 (omega arith) below)
 
 pub held_positive : (vs : List ℕ) (held : List (ℕ × ℤ)) → held ≡ map held_entry (entries_from 0 vs)
@@ -122,7 +122,7 @@ pub held_positive : (vs : List ℕ) (held : List (ℕ × ℤ)) → held ≡ map 
 held_positive vs held same =
     let P : List (ℕ × ℤ) → Type 0 = All (λ (e : ℕ × ℤ). pos 1 ≤ℤ e.1) in
     subst P (sym same) (All-map (λ (e : ℕ × ℤ). pos 1 ≤ℤ e.1) held_entry (entries_from 0 vs)
-      (All-weaker (λ (e : ℕ × ℕ). 1 ≤ e.1) (λ (e : ℕ × ℕ). pos 1 ≤ℤ pos e.1) (λ e l. omega (arith, ints, l)) (entries_from 0 vs) (entries_positive 0 vs)))
+    (All-weaker (λ (e : ℕ × ℕ). 1 ≤ e.1) (λ (e : ℕ × ℕ). pos 1 ≤ℤ pos e.1) (λ e l. omega (arith, ints, l)) (entries_from 0 vs) (entries_positive 0 vs)))
 
 pub naturals_held : (es : List (ℕ × ℕ)) → map (λ (e : ℕ × ℤ). (e.0, natural e.1)) (map held_entry es) ≡ es
 naturals_held [] = refl
@@ -158,16 +158,17 @@ listed_from : (k : ℕ) (vs : List ℕ) → All (λ (e : ℕ × ℕ). (k ≤ e.0
 listed_from k [] = All-nil (λ (e : ℕ × ℕ). (k ≤ e.0) × (1 ≤ get_or [] (e.0 - k) 0))
 listed_from k (v ∷ vs) =
     let rest = All-weaker (λ (e : ℕ × ℕ). (k + 1 ≤ e.0) × (1 ≤ get_or vs (e.0 - (k + 1)) 0))
-      (λ (e : ℕ × ℕ). (k ≤ e.0) × (1 ≤ get_or (v ∷ vs) (e.0 - k) 0))
-      (λ e h. (omega (arith, h.0), later e.0 h.0 h.1)) (entries_from (k + 1) vs) (listed_from (k + 1) vs) in
+    (λ (e : ℕ × ℕ). (k ≤ e.0) × (1 ≤ get_or (v ∷ vs) (e.0 - k) 0))
+    (λ e h. (omega (arith, h.0), later e.0 h.0 h.1)) (entries_from (k + 1) vs) (listed_from (k + 1) vs) in
     by_test (nat_eq v 0) (λ t. rw t rest)
     (λ t. rw t (All-cons (λ (e : ℕ × ℕ). (k ≤ e.0) × (1 ≤ get_or (v ∷ vs) (e.0 - k) 0)) (k, v) (entries_from (k + 1) vs)
-      (omega arith, here (positive_value v t)) rest))
+    (omega arith, here (positive_value v t)) rest))
   where
     later : (n : ℕ) → k + 1 ≤ n → 1 ≤ get_or vs (n - (k + 1)) 0 → 1 ≤ get_or (v ∷ vs) (n - k) 0
     later n above some =
         let place : suc (n - (k + 1)) ≡ n - k = omega arith in
         subst (λ (m : ℕ). 1 ≤ get_or (v ∷ vs) m 0) place some
+
     here : 1 ≤ v → 1 ≤ get_or (v ∷ vs) (k - k) 0
     here some =
         let place : 0 ≡ k - k = omega arith in

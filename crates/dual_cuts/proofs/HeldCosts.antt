@@ -1,7 +1,6 @@
 -- A signed number that is handed on, as the natural number that it is.
-use Rattle.std.proofs.Common.{◌≡◌, ℕ, ◌≤◌, ◌^◌, ℤ, pos, SFits, to_z, of_z, to_z-of_z, ◌∙◌, ap, refl, rules, arith}
+use Rattle.std.proofs.Common.{◌≡◌, ℕ, ◌≤◌, ◌^◌, ℤ, pos, SFits, to_z, of_z, to_z-of_z, ◌∙◌, rules, arith}
 use mir.Syntax.{w128}
-use Rattle.std.proofs.lemmas.Int.{ints}
 
 pub handed_on : (z : ℤ) (n : ℕ) → z ≡ pos n → n ≤ 10 ^ 29 → to_z w128 (of_z w128 z) ≡ pos n
 handed_on z n e low =

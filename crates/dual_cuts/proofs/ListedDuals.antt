@@ -1,8 +1,8 @@
 -- The dual that lists the values in turn is the minimal one.
-use Rattle.std.proofs.Common.{◌≡◌, ℕ, ◌+◌, ◌<◌, ◌≤◌, ◌^◌, List, [], ◌∷◌, length, take, slice_index, All, Contains, refl, ap, sym, subst, ◌∙◌, arith}
+use Rattle.std.proofs.Common.{◌≡◌, ℕ, ◌≤◌, ◌^◌, List, length, take, slice_index, All, Contains, refl, sym, ◌∙◌, arith}
 use Rattle.std.proofs.lemmas.Bool.{false≢true}
 use Rattle.std.proofs.lemmas.List.Elements.{All-weaker, All-contains, All-from_get_or}
-use Rattle.hub_spec.specs.Problem.{Problem, IsProblem, greatest}
+use Rattle.hub_spec.specs.Problem.{Problem}
 use Rattle.hub_spec.specs.Edges.{IsLeastCost}
 use Rattle.hub_spec.specs.Cuts.{Prices, value_at}
 use Rattle.hub_spec.specs.Separation.{IsOrder, IsMinimalDual, asked_value}

@@ -1,10 +1,10 @@
 -- A dual by the minimal rule is feasible, its values are within its price, and it lists candidates outside the hubs only.
-use Rattle.std.proofs.Common.{◌≡◌, ◌≢◌, ℕ, zero, suc, ◌+◌, ◌-◌, ◌<◌, ◌≤◌, List, [], ◌∷◌, length, get_or, take, All, Contains, ◌⊎◌, inl, inr, ⊎_elim, refl, ap, sym, subst, ◌∙◌, arith}
+use Rattle.std.proofs.Common.{◌≡◌, ◌≢◌, ℕ, ◌+◌, ◌<◌, ◌≤◌, List, length, get_or, take, Contains, ⊎_elim, ap, sym, subst, ◌∙◌, arith}
 use Rattle.std.proofs.lemmas.Bool.{cases_lt}
 use Rattle.std.proofs.lemmas.List.{get_or-take, get_or_default, length-take-le}
 use Rattle.std.proofs.lemmas.List.Elements.{All-weaker, All-contains, Contains-get_or}
 use Rattle.hub_spec.specs.Problem.{Problem, route_cost}
-use Rattle.hub_spec.specs.Edges.{single_cost, edge_cost}
+use Rattle.hub_spec.specs.Edges.{edge_cost}
 use Rattle.hub_spec.specs.Cuts.{Prices, value_at, IsDual}
 use Rattle.hub_spec.specs.Separation.{IsOrder, IsMinimalDual}
 use Rattle.dual_cuts.proofs.Asked.{asks_single, asks_hub, asks_earlier}
@@ -78,8 +78,8 @@ minimal_is_dual p hubs order c d is_order minimal = record {
       (λ turn. single_covered p hubs order c d k (turn_of p hubs order c d k minimal turn)) (is_order.all k candidate);
   two_hubs = λ k m first second apart. ⊎_elim
       (λ hub. ⊎_elim (λ other. omega (arith, minimal.price.least k m hub other))
-        (λ turn. omega (arith, hub_covered p hubs order c d m k (turn_of p hubs order c d m minimal turn) hub)) (is_order.all m second))
+      (λ turn. omega (arith, hub_covered p hubs order c d m k (turn_of p hubs order c d m minimal turn) hub)) (is_order.all m second))
       (λ turn. ⊎_elim (λ other. omega (arith, hub_covered p hubs order c d k m (turn_of p hubs order c d k minimal turn) other))
-        (λ last. turns_covered p hubs order c d k m (turn_of p hubs order c d k minimal turn) (turn_of p hubs order c d m minimal last) apart)
-        (is_order.all m second)) (is_order.all k first);
+      (λ last. turns_covered p hubs order c d k m (turn_of p hubs order c d k minimal turn) (turn_of p hubs order c d m minimal last) apart)
+      (is_order.all m second)) (is_order.all k first);
 }

@@ -1,18 +1,16 @@
 -- The loads as far as they are summed: row by row, and entry by entry of a row.
-use Rattle.std.proofs.Common.{◌≡◌, ◌≢◌, ℕ, zero, suc, ◌+◌, ◌<◌, ◌≤◌, ◌^◌, ℤ, pos, ◌+ℤ◌, false, FitsSigned, to_z, of_z, rules, cond, nat_eq, List, [], ◌∷◌, ◌++◌, length, get_or, take, map, set, sum_by, All, Contains, refl, ap, sym, subst, ◌∙◌, ⊎_elim, ne_eqb, eq-eqb, arith}
+use Rattle.std.proofs.Common.{◌≡◌, ◌≢◌, ℕ, zero, suc, ◌+◌, ◌<◌, ◌≤◌, ◌^◌, ℤ, pos, ◌+ℤ◌, false, FitsSigned, to_z, of_z, rules, nat_eq, List, [], ◌∷◌, ◌++◌, length, get_or, take, map, set, All, refl, ap, sym, subst, ◌∙◌, ⊎_elim, ne_eqb, eq-eqb, arith}
 use mir.Syntax.{w128}
 use Rattle.hub_model.specs.Held.{held_values, natural_values, ArePrices}
 use Rattle.dual_cuts.proofs.Entries.{naturals_held}
 use Rattle.dual_cuts.proofs.HeldCosts.{handed_on}
-use Rattle.std.specs.List.{AllPairs}
 use Rattle.std.specs.List.Sorted.{IsStrictlyIncreasing}
 use Rattle.std.proofs.lemmas.Bool.{cases_eq}
-use Rattle.std.proofs.lemmas.Int.{ints}
 use Rattle.std.proofs.lemmas.List.{take_more, take_all, get_or-map, get_or-take, length-take-le, length-map, get_or-set_same, get_or-set_other}
 use Rattle.std.proofs.lemmas.List.Elements.{All-get_or, All-head, All-tail, All-from_get_or}
 use Rattle.std.proofs.lemmas.List.Kept.{AllPairs-from_increasing}
 use Rattle.std.proofs.lemmas.List.Sums.{sum_by_more, sum_by_more_le}
-use Rattle.hub_spec.specs.Cuts.{Prices, value_at, Cut, load}
+use Rattle.hub_spec.specs.Cuts.{Prices, value_at, load}
 use Rattle.hub_spec.proofs.SumLemmas.{by_test}
 use Rattle.dual_cuts.specs.HubCuts.{cut_by, AreLoads, HasLoadsWithin, ListNodes}
 
@@ -57,13 +55,13 @@ fresh_before u e up below =
     let firsts = map first_of u in
     let pairs = AllPairs-from_increasing firsts up in
     All-from_get_or (λ (x : ℕ × ℕ). x.0 < (get_or u e (0, 0)).0) (take e u) (0, 0) (λ s l.
-      let short = length-take-le e u (omega arith) in
-      let less : s < e = omega (arith, l, short) in
-      let here : get_or (take e u) s (0, 0) ≡ get_or u s (0, 0) = get_or-take e u s (0, 0) less in
-      let low = get_or-map first_of u s (0, 0) 0 (omega arith) in
-      let high = get_or-map first_of u e (0, 0) 0 below in
-      let risen = pairs s e 0 less (omega (arith, length-map u first_of, below)) in
-      rw here (omega (arith, low, high, risen)))
+    let short = length-take-le e u (omega arith) in
+    let less : s < e = omega (arith, l, short) in
+    let here : get_or (take e u) s (0, 0) ≡ get_or u s (0, 0) = get_or-take e u s (0, 0) less in
+    let low = get_or-map first_of u s (0, 0) 0 (omega arith) in
+    let high = get_or-map first_of u e (0, 0) 0 below in
+    let risen = pairs s e 0 less (omega (arith, length-map u first_of, below)) in
+    rw here (omega (arith, low, high, risen)))
 
 -- ---- one entry more
 
@@ -75,7 +73,7 @@ entry_at items u e same below =
     let long : length items ≡ length u = ap (length {A = ℕ × ℤ}) same ∙ length-map u held in
     let short : e < length u = omega arith in
     let here : get_or items e (0, pos 0) ≡ held (get_or u e (0, 0)) =
-      ap (λ (xs : List (ℕ × ℤ)). get_or xs e (0, pos 0)) same ∙ get_or-map held u e (0, 0) (0, pos 0) short in
+    ap (λ (xs : List (ℕ × ℤ)). get_or xs e (0, pos 0)) same ∙ get_or-map held u e (0, 0) (0, pos 0) short in
     (short, ap (λ (x : ℕ × ℤ). x.0) here, ap (λ (x : ℕ × ℤ). x.1) here)
 
 -- the row after the first t rows
@@ -123,10 +121,10 @@ added x z n v e f low =
 pub entry_added : (loads : List ℤ) (rows : List Prices) (t : ℕ) (u : List (ℕ × ℕ)) (items : List (ℕ × ℤ)) (e : ℕ) → IsRow rows t u
     → items ≡ held_values u → e < length items → AreLoadsUpTo loads rows t u e
     → let x = get_or loads (get_or items e (0, pos 0)).0 (pos 0) in let z = (get_or items e (0, pos 0)).1 in
-      let k = (get_or u e (0, 0)).0 in
-      FitsSigned w128 (to_z w128 (of_z w128 x) +ℤ to_z w128 (of_z w128 z))
-      × (to_z w128 (of_z w128 (to_z w128 (of_z w128 x) +ℤ to_z w128 (of_z w128 z)))
-        ≡ pos (load (cut_by (take t rows)) k + value_at (take e u) k + (get_or u e (0, 0)).1))
+    let k = (get_or u e (0, 0)).0 in
+    FitsSigned w128 (to_z w128 (of_z w128 x) +ℤ to_z w128 (of_z w128 z))
+    × (to_z w128 (of_z w128 (to_z w128 (of_z w128 x) +ℤ to_z w128 (of_z w128 z)))
+    ≡ pos (load (cut_by (take t rows)) k + value_at (take e u) k + (get_or u e (0, 0)).1))
 entry_added loads rows t u items e row same below so_far =
     let at = entry_at items u e same below in
     let k = (get_or u e (0, 0)).0 in
@@ -144,13 +142,16 @@ loaded_more loads rows t u e k w row below node within so_far is = record {
   where
     v : ℕ
     v = (get_or u e (0, 0)).1
+
     grown : (m : ℕ) → value_at (take (e + 1) u) m ≡ value_at (take e u ++ get_or u e (0, 0) ∷ []) m
     grown m = ap (λ (xs : List (ℕ × ℕ)). value_at xs m) (take_more u e (0, 0) below)
+
     elsewhere : (m : ℕ) → (k ≡ m → ⊥) → get_or (set loads k w) m (pos 0) ≡ pos (load (cut_by (take t rows)) m + value_at (take (e + 1) u) m)
     elsewhere m apart =
         let kept = push_other (take e u) (get_or u e (0, 0)).0 v m (λ same. apart (node ∙ same)) in
         get_or-set_other loads k m w (pos 0) (λ same. apart (sym same)) ∙ so_far.each m
         ∙ ap (λ (x : ℕ). pos (load (cut_by (take t rows)) m + x)) (sym (grown m ∙ kept))
+
     at_node : (m : ℕ) → k ≡ m → get_or (set loads k w) m (pos 0) ≡ pos (load (cut_by (take t rows)) m + value_at (take (e + 1) u) m)
     at_node m same =
         let here : (get_or u e (0, 0)).0 ≡ m = sym node ∙ same in
@@ -158,7 +159,7 @@ loaded_more loads rows t u e k w row below node within so_far is = record {
         let none = fresh_value (take e u) (get_or u e (0, 0)).0 fresh in
         let next = push_fresh (take e u) (get_or u e (0, 0)).0 v fresh in
         let value : value_at (take (e + 1) u) (get_or u e (0, 0)).0 ≡ value_at (take e u) (get_or u e (0, 0)).0 + v =
-          omega (arith, grown (get_or u e (0, 0)).0, none, next) in
+        omega (arith, grown (get_or u e (0, 0)).0, none, next) in
         ap (λ (x : ℕ). get_or (set loads k w) x (pos 0)) (sym same) ∙ get_or-set_same loads k w (pos 0) within ∙ is
         ∙ ap pos (omega (arith, value)) ∙ ap (λ (x : ℕ). pos (load (cut_by (take t rows)) x + value_at (take (e + 1) u) x)) here
 

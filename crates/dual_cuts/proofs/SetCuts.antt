@@ -1,7 +1,7 @@
 -- The cut of a hub set: its total is what its hubs' least routes cost, its loads are within the total, and the hubs have none.
-use Rattle.std.proofs.Common.{◌≡◌, ℕ, ◌+◌, ◌*◌, ◌^◌, ◌<◌, ◌≤◌, List, [], ◌∷◌, length, get_or, take, zip, sum_by, nat_eq, cond, All, Contains, refl, ap, sym, subst, ◌∙◌, arith}
+use Rattle.std.proofs.Common.{◌≡◌, ℕ, ◌+◌, ◌*◌, ◌^◌, ◌≤◌, List, [], ◌∷◌, get_or, take, zip, sum_by, nat_eq, All, Contains, refl, ap, sym, subst, ◌∙◌, arith}
 use Rattle.std.specs.List.{AllZip}
-use Rattle.std.proofs.lemmas.List.Elements.{All-head, All-tail, All-contains, All-from_get_or}
+use Rattle.std.proofs.lemmas.List.Elements.{All-head, All-tail, All-contains}
 use Rattle.std.proofs.lemmas.List.Sums.{sum_by-cons}
 use Rattle.hub_spec.specs.Problem.{Problem, IsProblem, commodities, opening_cost}
 use Rattle.hub_spec.specs.Plans.{Plan, IsHubSet, IsRoute, IsPlan, IsSetCost, cost_of_route, routing_cost, plan_cost}
@@ -9,7 +9,7 @@ use Rattle.hub_spec.specs.Cuts.{Prices, value_at, IsDual, Cut, total, load, IsCu
 use Rattle.hub_spec.specs.Separation.{IsOrder, IsMinimalDual, IsSetCut}
 use Rattle.hub_spec.proofs.Commodities.{take_commodities_all}
 use Rattle.hub_spec.proofs.Limits.{cost_limit, routes_nodes}
-use Rattle.hub_spec.proofs.Sets.{is_in, Contains-from_is_in, is_in-yes, Contains-head}
+use Rattle.hub_spec.proofs.Sets.{is_in, Contains-from_is_in, is_in-yes}
 use Rattle.hub_spec.proofs.SumLemmas.{by_test}
 use Rattle.std.proofs.Common.{eqb-true}
 use Rattle.std.proofs.lemmas.Bool.{false≢true}

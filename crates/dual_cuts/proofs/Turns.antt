@@ -1,12 +1,11 @@
 -- The values of the nodes of an order as far as they are worked out, and the dual that lists them.
-use Rattle.std.proofs.Common.{◌≡◌, ◌≢◌, ℕ, ◌+◌, ◌<◌, ◌≤◌, List, [], ◌∷◌, length, get_or, take, set, slice_index, All, Contains, ⊎_elim, refl, ap, sym, subst, ◌∙◌, arith}
+use Rattle.std.proofs.Common.{◌≡◌, ◌≢◌, ℕ, ◌+◌, ◌<◌, ◌≤◌, List, length, get_or, take, set, slice_index, All, Contains, ⊎_elim, sym, subst, ◌∙◌, arith}
 use Rattle.std.proofs.lemmas.Bool.{false≢true, cases_lt}
 use Rattle.std.proofs.lemmas.List.{get_or-set_same, get_or-set_other, get_or-take, get_or_default, length-take-le}
 use Rattle.std.proofs.lemmas.List.Elements.{All-weaker, All-contains, All-get_or, Contains-get_or}
 use Rattle.hub_spec.specs.Problem.{Problem, IsProblem}
-use Rattle.hub_spec.specs.Edges.{IsLeastCost}
-use Rattle.hub_spec.specs.Separation.{IsOrder, IsMinimalDual}
-use Rattle.hub_spec.proofs.Sets.{is_in, is_in-yes, Contains-from_is_in, All-from_contains}
+use Rattle.hub_spec.specs.Separation.{IsOrder}
+use Rattle.hub_spec.proofs.Sets.{is_in, is_in-yes, Contains-from_is_in}
 use Rattle.hub_spec.proofs.SumLemmas.{by_test}
 use Rattle.dual_cuts.specs.Values.{asked_over, AreInTurn, HaveNoneElse}
 use Rattle.dual_cuts.proofs.Asked.{asked_same, asked_within}
@@ -64,22 +63,26 @@ turns_more p hubs order c a values t v is_order below node so_far asked = record
   where
     k : ℕ
     k = slice_index order t
+
     next : List ℕ
     next = set values (slice_index order t) v
+
     early : (s : ℕ) → s < t → slice_index next (slice_index order s) ≡ asked_over p hubs c a (slice_index next) (take s order) (slice_index order s)
     early s less =
         kept_before p hubs order values t v is_order below (slice_index order s) (turn_before order s t less below)
         ∙ so_far.in_turn s less
         ∙ asked_same p hubs c a (slice_index values) (slice_index next) (take s order) (slice_index order s)
-          (λ m before. sym (kept_before p hubs order values t v is_order below m (before_later order s t m less below before)))
+        (λ m before. sym (kept_before p hubs order values t v is_order below m (before_later order s t m less below before)))
+
     here : slice_index next k ≡ asked_over p hubs c a (slice_index next) (take t order) k
     here = get_or-set_same values k v 0 node ∙ asked
         ∙ asked_same p hubs c a (slice_index values) (slice_index next) (take t order) k
-          (λ m before. sym (kept_before p hubs order values t v is_order below m before))
+        (λ m before. sym (kept_before p hubs order values t v is_order below m before))
+
     elim_turn : (s : ℕ) → s < t + 1 → slice_index next (slice_index order s) ≡ asked_over p hubs c a (slice_index next) (take s order) (slice_index order s)
     elim_turn s less =
         ⊎_elim (λ before. early s before) (λ (above : t ≤ s). let same : t ≡ s = omega arith in
-          subst (λ (x : ℕ). slice_index next (slice_index order x) ≡ asked_over p hubs c a (slice_index next) (take x order) (slice_index order x)) same here)
+        subst (λ (x : ℕ). slice_index next (slice_index order x) ≡ asked_over p hubs c a (slice_index next) (take x order) (slice_index order x)) same here)
         (cases_lt s t)
 
 pub none_else_kept : (order values : List ℕ) (t v : ℕ) → t < length order → HaveNoneElse order values

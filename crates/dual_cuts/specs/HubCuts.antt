@@ -1,5 +1,5 @@
 -- The cut of a hub set as it is handed on: with its set, the number of nodes, and its sums.
-use Rattle.std.specs.Prelude.{◌≡◌, ℕ, ◌<◌, ◌≤◌, ◌^◌, ℤ, pos, List, length, take, slice_index_or, All}
+use Rattle.std.specs.Prelude.{◌≡◌, ℕ, ◌<◌, ◌≤◌, ◌^◌, ℤ, pos, List, slice_index_or, All}
 use Rattle.hub_spec.specs.Cuts.{Prices, Cut, total, load}
 
 -- a cut, the hub set that it is of, and the number of nodes

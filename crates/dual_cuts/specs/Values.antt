@@ -1,5 +1,5 @@
 -- The values of nodes in a list by node, as they are worked out in the turn of an order.
-use Rattle.std.specs.Prelude.{◌≡◌, ℕ, ◌+◌, ◌-◌, ◌<◌, ◌≤◌, List, [], ◌∷◌, ◌++◌, map, take, slice_index, All, Contains, nat_eq, if◌then◌else◌}
+use Rattle.std.specs.Prelude.{◌≡◌, ℕ, ◌+◌, ◌-◌, ◌<◌, List, [], ◌∷◌, ◌++◌, map, take, slice_index, Contains, nat_eq, if◌then◌else◌}
 use Rattle.hub_spec.specs.Problem.{Problem, greatest}
 use Rattle.hub_spec.specs.Edges.{single_cost, edge_cost}
 

@@ -25,7 +25,16 @@ fn edge_cost_held(instance: &Instance, i: u32, j: u32, k: u32, m: u32) -> u128
 }
 
 /// The least value that `k` may have, once the earlier nodes have theirs.
-fn asked_value(instance: &Instance, i: u32, j: u32, price: u128, hubs: &[u32], earlier: &[u32], values: &[u128], k: u32) -> u128
+fn asked_value(
+    instance: &Instance,
+    i: u32,
+    j: u32,
+    price: u128,
+    hubs: &[u32],
+    earlier: &[u32],
+    values: &[u128],
+    k: u32,
+) -> u128
     requires from { i < instance.now.size }
     requires to { j < instance.now.size }
     requires node { k < instance.now.size }
@@ -48,7 +57,15 @@ fn asked_value(instance: &Instance, i: u32, j: u32, price: u128, hubs: &[u32], e
 }
 
 /// Gives each node of the order, in its turn, the least value that it may have, and leaves the other nodes' values.
-fn set_values(instance: &Instance, i: u32, j: u32, price: u128, hubs: &[u32], order: &[u32], values: &mut [u128])
+fn set_values(
+    instance: &Instance,
+    i: u32,
+    j: u32,
+    price: u128,
+    hubs: &[u32],
+    order: &[u32],
+    values: &mut [u128],
+)
     requires from { i < instance.now.size }
     requires to { j < instance.now.size }
     requires set { IsHubSet instance.now hubs.now }
@@ -84,7 +101,14 @@ fn dual_of(alloc: Global, price: u128, values: &[u128]) -> Result<Dual, AllocErr
 
 /// The minimal dual of the commodity from `i` to `j`: its price is what its least route through the hubs costs, and
 /// each candidate of the order, all candidates outside the hubs, has in its turn the least value that it may have.
-pub fn minimal_dual(alloc: Global, instance: &Instance, i: u32, j: u32, hubs: &HubSet, order: &[u32]) -> Result<Dual, AllocError>
+pub fn minimal_dual(
+    alloc: Global,
+    instance: &Instance,
+    i: u32,
+    j: u32,
+    hubs: &HubSet,
+    order: &[u32],
+) -> Result<Dual, AllocError>
     requires from { i < instance.now.size }
     requires to { j < instance.now.size }
     requires hubs { IsHubSet instance.now hubs.now }
@@ -94,11 +118,29 @@ pub fn minimal_dual(alloc: Global, instance: &Instance, i: u32, j: u32, hubs: &H
     instance.limits();
     let mut values = vec![in alloc; 0; instance.size() as usize]?;
     let price = least_route_held(instance, hubs.members(), i, j).cost;
-    priced_dual(alloc, instance, i, j, price, hubs.members(), order, &mut values)
+    priced_dual(
+        alloc,
+        instance,
+        i,
+        j,
+        price,
+        hubs.members(),
+        order,
+        &mut values,
+    )
 }
 
 /// The minimal dual by its price. The values of the nodes stay in `values`.
-pub(crate) fn priced_dual(alloc: Global, instance: &Instance, i: u32, j: u32, price: u128, hubs: &[u32], order: &[u32], values: &mut [u128]) -> Result<Dual, AllocError>
+pub(crate) fn priced_dual(
+    alloc: Global,
+    instance: &Instance,
+    i: u32,
+    j: u32,
+    price: u128,
+    hubs: &[u32],
+    order: &[u32],
+    values: &mut [u128],
+) -> Result<Dual, AllocError>
     requires from { i < instance.now.size }
     requires to { j < instance.now.size }
     requires set { IsHubSet instance.now hubs.now }

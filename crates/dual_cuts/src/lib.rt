@@ -1,14 +1,14 @@
 //! Least routes, the minimal dual of a commodity, and the Benders cut of a hub set.
 #![tactic(auto)]
 
-mod held;
-mod laws;
-mod routes;
 mod assignments;
-mod orders;
-mod duals;
 mod cut_sums;
 mod cuts;
+mod duals;
+mod held;
+mod laws;
+mod orders;
+mod routes;
 
 pub use assignments::{Assignment, assign};
 pub use cuts::{Cut, cut_of};

@@ -1,4 +1,4 @@
-use Rattle.std.proofs.Common.{◌≡◌, ◌*◌, ℕ, pos, subst, sym, ap, ◌∙◌, arith}
+use Rattle.std.proofs.Common.{ℕ, pos, subst, sym, ap, ◌∙◌, arith}
 use Rattle.hub_spec.specs.Plans.{IsSetCost}
 use Rattle.hub_model.specs.Naturals.{natural}
 use Rattle.dual_cuts.proofs.Assigned.{assigned_limit, assigned_more, assigned_whole, IsWhole}
@@ -9,16 +9,16 @@ use Rattle.dual_cuts.proofs.assignments.assign_to.Goals.{After-loop-i}
 pub overflow_add-cost : goal.overflow_add-cost
 overflow_add-cost c =
     let fits = assigned_limit c.args.instance.now c.args.hubs.now c.loop-i.i c.loop-j.j c.loop-j.routes.items c.loop-j.cost
-      (c.least_route_held-route.result.first, c.least_route_held-route.result.last) c.limits.ensures c.requires
-      (omega arith) (omega arith) c.loop-j.invariant c.least_route_held-route.ensures.least in
+    (c.least_route_held-route.result.first, c.least_route_held-route.result.last) c.limits.ensures c.requires
+    (omega arith) (omega arith) c.loop-j.invariant c.least_route_held-route.ensures.least in
     omega (arith, fits, c.least_route_held-route.ensures.cost)
 
 pub loop-j-preserved : goal.loop-j-preserved
 loop-j-preserved c =
     rw (c.in_ok-push.ensures.items, c.least_route_held-route.ensures.cost)
     (assigned_more c.args.instance.now c.args.hubs.now c.loop-i.i c.loop-j.j c.loop-j.routes.items c.loop-j.cost
-      (c.least_route_held-route.result.first, c.least_route_held-route.result.last)
-      (omega arith) (omega arith) c.loop-j.invariant c.least_route_held-route.ensures.least)
+    (c.least_route_held-route.result.first, c.least_route_held-route.result.last)
+    (omega arith) (omega arith) c.loop-j.invariant c.least_route_held-route.ensures.least)
 
 whole : (c : After-loop-i) → IsWhole c.args.instance.now c.args.hubs.now c.loop-i.routes.items c.loop-i.cost
 whole c = assigned_whole c.args.instance.now c.args.hubs.now c.loop-i.i c.loop-i.routes.items c.loop-i.cost c.limits.ensures c.requires (omega arith) c.loop-i.invariant

@@ -1,4 +1,4 @@
-use Rattle.std.proofs.Common.{◌≡◌, ◌+◌, ℕ, List, Contains, subst, sym, ap}
+use Rattle.std.proofs.Common.{◌≡◌, ◌+◌, ℕ, Contains, subst, sym}
 use Rattle.std.proofs.lemmas.Result.{IfOk-weaker}
 use Rattle.hub_spec.specs.Problem.{opening_cost}
 use Rattle.hub_spec.specs.Plans.{IsSetCost}

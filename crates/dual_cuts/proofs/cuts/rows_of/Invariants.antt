@@ -1,8 +1,4 @@
-use Rattle.std.proofs.Common.{◌+◌, ◌*◌, ◌≡◌, length, take}
-use Rattle.std.specs.List.{AllZip}
-use Rattle.hub_spec.specs.Problem.{commodities}
-use Rattle.hub_spec.specs.Separation.{IsMinimalDual}
-use Rattle.dual_cuts.specs.Values.{HaveNoneElse}
+use Rattle.std.proofs.Common.{◌+◌, ◌*◌}
 use Rattle.dual_cuts.proofs.RowsSoFar.{AreRowsUpTo}
 use Rattle.dual_cuts.proofs.cuts.rows_of.Given as goal
 

@@ -1,5 +1,4 @@
-use Rattle.std.proofs.Common.{◌≡◌, ◌-◌, slice_index, ap, ◌∙◌, arith}
-use Rattle.hub_spec.specs.Edges.{edge_cost}
+use Rattle.std.proofs.Common.{◌-◌, slice_index, ap, ◌∙◌}
 use Rattle.dual_cuts.proofs.Asked.{hubs_start, hubs_more, both_start, both_more, both_all}
 use Rattle.dual_cuts.proofs.duals.asked_value.Goals as goal
 
@@ -25,8 +24,8 @@ by_earlier-preserved c =
     c.args.earlier.now c.by_earlier.m-index c.by_earlier.most c.saturating_sub-asked-in-by_earlier.result c.max-most-in-by_earlier.result
     c.by_earlier-test.true c.by_earlier.invariant
     (c.saturating_sub-asked-in-by_earlier.ensures
-      ∙ ap (λ v. v - slice_index c.args.values.now (slice_index c.args.earlier.now c.by_earlier.m-index))
-        (c.saturating_sub-edge.ensures ∙ ap (λ v. c.args.price - v) c.edge_cost_held-in-by_earlier.ensures.value))
+    ∙ ap (λ v. v - slice_index c.args.values.now (slice_index c.args.earlier.now c.by_earlier.m-index))
+    (c.saturating_sub-edge.ensures ∙ ap (λ v. c.args.price - v) c.edge_cost_held-in-by_earlier.ensures.value))
     c.max-most-in-by_earlier.ensures
 
 pub returns : goal.returns

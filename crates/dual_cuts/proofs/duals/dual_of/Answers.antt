@@ -1,4 +1,4 @@
-use Rattle.std.proofs.Common.{◌≡◌, ℕ, ℤ, List, map, pos, ◌≤◌, ◌^◌, get_or, ap₂, ap, ◌∙◌, arith}
+use Rattle.std.proofs.Common.{◌≡◌, ℕ, List, map, ◌≤◌, ◌^◌, get_or, ap₂, ap, ◌∙◌, arith}
 use Rattle.std.proofs.lemmas.Int.{ints}
 use Rattle.std.proofs.lemmas.List.Elements.{All-get_or}
 use Rattle.dual_cuts.proofs.HeldCosts.{handed_on}

@@ -14,5 +14,5 @@ pub returns-clause-minimal : goal.returns-clause-minimal
 returns-clause-minimal c =
     let Minimal : Prices → Type 0 = IsMinimalDual c.args.instance.now c.args.hubs.now c.args.order.now (c.args.i, c.args.j) in
     let whole = listed_is_minimal c.args.instance.now c.args.hubs.now c.args.order.now (c.args.i, c.args.j) c.args.price c.set_values.new.values
-      c.requires.order c.requires.price c.set_values.ensures.turns c.set_values.ensures.none_else in
+    c.requires.order c.requires.price c.set_values.ensures.turns c.set_values.ensures.none_else in
     IfOk-weaker c.dual_of.result (λ d. d ≡ listed c.args.price c.set_values.new.values) Minimal (λ d e. subst Minimal (sym e) whole) c.dual_of.ensures

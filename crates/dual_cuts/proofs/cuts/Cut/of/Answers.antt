@@ -1,6 +1,6 @@
-use Rattle.std.proofs.Common.{◌≡◌, List, pos, subst, sym, ap, ◌∙◌}
+use Rattle.std.proofs.Common.{List, pos, ap, ◌∙◌}
 use Rattle.hub_spec.specs.Cuts.{Prices, total}
-use Rattle.dual_cuts.specs.HubCuts.{cut_by, ListNodes, HasLoadsWithin, AreLoads}
+use Rattle.dual_cuts.specs.HubCuts.{cut_by}
 use Rattle.dual_cuts.proofs.HeldCosts.{handed_on}
 use Rattle.dual_cuts.proofs.WholeCuts.{cut_lists_nodes, cut_loads_within}
 use Rattle.dual_cuts.proofs.cuts.Cut.of.Goals as goal
