@@ -6,7 +6,7 @@ ghost use Rattle.hub_spec.specs.Problem.{commodities, opening_cost};
 ghost use Rattle.hub_spec.specs.Plans.{IsHubSet, IsSetCost};
 ghost use Rattle.hub_spec.specs.Cuts.{total, load, IsCut};
 ghost use Rattle.hub_spec.specs.Separation.{IsOrder, IsMinimalDual, IsSetCut};
-ghost use Rattle.dual_cuts.specs.HubCuts.{cut_by};
+ghost use Rattle.dual_cuts.specs.HubCuts.{cut_by, AreLoads};
 ghost use Rattle.dual_cuts.specs.Values.{HaveNoneElse};
 
 use crate::cut_sums::{loads_of, total_of};
@@ -18,7 +18,7 @@ use std::marker::Model;
 
 /// A Benders cut with the hub set that it is of: a dual for each commodity, in order, the total of their prices and,
 /// for each node, the load, the sum of its values. Costs are in 10^-12.
-#[derive(Debug, Drop)]
+#[derive(Clone, Debug, Drop)]
 pub struct Cut {
     set: HubSet,
     rows: Vec<Dual>,
@@ -90,6 +90,14 @@ impl Cut {
             Some(load) => *load,
             None => 0,
         }
+    }
+
+    /// The load of each node.
+    pub fn loads(&self) -> &[i128]
+        ensures size { length result.now ≡ self.now.size }
+        ensures value { AreLoads result.now self.now.cut }
+    {
+        &self.loads
     }
 }
 

@@ -16,3 +16,6 @@ pub use duals::minimal_dual;
 pub use laws::{minimal_is_dual, no_load_on_hubs, set_cut_is_cut, set_cut_is_tight};
 pub use orders::outside;
 pub use routes::{Route, least_route};
+
+#[cfg(test)]
+mod tests;

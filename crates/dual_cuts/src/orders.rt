@@ -23,7 +23,7 @@ pub fn outside(alloc: Global, instance: &Instance, set: &HubSet) -> Result<Vec<u
     Ok(nodes)
 }
 
-fn is_among(nodes: &[u32], k: u32) -> bool
+pub(crate) fn is_among(nodes: &[u32], k: u32) -> bool
     ensures { IsTrue result ↔ Contains nodes.now k }
 {
     nodes.contains(&k)
