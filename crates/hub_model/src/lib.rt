@@ -15,6 +15,8 @@ mod numbers;
 mod parts;
 mod plans;
 mod terms;
+#[cfg(test)]
+mod tests;
 mod tree_lines;
 
 pub use branches::Branch;
