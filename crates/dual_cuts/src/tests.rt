@@ -6,7 +6,6 @@ ghost use Rattle.hub_spec.specs.Plans.{IsHubSet};
 use crate::orders::is_among;
 use crate::{assign, cut_of, least_route, minimal_dual, outside};
 use hub_model::{Factors, HubSet, Instance, Numbers, Parts, Terms};
-
 use std::test::Fail;
 
 // Tells whether these are a matrix of n rows with no number below 0 or above the most.
@@ -126,7 +125,10 @@ fn one_way_is_cheaper(rt: HostRuntime) -> Result<(), Fail> {
     assert!(rt; are_candidates(&instance, &set));
     let assignment = assign(rt.alloc(), &instance, &set)?;
     assert_eq!(rt; assignment.cost, 5_500_000_000_000);
-    assert_eq!(rt; assignment.routes.as_slice(), [(0, 0), (0, 1), (1, 0), (0, 0)].as_slice());
+    assert_eq!(rt;
+        assignment.routes.as_slice(),
+        [(0, 0), (0, 1), (1, 0), (0, 0)].as_slice()
+    );
     Ok(())
 }
 
@@ -140,7 +142,17 @@ fn cheap_trunk(rt: HostRuntime) -> Result<(), Fail> {
     assert!(rt; are_candidates(&instance, &set));
     let assignment = assign(rt.alloc(), &instance, &set)?;
     assert_eq!(rt; assignment.cost, 82_000_000_000_000);
-    let routes = [(0, 0), (0, 0), (0, 2), (0, 0), (0, 0), (0, 0), (2, 0), (0, 0), (0, 0)];
+    let routes = [
+        (0, 0),
+        (0, 0),
+        (0, 2),
+        (0, 0),
+        (0, 0),
+        (0, 0),
+        (2, 0),
+        (0, 0),
+        (0, 0),
+    ];
     assert_eq!(rt; assignment.routes.as_slice(), routes.as_slice());
     assert!(rt; instance.size() == 3);
     let route = least_route(&instance, set.members(), 2, 0);
