@@ -130,7 +130,7 @@ pub fn minimal_dual(
     )
 }
 
-/// The minimal dual by its price. The values of the nodes stay in `values`.
+/// The minimal dual by its price. `values` has a number for each node; those of the order are worked out anew.
 pub(crate) fn priced_dual(
     alloc: Global,
     instance: &Instance,

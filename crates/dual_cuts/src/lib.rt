@@ -1,4 +1,10 @@
 //! Least routes, the minimal dual of a commodity, and the Benders cut of a hub set.
+//!
+//! In the order of reading: `routes` (the least route of a commodity through hubs), `assignments` (the cost of a hub
+//! set, with all its routes), `orders` (the candidates outside a set), `duals` (the value that each of them has at
+//! least, in its turn), `cut_sums` and `cuts` (the duals of all commodities with their total and loads). `laws` says
+//! what holds of every dual and cut that is made so: they are feasible, and the cut is tight at its hub set. Costs are
+//! in 10^-12: they are summed as `u128`, and handed out as `i128` by `held`. Nodes are `u32`, counted from 0.
 #![tactic(auto)]
 
 mod assignments;
