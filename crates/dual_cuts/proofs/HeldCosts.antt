@@ -1,0 +1,11 @@
+-- A signed number that is handed on, as the natural number that it is.
+use Rattle.std.proofs.Common.{◌≡◌, ℕ, ◌≤◌, ◌^◌, ℤ, pos, SFits, to_z, of_z, to_z-of_z, ◌∙◌, rules, arith}
+use mir.Syntax.{w128}
+
+pub handed_on : (z : ℤ) (n : ℕ) → z ≡ pos n → n ≤ 10 ^ 29 → to_z w128 (of_z w128 z) ≡ pos n
+handed_on z n e low =
+    let fits : SFits w128 z = rw e (small n low) in
+    to_z-of_z fits ∙ e
+  where
+    small : (n : ℕ) → n ≤ 10 ^ 29 → SFits w128 (pos n)
+    small n low = search (rules, arith)

@@ -1,0 +1,13 @@
+pub mod Asked
+pub mod MinimalDuals
+pub mod SetCuts
+pub mod BestRoutes
+pub mod Assigned
+pub mod HeldCosts
+pub mod OutsideNodes
+pub mod Turns
+pub mod Entries
+pub mod ListedDuals
+pub mod RowLoads
+pub mod WholeCuts
+pub mod RowsSoFar

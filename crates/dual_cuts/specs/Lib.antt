@@ -1,0 +1,4 @@
+pub mod Laws
+pub mod Routes
+pub mod Values
+pub mod HubCuts
