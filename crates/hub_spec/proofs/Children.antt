@@ -1,8 +1,7 @@
 -- The bound of a branch and those of its children.
-use Rattle.std.proofs.Common.{◌≡◌, ℕ, ◌≤◌, ℤ, pos, List, Contains, arith}
+use Rattle.std.proofs.Common.{◌≡◌, ℕ, ℤ, pos, Contains, arith}
 use Rattle.std.specs.Int.{int_min}
 use Rattle.std.proofs.lemmas.Int.{ints, clamps}
-use Rattle.hub_spec.specs.Sums.{sum_ints, without}
 use Rattle.hub_spec.specs.Trees.{Branching, open_child, closed_child, branch_bound}
 use Rattle.hub_spec.proofs.SumLemmas.{sum_ints-with_node, sum_ints-without}
 

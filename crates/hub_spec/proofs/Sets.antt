@@ -1,9 +1,9 @@
 -- Ascending lists of nodes as sets: membership as a test, and a set as the part of a larger one that passes a test.
-use Rattle.std.proofs.Common.{◌≡◌, ℕ, zero, suc, ◌+◌, ◌<◌, Bool, true, false, cond, List, [], ◌∷◌, length, filter, All, Contains, ◌⊎◌, inl, inr, ⊎_elim, refl, ap₂, sym, ◌∙◌, nat_eq, add-one, true≢false, eqb-true, eq-eqb, ne_eqb, arith}
+use Rattle.std.proofs.Common.{◌≡◌, ℕ, suc, ◌<◌, Bool, true, false, cond, List, [], ◌∷◌, filter, All, Contains, ⊎_elim, refl, ap₂, sym, ◌∙◌, nat_eq, add-one, true≢false, eqb-true, eq-eqb, ne_eqb, arith}
 use native.Mathlib.Numerals.{unary_clauses}
 use Rattle.std.specs.List.Sorted.{IsStrictlyIncreasing}
 use Rattle.std.proofs.lemmas.Bool.{cases_eq, false_from_ne_true}
-use Rattle.std.proofs.lemmas.List.Elements.{All-head, All-tail, All-contains, Contains-get_or}
+use Rattle.std.proofs.lemmas.List.Elements.{All-head, All-contains, Contains-get_or}
 use Rattle.hub_spec.proofs.SumLemmas.{by_test, Contains-cons_cases, nil_contains_none}
 
 pub Contains-head : {X : Type 0} (x : X) (xs : List X) → Contains (x ∷ xs) x

@@ -1,14 +1,14 @@
 -- Weak duality: no plan costs less than the bound that cuts and a sound tree show.
-use Rattle.std.proofs.Common.{◌≡◌, ℕ, zero, suc, ◌+◌, ◌-◌, ◌*◌, ◌<◌, ◌≤◌, ℤ, pos, ◌+ℤ◌, ◌-ℤ◌, ◌≤ℤ◌, Bool, true, false, List, [], ◌∷◌, length, sum_by, zip, filter, All, Contains, ⊎_elim, refl, ap, sym, subst, mul-add, add-mul, mul-suc, mul-le-mul_left, mul-le-mul_right, arith}
+use Rattle.std.proofs.Common.{◌≡◌, ℕ, suc, ◌+◌, ◌-◌, ◌*◌, ◌<◌, ◌≤◌, ℤ, pos, ◌+ℤ◌, ◌-ℤ◌, ◌≤ℤ◌, Bool, true, false, List, [], ◌∷◌, length, sum_by, zip, filter, All, Contains, ⊎_elim, refl, ap, subst, mul-add, add-mul, mul-suc, mul-le-mul_left, mul-le-mul_right, arith}
 use Rattle.std.specs.List.{AllZip}
 use Rattle.std.proofs.Math.Nat.{lt_of_mul-lt-mul_left}
-use Rattle.std.proofs.lemmas.Int.{ints, clamps}
+use Rattle.std.proofs.lemmas.Int.{ints}
 use Rattle.std.proofs.lemmas.Bool.{cases_eq}
 use Rattle.std.proofs.lemmas.List.Sums.{sum_by-cons}
 use Rattle.std.proofs.lemmas.List.Elements.{All-head, All-tail, All-contains, All-get_or}
 use Rattle.hub_spec.specs.Sums.{sum_ints}
 use Rattle.hub_spec.specs.Problem.{Problem, IsProblem, route_cost, fixed_cost, opening_cost, commodities}
-use Rattle.hub_spec.specs.Plans.{Plan, IsHubSet, IsRoute, IsPlan, cost_of_route, routing_cost, plan_cost, NoPlanBelow}
+use Rattle.hub_spec.specs.Plans.{Plan, IsRoute, IsPlan, cost_of_route, routing_cost, plan_cost, NoPlanBelow}
 use Rattle.hub_spec.specs.Cuts.{Prices, value_at, IsDual, Cut, total, load, IsCut}
 use Rattle.hub_spec.specs.Trees.{Branching, root, open_child, closed_child, cut_at, weight_sum, mixed_total, mixed_load, gain, branch_bound, leaf_bound, Closes, IsMix, Tree, branch, leaf, empty, IsClosed, IsSound}
 use Rattle.hub_spec.specs.Certificates.{Proof, Holds}

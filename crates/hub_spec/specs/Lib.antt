@@ -11,3 +11,4 @@ pub mod Grammar
 pub mod Conditions
 pub mod Verdicts
 pub mod Theorems
+pub mod AllSets
