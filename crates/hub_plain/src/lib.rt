@@ -2,5 +2,7 @@
 #![tactic(auto)]
 
 mod instance;
+mod routes;
 
-pub use instance::Draft;
+pub use instance::{Draft, Instance};
+pub use routes::{Route, least_route, set_cost};
