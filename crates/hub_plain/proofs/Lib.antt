@@ -1,1 +1,3 @@
 pub mod Ceilings
+pub mod BestRoutes
+pub mod RoutedSets

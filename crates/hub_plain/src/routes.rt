@@ -16,6 +16,7 @@ pub struct Route {
 }
 
 /// The cheapest route from `i` to `j` through these hubs. Of those that cost the same it is the first by its hubs.
+#[tactic(auto, using(crate::proofs::BestRoutes::hub_is_node))]
 pub fn least_route(instance: &Instance, hubs: &[u32], i: u32, j: u32) -> Route
     requires hubs { IsHubSet instance.now hubs.now }
     requires from { i < instance.now.size }
@@ -24,6 +25,7 @@ pub fn least_route(instance: &Instance, hubs: &[u32], i: u32, j: u32) -> Route
     ensures cost { result.cost ≡ route_cost instance.now i j result.first result.last }
     ensures limit { result.cost ≤ 10 ^ 29 }
 {
+    instance.limits();
     let mut best = route_by(instance, i, j, hubs[0], hubs[0]);
     for first in hubs {
         for last in hubs {
