@@ -1,3 +1,5 @@
 pub mod Ceilings
 pub mod BestRoutes
 pub mod RoutedSets
+pub mod PlanCosts
+pub mod AllLoops

@@ -1,12 +1,13 @@
 //! The instance, and what it is made of.
 #![tactic(auto, unfolding(hub_spec::specs::Problem::flow, hub_spec::specs::Problem::distance, hub_spec::specs::Problem::fixed_cost))]
 
-ghost use Rattle.std.specs.Prelude.{◌≡◌, ℕ, ◌+◌, ◌*◌, ◌^◌, ◌<◌, ◌≤◌, ◌↔◌, length, sum, sum_by, slice_index, IsTrue, IsSome, IsNone, IfSome, All};
+ghost use Rattle.std.specs.Prelude.{◌≡◌, ℕ, ◌+◌, ◌*◌, ◌^◌, ◌<◌, ◌≤◌, ◌↔◌, length, sum, sum_by, slice_index, IsTrue, IsSome, IsNone, IfSome, All, Contains};
 ghost use Rattle.std.specs.List.Sorted.{IsStrictlyIncreasing};
 ghost use Rattle.hub_spec.specs.Problem.{flow, distance, fixed_cost, route_cost, opening_cost, greatest, cost_ceiling, IsWithinLimits, IsProblem};
 ghost use Rattle.hub_spec.specs.Plans.{IsHubSet};
 ghost use Rattle.hub_plain.specs.Limits.{AreNodesWithinLimits, ArePairsWithinLimits, AreCostsWithinLimits};
 
+use crate::nodes::{are_among, are_below, ascends, is_among};
 use std::marker::Model;
 
 /// What an instance is to be made of, not tested yet.
@@ -189,6 +190,18 @@ impl Instance {
         &self.candidates
     }
 
+    pub fn is_candidate(&self, k: u32) -> bool
+        ensures { IsTrue result ↔ Contains self.now.candidates k }
+    {
+        is_among(self.candidates(), k)
+    }
+
+    pub fn are_candidates(&self, nodes: &[u32]) -> bool
+        ensures { IsTrue result ↔ All (Contains self.now.candidates) nodes.now }
+    {
+        are_among(self.candidates(), nodes)
+    }
+
     pub fn flow(&self, i: u32, j: u32) -> u64
         requires from { i < self.now.size }
         requires to { j < self.now.size }
@@ -268,23 +281,6 @@ impl Instance {
     {
         sum_at(&self.fixed_costs, hubs)
     }
-}
-
-fn ascends(nodes: &[u32]) -> bool
-    ensures { IsTrue result ↔ IsStrictlyIncreasing nodes.now }
-{
-    for i in 1..nodes.len() {
-        if nodes[i - 1] >= nodes[i] {
-            return false;
-        }
-    }
-    true
-}
-
-fn are_below(nodes: &[u32], size: u32) -> bool
-    ensures { IsTrue result ↔ All (λ k. k < size) nodes.now }
-{
-    nodes.iter().all(|k| *k < size)
 }
 
 fn is_zero_to_itself(size: u32, distances: &[u64]) -> bool

@@ -1,8 +1,11 @@
 //! A plain, slow program that computes the definitions of hub location.
 #![tactic(auto)]
 
+mod nodes;
 mod instance;
 mod routes;
+mod plans;
 
 pub use instance::{Draft, Instance};
+pub use plans::{Plan, assign, is_hub_set, is_plan, plan_cost};
 pub use routes::{Route, least_route, set_cost};
