@@ -3,3 +3,5 @@ pub mod BestRoutes
 pub mod RoutedSets
 pub mod PlanCosts
 pub mod AllLoops
+pub mod Assigned
+pub mod SetSearch

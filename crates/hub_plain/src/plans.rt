@@ -3,7 +3,7 @@
 ghost use Rattle.std.specs.Prelude.{◌≡◌, ℕ, ◌+◌, ◌*◌, ◌^◌, ◌≤◌, ◌↔◌, length, IsTrue, IfOk, All, Contains};
 ghost use Rattle.std.specs.List.{AllZip};
 ghost use Rattle.hub_spec.specs.Problem.{commodities, opening_cost};
-ghost use Rattle.hub_spec.specs.Plans.{IsHubSet, IsRoute, IsLeastRoute, IsPlan, plan_cost, routing_cost};
+ghost use Rattle.hub_spec.specs.Plans.{IsHubSet, IsRoute, IsLeastRoute, IsPlan, IsSetCost, plan_cost, routing_cost};
 
 use crate::instance::Instance;
 use crate::nodes::{ascends, is_among};
@@ -31,6 +31,8 @@ pub fn assign(alloc: Global, instance: &Instance, hubs: &[u32]) -> Result<Plan, 
     requires { IsHubSet instance.now hubs.now }
     ensures hubs { IfOk result (λ plan. plan.hubs ≡ hubs.now) }
     ensures routes { IfOk result (λ plan. AllZip (IsLeastRoute instance.now hubs.now) (commodities instance.now.size) plan.routes) }
+    ensures plan { IfOk result (λ plan. IsPlan instance.now plan) }
+    ensures cost { IfOk result (λ plan. IsSetCost instance.now hubs.now (plan_cost instance.now plan)) }
 {
     let routes = least_routes(alloc, instance, hubs)?;
     let hubs = hubs.to_vec(alloc)?;

@@ -1,6 +1,6 @@
 //! An optimal plan, by trying every set of candidates.
 
-ghost use Rattle.std.specs.Prelude.{◌≡◌, ℕ, ◌≤◌, length, IfOk};
+ghost use Rattle.std.specs.Prelude.{◌≡◌, ℕ, ◌≤◌, [], ◌∷◌, ◌++◌, length, IfOk};
 ghost use Rattle.hub_spec.specs.Plans.{IsPlan, IsOptimal, plan_cost};
 ghost use Rattle.hub_spec.specs.AllSets.{AreFirstHubs, NoneCheaper};
 
@@ -15,7 +15,8 @@ pub fn best_plan(alloc: Global, instance: &Instance) -> Result<Plan, AllocError>
     instance.limits();
     let all = assign(alloc, instance, instance.candidates())?;
     let none: Vec<u32> = Vec::new(alloc);
-    best_with(alloc, instance, 0, &none, all)
+    let best = best_with(alloc, instance, 0, &none, all)?;
+    Ok(best)
 }
 
 /// The cheapest of this plan and all plans whose hubs among the first `at` candidates are these.
@@ -32,10 +33,19 @@ fn best_with(alloc: Global, instance: &Instance, at: usize, inside: &[u32], best
     if at == candidates.len() {
         return cheaper(alloc, instance, inside, best);
     }
-    let mut opened = inside.to_vec(alloc)?;
-    opened.push(candidates[at])?;
+    let opened = with_last(alloc, inside, candidates[at])?;
     let best_opened = best_with(alloc, instance, at + 1, &opened, best)?;
-    best_with(alloc, instance, at + 1, inside, best_opened)
+    let best_closed = best_with(alloc, instance, at + 1, inside, best_opened)?;
+    Ok(best_closed)
+}
+
+/// These nodes and one more at the end.
+fn with_last(alloc: Global, nodes: &[u32], k: u32) -> Result<Vec<u32>, AllocError>
+    ensures { IfOk result (λ more. more.items ≡ nodes.now ++ k ∷ []) }
+{
+    let mut more = nodes.to_vec(alloc)?;
+    more.push(k)?;
+    Ok(more)
 }
 
 /// The cheaper of this plan and the best one with just these hubs.
