@@ -5,3 +5,4 @@ pub mod PlanCosts
 pub mod AllLoops
 pub mod Assigned
 pub mod SetSearch
+pub mod DualLists
