@@ -6,3 +6,4 @@ pub mod AllLoops
 pub mod Assigned
 pub mod SetSearch
 pub mod DualLists
+pub mod Mixes

@@ -8,10 +8,15 @@ mod plans;
 mod sets;
 mod duals;
 mod cuts;
+mod branches;
+mod children;
+mod trees;
 
+pub use branches::{Branch, leaf_bound};
 pub use cuts::{Cut, is_cut, is_within_sums};
 pub use duals::{Dual, is_dual};
 pub use instance::{Draft, Instance};
 pub use plans::{Plan, assign, is_hub_set, is_plan, plan_cost};
 pub use routes::{Route, least_route, set_cost};
 pub use sets::best_plan;
+pub use trees::{Tree, is_mix, is_sound};
