@@ -7,3 +7,4 @@ pub mod Assigned
 pub mod SetSearch
 pub mod DualLists
 pub mod Mixes
+pub mod ChildLists

@@ -4,13 +4,18 @@ ghost use Rattle.std.specs.Prelude.{◌≡◌, ◌≤◌, length, IfOk, Contains
 ghost use Rattle.std.specs.List.{insert, remove};
 ghost use Rattle.hub_spec.specs.Sums.{with_node, without};
 ghost use Rattle.hub_spec.specs.Trees.{open_child, closed_child};
+ghost use Rattle.hub_plain.specs.Branches.{IsBranch};
 
 use crate::branches::Branch;
+use crate::instance::Instance;
 use std::alloc::{AllocError, Global};
 
 /// The branch in which the free `k` is a hub.
-pub fn open_child(alloc: Global, branch: &Branch, k: u32) -> Result<Branch, AllocError>
-    ensures { IfOk result (λ child. child ≡ open_child branch.now k) }
+pub fn open_child(alloc: Global, instance: &Instance, branch: &Branch, k: u32) -> Result<Branch, AllocError>
+    requires branch { IsBranch instance.now branch.now }
+    requires free { Contains branch.now.free k }
+    ensures child { IfOk result (λ child. child ≡ open_child branch.now k) }
+    ensures branch { IfOk result (λ child. IsBranch instance.now child) }
 {
     let inside = with_node(alloc, &branch.inside, k)?;
     let outside = branch.outside.to_vec(alloc)?;
@@ -23,8 +28,11 @@ pub fn open_child(alloc: Global, branch: &Branch, k: u32) -> Result<Branch, Allo
 }
 
 /// The branch in which the free `k` is closed.
-pub fn closed_child(alloc: Global, branch: &Branch, k: u32) -> Result<Branch, AllocError>
-    ensures { IfOk result (λ child. child ≡ closed_child branch.now k) }
+pub fn closed_child(alloc: Global, instance: &Instance, branch: &Branch, k: u32) -> Result<Branch, AllocError>
+    requires branch { IsBranch instance.now branch.now }
+    requires free { Contains branch.now.free k }
+    ensures child { IfOk result (λ child. child ≡ closed_child branch.now k) }
+    ensures branch { IfOk result (λ child. IsBranch instance.now child) }
 {
     let inside = branch.inside.to_vec(alloc)?;
     let outside = with_node(alloc, &branch.outside, k)?;

@@ -52,12 +52,12 @@ pub fn is_sound(
             if !is_free(branch, *candidate) {
                 return Ok(false);
             }
-            let open = open_child(alloc, branch, *candidate)?;
+            let open = open_child(alloc, instance, branch, *candidate)?;
             let is_open_sound = is_sound(alloc, instance, cuts, target, &open, opened)?;
             if !is_open_sound {
                 return Ok(false);
             }
-            let close = closed_child(alloc, branch, *candidate)?;
+            let close = closed_child(alloc, instance, branch, *candidate)?;
             let is_closed_sound = is_sound(alloc, instance, cuts, target, &close, closed)?;
             Ok(is_closed_sound)
         }
