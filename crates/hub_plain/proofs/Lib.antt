@@ -8,3 +8,4 @@ pub mod SetSearch
 pub mod DualLists
 pub mod Mixes
 pub mod ChildLists
+pub mod Reductions

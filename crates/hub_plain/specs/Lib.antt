@@ -3,3 +3,5 @@ pub mod Routes
 pub mod Duals
 pub mod Branches
 pub mod TreeViews
+pub mod CertificateViews
+pub mod Answers

@@ -11,10 +11,15 @@ mod cuts;
 mod branches;
 mod children;
 mod trees;
+mod certificates;
+mod kinds;
+mod failures;
 
 pub use branches::{Branch, leaf_bound};
+pub use certificates::Certificate;
 pub use cuts::{Cut, is_cut, is_within_sums};
 pub use duals::{Dual, is_dual};
+pub use kinds::Kind;
 pub use instance::{Draft, Instance};
 pub use plans::{Plan, assign, is_hub_set, is_plan, plan_cost};
 pub use routes::{Route, least_route, set_cost};
