@@ -2,10 +2,10 @@
 
 ghost use Rattle.std.specs.Prelude.{◌≡◌, ℕ, ◌+◌, ◌*◌, ◌^◌, ◌<◌, ◌≤◌, ◌↔◌, [], ◌∷◌, ◌++◌, length, IsTrue, IsNone, IfOk, All, Contains};
 ghost use Rattle.hub_spec.specs.Problem.{commodities};
-ghost use Rattle.hub_spec.specs.Cuts.{IsCut, IsWithinSums};
-ghost use Rattle.hub_spec.specs.Trees.{line_count};
+ghost use Rattle.hub_spec.specs.Cuts.{IsCut};
+ghost use Rattle.hub_spec.specs.Trees.{leaf, line_count, IsClosed};
 ghost use Rattle.hub_spec.specs.Text.{IsInRange, IsCutText, IsWeightsText};
-ghost use Rattle.hub_spec.specs.Conditions.{claim, Sum, route_claims, dual_claims, cut_claims, tree_claims, claims};
+ghost use Rattle.hub_spec.specs.Conditions.{claim, Empty, route_claims, dual_claims, cut_claims, tree_claims, claims};
 ghost use Rattle.hub_plain.specs.Branches.{IsBranch};
 ghost use Rattle.hub_plain.specs.TreeViews.{tree_of};
 ghost use Rattle.hub_plain.specs.CertificateViews.{proof_of};
@@ -83,6 +83,111 @@ fn cuts_failure(instance: &Instance, line: u64, cuts: &[Cut]) -> Option<(Kind, u
             return Some(failure);
         }
         at += n * n + 1;
+    }
+    None
+}
+
+/// How many lines the tree takes.
+pub fn line_count(tree: &Tree) -> u64
+    requires { line_count (tree_of tree.now) < 2 ^ 59 }
+    ensures { result ≡ line_count (tree_of tree.now) }
+{
+    match tree {
+        Tree::Branch { opened, closed, .. } => 1 + line_count(opened) + line_count(closed),
+        Tree::Leaf { .. } => 1,
+        Tree::Empty => 1,
+    }
+}
+
+/// The first condition that a leaf at this line fails.
+fn leaf_failure(
+    instance: &Instance,
+    cuts: &[Cut],
+    target: u128,
+    line: u64,
+    branch: &Branch,
+    denom: u128,
+    weights: &[(u64, u128)],
+) -> Option<(Kind, u64)>
+    requires cuts { All (IsCut instance.now) cuts.now }
+    requires target { target < 10 ^ 30 }
+    requires branch { IsBranch instance.now branch.now }
+    requires denom_least { 1 ≤ denom }
+    requires denom_most { denom ≤ 10 ^ 6 }
+    requires weights { IsWeightsText weights.now }
+    ensures { IsFirstFailure (tree_claims instance.now cuts.now target line branch.now (leaf denom weights.now)) result }
+{
+    if !are_within_cuts(cuts, weights) {
+        return Some((Kind::CutNumber, line));
+    }
+    if !is_weight_within(denom, weights) {
+        return Some((Kind::Weight, line));
+    }
+    if !closes(denom, target, leaf_bound(instance, cuts, denom, weights, branch)) {
+        return Some((Kind::Leaf, line));
+    }
+    None
+}
+
+fn are_within_cuts(cuts: &[Cut], weights: &[(u64, u128)]) -> bool
+    ensures { IsTrue result ↔ All (λ e. e.0 ≤ length cuts.now) weights.now }
+{
+    for entry in weights {
+        if entry.0 > cuts.len() as u64 {
+            return false;
+        }
+    }
+    true
+}
+
+/// The first condition that a tree fails whose first line this is.
+fn tree_failure(
+    alloc: Global,
+    instance: &Instance,
+    cuts: &[Cut],
+    target: u128,
+    line: u64,
+    branch: &Branch,
+    tree: &Tree,
+) -> Result<Option<(Kind, u64)>, AllocError>
+    requires cuts { All (IsCut instance.now) cuts.now }
+    requires target { target < 10 ^ 30 }
+    requires branch { IsBranch instance.now branch.now }
+    requires leaves { HasLeavesInRange (tree_of tree.now) }
+    requires lines { line + line_count (tree_of tree.now) < 2 ^ 59 }
+    ensures { IfOk result (IsFirstFailure (tree_claims instance.now cuts.now target line branch.now (tree_of tree.now))) }
+{
+    match tree {
+        Tree::Branch {
+            candidate,
+            opened,
+            closed,
+        } => {
+            if !is_free(branch, *candidate) {
+                return Ok(Some((Kind::Branch, line)));
+            }
+            let open = open_child(alloc, instance, branch, *candidate)?;
+            let in_opened = tree_failure(alloc, instance, cuts, target, line + 1, &open, opened)?;
+            if let Some(failure) = in_opened {
+                return Ok(Some(failure));
+            }
+            let close = closed_child(alloc, instance, branch, *candidate)?;
+            let next = line + 1 + line_count(opened);
+            let in_closed = tree_failure(alloc, instance, cuts, target, next, &close, closed)?;
+            Ok(in_closed)
+        }
+        Tree::Leaf { denom, weights } => {
+            Ok(leaf_failure(instance, cuts, target, line, branch, *denom, weights))
+        }
+        Tree::Empty => Ok(empty_failure(line, branch)),
+    }
+}
+
+fn empty_failure(line: u64, branch: &Branch) -> Option<(Kind, u64)>
+    ensures { IsFirstFailure (claim Empty line (IsClosed branch.now) ∷ []) result }
+{
+    if !is_closed(branch) {
+        return Some((Kind::Empty, line));
     }
     None
 }
