@@ -1,11 +1,12 @@
 -- Conditions that are tried one after another.
-use Rattle.std.proofs.Common.{◌≡◌, ℕ, zero, suc, ◌+◌, ◌*◌, ◌<◌, ◌≤◌, List, [], ◌∷◌, ◌++◌, length, drop, get_or, Contains, Bool, true, false, IsTrue, ◌↔◌, append_assoc, Option, None, Some, inl, inr, refl, sym, ap, subst, ◌∙◌, arith}
+use Rattle.std.proofs.Common.{◌≡◌, ℕ, zero, suc, ◌+◌, ◌*◌, ◌<◌, ◌≤◌, List, [], ◌∷◌, ◌++◌, length, drop, get_or, Contains, Bool, true, false, IsTrue, ◌↔◌, append_assoc, is_some, Option, None, Some, inl, inr, refl, sym, ap, subst, ◌∙◌, arith}
 use Rattle.std.proofs.Math.Seq.{drop-cons}
 use Rattle.std.specs.List.{AllZip}
 use Rattle.hub_spec.proofs.Commodities.{length_commodities}
 use Rattle.hub_spec.specs.Problem.{Problem, commodities}
 use Rattle.hub_spec.specs.Cuts.{Prices, IsDual, Cut, IsCut, IsWithinSums}
-use Rattle.hub_spec.specs.Conditions.{Kind, Claim, claim, AllHold, FailsFirst, Route, Dual, Sum, route_claims, dual_claims, cut_claims}
+use Rattle.hub_spec.specs.Trees.{Branching, open_child, closed_child, Tree, branch, line_count}
+use Rattle.hub_spec.specs.Conditions.{Kind, Claim, claim, AllHold, FailsFirst, Route, Dual, Sum, route_claims, dual_claims, cut_claims, tree_claims}
 use Rattle.hub_plain.specs.declared.kinds.Kind as code
 use Rattle.hub_plain.specs.Answers.{IsFirstFailure, kind_of, one_cut}
 
@@ -110,3 +111,22 @@ pub cut_from_claims : (p : Problem) (line : ℕ) (cut : Cut) → length cut.dual
     → AllHold (dual_claims p line (commodities p.size) cut.duals) → IsWithinSums p cut → IsCut p cut
 cut_from_claims p line cut long h sums =
     record { duals = duals_hold p line (commodities p.size) cut.duals (omega (arith, long, length_commodities p.size)) h; sums = sums }
+
+-- ---- the conditions of a branch
+
+pub opened_fails : (p : Problem) (cuts : List Cut) (target line : ℕ) (b : Branching) (k : ℕ) (opened closed : Tree) (f : Option (code.Kind × ℕ))
+    → Contains b.free k → is_some f ≡ true → IsFirstFailure (tree_claims p cuts target (line + 1) (open_child b k) opened) f
+    → IsFirstFailure (tree_claims p cuts target line b (branch k opened closed)) f
+opened_fails p cuts target line b k opened closed None here some h = absurd (let e : false ≡ true = some in cc)
+opened_fails p cuts target line b k opened closed (Some failure) here some h =
+    inr (here, early (tree_claims p cuts target (line + 1) (open_child b k) opened)
+      (tree_claims p cuts target (line + 1 + line_count opened) (closed_child b k) closed) (kind_of failure.0) failure.1 h)
+
+pub opened_holds : (p : Problem) (cuts : List Cut) (target line : ℕ) (b : Branching) (k : ℕ) (opened closed : Tree) (f g : Option (code.Kind × ℕ))
+    → Contains b.free k → is_some f ≡ false → IsFirstFailure (tree_claims p cuts target (line + 1) (open_child b k) opened) f
+    → IsFirstFailure (tree_claims p cuts target (line + 1 + line_count opened) (closed_child b k) closed) g
+    → IsFirstFailure (tree_claims p cuts target line b (branch k opened closed)) g
+opened_holds p cuts target line b k opened closed None g here none h later =
+    first_holds _ _ g here (later_after (tree_claims p cuts target (line + 1) (open_child b k) opened)
+      (tree_claims p cuts target (line + 1 + line_count opened) (closed_child b k) closed) g h later)
+opened_holds p cuts target line b k opened closed (Some failure) g here none h later = absurd (let e : true ≡ false = none in cc)

@@ -1,10 +1,11 @@
 -- What the first failure of some conditions is: none, or a kind and a line.
-use Rattle.std.specs.Prelude.{ℕ, ◌≤◌, ◌+◌, ◌*◌, ◌^◌, [], ◌∷◌, ◌++◌, List, Option, None, Some}
+use Rattle.std.specs.Prelude.{◌≡◌, ℕ, All, Contains, ◌≤◌, ◌+◌, ◌*◌, ◌^◌, [], ◌∷◌, ◌++◌, List, Option, None, Some}
 use Rattle.hub_spec.specs.Problem.{Problem, commodities}
+use Rattle.hub_spec.specs.Plans.{Plan, plan_cost}
 use Rattle.hub_spec.specs.Cuts.{Cut, IsWithinSums}
 use Rattle.hub_spec.specs.Trees.{Tree, branch, leaf, empty, leaf_of}
 use Rattle.hub_spec.specs.Text.{IsTreeLineText, IsWeightsText}
-use Rattle.hub_spec.specs.Conditions.{Claim, claim, dual_claims, AllHold, FailsFirst, Kind, Size, BoundOverCost, Hubs, Route, Cost, Dual, Sum, Branch, Empty, CutNumber, Weight, Leaf}
+use Rattle.hub_spec.specs.Conditions.{Claim, claim, route_claims, dual_claims, AllHold, FailsFirst, Kind, Size, BoundOverCost, Hubs, Route, Cost, Dual, Sum, Branch, Empty, CutNumber, Weight, Leaf}
 use Rattle.hub_plain.specs.declared.kinds.Kind as code
 
 abbrev pub kind_of : code.Kind → Kind
@@ -36,3 +37,9 @@ HasLeavesInRange empty = Unit {0}
 abbrev pub one_cut : Problem → ℕ → Cut → List Claim
 one_cut p line cut =
     dual_claims p (line + 1) (commodities p.size) cut.duals ++ claim Sum (line + p.size * p.size) (IsWithinSums p cut) ∷ []
+
+-- those of a plan of this stated cost
+abbrev pub plan_claims : Problem → ℕ → Plan → List Claim
+plan_claims p cost plan =
+    claim Hubs 5 (All (Contains p.candidates) plan.hubs)
+    ∷ (route_claims plan.hubs 6 plan.routes ++ claim Cost (5 + p.size * p.size) (cost ≡ plan_cost p plan) ∷ [])

@@ -3,12 +3,26 @@
 ghost use Rattle.std.specs.Prelude.{◌≡◌, ◌≤◌, length, IfOk, Contains};
 ghost use Rattle.std.specs.List.{insert, remove};
 ghost use Rattle.hub_spec.specs.Sums.{with_node, without};
-ghost use Rattle.hub_spec.specs.Trees.{open_child, closed_child};
+ghost use Rattle.hub_spec.specs.Trees.{root, open_child, closed_child};
 ghost use Rattle.hub_plain.specs.Branches.{IsBranch};
 
 use crate::branches::Branch;
 use crate::instance::Instance;
 use std::alloc::{AllocError, Global};
+
+/// The branch where no candidate is decided.
+pub fn root(alloc: Global, instance: &Instance) -> Result<Branch, AllocError>
+    ensures root { IfOk result (λ branch. branch ≡ root instance.now) }
+    ensures branch { IfOk result (λ branch. IsBranch instance.now branch) }
+{
+    instance.limits();
+    let free = instance.candidates().to_vec(alloc)?;
+    Ok(Branch {
+        inside: Vec::new(alloc),
+        outside: Vec::new(alloc),
+        free,
+    })
+}
 
 /// The branch in which the free `k` is a hub.
 pub fn open_child(alloc: Global, instance: &Instance, branch: &Branch, k: u32) -> Result<Branch, AllocError>

@@ -1,6 +1,7 @@
 //! The first condition that a certificate fails.
 
 ghost use Rattle.std.specs.Prelude.{◌≡◌, ℕ, ◌+◌, ◌*◌, ◌^◌, ◌<◌, ◌≤◌, ◌↔◌, [], ◌∷◌, ◌++◌, length, IsTrue, IsNone, IfOk, All, Contains};
+ghost use Rattle.std.specs.List.Sorted.{IsStrictlyIncreasing};
 ghost use Rattle.hub_spec.specs.Problem.{commodities};
 ghost use Rattle.hub_spec.specs.Cuts.{IsCut};
 ghost use Rattle.hub_spec.specs.Trees.{leaf, line_count, IsClosed};
@@ -9,18 +10,84 @@ ghost use Rattle.hub_spec.specs.Conditions.{claim, Empty, route_claims, dual_cla
 ghost use Rattle.hub_plain.specs.Branches.{IsBranch};
 ghost use Rattle.hub_plain.specs.TreeViews.{tree_of};
 ghost use Rattle.hub_plain.specs.CertificateViews.{proof_of};
-ghost use Rattle.hub_plain.specs.Answers.{IsFirstFailure, HasLeavesInRange, one_cut};
+ghost use Rattle.hub_plain.specs.Answers.{IsFirstFailure, HasLeavesInRange, one_cut, plan_claims};
 
 use crate::branches::{Branch, leaf_bound};
 use crate::certificates::Certificate;
-use crate::children::{closed_child, open_child};
+use crate::children::{closed_child, open_child, root};
 use crate::cuts::{Cut, is_within_sums};
 use crate::duals::{Dual, is_dual};
 use crate::instance::Instance;
 use crate::kinds::Kind;
-use crate::plans::{goes_through, plan_cost};
+use crate::plans::{Plan, goes_through, plan_cost};
 use crate::trees::{Tree, closes, is_closed, is_free, is_weight_within};
 use std::alloc::{AllocError, Global};
+
+/// The first condition that the certificate fails, with its line, and none where all hold. They are tried in order:
+/// size, bound and cost, plan, cuts, tree.
+pub fn first_failure(
+    alloc: Global,
+    instance: &Instance,
+    certificate: &Certificate,
+) -> Result<Option<(Kind, u64)>, AllocError>
+    requires { IsInRange (proof_of certificate.now) }
+    ensures { IfOk result (IsFirstFailure (claims instance.now (proof_of certificate.now))) }
+{
+    let n = certificate.size as u64;
+    if !is_of_size(instance, certificate.size, certificate.candidates) {
+        return Ok(Some((Kind::Size, 2)));
+    }
+    if certificate.bound > certificate.cost {
+        return Ok(Some((Kind::BoundOverCost, 4)));
+    }
+    let in_plan = plan_failure(instance, certificate.cost, &certificate.plan);
+    if in_plan.is_some() {
+        return Ok(in_plan);
+    }
+    let in_cuts = cuts_failure(instance, 7 + n * n, &certificate.cuts);
+    if in_cuts.is_some() {
+        return Ok(in_cuts);
+    }
+    let line = 8 + n * n + certificate.cuts.len() as u64 * (n * n + 1);
+    let root = root(alloc, instance)?;
+    let in_tree = tree_failure(
+        alloc,
+        instance,
+        &certificate.cuts,
+        certificate.bound,
+        line,
+        &root,
+        &certificate.tree,
+    )?;
+    Ok(in_tree)
+}
+
+fn is_of_size(instance: &Instance, size: u32, candidates: u32) -> bool
+    ensures { IsTrue result ↔ ((size ≡ instance.now.size) × (candidates ≡ length instance.now.candidates)) }
+{
+    size == instance.size() && candidates as usize == instance.candidates().len()
+}
+
+/// The first condition that a plan of this stated cost fails.
+fn plan_failure(instance: &Instance, cost: u128, plan: &Plan) -> Option<(Kind, u64)>
+    requires some_hub { 1 ≤ length plan.now.hubs }
+    requires ascend { IsStrictlyIncreasing plan.now.hubs }
+    requires one_route_each { length plan.now.routes ≡ instance.now.size * instance.now.size }
+    ensures { IsFirstFailure (plan_claims instance.now cost plan.now) result }
+{
+    let n = instance.size() as u64;
+    if !instance.are_candidates(&plan.hubs) {
+        return Some((Kind::Hubs, 5));
+    }
+    let in_routes = route_failure(&plan.hubs, 6, &plan.routes);
+    if in_routes.is_some() {
+        return in_routes;
+    }
+    if cost != plan_cost(instance, plan) {
+        return Some((Kind::Cost, 5 + n * n));
+    }
+    None
+}
 
 /// The first route that leaves the hubs; the first route stands at this line.
 fn route_failure(hubs: &[u32], line: u64, routes: &[(u32, u32)]) -> Option<(Kind, u64)>
@@ -168,8 +235,8 @@ fn tree_failure(
             }
             let open = open_child(alloc, instance, branch, *candidate)?;
             let in_opened = tree_failure(alloc, instance, cuts, target, line + 1, &open, opened)?;
-            if let Some(failure) = in_opened {
-                return Ok(Some(failure));
+            if in_opened.is_some() {
+                return Ok(in_opened);
             }
             let close = closed_child(alloc, instance, branch, *candidate)?;
             let next = line + 1 + line_count(opened);
