@@ -9,3 +9,4 @@ pub mod DualLists
 pub mod Mixes
 pub mod ChildLists
 pub mod Reductions
+pub mod FirstFailures

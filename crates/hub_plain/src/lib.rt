@@ -14,6 +14,7 @@ mod trees;
 mod certificates;
 mod kinds;
 mod failures;
+mod texts;
 
 pub use branches::{Branch, leaf_bound};
 pub use certificates::Certificate;
