@@ -10,3 +10,4 @@ pub mod Mixes
 pub mod ChildLists
 pub mod Reductions
 pub mod FirstFailures
+pub mod TextSteps

@@ -5,3 +5,4 @@ pub mod Branches
 pub mod TreeViews
 pub mod CertificateViews
 pub mod Answers
+pub mod TextParts
