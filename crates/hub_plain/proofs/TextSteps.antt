@@ -5,10 +5,12 @@ use Rattle.std.proofs.Math.Seq.{drop-cons}
 use Rattle.std.proofs.lemmas.Grind.{flat_map-append}
 use Rattle.std.proofs.lemmas.List.{append-nil, drop_all, map-append}
 use Rattle.hub_spec.specs.Cuts.{Cut}
-use Rattle.hub_spec.specs.Trees.{Tree, branch, branch_on, preorder}
-use Rattle.hub_spec.specs.Lines.{Item, says_tree}
-use Rattle.hub_spec.specs.Text.{line_bytes, cut_items}
-use Rattle.hub_plain.specs.TextParts.{pair_lines, cut_lines, tree_text}
+use Rattle.hub_spec.specs.Trees.{Tree, branch, branch_on, preorder, line_count}
+use Rattle.hub_spec.specs.Certificates.{Proof}
+use Rattle.hub_spec.specs.Problem.{commodities}
+use Rattle.hub_spec.specs.Lines.{Item, says_version, says_size, says_cost, says_bound, says_hubs, says_route, says_cuts, says_nodes, says_tree, says_end}
+use Rattle.hub_spec.specs.Text.{certificate_text, line_bytes, cut_items}
+use Rattle.hub_plain.specs.TextParts.{head_lines, pair_lines, cut_lines, tree_text}
 
 pub joined : (w : List ℕ) (ns : List ℕ) → join_with_byte 32 (w ∷ map decimal ns) ≡ w ++ flat_map (λ n. 32 ∷ decimal n) ns
 joined w [] = sym (append-nil w)
@@ -60,3 +62,38 @@ branch_text k opened closed =
 pub three_texts : (old one two three a b c : List ℕ) → one ≡ old ++ a → two ≡ one ++ b → three ≡ two ++ c → three ≡ old ++ (a ++ (b ++ c))
 three_texts old one two three a b c e f g =
     g ∙ ap (λ xs. xs ++ c) (f ∙ ap (λ xs. xs ++ b) e) ∙ append_assoc (old ++ a) b c ∙ append_assoc old a (b ++ c)
+
+-- one more part of the text
+pub then : (x y z a b : List ℕ) → y ≡ x ++ a → z ≡ y ++ b → z ≡ x ++ (a ++ b)
+then x y z a b e f = f ∙ ap (λ xs. xs ++ b) e ∙ append_assoc x a b
+
+pub four_parts : (x y z v w a b c d : List ℕ) → y ≡ x ++ a → z ≡ y ++ b → v ≡ z ++ c → w ≡ v ++ d → w ≡ x ++ (a ++ (b ++ (c ++ (d ++ []))))
+four_parts x y z v w a b c d e f g h =
+    then x y w a (b ++ (c ++ (d ++ []))) e (then y z w b (c ++ (d ++ [])) f (then z v w c (d ++ []) g (h ∙ ap (λ xs. v ++ xs) (sym (append-nil d)))))
+
+head_assoc : (a b c d x : List ℕ) → a ++ (b ++ (c ++ (d ++ x))) ≡ (a ++ (b ++ (c ++ (d ++ [])))) ++ x
+head_assoc a b c d x =
+    sym (append_assoc a (b ++ (c ++ (d ++ []))) x ∙ ap (λ xs. a ++ xs) (append_assoc b (c ++ (d ++ [])) x
+      ∙ ap (λ xs. b ++ xs) (append_assoc c (d ++ []) x ∙ ap (λ xs. c ++ xs) (append_assoc d [] x))))
+
+pub text_parts : (k : Proof) → certificate_text k
+    ≡ head_lines k ++ (line_bytes (says_hubs k.plan.hubs) ++ (pair_lines says_route (commodities k.size) k.plan.routes
+    ++ (line_bytes (says_cuts (length k.cuts)) ++ (cut_lines k.size 1 k.cuts ++ (line_bytes (says_nodes (line_count k.tree))
+    ++ (tree_text k.tree ++ line_bytes says_end))))))
+unfolding certificate_text
+text_parts k =
+    let routes = map (λ (t : (ℕ × ℕ) × (ℕ × ℕ)). says_route t.0 t.1) (zip (commodities k.size) k.plan.routes) in
+    let cuts = flat_map (cut_items k.size) (enumerate_from 1 k.cuts) in
+    let tree = map says_tree (preorder k.tree) in
+    let after_cuts = says_nodes (line_count k.tree) ∷ (tree ++ says_end ∷ []) in
+    let after_routes = says_cuts (length k.cuts) ∷ (cuts ++ after_cuts) in
+    let hubs = line_bytes (says_hubs k.plan.hubs) in
+    let last : flat_map line_bytes (tree ++ says_end ∷ []) ≡ tree_text k.tree ++ line_bytes says_end =
+      flat_map-append line_bytes tree (says_end ∷ []) ∙ ap (λ xs. tree_text k.tree ++ xs) (append-nil (line_bytes says_end)) in
+    let second = flat_map-append line_bytes cuts after_cuts
+      ∙ ap (λ xs. cut_lines k.size 1 k.cuts ++ (line_bytes (says_nodes (line_count k.tree)) ++ xs)) last in
+    let first = flat_map-append line_bytes routes after_routes
+      ∙ ap (λ xs. pair_lines says_route (commodities k.size) k.plan.routes ++ (line_bytes (says_cuts (length k.cuts)) ++ xs)) second in
+    ap (λ xs. line_bytes says_version ++ (line_bytes (says_size k.size k.candidates) ++ (line_bytes (says_cost k.cost)
+      ++ (line_bytes (says_bound k.bound) ++ (hubs ++ xs))))) first
+    ∙ head_assoc (line_bytes says_version) (line_bytes (says_size k.size k.candidates)) (line_bytes (says_cost k.cost)) (line_bytes (says_bound k.bound)) _
