@@ -8,10 +8,10 @@ use Rattle.hub_spec.proofs.SetCosts.{routes_from_least, set_cost_is}
 pub assigned_plan : (p : Problem) (hubs : List ℕ) (plan : Plan) → IsHubSet p hubs → plan.hubs ≡ hubs
     → AllZip (IsLeastRoute p hubs) (commodities p.size) plan.routes → IsPlan p plan
 assigned_plan p hubs plan set same least = record {
-      hubs = subst (IsHubSet p) (sym same) set;
-      routes = subst (λ (hs : List ℕ). AllZip (IsRoute p hs) (commodities p.size) plan.routes) (sym same)
-        (routes_from_least p hubs (commodities p.size) plan.routes least);
-    }
+  hubs = subst (IsHubSet p) (sym same) set;
+  routes = subst (λ (hs : List ℕ). AllZip (IsRoute p hs) (commodities p.size) plan.routes) (sym same)
+      (routes_from_least p hubs (commodities p.size) plan.routes least);
+}
 
 pub assigned_cost : (p : Problem) (hubs : List ℕ) (plan : Plan) → IsHubSet p hubs → plan.hubs ≡ hubs
     → AllZip (IsLeastRoute p hubs) (commodities p.size) plan.routes → IsSetCost p hubs (plan_cost p plan)

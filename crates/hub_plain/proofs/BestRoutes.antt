@@ -69,8 +69,8 @@ best_more p hubs c best next this row column in_row in_column so_far first last 
       is_cost = ⊎_elim (λ e. rw e so_far.is_cost) (λ e. rw e r3) one_of;
       rows = λ a b below within. not_after_trans next.cost best.cost _ (next.first, next.last) (best.first, best.last) _ not_after_best (so_far.rows a b below within);
       columns = below_more (IsUpToPlaces p hubs c next row) column
-        (λ b below. not_after_trans next.cost best.cost _ (next.first, next.last) (best.first, best.last) _ not_after_best (so_far.columns b below))
-        (here first last cost not_after_this);
+          (λ b below. not_after_trans next.cost best.cost _ (next.first, next.last) (best.first, best.last) _ not_after_best (so_far.columns b below))
+          (here first last cost not_after_this);
     }
   where
     here : this.first ≡ get_or hubs row 0 → this.last ≡ get_or hubs column 0
@@ -83,24 +83,25 @@ best_more p hubs c best next this row column in_row in_column so_far first last 
 pub best_row : (p : Problem) (hubs : List ℕ) (c : ℕ × ℕ) (best : Route) (row column : ℕ) → column ≡ length hubs → IsBest p hubs c best row column
     → IsBest p hubs c best (row + 1) 0
 best_row p hubs c best row column all so_far = record {
-      first = so_far.first;
-      last = so_far.last;
-      is_cost = so_far.is_cost;
-      rows = λ a b below within. below_more (λ a. IsUpToPlaces p hubs c best a b) row (λ a' below'. so_far.rows a' b below' within)
-        (so_far.columns b (omega arith)) a below;
-      columns = λ b below. absurd (omega (arith, below));
-    }
+  first = so_far.first;
+  last = so_far.last;
+  is_cost = so_far.is_cost;
+  rows = λ a b below within. below_more (λ a. IsUpToPlaces p hubs c best a b) row (λ a' below'. so_far.rows a' b below' within)
+      (so_far.columns b (omega arith)) a below;
+  columns = λ b below. absurd (omega (arith, below));
+}
 
 pub best_is_least : (p : Problem) (hubs : List ℕ) (c : ℕ × ℕ) (best : Route) (row column : ℕ) → row ≡ length hubs → IsBest p hubs c best row column
     → IsLeastRoute p hubs c (best.first, best.last)
 best_is_least p hubs c best row column all so_far = record {
-      is_route = record { first = so_far.first; last = so_far.last };
-      least = λ other taken. ⊎_elim (λ h. omega (arith, h, so_far.is_cost)) (λ h. omega (arith, h.0, so_far.is_cost)) (up_to other taken);
-      first = λ other taken same. ⊎_elim (λ h. absurd (omega (arith, h, same, so_far.is_cost))) (λ h. h.1) (up_to other taken);
-    }
+  is_route = record { first = so_far.first; last = so_far.last };
+  least = λ other taken. ⊎_elim (λ h. omega (arith, h, so_far.is_cost)) (λ h. omega (arith, h.0, so_far.is_cost)) (up_to other taken);
+  first = λ other taken same. ⊎_elim (λ h. absurd (omega (arith, h, same, so_far.is_cost))) (λ h. h.1) (up_to other taken);
+}
   where
     at_place : (k : ℕ) (l : k < length hubs) (x : ℕ) → get_or hubs k x ≡ x → get_or hubs k 0 ≡ x
     at_place k l x e = get_or_default hubs k 0 x l ∙ e
+
     up_to : (other : ℕ × ℕ) → IsRoute p hubs c other
         → IsNotAfter best.cost (best.first, best.last) (cost_of_route p (c, other)) other
     up_to other taken =

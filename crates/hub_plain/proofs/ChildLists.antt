@@ -43,16 +43,16 @@ All-without P k (m ∷ ms) h =
 pub opened_branch : (p : Problem) (b child : Branching) (k : ℕ) → IsBranch p b → Contains b.free k → child.inside ≡ with_node k b.inside
     → child.free ≡ without k b.free → IsBranch p child
 opened_branch p b child k h here inside free = record {
-      inside = subst (All (Contains p.candidates)) (sym inside)
-        (All-with_node (Contains p.candidates) k b.inside (All-contains (Contains p.candidates) b.free k h.free here) h.inside);
-      free = subst (All (Contains p.candidates)) (sym free) (All-without (Contains p.candidates) k b.free h.free);
-      few = omega (arith, length-with_node k b.inside, length-without k b.free here, h.few, ap length inside, ap length free);
-    }
+  inside = subst (All (Contains p.candidates)) (sym inside)
+      (All-with_node (Contains p.candidates) k b.inside (All-contains (Contains p.candidates) b.free k h.free here) h.inside);
+  free = subst (All (Contains p.candidates)) (sym free) (All-without (Contains p.candidates) k b.free h.free);
+  few = omega (arith, length-with_node k b.inside, length-without k b.free here, h.few, ap length inside, ap length free);
+}
 
 pub closed_branch : (p : Problem) (b child : Branching) (k : ℕ) → IsBranch p b → Contains b.free k → child.inside ≡ b.inside
     → child.free ≡ without k b.free → IsBranch p child
 closed_branch p b child k h here inside free = record {
-      inside = subst (All (Contains p.candidates)) (sym inside) h.inside;
-      free = subst (All (Contains p.candidates)) (sym free) (All-without (Contains p.candidates) k b.free h.free);
-      few = omega (arith, length-without k b.free here, h.few, ap length inside, ap length free);
-    }
+  inside = subst (All (Contains p.candidates)) (sym inside) h.inside;
+  free = subst (All (Contains p.candidates)) (sym free) (All-without (Contains p.candidates) k b.free h.free);
+  few = omega (arith, length-without k b.free here, h.few, ap length inside, ap length free);
+}

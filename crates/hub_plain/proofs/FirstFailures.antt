@@ -36,9 +36,9 @@ routes_hold p hubs line (c ∷ cs) (r ∷ rs) e h =
 pub plan_from_claims : (p : Problem) (plan : Plan) → 1 ≤ length plan.hubs → IsStrictlyIncreasing plan.hubs → length plan.routes ≡ p.size * p.size
     → All (Contains p.candidates) plan.hubs → AllHold (route_claims plan.hubs 6 plan.routes) → IsPlan p plan
 plan_from_claims p plan some up long are h = record {
-      hubs = record { some_hub = some; ascend = up; are_candidates = are };
-      routes = routes_hold p plan.hubs 6 (commodities p.size) plan.routes (omega (arith, long, length_commodities p.size)) h;
-    }
+  hubs = record { some_hub = some; ascend = up; are_candidates = are };
+  routes = routes_hold p plan.hubs 6 (commodities p.size) plan.routes (omega (arith, long, length_commodities p.size)) h;
+}
 
 pub routes_fail : (p : Problem) (cost : ℕ) (plan : Plan) (f : Option (code.Kind × ℕ)) → All (Contains p.candidates) plan.hubs → is_some f ≡ true
     → IsFirstFailure (route_claims plan.hubs 6 plan.routes) f → IsFirstFailure (plan_claims p cost plan) f
@@ -47,8 +47,11 @@ routes_fail p cost plan f are some h = first_holds _ _ f are (some_early (route_
 pub cost_fails : (p : Problem) (cost n : ℕ) (plan : Plan) → n ≡ p.size → All (Contains p.candidates) plan.hubs
     → AllHold (route_claims plan.hubs 6 plan.routes) → (cost ≡ plan_cost p plan → ⊥) → FailsFirst (plan_claims p cost plan) Cost (5 + n * n)
 cost_fails p cost n plan same are routes other =
-    inr (are, later_after (route_claims plan.hubs 6 plan.routes) (claim Cost (5 + p.size * p.size) (cost ≡ plan_cost p plan) ∷ [])
-      (Some (code.TheVariants.Cost, 5 + n * n)) routes (inl (other, refl, ap (λ m. 5 + m * m) (sym same))))
+    inr (
+      are,
+      later_after (route_claims plan.hubs 6 plan.routes) (claim Cost (5 + p.size * p.size) (cost ≡ plan_cost p plan) ∷ [])
+          (Some (code.TheVariants.Cost, 5 + n * n)) routes (inl (other, refl, ap (λ m. 5 + m * m) (sym same))),
+    )
 
 pub plan_holds : (p : Problem) (cost : ℕ) (plan : Plan) → All (Contains p.candidates) plan.hubs
     → AllHold (route_claims plan.hubs 6 plan.routes) → cost ≡ plan_cost p plan → AllHold (plan_claims p cost plan)
@@ -70,20 +73,20 @@ claims_parts : (p : Problem) (k : Proof) → k.size ≡ p.size → claims p k
     ∷ (plan_claims p k.cost k.plan ++ (cuts_of p k ++ tree_of_all p k)))
 claims_parts p k same =
     ap (λ m. claim Size 2 ((k.size ≡ p.size) × (k.candidates ≡ length p.candidates)) ∷ (claim BoundOverCost 4 (k.bound ≤ k.cost)
-      ∷ (claim Hubs 5 (All (Contains p.candidates) k.plan.hubs) ∷ (route_claims k.plan.hubs 6 k.plan.routes
-      ++ claim Cost (5 + m * m) (k.cost ≡ plan_cost p k.plan) ∷ (cuts_of p k ++ tree_of_all p k))))) same
+    ∷ (claim Hubs 5 (All (Contains p.candidates) k.plan.hubs) ∷ (route_claims k.plan.hubs 6 k.plan.routes
+    ++ claim Cost (5 + m * m) (k.cost ≡ plan_cost p k.plan) ∷ (cuts_of p k ++ tree_of_all p k))))) same
     ∙ ap (λ cs. claim Size 2 ((k.size ≡ p.size) × (k.candidates ≡ length p.candidates)) ∷ (claim BoundOverCost 4 (k.bound ≤ k.cost)
-      ∷ (claim Hubs 5 (All (Contains p.candidates) k.plan.hubs) ∷ cs)))
-      (sym (append_assoc (route_claims k.plan.hubs 6 k.plan.routes) (claim Cost (5 + p.size * p.size) (k.cost ≡ plan_cost p k.plan) ∷ [])
-        (cuts_of p k ++ tree_of_all p k)))
+    ∷ (claim Hubs 5 (All (Contains p.candidates) k.plan.hubs) ∷ cs)))
+    (sym (append_assoc (route_claims k.plan.hubs 6 k.plan.routes) (claim Cost (5 + p.size * p.size) (k.cost ≡ plan_cost p k.plan) ∷ [])
+    (cuts_of p k ++ tree_of_all p k)))
 
 pub whole : (p : Problem) (k : Proof) (f : Option (code.Kind × ℕ)) → ((k.size ≡ p.size) × (k.candidates ≡ length p.candidates)) → k.bound ≤ k.cost
     → IsFirstFailure (plan_claims p k.cost k.plan ++ (cuts_of p k ++ tree_of_all p k)) f → IsFirstFailure (claims p k) f
 whole p k f size bound h =
     subst (λ (cs : List Claim). IsFirstFailure cs f) (sym (claims_parts p k size.0))
     (first_holds (claim Size 2 ((k.size ≡ p.size) × (k.candidates ≡ length p.candidates)))
-      (claim BoundOverCost 4 (k.bound ≤ k.cost) ∷ (plan_claims p k.cost k.plan ++ (cuts_of p k ++ tree_of_all p k))) f size
-      (first_holds (claim BoundOverCost 4 (k.bound ≤ k.cost)) (plan_claims p k.cost k.plan ++ (cuts_of p k ++ tree_of_all p k)) f bound h))
+    (claim BoundOverCost 4 (k.bound ≤ k.cost) ∷ (plan_claims p k.cost k.plan ++ (cuts_of p k ++ tree_of_all p k))) f size
+    (first_holds (claim BoundOverCost 4 (k.bound ≤ k.cost)) (plan_claims p k.cost k.plan ++ (cuts_of p k ++ tree_of_all p k)) f bound h))
 
 -- ---- what the ranges give
 
@@ -99,15 +102,16 @@ All-right n (x ∷ xs) ys h = All-right n xs ys (All-tail (IsTreeLineText n) x (
 pub leaves_in_range : (n : ℕ) (t : Tree) → All (IsTreeLineText n) (preorder t) → HasLeavesInRange t
 leaves_in_range n (branch k opened closed) h =
     let rest : All (IsTreeLineText n) (preorder opened ++ preorder closed) =
-      All-tail (IsTreeLineText n) (branch_on k) (preorder opened ++ preorder closed) h in
-    (leaves_in_range n opened (All-left n (preorder opened) (preorder closed) rest)
-    , leaves_in_range n closed (All-right n (preorder opened) (preorder closed) rest))
+    All-tail (IsTreeLineText n) (branch_on k) (preorder opened ++ preorder closed) h in (
+      leaves_in_range n opened (All-left n (preorder opened) (preorder closed) rest),
+      leaves_in_range n closed (All-right n (preorder opened) (preorder closed) rest),
+    )
 leaves_in_range n (leaf denom weights) h = All-head (IsTreeLineText n) (leaf_of denom weights) [] h
 leaves_in_range n empty h = tt
 
 pub root_branch : (p : Problem) (b : Branching) → IsProblem p → b.inside ≡ [] → b.free ≡ p.candidates → IsBranch p b
 root_branch p b ok inside free = record {
-      inside = subst (All (Contains p.candidates)) (sym inside) (All-nil (Contains p.candidates));
-      free = subst (All (Contains p.candidates)) (sym free) (All-contains_itself p.candidates);
-      few = omega (arith, ap length inside, ap length free, few_candidates p.candidates p.size ok.candidates_ascend ok.candidates_are_nodes, ok.size_limit);
-    }
+  inside = subst (All (Contains p.candidates)) (sym inside) (All-nil (Contains p.candidates));
+  free = subst (All (Contains p.candidates)) (sym free) (All-contains_itself p.candidates);
+  few = omega (arith, ap length inside, ap length free, few_candidates p.candidates p.size ok.candidates_ascend ok.candidates_are_nodes, ok.size_limit);
+}

@@ -28,9 +28,10 @@ routes_from_all p hubs [] [] e h = tt
 routes_from_all p hubs [] (r ∷ rs) e h = absurd (omega (arith, e))
 routes_from_all p hubs (c ∷ cs) [] e h = absurd (omega (arith, e))
 routes_from_all p hubs (c ∷ cs) (r ∷ rs) e h =
-    let here = All-head (λ (r : ℕ × ℕ). Contains hubs r.0 × Contains hubs r.1) r rs h in
-    (record { first = here.0; last = here.1 }
-    , routes_from_all p hubs cs rs (omega (arith, e)) (All-tail (λ (r : ℕ × ℕ). Contains hubs r.0 × Contains hubs r.1) r rs h))
+    let here = All-head (λ (r : ℕ × ℕ). Contains hubs r.0 × Contains hubs r.1) r rs h in (
+      record { first = here.0; last = here.1 },
+      routes_from_all p hubs cs rs (omega (arith, e)) (All-tail (λ (r : ℕ × ℕ). Contains hubs r.0 × Contains hubs r.1) r rs h),
+    )
 
 pub all_from_routes : (p : Problem) (hubs : List ℕ) (cs rs : List (ℕ × ℕ)) → AllZip (IsRoute p hubs) cs rs
     → All (λ (r : ℕ × ℕ). Contains hubs r.0 × Contains hubs r.1) rs
@@ -57,9 +58,9 @@ costed_more p hubs routes i j total r are long row column is so_far =
     let next = next_cost p (IsRoute p hubs) p.size i j (take t routes) r row column before in
     let place : t + 1 ≡ i * p.size + (j + 1) = omega arith in
     let grown : take (i * p.size + (j + 1)) routes ≡ take t routes ++ r ∷ [] =
-      ap (λ m. take m routes) (sym place)
-      ∙ take_more routes t (0, 0) (omega (arith, long, commodity_index p.size i j row column))
-      ∙ ap (λ x. take t routes ++ x ∷ []) (sym is) in
+    ap (λ m. take m routes) (sym place)
+    ∙ take_more routes t (0, 0) (omega (arith, long, commodity_index p.size i j row column))
+    ∙ ap (λ x. take t routes ++ x ∷ []) (sym is) in
     record { sum = rw grown (omega (arith, next, so_far.sum)) }
 
 pub costed_limit : (p : Problem) (hubs : List ℕ) (routes : List (ℕ × ℕ)) (t total : ℕ) → IsProblem p → IsHubSet p hubs
@@ -81,7 +82,7 @@ pub route_at : (p : Problem) (hubs : List ℕ) (routes : List (ℕ × ℕ)) (i j
 route_at p hubs routes i j are row column =
     subst (λ (c : ℕ × ℕ). IsRoute p hubs c (get_or routes (i * p.size + j) (0, 0))) (commodity_at_index p.size i j (0, 0) row column)
     (AllZip-get_or_any (IsRoute p hubs) (commodities p.size) routes (i * p.size + j) (0, 0) (0, 0) are
-      (omega (arith, length_commodities p.size, commodity_index p.size i j row column)))
+    (omega (arith, length_commodities p.size, commodity_index p.size i j row column)))
   where
     AllZip-get_or_any : (R : ℕ × ℕ → ℕ × ℕ → Type 0) (xs ys : List (ℕ × ℕ)) (k : ℕ) (d e : ℕ × ℕ) → AllZip R xs ys → k < length xs
         → R (get_or xs k d) (get_or ys k e)

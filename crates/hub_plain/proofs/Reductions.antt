@@ -43,9 +43,9 @@ pub route_claims_at : (hubs : List ℕ) (line : ℕ) (rs : List (ℕ × ℕ)) (i
 route_claims_at hubs line rs i below =
     ap (route_claims hubs (line + i)) (drop-cons rs i (0, 0) below)
     ∙ ap (λ m. claim Route (line + i) (Contains hubs (get_or rs i (0, 0)).0 × Contains hubs (get_or rs i (0, 0)).1) ∷ route_claims hubs m (drop (suc i) rs))
-      (let e : line + i + 1 ≡ line + (i + 1) = omega arith in e)
+    (let e : line + i + 1 ≡ line + (i + 1) = omega arith in e)
     ∙ ap (λ m. claim Route (line + i) (Contains hubs (get_or rs i (0, 0)).0 × Contains hubs (get_or rs i (0, 0)).1) ∷ route_claims hubs (line + (i + 1)) (drop m rs))
-      (let e : suc i ≡ i + 1 = omega arith in e)
+    (let e : suc i ≡ i + 1 = omega arith in e)
 
 pub dual_claims_at : (p : Problem) (line : ℕ) (cs : List (ℕ × ℕ)) (ds : List Prices) (i : ℕ) (c : ℕ × ℕ) (d : Prices) → i < length cs → i < length ds
     → get_or cs i (0, 0) ≡ c → get_or ds i d ≡ d
@@ -55,9 +55,9 @@ dual_claims_at p line cs ds i c d below within is_c is_d =
     ap (λ xs. dual_claims p (line + i) xs (drop i ds)) (drop-cons cs i (0, 0) below)
     ∙ ap (λ xs. dual_claims p (line + i) (get_or cs i (0, 0) ∷ drop (suc i) cs) xs) (drop-cons ds i d within)
     ∙ ap (λ m. claim Dual (line + i) (IsDual p (get_or cs i (0, 0)) (get_or ds i d)) ∷ dual_claims p m (drop (suc i) cs) (drop (suc i) ds))
-      (let e : line + i + 1 ≡ line + (i + 1) = omega arith in e)
+    (let e : line + i + 1 ≡ line + (i + 1) = omega arith in e)
     ∙ ap (λ m. claim Dual (line + i) (IsDual p (get_or cs i (0, 0)) (get_or ds i d)) ∷ dual_claims p (line + (i + 1)) (drop m cs) (drop m ds))
-      (let e : suc i ≡ i + 1 = omega arith in e)
+    (let e : suc i ≡ i + 1 = omega arith in e)
     ∙ ap (λ x. claim Dual (line + i) (IsDual p x (get_or ds i d)) ∷ dual_claims p (line + (i + 1)) (drop (i + 1) cs) (drop (i + 1) ds)) is_c
     ∙ ap (λ x. claim Dual (line + i) (IsDual p c x) ∷ dual_claims p (line + (i + 1)) (drop (i + 1) cs) (drop (i + 1) ds)) is_d
 
@@ -93,12 +93,12 @@ cut_claims_at p line cuts i cut below is =
     ap (cut_claims p line) (drop-cons cuts i cut below)
     ∙ ap (λ (x : Cut). cut_claims p line (x ∷ drop (suc i) cuts)) (sym is)
     ∙ ap (λ m. dual_claims p (line + 1) (commodities p.size) cut.duals ++ claim Sum (line + p.size * p.size) (IsWithinSums p cut) ∷ cut_claims p m (drop (suc i) cuts))
-      (let e : line + p.size * p.size + 1 ≡ line + (p.size * p.size + 1) = omega arith in e)
+    (let e : line + p.size * p.size + 1 ≡ line + (p.size * p.size + 1) = omega arith in e)
     ∙ ap (λ m. dual_claims p (line + 1) (commodities p.size) cut.duals
-      ++ claim Sum (line + p.size * p.size) (IsWithinSums p cut) ∷ cut_claims p (line + (p.size * p.size + 1)) (drop m cuts))
-      (let e : suc i ≡ i + 1 = omega arith in e)
+    ++ claim Sum (line + p.size * p.size) (IsWithinSums p cut) ∷ cut_claims p (line + (p.size * p.size + 1)) (drop m cuts))
+    (let e : suc i ≡ i + 1 = omega arith in e)
     ∙ sym (append_assoc (dual_claims p (line + 1) (commodities p.size) cut.duals) (claim Sum (line + p.size * p.size) (IsWithinSums p cut) ∷ [])
-      (cut_claims p (line + (p.size * p.size + 1)) (drop (i + 1) cuts)))
+    (cut_claims p (line + (p.size * p.size + 1)) (drop (i + 1) cuts)))
 
 duals_hold : (p : Problem) (line : ℕ) (cs : List (ℕ × ℕ)) (ds : List Prices) → length ds ≡ length cs
     → AllHold (dual_claims p line cs ds) → AllZip (IsDual p) cs ds
@@ -119,8 +119,11 @@ pub opened_fails : (p : Problem) (cuts : List Cut) (target line : ℕ) (b : Bran
     → IsFirstFailure (tree_claims p cuts target line b (branch k opened closed)) f
 opened_fails p cuts target line b k opened closed None here some h = absurd (let e : false ≡ true = some in cc)
 opened_fails p cuts target line b k opened closed (Some failure) here some h =
-    inr (here, early (tree_claims p cuts target (line + 1) (open_child b k) opened)
-      (tree_claims p cuts target (line + 1 + line_count opened) (closed_child b k) closed) (kind_of failure.0) failure.1 h)
+    inr (
+      here,
+      early (tree_claims p cuts target (line + 1) (open_child b k) opened)
+          (tree_claims p cuts target (line + 1 + line_count opened) (closed_child b k) closed) (kind_of failure.0) failure.1 h,
+    )
 
 pub opened_holds : (p : Problem) (cuts : List Cut) (target line : ℕ) (b : Branching) (k : ℕ) (opened closed : Tree) (f g : Option (code.Kind × ℕ))
     → Contains b.free k → is_some f ≡ false → IsFirstFailure (tree_claims p cuts target (line + 1) (open_child b k) opened) f
@@ -128,5 +131,5 @@ pub opened_holds : (p : Problem) (cuts : List Cut) (target line : ℕ) (b : Bran
     → IsFirstFailure (tree_claims p cuts target line b (branch k opened closed)) g
 opened_holds p cuts target line b k opened closed None g here none h later =
     first_holds _ _ g here (later_after (tree_claims p cuts target (line + 1) (open_child b k) opened)
-      (tree_claims p cuts target (line + 1 + line_count opened) (closed_child b k) closed) g h later)
+    (tree_claims p cuts target (line + 1 + line_count opened) (closed_child b k) closed) g h later)
 opened_holds p cuts target line b k opened closed (Some failure) g here none h later = absurd (let e : true ≡ false = none in cc)

@@ -26,10 +26,10 @@ pub routed_more : (p : Problem) (hubs : List ℕ) (i j total : ℕ) (r : ℕ × 
     → IsRouted p hubs (i * p.size + j) total → IsLeastRoute p hubs (i, j) r
     → IsRouted p hubs (i * p.size + (j + 1)) (total + route_cost p i j r.0 r.1)
 routed_more p hubs i j total r row column so_far here = record {
-      routes = so_far.routes ++ r ∷ [];
-      least = next_route (IsLeastRoute p hubs) p.size i j so_far.routes r row column so_far.least here;
-      sum = omega (arith, so_far.sum, next_cost p (IsLeastRoute p hubs) p.size i j so_far.routes r row column so_far.least);
-    }
+  routes = so_far.routes ++ r ∷ [];
+  least = next_route (IsLeastRoute p hubs) p.size i j so_far.routes r row column so_far.least here;
+  sum = omega (arith, so_far.sum, next_cost p (IsLeastRoute p hubs) p.size i j so_far.routes r row column so_far.least);
+}
 
 pub routed_at : (p : Problem) (hubs : List ℕ) (t s total : ℕ) → t ≡ s → IsRouted p hubs t total → IsRouted p hubs s total
 routed_at p hubs t s total e h = subst (λ (x : ℕ). IsRouted p hubs x total) e h
@@ -40,5 +40,5 @@ routed_all p hubs t total set all so_far =
     let whole : take t (commodities p.size) ≡ commodities p.size = take_all t (commodities p.size) (omega (arith, length_commodities p.size)) in
     let least = subst (λ (cs : List (ℕ × ℕ)). AllZip (IsLeastRoute p hubs) cs so_far.routes) whole so_far.least in
     let cost : plan_cost p (record { hubs = hubs; routes = so_far.routes }) ≡ total =
-      omega (arith, so_far.sum, ap (λ (cs : List (ℕ × ℕ)). routing_cost p cs so_far.routes) whole) in
+    omega (arith, so_far.sum, ap (λ (cs : List (ℕ × ℕ)). routing_cost p cs so_far.routes) whole) in
     subst (IsSetCost p hubs) cost (set_cost_is p hubs so_far.routes set least)

@@ -28,7 +28,7 @@ none_empty (x ∷ xs) b holds e = absurd (let h : true ≡ false = sym holds ∙
 -- all candidates are a hub set
 pub all_candidates : (p : Problem) (cs : List ℕ) → IsProblem p → cs ≡ p.candidates → IsHubSet p cs
 all_candidates p cs ok same = subst (IsHubSet p) (sym same) (record {
-      some_hub = ok.some_candidate;
-      ascend = ok.candidates_ascend;
-      are_candidates = All-contains_itself p.candidates;
-    })
+  some_hub = ok.some_candidate;
+  ascend = ok.candidates_ascend;
+  are_candidates = All-contains_itself p.candidates;
+})

@@ -23,9 +23,9 @@ pair_step f old all text next cs bs t c b below within is_c is_b more so_far =
     let rest = λ (m : ℕ). pair_lines f (drop m cs) (drop m bs) in
     let one : suc t ≡ t + 1 = omega arith in
     let split : pair_lines f (drop t cs) (drop t bs) ≡ line_bytes (f c b) ++ rest (t + 1) =
-      ap (λ xs. pair_lines f xs (drop t bs)) (drop-cons cs t (0, 0) below)
-      ∙ ap (λ ys. pair_lines f (get_or cs t (0, 0) ∷ drop (suc t) cs) ys) (drop-cons bs t b within)
-      ∙ ap₂ (λ x y. line_bytes (f x y) ++ rest (suc t)) is_c is_b ∙ ap (λ m. line_bytes (f c b) ++ rest m) one in
+    ap (λ xs. pair_lines f xs (drop t bs)) (drop-cons cs t (0, 0) below)
+    ∙ ap (λ ys. pair_lines f (get_or cs t (0, 0) ∷ drop (suc t) cs) ys) (drop-cons bs t b within)
+    ∙ ap₂ (λ x y. line_bytes (f x y) ++ rest (suc t)) is_c is_b ∙ ap (λ m. line_bytes (f c b) ++ rest m) one in
     ap (λ xs. xs ++ rest (t + 1)) more ∙ append_assoc text (line_bytes (f c b)) (rest (t + 1)) ∙ ap (λ xs. text ++ xs) (sym split) ∙ so_far
 
 pub pair_end : {B : Type 0} (f : ℕ × ℕ → B → Item) (old all text : List ℕ) (cs : List (ℕ × ℕ)) (bs : List B) (t : ℕ) → length cs ≤ t
@@ -39,11 +39,11 @@ pub cut_step : (n : ℕ) (old all text next : List ℕ) (cuts : List Cut) (i : �
 cut_step n old all text next cuts i cut below is more so_far =
     let one : suc i ≡ i + 1 = omega arith in
     let split : cut_lines n (i + 1) (drop i cuts)
-        ≡ flat_map line_bytes (cut_items n (i + 1, cut)) ++ cut_lines n (i + 1 + 1) (drop (i + 1) cuts) =
-      ap (cut_lines n (i + 1)) (drop-cons cuts i cut below)
-      ∙ ap (λ (x : Cut). cut_lines n (i + 1) (x ∷ drop (suc i) cuts)) (sym is)
-      ∙ ap (λ m. cut_lines n (i + 1) (cut ∷ drop m cuts)) one
-      ∙ flat_map-append line_bytes (cut_items n (i + 1, cut)) (flat_map (cut_items n) (enumerate_from (i + 1 + 1) (drop (i + 1) cuts))) in
+    ≡ flat_map line_bytes (cut_items n (i + 1, cut)) ++ cut_lines n (i + 1 + 1) (drop (i + 1) cuts) =
+    ap (cut_lines n (i + 1)) (drop-cons cuts i cut below)
+    ∙ ap (λ (x : Cut). cut_lines n (i + 1) (x ∷ drop (suc i) cuts)) (sym is)
+    ∙ ap (λ m. cut_lines n (i + 1) (cut ∷ drop m cuts)) one
+    ∙ flat_map-append line_bytes (cut_items n (i + 1, cut)) (flat_map (cut_items n) (enumerate_from (i + 1 + 1) (drop (i + 1) cuts))) in
     ap (λ xs. xs ++ cut_lines n (i + 1 + 1) (drop (i + 1) cuts)) more
     ∙ append_assoc text (flat_map line_bytes (cut_items n (i + 1, cut))) (cut_lines n (i + 1 + 1) (drop (i + 1) cuts))
     ∙ ap (λ xs. text ++ xs) (sym split) ∙ so_far
@@ -74,7 +74,7 @@ four_parts x y z v w a b c d e f g h =
 head_assoc : (a b c d x : List ℕ) → a ++ (b ++ (c ++ (d ++ x))) ≡ (a ++ (b ++ (c ++ (d ++ [])))) ++ x
 head_assoc a b c d x =
     sym (append_assoc a (b ++ (c ++ (d ++ []))) x ∙ ap (λ xs. a ++ xs) (append_assoc b (c ++ (d ++ [])) x
-      ∙ ap (λ xs. b ++ xs) (append_assoc c (d ++ []) x ∙ ap (λ xs. c ++ xs) (append_assoc d [] x))))
+    ∙ ap (λ xs. b ++ xs) (append_assoc c (d ++ []) x ∙ ap (λ xs. c ++ xs) (append_assoc d [] x))))
 
 pub text_parts : (k : Proof) → certificate_text k
     ≡ head_lines k ++ (line_bytes (says_hubs k.plan.hubs) ++ (pair_lines says_route (commodities k.size) k.plan.routes
@@ -89,11 +89,11 @@ text_parts k =
     let after_routes = says_cuts (length k.cuts) ∷ (cuts ++ after_cuts) in
     let hubs = line_bytes (says_hubs k.plan.hubs) in
     let last : flat_map line_bytes (tree ++ says_end ∷ []) ≡ tree_text k.tree ++ line_bytes says_end =
-      flat_map-append line_bytes tree (says_end ∷ []) ∙ ap (λ xs. tree_text k.tree ++ xs) (append-nil (line_bytes says_end)) in
+    flat_map-append line_bytes tree (says_end ∷ []) ∙ ap (λ xs. tree_text k.tree ++ xs) (append-nil (line_bytes says_end)) in
     let second = flat_map-append line_bytes cuts after_cuts
-      ∙ ap (λ xs. cut_lines k.size 1 k.cuts ++ (line_bytes (says_nodes (line_count k.tree)) ++ xs)) last in
+    ∙ ap (λ xs. cut_lines k.size 1 k.cuts ++ (line_bytes (says_nodes (line_count k.tree)) ++ xs)) last in
     let first = flat_map-append line_bytes routes after_routes
-      ∙ ap (λ xs. pair_lines says_route (commodities k.size) k.plan.routes ++ (line_bytes (says_cuts (length k.cuts)) ++ xs)) second in
+    ∙ ap (λ xs. pair_lines says_route (commodities k.size) k.plan.routes ++ (line_bytes (says_cuts (length k.cuts)) ++ xs)) second in
     ap (λ xs. line_bytes says_version ++ (line_bytes (says_size k.size k.candidates) ++ (line_bytes (says_cost k.cost)
-      ++ (line_bytes (says_bound k.bound) ++ (hubs ++ xs))))) first
+    ++ (line_bytes (says_bound k.bound) ++ (hubs ++ xs))))) first
     ∙ head_assoc (line_bytes says_version) (line_bytes (says_size k.size k.candidates)) (line_bytes (says_cost k.cost)) (line_bytes (says_bound k.bound)) _

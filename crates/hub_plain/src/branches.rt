@@ -147,7 +147,13 @@ fn mixed_loads(instance: &Instance, cuts: &[Cut], weights: &[(u64, u128)], nodes
 }
 
 /// The sum of what the mixed loads of these nodes exceed their weighted fixed costs by.
-fn losses(instance: &Instance, cuts: &[Cut], denom: u128, weights: &[(u64, u128)], nodes: &[u32]) -> u128
+fn losses(
+    instance: &Instance,
+    cuts: &[Cut],
+    denom: u128,
+    weights: &[(u64, u128)],
+    nodes: &[u32],
+) -> u128
     requires cuts { All (IsCut instance.now) cuts.now }
     requires denom { denom ≤ 10 ^ 6 }
     requires numbers { All (λ e. (1 ≤ e.0) × (e.0 ≤ length cuts.now)) weights.now }

@@ -25,7 +25,12 @@ pub fn root(alloc: Global, instance: &Instance) -> Result<Branch, AllocError>
 }
 
 /// The branch in which the free `k` is a hub.
-pub fn open_child(alloc: Global, instance: &Instance, branch: &Branch, k: u32) -> Result<Branch, AllocError>
+pub fn open_child(
+    alloc: Global,
+    instance: &Instance,
+    branch: &Branch,
+    k: u32,
+) -> Result<Branch, AllocError>
     requires branch { IsBranch instance.now branch.now }
     requires free { Contains branch.now.free k }
     ensures child { IfOk result (λ child. child ≡ open_child branch.now k) }
@@ -42,7 +47,12 @@ pub fn open_child(alloc: Global, instance: &Instance, branch: &Branch, k: u32) -
 }
 
 /// The branch in which the free `k` is closed.
-pub fn closed_child(alloc: Global, instance: &Instance, branch: &Branch, k: u32) -> Result<Branch, AllocError>
+pub fn closed_child(
+    alloc: Global,
+    instance: &Instance,
+    branch: &Branch,
+    k: u32,
+) -> Result<Branch, AllocError>
     requires branch { IsBranch instance.now branch.now }
     requires free { Contains branch.now.free k }
     ensures child { IfOk result (λ child. child ≡ closed_child branch.now k) }

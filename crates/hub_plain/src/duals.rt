@@ -79,7 +79,13 @@ fn lists_candidates(instance: &Instance, values: &[(u32, u128)]) -> bool
     true
 }
 
-fn is_covered_by_singles(instance: &Instance, i: u32, j: u32, a: u128, values: &[(u32, u128)]) -> bool
+fn is_covered_by_singles(
+    instance: &Instance,
+    i: u32,
+    j: u32,
+    a: u128,
+    values: &[(u32, u128)],
+) -> bool
     requires from { i < instance.now.size }
     requires to { j < instance.now.size }
     requires values { All IsValue values.now }
@@ -95,7 +101,14 @@ fn is_covered_by_singles(instance: &Instance, i: u32, j: u32, a: u128, values: &
     true
 }
 
-fn is_covered_by(instance: &Instance, i: u32, j: u32, a: u128, values: &[(u32, u128)], k: u32) -> bool
+fn is_covered_by(
+    instance: &Instance,
+    i: u32,
+    j: u32,
+    a: u128,
+    values: &[(u32, u128)],
+    k: u32,
+) -> bool
     requires from { i < instance.now.size }
     requires to { j < instance.now.size }
     requires values { All IsValue values.now }
@@ -121,7 +134,14 @@ fn is_covered_by_pairs(instance: &Instance, i: u32, j: u32, a: u128, values: &[(
     true
 }
 
-fn is_covered_from(instance: &Instance, i: u32, j: u32, a: u128, values: &[(u32, u128)], k: u32) -> bool
+fn is_covered_from(
+    instance: &Instance,
+    i: u32,
+    j: u32,
+    a: u128,
+    values: &[(u32, u128)],
+    k: u32,
+) -> bool
     requires from { i < instance.now.size }
     requires to { j < instance.now.size }
     requires values { All IsValue values.now }
@@ -138,7 +158,15 @@ fn is_covered_from(instance: &Instance, i: u32, j: u32, a: u128, values: &[(u32,
     true
 }
 
-fn is_covered(instance: &Instance, i: u32, j: u32, a: u128, values: &[(u32, u128)], k: u32, m: u32) -> bool
+fn is_covered(
+    instance: &Instance,
+    i: u32,
+    j: u32,
+    a: u128,
+    values: &[(u32, u128)],
+    k: u32,
+    m: u32,
+) -> bool
     requires from { i < instance.now.size }
     requires to { j < instance.now.size }
     requires values { All IsValue values.now }

@@ -190,7 +190,11 @@ fn leaf_failure(
     if !is_weight_within(denom, weights) {
         return Some((Kind::Weight, line));
     }
-    if !closes(denom, target, leaf_bound(instance, cuts, denom, weights, branch)) {
+    if !closes(
+        denom,
+        target,
+        leaf_bound(instance, cuts, denom, weights, branch),
+    ) {
         return Some((Kind::Leaf, line));
     }
     None

@@ -39,7 +39,11 @@ pub fn assign(alloc: Global, instance: &Instance, hubs: &[u32]) -> Result<Plan, 
     Ok(Plan { hubs, routes })
 }
 
-fn least_routes(alloc: Global, instance: &Instance, hubs: &[u32]) -> Result<Vec<(u32, u32)>, AllocError>
+fn least_routes(
+    alloc: Global,
+    instance: &Instance,
+    hubs: &[u32],
+) -> Result<Vec<(u32, u32)>, AllocError>
     requires { IsHubSet instance.now hubs.now }
     ensures { IfOk result (λ routes. AllZip (IsLeastRoute instance.now hubs.now) (commodities instance.now.size) routes.items) }
 {

@@ -20,7 +20,13 @@ pub fn best_plan(alloc: Global, instance: &Instance) -> Result<Plan, AllocError>
 }
 
 /// The cheapest of this plan and all plans whose hubs among the first `at` candidates are these.
-fn best_with(alloc: Global, instance: &Instance, at: usize, inside: &[u32], best: Plan) -> Result<Plan, AllocError>
+fn best_with(
+    alloc: Global,
+    instance: &Instance,
+    at: usize,
+    inside: &[u32],
+    best: Plan,
+) -> Result<Plan, AllocError>
     requires at { at ≤ length instance.now.candidates }
     requires inside { AreFirstHubs instance.now.candidates at inside.now }
     requires best { IsPlan instance.now best }

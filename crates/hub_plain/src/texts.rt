@@ -37,7 +37,12 @@ pub fn certificate_text(alloc: Global, certificate: &Certificate) -> Result<Vec<
 }
 
 /// Adds a line: a word, and numbers in decimal, with one space before each.
-fn push_line(alloc: Global, text: &mut Vec<u8>, word: &[u8], numbers: &[u128]) -> Result<(), AllocError>
+fn push_line(
+    alloc: Global,
+    text: &mut Vec<u8>,
+    word: &[u8],
+    numbers: &[u128],
+) -> Result<(), AllocError>
     ensures { IfOk result (λ _. text.new.items ≡ text.old.items ++ (join_with_byte 32 (word.now ∷ map decimal numbers.now) ++ 10 ∷ [])) }
 {
     text.extend_from_slice(word)?;
@@ -55,7 +60,12 @@ fn push_head(alloc: Global, text: &mut Vec<u8>, certificate: &Certificate) -> Re
     ensures { IfOk result (λ _. text.new.items ≡ text.old.items ++ head_lines (proof_of certificate.now)) }
 {
     push_line(alloc, text, b"HUBCERT", &[1])?;
-    push_line(alloc, text, b"size", &[certificate.size as u128, certificate.candidates as u128])?;
+    push_line(
+        alloc,
+        text,
+        b"size",
+        &[certificate.size as u128, certificate.candidates as u128],
+    )?;
     push_line(alloc, text, b"cost", &[certificate.cost])?;
     push_line(alloc, text, b"bound", &[certificate.bound])?;
     Ok(())
@@ -105,7 +115,12 @@ fn push_hubs(alloc: Global, text: &mut Vec<u8>, hubs: &[u32]) -> Result<(), Allo
     Ok(())
 }
 
-fn push_routes(alloc: Global, text: &mut Vec<u8>, n: u32, routes: &[(u32, u32)]) -> Result<(), AllocError>
+fn push_routes(
+    alloc: Global,
+    text: &mut Vec<u8>,
+    n: u32,
+    routes: &[(u32, u32)],
+) -> Result<(), AllocError>
     requires size { n ≤ 200 }
     requires one_for_each { length routes.now ≡ n * n }
     ensures { IfOk result (λ _. text.new.items ≡ text.old.items ++ pair_lines says_route (commodities n) routes.now) }
@@ -118,10 +133,22 @@ fn push_routes(alloc: Global, text: &mut Vec<u8>, n: u32, routes: &[(u32, u32)])
 }
 
 #[tactic(auto, unfolding(hub_spec::specs::Lines::line_text))]
-fn push_route(alloc: Global, text: &mut Vec<u8>, i: u32, j: u32, first: u32, last: u32) -> Result<(), AllocError>
+fn push_route(
+    alloc: Global,
+    text: &mut Vec<u8>,
+    i: u32,
+    j: u32,
+    first: u32,
+    last: u32,
+) -> Result<(), AllocError>
     ensures { IfOk result (λ _. text.new.items ≡ text.old.items ++ line_bytes (says_route (i, j) (first, last))) }
 {
-    let numbers = [i as u128 + 1, j as u128 + 1, first as u128 + 1, last as u128 + 1];
+    let numbers = [
+        i as u128 + 1,
+        j as u128 + 1,
+        first as u128 + 1,
+        last as u128 + 1,
+    ];
     push_line(alloc, text, b"route", &numbers)?;
     Ok(())
 }
@@ -137,7 +164,13 @@ fn push_cuts(alloc: Global, text: &mut Vec<u8>, n: u32, cuts: &[Cut]) -> Result<
     Ok(())
 }
 
-fn push_cut(alloc: Global, text: &mut Vec<u8>, n: u32, number: u64, cut: &Cut) -> Result<(), AllocError>
+fn push_cut(
+    alloc: Global,
+    text: &mut Vec<u8>,
+    n: u32,
+    number: u64,
+    cut: &Cut,
+) -> Result<(), AllocError>
     requires size { n ≤ 200 }
     requires one_for_each { length cut.now.duals ≡ n * n }
     ensures { IfOk result (λ _. text.new.items ≡ text.old.items ++ flat_map line_bytes (cut_items n (number, cut.now))) }
@@ -159,7 +192,13 @@ fn push_duals(alloc: Global, text: &mut Vec<u8>, n: u32, duals: &[Dual]) -> Resu
 }
 
 #[tactic(auto, unfolding(hub_spec::specs::Lines::line_text))]
-fn push_dual(alloc: Global, text: &mut Vec<u8>, i: u32, j: u32, dual: &Dual) -> Result<(), AllocError>
+fn push_dual(
+    alloc: Global,
+    text: &mut Vec<u8>,
+    i: u32,
+    j: u32,
+    dual: &Dual,
+) -> Result<(), AllocError>
     ensures { IfOk result (λ _. text.new.items ≡ text.old.items ++ line_bytes (says_dual (i, j) dual.now)) }
 {
     let numbers = dual_numbers(alloc, i, j, dual)?;
@@ -241,7 +280,12 @@ fn push_branch(alloc: Global, text: &mut Vec<u8>, candidate: u32) -> Result<(), 
 }
 
 #[tactic(auto, unfolding(hub_spec::specs::Lines::line_text))]
-fn push_leaf(alloc: Global, text: &mut Vec<u8>, denom: u128, weights: &[(u64, u128)]) -> Result<(), AllocError>
+fn push_leaf(
+    alloc: Global,
+    text: &mut Vec<u8>,
+    denom: u128,
+    weights: &[(u64, u128)],
+) -> Result<(), AllocError>
     ensures { IfOk result (λ _. text.new.items ≡ text.old.items ++ line_bytes (says_tree (leaf_of denom weights.now))) }
 {
     let mut numbers = Vec::new(alloc);

@@ -61,7 +61,9 @@ pub fn is_sound(
             let is_closed_sound = is_sound(alloc, instance, cuts, target, &close, closed)?;
             Ok(is_closed_sound)
         }
-        Tree::Leaf { denom, weights } => Ok(is_leaf_sound(instance, cuts, target, branch, *denom, weights)),
+        Tree::Leaf { denom, weights } => Ok(is_leaf_sound(
+            instance, cuts, target, branch, *denom, weights,
+        )),
         Tree::Empty => Ok(is_closed(branch)),
     }
 }
@@ -90,15 +92,17 @@ fn is_leaf_sound(
     requires cuts { All (IsCut instance.now) cuts.now }
     requires target { target < 10 ^ 30 }
     requires branch { IsBranch instance.now branch.now }
-    ensures {
-        IsTrue result
-            ↔ (IsMix cuts.now denom weights.now × Closes denom target (leaf_bound instance.now cuts.now denom weights.now branch.now))
-    }
+    ensures { IsTrue result
+        ↔ (IsMix cuts.now denom weights.now × Closes denom target (leaf_bound instance.now cuts.now denom weights.now branch.now)) }
 {
     if !is_mix(cuts, denom, weights) {
         return false;
     }
-    closes(denom, target, leaf_bound(instance, cuts, denom, weights, branch))
+    closes(
+        denom,
+        target,
+        leaf_bound(instance, cuts, denom, weights, branch),
+    )
 }
 
 /// Tells whether these are weights on the cuts, of total at most the denominator.

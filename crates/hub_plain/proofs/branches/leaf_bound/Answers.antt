@@ -26,11 +26,11 @@ returns c =
     let inside2 : c.deref-2.result.now ≡ b.inside = c.deref-2.ensures.value ∙ ap (λ b. b.inside) c.branch.view_is in
     let free : c.deref-3.result.now ≡ b.free = c.deref-3.ensures.value ∙ ap (λ b. b.free) c.branch.view_is in
     let costs : c.weighted_costs-costs.result ≡ sum_by (λ k. c.args.denom * fixed_cost p k) b.inside =
-      c.weighted_costs-costs.ensures.value ∙ ap (sum_by (λ k. c.args.denom * fixed_cost p k)) inside1 in
+    c.weighted_costs-costs.ensures.value ∙ ap (sum_by (λ k. c.args.denom * fixed_cost p k)) inside1 in
     let loads : c.mixed_loads-loads.result ≡ sum_by (mixed_load c.args.cuts.now c.args.weights.now) b.inside =
-      c.mixed_loads-loads.ensures.value ∙ ap (sum_by (mixed_load c.args.cuts.now c.args.weights.now)) inside2 in
+    c.mixed_loads-loads.ensures.value ∙ ap (sum_by (mixed_load c.args.cuts.now c.args.weights.now)) inside2 in
     let losses : c.losses-losses.result ≡ sum_by (λ k. mixed_load c.args.cuts.now c.args.weights.now k - c.args.denom * fixed_cost p k) b.free =
-      c.losses-losses.ensures.value ∙ ap (sum_by (λ k. mixed_load c.args.cuts.now c.args.weights.now k - c.args.denom * fixed_cost p k)) free in
+    c.losses-losses.ensures.value ∙ ap (sum_by (λ k. mixed_load c.args.cuts.now c.args.weights.now k - c.args.denom * fixed_cost p k)) free in
     let more = ap₂ (λ x y. x + y) c.mixed_total-base.ensures.value costs in
     let less = ap₂ (λ x y. x + y) loads losses in
     let fits : FitsSigned w128 c.difference.result = search rules in

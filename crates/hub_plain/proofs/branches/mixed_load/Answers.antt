@@ -14,8 +14,8 @@ overflow_mul-sum c =
 pub overflow_add-sum : goal.overflow_add-sum
 overflow_add-sum c =
     let h = mixed_limit (λ n. load (cut_at c.args.cuts.now n) c.args.k) c.args.weights.now (c.loop-entry.entry-index + 1) _ c.requires.most
-      (mixed_next (λ n. load (cut_at c.args.cuts.now n) c.args.k) c.args.weights.now c.loop-entry.entry-index c.loop-entry.sum c.load_at.result c.loop-entry-test.true
-        c.load_at.ensures.limit c.load_at.ensures.value c.loop-entry.invariant) in
+    (mixed_next (λ n. load (cut_at c.args.cuts.now n) c.args.k) c.args.weights.now c.loop-entry.entry-index c.loop-entry.sum c.load_at.result c.loop-entry-test.true
+    c.load_at.ensures.limit c.load_at.ensures.value c.loop-entry.invariant) in
     omega (arith, h)
 
 pub loop-entry-preserved : goal.loop-entry-preserved

@@ -18,5 +18,5 @@ loop-t-preserved c =
 pub returns : goal.returns
 returns c =
     let all = duals_all c.args.instance.now c.args.duals.now c.size-n.result c.loop-t.t
-      c.size-n.ensures.value c.loop-t-test.false c.if-duals-n.false c.loop-t.invariant in
+    c.size-n.ensures.value c.loop-t-test.false c.if-duals-n.false c.loop-t.invariant in
     (λ _. all, λ _. refl)

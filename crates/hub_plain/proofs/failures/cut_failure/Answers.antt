@@ -14,7 +14,7 @@ returns-in-Some-clause-first c =
     early (dual_claims p (c.args.line + 1) (commodities p.size) c.args.cut.now.duals)
     (claim Sum (c.args.line + p.size * p.size) (IsWithinSums p c.args.cut.now) ∷ []) (kind_of c.in-Some.failure.0) c.in-Some.failure.1
     (subst (λ (ds : List Prices). FailsFirst (dual_claims p (c.args.line + 1) (commodities p.size) ds) (kind_of c.in-Some.failure.0) c.in-Some.failure.1)
-      duals c.in-Some.ensures)
+    duals c.in-Some.ensures)
 
 pub returns-then-not-is_within_sums-clause-first : goal.returns-then-not-is_within_sums-clause-first
 returns-then-not-is_within_sums-clause-first c =
@@ -24,8 +24,11 @@ returns-then-not-is_within_sums-clause-first c =
     (claim Sum (c.args.line + p.size * p.size) (IsWithinSums p c.args.cut.now) ∷ [])
     (Some (code.Sum, c.args.line + c.size-n.result * c.size-n.result))
     (subst (λ (ds : List Prices). AllHold (dual_claims p (c.args.line + 1) (commodities p.size) ds)) duals c.in_default.ensures)
-    (inl (not_by c.is_within_sums.result c.is_within_sums.ensures c.if-not-is_within_sums.true, refl,
-      ap (λ m. c.args.line + m * m) (sym c.size-n.ensures.value)))
+    (inl (
+      not_by c.is_within_sums.result c.is_within_sums.ensures c.if-not-is_within_sums.true,
+      refl,
+      ap (λ m. c.args.line + m * m) (sym c.size-n.ensures.value),
+    ))
 
 pub returns-clause-first : goal.returns-clause-first
 returns-clause-first c =

@@ -20,11 +20,11 @@ loop-i-preserved c =
     record {
       line = omega (arith, square, c.loop-i.invariant.line);
       rest = reduces_same _ (cut_claims p c.args.line c.args.cuts.now) _
-        (ap (λ m. cut_claims p (c.loop-i.at + (m + 1)) (drop (c.loop-i.i + 1) c.args.cuts.now)) (sym square))
-        (part_holds (cut_claims p c.args.line c.args.cuts.now) _ (one_cut p c.loop-i.at c.index-cuts-i.result) _ c.loop-i.invariant.rest
+          (ap (λ m. cut_claims p (c.loop-i.at + (m + 1)) (drop (c.loop-i.i + 1) c.args.cuts.now)) (sym square))
+          (part_holds (cut_claims p c.args.line c.args.cuts.now) _ (one_cut p c.loop-i.at c.index-cuts-i.result) _ c.loop-i.invariant.rest
           (cut_claims_at p c.loop-i.at c.args.cuts.now c.loop-i.i c.index-cuts-i.result c.loop-i-test.true c.index-cuts-i.is) c.in_default.ensures.first);
       are_cuts = All-more (IsCut p) c.args.cuts.now c.loop-i.i c.index-cuts-i.result c.loop-i-test.true c.loop-i.invariant.are_cuts
-        (subst (IsCut p) c.index-cuts-i.is (c.in_default.ensures.is_cut refl));
+          (subst (IsCut p) c.index-cuts-i.is (c.in_default.ensures.is_cut refl));
     }
 
 pub returns-clause-are_cuts : goal.returns-clause-are_cuts

@@ -8,5 +8,5 @@ abbrev pub invariant-loop-i : goal.invariant-loop-i
 invariant-loop-i l = record {
   line : l.at ≡ l.line + l.i * (l.instance.size * l.instance.size + 1);
   rest : Reduces (cut_claims l.instance l.line l.cuts) (cut_claims l.instance l.at (drop l.i l.cuts));
-  are_cuts : All (IsCut l.instance) (take l.i l.cuts)
+  are_cuts : All (IsCut l.instance) (take l.i l.cuts);
 }

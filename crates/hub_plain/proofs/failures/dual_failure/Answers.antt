@@ -30,8 +30,8 @@ returns-then-not-is_dual c =
     let at = (goal.at.returns-then-not-is_dual c).In-loop-t in
     fails_here (dual_claims p c.args.line (commodities p.size) c.args.duals.now) _ _ _ code.Dual c.loop-t.invariant
     (dual_claims_at p c.args.line (commodities p.size) c.args.duals.now c.loop-t.t _ c.index-duals-t.result
-      (omega (arith, below at, length_commodities p.size)) (omega (arith, below at, c.requires.one_for_each))
-      (commodity at) (sym c.index-duals-t.is))
+    (omega (arith, below at, length_commodities p.size)) (omega (arith, below at, c.requires.one_for_each))
+    (commodity at) (sym c.index-duals-t.is))
     (not_by c.is_dual.result c.is_dual.ensures c.if-not-is_dual.true) refl
 
 pub loop-t-preserved : goal.loop-t-preserved
@@ -40,8 +40,8 @@ loop-t-preserved c =
     let at = (goal.at.loop-t-preserved c).In-loop-t in
     goes_on (dual_claims p c.args.line (commodities p.size) c.args.duals.now) _ _ _ c.loop-t.invariant
     (dual_claims_at p c.args.line (commodities p.size) c.args.duals.now c.loop-t.t _ c.index-duals-t.result
-      (omega (arith, below at, length_commodities p.size)) (omega (arith, below at, c.requires.one_for_each))
-      (commodity at) (sym c.index-duals-t.is))
+    (omega (arith, below at, length_commodities p.size)) (omega (arith, below at, c.requires.one_for_each))
+    (commodity at) (sym c.index-duals-t.is))
     (c.is_dual.ensures.0 c.if-not-is_dual.false)
 
 pub returns : goal.returns
@@ -50,4 +50,4 @@ returns c =
     let square : c.size-n.result * c.size-n.result ≡ p.size * p.size = ap (λ m. m * m) c.size-n.ensures.value in
     none_left (dual_claims p c.args.line (commodities p.size) c.args.duals.now) _ c.loop-t.invariant
     (ap (λ cs. dual_claims p (c.args.line + c.loop-t.t) cs (drop c.loop-t.t c.args.duals.now))
-      (drop_all c.loop-t.t (commodities p.size) (omega (arith, length_commodities p.size, square, c.loop-t-test.false))))
+    (drop_all c.loop-t.t (commodities p.size) (omega (arith, length_commodities p.size, square, c.loop-t-test.false))))

@@ -16,7 +16,7 @@ routes c =
     subst (λ (hs : List ℕ). IsFirstFailure (route_claims hs 6 c.args.plan.now.routes) c.route_failure-in_routes.result)
     (c.deref-2.ensures.value ∙ ap (λ p. p.hubs) c.plan.view_is)
     (subst (λ (rs : List (ℕ × ℕ)). IsFirstFailure (route_claims c.deref-2.result.now 6 rs) c.route_failure-in_routes.result)
-      (c.deref-3.ensures.value ∙ ap (λ p. p.routes) c.plan.view_is) c.route_failure-in_routes.ensures)
+    (c.deref-3.ensures.value ∙ ap (λ p. p.routes) c.plan.view_is) c.route_failure-in_routes.ensures)
 
 pub returns-then-not-are_candidates : goal.returns-then-not-are_candidates
 returns-then-not-are_candidates c =

@@ -13,14 +13,15 @@ pub returns-then-routes-n : goal.returns-then-routes-n
 returns-then-routes-n c =
     let p = c.args.instance.now in
     let square : c.size-n.result * c.size-n.result ≡ p.size * p.size = ap (λ n. n * n) c.size-n.ensures.value in
-    let long : length c.args.routes.now ≡ length (commodities p.size) = omega (arith, length_commodities p.size, square, c.if-routes-n.true) in
-    (λ h. routes_from_all p c.args.hubs.now (commodities p.size) c.args.routes.now long (c.go_through.ensures.0 h)
-    , λ h. c.go_through.ensures.1 (all_from_routes p c.args.hubs.now (commodities p.size) c.args.routes.now h))
+    let long : length c.args.routes.now ≡ length (commodities p.size) = omega (arith, length_commodities p.size, square, c.if-routes-n.true) in (
+      λ h. routes_from_all p c.args.hubs.now (commodities p.size) c.args.routes.now long (c.go_through.ensures.0 h),
+      λ h. c.go_through.ensures.1 (all_from_routes p c.args.hubs.now (commodities p.size) c.args.routes.now h),
+    )
 
 pub returns-else-routes-n : goal.returns-else-routes-n
 returns-else-routes-n c =
     let p = c.args.instance.now in
     let square : c.size-n.result * c.size-n.result ≡ p.size * p.size = ap (λ n. n * n) c.size-n.ensures.value in
     let other = λ (h : AllZip (IsRoute p c.args.hubs.now) (commodities p.size) c.args.routes.now).
-      c.if-routes-n.false (omega (arith, length_commodities p.size, square, length_all_zip (IsRoute p c.args.hubs.now) (commodities p.size) c.args.routes.now h)) in
+    c.if-routes-n.false (omega (arith, length_commodities p.size, square, length_all_zip (IsRoute p c.args.hubs.now) (commodities p.size) c.args.routes.now h)) in
     neither (nat_eq (length c.args.routes.now) (c.size-n.result * c.size-n.result)) (ne_eqb _ _ c.if-routes-n.false) other

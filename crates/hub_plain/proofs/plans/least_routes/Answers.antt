@@ -11,7 +11,7 @@ loop-j-preserved c =
     let p = c.args.instance.now in
     rw c.in_ok-push.ensures.items
     (next_route (IsLeastRoute p c.args.hubs.now) p.size c.loop-i.i c.loop-j.j c.loop-j.routes.items
-      (c.least_route-route.result.first, c.least_route-route.result.last) (omega arith) (omega arith) c.loop-j.invariant c.least_route-route.ensures.least)
+    (c.least_route-route.result.first, c.least_route-route.result.last) (omega arith) (omega arith) c.loop-j.invariant c.least_route-route.ensures.least)
 
 pub returns : goal.returns
 returns c =

@@ -22,4 +22,4 @@ returns c =
     optimal_incumbent p c.in_ok-best.best (plan_cost p c.in_ok-best.best) c.limits.ensures
     (record { is_plan = c.in_ok-best.ensures.plan; cost = refl })
     (subst (λ (hs : List ℕ). NoneCheaper p 0 hs (plan_cost p c.in_ok-best.best)) (c.deref.ensures.value ∙ c.new-none.ensures.items)
-      c.in_ok-best.ensures.least)
+    c.in_ok-best.ensures.least)

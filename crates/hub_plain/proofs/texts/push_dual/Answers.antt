@@ -8,4 +8,4 @@ unfolding line_text
 returns c =
     c.in_ok-push_line.ensures
     ∙ ap (λ ns. c.args.text.now.items ++ (join_with_byte 32 (codes "dual" ∷ map decimal ns) ++ 10 ∷ []))
-      (c.deref.ensures.value ∙ c.in_ok-numbers.ensures)
+    (c.deref.ensures.value ∙ c.in_ok-numbers.ensures)

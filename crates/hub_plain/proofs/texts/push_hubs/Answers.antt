@@ -9,4 +9,4 @@ unfolding line_text
 returns c =
     c.in_ok-push_line.ensures
     ∙ ap (λ ns. c.args.text.now.items ++ (join_with_byte 32 (codes "hubs" ∷ map decimal ns) ++ 10 ∷ []))
-      (c.deref.ensures.value ∙ c.loop-k.invariant ∙ ap (map (λ k. k + 1)) (take_all c.loop-k.k-index c.args.hubs.now c.loop-k-test.false))
+    (c.deref.ensures.value ∙ c.loop-k.invariant ∙ ap (map (λ k. k + 1)) (take_all c.loop-k.k-index c.args.hubs.now c.loop-k-test.false))

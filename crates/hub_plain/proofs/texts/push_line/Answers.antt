@@ -10,6 +10,6 @@ returns c =
     let word = c.args.word.now in
     c.in_ok-push-2.ensures.items
     ∙ ap (λ xs. xs ++ 10 ∷ []) (c.loop-number.invariant
-      ∙ ap (λ ns. old ++ (word ++ flat_map (λ n. 32 ∷ decimal n) ns)) (take_all c.loop-number.number-index c.args.numbers.now c.loop-number-test.false)
-      ∙ ap (λ xs. old ++ xs) (sym (joined word c.args.numbers.now)))
+    ∙ ap (λ ns. old ++ (word ++ flat_map (λ n. 32 ∷ decimal n) ns)) (take_all c.loop-number.number-index c.args.numbers.now c.loop-number-test.false)
+    ∙ ap (λ xs. old ++ xs) (sym (joined word c.args.numbers.now)))
     ∙ append_assoc old (join_with_byte 32 (word ∷ map decimal c.args.numbers.now)) (10 ∷ [])
