@@ -28,3 +28,6 @@ pub use routes::{Route, least_route, set_cost};
 pub use sets::best_plan;
 pub use texts::certificate_text;
 pub use trees::{Tree, is_mix, is_sound};
+
+#[cfg(test)]
+mod tests;
