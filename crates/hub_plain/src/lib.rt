@@ -18,6 +18,7 @@ mod trees;
 
 pub use branches::{Branch, leaf_bound};
 pub use certificates::Certificate;
+pub use children::{closed_child, open_child, root};
 pub use cuts::{Cut, is_cut, is_within_sums};
 pub use duals::{Dual, is_dual};
 pub use failures::first_failure;
