@@ -30,5 +30,7 @@ pub use sets::best_plan;
 pub use texts::certificate_text;
 pub use trees::{Tree, is_mix, is_sound};
 
+mod ranges;
+
 #[cfg(test)]
 mod tests;

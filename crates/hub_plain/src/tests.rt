@@ -1,9 +1,7 @@
 //! Answers worked out by hand.
 
-mod ranges;
-
 use super::*;
-use ranges::is_in_range;
+use crate::ranges::is_in_range;
 use std::alloc::{AllocError, Global};
 use std::test::Fail;
 
