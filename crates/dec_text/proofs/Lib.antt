@@ -1,1 +1,5 @@
 pub mod Turns
+pub mod Marks
+pub mod Values
+pub mod Exponents
+pub mod Rows

@@ -1,8 +1,8 @@
 -- How the tokens of bytes come in turn: separators are passed over, and then the first token is the bytes up to the next one.
-use Rattle.std.proofs.Common.{◌≡◌, ℕ, zero, suc, ◌+◌, ◌-◌, ◌<◌, ◌≤◌, Bool, true, false, not, List, [], ◌∷◌, length, take, drop, refl, sym, ◌∙◌, ap, ap₂, subst, arith, drop-drop, cond}
+use Rattle.std.proofs.Common.{◌≡◌, ℕ, zero, suc, ◌+◌, ◌-◌, ◌<◌, Bool, true, false, not, List, [], ◌∷◌, take, drop, refl, sym, ◌∙◌, ap, ap₂, arith, drop-drop}
 use Rattle.std.specs.List.{prefix_len, position_or_len}
 use Rattle.std.proofs.lemmas.Bool.{cond-true, cond-false, not_from_true, not_from_false}
-use Rattle.text_spec.specs.Tokens.{Token, is_separator, begins_inside, with_byte, runs}
+use Rattle.text_spec.specs.Tokens.{is_separator, begins_inside, with_byte, runs}
 
 runs_separator : (place b : ℕ) (bytes : List ℕ) → is_separator b ≡ true → runs place (b ∷ bytes) ≡ runs (place + 1) bytes
 runs_separator place b bytes e = cond-true (is_separator b) _ _ e
@@ -61,7 +61,7 @@ first_step false place (suc n) b bytes e h more =
     let long : position_or_len is_separator bytes ≡ suc n = omega (arith, token_more b bytes e) in
     let at : place + 1 + suc n ≡ place + suc (suc n) = omega arith in
     runs_inside place b bytes e ∙ (ap₂ (λ j ts. with_byte j place b ts) (starts_inside n bytes long) (more n long)
-        ∙ ap (λ k. (place, b ∷ take (suc n) bytes) ∷ runs k (drop (suc n) bytes)) at)
+    ∙ ap (λ k. (place, b ∷ take (suc n) bytes) ∷ runs k (drop (suc n) bytes)) at)
 
 first : (place n : ℕ) (bytes : List ℕ) → position_or_len is_separator bytes ≡ suc n → runs place bytes ≡ (place, take (suc n) bytes) ∷ runs (place + suc n) (drop (suc n) bytes)
 first place n [] h = absurd (omega arith)
@@ -103,4 +103,4 @@ next_token bytes place start end at till more =
     let len : suc n ≡ end - start = omega arith in
     let last : start + suc n ≡ end = omega arith in
     runs_from_start bytes place start at ∙ (first start n (drop start bytes) (omega arith)
-        ∙ ap₂ (λ k bs. (start, take k (drop start bytes)) ∷ bs) len (ap₂ runs last (drop-drop (suc n) start bytes ∙ ap (λ k. drop k bytes) last)))
+    ∙ ap₂ (λ k bs. (start, take k (drop start bytes)) ∷ bs) len (ap₂ runs last (drop-drop (suc n) start bytes ∙ ap (λ k. drop k bytes) last)))

@@ -27,9 +27,11 @@ impl<'a> Tokens<'a> {
 impl<'a> Iterator for Tokens<'a> {
     ghost use Rattle.std.specs.Iterator.{YieldsFirstBy, item_count};
     ghost use Rattle.dec_text.specs.Views.{tokens_left};
+
     type Item = (usize, &'a [u8]);
 
     ghost next_gives = { YieldsFirstBy (λ t. (t.0, t.1.now)) tokens_left };
+
     ghost remaining = { item_count tokens_left };
 
     fn next(&mut self) -> Option<(usize, &'a [u8])> {

@@ -1,5 +1,5 @@
 -- The instance options that the words of a command give.
-use Rattle.std.specs.Prelude.{ℕ, ◌+◌, ◌^◌, ◌<◌, ◌≤◌, Bool, List, length, All, Option, IfSome}
+use Rattle.std.specs.Prelude.{ℕ, ◌^◌, ◌<◌, ◌≤◌, Bool, List, length, All, Option, IfSome}
 use Rattle.std.specs.List.Sorted.{IsStrictlyIncreasing}
 
 -- the layouts of an instance file

@@ -1,9 +1,9 @@
 -- What each token of a file is to be, by its number, counted from 1, and what is wrong with one that is not.
-use Rattle.std.specs.Prelude.{ℕ, zero, ◌+◌, ◌-◌, ◌*◌, ◌^◌, List, ℤ, pos, negsuc, Option, Some, None, nat_le, nat_lt, if◌then◌else◌, ◌&&◌}
+use Rattle.std.specs.Prelude.{ℕ, ◌+◌, ◌-◌, ◌*◌, ◌^◌, List, ℤ, pos, negsuc, Option, Some, None, nat_le, nat_lt, if◌then◌else◌, ◌&&◌}
 use Rattle.std.specs.List.{slice_get}
 use Rattle.text_spec.specs.Tokens.{Token}
 use Rattle.text_spec.specs.Numbers.{decimal_value}
-use Rattle.file_spec.specs.Options.{Layout, cab_matrix, Order, flow_first, distance_first, Options}
+use Rattle.file_spec.specs.Options.{Layout, cab_matrix, Order, flow_first, distance_first}
 use Rattle.file_spec.specs.Faults.{Fault, bad_number, missing_token, extra, bad_size, negative, too_big}
 
 -- what a token is to be

@@ -1,2 +1,3 @@
+mod Files
 pub mod Puts
 pub mod Through

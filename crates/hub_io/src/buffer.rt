@@ -1,5 +1,5 @@
 // Many small puts joined into few large ones.
-ghost use Rattle.std.specs.Prelude.{◌≡◌, ◌+◌, ◌<◌, ◌≤◌, ℕ, List, [], ◌++◌, length, take, OnOk};
+ghost use Rattle.std.specs.Prelude.{◌≡◌, ◌+◌, ◌<◌, ◌≤◌, [], ◌++◌, length, OnOk};
 ghost use Rattle.hub_io.specs.Outside.{PutsThrough};
 
 use crate::{Failed, Sink};
@@ -18,11 +18,14 @@ pub struct Buffer {
 }
 
 impl Model for Buffer {
+    ghost use Rattle.std.specs.Prelude.{◌≤◌, ℕ, List, take};
+    ghost use Rattle.hub_io.specs.declared.buffer.TheConstants.{SIZE};
+
     ghost Value = { List ℕ };
 
     ghost view = { λ b. take b.count b.bytes };
 
-    ghost invariant = { λ b. b.count ≤ 8192 };
+    ghost invariant = { λ b. b.count ≤ SIZE };
 }
 
 impl Buffer {
@@ -65,8 +68,8 @@ impl Buffer {
     // Where a piece of that many bytes doesn't fit behind what waits, puts what waits.
     fn make_room<K: Sink>(&mut self, count: usize, sink: &mut K) -> Result<(), Failed>
         ensures through { PutsThrough K.taken K.faults sink.old sink.new self.old self.new result [] }
-        ensures fits { OnOk result (count ≤ 8192 → length self.new + count ≤ 8192) }
-        ensures too_long { OnOk result (8192 < count → self.new ≡ []) }
+        ensures fits { OnOk result (count ≤ SIZE → length self.new + count ≤ SIZE) }
+        ensures too_long { OnOk result (SIZE < count → self.new ≡ []) }
     {
         if count <= SIZE - self.count {
             return Ok(());
@@ -76,7 +79,7 @@ impl Buffer {
 
     // Lets a piece wait behind what waits.
     fn keep(&mut self, piece: &[u8])
-        requires { length self.old + length piece.now ≤ 8192 }
+        requires { length self.old + length piece.now ≤ SIZE }
         ensures { self.new ≡ self.old ++ piece.now }
     {
         let end = self.count + piece.len();

@@ -1,18 +1,39 @@
-//! The outside of the program as objects that are passed in: where files are read, where texts are put, and where workers wait.
+//! The outside of the program, as objects that are passed in: where files are read, where texts are put,
+//! and where workers pass.
 //!
-//! * [`Shelf`] gives the bytes of named files, [`Sink`] takes bytes. Either may tell what it holds and
-//!   counts its faults, so that a contract can say what was read, what was taken, and that nothing failed
-//!   without a cause outside.
-//! * [`Buffer`] joins many small puts into few large ones.
-//! * [`Gate`] is where each worker passes before each block of its work; [`OpenGate`] lets all pass.
+//! - [`Shelf`] gives the bytes of named files, and [`Sink`] takes bytes. Either may tell in contracts what
+//!   it holds or took, and each counts its faults: so a contract can say what was read and what was taken,
+//!   and that nothing failed without a cause outside.
+//! - [`read_whole`] reads a file up to a limit.
+//! - [`Buffer`] joins many small puts into few large ones.
+//! - [`Gate`] is where a worker passes before each block of its work. [`OpenGate`] lets all pass.
+//! - [`MemShelf`] with its [`MemFile`]s, and [`MemSink`], are in memory, and fail where they are told to:
+//!   at the calls of a list, and at each [`Partial`] put.
 #![tactic(auto)]
 
-mod buffer;
-mod gate;
+// Where files are read.
 mod shelf;
+mod whole;
+
+// Where texts are put.
 mod sink;
+
+// Many small puts joined into few.
+mod buffer;
+
+// Where workers pass.
+mod gate;
+
+// In memory.
+mod mem_shelf;
+mod mem_sink;
+#[cfg(test)]
+mod tests;
 
 pub use buffer::Buffer;
 pub use gate::{Gate, OpenGate};
+pub use mem_shelf::{MemFile, MemShelf};
+pub use mem_sink::{MemSink, Partial};
 pub use shelf::{Failed, Shelf};
 pub use sink::Sink;
+pub use whole::{ReadEnd, read_whole};

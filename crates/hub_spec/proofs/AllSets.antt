@@ -1,5 +1,5 @@
 -- Steps of a search through all sets of candidates, one candidate after another.
-use Rattle.std.proofs.Common.{◌≡◌, ℕ, ◌+◌, ◌<◌, ◌≤◌, Bool, false, cond, List, [], ◌∷◌, ◌++◌, length, get_or, take, filter, nat_eq, All, Contains, refl, ap, ap₂, sym, ◌∙◌, subst, eq-eqb, ne_eqb, arith}
+use Rattle.std.proofs.Common.{◌≡◌, ℕ, ◌+◌, ◌<◌, ◌≤◌, Bool, true, false, cond, List, [], ◌∷◌, ◌++◌, length, get_or, take, filter, nat_eq, All, Contains, refl, ap, ap₂, sym, ◌∙◌, subst, eq-eqb, ne_eqb, arith}
 use Rattle.std.specs.List.Sorted.{IsStrictlyIncreasing}
 use Rattle.std.proofs.lemmas.List.{take_all, length-take-le, get_or-take, get_or_default, append-nil}
 use Rattle.std.proofs.lemmas.List.Elements.{filter_more, All-filter, All-contains_itself}
@@ -22,16 +22,25 @@ earlier_below cs at k up within (n, l, e) =
     let found : get_or cs n 0 ≡ k = get_or_default cs n 0 k (omega arith) ∙ sym (get_or-take at cs n k short) ∙ e in
     omega (arith, found, AllPairs-from_increasing cs up n at 0 short within)
 
+-- a test with its answer changed at the next candidate keeps the same earlier candidates
+chosen_same : (cs : List ℕ) (at : ℕ) (h : ℕ → Bool) (b : Bool) → IsStrictlyIncreasing cs → at < length cs
+    → filter (λ k. cond (nat_eq k (get_or cs at 0)) b (h k)) (take at cs) ≡ filter h (take at cs)
+chosen_same cs at h b up within = filter_same (λ k. cond (nat_eq k (get_or cs at 0)) b (h k)) h (take at cs) (λ k c.
+    rw (ne_eqb k (get_or cs at 0) (λ e. absurd (omega (arith, earlier_below cs at k up within c, e)))) refl)
+
+-- one more candidate, by the answer of the test
+kept_more : (h : ℕ → Bool) (cs : List ℕ) (at : ℕ) (inside : List ℕ) (b : Bool) → at < length cs
+    → filter h (take at cs) ≡ inside → h (get_or cs at 0) ≡ b
+    → filter h (take (at + 1) cs) ≡ inside ++ cond b (get_or cs at 0 ∷ []) []
+kept_more h cs at inside b within same answer =
+    filter_more h cs at 0 within ∙ ap₂ (λ ks t. ks ++ cond t (get_or cs at 0 ∷ []) []) same answer
+
 pub first_hubs_next : (cs : List ℕ) (at : ℕ) (inside : List ℕ) (b : Bool) → IsStrictlyIncreasing cs → at < length cs
     → AreFirstHubs cs at inside → AreFirstHubs cs (at + 1) (inside ++ cond b (get_or cs at 0 ∷ []) [])
 first_hubs_next cs at inside b up within first =
-    let x = get_or cs at 0 in
-    let h = λ (k : ℕ). cond (nat_eq k x) b (first.0 k) in
-    let same : filter h (take at cs) ≡ filter first.0 (take at cs) = filter_same h first.0 (take at cs) (λ k c.
-    let other : nat_eq k x ≡ false = ne_eqb k x (λ i. absurd (omega (arith, earlier_below cs at k up within c, i))) in
-    rw other refl) in
-    let chosen : h x ≡ b = rw (eq-eqb x x refl) refl in
-    (h, filter_more h cs at 0 within ∙ ap₂ (λ ks t. ks ++ cond t (x ∷ []) []) (same ∙ first.1) chosen)
+    let h = λ (k : ℕ). cond (nat_eq k (get_or cs at 0)) b (first.0 k) in
+    let answer : h (get_or cs at 0) ≡ b = rw (eq-eqb (get_or cs at 0) (get_or cs at 0) refl) refl in
+    (h, kept_more h cs at inside b within (chosen_same cs at first.0 b up within ∙ first.1) answer)
 
 -- what is chosen at the end is a hub set, if it is not empty
 pub first_hubs_set : (p : Problem) (inside : List ℕ) → IsWithinLimits p → AreFirstHubs p.candidates (length p.candidates) inside
@@ -56,16 +65,10 @@ pub none_cheaper_next : (p : Problem) (at : ℕ) (inside : List ℕ) (c1 c2 : �
     → NoneCheaper p at inside c2
 none_cheaper_next p at inside c1 c2 within opened closed less = record {
   least = λ h plan ok hubs same.
-      let x = get_or p.candidates at 0 in
-      let more = filter_more h p.candidates at 0 within in
-      by_test (h x)
-      (λ e.
-      let first : filter h (take (at + 1) p.candidates) ≡ inside ++ x ∷ [] = more ∙ ap₂ (λ ks t. ks ++ cond t (x ∷ []) []) same e in
-      omega (arith, less, opened.least h plan ok hubs first))
-      (λ e.
-      let first : filter h (take (at + 1) p.candidates) ≡ inside =
-      more ∙ ap₂ (λ ks t. ks ++ cond t (x ∷ []) []) same e ∙ append-nil inside in
-      closed.least h plan ok hubs first);
+      let more = λ (b : Bool). kept_more h p.candidates at inside b within same in
+      by_test (h (get_or p.candidates at 0))
+      (λ e. omega (arith, less, opened.least h plan ok hubs (more true e)))
+      (λ e. closed.least h plan ok hubs (more false e ∙ append-nil inside));
 }
 
 -- where all candidates are decided the hubs are known

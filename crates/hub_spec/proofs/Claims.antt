@@ -1,16 +1,14 @@
 -- A certificate within the ranges of the grammar holds exactly where each condition of the check holds.
-use Rattle.std.proofs.Common.{◌≡◌, ◌↔◌, ℕ, ◌+◌, ◌*◌, ◌≤◌, ◌<◌, ◌^◌, List, [], ◌∷◌, ◌++◌, length, map, flat_map, sum_by, All, Contains, refl, sym, ap, ◌∙◌, subst, arith}
-use Rattle.std.specs.List.{AllZip, range_with_len}
+use Rattle.std.proofs.Common.{◌≡◌, ◌↔◌, ℕ, ◌+◌, ◌*◌, ◌≤◌, ◌<◌, ◌^◌, List, [], ◌∷◌, ◌++◌, length, All, sym, ap, ◌∙◌, arith}
+use Rattle.std.specs.List.{AllZip}
 use Rattle.std.proofs.lemmas.List.Elements.{All-head, All-tail, All-cons, All-nil, All-weaker}
-use Rattle.std.proofs.lemmas.List.Sums.{sum_by-cons}
-use Rattle.std.proofs.lemmas.List.Concat.{length-flat_map}
-use Rattle.std.proofs.lemmas.List.FromFn.{length-range_with_len, length-map-range_with_len}
 use Rattle.hub_spec.specs.Problem.{Problem, commodities}
 use Rattle.hub_spec.specs.Plans.{IsRoute}
 use Rattle.hub_spec.specs.Cuts.{Prices, IsDual, Cut, IsCut}
-use Rattle.hub_spec.specs.Trees.{Branching, root, open_child, closed_child, Tree, branch, leaf, empty, TreeLine, branch_on, leaf_of, no_hub, preorder, line_count, IsSound}
+use Rattle.hub_spec.specs.Trees.{Branching, root, open_child, closed_child, Tree, branch, leaf, empty, TreeLine, branch_on, leaf_of, preorder, line_count, IsSound}
 use Rattle.hub_spec.specs.Certificates.{Proof, Holds}
 use Rattle.hub_spec.specs.Text.{IsInRange, IsTreeLineText, IsCutText}
+use Rattle.hub_spec.proofs.Commodities.{length_commodities}
 use Rattle.hub_spec.specs.Conditions.{Claim, AllHold, route_claims, dual_claims, cut_claims, tree_claims, claims}
 
 pub AllHold-append : (xs ys : List Claim) → AllHold xs → AllHold ys → AllHold (xs ++ ys)
@@ -122,27 +120,13 @@ tree_claimed p cuts target line b (leaf denom weights) h = (
 )
 tree_claimed p cuts target line b empty h = (h, tt)
 
--- a sum of equal numbers
-sum_by_same : {X : Type 0} (f : X → ℕ) (m : ℕ) (xs : List X) → ((x : X) → f x ≡ m) → sum_by f xs ≡ length xs * m
-sum_by_same f m [] h = omega arith
-sum_by_same f m (x ∷ xs) h = rw (sum_by-cons f x xs) (let rest = sum_by_same f m xs h in omega (arith, h x, rest))
-
--- as many commodities as ordered pairs of nodes
-pub count_commodities : (n : ℕ) → length (commodities n) ≡ n * n
-unfolding commodities
-count_commodities n =
-    let nodes = range_with_len 0 n in
-    length-flat_map (λ i. map (λ j. (i, j)) nodes) nodes
-    ∙ sum_by_same (λ i. length (map (λ j. (i, j)) nodes)) n nodes (λ i. length-map-range_with_len (λ j. (i, j)) 0 n)
-    ∙ ap (λ m. m * n) (length-range_with_len 0 n)
-
 holds_from_claims : (p : Problem) (k : Proof) → IsInRange k → AllHold (claims p k) → Holds p k
 holds_from_claims p k r h =
     let size : k.size ≡ p.size = h.0.0 in
     let routes = AllHold-split (route_claims k.plan.hubs 6 k.plan.routes) _ h.1.1.1 in
     let cuts = AllHold-split (cut_claims p (7 + k.size * k.size) k.cuts) _ routes.1.1 in
     let square : k.size * k.size ≡ p.size * p.size = ap (λ n. n * n) size in
-    let all : length (commodities p.size) ≡ p.size * p.size = count_commodities p.size in
+    let all : length (commodities p.size) ≡ p.size * p.size = length_commodities p.size in
     record {
       size = size;
       candidates = h.0.1;

@@ -1,14 +1,14 @@
 -- Each condition of the check either holds or does not, so one of them is the first that fails, or all hold.
-use Rattle.std.proofs.Common.{◌≡◌, ◌≢◌, ℕ, zero, suc, ◌+◌, ◌*◌, ◌-◌, ◌≤◌, ◌<◌, ℤ, pos, ◌-ℤ◌, ◌<ℤ◌, ◌^◌, List, [], ◌∷◌, ◌++◌, length, All, Contains, ◌⊎◌, inl, inr, refl, sym, subst, ap, ◌∙◌, arith}
+use Rattle.std.proofs.Common.{◌≡◌, ℕ, zero, suc, ◌+◌, ◌*◌, ◌≤◌, ℤ, pos, ◌-ℤ◌, ◌<ℤ◌, ◌^◌, List, [], ◌∷◌, ◌++◌, length, All, Contains, ◌⊎◌, inl, inr, refl, sym, subst, ◌∙◌, arith}
 use Rattle.std.proofs.lemmas.List.Elements.{All-head, All-tail, All-cons, All-nil, All-contains, All-contains_itself, All-weaker}
 use Rattle.std.proofs.lemmas.Int.{by_lt_z, ints}
 use Rattle.std.proofs.lemmas.Bool.{cases_lt, cases_eq}
 use Rattle.hub_spec.specs.Problem.{Problem, route_cost, commodities}
 use Rattle.hub_spec.specs.Plans.{plan_cost}
 use Rattle.hub_spec.specs.Cuts.{Prices, value_at, IsDual, Cut, total, load, IsWithinSums}
-use Rattle.hub_spec.specs.Trees.{Branching, root, open_child, closed_child, Tree, branch, leaf, empty, weight_sum, leaf_bound, Closes, IsClosed, line_count}
+use Rattle.hub_spec.specs.Trees.{Branching, root, open_child, closed_child, Tree, branch, leaf, empty, weight_sum, leaf_bound, IsClosed, line_count}
 use Rattle.hub_spec.specs.Certificates.{Proof}
-use Rattle.hub_spec.specs.Conditions.{Kind, Claim, claim, AllHold, FailsFirst, route_claims, dual_claims, cut_claims, tree_claims, claims}
+use Rattle.hub_spec.specs.Conditions.{Kind, Claim, AllHold, FailsFirst, route_claims, dual_claims, cut_claims, tree_claims, claims}
 
 -- a fact that holds or does not
 abbrev pub Decided : Type 0 → Type 0

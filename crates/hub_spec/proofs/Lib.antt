@@ -10,3 +10,12 @@ pub mod Commodities
 pub mod Limits
 pub mod SetCosts
 pub mod AllSets
+pub mod Numbers
+pub mod Decoding
+pub mod Wanted
+pub mod CommodityIndex
+pub mod Leads
+pub mod Stages
+pub mod LeadsBack
+pub mod OneText
+pub mod TextOrFault

@@ -7,10 +7,11 @@ use Rattle.std.proofs.lemmas.List.Elements.{All-head, All-tail, All-cons, All-ni
 use Rattle.std.proofs.lemmas.List.Sums.{sum_by-cons, sum-map, sum_by-take-le, get_or-le-sum_by}
 use Rattle.std.proofs.lemmas.Nat.{mul-add-lt}
 use Rattle.hub_spec.specs.Problem.{Problem, flow, distance, fixed_cost, route_cost, commodities, opening_cost, greatest, cost_ceiling, IsWithinLimits, IsProblem}
-use Rattle.hub_spec.specs.Plans.{IsHubSet, IsRoute, IsLeastRoute, cost_of_route, routing_cost}
+use Rattle.hub_spec.specs.Plans.{Plan, IsPlan, plan_cost, IsHubSet, IsRoute, IsLeastRoute, cost_of_route, routing_cost}
 use Rattle.hub_spec.proofs.SumLemmas.{sum_by-filter-le}
 use Rattle.hub_spec.proofs.Sets.{All-from_contains, is_in, part_is_filter, ascend_head, ascend_tail}
-use Rattle.hub_spec.proofs.Commodities.{length_commodities, commodity_nodes, commodity_at, next_route, next_route_at, next_cost, next_cost_at}
+use Rattle.hub_spec.proofs.SetCosts.{routes_from_least}
+use Rattle.hub_spec.proofs.Commodities.{take_commodities_all, length_commodities, commodity_nodes, commodity_at, next_route, next_route_at, next_cost, next_cost_at}
 
 -- both hubs of the route are nodes
 pub record AreNodes (n : ℕ) (commodity route : ℕ × ℕ) : Type 0 where
@@ -105,11 +106,11 @@ unfolding flow
 flows_by_commodity p ok =
     let cs = commodities p.size in
     let long : length (map (flow_of p) cs) ≡ p.size * p.size = length-map cs (flow_of p) ∙ length_commodities p.size in
-    let same : map (flow_of p) cs ≡ p.flows = ext_get_or 0 (map (flow_of p) cs) p.flows (omega (arith, long, ok.flow_for_each_pair))
-    (λ t below.
+    let at = λ (t : ℕ) (below : t < length (map (flow_of p) cs)).
     get_or-map (flow_of p) cs t (0, 0) 0 (omega (arith, below, long, length_commodities p.size))
     ∙ ap (flow_of p) (commodity_at p.size t (0, 0) (omega (arith, below, long)))
-    ∙ ap (λ m. get_or p.flows m 0) (div-add-mod' t p.size)) in
+    ∙ ap (λ m. get_or p.flows m 0) (div-add-mod' t p.size) in
+    let same = ext_get_or 0 (map (flow_of p) cs) p.flows (omega (arith, long, ok.flow_for_each_pair)) at in
     sym (sum-map (flow_of p) cs) ∙ ap sum same
 
 pub commodities_are_nodes : (n : ℕ) → All (λ c. (c.0 < n) × (c.1 < n)) (commodities n)
@@ -153,30 +154,60 @@ route_nodes p hubs c route ok set taken =
       last = All-contains (λ k. k < p.size) hubs route.1 nodes taken.last;
     }
 
+pub routes_nodes : (p : Problem) (hubs : List ℕ) (cs rs : List (ℕ × ℕ)) → IsWithinLimits p → IsHubSet p hubs
+    → AllZip (IsRoute p hubs) cs rs → AllZip (AreNodes p.size) cs rs
+routes_nodes p hubs [] [] ok set taken = tt
+routes_nodes p hubs [] (r ∷ rs) ok set taken = absurd taken
+routes_nodes p hubs (c ∷ cs) [] ok set taken = absurd taken
+routes_nodes p hubs (c ∷ cs) (r ∷ rs) ok set taken =
+    (route_nodes p hubs c r ok set taken.0, routes_nodes p hubs cs rs ok set taken.1)
+
 pub least_route_nodes : (p : Problem) (hubs : List ℕ) (cs rs : List (ℕ × ℕ)) → IsWithinLimits p → IsHubSet p hubs
     → AllZip (IsLeastRoute p hubs) cs rs → AllZip (AreNodes p.size) cs rs
-least_route_nodes p hubs [] [] ok set least = tt
-least_route_nodes p hubs [] (r ∷ rs) ok set least = absurd least
-least_route_nodes p hubs (c ∷ cs) [] ok set least = absurd least
-least_route_nodes p hubs (c ∷ cs) (r ∷ rs) ok set least =
-    (route_nodes p hubs c r ok set least.0.is_route, least_route_nodes p hubs cs rs ok set least.1)
+least_route_nodes p hubs cs rs ok set least = routes_nodes p hubs cs rs ok set (routes_from_least p hubs cs rs least)
+
+pub plan_cost_limit : (p : Problem) (plan : Plan) → IsProblem p → IsPlan p plan → plan_cost p plan ≤ 10 ^ 29
+plan_cost_limit p plan ok is_plan =
+    let whole = take_commodities_all p.size in
+    let routes = rw (← whole) at is_plan.routes in
+    rw whole at (cost_limit p plan.hubs (p.size * p.size) plan.routes ok is_plan.hubs
+    (routes_nodes p plan.hubs (take (p.size * p.size) (commodities p.size)) plan.routes ok.limits is_plan.hubs routes))
+
+-- one more route of nodes, and one more least route
+pub next_nodes_limit : (p : Problem) (hubs : List ℕ) (i j : ℕ) (rs : List (ℕ × ℕ)) (r : ℕ × ℕ) → IsProblem p → IsHubSet p hubs
+    → i < p.size → j < p.size → AllZip (AreNodes p.size) (take (i * p.size + j) (commodities p.size)) rs
+    → AreNodes p.size (i, j) r
+    → opening_cost p hubs + routing_cost p (take (i * p.size + j) (commodities p.size)) rs + route_cost p i j r.0 r.1 ≤ 10 ^ 29
+next_nodes_limit p hubs i j rs r ok set row column before here =
+    let all = next_route (AreNodes p.size) p.size i j rs r row column before here in
+    omega (
+      arith,
+      cost_limit p hubs (i * p.size + (j + 1)) (rs ++ r ∷ []) ok set all,
+      next_cost p (AreNodes p.size) p.size i j rs r row column before,
+    )
+
+pub next_nodes_limit_at : (p : Problem) (hubs : List ℕ) (t : ℕ) (rs : List (ℕ × ℕ)) (r : ℕ × ℕ) → IsProblem p → IsHubSet p hubs
+    → t < p.size * p.size → AllZip (AreNodes p.size) (take t (commodities p.size)) rs
+    → AreNodes p.size (t / p.size, t % p.size) r
+    → opening_cost p hubs + routing_cost p (take t (commodities p.size)) rs + route_cost p (t / p.size) (t % p.size) r.0 r.1 ≤ 10 ^ 29
+next_nodes_limit_at p hubs t rs r ok set below before here =
+    let all = next_route_at (AreNodes p.size) p.size t rs r below before here in
+    omega (arith, cost_limit p hubs (t + 1) (rs ++ r ∷ []) ok set all, next_cost_at p (AreNodes p.size) p.size t rs r below before)
 
 pub next_limit : (p : Problem) (hubs : List ℕ) (i j : ℕ) (rs : List (ℕ × ℕ)) (r : ℕ × ℕ) → IsProblem p → IsHubSet p hubs
     → i < p.size → j < p.size → AllZip (IsLeastRoute p hubs) (take (i * p.size + j) (commodities p.size)) rs
     → IsLeastRoute p hubs (i, j) r
     → opening_cost p hubs + routing_cost p (take (i * p.size + j) (commodities p.size)) rs + route_cost p i j r.0 r.1 ≤ 10 ^ 29
 next_limit p hubs i j rs r ok set row column before here =
-    let all = next_route (IsLeastRoute p hubs) p.size i j rs r row column before here in
-    let whole = cost_limit p hubs (i * p.size + (j + 1)) (rs ++ r ∷ []) ok set
-    (least_route_nodes p hubs (take (i * p.size + (j + 1)) (commodities p.size)) (rs ++ r ∷ []) ok.limits set all) in
-    omega (arith, whole, next_cost p (IsLeastRoute p hubs) p.size i j rs r row column before)
+    next_nodes_limit p hubs i j rs r ok set row column
+    (least_route_nodes p hubs (take (i * p.size + j) (commodities p.size)) rs ok.limits set before)
+    (route_nodes p hubs (i, j) r ok.limits set here.is_route)
 
 pub next_limit_at : (p : Problem) (hubs : List ℕ) (t : ℕ) (rs : List (ℕ × ℕ)) (r : ℕ × ℕ) → IsProblem p → IsHubSet p hubs
     → t < p.size * p.size → AllZip (IsLeastRoute p hubs) (take t (commodities p.size)) rs
     → IsLeastRoute p hubs (t / p.size, t % p.size) r
     → opening_cost p hubs + routing_cost p (take t (commodities p.size)) rs + route_cost p (t / p.size) (t % p.size) r.0 r.1 ≤ 10 ^ 29
 next_limit_at p hubs t rs r ok set below before here =
-    let all = next_route_at (IsLeastRoute p hubs) p.size t rs r below before here in
-    let whole = cost_limit p hubs (t + 1) (rs ++ r ∷ []) ok set
-    (least_route_nodes p hubs (take (t + 1) (commodities p.size)) (rs ++ r ∷ []) ok.limits set all) in
-    omega (arith, whole, next_cost_at p (IsLeastRoute p hubs) p.size t rs r below before)
+    next_nodes_limit_at p hubs t rs r ok set below
+    (least_route_nodes p hubs (take t (commodities p.size)) rs ok.limits set before)
+    (route_nodes p hubs (t / p.size, t % p.size) r ok.limits set here.is_route)

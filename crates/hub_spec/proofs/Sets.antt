@@ -1,5 +1,5 @@
 -- Ascending lists of nodes as sets: membership as a test, and a set as the part of a larger one that passes a test.
-use Rattle.std.proofs.Common.{◌≡◌, ℕ, suc, ◌<◌, Bool, true, false, cond, List, [], ◌∷◌, filter, All, Contains, ⊎_elim, refl, ap₂, sym, ◌∙◌, nat_eq, add-one, true≢false, eqb-true, eq-eqb, ne_eqb, arith}
+use Rattle.std.proofs.Common.{◌≡◌, ℕ, suc, ◌<◌, ◌≤◌, Bool, true, false, cond, List, [], ◌∷◌, filter, All, Contains, ⊎_elim, refl, ap₂, sym, ◌∙◌, nat_eq, add-one, true≢false, eqb-true, eq-eqb, ne_eqb, arith}
 use native.Mathlib.Numerals.{unary_clauses}
 use Rattle.std.specs.List.Sorted.{IsStrictlyIncreasing}
 use Rattle.std.proofs.lemmas.Bool.{cases_eq, false_from_ne_true}
@@ -11,6 +11,9 @@ Contains-head x xs = (0, omega arith, refl)
 
 pub Contains-later : {X : Type 0} (x : X) (xs : List X) (y : X) → Contains xs y → Contains (x ∷ xs) y
 Contains-later x xs y (n, l, e) = (suc n, omega arith, e)
+
+pub Contains-tail : {X : Type 0} (x : X) (xs : List X) (y : X) → (x ≡ y → ⊥) → Contains (x ∷ xs) y → Contains xs y
+Contains-tail x xs y apart c = ⊎_elim (λ e. absurd (apart e)) (λ later. later) (Contains-cons_cases x xs y c)
 
 pub All-from_contains : {X : Type 0} (P : X → Type 0) (xs : List X) → ((x : X) → Contains xs x → P x) → All P xs
 All-from_contains P xs each = λ k d l. each _ (Contains-get_or xs k d l)
@@ -56,6 +59,50 @@ pub filter-none : (p : ℕ → Bool) (ks : List ℕ) → ((k : ℕ) → p k ≡ 
 filter-none p [] none = refl
 filter-none p (k ∷ ks) none = rw (none k) (filter-none p ks none)
 
+filter-cons_no : (p : ℕ → Bool) (x : ℕ) (xs : List ℕ) → p x ≡ false → filter p (x ∷ xs) ≡ filter p xs
+filter-cons_no p x xs e = rw e refl
+
+filter-cons_yes : (p : ℕ → Bool) (x : ℕ) (xs : List ℕ) → p x ≡ true → filter p (x ∷ xs) ≡ x ∷ filter p xs
+filter-cons_yes p x xs e = rw e refl
+
+-- membership in the whole list and in its tail are the same test on nodes above the head
+is_in-tail : (k : ℕ) (ks : List ℕ) (m : ℕ) → k < m → is_in (k ∷ ks) m ≡ is_in ks m
+is_in-tail k ks m less =
+    let other : nat_eq k m ≡ false = ne_eqb k m (λ e. absurd (omega (arith, less, e))) in
+    rw other refl
+
+-- what is left of a part where both lists begin with one node, and where the part begins later
+part_rest : (c k : ℕ) (cs ks : List ℕ) → c ≡ k → IsStrictlyIncreasing (k ∷ ks) → All (Contains (c ∷ cs)) (k ∷ ks) → All (Contains cs) ks
+part_rest c k cs ks e rising part = All-from_contains (Contains cs) ks (λ m b. Contains-tail c cs m
+    (λ i. absurd (omega (arith, e, i, ascend_head k ks m rising b)))
+    (All-contains (Contains (c ∷ cs)) (k ∷ ks) m part (Contains-later k ks m b)))
+
+part_above : (c : ℕ) (cs ks : List ℕ) → ((m : ℕ) → Contains ks m → c < m) → All (Contains (c ∷ cs)) ks → All (Contains cs) ks
+part_above c cs ks above part = All-from_contains (Contains cs) ks (λ m b. Contains-tail c cs m
+    (λ i. absurd (omega (arith, i, above m b))) (All-contains (Contains (c ∷ cs)) ks m part b))
+
+filter-same_head : (c k : ℕ) (cs ks : List ℕ) → c ≡ k → IsStrictlyIncreasing (c ∷ cs) → filter (is_in ks) cs ≡ ks
+    → filter (is_in (k ∷ ks)) (c ∷ cs) ≡ k ∷ ks
+filter-same_head c k cs ks e up rest =
+    let same = filter_same (is_in (k ∷ ks)) (is_in ks) cs (λ m b. is_in-tail k ks m (omega (arith, e, ascend_head c cs m up b))) in
+    filter-cons_yes (is_in (k ∷ ks)) c cs (is_in-yes (k ∷ ks) c (0, omega arith, sym e)) ∙ ap₂ (λ m ms. m ∷ ms) e (same ∙ rest)
+
+filter-above : (c : ℕ) (cs ks : List ℕ) → ((m : ℕ) → Contains ks m → c < m) → filter (is_in ks) cs ≡ ks
+    → filter (is_in ks) (c ∷ cs) ≡ ks
+filter-above c cs ks above rest =
+    filter-cons_no (is_in ks) c cs (is_in-no ks c (λ b. absurd (omega (arith, above c b)))) ∙ rest
+
+-- the elements of an ascending list are not below its head
+ascend_from : (x : ℕ) (xs : List ℕ) (y : ℕ) → IsStrictlyIncreasing (x ∷ xs) → Contains (x ∷ xs) y → x ≤ y
+ascend_from x xs y up c =
+    ⊎_elim (λ e. omega (arith, e)) (λ later. omega (arith, ascend_head x xs y up later)) (Contains-cons_cases x xs y c)
+
+part_head_above : (c k : ℕ) (cs ks : List ℕ) → (c ≡ k → ⊥) → IsStrictlyIncreasing (c ∷ cs) → IsStrictlyIncreasing (k ∷ ks)
+    → All (Contains (c ∷ cs)) (k ∷ ks) → (m : ℕ) → Contains (k ∷ ks) m → c < m
+part_head_above c k cs ks apart up rising part m b =
+    let after = Contains-tail c cs k apart (All-head (Contains (c ∷ cs)) k ks part) in
+    omega (arith, ascend_head c cs k up after, ascend_from k ks m rising b)
+
 -- a part of an ascending list is what it keeps by membership
 pub part_is_filter : (cs ks : List ℕ) → IsStrictlyIncreasing cs → IsStrictlyIncreasing ks → All (Contains cs) ks
     → filter (is_in ks) cs ≡ ks
@@ -64,35 +111,9 @@ part_is_filter [] (k ∷ ks) up rising part = nil_contains_none k (All-head (Con
 part_is_filter (c ∷ cs) [] up rising part = filter-none (is_in []) cs (λ k. refl)
 part_is_filter (c ∷ cs) (k ∷ ks) up rising part =
     let tail = ascend_tail c cs up in
-    let in' = λ (m : ℕ) (b : Contains (k ∷ ks) m). All-contains (Contains (c ∷ cs)) (k ∷ ks) m part b in
-    ⊎_elim
-    (λ e. head_same cs ks c k e up rising
-    (part_is_filter cs ks tail (ascend_tail k ks rising) (All-from_contains (Contains cs) ks (λ m b.
-    ⊎_elim (λ i. absurd (omega (arith, ascend_head k ks m rising b, e, i))) (λ later. later)
-    (Contains-cons_cases c cs m (in' m (Contains-later k ks m b)))))))
-    (λ apart.
-    let after : Contains cs k = ⊎_elim (λ i. absurd (apart i)) (λ later. later) (Contains-cons_cases c cs k (in' k (Contains-head k ks))) in
-    let less : c < k = ascend_head c cs k up after in
-    let above : (m : ℕ) → Contains (k ∷ ks) m → c < m = λ m b.
-    ⊎_elim (λ i. omega (arith, i, less)) (λ later. omega (arith, less, ascend_head k ks m rising later)) (Contains-cons_cases k ks m b) in
-    let out : is_in (k ∷ ks) c ≡ false = is_in-no (k ∷ ks) c (λ b. absurd (omega (arith, above c b))) in
-    let rest = part_is_filter cs (k ∷ ks) tail rising (All-from_contains (Contains cs) (k ∷ ks) (λ m b.
-    ⊎_elim (λ i. absurd (omega (arith, above m b, i))) (λ later. later) (Contains-cons_cases c cs m (in' m b)))) in
-    filter-cons_no (is_in (k ∷ ks)) c cs out ∙ rest)
-    (cases_eq c k)
-  where
-    filter-cons_no : (p : ℕ → Bool) (x : ℕ) (xs : List ℕ) → p x ≡ false → filter p (x ∷ xs) ≡ filter p xs
-    filter-cons_no p x xs e = rw e refl
-
-    filter-cons_yes : (p : ℕ → Bool) (x : ℕ) (xs : List ℕ) → p x ≡ true → filter p (x ∷ xs) ≡ x ∷ filter p xs
-    filter-cons_yes p x xs e = rw e refl
-
-    head_same : (cs ks : List ℕ) (c k : ℕ) → c ≡ k → IsStrictlyIncreasing (c ∷ cs) → IsStrictlyIncreasing (k ∷ ks)
-        → filter (is_in ks) cs ≡ ks → filter (is_in (k ∷ ks)) (c ∷ cs) ≡ k ∷ ks
-    head_same cs ks c k e up rising rest =
-        let kept : is_in (k ∷ ks) c ≡ true = is_in-yes (k ∷ ks) c (0, omega arith, sym e) in
-        let same : filter (is_in (k ∷ ks)) cs ≡ filter (is_in ks) cs = filter_same (is_in (k ∷ ks)) (is_in ks) cs (λ m b.
-        let less : c < m = ascend_head c cs m up b in
-        let other : nat_eq k m ≡ false = ne_eqb k m (λ i. absurd (omega (arith, less, e, i))) in
-        rw other refl) in
-        filter-cons_yes (is_in (k ∷ ks)) c cs kept ∙ ap₂ (λ x xs. x ∷ xs) e (same ∙ rest)
+    let same = λ (e : c ≡ k).
+    filter-same_head c k cs ks e up (part_is_filter cs ks tail (ascend_tail k ks rising) (part_rest c k cs ks e rising part)) in
+    let later = λ (apart : c ≡ k → ⊥).
+    let above = part_head_above c k cs ks apart up rising part in
+    filter-above c cs (k ∷ ks) above (part_is_filter cs (k ∷ ks) tail rising (part_above c cs (k ∷ ks) above part)) in
+    ⊎_elim same later (cases_eq c k)

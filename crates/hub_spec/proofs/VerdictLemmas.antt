@@ -1,14 +1,14 @@
 -- What a verdict says of the instance, and that each text has exactly one.
-use Rattle.std.proofs.Common.{◌≡◌, ℕ, ◌+◌, ◌*◌, ◌≤◌, ◌<◌, ◌^◌, List, length, ◌⊎◌, inl, inr, refl, sym, subst, ap, ◌∙◌, arith}
+use Rattle.std.proofs.Common.{◌≡◌, ℕ, ◌≤◌, ◌<◌, ◌^◌, List, length, inl, inr, refl, sym, subst, ap, ◌∙◌, arith}
 use Rattle.std.proofs.lemmas.Bool.{cases_lt}
 use Rattle.hub_spec.specs.Problem.{Problem, IsProblem}
 use Rattle.hub_spec.specs.Plans.{IsPlan, IsOptimal, NoPlanBelow, plan_cost}
 use Rattle.hub_spec.specs.Certificates.{Proof, Holds}
 use Rattle.hub_spec.specs.Text.{IsInRange, Spells}
 use Rattle.hub_spec.specs.Grammar.{TextFault, IsTextFault}
-use Rattle.hub_spec.specs.Conditions.{Kind, AllHold, FailsFirst, claims}
-use Rattle.hub_spec.specs.Verdicts.{Certifies, Verdict, optimal, bounds, fails, misread, too_long, Why}
-use Rattle.hub_spec.specs.Theorems.{WeakDuality, OneCertificate, TextOrFault, EachIsTextOrFault}
+use Rattle.hub_spec.specs.Conditions.{Kind, FailsFirst, claims}
+use Rattle.hub_spec.specs.Verdicts.{Verdict, optimal, bounds, fails, misread, too_long, Why}
+use Rattle.hub_spec.specs.Theorems.{WeakDuality, OneCertificate, EachIsTextOrFault}
 use Rattle.hub_spec.proofs.Claims.{holds_exactly_by_claims}
 use Rattle.hub_spec.proofs.Decided.{claims_decided, first_failure, failure_or_all, one_failure}
 

@@ -17,22 +17,21 @@ use Rattle.hub_spec.proofs.Sets.{is_in, part_is_filter}
 
 -- ---- one cut
 
+one_hub_bound : (p : Problem) (hubs : List ℕ) (c : ℕ × ℕ) (k m : ℕ) (d : Prices) → IsDual p c d → Contains p.candidates k
+    → Contains hubs k → k ≡ m → d.a ≤ route_cost p c.0 c.1 k m + sum_by (value_at d.u) hubs
+one_hub_bound p hubs c k m d dual candidate hub e =
+    let same = ap (route_cost p c.0 c.1 k) e in
+    omega (arith, same, dual.one_hub k candidate, within_sum (value_at d.u) hubs k hub)
+
 pub price_bound : (p : Problem) (hubs : List ℕ) (c route : ℕ × ℕ) (d : Prices)
     → IsDual p c d → All (Contains p.candidates) hubs → IsRoute p hubs c route
     → d.a ≤ cost_of_route p (c, route) + sum_by (value_at d.u) hubs
 price_bound p hubs c route d dual cands taken =
     let first = All-contains (Contains p.candidates) hubs route.0 cands taken.first in
     let last = All-contains (Contains p.candidates) hubs route.1 cands taken.last in
-    ⊎_elim
-    (λ e.
-    let same = ap (route_cost p c.0 c.1 route.0) e in
-    omega (arith, same, dual.one_hub route.0 first, within_sum (value_at d.u) hubs route.0 taken.first))
-    (λ apart. omega (
-      arith,
-      dual.two_hubs route.0 route.1 first last apart,
-      two_within_sum (value_at d.u) hubs route.0 route.1 taken.first taken.last apart,
-    ))
-    (cases_eq route.0 route.1)
+    let values = two_within_sum (value_at d.u) hubs route.0 route.1 taken.first taken.last in
+    ⊎_elim (one_hub_bound p hubs c route.0 route.1 d dual first taken.first)
+    (λ apart. omega (arith, dual.two_hubs route.0 route.1 first last apart, values apart)) (cases_eq route.0 route.1)
 
 pub prices_bound : (p : Problem) (hubs : List ℕ) (cs routes : List (ℕ × ℕ)) (duals : List Prices)
     → AllZip (IsDual p) cs duals → All (Contains p.candidates) hubs → AllZip (IsRoute p hubs) cs routes

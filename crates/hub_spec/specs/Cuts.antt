@@ -1,5 +1,5 @@
 -- Dual values of the commodities, and the Benders cuts that they add up to, in 10^-12.
-use Rattle.std.specs.Prelude.{◌≡◌, ℕ, ◌+◌, ◌*◌, ◌^◌, ◌≤◌, List, [], ◌∷◌, sum_by, All, Contains, ◌≢◌, nat_eq, if◌then◌else◌}
+use Rattle.std.specs.Prelude.{ℕ, ◌+◌, ◌^◌, ◌≤◌, List, [], ◌∷◌, sum_by, All, Contains, ◌≢◌, nat_eq, if◌then◌else◌}
 use Rattle.std.specs.List.{AllZip}
 use Rattle.hub_spec.specs.Problem.{Problem, route_cost, commodities}
 

@@ -3,11 +3,13 @@ pub mod Problem
 pub mod Edges
 pub mod Plans
 pub mod Cuts
+pub mod Separation
 pub mod Trees
 pub mod Certificates
 pub mod Lines
 pub mod Text
 pub mod Grammar
+pub mod Reading
 pub mod Conditions
 pub mod Verdicts
 pub mod Theorems

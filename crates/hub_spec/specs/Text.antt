@@ -1,10 +1,10 @@
 -- The text of a certificate as a function of the certificate, and the certificates that have a text.
-use Rattle.std.specs.Prelude.{◌≡◌, ℕ, ◌+◌, ◌*◌, ◌^◌, ◌<◌, ◌≤◌, List, [], ◌∷◌, ◌++◌, length, map, flat_map, zip, All}
+use Rattle.std.specs.Prelude.{◌≡◌, ℕ, ◌*◌, ◌^◌, ◌<◌, ◌≤◌, List, [], ◌∷◌, ◌++◌, length, map, flat_map, zip, All}
 use Rattle.std.specs.List.{enumerate_from}
 use Rattle.std.specs.List.Sorted.{IsStrictlyIncreasing}
 use Rattle.hub_spec.specs.Problem.{commodities}
 use Rattle.hub_spec.specs.Cuts.{Prices, Cut}
-use Rattle.hub_spec.specs.Trees.{Tree, branch, leaf, empty, TreeLine, branch_on, leaf_of, no_hub, preorder, line_count}
+use Rattle.hub_spec.specs.Trees.{TreeLine, branch_on, leaf_of, no_hub, preorder, line_count}
 use Rattle.hub_spec.specs.Certificates.{Proof}
 use Rattle.hub_spec.specs.Lines.{Item, says_version, says_size, says_cost, says_bound, says_hubs, says_route, says_cuts, says_cut, says_dual, says_nodes, says_tree, says_end, line_text}
 

@@ -1,5 +1,5 @@
 -- What is proved of the definitions; each statement is the contract of the public function of its name.
-use Rattle.std.specs.Prelude.{◌≡◌, ℕ, ◌≤◌, List, Contains, ◌↔◌, ◌⊎◌}
+use Rattle.std.specs.Prelude.{◌≡◌, ℕ, List, Contains, ◌↔◌, ◌⊎◌}
 use Rattle.std.specs.Int.{int_min}
 use Rattle.hub_spec.specs.Problem.{Problem, IsProblem}
 use Rattle.hub_spec.specs.Edges.{IsLeastCost, IsLeastNeededCost}

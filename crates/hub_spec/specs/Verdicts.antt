@@ -3,7 +3,7 @@ use Rattle.std.specs.Prelude.{◌≡◌, ℕ, ◌^◌, ◌<◌, ◌≤◌, List,
 use Rattle.hub_spec.specs.Problem.{Problem}
 use Rattle.hub_spec.specs.Certificates.{Proof, Holds}
 use Rattle.hub_spec.specs.Text.{Spells}
-use Rattle.hub_spec.specs.Grammar.{TextFault, bad_line, ended, IsTextFault}
+use Rattle.hub_spec.specs.Grammar.{TextFault, IsTextFault}
 use Rattle.hub_spec.specs.Conditions.{Kind, FailsFirst, claims}
 
 -- bytes that certify, with the bound and the cost

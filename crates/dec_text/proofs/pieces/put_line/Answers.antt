@@ -1,0 +1,7 @@
+use Rattle.std.proofs.Common.{ap, is_ok}
+use Rattle.hub_io.proofs.Through.{through_finish}
+use Rattle.dec_text.proofs.pieces.put_line.Goals as goal
+
+pub returns : goal.returns
+returns g c =
+    through_finish _ _ _ _ _ _ _ _ _ (ap is_ok c.in_ok-put_pieces.was) c.new-buffer.ensures c.finish.ensures.none_waits c.put_pieces.ensures c.finish.ensures.through

@@ -1,0 +1,4 @@
+pub mod FirstFaults
+pub mod OneInstance
+pub mod ContentLimits
+pub mod GivenLimits

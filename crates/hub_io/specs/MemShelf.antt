@@ -1,0 +1,23 @@
+-- What a shelf in memory holds and has left.
+use Rattle.std.specs.Prelude.{◌≡◌, ◌<◌, ℕ, List, Bool, Option, None, Some, IsSome, length, take, drop, find, option_map, slice_get, bytes_eq, string_bytes}
+use Rattle.std.specs.Io.KnownBytes.{Consumes, IsAtEnd}
+use Rattle.hub_io.specs.declared.mem_shelf.MemFile.{MemFile}
+use Rattle.hub_io.specs.declared.mem_shelf.Place.{Place}
+
+-- whether the file has this name
+abbrev pub has_name : List ℕ → MemFile → Bool
+has_name name file = bytes_eq (string_bytes file.name) name
+
+-- the bytes of the first file of that name
+abbrev pub held_bytes : List MemFile → List ℕ → Option (List ℕ)
+held_bytes files name = option_map (λ f. f.bytes.items) (find (has_name name) files)
+
+-- the bytes from a place on
+abbrev pub left_bytes : List MemFile → Option Place → Option (List ℕ)
+left_bytes files None = None
+left_bytes files (Some place) = option_map (λ f. drop place.byte f.bytes.items) (slice_get files place.file)
+
+-- Bytes were read from what was left, as `Shelf` says it, or nothing was begun. `left_at` is what is left from a place on.
+abbrev pub ReadsOn : Option (List ℕ) → (Place → Option (List ℕ)) → Option (Place × ℕ) → List ℕ → Type 0
+ReadsOn left left_at None into = left ≡ None
+ReadsOn left left_at (Some r) into = IsSome left × IsSome (left_at r.0) × Consumes left (left_at r.0) (take r.1 into) × (r.1 ≡ 0 → 0 < length into → IsAtEnd (left_at r.0))

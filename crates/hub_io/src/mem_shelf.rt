@@ -1,0 +1,184 @@
+// A shelf in memory, which fails where it is told to.
+ghost use Rattle.std.specs.Prelude.{◌≡◌, ◌+◌, ◌-◌, ◌^◌, ◌<◌, ◌≤◌, ◌↔◌, ◌++◌, min, Contains, IsTrue, ℕ, Option, None, Some, [], length, take, drop, All, position, find, slice_get, string_bytes, false, IfOk, IfSome, MatchOption};
+ghost use Rattle.hub_io.specs.Outside.{Starts};
+ghost use Rattle.hub_io.specs.MemShelf.{has_name, held_bytes, left_bytes, ReadsOn};
+
+use crate::{Failed, Shelf};
+use std::alloc::{AllocError, Global};
+
+/// A file in memory.
+#[derive(Debug, Drop)]
+pub struct MemFile {
+    /// The name that `begin` takes.
+    pub name: String,
+    /// What is read, from the first byte on.
+    pub bytes: Vec<u8>,
+}
+
+impl MemFile {
+    /// A file of this name with these bytes.
+    pub fn new(alloc: Global, name: &str, bytes: &[u8]) -> Result<MemFile, AllocError>
+        ensures { IfOk result (λ f. (string_bytes f.name ≡ name.now) × (f.bytes.items ≡ bytes.now)) }
+    {
+        Ok(MemFile {
+            name: name.to_string(alloc)?,
+            bytes: bytes.to_vec(alloc)?,
+        })
+    }
+}
+
+// A byte of a file, both by their numbers, counted from 0.
+#[derive(Clone, Copy, Debug)]
+struct Place {
+    file: usize,
+    byte: usize,
+}
+
+/// Files in memory: of two with one name the first is read. It tells all that it holds.
+///
+/// Calls of `begin` and `read` are counted together from 1, and those in a list fail and do nothing
+/// else. Besides them, `begin` fails at a name that isn't held, and `read` before anything was begun.
+#[derive(Debug, Drop)]
+pub struct MemShelf {
+    files: Vec<MemFile>,
+    failing: Vec<u64>,
+    begun: Option<Place>,
+    calls: u64,
+    faults: u64,
+}
+
+impl MemShelf {
+    /// A shelf on which no call is to fail.
+    pub fn new(alloc: Global, files: Vec<MemFile>) -> MemShelf
+        ensures held { ⟦<MemShelf as Shelf>⟧.held result ≡ Some (held_bytes files.items) }
+        ensures unbegun { ⟦<MemShelf as Shelf>⟧.left result ≡ None }
+        ensures faults { ⟦<MemShelf as Shelf>⟧.faults result ≡ 0 }
+        ensures sound { ⟦<MemShelf as Shelf>⟧.sound result }
+    {
+        MemShelf::with_faults(files, Vec::new(alloc))
+    }
+
+    /// A shelf on which the calls of these numbers are to fail.
+    pub fn with_faults(files: Vec<MemFile>, failing: Vec<u64>) -> MemShelf
+        ensures held { ⟦<MemShelf as Shelf>⟧.held result ≡ Some (held_bytes files.items) }
+        ensures unbegun { ⟦<MemShelf as Shelf>⟧.left result ≡ None }
+        ensures faults { ⟦<MemShelf as Shelf>⟧.faults result ≡ 0 }
+        ensures sound { All (λ n. n ≤ 0) failing.items → ⟦<MemShelf as Shelf>⟧.sound result }
+    {
+        MemShelf {
+            files,
+            failing,
+            begun: None,
+            calls: 0,
+            faults: 0,
+        }
+    }
+
+    /// How often the shelf has failed.
+    pub fn faults(&self) -> u64
+        ensures { result ≡ ⟦<MemShelf as Shelf>⟧.faults self.now }
+    {
+        self.faults
+    }
+
+    // Counts a call, and answers whether it is to fail. Past the last number none is.
+    fn call_fails(&mut self) -> bool
+        ensures counted { self.new ≡ record self.old { calls = self.new.calls } }
+        ensures later { self.old.calls ≤ self.new.calls }
+        ensures next { self.new.calls ≡ min (self.old.calls + 1) (2 ^ 64 - 1) }
+        ensures listed { self.old.calls < self.new.calls → IsTrue result ↔ Contains self.old.failing.items self.new.calls }
+        ensures sound { All (λ n. n ≤ self.old.calls) self.old.failing.items → result ≡ false }
+    {
+        match self.calls.checked_add(1) {
+            None => false,
+            Some(call) => {
+                self.calls = call;
+                self.failing.contains(&call)
+            }
+        }
+    }
+
+    // Counts a fault.
+    fn fault(&mut self) -> Failed
+        ensures counted { self.new ≡ record self.old { faults = self.new.faults } }
+        ensures once { self.new.faults ≡ min (self.old.faults + 1) (2 ^ 64 - 1) }
+        ensures later { self.old.faults ≤ self.new.faults }
+    {
+        self.faults = self.faults.saturating_add(1);
+        Failed
+    }
+}
+
+impl Shelf for MemShelf {
+    ghost held = { λ s. Some (held_bytes s.files.items) };
+
+    ghost left = { λ s. left_bytes s.files.items s.begun };
+
+    ghost faults = { λ s. s.faults };
+
+    ghost sound = { λ s. All (λ n. n ≤ s.calls) s.failing.items };
+
+    fn begin(&mut self, name: &str) -> Result<(), Failed> {
+        if self.call_fails() {
+            return Err(self.fault());
+        }
+        let Some(file) = file_named(&self.files, name) else {
+            return Err(self.fault());
+        };
+        self.begun = Some(Place { file, byte: 0 });
+        Ok(())
+    }
+
+    fn read(&mut self, into: &mut [u8]) -> Result<usize, Failed> {
+        if self.call_fails() {
+            return Err(self.fault());
+        }
+        let Some((place, count)) = read_on(&self.files, self.begun, into) else {
+            return Err(self.fault());
+        };
+        self.begun = Some(place);
+        Ok(count)
+    }
+}
+
+// The number of the first file of that name, which is read from its first byte on.
+fn file_named(files: &[MemFile], name: &str) -> Option<usize>
+    ensures { MatchOption result (held_bytes files.now name.now ≡ None) (λ file. Starts (Some (held_bytes files.now)) name.now (left_bytes files.now (Some (record { file = file; byte = 0 })))) }
+{
+    position_named(files, name)
+}
+
+// The same as a search through the list.
+fn position_named(files: &[MemFile], name: &str) -> Option<usize>
+    ensures { result ≡ position (has_name name.now) files.now }
+{
+    files.iter().position(|file| file.name.as_str() == name)
+}
+
+// Reads on from a place, and answers the place behind and how much was read: none where nothing was
+// begun.
+fn read_on(files: &[MemFile], begun: Option<Place>, into: &mut [u8]) -> Option<(Place, usize)>
+    ensures bound { IfSome result (λ r. r.1 ≤ length into.new) }
+    ensures bytes { ReadsOn (left_bytes files.now begun) (λ p. left_bytes files.now (Some p)) result into.new }
+{
+    let place = begun?;
+    let file = files.get(place.file)?;
+    let (byte, count) = copy_from(&file.bytes, place.byte, into);
+    let behind = Place {
+        file: place.file,
+        byte,
+    };
+    Some((behind, count))
+}
+
+// Copies the front of what stands from a byte on, and answers where it ends and how much it is.
+fn copy_from(bytes: &[u8], byte: usize, into: &mut [u8]) -> (usize, usize)
+    ensures bound { result.1 ≤ length into.new }
+    ensures bytes { drop byte bytes.now ≡ take result.1 into.new ++ drop result.0 bytes.now }
+    ensures end { result.1 ≡ 0 → 0 < length into.new → drop result.0 bytes.now ≡ [] }
+{
+    let start = byte.min(bytes.len());
+    let count = into.len().min(bytes.len() - start);
+    into[..count].copy_from_slice(&bytes[start..start + count]);
+    (start + count, count)
+}
