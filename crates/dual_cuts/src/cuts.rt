@@ -73,6 +73,14 @@ impl Cut {
         &self.rows
     }
 
+    /// The duals, one for each commodity in order, without the rest.
+    pub fn into_rows(self) -> Vec<Dual>
+        ensures { result.items ≡ self.cut.duals }
+    {
+        let Cut { rows, .. } = self;
+        rows
+    }
+
     /// The sum of the prices, from 0 to 10^29.
     pub fn total(&self) -> i128
         ensures value { result ≡ pos (total self.now.cut) }
