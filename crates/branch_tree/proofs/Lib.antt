@@ -1,0 +1,13 @@
+pub mod Closing
+pub mod Keeping
+pub mod Trees
+pub mod Branches
+pub mod CutTexts
+pub mod Openings
+pub mod PricedCuts
+pub mod Steps
+pub mod HeldSteps
+pub mod BranchEnds
+pub mod GrownBranches
+pub mod Beginnings
+pub mod Whole

@@ -1,0 +1,4 @@
+pub mod Grown
+pub mod Each
+pub mod LineTexts
+pub mod TextParts

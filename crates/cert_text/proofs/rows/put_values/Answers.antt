@@ -1,0 +1,15 @@
+use Rattle.std.proofs.Common.{ap, is_ok, is_err, arith, refl}
+use Rattle.cert_text.specs.Rows.{value_text}
+use Rattle.cert_text.proofs.Each.{each_stop, each_more, each_end}
+use Rattle.cert_text.proofs.rows.put_values.Goals as goal
+
+pub returns-in_err-put_value : goal.returns-in_err-put_value
+returns-in_err-put_value g c =
+    c.loop-entry.invariant _ _ _ (each_stop value_text c.args.values.now c.loop-entry.entry-index _ _ _ _ _ _ _ _ _ (omega arith) refl (ap is_err c.in_err-put_value.was) c.from_residual.ensures.0 c.put_value.ensures)
+
+pub loop-entry-preserved : goal.loop-entry-preserved
+loop-entry-preserved g c last rest r more =
+    c.loop-entry.invariant last rest r (each_more value_text c.args.values.now c.loop-entry.entry-index _ _ _ _ _ _ _ _ _ _ (omega arith) refl (ap is_ok c.in_ok-put_value.was) c.put_value.ensures more)
+
+pub returns : goal.returns
+returns g c = c.loop-entry.invariant _ _ _ (each_end value_text c.args.values.now c.loop-entry.entry-index _ _ (omega arith))
