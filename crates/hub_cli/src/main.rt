@@ -1,0 +1,44 @@
+//! The program `hub`: the words and files of the machine, handed to `run`.
+#![tactic(auto)]
+
+mod shelf;
+mod sink;
+
+use hub_io::{OpenGate, Sink};
+use hub_top::{Status, run};
+use shelf::DiskShelf;
+use sink::StreamSink;
+use std::alloc::AllocError;
+use std::env;
+use std::io::ErrorKind;
+use std::process::ExitCode;
+
+fn main(rt: HostRuntime) -> ExitCode {
+    let mut out = StreamSink::new(rt.stdout());
+    let mut err = StreamSink::new(rt.stderr());
+    let status = match words(&rt) {
+        Ok(words) => {
+            let mut shelf = DiskShelf::new(&rt);
+            run(&rt, rt.alloc(), &words, &mut shelf, &mut out, &mut err, &OpenGate)
+        }
+        Err(_) => tell_memory(&mut err),
+    };
+    ExitCode::from(status.number())
+}
+
+/// The words of the call, the program's name first; none where one of them is no text.
+fn words(rt: &HostRuntime) -> Result<Vec<String>, AllocError> {
+    match env::args(rt) {
+        Ok(words) => words.collect(rt.alloc()),
+        Err(fault) if fault.kind() == ErrorKind::OutOfMemory => Err(AllocError),
+        Err(_) => Ok(Vec::new(rt.alloc())),
+    }
+}
+
+/// Tells that memory ran out while the words were read.
+fn tell_memory<K: Sink>(err: &mut K) -> Status {
+    match err.put(b"hub: out of memory\n") {
+        Ok(()) => Status::Memory,
+        Err(_) => Status::Write,
+    }
+}

@@ -1,0 +1,37 @@
+-- What each status says follows from the ending that was written.
+use Rattle.std.proofs.Common.{◌≡◌, ℕ, List, Option, Some, None, Ok, Err, ◌⊎◌, inl, inr, refl, sym, subst}
+use Rattle.std.specs.Io.KnownBytes.{Appends}
+use Rattle.hub_io.specs.Outside.{Files, Rose}
+use Rattle.hub_top.specs.declared.status.Status.{Status}
+use Rattle.hub_top.specs.Words.{Request, solve}
+use Rattle.hub_top.specs.Endings.{Ending, solved, usage, faulty, memory, read, status_of, out_text, MayEnd, Written, whole, out_cut, err_cut}
+use Rattle.hub_top.specs.Meanings.{Means}
+
+row : (asked : Option Request) (held : Option Files) (fails : Request → Type 0) (old new : Option (List ℕ)) (rose : Type 0) (e : Ending)
+    → MayEnd asked held fails e → Appends old new (out_text e) → Means asked held fails old new rose (status_of e)
+row asked held fails old new rose (solved text) may taken =
+    record { request = solve may.0 may.1; is_asked = may.2; text = text; answers = may.3; taken = taken }
+row asked held fails old new rose usage may taken = (may, taken)
+row asked held fails old new rose (faulty fault) may taken =
+    record { request = may.0; is_asked = may.1; fault = fault; holds = may.2; taken = taken }
+row asked held fails old new rose memory may taken = taken
+row asked held fails old new rose read may taken = record { request = may.0; is_asked = may.1; failed = may.2; taken = taken }
+
+pub meaning : {O E : Type 0} (out_taken : O → Option (List ℕ)) (out_faults : O → ℕ) (err_taken : E → Option (List ℕ)) (err_faults : E → ℕ)
+    (out_old out_new : O) (err_old err_new : E) (asked : Option Request) (held : Option Files) (fails : Request → Type 0)
+    (status : Status) (e : Ending)
+    → MayEnd asked held fails e → Written out_taken out_faults err_taken err_faults out_old out_new err_old err_new status e
+    → Means asked held fails (out_taken out_old) (out_taken out_new)
+    (Rose (out_faults out_old) (out_faults out_new) ⊎ Rose (err_faults err_old) (err_faults err_new)) status
+meaning out_taken out_faults err_taken err_faults out_old out_new err_old err_new asked held fails status e may (whole out err is) =
+    let rose = Rose (out_faults out_old) (out_faults out_new) ⊎ Rose (err_faults err_old) (err_faults err_new) in
+    let P : Status → Type 0 = λ s. Means asked held fails (out_taken out_old) (out_taken out_new) rose s in
+    subst P (sym is) (row asked held fails (out_taken out_old) (out_taken out_new) rose e may out.whole)
+meaning out_taken out_faults err_taken err_faults out_old out_new err_old err_new asked held fails status e may (out_cut failed out same is) =
+    let rose = Rose (out_faults out_old) (out_faults out_new) ⊎ Rose (err_faults err_old) (err_faults err_new) in
+    let P : Status → Type 0 = λ s. Means asked held fails (out_taken out_old) (out_taken out_new) rose s in
+    subst P (sym is) (inl out.failed)
+meaning out_taken out_faults err_taken err_faults out_old out_new err_old err_new asked held fails status e may (err_cut failed out err is) =
+    let rose = Rose (out_faults out_old) (out_faults out_new) ⊎ Rose (err_faults err_old) (err_faults err_new) in
+    let P : Status → Type 0 = λ s. Means asked held fails (out_taken out_old) (out_taken out_new) rose s in
+    subst P (sym is) (inr err.failed)

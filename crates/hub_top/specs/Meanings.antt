@@ -1,0 +1,48 @@
+-- What each status says, whoever wrote: of the words, the files, the faults, and what out took.
+use Rattle.std.specs.Prelude.{◌≡◌, ℕ, List, [], Option, Some, None}
+use Rattle.std.specs.Io.KnownBytes.{Appends}
+use Rattle.hub_io.specs.Outside.{Files}
+use Rattle.file_spec.specs.Faults.{Fault}
+use Rattle.hub_top.specs.declared.status.Status.{Status}
+use Rattle.hub_top.specs.declared.status.Status.TheVariants.{Done, Stopped, No, Usage, Instance, Memory, Read, Write}
+use Rattle.hub_top.specs.Words.{Request, solve, instance_file, options}
+use Rattle.hub_top.specs.Commands.{HoldsFault, SolvesFile}
+use Rattle.hub_top.specs.Endings.{WhereTold}
+
+-- what a command says that ends with this status and this text on out
+abbrev pub Answers : Request → Status → Files → List ℕ → Type 0
+Answers (solve file o) Done files text = SolvesFile files file o text
+Answers (solve file o) status files text = ⊥
+
+-- the words are a command, and out took the text of its answer with this status
+pub record Answered (asked : Option Request) (held : Option Files) (old new : Option (List ℕ)) (status : Status) : Type 0 where
+  pub request : Request
+  pub is_asked : asked ≡ Some request
+  pub text : List ℕ
+  pub answers : WhereTold held (λ files. Answers request status files text)
+  pub taken : Appends old new text
+
+-- the words are a command whose instance file has a fault, and out took nothing
+pub record Refused (asked : Option Request) (held : Option Files) (old new : Option (List ℕ)) : Type 0 where
+  pub request : Request
+  pub is_asked : asked ≡ Some request
+  pub fault : Fault
+  pub holds : WhereTold held (λ files. HoldsFault files (instance_file request) (options request) fault)
+  pub taken : Appends old new []
+
+-- the words are a command, the shelf failed, and out took nothing
+pub record Unread (asked : Option Request) (fails : Request → Type 0) (old new : Option (List ℕ)) : Type 0 where
+  pub request : Request
+  pub is_asked : asked ≡ Some request
+  pub failed : fails request
+  pub taken : Appends old new []
+
+abbrev pub Means : Option Request → Option Files → (Request → Type 0) → Option (List ℕ) → Option (List ℕ) → Type 0 → Status → Type 0
+Means asked held fails old new rose Done = Answered asked held old new Done
+Means asked held fails old new rose Stopped = Answered asked held old new Stopped
+Means asked held fails old new rose No = Answered asked held old new No
+Means asked held fails old new rose Usage = (asked ≡ None) × Appends old new []
+Means asked held fails old new rose Instance = Refused asked held old new
+Means asked held fails old new rose Memory = Appends old new []
+Means asked held fails old new rose Read = Unread asked fails old new
+Means asked held fails old new rose Write = rose

@@ -1,0 +1,43 @@
+//! How a run of the program ends.
+
+ghost use Rattle.std.specs.Prelude.{◌≡◌};
+ghost use Rattle.hub_top.specs.Statuses.{number_of};
+
+/// How a run ended; the program ends with its number.
+#[derive(Clone, Copy, Debug, PartialEq, Eq)]
+pub enum Status {
+    /// `solve`: a certificate whose bound is its cost was written. `check`: the bytes certify an optimal plan.
+    Done,
+    /// `check`: the bytes certify a plan, with a bound below its cost.
+    Stopped,
+    /// `check`: the bytes do not certify.
+    No,
+    /// The words are no command.
+    Usage,
+    /// The instance file has a fault.
+    Instance,
+    /// Memory ran out.
+    Memory,
+    /// The shelf failed.
+    Read,
+    /// A sink failed.
+    Write,
+}
+
+impl Status {
+    /// The number with which the program ends, 0 to 7.
+    pub fn number(self) -> u8
+        ensures { result ≡ number_of self }
+    {
+        match self {
+            Status::Done => 0,
+            Status::Stopped => 1,
+            Status::No => 2,
+            Status::Usage => 3,
+            Status::Instance => 4,
+            Status::Memory => 5,
+            Status::Read => 6,
+            Status::Write => 7,
+        }
+    }
+}

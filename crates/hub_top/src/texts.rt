@@ -1,0 +1,154 @@
+//! The texts that the product prints.
+
+ghost use Rattle.std.specs.Prelude.{◌+◌, ◌++◌, codes, decimal};
+ghost use Rattle.std.specs.Fmt.{signed_decimal};
+ghost use Rattle.hub_io.specs.Outside.{Puts};
+ghost use Rattle.hub_model.specs.Naturals.{natural};
+ghost use Rattle.hub_model.specs.Faults.{fault_of, missing_of};
+ghost use Rattle.file_spec.specs.Faults.{missing_pair, repeated};
+ghost use Rattle.hub_top.specs.Texts.{usage_text, memory_text, read_text, fault_line, fault_text};
+
+use dec_text::{Piece, put_line};
+use hub_io::{Failed, Sink};
+use hub_model::{InstanceFault, Wanted};
+
+/// Puts the usage text.
+#[tactic(auto, unfolding(crate::specs::Texts::usage_text))]
+pub fn put_usage<K: Sink>(sink: &mut K) -> Result<(), Failed>
+    ensures { Puts K.taken K.faults sink.old sink.new result usage_text }
+{
+    sink.put(
+        b"usage: hub solve LAYOUT FILE [options] [--nodes N] [--workers W]\n       hub check LAYOUT FILE CERT [options]\n       hub report LAYOUT FILE CERT [options]\n       hub make SEED SIZE\n       hub demo SEED SIZE [--nodes N] [--workers W]\nLAYOUT: cab-matrix, cab-rows, ap\noptions: --order flow-first|distance-first, --tail ignore|fixed, --divide D,\n         --collect X, --trunk X, --deliver X, --fixed X, --costs FILE,\n         --candidates LIST, --no-self\n",
+    )
+}
+
+/// Puts the line for want of memory. It takes none.
+#[tactic(auto, unfolding(crate::specs::Texts::memory_text))]
+pub fn put_memory<K: Sink>(sink: &mut K) -> Result<(), Failed>
+    ensures { Puts K.taken K.faults sink.old sink.new result memory_text }
+{
+    sink.put(b"hub: out of memory\n")
+}
+
+/// Puts the line for a shelf that failed.
+#[tactic(auto, unfolding(crate::specs::Texts::read_text))]
+pub fn put_read<K: Sink>(sink: &mut K) -> Result<(), Failed>
+    ensures { Puts K.taken K.faults sink.old sink.new result read_text }
+{
+    sink.put(b"hub: read failed\n")
+}
+
+/// Puts the line of a fault of the instance file.
+pub fn put_fault<K: Sink>(fault: &InstanceFault, sink: &mut K) -> Result<(), Failed>
+    ensures { Puts K.taken K.faults sink.old sink.new result (fault_text (fault_of fault.now)) }
+{
+    match *fault {
+        InstanceFault::TooLong => put_words(b"1 TooLong", sink),
+        InstanceFault::BadNumber { at } => put_at(b"2 BadNumber at ", at, sink),
+        InstanceFault::Missing { what } => put_missing(&what, sink),
+        InstanceFault::Extra { at } => put_at(b"4 Extra at ", at, sink),
+        InstanceFault::Size { got } => put_size(got, sink),
+        InstanceFault::Negative { at } => put_at(b"6 Negative at ", at, sink),
+        InstanceFault::TooBig { at } => put_at(b"7 TooBig at ", at, sink),
+        InstanceFault::BadIndex { at } => put_at(b"8 BadIndex at ", at, sink),
+        InstanceFault::Repeated { i, j } => put_repeated(i, j, sink),
+        InstanceFault::NoCandidate { k } => put_at(b"10 NoCandidate ", k as u64 + 1, sink),
+        InstanceFault::TooCostly { sum } => put_sum(sum, sink),
+    }
+}
+
+fn put_missing<K: Sink>(what: &Wanted, sink: &mut K) -> Result<(), Failed>
+    ensures { Puts K.taken K.faults sink.old sink.new result (fault_text (missing_of what.now)) }
+{
+    match *what {
+        Wanted::Token(count) => put_at(b"3 Missing token ", count, sink),
+        Wanted::Pair(i, j) => put_missing_pair(i, j, sink),
+    }
+}
+
+#[tactic(auto, unfolding(crate::specs::Texts::fault_line))]
+fn put_words<K: Sink>(words: &[u8], sink: &mut K) -> Result<(), Failed>
+    ensures { Puts K.taken K.faults sink.old sink.new result (fault_line words.now) }
+{
+    put_line(
+        &[
+            Piece::Text(b"hub: instance fault "),
+            Piece::Text(words),
+            Piece::Text(b"\n"),
+        ],
+        sink,
+    )
+}
+
+#[tactic(auto, unfolding(crate::specs::Texts::fault_line))]
+fn put_at<K: Sink>(words: &[u8], at: u64, sink: &mut K) -> Result<(), Failed>
+    ensures { Puts K.taken K.faults sink.old sink.new result (fault_line (words.now ++ decimal at)) }
+{
+    put_line(
+        &[
+            Piece::Text(b"hub: instance fault "),
+            Piece::Text(words),
+            Piece::Count(at as u128),
+            Piece::Text(b"\n"),
+        ],
+        sink,
+    )
+}
+
+fn put_missing_pair<K: Sink>(i: u32, j: u32, sink: &mut K) -> Result<(), Failed>
+    ensures { Puts K.taken K.faults sink.old sink.new result (fault_text (missing_pair i j)) }
+{
+    put_pair(b"3 Missing pair ", i, j, sink)
+}
+
+fn put_repeated<K: Sink>(i: u32, j: u32, sink: &mut K) -> Result<(), Failed>
+    ensures { Puts K.taken K.faults sink.old sink.new result (fault_text (repeated i j)) }
+{
+    put_pair(b"9 Repeated ", i, j, sink)
+}
+
+#[tactic(auto, unfolding(crate::specs::Texts::fault_line))]
+fn put_pair<K: Sink>(words: &[u8], i: u32, j: u32, sink: &mut K) -> Result<(), Failed>
+    ensures { Puts K.taken K.faults sink.old sink.new result (fault_line (words.now ++ decimal (i + 1) ++ codes " " ++ decimal (j + 1))) }
+{
+    put_line(
+        &[
+            Piece::Text(b"hub: instance fault "),
+            Piece::Text(words),
+            Piece::Count(i as u128 + 1),
+            Piece::Text(b" "),
+            Piece::Count(j as u128 + 1),
+            Piece::Text(b"\n"),
+        ],
+        sink,
+    )
+}
+
+#[tactic(auto, unfolding(crate::specs::Texts::fault_line))]
+fn put_size<K: Sink>(got: i128, sink: &mut K) -> Result<(), Failed>
+    ensures { Puts K.taken K.faults sink.old sink.new result (fault_line (codes "5 Size " ++ signed_decimal got)) }
+{
+    put_line(
+        &[
+            Piece::Text(b"hub: instance fault 5 Size "),
+            Piece::Number(got),
+            Piece::Text(b"\n"),
+        ],
+        sink,
+    )
+}
+
+#[tactic(auto, unfolding(crate::specs::Texts::fault_line))]
+fn put_sum<K: Sink>(sum: i128, sink: &mut K) -> Result<(), Failed>
+    ensures { Puts K.taken K.faults sink.old sink.new result (fault_line (codes "11 TooCostly " ++ decimal (natural sum))) }
+{
+    let sum = if sum < 0 { 0 } else { sum as u128 };
+    put_line(
+        &[
+            Piece::Text(b"hub: instance fault 11 TooCostly "),
+            Piece::Count(sum),
+            Piece::Text(b"\n"),
+        ],
+        sink,
+    )
+}

@@ -1,0 +1,55 @@
+//! The top call.
+
+ghost use Rattle.std.specs.Prelude.{◌≡◌, ◌⊎◌};
+ghost use Rattle.hub_io.specs.Outside.{Rose};
+ghost use Rattle.hub_top.specs.Words as spec;
+ghost use Rattle.hub_top.specs.Views.{ending, texts};
+ghost use Rattle.hub_top.specs.Endings.{Ending, MayEnd, ShelfFails, Written};
+ghost use Rattle.hub_top.specs.Meanings.{Means};
+
+use crate::Status;
+use crate::endings::{Intended, write};
+use crate::solving::solve;
+use crate::words::{Command, asked};
+use hub_io::{Gate, Shelf, Sink};
+use std::alloc::Global;
+use std::thread::Threads;
+
+/// Runs the command that the words give, of which the first is the program's name.
+///
+/// It reads and decides first, and then writes: the certificate on `out`, and what hinders it on `err`. The runtime and
+/// the gate are not used so far.
+///
+/// - `ends`: there is an ending that the words, the files and the shelf's faults allow, and it was written, with its
+///   status; where a sink failed, a front of the text that it was to take, and nothing further.
+/// - `means`: what each status says of the words, the files, the faults and what `out` took.
+pub fn run<R: Threads + Sync, S: Shelf, O: Sink, E: Sink, G: Gate>(
+    _rt: &R,
+    alloc: Global,
+    words: &[String],
+    shelf: &mut S,
+    out: &mut O,
+    err: &mut E,
+    _gate: &G,
+) -> Status
+    ensures ends { (ending : Ending)
+        × MayEnd (spec.asked (texts words.now)) (S.held shelf.old) (ShelfFails S.held S.faults S.sound shelf.old shelf.new) ending
+        × Written O.taken O.faults E.taken E.faults out.old out.new err.old err.new result ending }
+    ensures means { Means (spec.asked (texts words.now)) (S.held shelf.old) (ShelfFails S.held S.faults S.sound shelf.old shelf.new)
+        (O.taken out.old) (O.taken out.new) (Rose (O.faults out.old) (O.faults out.new) ⊎ Rose (E.faults err.old) (E.faults err.new)) result }
+    ensures same { S.held shelf.new ≡ S.held shelf.old }
+{
+    let intended = intend(alloc, words, shelf);
+    write(&intended, out, err)
+}
+
+/// What the words and files come to. It writes nothing.
+fn intend<S: Shelf>(alloc: Global, words: &[String], shelf: &mut S) -> Intended
+    ensures may { MayEnd (spec.asked (texts words.now)) (S.held shelf.old) (ShelfFails S.held S.faults S.sound shelf.old shelf.new) (ending result) }
+    ensures same { S.held shelf.new ≡ S.held shelf.old }
+{
+    match asked(words) {
+        None => Intended::Usage,
+        Some(Command::Solve { file, fixed }) => solve(alloc, file, fixed, shelf),
+    }
+}
