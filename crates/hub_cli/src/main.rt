@@ -19,7 +19,15 @@ fn main(rt: HostRuntime) -> ExitCode {
     let status = match words(&rt) {
         Ok(words) => {
             let mut shelf = DiskShelf::new(&rt);
-            run(&rt, rt.alloc(), &words, &mut shelf, &mut out, &mut err, &OpenGate)
+            run(
+                &rt,
+                rt.alloc(),
+                &words,
+                &mut shelf,
+                &mut out,
+                &mut err,
+                &OpenGate,
+            )
         }
         Err(_) => tell_memory(&mut err),
     };

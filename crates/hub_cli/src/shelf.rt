@@ -95,7 +95,9 @@ mod tests {
         let mut into = [0u8; 4];
         assert!(rt; shelf.read(&mut into).is_err(), "nothing is begun");
         assert_eq!(rt; shelf.faults, 1);
-        let bytes = read_whole(rt.alloc(), &mut shelf, "held.txt", 5).ok().ok_or("read")?;
+        let bytes = read_whole(rt.alloc(), &mut shelf, "held.txt", 5)
+            .ok()
+            .ok_or("read")?;
         assert_eq!(rt; bytes.as_slice(), b"1;0,0".as_slice());
         let long = read_whole(rt.alloc(), &mut shelf, "held.txt", 4);
         assert_eq!(rt; long.err(), Some(ReadEnd::TooLong));

@@ -69,7 +69,12 @@ mod tests {
         fn write(&mut self, piece: &[u8]) -> io::Result<usize> {
             let room = 7usize.saturating_sub(self.count);
             let count = piece.len().min(2).min(room);
-            for (slot, byte) in self.taken.iter_mut().skip(self.count).zip(piece.iter().take(count)) {
+            for (slot, byte) in self
+                .taken
+                .iter_mut()
+                .skip(self.count)
+                .zip(piece.iter().take(count))
+            {
                 *slot = *byte;
             }
             self.count = self.count.saturating_add(count);
