@@ -85,7 +85,7 @@ factor_within : (asked : Option ℕ) (given : ℕ) → IfSome asked (λ x. x ≤
 factor_within None given h g = g
 factor_within (Some x) given h g = h
 
-made_within : (o : Options) (c : Contents) (costs : Option (List ℕ)) → IsOptions o → IsContents c → IfSome costs (AreCosts c.size)
+pub made_within : (o : Options) (c : Contents) (costs : Option (List ℕ)) → IsOptions o → IsContents c → IfSome costs (AreCosts c.size)
     → build_fault o c costs ≡ None → IsProblem (made o c costs)
 unfolding made build_fault distance
 made_within o c costs ok within given legal =

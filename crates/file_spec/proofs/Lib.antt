@@ -1,4 +1,11 @@
+pub mod TokenLimits
+pub mod Distances
+pub mod RowLimits
+pub mod PostLimits
+pub mod ContentLimits
+pub mod Firsts
+pub mod Ends
 pub mod FirstFaults
 pub mod OneInstance
-pub mod ContentLimits
 pub mod GivenLimits
+pub mod CostsFiles

@@ -5,7 +5,7 @@ use Rattle.hub_spec.specs.Problem.{Problem, cost_ceiling}
 use Rattle.file_spec.specs.Options.{Layout, Options}
 use Rattle.file_spec.specs.Faults.{Fault, too_long, no_candidate, too_costly}
 use Rattle.file_spec.specs.Contents.{Contents}
-use Rattle.file_spec.specs.Files.{HasContents, HasFault}
+use Rattle.file_spec.specs.Files.{HasContents, HasFault, HasCosts, HasCostFault}
 
 -- the flows, those of a node to itself set to 0 where it is asked for
 abbrev pub held_flows : Bool → ℕ → List ℕ → List ℕ
@@ -50,7 +50,7 @@ build_fault o contents costs =
     candidate_fault (find (λ k. nat_le contents.size k) (chosen contents.size o.candidates))
     (sum_fault (cost_ceiling (made o contents costs)))
 
--- an instance file may hold at most this many bytes
+-- an instance file and a costs file may each hold at most this many bytes
 abbrev pub file_limit : ℕ
 file_limit = 67108864
 
@@ -68,3 +68,13 @@ pub data GivesFault (layout : Layout) (o : Options) (bytes : List ℕ) (costs : 
   of_token : length bytes ≤ file_limit → HasFault layout o bytes fault → GivesFault layout o bytes costs fault
   of_whole : (contents : Contents) → length bytes ≤ file_limit → HasContents layout o bytes contents
       → build_fault o contents costs ≡ Some fault → GivesFault layout o bytes costs fault
+
+-- the costs file gives these fixed costs of n nodes
+pub record GivesCosts (n : ℕ) (bytes costs : List ℕ) : Type 0 where
+  pub not_too_long : length bytes ≤ file_limit
+  pub has : HasCosts n bytes costs
+
+-- the costs file has this fault: too many bytes, else the first of a token
+pub data GivesCostFault (n : ℕ) (bytes : List ℕ) (fault : Fault) : Type 0 where
+  of_length : file_limit < length bytes → fault ≡ too_long → GivesCostFault n bytes fault
+  of_token : length bytes ≤ file_limit → HasCostFault n bytes fault → GivesCostFault n bytes fault

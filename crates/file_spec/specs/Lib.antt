@@ -2,6 +2,8 @@ pub mod Options
 pub mod Faults
 pub mod Contents
 pub mod Places
+pub mod Distances
+pub mod Rows
 pub mod Files
 pub mod Instances
 pub mod Theorems

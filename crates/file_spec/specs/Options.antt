@@ -6,6 +6,10 @@ use Rattle.std.specs.List.Sorted.{IsStrictlyIncreasing}
 pub data Layout : Type 0 where
   -- n, then n * n flows and n * n distances, row by row
   cab_matrix : Layout
+  -- n, then rows of two nodes, a flow and a distance, in any order
+  cab_rows : Layout
+  -- n, then n pairs of coordinates, n * n flows row by row, the listed number of hubs, three factors, and a tail
+  australia_post : Layout
 
 -- which of the two matrices stands first
 pub data Order : Type 0 where
