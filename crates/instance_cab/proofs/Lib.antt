@@ -1,6 +1,10 @@
-pub mod Counts
-pub mod Ahead
 pub mod Fronts
-pub mod Stretches
-pub mod WholeFiles
-pub mod Stages
+pub mod MatrixTokens
+pub mod MatrixFiles
+pub mod MatrixStages
+pub mod CostsFiles
+pub mod RowTokens
+pub mod Ranges
+pub mod Lacks
+pub mod RowsRead
+pub mod RowFiles

@@ -1,2 +1,2 @@
-pub mod Unread
 pub mod Matrices
+pub mod Rows

@@ -1,37 +1,38 @@
--- The two matrices of a file, and what they are read as.
+-- The matrices and fixed costs of a file, and what they are read as.
 use Rattle.std.specs.Prelude.{ℕ, ◌≤◌, List, map, None}
 use Rattle.std.specs.List.{range_with_len}
-use Rattle.file_spec.specs.Options.{cab_matrix, Order, flow_first, distance_first, Options}
+use Rattle.file_spec.specs.Options.{Order, flow_first, distance_first}
 use Rattle.file_spec.specs.Contents.{Contents}
-use Rattle.file_spec.specs.Places.{Wanted, a_flow, a_distance}
-use Rattle.file_spec.specs.Files.{held_distance, HasFault}
-use Rattle.hub_model.specs.Faults.{fault_of}
-use Rattle.hub_model.specs.declared.faults.Refusal.{Refusal}
-use Rattle.hub_model.specs.declared.faults.Refusal.TheVariants.{Fault as of_fault, OutOfMemory}
-use Rattle.instance_cab.specs.Unread.{Unread, later, value_here}
+use Rattle.file_spec.specs.Places.{Wanted, a_flow, a_distance, a_cost}
+use Rattle.file_spec.specs.Files.{held_distance}
+use Rattle.token_reader.specs.Unread.{Unread, later, value_here}
 use Rattle.instance_cab.specs.declared.kinds.Kind.{Kind}
-use Rattle.instance_cab.specs.declared.kinds.Kind.TheVariants.{Flow, Distance}
+use Rattle.instance_cab.specs.declared.kinds.Kind.TheVariants.{Flow, Distance, Cost}
 
--- what the numbers of a matrix of this kind are to be
+-- what the numbers of this kind are to be
 abbrev pub places_of : Kind → ℕ
 places_of Flow = 6
 places_of (Distance divide) = 3
+places_of Cost = 6
 
 abbrev pub wanted_of : Kind → Wanted
 wanted_of Flow = a_flow
 wanted_of (Distance divide) = a_distance
+wanted_of Cost = a_cost
 
 -- distances are divided by 1 or more
 abbrev pub IsKind : Kind → Type 0
 IsKind Flow = Unit {0}
 IsKind (Distance divide) = 1 ≤ divide
+IsKind Cost = Unit {0}
 
--- what is held of the number for the commodity number s, with n nodes
+-- what is held of the number s of its list, with n nodes
 abbrev pub held_of : Kind → ℕ → ℕ → ℕ → ℕ
 held_of Flow n s read = read
 held_of (Distance divide) n s read = held_distance divide n s read
+held_of Cost n s read = read
 
--- what is held of the next m numbers of a matrix
+-- what is held of the next m numbers of a list
 unfoldable pub held_front : Kind → ℕ → ℕ → Unread → List ℕ
 held_front kind n m r = map (λ s. held_of kind n s (value_here (places_of kind) (later s r))) (range_with_len 0 m)
 
@@ -48,8 +49,3 @@ second_kind distance_first divide = Flow
 abbrev pub contents_with : Order → ℕ → List ℕ → List ℕ → Contents
 contents_with flow_first n first second = record { size = n; flows = first; distances = second; collect = 1000; trunk = 1000; deliver = 1000; listed_p = None; costs = None }
 contents_with distance_first n first second = record { size = n; flows = second; distances = first; collect = 1000; trunk = 1000; deliver = 1000; listed_p = None; costs = None }
-
--- the file was refused for its first fault; want of memory says nothing
-abbrev pub IsRefused : Options → List ℕ → Refusal → Type 0
-IsRefused o bytes (of_fault f) = HasFault cab_matrix o bytes (fault_of f)
-IsRefused o bytes OutOfMemory = Unit {0}

@@ -1,20 +1,30 @@
-//! The reader of instance files in the layout `cab-matrix`.
+//! The readers of instance files in the layouts `cab-matrix` and `cab-rows`, and of costs files.
 //!
-//! A file holds the number of nodes n, then n * n flows and n * n distances row by row, and nothing more; which of
-//! the two matrices stands first is an option. [`read_matrix`] gives the parts of the instance, or the first fault
-//! in the order of tokens.
+//! A file in the matrix layout holds the number of nodes n, then n * n flows and n * n distances row by row, and
+//! nothing more; which of the two matrices stands first is an option. A file in the row layout holds n, and then a row
+//! of two nodes, a flow and a distance for each pair of nodes, in any order. [`read_matrix`] and [`read_rows`] give the
+//! parts of the instance, or the first fault in the order of tokens; [`read_costs`] gives the fixed costs of a costs
+//! file.
 #![tactic(auto)]
 
-// The file as a whole.
-mod layout;
+// The files as a whole.
+mod costs;
+mod matrix_layout;
+mod row_layout;
 
-// Its tokens in turn.
-mod reading;
-
-// What a number is to be, and what a token writes.
+// A list of numbers, and what they are to be.
 mod kinds;
-mod numbers;
+mod lists;
+
+// A row, and what rows say of their commodities.
+mod pairs;
+mod rows;
+
+// What a file gives.
+mod contents;
 #[cfg(test)]
 mod tests;
 
-pub use layout::read_matrix;
+pub use costs::read_costs;
+pub use matrix_layout::read_matrix;
+pub use row_layout::read_rows;

@@ -1,7 +1,7 @@
 // Worked files: the numbers they give, and the first faults of others.
 ghost use Rattle.std.specs.Prelude.{◌^◌, ◌≤◌};
 
-use crate::read_matrix;
+use crate::{read_costs, read_matrix, read_rows};
 use hub_model::{InstanceFault, Order, Parts, Refusal, Tail, Terms, Wanted};
 use std::alloc::Global;
 
@@ -23,8 +23,8 @@ fn terms(order: Order, divide: u32) -> Terms
     }
 }
 
-fn refusal(alloc: Global, text: &str) -> Option<Refusal> {
-    match read_matrix(alloc, text.as_bytes(), &Terms::plain()) {
+fn refusal(outcome: Result<Parts, Refusal>) -> Option<Refusal> {
+    match outcome {
         Ok(_) => None,
         Err(refusal) => Some(refusal),
     }
@@ -73,7 +73,7 @@ fn first_faults(rt: HostRuntime) {
         ),
     ] {
         assert_eq!(rt;
-            refusal(rt.alloc(), text),
+            refusal(read_matrix(rt.alloc(), text.as_bytes(), &Terms::plain())),
             Some(Refusal::Fault(fault)),
             "{text}"
         );
@@ -119,4 +119,120 @@ fn distances_before_flows(rt: HostRuntime) {
             &[0, 10_000, 11_000, 0]
         )
     );
+}
+
+#[test]
+fn costs_of_three_nodes(rt: HostRuntime) {
+    let costs = read_costs(rt.alloc(), b"7 4 4.0000019", 3);
+    assert!(rt;
+        costs.is_ok_and(|costs| costs.as_slice() == [7_000_000, 4_000_000, 4_000_001].as_slice())
+    );
+}
+
+#[test]
+fn first_faults_of_costs(rt: HostRuntime) {
+    for (text, fault) in [
+        ("7 4 4 1", InstanceFault::Extra { at: 6 }),
+        (
+            "7 4",
+            InstanceFault::Missing {
+                what: Wanted::Token(3),
+            },
+        ),
+        ("7 -4 4", InstanceFault::Negative { at: 2 }),
+        (
+            "1000000000000 1000000000000.000001 4",
+            InstanceFault::TooBig { at: 14 },
+        ),
+        ("7 4 four", InstanceFault::BadNumber { at: 4 }),
+    ] {
+        let refusal = match read_costs(rt.alloc(), text.as_bytes(), 3) {
+            Ok(_) => None,
+            Err(refusal) => Some(refusal),
+        };
+        assert_eq!(rt; refusal, Some(Refusal::Fault(fault)), "{text}");
+    }
+}
+
+#[test]
+fn rows_in_any_order(rt: HostRuntime) {
+    let flows = [0, 1_000_000, 1_000_000, 0];
+    let distances = [0, 10_000, 10_000, 0];
+    let rows = read_rows(rt.alloc(), b"2 2 1 1 10 1 2 1 10", &Terms::plain());
+    assert!(rt; gives(&rows, 2, &flows, &distances));
+    let matrices = read_matrix(rt.alloc(), b"2 0 1 1 0 0 10 10 0", &Terms::plain());
+    assert!(rt; gives(&matrices, 2, &flows, &distances));
+}
+
+#[test]
+fn divided_distances_of_rows(rt: HostRuntime) {
+    let terms = terms(Order::DistanceFirst, 3);
+    let parts = read_rows(rt.alloc(), b"2 1 1 5 7 2 1 2 11 1 2 1 10", &terms);
+    assert!(rt;
+        gives(
+            &parts,
+            2,
+            &[5_000_000, 1_000_000, 2_000_000, 0],
+            &[0, 3333, 3666, 0]
+        )
+    );
+}
+
+#[test]
+fn one_node_without_rows(rt: HostRuntime) {
+    let parts = read_rows(rt.alloc(), b"1", &Terms::plain());
+    assert!(rt; gives(&parts, 1, &[0], &[0]));
+}
+
+#[test]
+fn first_faults_of_pairs(rt: HostRuntime) {
+    for (text, fault) in [
+        (
+            "2 1 2 1 10 1 2 1 10",
+            InstanceFault::Repeated { i: 0, j: 1 },
+        ),
+        ("1 1 1 0 0 1 1 0 0", InstanceFault::Repeated { i: 0, j: 0 }),
+        (
+            "2 1 2 1 10",
+            InstanceFault::Missing {
+                what: Wanted::Pair(1, 0),
+            },
+        ),
+        (
+            "3 3 3 1 10 1 2 1 10",
+            InstanceFault::Missing {
+                what: Wanted::Pair(0, 2),
+            },
+        ),
+    ] {
+        assert_eq!(rt;
+            refusal(read_rows(rt.alloc(), text.as_bytes(), &Terms::plain())),
+            Some(Refusal::Fault(fault)),
+            "{text}"
+        );
+    }
+}
+
+#[test]
+fn first_faults_of_rows(rt: HostRuntime) {
+    for (text, fault) in [
+        ("201 1 1", InstanceFault::Size { got: 201 }),
+        ("2 3 1 1 1", InstanceFault::BadIndex { at: 2 }),
+        ("2 1 0 -1", InstanceFault::BadIndex { at: 4 }),
+        ("2 1 2 -1 x", InstanceFault::Negative { at: 6 }),
+        ("2 1 2 1 10000000.001", InstanceFault::TooBig { at: 8 }),
+        ("2 1 2 1 10 1 2 1 x", InstanceFault::BadNumber { at: 17 }),
+        (
+            "2 1 2 1",
+            InstanceFault::Missing {
+                what: Wanted::Token(5),
+            },
+        ),
+    ] {
+        assert_eq!(rt;
+            refusal(read_rows(rt.alloc(), text.as_bytes(), &Terms::plain())),
+            Some(Refusal::Fault(fault)),
+            "{text}"
+        );
+    }
 }

@@ -1,0 +1,4 @@
+pub mod Counts
+pub mod Ahead
+pub mod Stretches
+pub mod Stages
