@@ -1,0 +1,7 @@
+pub mod Gaps
+pub mod Numbers
+pub mod Legal
+pub mod Tails
+pub mod PostTokens
+pub mod PostStages
+pub mod PostFiles

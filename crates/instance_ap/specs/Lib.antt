@@ -1,0 +1,3 @@
+pub mod Points
+pub mod Fronts
+pub mod Files

@@ -1,0 +1,97 @@
+ghost use Rattle.std.specs.Prelude.{◌≡◌, IfOk, IfErr};
+ghost use Rattle.file_spec.specs.Options.{australia_post, Options};
+ghost use Rattle.file_spec.specs.Contents.{IsContents};
+ghost use Rattle.file_spec.specs.Files.{HasContents};
+ghost use Rattle.token_reader.specs.Refusals.{IsRefused};
+ghost use Rattle.instance_ap.specs.Files.{IsFront, contents_with};
+
+use crate::distances::distances;
+use crate::points::Point;
+use crate::reading::{read_factors, read_numbers, read_points, read_tail};
+use hub_model::{Factors, Numbers, Parts, Refusal, Terms};
+use std::alloc::Global;
+use token_reader::Reader;
+
+// A flow is at most this many 10^-6.
+const FLOW_LIMIT: u64 = 10_000_000_000_000;
+
+// At most this many hubs are listed.
+const HUB_LIMIT: u64 = 1000;
+
+/// Reads an instance file in the layout of Australia Post: what it gives, or the first fault in the order of tokens.
+///
+/// The file holds the number of nodes n, n pairs of coordinates, n * n flows row by row, the listed number of hubs
+/// and the factors of collection, trunk and delivery. The option `tail` tells what follows: fixed costs of the n nodes
+/// and nothing more, or whatever it is, which is not looked at. Coordinates, flows and fixed costs are read in 10^-6
+/// and factors in 10^-3, all cut. A distance is that in the plane, divided by the option `divide` and rounded down.
+pub fn read_ap(alloc: Global, bytes: &[u8], terms: &Terms) -> Result<Parts, Refusal>
+    ensures contents { IfOk result (λ parts. HasContents australia_post terms.now bytes.now parts) }
+    ensures fault { IfErr result (IsRefused australia_post terms.now bytes.now) }
+{
+    terms.limits();
+    let Front {
+        n,
+        points,
+        flows,
+        listed_p,
+        factors,
+        mut rest,
+    } = read_front(alloc, bytes)?;
+    let tail_costs = read_tail(alloc, &mut rest, terms.tail, n)?;
+    let distances = distances(alloc, &points, terms.divide)?;
+    Ok(parts(n, flows, distances, listed_p, factors, tail_costs))
+}
+
+/// What a file gives in front of its tail, and its tokens from there on.
+#[derive(Drop)]
+struct Front<'a> {
+    n: u32,
+    points: Vec<Point>,
+    flows: Numbers,
+    listed_p: u32,
+    factors: Factors,
+    rest: Reader<'a>,
+}
+
+// Reads a file up to its tail.
+fn read_front(alloc: Global, bytes: &[u8]) -> Result<Front<'_>, Refusal>
+    ensures front { IfOk result (IsFront bytes.now) }
+    ensures fault { (o : Options) → IfErr result (IsRefused australia_post o bytes.now) }
+{
+    let mut rest = Reader::over(bytes);
+    let n = rest.size().map_err(Refusal::Fault)?;
+    let points = read_points(alloc, &mut rest, n)?;
+    let flows = read_numbers(alloc, &mut rest, n * n, 6, FLOW_LIMIT)?;
+    let listed_p = rest.quantity(0, HUB_LIMIT).map_err(Refusal::Fault)? as u32;
+    let factors = read_factors(&mut rest).map_err(Refusal::Fault)?;
+    Ok(Front {
+        n,
+        points,
+        flows,
+        listed_p,
+        factors,
+        rest,
+    })
+}
+
+// What the file gives.
+fn parts(
+    n: u32,
+    flows: Numbers,
+    distances: Numbers,
+    listed_p: u32,
+    factors: Factors,
+    tail_costs: Option<Numbers>,
+) -> Parts
+    requires { IsContents (contents_with n flows distances listed_p factors tail_costs) }
+    ensures { result ≡ contents_with n flows distances listed_p factors tail_costs }
+{
+    Parts {
+        n,
+        flows,
+        distances,
+        factors,
+        listed_p: Some(listed_p),
+        tail_costs,
+    }
+}
