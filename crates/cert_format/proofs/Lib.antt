@@ -1,0 +1,16 @@
+pub mod Splits
+pub mod Values
+pub mod Spelled
+pub mod Saying
+pub mod Single
+pub mod Fitting
+pub mod Gathering
+pub mod Legal
+pub mod Listing
+pub mod Collecting
+pub mod LineReads
+pub mod TakenLines
+pub mod Finished
+pub mod Steps
+pub mod Written
+pub mod Putting

@@ -1,0 +1,9 @@
+use Rattle.std.proofs.Common.{◌∙◌}
+use Rattle.cert_format.proofs.Finished.{finished_is, finished_held}
+use Rattle.cert_format.proofs.drafts.Draft.finish.Goals as goal
+
+pub new-requires : goal.new-requires
+new-requires c = finished_held c.args.self c.requires.0 c.new-plan.result c.requires.1 c.requires.2 c.new-plan.ensures
+
+pub returns : goal.returns
+returns c k h e = c.new.ensures ∙ finished_is c.args.self k c.new-plan.result h e c.new-plan.ensures

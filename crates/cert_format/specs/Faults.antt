@@ -1,0 +1,11 @@
+-- The fault of a text that code speaks of.
+use Rattle.std.specs.Prelude.{ℕ, List}
+use Rattle.hub_spec.specs.Grammar.{bad_line, ended, IsTextFault}
+use Rattle.cert_format.specs.declared.reader.CertFault.{CertFault}
+use Rattle.cert_format.specs.declared.reader.CertFault.TheVariants.{BadLine, Ended, OutOfMemory}
+
+-- the bytes have the fault that is told; want of memory tells nothing
+abbrev pub ToldFault : List ℕ → CertFault → Type 0
+ToldFault bytes (BadLine line) = IsTextFault bytes (bad_line line)
+ToldFault bytes (Ended line) = IsTextFault bytes (ended line)
+ToldFault bytes OutOfMemory = Unit {0}

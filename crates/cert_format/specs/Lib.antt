@@ -1,0 +1,13 @@
+pub mod Words
+pub mod Said
+pub mod Fits
+pub mod Growing
+pub mod Codes
+pub mod Held
+pub mod Gathered
+pub mod Stages
+pub mod Drafts
+pub mod Faults
+pub mod Readings
+pub mod Rows
+pub mod Lists

@@ -1,0 +1,128 @@
+ghost use Rattle.std.specs.Prelude.{◌≡◌, pos, map};
+ghost use Rattle.hub_spec.specs.Trees.{preorder};
+ghost use Rattle.hub_spec.specs.Text.{IsInRange};
+ghost use Rattle.hub_model.specs.Lines.{tree_line_of};
+ghost use Rattle.cert_format.specs.Held.{cut_of, proof_of, IsHeldCertificate};
+
+use hub_model::{Dual, Plan, TreeLine};
+use std::marker::Model;
+
+/// A certificate within the ranges of the grammar: a plan and its cost, and cuts with a tree that are to show that no
+/// plan costs less than the bound. Whether they do is for a checker to say.
+///
+/// Costs are in 10^-12, and nodes count from 0. A cut is its duals, one for each commodity in order, and a tree is its
+/// lines in preorder, the open child first.
+#[derive(Debug, Drop)]
+pub struct Certificate {
+    size: u32,
+    candidates: u32,
+    cost: i128,
+    bound: i128,
+    plan: Plan,
+    cuts: Vec<Vec<Dual>>,
+    tree: Vec<TreeLine>,
+}
+
+impl Model for Certificate {
+    ghost use Rattle.hub_spec.specs.Certificates.{Proof};
+    ghost use Rattle.cert_format.specs.Codes.{coded_proof};
+
+    ghost Value = { Proof };
+
+    ghost coded = { coded_proof };
+
+    ghost use Rattle.cert_format.specs.Held.{proof_of, IsHeldCertificate};
+
+    ghost view = { λ c. proof_of c.size c.candidates c.cost c.bound c.plan c.cuts.items c.tree.items };
+
+    ghost invariant = { λ c. IsHeldCertificate c.size c.candidates c.cost c.bound c.plan c.cuts.items c.tree.items };
+}
+
+impl Certificate {
+    /// The certificate of these parts, which are taken as they are.
+    pub fn new(
+        size: u32,
+        candidates: u32,
+        cost: i128,
+        bound: i128,
+        plan: Plan,
+        cuts: Vec<Vec<Dual>>,
+        tree: Vec<TreeLine>,
+    ) -> Certificate
+        requires { IsHeldCertificate size candidates cost bound plan cuts.items tree.items }
+        ensures { result ≡ proof_of size candidates cost bound plan cuts.items tree.items }
+    {
+        Certificate {
+            size,
+            candidates,
+            cost,
+            bound,
+            plan,
+            cuts,
+            tree,
+        }
+    }
+
+    /// The number of nodes.
+    pub fn size(&self) -> u32
+        ensures { result ≡ self.now.size }
+    {
+        self.size
+    }
+
+    /// The number of candidates.
+    pub fn candidates(&self) -> u32
+        ensures { result ≡ self.now.candidates }
+    {
+        self.candidates
+    }
+
+    /// The cost of the plan.
+    pub fn cost(&self) -> i128
+        ensures { result ≡ pos self.now.cost }
+    {
+        self.cost
+    }
+
+    /// The bound on the cost of each plan.
+    pub fn bound(&self) -> i128
+        ensures { result ≡ pos self.now.bound }
+    {
+        self.bound
+    }
+
+    /// The hubs of the plan, ascending.
+    pub fn hubs(&self) -> &[u32]
+        ensures { result.now ≡ self.now.plan.hubs }
+    {
+        self.plan.hubs()
+    }
+
+    /// The first and the last hub of each commodity's route, in the order of commodities.
+    pub fn routes(&self) -> &[(u32, u32)]
+        ensures { result.now ≡ self.now.plan.routes }
+    {
+        self.plan.routes()
+    }
+
+    /// The cuts, each by its duals.
+    pub fn cuts(&self) -> &[Vec<Dual>]
+        ensures { map cut_of result.now ≡ self.now.cuts }
+    {
+        &self.cuts
+    }
+
+    /// The lines of the tree.
+    pub fn tree(&self) -> &[TreeLine]
+        ensures { map tree_line_of result.now ≡ preorder self.now.tree }
+    {
+        &self.tree
+    }
+
+    /// Tells that the certificate is within the ranges of the grammar.
+    pub fn limits(&self)
+        ensures { IsInRange self.now }
+    {
+        let _ = &self.size;
+    }
+}

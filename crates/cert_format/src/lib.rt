@@ -1,0 +1,35 @@
+//! The certificate as a type, and its text written and read.
+//!
+//! - [`Certificate`] is a certificate within the ranges of the grammar, seen by contracts as the definitions' `Proof`.
+//! - [`write_cert`] puts its text on a sink: just `certificate_text` of it.
+//! - [`read_cert`] reads bytes back: a certificate exactly where all of the bytes spell it, and otherwise the fault of
+//!   the text that the definitions give it, as a [`CertFault`] with the number of the line.
+//!
+//! The text is defined in the crate `hub_spec`: `Lines`, `Text` and `Grammar`. A line is read as its first word and the
+//! numbers behind it (`words`), these say an item at a stage of the text (`said`, `listed`), and a draft takes items in
+//! until it is a certificate (`drafts`).
+#![tactic(auto)]
+
+mod certificate;
+
+// Reading: a line as words and numbers, what these say, and a draft that takes it in.
+mod drafts;
+mod fits;
+mod listed;
+mod lists;
+mod reader;
+mod said;
+mod stages;
+mod words;
+
+// Writing.
+mod lines;
+mod rows;
+mod writer;
+
+pub use certificate::Certificate;
+pub use reader::{CertFault, read_cert};
+pub use writer::write_cert;
+
+#[cfg(test)]
+mod tests;

@@ -1,4 +1,0 @@
-pub mod Grown
-pub mod Each
-pub mod LineTexts
-pub mod TextParts

@@ -1,5 +1,0 @@
-pub mod Grown
-pub mod Codes
-pub mod Certificates
-pub mod Rows
-pub mod Parts
