@@ -1,0 +1,14 @@
+mod AllLoops
+mod PlanCosts
+mod Reductions
+mod Parts
+mod DualValues
+mod Collections
+mod DualSums
+mod ChildLists
+mod Mixes
+mod TreeWalks
+mod WholeChecks
+mod HeldWeights
+mod CutLists
+mod Shown

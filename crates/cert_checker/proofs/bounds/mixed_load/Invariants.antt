@@ -1,0 +1,7 @@
+use Rattle.hub_spec.specs.Cuts.{load}
+use Rattle.hub_spec.specs.Trees.{cut_at}
+use Rattle.cert_checker.proofs.Mixes.{IsMixed}
+use Rattle.cert_checker.proofs.bounds.mixed_load.Given as goal
+
+abbrev pub invariant-loop-entry : goal.invariant-loop-entry
+invariant-loop-entry l = IsMixed (λ c. load (cut_at l.cuts c) l.k) l.weights l.entry-index l.sum

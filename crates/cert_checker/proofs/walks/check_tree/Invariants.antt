@@ -1,0 +1,14 @@
+use Rattle.std.proofs.Common.{◌+◌, [], ◌∷◌, map, reverse, drop, All}
+use Rattle.hub_spec.specs.Trees.{root}
+use Rattle.hub_model.specs.Lines.{tree_line_of}
+use Rattle.cert_checker.specs.Branches.{IsBranch}
+use Rattle.cert_checker.specs.Walks.{walk_claims}
+use Rattle.cert_checker.proofs.Reductions.{Reduces}
+use Rattle.cert_checker.proofs.walks.check_tree.Given as goal
+
+abbrev pub invariant-loop-i : goal.invariant-loop-i
+invariant-loop-i l = record {
+  rest : Reduces (walk_claims l.instance l.cuts l.target l.line (root l.instance ∷ []) (map tree_line_of l.lines))
+      (walk_claims l.instance l.cuts l.target (l.line + l.i) (reverse l.pending.items) (drop l.i (map tree_line_of l.lines)));
+  branches : All (IsBranch l.instance) l.pending.items;
+}

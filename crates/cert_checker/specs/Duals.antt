@@ -1,0 +1,21 @@
+-- The conditions on a dual whose values are listed by node, and the sums of a cut.
+use Rattle.std.specs.Prelude.{◌≡◌, ℕ, ◌+◌, ◌≤◌, List, slice_index, ◌⊎◌}
+use Rattle.hub_spec.specs.Problem.{Problem, route_cost}
+use Rattle.hub_spec.specs.Cuts.{value_at, Cut, total, load}
+
+-- each node's value is that of the dual
+abbrev pub AreValues : List (ℕ × ℕ) → List ℕ → Type 0
+AreValues u values = (k : ℕ) → slice_index values k ≡ value_at u k
+
+-- the route through one hub and the hub's value are no less than the price
+abbrev pub IsCoveredSingle : Problem → ℕ × ℕ → ℕ → List ℕ → ℕ → Type 0
+IsCoveredSingle p c a values k = a ≤ route_cost p c.0 c.1 k k + slice_index values k
+
+-- the hubs are one, or the route through both and their values are no less than the price
+abbrev pub IsCovered : Problem → ℕ × ℕ → ℕ → List ℕ → ℕ → ℕ → Type 0
+IsCovered p c a values k m = (k ≡ m) ⊎ (a ≤ route_cost p c.0 c.1 k m + slice_index values k + slice_index values m)
+
+-- the total and the loads are those of the cut
+pub record IsSummed (cut : Cut) (sum : ℕ) (loads : List ℕ) : Type 0 where
+  pub sum_is : sum ≡ total cut
+  pub loads_are : (k : ℕ) → slice_index loads k ≡ load cut k

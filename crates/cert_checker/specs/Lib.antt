@@ -1,0 +1,4 @@
+pub mod Answers
+pub mod Duals
+pub mod Branches
+pub mod Walks

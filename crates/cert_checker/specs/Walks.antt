@@ -1,0 +1,29 @@
+-- The conditions of the lines of a tree, one line after another, with the branches that are still to be filled.
+use Rattle.std.specs.Prelude.{ℕ, ◌+◌, ◌≤◌, List, [], ◌∷◌, ◌++◌, length, All, Contains}
+use Rattle.hub_spec.specs.Problem.{Problem}
+use Rattle.hub_spec.specs.Cuts.{Cut}
+use Rattle.hub_spec.specs.Trees.{Branching, open_child, closed_child, weight_sum, leaf_bound, Closes, TreeLine, branch_on, leaf_of, no_hub, IsClosed}
+use Rattle.hub_spec.specs.Conditions.{Claim, claim, Branch, CutNumber, Weight, Leaf, Empty}
+
+-- the conditions of one line of a branch's tree
+abbrev pub line_claims : Problem → List Cut → ℕ → ℕ → Branching → TreeLine → List Claim
+line_claims p cuts target line b (branch_on k) = claim Branch line (Contains b.free k) ∷ []
+line_claims p cuts target line b (leaf_of denom weights) =
+    claim CutNumber line (All (λ (e : ℕ × ℕ). e.0 ≤ length cuts) weights)
+    ∷ claim Weight line (weight_sum weights ≤ denom)
+    ∷ claim Leaf line (Closes denom target (leaf_bound p cuts denom weights b))
+    ∷ []
+line_claims p cuts target line b no_hub = claim Empty line (IsClosed b) ∷ []
+
+-- the branches to be filled after a line of this one, the next one first
+abbrev pub pending_after : Branching → TreeLine → List Branching → List Branching
+pending_after b (branch_on k) pending = open_child b k ∷ closed_child b k ∷ pending
+pending_after b (leaf_of denom weights) pending = pending
+pending_after b no_hub pending = pending
+
+-- the conditions of the lines, from this line on, where these branches are still to be filled, the next one first
+abbrev pub walk_claims : Problem → List Cut → ℕ → ℕ → List Branching → List TreeLine → List Claim
+walk_claims p cuts target line pending [] = []
+walk_claims p cuts target line [] (l ∷ lines) = []
+walk_claims p cuts target line (b ∷ pending) (l ∷ lines) =
+    line_claims p cuts target line b l ++ walk_claims p cuts target (line + 1) (pending_after b l pending) lines

@@ -1,0 +1,213 @@
+//! The conditions of the duals of a cut.
+
+ghost use Rattle.std.specs.Prelude.{◌≡◌, ℕ, ◌+◌, ◌*◌, ◌^◌, ◌<◌, ◌≤◌, ◌↔◌, length, slice_index_or, IsTrue, IfErr, OnOk, All, Contains};
+ghost use Rattle.hub_spec.specs.Problem.{flow, distance, commodities};
+ghost use Rattle.hub_spec.specs.Cuts.{IsDual};
+ghost use Rattle.hub_spec.specs.Conditions.{AllHold, dual_claims};
+ghost use Rattle.hub_spec.specs.Text.{IsDualText};
+ghost use Rattle.cert_checker.specs.Answers.{IsFailure};
+ghost use Rattle.cert_checker.specs.Duals.{AreValues, IsCovered, IsCoveredSingle};
+
+use crate::failures::Failure;
+use crate::kinds::Kind;
+use crate::nodes::is_among;
+use hub_model::{Dual, Instance, route_cost_held};
+
+/// Tries the duals of a cut, one for each commodity; the first dual stands at this line. `values` has room for a value
+/// of each node.
+pub(crate) fn check_duals(
+    instance: &Instance,
+    line: u64,
+    duals: &[Dual],
+    values: &mut [u128],
+) -> Result<(), Failure>
+    requires line { line < 2 ^ 60 }
+    requires one_for_each { length duals.now ≡ instance.now.size * instance.now.size }
+    requires duals { All (IsDualText instance.now.size) duals.now }
+    requires values { length values.old ≡ instance.now.size }
+    ensures holds { OnOk result (AllHold (dual_claims instance.now line (commodities instance.now.size) duals.now)) }
+    ensures fails { IfErr result (IsFailure (dual_claims instance.now line (commodities instance.now.size) duals.now)) }
+{
+    instance.limits();
+    let n = instance.size();
+    for t in 0..n * n {
+        if !is_dual(instance, t / n, t % n, &duals[t as usize], values) {
+            return Err(Failure::Fails {
+                kind: Kind::Dual,
+                line: line + t as u64,
+            });
+        }
+    }
+    Ok(())
+}
+
+/// Tells whether this is a feasible dual of the commodity from `i` to `j`.
+fn is_dual(instance: &Instance, i: u32, j: u32, dual: &Dual, values: &mut [u128]) -> bool
+    requires from { i < instance.now.size }
+    requires to { j < instance.now.size }
+    requires dual { IsDualText instance.now.size dual.now }
+    requires values { length values.old ≡ instance.now.size }
+    ensures { IsTrue result ↔ IsDual instance.now (i, j) dual.now }
+{
+    instance.limits();
+    if !lists_candidates(instance, dual) {
+        return false;
+    }
+    spread(dual, values);
+    let a = price(dual);
+    if !is_covered_by_singles(instance, i, j, a, values) {
+        return false;
+    }
+    is_covered_by_pairs(instance, i, j, a, values)
+}
+
+fn lists_candidates(instance: &Instance, dual: &Dual) -> bool
+    ensures { IsTrue result ↔ All (λ e. Contains instance.now.candidates e.0) dual.now.u }
+{
+    for i in 0..count(dual) {
+        if !is_candidate(instance, listed(dual, i).0) {
+            return false;
+        }
+    }
+    true
+}
+
+fn is_candidate(instance: &Instance, k: u32) -> bool
+    ensures { IsTrue result ↔ Contains instance.now.candidates k }
+{
+    is_among(instance.candidates(), k)
+}
+
+fn is_covered_by_singles(instance: &Instance, i: u32, j: u32, a: u128, values: &[u128]) -> bool
+    requires from { i < instance.now.size }
+    requires to { j < instance.now.size }
+    requires long { length values.now ≡ instance.now.size }
+    requires short { All (λ v. v < 10 ^ 30) values.now }
+    ensures { IsTrue result ↔ All (IsCoveredSingle instance.now (i, j) a values.now) instance.now.candidates }
+{
+    instance.limits();
+    let candidates = instance.candidates();
+    for k in candidates {
+        if !is_covered_by(instance, i, j, a, values, *k) {
+            return false;
+        }
+    }
+    true
+}
+
+fn is_covered_by(instance: &Instance, i: u32, j: u32, a: u128, values: &[u128], k: u32) -> bool
+    requires from { i < instance.now.size }
+    requires to { j < instance.now.size }
+    requires long { length values.now ≡ instance.now.size }
+    requires short { All (λ v. v < 10 ^ 30) values.now }
+    requires hub { k < instance.now.size }
+    ensures { IsTrue result ↔ IsCoveredSingle instance.now (i, j) a values.now k }
+{
+    a <= route_cost_held(instance, i, j, k, k) + values[k as usize]
+}
+
+fn is_covered_by_pairs(instance: &Instance, i: u32, j: u32, a: u128, values: &[u128]) -> bool
+    requires from { i < instance.now.size }
+    requires to { j < instance.now.size }
+    requires long { length values.now ≡ instance.now.size }
+    requires short { All (λ v. v < 10 ^ 30) values.now }
+    ensures { IsTrue result ↔ All (λ k. All (IsCovered instance.now (i, j) a values.now k) instance.now.candidates) instance.now.candidates }
+{
+    instance.limits();
+    let candidates = instance.candidates();
+    for k in candidates {
+        if !is_covered_from(instance, i, j, a, values, *k) {
+            return false;
+        }
+    }
+    true
+}
+
+/// Tells whether the first hub `k` is covered with each last hub. Where collection and its value alone cover the price,
+/// it is, and no last hub is visited.
+fn is_covered_from(instance: &Instance, i: u32, j: u32, a: u128, values: &[u128], k: u32) -> bool
+    requires from { i < instance.now.size }
+    requires to { j < instance.now.size }
+    requires long { length values.now ≡ instance.now.size }
+    requires short { All (λ v. v < 10 ^ 30) values.now }
+    requires hub { k < instance.now.size }
+    ensures { IsTrue result ↔ All (IsCovered instance.now (i, j) a values.now k) instance.now.candidates }
+{
+    instance.limits();
+    if a <= collection_cost(instance, i, j, k) + values[k as usize] {
+        return true;
+    }
+    let candidates = instance.candidates();
+    for m in candidates {
+        if !is_covered(instance, i, j, a, values, k, *m) {
+            return false;
+        }
+    }
+    true
+}
+
+/// The cost of collection alone on the routes of the commodity by way of `k` first.
+#[tactic(auto, using(crate::proofs::Collections::unit_limit, crate::proofs::Collections::collection_limit))]
+fn collection_cost(instance: &Instance, i: u32, j: u32, k: u32) -> u128
+    requires from { i < instance.now.size }
+    requires to { j < instance.now.size }
+    requires hub { k < instance.now.size }
+    ensures value { result ≡ flow instance.now i j * (instance.now.collect * distance instance.now i k) }
+    ensures limit { result ≤ 10 ^ 29 }
+{
+    instance.limits();
+    let factor = instance.factors().collect as u128;
+    instance.flow(i, j) as u128 * (factor * instance.dist(i, k) as u128)
+}
+
+fn is_covered(instance: &Instance, i: u32, j: u32, a: u128, values: &[u128], k: u32, m: u32) -> bool
+    requires from { i < instance.now.size }
+    requires to { j < instance.now.size }
+    requires long { length values.now ≡ instance.now.size }
+    requires short { All (λ v. v < 10 ^ 30) values.now }
+    requires first { k < instance.now.size }
+    requires last { m < instance.now.size }
+    ensures { IsTrue result ↔ IsCovered instance.now (i, j) a values.now k m }
+{
+    if k == m {
+        return true;
+    }
+    a <= route_cost_held(instance, i, j, k, m) + values[k as usize] + values[m as usize]
+}
+
+/// Lists the value of each node, 0 where the dual has none.
+pub(crate) fn spread(dual: &Dual, values: &mut [u128])
+    requires { IsDualText (length values.old) dual.now }
+    ensures values { AreValues dual.now.u values.new }
+    ensures short { All (λ v. v < 10 ^ 30) values.new }
+{
+    values.fill(0);
+    let mut left = count(dual);
+    while left > 0 {
+        left -= 1;
+        let (k, value) = listed(dual, left);
+        values[k as usize] = value;
+    }
+}
+
+pub(crate) fn price(dual: &Dual) -> u128
+    ensures { result ≡ dual.now.a }
+{
+    dual.a() as u128
+}
+
+/// How many values the dual lists.
+fn count(dual: &Dual) -> usize
+    ensures { result ≡ length dual.now.u }
+{
+    dual.u().len()
+}
+
+fn listed(dual: &Dual, i: usize) -> (u32, u128)
+    requires { i < length dual.now.u }
+    ensures node { result.0 ≡ (slice_index_or dual.now.u i (0, 0)).0 }
+    ensures value { result.1 ≡ (slice_index_or dual.now.u i (0, 0)).1 }
+{
+    let (k, value) = dual.u()[i];
+    (k, value as u128)
+}

@@ -1,0 +1,32 @@
+//! What certifies: the check of a certificate against an instance, which takes nothing from any search.
+//!
+//! `check` tries the conditions on a certificate in the order in which they are defined, and answers that the plan is
+//! optimal, that it stands with a lower bound, or the first condition that fails, with its line in the text.
+#![tactic(auto)]
+
+// What is answered.
+mod failures;
+mod kinds;
+
+// The plan.
+mod nodes;
+mod plans;
+
+// The cuts.
+mod cuts;
+mod duals;
+mod sums;
+
+// The tree.
+mod bounds;
+mod branches;
+mod leaves;
+mod walks;
+
+// All of it.
+mod checks;
+#[cfg(test)]
+mod tests;
+
+pub use checks::check;
+pub use kinds::{Kind, Verdict};

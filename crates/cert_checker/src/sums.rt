@@ -1,0 +1,105 @@
+//! Cuts with their sums.
+
+ghost use Rattle.std.specs.Prelude.{◌≡◌, ℕ, ◌+◌, ◌*◌, ◌^◌, ◌<◌, ◌≤◌, length, slice_index, sum_by, IfOk, All};
+ghost use Rattle.hub_spec.specs.Cuts.{value_at, total, load};
+ghost use Rattle.hub_spec.specs.Text.{IsDualText};
+
+use crate::duals::{price, spread};
+use hub_model::Dual;
+use std::alloc::{AllocError, Global};
+use std::marker::Model;
+
+/// A cut by the duals of its commodities, with the sum of their prices and, by node, the sums of their values.
+#[derive(Debug, Drop)]
+pub(crate) struct SummedCut<'a> {
+    duals: &'a [Dual],
+    total: u128,
+    loads: Vec<u128>,
+}
+
+impl<'a> Model for SummedCut<'a> {
+    ghost use Rattle.hub_spec.specs.Cuts.{Cut};
+    ghost use Rattle.cert_checker.specs.Duals.{IsSummed};
+
+    ghost Value = { Cut };
+
+    ghost view = { λ c. record { duals = c.duals.now } };
+
+    ghost invariant = { λ c. IsSummed (record { duals = c.duals.now }) c.total c.loads.items };
+}
+
+impl<'a> SummedCut<'a> {
+    /// The cut of these duals; `values` has room for a value of each node.
+    pub(crate) fn of(
+        alloc: Global,
+        duals: &'a [Dual],
+        values: &mut [u128],
+    ) -> Result<SummedCut<'a>, AllocError>
+        requires few { length duals.now ≤ 40000 }
+        requires duals { All (IsDualText (length values.old)) duals.now }
+        ensures { IfOk result (λ cut. cut ≡ record { duals = duals.now }) }
+    {
+        let total = total_of(duals);
+        let loads = loads_of(alloc, duals, values)?;
+        Ok(SummedCut {
+            duals,
+            total,
+            loads,
+        })
+    }
+
+    /// The sum of the prices.
+    pub(crate) fn total(&self) -> u128
+        ensures { result ≡ total self.now }
+    {
+        self.total
+    }
+
+    /// The sum of the values of the node.
+    pub(crate) fn load(&self, k: u32) -> u128
+        ensures { result ≡ load self.now k }
+    {
+        match self.loads.get(k as usize) {
+            Some(load) => *load,
+            None => 0,
+        }
+    }
+}
+
+fn total_of(duals: &[Dual]) -> u128
+    requires few { length duals.now ≤ 40000 }
+    requires short { All (λ d. d.a < 10 ^ 30) duals.now }
+    ensures { result ≡ sum_by (λ d. d.a) duals.now }
+{
+    let mut sum = 0;
+    for dual in duals {
+        sum += price(dual);
+    }
+    sum
+}
+
+/// The sums of the duals' values, by node.
+fn loads_of(alloc: Global, duals: &[Dual], values: &mut [u128]) -> Result<Vec<u128>, AllocError>
+    requires few { length duals.now ≤ 40000 }
+    requires duals { All (IsDualText (length values.old)) duals.now }
+    ensures { IfOk result (λ loads. (k : ℕ) → slice_index loads.items k ≡ sum_by (λ d. value_at d.u k) duals.now) }
+{
+    let mut loads = vec![in alloc; 0; values.len()]?;
+    for dual in duals {
+        spread(dual, values);
+        add(&mut loads, values);
+    }
+    Ok(loads)
+}
+
+/// Adds the value of each node to its load.
+fn add(loads: &mut [u128], values: &[u128])
+    requires long { length loads.old ≡ length values.now }
+    requires most { All (λ x. x ≤ 40000 * 10 ^ 30) loads.old }
+    requires short { All (λ v. v < 10 ^ 30) values.now }
+    ensures { (k : ℕ) → slice_index loads.new k ≡ slice_index loads.old k + slice_index values.now k }
+{
+    for k in 0..loads.len() {
+        loads[k] += values[k];
+    }
+}
