@@ -1,0 +1,54 @@
+-- The command `hub` as clap knows it.
+use Rattle.std.specs.Prelude.{List, [], ◌∷◌, codes, true, Some, fold}
+use Rattle.clap.specs.Words.{App, Rule, Text, new_app, new_rule, with_rule, with_subcommand}
+use Rattle.clap.specs.Simple.{Shape, on_top}
+use Rattle.clap.specs.declared.builder.action.ArgAction.TheVariants.{SetTrue}
+
+-- a word that must be given, known by its place
+abbrev pub word_rule : Text → Rule
+word_rule name = record (new_rule name) { required = true }
+
+-- an option with one value, given at most once
+abbrev pub option_rule : Text → Rule
+option_rule name = record (new_rule name) { long = Some name }
+
+-- a flag, given at most once
+abbrev pub flag_rule : Text → Rule
+flag_rule name = record (new_rule name) { long = Some name; action = Some SetTrue }
+
+-- the command with one more such word
+abbrev pub with_word : App → Text → App
+with_word a name = with_rule a (word_rule name)
+
+-- the command with one more such option
+abbrev pub with_option : App → Text → App
+with_option a name = with_rule a (option_rule name)
+
+-- the words of a subcommand that name an instance
+abbrev pub instance_words : List Text
+instance_words = codes "layout" ∷ codes "file" ∷ []
+
+-- the instance options that have a value
+abbrev pub option_names : List Text
+option_names = codes "order" ∷ codes "tail" ∷ codes "divide" ∷ codes "collect" ∷ codes "trunk" ∷ codes "deliver" ∷ codes "fixed"
+    ∷ codes "costs" ∷ codes "candidates" ∷ []
+
+-- a command that takes a layout, an instance file and the instance options
+abbrev pub with_instance : App → App
+with_instance a = with_rule (fold with_option (fold with_word a instance_words) option_names) (flag_rule (codes "no-self"))
+
+-- `solve LAYOUT FILE`, with the instance options
+abbrev pub solve_app : App
+solve_app = with_instance (new_app (codes "solve"))
+
+-- `check LAYOUT FILE CERT`, with the instance options
+abbrev pub check_app : App
+check_app = with_word (with_instance (new_app (codes "check"))) (codes "certificate")
+
+-- no help, no version, and a subcommand must be named
+abbrev pub bare : Shape → Shape
+bare s = record s { disable_help_flag = true; disable_help_subcommand = true; disable_version_flag = true; subcommand_required = true }
+
+-- `hub` with its two subcommands
+unfoldable pub hub : App
+hub = with_subcommand (with_subcommand (on_top bare (new_app (codes "hub"))) solve_app.top) check_app.top

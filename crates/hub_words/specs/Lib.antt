@@ -1,0 +1,7 @@
+pub mod Requests
+pub mod Hub
+pub mod Parses
+pub mod Values
+pub mod Words
+pub mod Views
+pub mod Settings

@@ -1,0 +1,26 @@
+-- What the words of a command line ask for.
+use Rattle.std.specs.Prelude.{◌≡◌, ℕ, List, Option, None, IsSome}
+use Rattle.file_spec.specs.Options.{Layout, Options, tail_costs}
+
+-- an instance as the words name it: the layout and name of its file, the options, and the name of the costs file
+pub record Source : Type 0 where
+  pub layout : Layout
+  pub file : List ℕ
+  pub options : Options
+  pub costs : Option (List ℕ)
+
+-- a command: solve an instance, or check a certificate against it
+pub data Request : Type 0 where
+  solve : Source → Request
+  check : Source → (certificate : List ℕ) → Request
+
+-- the instance that a request names
+abbrev pub instance : Request → Source
+instance (solve source) = source
+instance (check source certificate) = source
+
+-- the fixed costs come from one source at most: the costs file, the file's tail, one cost for all nodes
+pub record AreSources (s : Source) : Type 0 where
+  pub not_fixed : IsSome s.costs → s.options.fixed ≡ None
+  pub no_tail : IsSome s.costs → s.options.tail ≡ tail_costs → ⊥
+  pub not_fixed_too : s.options.tail ≡ tail_costs → s.options.fixed ≡ None

@@ -1,0 +1,34 @@
+-- The options that are single values as contracts see them.
+use Rattle.std.specs.Prelude.{ℕ, ◌^◌, ◌≤◌, Option, None, IfSome}
+use Rattle.file_spec.specs.Options.{Options}
+use Rattle.hub_model.specs.Asked.{order_of, tail_of}
+use Rattle.hub_words.specs.declared.settings.Factors.{Factors}
+use Rattle.hub_words.specs.declared.settings.Settings.{Settings}
+
+-- the factors for collection, trunk and delivery
+abbrev pub factors_of : Factors → Option ℕ × Option ℕ × Option ℕ
+factors_of f = (f.collect, f.trunk, f.deliver)
+
+-- a factor in 10^-3 within its limit
+abbrev pub IsFactor : Option ℕ → Type 0
+IsFactor factor = IfSome factor (λ x. x ≤ 10 ^ 6)
+
+-- each factor is within its limit
+pub record IsFactors (f : Factors) : Type 0 where
+  pub collect : IsFactor f.collect
+  pub trunk : IsFactor f.trunk
+  pub deliver : IsFactor f.deliver
+
+-- the options, with no candidates
+abbrev pub settings_of : Settings → Options
+settings_of s = record {
+  order = order_of s.order;
+  tail = tail_of s.tail;
+  divide = s.divide;
+  collect = s.factors.collect;
+  trunk = s.factors.trunk;
+  deliver = s.factors.deliver;
+  fixed = s.fixed;
+  candidates = None;
+  no_self = s.no_self;
+}

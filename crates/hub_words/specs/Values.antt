@@ -1,0 +1,89 @@
+-- The forms of the values that the words give to the options of an instance.
+use Rattle.std.specs.Prelude.{ℕ, ◌+◌, ◌-◌, ◌^◌, ◌==◌, Bool, false, List, [], ◌∷◌, codes, bytes_eq, nat_le, ℤ, pos, Option, Some, None, option_map, option_and_then, if◌then◌else◌}
+use Rattle.std.specs.List.{slice_split}
+use Rattle.text_spec.specs.Numbers.{count_value, decimal_value}
+use Rattle.file_spec.specs.Options.{Layout, cab_matrix, cab_rows, australia_post, Order, flow_first, distance_first, Tail, tail_ignored, tail_costs}
+
+-- the layout of this name
+abbrev pub layout_named : List ℕ → Option Layout
+layout_named word =
+    if bytes_eq word (codes "cab-matrix") then Some cab_matrix
+    else if bytes_eq word (codes "cab-rows") then Some cab_rows
+    else if bytes_eq word (codes "ap") then Some australia_post else None
+
+-- the order of this name
+abbrev pub order_named : List ℕ → Option Order
+order_named word =
+    if bytes_eq word (codes "flow-first") then Some flow_first
+    else if bytes_eq word (codes "distance-first") then Some distance_first else None
+
+-- the tail of this name
+abbrev pub tail_named : List ℕ → Option Tail
+tail_named word =
+    if bytes_eq word (codes "ignore") then Some tail_ignored
+    else if bytes_eq word (codes "fixed") then Some tail_costs else None
+
+-- the order of the matrices, which only a file of two matrices lets choose
+abbrev pub order_asked : Layout → Option (List ℕ) → Option Order
+order_asked layout None = Some flow_first
+order_asked cab_matrix (Some word) = order_named word
+order_asked layout (Some word) = None
+
+-- what the tail is, which only a file of Australia Post lets choose
+abbrev pub tail_asked : Layout → Option (List ℕ) → Option Tail
+tail_asked layout None = Some tail_ignored
+tail_asked australia_post (Some word) = tail_named word
+tail_asked layout (Some word) = None
+
+-- by what distances are divided
+abbrev pub divide_asked : Option (List ℕ) → Option ℕ
+divide_asked None = Some 1
+divide_asked (Some word) = count_value 1 1000000 word
+
+-- a number that is not negative and at most the limit
+abbrev pub within : ℕ → Option ℤ → Option ℕ
+within limit (Some (pos v)) = if nat_le v limit then Some v else None
+within limit number = None
+
+-- a decimal number within the limit, both in units of 10^-places
+abbrev pub quantity : ℕ → ℕ → List ℕ → Option ℕ
+quantity places limit word = within limit (decimal_value places word)
+
+-- a value that need not be given
+abbrev pub optional : {A : Type 0} → (List ℕ → Option A) → Option (List ℕ) → Option (Option A)
+optional form None = Some None
+optional form (Some word) = option_map (λ v. Some v) (form word)
+
+-- a factor in 10^-3, at most 1000 units
+abbrev pub factor_asked : Option (List ℕ) → Option (Option ℕ)
+factor_asked = optional (quantity 3 (10 ^ 6))
+
+-- a fixed cost of every node in 10^-6, at most 10^12 units
+abbrev pub fixed_asked : Option (List ℕ) → Option (Option ℕ)
+fixed_asked = optional (quantity 6 (10 ^ 18))
+
+-- `,`
+abbrev pub is_comma : ℕ → Bool
+is_comma byte = byte == 44
+
+-- a node before those that follow it in a list
+abbrev pub node_before : ℕ → Option (List ℕ) → Option (List ℕ)
+node_before k = option_map (λ nodes. k ∷ nodes)
+
+-- numbers of nodes, each above the one before it, the first at least so much; nodes count from 0
+unfoldable pub nodes_from : ℕ → List (List ℕ) → Option (List ℕ)
+nodes_from least [] = Some []
+nodes_from least (word ∷ words) = option_and_then (λ number. node_before (number - 1) (nodes_from (number + 1) words)) (count_value least 200 word)
+
+-- the numbers of a list of candidates, separated by single commas
+abbrev pub nodes_listed : List ℕ → Option (List ℕ)
+nodes_listed word = nodes_from 1 (slice_split is_comma word)
+
+-- the candidates, where they are given
+abbrev pub candidates_asked : Option (List ℕ) → Option (Option (List ℕ))
+candidates_asked = optional nodes_listed
+
+-- the flag is set
+abbrev pub is_set : Option (List ℕ) → Bool
+is_set None = false
+is_set (Some word) = bytes_eq word (codes "true")

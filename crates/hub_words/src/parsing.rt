@@ -1,0 +1,135 @@
+//! The command as it is told to clap, and the parse of the words.
+
+ghost use Rattle.std.specs.Prelude.{◌≡◌, false, fold, IfOk, option_and_then};
+ghost use Rattle.clap.specs.Words.{app_of, new_app, rule_of, subcommand_rows_of};
+ghost use Rattle.hub_words.specs.Hub.{bare, check_app, flag_rule, hub, instance_words, option_rule, solve_app, with_instance, with_option, with_word, word_rule};
+ghost use Rattle.hub_words.specs.Parses.{Spells, parsed};
+ghost use Rattle.hub_words.specs.Views.{texts};
+ghost use Rattle.clap.specs.Simple.{on_top};
+ghost use Rattle.clap.specs.declared.builder.command.Command.TheViews.{out-Command};
+
+use clap::error::ErrorKind;
+use clap::{Arg, ArgAction, ArgMatches, Command};
+use std::alloc::{AllocError, Global};
+
+/// The instance options that have a value.
+static OPTIONS: [&str; 9] = [
+    "order",
+    "tail",
+    "divide",
+    "collect",
+    "trunk",
+    "deliver",
+    "fixed",
+    "costs",
+    "candidates",
+];
+
+fn word<'a>(alloc: Global, name: &'a str) -> Arg<'a>
+    ensures rule { rule_of result ≡ word_rule name.entry.now }
+    ensures local { result.global ≡ false }
+{
+    Arg::new(alloc, name).required(true)
+}
+
+fn option<'a>(alloc: Global, name: &'a str) -> Arg<'a>
+    ensures rule { rule_of result ≡ option_rule name.entry.now }
+    ensures local { result.global ≡ false }
+{
+    Arg::new(alloc, name).long(name)
+}
+
+fn flag<'a>(alloc: Global, name: &'a str) -> Arg<'a>
+    ensures rule { rule_of result ≡ flag_rule name.entry.now }
+    ensures local { result.global ≡ false }
+{
+    Arg::new(alloc, name).long(name).action(ArgAction::SetTrue)
+}
+
+fn plain<'a>(alloc: Global, name: &'a str) -> Command<'a>
+    ensures { Spells (new_app name.entry.now) result }
+{
+    Command::new(alloc, name)
+}
+
+/// The command without help and version, of which a subcommand must be named.
+fn without_help<'a>(command: Command<'a>) -> Command<'a>
+    requires { (out-Command command).has_globals ≡ false }
+    ensures { Spells (on_top bare (app_of command.entry)) result }
+{
+    command
+        .disable_help_flag(true)
+        .disable_help_subcommand(true)
+        .disable_version_flag(true)
+        .subcommand_required(true)
+}
+
+/// The command that takes a layout, an instance file and the instance options as well.
+fn instance_command<'a>(alloc: Global, command: Command<'a>) -> Result<Command<'a>, AllocError>
+    requires { (out-Command command).has_globals ≡ false }
+    ensures { IfOk result (Spells (with_instance (app_of command.entry))) }
+{
+    let named = with_words(alloc, command)?;
+    let optional = with_options(alloc, named, OPTIONS.as_slice())?;
+    optional.arg(flag(alloc, "no-self"))
+}
+
+fn with_words<'a>(alloc: Global, command: Command<'a>) -> Result<Command<'a>, AllocError>
+    requires { (out-Command command).has_globals ≡ false }
+    ensures { IfOk result (Spells (fold with_word (app_of command.entry) instance_words)) }
+{
+    let with_layout = command.arg(word(alloc, "layout"))?;
+    with_layout.arg(word(alloc, "file"))
+}
+
+fn with_options<'a>(
+    alloc: Global,
+    mut command: Command<'a>,
+    names: &[&'a str],
+) -> Result<Command<'a>, AllocError>
+    requires { (out-Command command).has_globals ≡ false }
+    ensures { IfOk result (Spells (fold (λ app name. with_option app name.now) (app_of command.entry) names.now)) }
+{
+    for name in names {
+        command = command.arg(option(alloc, name))?;
+    }
+    Ok(command)
+}
+
+fn solve_command<'a>(alloc: Global) -> Result<Command<'a>, AllocError>
+    ensures { IfOk result (Spells solve_app) }
+{
+    instance_command(alloc, plain(alloc, "solve"))
+}
+
+fn check_command<'a>(alloc: Global) -> Result<Command<'a>, AllocError>
+    ensures { IfOk result (Spells check_app) }
+{
+    let command = instance_command(alloc, plain(alloc, "check"))?;
+    command.arg(word(alloc, "certificate"))
+}
+
+fn hub_command<'a>(alloc: Global) -> Result<Command<'a>, AllocError>
+    ensures { IfOk result (Spells hub) }
+{
+    let command = without_help(plain(alloc, "hub"));
+    let with_solve = command.subcommand(solve_command(alloc)?)?;
+    with_solve.subcommand(check_command(alloc)?)
+}
+
+/// What clap finds in the words, of which the first is the program's name; none where it refuses them.
+pub(crate) fn parse<'a>(
+    alloc: Global,
+    words: &'a [String],
+) -> Result<Option<ArgMatches<'a>>, AllocError>
+    ensures { IfOk result (λ found. option_and_then subcommand_rows_of found ≡ parsed (texts words.entry.now)) }
+{
+    let command = hub_command(alloc)?;
+    match command.try_get_matches_from(words) {
+        Ok(found) => Ok(Some(found)),
+        Err(error) => match error.kind() {
+            ErrorKind::OutOfMemory => Err(AllocError),
+            _ => Ok(None),
+        },
+    }
+}

@@ -1,0 +1,92 @@
+//! The options of an instance that are single values, and the options with the candidates.
+
+ghost use Rattle.std.specs.Prelude.{◌≡◌, IfSome, Some, option_map};
+ghost use Rattle.clap.specs.Words.{found_of, rows_of};
+ghost use Rattle.file_spec.specs.Options.{IsOptions};
+ghost use Rattle.hub_model.specs.Naturals.{IsNatural, natural};
+ghost use Rattle.hub_words.specs.Words as spec;
+ghost use Rattle.hub_words.specs.Views.{layout_of};
+ghost use Rattle.hub_words.specs.Settings.{IsFactors, factors_of, settings_of};
+
+use crate::requests::Layout;
+use crate::values::{divide, factor, fixed, is_set, order, tail};
+use clap::ArgMatches;
+use hub_model::{Nodes, Order, Tail, Terms};
+
+/// The options that are single values.
+#[derive(Clone, Copy)]
+pub(crate) struct Settings {
+    pub(crate) order: Order,
+    pub(crate) tail: Tail,
+    pub(crate) divide: u32,
+    pub(crate) factors: Factors,
+    pub(crate) fixed: Option<u64>,
+    pub(crate) no_self: bool,
+}
+
+/// The factors that are given.
+#[derive(Clone, Copy)]
+pub(crate) struct Factors {
+    pub(crate) collect: Option<u64>,
+    pub(crate) trunk: Option<u64>,
+    pub(crate) deliver: Option<u64>,
+}
+
+/// The value that the words give to the argument of this name.
+pub(crate) fn given<'a>(found: &ArgMatches<'a>, name: &str) -> Option<&'a str>
+    ensures { option_map (λ word. word.now) result ≡ spec.given (rows_of (found_of found.now)) name.now }
+{
+    found.get_str(name)
+}
+
+/// The single values, where each is within its form.
+pub(crate) fn read_settings(layout: Layout, found: &ArgMatches<'_>) -> Option<Settings>
+    ensures value { option_map settings_of result ≡ spec.settings_asked (layout_of layout) (rows_of (found_of found.now)) }
+    ensures limits { IfSome result (λ s. IsOptions (settings_of s)) }
+{
+    Some(Settings {
+        order: order(layout, given(found, "order"))?,
+        tail: tail(layout, given(found, "tail"))?,
+        divide: divide(given(found, "divide"))?,
+        factors: read_factors(found)?,
+        fixed: fixed(given(found, "fixed"))?,
+        no_self: is_set(given(found, "no-self")),
+    })
+}
+
+fn read_factors(found: &ArgMatches<'_>) -> Option<Factors>
+    ensures value { option_map factors_of result ≡ spec.factors_asked (rows_of (found_of found.now)) }
+    ensures limits { IfSome result IsFactors }
+{
+    Some(Factors {
+        collect: factor(given(found, "collect"))?,
+        trunk: factor(given(found, "trunk"))?,
+        deliver: factor(given(found, "deliver"))?,
+    })
+}
+
+/// The terms of these options and candidates.
+pub(crate) fn terms(settings: Settings, candidates: Option<Nodes>) -> Terms
+    requires { IsOptions (settings_of settings) }
+    ensures value { result ≡ record (settings_of settings) { candidates = candidates } }
+    ensures limits { IsOptions result }
+{
+    Terms {
+        order: settings.order,
+        tail: settings.tail,
+        divide: settings.divide,
+        collect: held(settings.factors.collect),
+        trunk: held(settings.factors.trunk),
+        deliver: held(settings.factors.deliver),
+        fixed: held(settings.fixed),
+        candidates,
+        no_self: settings.no_self,
+    }
+}
+
+fn held(value: Option<u64>) -> Option<i128>
+    ensures same { option_map natural result ≡ value }
+    ensures natural { IfSome result IsNatural }
+{
+    value.map(i128::from)
+}

@@ -1,0 +1,145 @@
+//! The values of single options, by their forms.
+
+ghost use Rattle.std.specs.Prelude.{◌≡◌, ◌≤◌, ◌^◌, IfSome, option_map};
+ghost use Rattle.text_spec.specs.Numbers.{count_value};
+ghost use Rattle.hub_model.specs.Asked.{order_of, tail_of};
+ghost use Rattle.hub_words.specs.Values as spec;
+ghost use Rattle.hub_words.specs.Views.{layout_of};
+
+use crate::requests::Layout;
+use dec_text::{read_count, read_decimal};
+use hub_model::{Order, Tail};
+
+/// The greatest factor, in 10^-3.
+const MOST_FACTOR: u64 = 1_000_000;
+
+/// The greatest fixed cost of a node, in 10^-6.
+const MOST_FIXED: u64 = 1_000_000_000_000_000_000;
+
+/// The greatest number that distances are divided by.
+const MOST_DIVIDE: u64 = 1_000_000;
+
+pub(crate) fn layout_named(word: &str) -> Option<Layout>
+    ensures { option_map layout_of result ≡ spec.layout_named word.now }
+{
+    if word == "cab-matrix" {
+        Some(Layout::CabMatrix)
+    } else if word == "cab-rows" {
+        Some(Layout::CabRows)
+    } else if word == "ap" {
+        Some(Layout::AustraliaPost)
+    } else {
+        None
+    }
+}
+
+fn order_named(word: &str) -> Option<Order>
+    ensures { option_map order_of result ≡ spec.order_named word.now }
+{
+    if word == "flow-first" {
+        Some(Order::FlowFirst)
+    } else if word == "distance-first" {
+        Some(Order::DistanceFirst)
+    } else {
+        None
+    }
+}
+
+fn tail_named(word: &str) -> Option<Tail>
+    ensures { option_map tail_of result ≡ spec.tail_named word.now }
+{
+    if word == "ignore" {
+        Some(Tail::Ignore)
+    } else if word == "fixed" {
+        Some(Tail::Fixed)
+    } else {
+        None
+    }
+}
+
+/// The order of the matrices, which only a file of two matrices lets choose.
+pub(crate) fn order(layout: Layout, given: Option<&str>) -> Option<Order>
+    ensures { option_map order_of result ≡ spec.order_asked (layout_of layout) (option_map (λ word. word.now) given.entry) }
+{
+    match given {
+        None => Some(Order::FlowFirst),
+        Some(word) => match layout {
+            Layout::CabMatrix => order_named(word),
+            Layout::CabRows | Layout::AustraliaPost => None,
+        },
+    }
+}
+
+/// What the tail is, which only a file of Australia Post lets choose.
+pub(crate) fn tail(layout: Layout, given: Option<&str>) -> Option<Tail>
+    ensures { option_map tail_of result ≡ spec.tail_asked (layout_of layout) (option_map (λ word. word.now) given.entry) }
+{
+    match given {
+        None => Some(Tail::Ignore),
+        Some(word) => match layout {
+            Layout::AustraliaPost => tail_named(word),
+            Layout::CabMatrix | Layout::CabRows => None,
+        },
+    }
+}
+
+pub(crate) fn divide(given: Option<&str>) -> Option<u32>
+    ensures value { result ≡ spec.divide_asked (option_map (λ word. word.now) given.entry) }
+    ensures limits { IfSome result (λ d. (1 ≤ d) × (d ≤ 10 ^ 6)) }
+{
+    match given {
+        None => Some(1),
+        Some(word) => match count(word, 1, MOST_DIVIDE) {
+            Some(d) => Some(d as u32),
+            None => None,
+        },
+    }
+}
+
+/// A count within its limits.
+pub(crate) fn count(word: &str, least: u64, most: u64) -> Option<u64>
+    ensures value { result ≡ count_value least most word.now }
+    ensures limits { IfSome result (λ n. (least ≤ n) × (n ≤ most)) }
+{
+    read_count(word, least, most)
+}
+
+pub(crate) fn factor(given: Option<&str>) -> Option<Option<u64>>
+    ensures value { result ≡ spec.factor_asked (option_map (λ word. word.now) given.entry) }
+    ensures limit { IfSome result (λ factor. IfSome factor (λ x. x ≤ 10 ^ 6)) }
+{
+    match given {
+        None => Some(None),
+        Some(word) => quantity(word, 3, MOST_FACTOR).map(Some),
+    }
+}
+
+pub(crate) fn fixed(given: Option<&str>) -> Option<Option<u64>>
+    ensures value { result ≡ spec.fixed_asked (option_map (λ word. word.now) given.entry) }
+    ensures limit { IfSome result (λ fixed. IfSome fixed (λ x. x ≤ 10 ^ 18)) }
+{
+    match given {
+        None => Some(None),
+        Some(word) => quantity(word, 6, MOST_FIXED).map(Some),
+    }
+}
+
+fn quantity(word: &str, places: u32, most: u64) -> Option<u64>
+    requires { places ≤ 6 }
+    ensures value { result ≡ spec.quantity places most word.now }
+    ensures limit { IfSome result (λ x. x ≤ most) }
+{
+    match read_decimal(word.as_bytes(), places) {
+        Ok(value) if value >= 0 && value <= most as i128 => Some(value as u64),
+        _ => None,
+    }
+}
+
+pub(crate) fn is_set(given: Option<&str>) -> bool
+    ensures { result ≡ spec.is_set (option_map (λ word. word.now) given.entry) }
+{
+    match given {
+        None => false,
+        Some(word) => word == "true",
+    }
+}
