@@ -1,5 +1,5 @@
 -- What a search found, as a certificate of the instance.
-use Rattle.std.proofs.Common.{◌≡◌, ℕ, ℤ, pos, List, length, map, refl, sym, subst, ap, ◌∙◌, arith}
+use Rattle.std.proofs.Common.{◌≡◌, ℕ, ℤ, pos, List, length, map, sym, subst, ap, ◌∙◌, arith}
 use Rattle.std.proofs.lemmas.Int.{ints}
 use Rattle.std.specs.declared.vec.Vec.{Vec}
 use Rattle.std.specs.declared.alloc.Global.{Global}
@@ -14,10 +14,10 @@ use Rattle.hub_model.specs.Lines.{tree_line_of}
 use Rattle.hub_model.specs.declared.tree_lines.TreeLine.{TreeLine}
 use Rattle.branch_tree.specs.declared.found.Found.{Found}
 use Rattle.branch_tree.specs.Findings.{IsProved, proof_of as found_proof}
-use Rattle.branch_tree.specs.Held.{cuts_of, lines_of}
-use Rattle.cert_text.specs.Certificates.{cuts_of as rows_as_cuts, proof_of as text_proof, IsCertificate}
-use Rattle.cert_text.specs.Grown.{tree_of}
-use Rattle.cert_text.proofs.Grown.{tree_of-preorder}
+use Rattle.branch_tree.specs.Held.{cuts_of}
+use Rattle.cert_format.specs.Held.{cut_of, proof_of as text_proof, IsHeldCertificate}
+use Rattle.cert_format.specs.Growing.{tree_of}
+use Rattle.cert_format.specs.Codes.{tree_of-preorder}
 use Rattle.hub_top.specs.Solving.{IsSolution}
 
 -- the parts that the certificate is made of are those that the search found
@@ -25,7 +25,7 @@ pub record AreParts (found : Found) (cost bound : ℤ) (plan : Plan) (rows : Lis
   pub cost_is : cost ≡ found.cost
   pub bound_is : bound ≡ found.bound
   pub plan_is : plan ≡ found.plan
-  pub rows_are : rows_as_cuts rows ≡ cuts_of found.cuts.items
+  pub rows_are : map cut_of rows ≡ cuts_of found.cuts.items
   pub lines_are : lines ≡ found.tree.items
 
 -- a certificate from its parts
@@ -42,15 +42,15 @@ same_proof : (p : Problem) (found : Found) (h : IsProved p found) (cost bound : 
     → text_proof p.size (length p.candidates) cost bound plan rows lines ≡ found_proof p found h.tree
 same_proof p found h cost bound plan rows lines e =
     let tree = tree_of (map tree_line_of lines) in
-    ap (λ (c : ℕ). made p c (natural bound) plan (rows_as_cuts rows) tree) (ap natural e.cost_is)
-    ∙ ap (λ (b : ℕ). made p (natural found.cost) b plan (rows_as_cuts rows) tree) (ap natural e.bound_is)
-    ∙ ap (λ (q : Plan). made p (natural found.cost) (natural found.bound) q (rows_as_cuts rows) tree) e.plan_is
+    ap (λ (c : ℕ). made p c (natural bound) plan (map cut_of rows) tree) (ap natural e.cost_is)
+    ∙ ap (λ (b : ℕ). made p (natural found.cost) b plan (map cut_of rows) tree) (ap natural e.bound_is)
+    ∙ ap (λ (q : Plan). made p (natural found.cost) (natural found.bound) q (map cut_of rows) tree) e.plan_is
     ∙ ap (λ (cs : List Cut). made p (natural found.cost) (natural found.bound) found.plan cs tree) e.rows_are
     ∙ ap (λ (t : Tree). made p (natural found.cost) (natural found.bound) found.plan (cuts_of found.cuts.items) t) (same_tree p found h lines e.lines_are)
 
 pub found_is_certificate : (p : Problem) (found : Found) (h : IsProved p found) (cost bound : ℤ) (plan : Plan) (rows : List (Vec Prices Global)) (lines : List TreeLine)
     → AreParts found cost bound plan rows lines → IsNatural found.cost → found.bound ≡ found.cost
-    → IsCertificate p.size (length p.candidates) cost bound plan rows lines
+    → IsHeldCertificate p.size (length p.candidates) cost bound plan rows lines
 found_is_certificate p found h cost bound plan rows lines e least gap =
     let P : Proof → Type 0 = λ k. IsInRange k in
     let N : ℤ → Type 0 = λ z. IsNatural z in
@@ -78,10 +78,10 @@ found_is_solution p found h cost bound plan rows lines e ok gap =
 -- the same with the sizes as they are handed over
 pub sized_certificate : (p : Problem) (found : Found) (h : IsProved p found) (n q : ℕ) (cost bound : ℤ) (plan : Plan) (rows : List (Vec Prices Global)) (lines : List TreeLine)
     → n ≡ p.size → q ≡ length p.candidates → AreParts found cost bound plan rows lines → IsNatural found.cost → found.bound ≡ found.cost
-    → IsCertificate n q cost bound plan rows lines
+    → IsHeldCertificate n q cost bound plan rows lines
 sized_certificate p found h n q cost bound plan rows lines size candidates e least gap =
-    let P : ℕ → Type 0 = λ x. IsCertificate x q cost bound plan rows lines in
-    let Q : ℕ → Type 0 = λ x. IsCertificate p.size x cost bound plan rows lines in
+    let P : ℕ → Type 0 = λ x. IsHeldCertificate x q cost bound plan rows lines in
+    let Q : ℕ → Type 0 = λ x. IsHeldCertificate p.size x cost bound plan rows lines in
     subst P (sym size) (subst Q (sym candidates) (found_is_certificate p found h cost bound plan rows lines e least gap))
 
 pub sized_solution : (p : Problem) (found : Found) (h : IsProved p found) (n q : ℕ) (cost bound : ℤ) (plan : Plan) (rows : List (Vec Prices Global)) (lines : List TreeLine) (k : Proof)

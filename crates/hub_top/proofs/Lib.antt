@@ -1,5 +1,8 @@
 pub mod SolvedVerdict
-pub mod Givings
 pub mod FoundCertificates
 pub mod Solutions
 pub mod Rows
+pub mod CheckedAgain
+pub mod Headlines
+pub mod Halting
+pub mod Sources

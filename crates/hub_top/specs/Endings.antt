@@ -2,42 +2,51 @@
 use Rattle.std.specs.Prelude.{◌≡◌, ℕ, List, [], Option, Some, None, Ok, Err}
 use Rattle.hub_io.specs.Outside.{Files, Rose, Puts}
 use Rattle.hub_io.specs.declared.Failed.{Failed}
-use Rattle.file_spec.specs.Options.{Options}
+use Rattle.hub_spec.specs.Verdicts.{Verdict, optimal, bounds}
 use Rattle.file_spec.specs.Faults.{Fault}
 use Rattle.hub_top.specs.declared.status.Status.{Status}
-use Rattle.hub_top.specs.declared.status.Status.TheVariants.{Done, Usage, Instance, Memory, Read, Write}
-use Rattle.hub_top.specs.Words.{Request, solve, instance_file, options}
-use Rattle.hub_top.specs.Texts.{usage_text, fault_text, memory_text, read_text}
-use Rattle.hub_top.specs.Commands.{HoldsFault, SolvesFile, TellsAll}
+use Rattle.hub_top.specs.declared.status.Status.TheVariants.{Done, Stopped, No, Usage, Instance, Memory, Read, Write}
+use Rattle.hub_words.specs.Requests.{Source, Request, solve, check, instance}
+use Rattle.hub_top.specs.Texts.{usage_text, fault_text, memory_text, read_text, verdict_text}
+use Rattle.hub_top.specs.Commands.{Blame, HasBlame, SolvesFile, JudgesFile, TellsAll}
 
 -- what a run came to, before it was written
 pub data Ending : Type 0 where
   -- a certificate's text
   solved : List ℕ → Ending
+  -- the verdict on a certificate's bytes
+  judged : Verdict → Ending
   -- the words are no command
   usage : Ending
-  -- the instance file has this fault
-  faulty : Fault → Ending
+  -- a file of the instance has this fault
+  faulty : Blame → Fault → Ending
   memory : Ending
   read : Ending
 
--- the status of an ending
+-- the status of a verdict
+abbrev pub verdict_status : Verdict → Status
+verdict_status (optimal cost) = Done
+verdict_status (bounds bound cost) = Stopped
+verdict_status verdict = No
+
 abbrev pub status_of : Ending → Status
 status_of (solved text) = Done
+status_of (judged verdict) = verdict_status verdict
 status_of usage = Usage
-status_of (faulty fault) = Instance
+status_of (faulty blame fault) = Instance
 status_of memory = Memory
 status_of read = Read
 
 -- what is written to out
 abbrev pub out_text : Ending → List ℕ
 out_text (solved text) = text
+out_text (judged verdict) = verdict_text verdict
 out_text ending = []
 
 -- what is written to err
 abbrev pub err_text : Ending → List ℕ
 err_text usage = usage_text
-err_text (faulty fault) = fault_text fault
+err_text (faulty blame fault) = fault_text blame fault
 err_text memory = memory_text
 err_text read = read_text
 err_text ending = []
@@ -55,10 +64,13 @@ pub record ShelfFails {S : Type 0} (held : S → Option Files) (faults : S → �
 -- the endings that the words, the files and the shelf's faults allow
 abbrev pub MayEnd : Option Request → Option Files → (Request → Type 0) → Ending → Type 0
 MayEnd asked held fails (solved text) =
-    (file : List ℕ) × (o : Options) × (asked ≡ Some (solve file o)) × WhereTold held (λ files. SolvesFile files file o text)
+    (s : Source) × (asked ≡ Some (solve s)) × WhereTold held (λ files. SolvesFile files s text)
+MayEnd asked held fails (judged verdict) =
+    (s : Source) × (certificate : List ℕ) × (asked ≡ Some (check s certificate))
+    × WhereTold held (λ files. JudgesFile files s certificate verdict)
 MayEnd asked held fails usage = asked ≡ None
-MayEnd asked held fails (faulty fault) =
-    (request : Request) × (asked ≡ Some request) × WhereTold held (λ files. HoldsFault files (instance_file request) (options request) fault)
+MayEnd asked held fails (faulty blame fault) =
+    (request : Request) × (asked ≡ Some request) × WhereTold held (λ files. HasBlame files (instance request) blame fault)
 MayEnd asked held fails memory = Unit {0}
 MayEnd asked held fails read = (request : Request) × (asked ≡ Some request) × fails request
 

@@ -1,23 +1,62 @@
 -- Why a command has no instance.
-use Rattle.std.specs.Prelude.{List, ℕ, Option, None}
-use Rattle.hub_io.specs.Outside.{Files}
-use Rattle.file_spec.specs.Options.{Options, cab_matrix}
-use Rattle.file_spec.specs.Instances.{GivesFault}
+use Rattle.std.specs.Prelude.{◌≡◌, ℕ, List, Option, Some, None}
+use Rattle.hub_io.specs.Outside.{Files, HoldsMore}
+use Rattle.file_spec.specs.Options.{Layout, Options}
+use Rattle.file_spec.specs.Faults.{Fault, too_long}
+use Rattle.file_spec.specs.Contents.{Contents}
+use Rattle.file_spec.specs.Files.{HasFault}
+use Rattle.file_spec.specs.Instances.{build_fault, file_limit, GivesCostFault}
 use Rattle.hub_model.specs.Faults.{fault_of}
+use Rattle.hub_top.specs.declared.halts.Halt.{Halt}
+use Rattle.hub_top.specs.declared.halts.Halt.TheVariants as halts
+use Rattle.hub_io.specs.declared.whole.ReadEnd.{ReadEnd}
+use Rattle.hub_io.specs.declared.whole.ReadEnd.TheVariants as ends
+use Rattle.hub_model.specs.declared.faults.InstanceFault.TheVariants as faults
 use Rattle.hub_model.specs.declared.faults.Refusal.{Refusal}
 use Rattle.hub_model.specs.declared.faults.Refusal.TheVariants as refusals
-use Rattle.hub_top.specs.declared.instances.Halt.{Halt}
-use Rattle.hub_top.specs.declared.instances.Halt.TheVariants.{Fault, Memory, Read}
-use Rattle.hub_top.specs.Commands.{HoldsFault}
+use Rattle.hub_top.specs.declared.texts.Blamed.{Blamed}
+use Rattle.hub_words.specs.Requests.{Source}
+use Rattle.hub_top.specs.Commands.{Blame, on_instance, on_costs, HasBlame}
 use Rattle.hub_top.specs.Endings.{WhereTold}
+use Rattle.hub_top.specs.Blames.{blame_of}
 
--- the bytes have the fault for which they were refused; want of memory says nothing
-abbrev pub IsRefusal : List ℕ → Options → Refusal → Type 0
-IsRefusal bytes o (refusals.Fault f) = GivesFault cab_matrix o bytes None (fault_of f)
-IsRefusal bytes o refusals.OutOfMemory = Unit {0}
+-- a fault that is so, or a read that failed so; want of memory says nothing
+abbrev pub Halts : (Blame → Fault → Type 0) → Type 0 → Halt → Type 0
+Halts faulty unread (halts.Fault blamed f) = faulty (blame_of blamed) (fault_of f)
+Halts faulty unread halts.Memory = Unit {0}
+Halts faulty unread halts.Read = unread
 
--- the file has the fault, or the shelf failed, which is no sound one that holds the file
-abbrev pub Halts : Option Files → Type 0 → Type 0 → List ℕ → Options → Halt → Type 0
-Halts held rose unsound file o (Fault f) = WhereTold held (λ files. HoldsFault files file o (fault_of f))
-Halts held rose unsound file o Memory = Unit {0}
-Halts held rose unsound file o Read = rose × unsound
+-- the blamed file holds too many bytes
+abbrev pub IsTooLong : Option Files → List ℕ → Blame → Blame → Fault → Type 0
+IsTooLong held file wanted blame fault = (blame ≡ wanted) × (fault ≡ too_long) × HoldsMore held file file_limit
+
+-- a token of the instance file has the fault
+abbrev pub IsOfToken : Layout → Options → List ℕ → Blame → Fault → Type 0
+IsOfToken layout o bytes blame fault = (blame ≡ on_instance) × HasFault layout o bytes fault
+
+-- the contents, options and costs have the fault together
+abbrev pub IsOfWhole : Options → Contents → Option (List ℕ) → Blame → Fault → Type 0
+IsOfWhole o contents costs blame fault = (blame ≡ on_instance) × (build_fault o contents costs ≡ Some fault)
+
+-- the costs file for n nodes has the fault
+abbrev pub HasCostsFault : Files → Option (List ℕ) → ℕ → Fault → Type 0
+HasCostsFault files None n fault = ⊥
+HasCostsFault files (Some name) n fault = (bytes : List ℕ) × (files name ≡ Some bytes) × GivesCostFault n bytes fault
+
+abbrev pub IsOfCosts : Option Files → Option (List ℕ) → ℕ → Blame → Fault → Type 0
+IsOfCosts held costs n blame fault = (blame ≡ on_costs) × WhereTold held (λ files. HasCostsFault files costs n fault)
+
+-- a file of the instance has the fault
+abbrev pub IsOfSource : Option Files → Source → Blame → Fault → Type 0
+IsOfSource held s blame fault = WhereTold held (λ files. HasBlame files s blame fault)
+
+-- why there is no instance, where what that file gives was refused
+abbrev pub halted_by : Blamed → Refusal → Halt
+halted_by blamed (refusals.Fault f) = halts.Fault blamed f
+halted_by blamed refusals.OutOfMemory = halts.Memory
+
+-- why there is no instance, where the reading of that file ended so
+abbrev pub unread_by : Blamed → ReadEnd → Halt
+unread_by blamed ends.TooLong = halts.Fault blamed faults.TooLong
+unread_by blamed ends.ReadFault = halts.Read
+unread_by blamed ends.OutOfMemory = halts.Memory

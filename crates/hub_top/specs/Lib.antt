@@ -1,10 +1,13 @@
-pub mod Words
 pub mod Statuses
-pub mod Texts
 pub mod Commands
+pub mod Texts
 pub mod Endings
 pub mod Meanings
+pub mod Headline
 pub mod Theorems
+pub mod Blames
 pub mod Views
+pub mod Building
 pub mod Halts
 pub mod Solving
+pub mod Judging

@@ -2,17 +2,27 @@
 use Rattle.std.specs.Prelude.{◌≡◌, ℕ, List, [], Option, Some, None}
 use Rattle.std.specs.Io.KnownBytes.{Appends}
 use Rattle.hub_io.specs.Outside.{Files}
+use Rattle.hub_spec.specs.Verdicts.{Verdict}
 use Rattle.file_spec.specs.Faults.{Fault}
 use Rattle.hub_top.specs.declared.status.Status.{Status}
 use Rattle.hub_top.specs.declared.status.Status.TheVariants.{Done, Stopped, No, Usage, Instance, Memory, Read, Write}
-use Rattle.hub_top.specs.Words.{Request, solve, instance_file, options}
-use Rattle.hub_top.specs.Commands.{HoldsFault, SolvesFile}
-use Rattle.hub_top.specs.Endings.{WhereTold}
+use Rattle.hub_words.specs.Requests.{Source, Request, solve, check, instance}
+use Rattle.hub_top.specs.Texts.{verdict_text}
+use Rattle.hub_top.specs.Commands.{Blame, HasBlame, SolvesFile, JudgesFile}
+use Rattle.hub_top.specs.Endings.{WhereTold, verdict_status}
+
+-- the text is the line of a verdict with this status, which is the verdict on the certificate
+pub record Judges (files : Files) (s : Source) (certificate : List ℕ) (status : Status) (text : List ℕ) : Type 0 where
+  pub verdict : Verdict
+  pub of_status : verdict_status verdict ≡ status
+  pub of_text : text ≡ verdict_text verdict
+  pub judges : JudgesFile files s certificate verdict
 
 -- what a command says that ends with this status and this text on out
 abbrev pub Answers : Request → Status → Files → List ℕ → Type 0
-Answers (solve file o) Done files text = SolvesFile files file o text
-Answers (solve file o) status files text = ⊥
+Answers (solve s) Done files text = SolvesFile files s text
+Answers (solve s) status files text = ⊥
+Answers (check s certificate) status files text = Judges files s certificate status text
 
 -- the words are a command, and out took the text of its answer with this status
 pub record Answered (asked : Option Request) (held : Option Files) (old new : Option (List ℕ)) (status : Status) : Type 0 where
@@ -22,12 +32,13 @@ pub record Answered (asked : Option Request) (held : Option Files) (old new : Op
   pub answers : WhereTold held (λ files. Answers request status files text)
   pub taken : Appends old new text
 
--- the words are a command whose instance file has a fault, and out took nothing
+-- the words are a command, a file of whose instance has a fault, and out took nothing
 pub record Refused (asked : Option Request) (held : Option Files) (old new : Option (List ℕ)) : Type 0 where
   pub request : Request
   pub is_asked : asked ≡ Some request
+  pub blame : Blame
   pub fault : Fault
-  pub holds : WhereTold held (λ files. HoldsFault files (instance_file request) (options request) fault)
+  pub holds : WhereTold held (λ files. HasBlame files (instance request) blame fault)
   pub taken : Appends old new []
 
 -- the words are a command, the shelf failed, and out took nothing

@@ -2,8 +2,13 @@
 use Rattle.std.specs.Prelude.{ℕ, ◌+◌, List, [], ◌∷◌, ◌++◌, codes, decimal}
 use Rattle.std.specs.List.{concat}
 use Rattle.std.specs.Fmt.{signed_decimal}
+use Rattle.text_spec.specs.Fixed.{fixed_text}
+use Rattle.hub_spec.specs.Grammar.{bad_line, ended}
+use Rattle.hub_spec.specs.Verdicts.{Verdict, optimal, bounds, fails, misread, too_long}
 use Rattle.file_spec.specs.Faults.{Fault, bad_number, missing_token, missing_pair, extra, bad_size, negative, too_big, bad_index, repeated, no_candidate, too_costly}
 use Rattle.file_spec.specs.Faults as faults
+use Rattle.cert_checker.specs.Answers.{kind_name}
+use Rattle.hub_top.specs.Commands.{Blame, on_instance, on_costs}
 
 -- what is printed where the words are no command
 unfoldable pub usage_text : List ℕ
@@ -25,25 +30,55 @@ memory_text = codes "hub: out of memory\n"
 unfoldable pub read_text : List ℕ
 read_text = codes "hub: read failed\n"
 
--- a fault's number, name and what it carries
-abbrev pub fault_words : Fault → List ℕ
-fault_words faults.too_long = codes "1 TooLong"
-fault_words (bad_number at) = codes "2 BadNumber at " ++ decimal at
-fault_words (missing_token t) = codes "3 Missing token " ++ decimal t
-fault_words (missing_pair i j) = codes "3 Missing pair " ++ decimal (i + 1) ++ codes " " ++ decimal (j + 1)
-fault_words (extra at) = codes "4 Extra at " ++ decimal at
-fault_words (bad_size got) = codes "5 Size " ++ signed_decimal got
-fault_words (negative at) = codes "6 Negative at " ++ decimal at
-fault_words (too_big at) = codes "7 TooBig at " ++ decimal at
-fault_words (bad_index at) = codes "8 BadIndex at " ++ decimal at
-fault_words (repeated i j) = codes "9 Repeated " ++ decimal (i + 1) ++ codes " " ++ decimal (j + 1)
-fault_words (no_candidate k) = codes "10 NoCandidate " ++ decimal (k + 1)
-fault_words (too_costly sum) = codes "11 TooCostly " ++ decimal sum
+-- a fault's number, name and what it carries, in parts
+abbrev pub fault_words : Fault → List (List ℕ)
+fault_words faults.too_long = codes "1 TooLong" ∷ []
+fault_words (bad_number at) = codes "2 BadNumber at " ∷ decimal at ∷ []
+fault_words (missing_token t) = codes "3 Missing token " ∷ decimal t ∷ []
+fault_words (missing_pair i j) = codes "3 Missing pair " ∷ decimal (i + 1) ∷ codes " " ∷ decimal (j + 1) ∷ []
+fault_words (extra at) = codes "4 Extra at " ∷ decimal at ∷ []
+fault_words (bad_size got) = codes "5 Size " ∷ signed_decimal got ∷ []
+fault_words (negative at) = codes "6 Negative at " ∷ decimal at ∷ []
+fault_words (too_big at) = codes "7 TooBig at " ∷ decimal at ∷ []
+fault_words (bad_index at) = codes "8 BadIndex at " ∷ decimal at ∷ []
+fault_words (repeated i j) = codes "9 Repeated " ∷ decimal (i + 1) ∷ codes " " ∷ decimal (j + 1) ∷ []
+fault_words (no_candidate k) = codes "10 NoCandidate " ∷ decimal (k + 1) ∷ []
+fault_words (too_costly sum) = codes "11 TooCostly " ∷ decimal sum ∷ []
+
+-- the words that name the file that has a fault
+abbrev pub blame_words : Blame → List ℕ
+blame_words on_instance = codes "hub: instance fault "
+blame_words on_costs = codes "hub: costs fault "
 
 -- the line of a fault with these words
-unfoldable pub fault_line : List ℕ → List ℕ
-fault_line words = codes "hub: instance fault " ++ words ++ codes "\n"
+unfoldable pub fault_line : Blame → List (List ℕ) → List ℕ
+fault_line blame words = concat (blame_words blame ∷ words ++ codes "\n" ∷ [])
 
--- the line of a fault of the instance file
-abbrev pub fault_text : Fault → List ℕ
-fault_text fault = fault_line (fault_words fault)
+-- the line of a fault
+abbrev pub fault_text : Blame → Fault → List ℕ
+fault_text blame fault = fault_line blame (fault_words fault)
+
+-- that a plan of this cost is optimal; costs have 12 decimals
+unfoldable pub optimal_line : ℕ → List ℕ
+optimal_line cost = concat (codes "optimal " ∷ fixed_text 12 cost ∷ codes "\n" ∷ [])
+
+-- that a plan of this cost is there, and none below the bound
+unfoldable pub bounds_line : ℕ → ℕ → List ℕ
+bounds_line bound cost = concat (codes "bounds " ∷ fixed_text 12 bound ∷ codes " " ∷ fixed_text 12 cost ∷ codes "\n" ∷ [])
+
+-- that the bytes do not certify, for this reason at this line
+unfoldable pub no_line : List ℕ → ℕ → List ℕ
+no_line reason line = concat (codes "no " ∷ reason ∷ codes " " ∷ decimal line ∷ codes "\n" ∷ [])
+
+-- that they are too many
+unfoldable pub too_long_line : List ℕ
+too_long_line = codes "no TooLong\n"
+
+-- the line of a verdict
+abbrev pub verdict_text : Verdict → List ℕ
+verdict_text (optimal cost) = optimal_line cost
+verdict_text (bounds bound cost) = bounds_line bound cost
+verdict_text (fails kind line) = no_line (kind_name kind) line
+verdict_text (misread (bad_line line)) = no_line (codes "BadLine") line
+verdict_text (misread (ended line)) = no_line (codes "Ended") line
+verdict_text too_long = too_long_line

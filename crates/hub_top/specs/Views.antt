@@ -1,35 +1,30 @@
--- The words and commands of the code as contracts see them.
-use Rattle.std.specs.Prelude.{ℕ, ◌^◌, ◌≤◌, List, Option, map, string_bytes, String, IfSome}
-use Rattle.std.specs.declared.alloc.Global.{Global}
-use Rattle.hub_top.specs.declared.words.Command.{Command}
-use Rattle.hub_top.specs.declared.words.Command.TheVariants.{Solve}
+-- What a run of the code came to, as contracts see it.
 use Rattle.hub_spec.specs.Text.{certificate_text}
+use Rattle.hub_spec.specs.Grammar.{bad_line, ended}
+use Rattle.hub_spec.specs.Verdicts.{Verdict, optimal, bounds, fails, misread, too_long}
 use Rattle.hub_model.specs.Faults.{fault_of}
+use Rattle.cert_checker.specs.Answers.{kind_of}
+use Rattle.hub_top.specs.declared.judgements.Judgement.{Judgement}
+use Rattle.hub_top.specs.declared.judgements.Judgement.TheVariants.{Optimal, Bounds, Fails, BadLine, Ended, TooLong}
 use Rattle.hub_top.specs.declared.endings.Intended.{Intended}
-use Rattle.hub_top.specs.declared.endings.Intended.TheVariants.{Solved, Usage, Refused, Memory, Read}
-use Rattle.hub_top.specs.Endings.{Ending, solved, usage, faulty, memory, read}
-use Rattle.hub_top.specs.Words.{Request, solve, options_with}
+use Rattle.hub_top.specs.declared.endings.Intended.TheVariants.{Solved, Judged, Usage, Refused, Memory, Read}
+use Rattle.hub_top.specs.Endings.{Ending, solved, judged, usage, faulty, memory, read}
+use Rattle.hub_top.specs.Blames.{blame_of}
 
--- the bytes of the words
-abbrev pub texts : List (String Global) → List (List ℕ)
-texts words = map string_bytes words
-
--- what a command asks for
-abbrev pub request : Command → Request
-request (Solve file fixed) = solve file.now (options_with fixed)
-
--- the fixed cost that a command gives
-abbrev pub fixed_of : Command → Option ℕ
-fixed_of (Solve file fixed) = fixed
-
--- a fixed cost within its limit
-abbrev pub IsFixed : Option ℕ → Type 0
-IsFixed fixed = IfSome fixed (λ x. x ≤ 10 ^ 18)
+-- the verdict that a judgement stands for
+abbrev pub verdict_of : Judgement → Verdict
+verdict_of (Optimal cost) = optimal cost
+verdict_of (Bounds bound cost) = bounds bound cost
+verdict_of (Fails kind line) = fails (kind_of kind) line
+verdict_of (BadLine line) = misread (bad_line line)
+verdict_of (Ended line) = misread (ended line)
+verdict_of TooLong = too_long
 
 -- the ending that a run came to
 abbrev pub ending : Intended → Ending
 ending (Solved certificate) = solved (certificate_text certificate)
+ending (Judged judgement) = judged (verdict_of judgement)
 ending Usage = usage
-ending (Refused fault) = faulty (fault_of fault)
+ending (Refused blamed fault) = faulty (blame_of blamed) (fault_of fault)
 ending Memory = memory
 ending Read = read

@@ -1,14 +1,14 @@
 //! The certificate of what a search found.
 
-ghost use Rattle.std.specs.Prelude.{◌≡◌, IfOk, pos};
+ghost use Rattle.std.specs.Prelude.{◌≡◌, IfOk, map, pos};
 ghost use Rattle.hub_top.specs.Solving.{IsSolution};
 ghost use Rattle.hub_spec.specs.Plans.{plan_cost};
 ghost use Rattle.branch_tree.specs.Findings.{IsProved};
 ghost use Rattle.branch_tree.specs.Held.{cuts_of};
-ghost use Rattle.cert_text.specs.Certificates.{cuts_of as rows_as_cuts};
+ghost use Rattle.cert_format.specs.Held.{cut_of};
 
 use branch_tree::Found;
-use cert_text::Certificate;
+use cert_format::Certificate;
 use dual_cuts::Cut;
 use hub_model::{Dual, Instance};
 use std::alloc::{AllocError, Global};
@@ -36,7 +36,7 @@ pub fn certificate_of(
 
 /// The duals of each cut.
 fn rows_of(alloc: Global, cuts: Vec<Cut>) -> Result<Vec<Vec<Dual>>, AllocError>
-    ensures { IfOk result (λ rows. rows_as_cuts rows.items ≡ cuts_of cuts.items) }
+    ensures { IfOk result (λ rows. map cut_of rows.items ≡ cuts_of cuts.items) }
 {
     let mut all = Vec::with_capacity(alloc, cuts.len())?;
     for cut in cuts {

@@ -6,8 +6,9 @@ ghost use Rattle.hub_top.specs.Endings.{out_text, err_text, status_of, Written};
 ghost use Rattle.hub_top.specs.Views.{ending};
 
 use crate::Status;
-use crate::texts::{put_fault, put_memory, put_read, put_usage};
-use cert_text::{Certificate, write_cert};
+use crate::judgements::{Judgement, put_judgement};
+use crate::texts::{Blamed, put_fault, put_memory, put_read, put_usage};
+use cert_format::{Certificate, write_cert};
 use hub_io::{Failed, Sink};
 use hub_model::InstanceFault;
 
@@ -16,8 +17,9 @@ use hub_model::InstanceFault;
 pub enum Intended {
     /// The certificate of an optimal plan.
     Solved(Certificate),
+    Judged(Judgement),
     Usage,
-    Refused(InstanceFault),
+    Refused(Blamed, InstanceFault),
     Memory,
     Read,
 }
@@ -40,6 +42,7 @@ fn put_out<K: Sink>(intended: &Intended, sink: &mut K) -> Result<(), Failed>
 {
     match intended {
         Intended::Solved(certificate) => write_cert(certificate, sink),
+        Intended::Judged(judgement) => put_judgement(judgement, sink),
         _ => Ok(()),
     }
 }
@@ -48,9 +51,9 @@ fn put_err<K: Sink>(intended: &Intended, sink: &mut K) -> Result<(), Failed>
     ensures { Puts K.taken K.faults sink.old sink.new result (err_text (ending intended.now)) }
 {
     match intended {
-        Intended::Solved(_) => Ok(()),
+        Intended::Solved(_) | Intended::Judged(_) => Ok(()),
         Intended::Usage => put_usage(sink),
-        Intended::Refused(fault) => put_fault(fault, sink),
+        Intended::Refused(blamed, fault) => put_fault(*blamed, fault, sink),
         Intended::Memory => put_memory(sink),
         Intended::Read => put_read(sink),
     }
@@ -61,8 +64,9 @@ fn status(intended: &Intended) -> Status
 {
     match intended {
         Intended::Solved(_) => Status::Done,
+        Intended::Judged(judgement) => judgement.status(),
         Intended::Usage => Status::Usage,
-        Intended::Refused(_) => Status::Instance,
+        Intended::Refused(..) => Status::Instance,
         Intended::Memory => Status::Memory,
         Intended::Read => Status::Read,
     }

@@ -1,75 +1,110 @@
-//! The instance of a command, from its file.
+//! The instance of a command, from its files.
 
-ghost use Rattle.std.specs.Prelude.{◌≡◌, ◌≤◌, length, None, IfOk, IfErr, OnErr};
-ghost use Rattle.hub_io.specs.Outside.{Rose, TellsOf};
-ghost use Rattle.file_spec.specs.Options.{cab_matrix};
-ghost use Rattle.file_spec.specs.Instances.{file_limit, GivesInstance};
-ghost use Rattle.hub_top.specs.Words.{options_with};
-ghost use Rattle.hub_top.specs.Views.{IsFixed};
-ghost use Rattle.hub_top.specs.Commands.{HoldsInstance};
+ghost use Rattle.std.specs.Prelude.{◌≡◌, ◌≤◌, length, IfOk, IfErr};
+ghost use Rattle.hub_io.specs.Outside.{Rose, Holds};
+ghost use Rattle.file_spec.specs.Files.{HasContents};
+ghost use Rattle.file_spec.specs.Instances.{file_limit};
+ghost use Rattle.token_reader.specs.Refusals.{IsRefused};
+ghost use Rattle.hub_model.specs.Building.{costs_of};
+ghost use Rattle.hub_words.specs.Requests.{AreSources};
+ghost use Rattle.hub_words.specs.Views.{layout_of, source_of};
+ghost use Rattle.hub_top.specs.Commands.{HoldsInstance, TellsSource};
 ghost use Rattle.hub_top.specs.Endings.{WhereTold};
-ghost use Rattle.hub_top.specs.Halts.{IsRefusal, Halts};
+ghost use Rattle.hub_top.specs.Building.{IsBuilt, AreBuildable};
+ghost use Rattle.hub_top.specs.Halts.{Halts, IsOfToken, IsOfWhole, IsOfSource};
 
-use hub_io::{ReadEnd, Shelf, read_whole};
-use hub_model::{Instance, InstanceFault, Refusal, Terms};
-use instance_cab::read_matrix;
+use crate::costs::costs_of_file;
+use crate::files::read_file;
+use crate::halts::{Halt, halt_by};
+use crate::texts::Blamed;
+use hub_io::Shelf;
+use hub_model::{Instance, Parts, Refusal, Terms};
+use hub_words::{Layout, Source};
+use instance_ap::read_ap;
+use instance_cab::{read_matrix, read_rows};
 use std::alloc::Global;
 
-/// An instance file may hold at most this many bytes.
-const FILE_LIMIT: u64 = 67_108_864;
-
-/// Why a command has no instance.
-#[derive(Clone, Copy, Debug)]
-pub enum Halt {
-    Fault(InstanceFault),
-    Memory,
-    Read,
-}
-
-/// The instance that the file gives with this fixed cost of every node, in 10^-6.
+/// The instance that the source names.
 pub fn read_instance<S: Shelf>(
     alloc: Global,
-    file: &str,
-    fixed: Option<u64>,
+    source: &Source<'_>,
     shelf: &mut S,
 ) -> Result<Instance, Halt>
-    requires { IsFixed fixed }
-    ensures given { IfOk result (λ p. WhereTold (S.held shelf.old) (λ files. HoldsInstance files file.now (options_with fixed) p)) }
-    ensures halted { IfErr result (Halts (S.held shelf.old) (Rose (S.faults shelf.old) (S.faults shelf.new)) (S.sound shelf.old → TellsOf (S.held shelf.old) file.now → ⊥) file.now (options_with fixed)) }
+    requires { AreSources (source_of source.now) }
+    ensures given { IfOk result (λ p. WhereTold (S.held shelf.old) (λ files. HoldsInstance files (source_of source.now) p)) }
+    ensures halted { IfErr result (Halts (IsOfSource (S.held shelf.old) (source_of source.now))
+        (Rose (S.faults shelf.old) (S.faults shelf.new) × (S.sound shelf.old → TellsSource (S.held shelf.old) (source_of source.now) → ⊥))) }
     ensures later { S.faults shelf.old ≤ S.faults shelf.new }
     ensures same { S.held shelf.new ≡ S.held shelf.old }
     ensures stays_sound { S.sound shelf.old → S.sound shelf.new }
 {
-    match read_whole(alloc, shelf, file, FILE_LIMIT) {
-        Ok(bytes) => match instance_of(alloc, &bytes, fixed) {
-            Ok(instance) => Ok(instance),
-            Err(Refusal::Fault(fault)) => Err(Halt::Fault(fault)),
-            Err(Refusal::OutOfMemory) => Err(Halt::Memory),
-        },
-        Err(ReadEnd::TooLong) => Err(Halt::Fault(InstanceFault::TooLong)),
-        Err(ReadEnd::ReadFault) => Err(Halt::Read),
-        Err(ReadEnd::OutOfMemory) => Err(Halt::Memory),
+    match read_file(alloc, source.file, Blamed::Instance, shelf) {
+        Ok(bytes) => instance_of(alloc, &bytes, source, shelf),
+        Err(halt) => Err(halt),
     }
 }
 
-/// The instance that the bytes give with this fixed cost.
-fn instance_of(alloc: Global, bytes: &[u8], fixed: Option<u64>) -> Result<Instance, Refusal>
-    requires fixed_limit { IsFixed fixed }
+/// The instance that the bytes of the instance file give.
+fn instance_of<S: Shelf>(
+    alloc: Global,
+    bytes: &[u8],
+    source: &Source<'_>,
+    shelf: &mut S,
+) -> Result<Instance, Halt>
+    requires sources { AreSources (source_of source.now) }
     requires not_too_long { length bytes.now ≤ file_limit }
-    ensures given { IfOk result (GivesInstance cab_matrix (options_with fixed) bytes.now None) }
-    ensures refused { IfErr result (IsRefusal bytes.now (options_with fixed)) }
+    requires held { Holds (S.held shelf.old) source.now.file.now bytes.now }
+    ensures given { IfOk result (λ p. WhereTold (S.held shelf.old) (λ files. HoldsInstance files (source_of source.now) p)) }
+    ensures halted { IfErr result (Halts (IsOfSource (S.held shelf.old) (source_of source.now))
+        (Rose (S.faults shelf.old) (S.faults shelf.new) × (S.sound shelf.old → TellsSource (S.held shelf.old) (source_of source.now) → ⊥))) }
+    ensures later { S.faults shelf.old ≤ S.faults shelf.new }
+    ensures same { S.held shelf.new ≡ S.held shelf.old }
+    ensures stays_sound { S.sound shelf.old → S.sound shelf.new }
 {
-    let terms = terms_with(fixed);
-    let parts = read_matrix(alloc, bytes, &terms)?;
-    Instance::build(alloc, parts, &terms, None)
+    match parts_of(alloc, bytes, source) {
+        Ok(parts) => match costs_of_file(alloc, source.costs, &parts, shelf) {
+            Ok(costs) => build(alloc, parts, &source.terms, costs),
+            Err(halt) => Err(halt),
+        },
+        Err(halt) => Err(halt),
+    }
 }
 
-fn terms_with(fixed: Option<u64>) -> Terms
-    requires { IsFixed fixed }
-    ensures { result ≡ options_with fixed }
+/// What the bytes of the instance file give.
+fn parts_of(alloc: Global, bytes: &[u8], source: &Source<'_>) -> Result<Parts, Halt>
+    ensures contents { IfOk result (HasContents (layout_of source.now.layout) source.now.terms bytes.now) }
+    ensures halted { IfErr result (Halts (IsOfToken (layout_of source.now.layout) source.now.terms bytes.now) ⊥) }
 {
-    match fixed {
-        None => Terms::plain(),
-        Some(cost) => Terms::with_fixed(cost as i128),
+    match read_parts(alloc, bytes, source.layout, &source.terms) {
+        Ok(parts) => Ok(parts),
+        Err(refusal) => Err(halt_by(Blamed::Instance, refusal)),
+    }
+}
+
+fn read_parts(alloc: Global, bytes: &[u8], layout: Layout, terms: &Terms) -> Result<Parts, Refusal>
+    ensures contents { IfOk result (HasContents (layout_of layout) terms.now bytes.now) }
+    ensures fault { IfErr result (IsRefused (layout_of layout) terms.now bytes.now) }
+{
+    match layout {
+        Layout::CabMatrix => read_matrix(alloc, bytes, terms),
+        Layout::CabRows => read_rows(alloc, bytes, terms),
+        Layout::AustraliaPost => read_ap(alloc, bytes, terms),
+    }
+}
+
+/// The instance of these parts and fixed costs.
+fn build(
+    alloc: Global,
+    parts: Parts,
+    terms: &Terms,
+    costs: Option<Vec<i128>>,
+) -> Result<Instance, Halt>
+    requires { AreBuildable terms.now parts costs }
+    ensures built { IfOk result (IsBuilt terms.now parts (costs_of costs)) }
+    ensures halted { IfErr result (Halts (IsOfWhole terms.now parts (costs_of costs)) ⊥) }
+{
+    match Instance::build(alloc, parts, terms, costs) {
+        Ok(instance) => Ok(instance),
+        Err(refusal) => Err(halt_by(Blamed::Instance, refusal)),
     }
 }

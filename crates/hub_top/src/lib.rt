@@ -6,8 +6,13 @@
 #![tactic(auto)]
 
 mod certificates;
+mod checking;
+mod costs;
 mod endings;
+mod files;
+mod halts;
 mod instances;
+mod judgements;
 mod laws;
 mod solving;
 mod status;
@@ -15,7 +20,6 @@ mod status;
 mod tests;
 mod texts;
 mod top;
-mod words;
 
 pub use laws::solved_is_optimal;
 pub use status::Status;

@@ -12,14 +12,20 @@ const TWO_NODES: &[u8] = b"2 0 1 1 0 0 10 10 0";
 
 const SOLVE: &[&str] = &["hub", "solve", "cab-matrix", "f", "--fixed", "5"];
 
+const CHECK: &[&str] = &["hub", "check", "cab-matrix", "f", "g", "--fixed", "5"];
+
 const USAGE: &[u8] =
     b"usage: hub solve LAYOUT FILE [options] [--nodes N] [--workers W]\n       hub check LAYOUT FILE CERT [options]\n       hub report LAYOUT FILE CERT [options]\n       hub make SEED SIZE\n       hub demo SEED SIZE [--nodes N] [--workers W]\nLAYOUT: cab-matrix, cab-rows, ap\noptions: --order flow-first|distance-first, --tail ignore|fixed, --divide D,\n         --collect X, --trunk X, --deliver X, --fixed X, --costs FILE,\n         --candidates LIST, --no-self\n";
 
 const ONE_SOLVED: &[u8] =
     b"HUBCERT 1\nsize 1 1\ncost 5000000000000\nbound 5000000000000\nhubs 1\nroute 1 1 1 1\ncuts 1\ncut 1\ndual 1 1 0\nnodes 3\nbranch 1\nleaf 1000000 1 1000000\nempty\nend\n";
 
-const TWO_SOLVED: &[u8] =
-    b"HUBCERT 1\nsize 2 2\ncost 25000000000000\nbound 25000000000000\nhubs 1\nroute 1 1 1 1\nroute 1 2 1 1\nroute 2 1 1 1\nroute 2 2 1 1\ncuts 3\ncut 1\ndual 1 1 0\ndual 1 2 10000000000000\ndual 2 1 10000000000000\ndual 2 2 0\ncut 2\ndual 1 1 0\ndual 1 2 10000000000000\ndual 2 1 10000000000000\ndual 2 2 0\ncut 3\ndual 1 1 0\ndual 1 2 10000000000000\ndual 2 1 10000000000000\ndual 2 2 0\nnodes 7\nbranch 1\nbranch 2\nleaf 1000000 1 1000000\nleaf 1000000 2 1000000\nbranch 2\nleaf 1000000 3 1000000\nempty\nend\n";
+const TWO_SOLVED: &str =
+    "HUBCERT 1\nsize 2 2\ncost 25000000000000\nbound 25000000000000\nhubs 1\nroute 1 1 1 1\nroute 1 2 1 1\nroute 2 1 1 1\nroute 2 2 1 1\ncuts 3\ncut 1\ndual 1 1 0\ndual 1 2 10000000000000\ndual 2 1 10000000000000\ndual 2 2 0\ncut 2\ndual 1 1 0\ndual 1 2 10000000000000\ndual 2 1 10000000000000\ndual 2 2 0\ncut 3\ndual 1 1 0\ndual 1 2 10000000000000\ndual 2 1 10000000000000\ndual 2 2 0\nnodes 7\nbranch 1\nbranch 2\nleaf 1000000 1 1000000\nleaf 1000000 2 1000000\nbranch 2\nleaf 1000000 3 1000000\nempty\nend\n";
+
+// A plan of one node with a bound that is far below its cost.
+const UNPROVED: &str =
+    "HUBCERT 1\nsize 1 1\ncost 5000000000000\nbound 0\nhubs 1\nroute 1 1 1 1\ncuts 1\ncut 1\ndual 1 1 0\nnodes 1\nleaf 1000000\nend\n";
 
 fn words_of(alloc: Global, words: &[&str]) -> Result<Vec<String>, AllocError> {
     let mut all = Vec::new(alloc);
@@ -29,9 +35,16 @@ fn words_of(alloc: Global, words: &[&str]) -> Result<Vec<String>, AllocError> {
     Ok(all)
 }
 
-fn shelf_of(alloc: Global, bytes: &[u8], failing: &[u64]) -> Result<MemShelf, AllocError> {
+// A shelf with the files f and g.
+fn shelf_of(
+    alloc: Global,
+    bytes: &[u8],
+    second: &[u8],
+    failing: &[u64],
+) -> Result<MemShelf, AllocError> {
     let mut files = Vec::new(alloc);
     files.push(MemFile::new(alloc, "f", bytes)?)?;
+    files.push(MemFile::new(alloc, "g", second)?)?;
     Ok(MemShelf::with_faults(files, failing.to_vec(alloc)?))
 }
 
@@ -40,11 +53,11 @@ fn expect<R: Threads + Sync + Abort>(
     rt: &R,
     alloc: Global,
     words: &[&str],
-    bytes: &[u8],
+    files: (&[u8], &[u8]),
     wanted: (Status, &[u8], &[u8]),
 ) -> Result<(), AllocError> {
     let words = words_of(alloc, words)?;
-    let mut shelf = shelf_of(alloc, bytes, &[])?;
+    let mut shelf = shelf_of(alloc, files.0, files.1, &[])?;
     let mut out = MemSink::new(alloc, 2000)?;
     let mut err = MemSink::new(alloc, 2000)?;
     let ended = run(rt, alloc, &words, &mut shelf, &mut out, &mut err, &OpenGate);
@@ -56,20 +69,113 @@ fn expect<R: Threads + Sync + Abort>(
 
 #[test]
 fn worked_instances_are_solved(rt: HostRuntime) -> Result<(), Fail> {
+    for (bytes, text) in [(ONE_NODE, ONE_SOLVED), (TWO_NODES, TWO_SOLVED.as_bytes())] {
+        expect(
+            &rt,
+            rt.alloc(),
+            SOLVE,
+            (bytes, b""),
+            (Status::Done, text, b""),
+        )?;
+    }
+    Ok(())
+}
+
+#[test]
+fn each_layout_gives_the_same_instance(rt: HostRuntime) -> Result<(), Fail> {
+    let alloc = rt.alloc();
+    let wanted = (Status::Done, TWO_SOLVED.as_bytes(), b"".as_slice());
+    expect(
+        &rt,
+        alloc,
+        &["hub", "solve", "cab-rows", "f", "--fixed=5"],
+        (b"2 2 1 1 10 1 2 1 10", b""),
+        wanted,
+    )?;
+    expect(
+        &rt,
+        alloc,
+        &["hub", "solve", "cab-matrix", "f", "--costs", "g"],
+        (TWO_NODES, b"5 5"),
+        wanted,
+    )?;
+    expect(
+        &rt,
+        alloc,
+        &[
+            "hub", "solve", "ap", "f", "--tail", "fixed", "--divide", "1000",
+        ],
+        (b"2 0 0 6000 8000 0 1 1 0 1 1 1 1 5 5", b""),
+        wanted,
+    )?;
+    Ok(())
+}
+
+// The text with the first such part replaced.
+fn changed(alloc: Global, text: &str, old: &str, new: &str) -> Result<String, AllocError> {
+    let mut changed = String::new(alloc);
+    if let Some((front, back)) = text.split_once(old) {
+        changed.push_str(front)?;
+        changed.push_str(new)?;
+        changed.push_str(back)?;
+    }
+    Ok(changed)
+}
+
+#[test]
+fn what_solve_writes_is_checked(rt: HostRuntime) -> Result<(), Fail> {
     expect(
         &rt,
         rt.alloc(),
-        SOLVE,
-        ONE_NODE,
-        (Status::Done, ONE_SOLVED, b""),
+        CHECK,
+        (TWO_NODES, TWO_SOLVED.as_bytes()),
+        (Status::Done, b"optimal 25.000000000000\n", b""),
     )?;
     expect(
         &rt,
         rt.alloc(),
-        SOLVE,
-        TWO_NODES,
-        (Status::Done, TWO_SOLVED, b""),
+        CHECK,
+        (ONE_NODE, UNPROVED.as_bytes()),
+        (
+            Status::Stopped,
+            b"bounds 0.000000000000 5.000000000000\n",
+            b"",
+        ),
     )?;
+    Ok(())
+}
+
+#[test]
+fn what_does_not_certify_is_named(rt: HostRuntime) -> Result<(), Fail> {
+    for (old, new, line) in [
+        ("size 2 2", "size 1 1", b"no BadLine 7\n".as_slice()),
+        ("bound 25", "bound 26", b"no BoundOverCost 4\n".as_slice()),
+        (
+            "cost 25000000000000",
+            "cost 25000000000001",
+            b"no Cost 9\n".as_slice(),
+        ),
+        ("route 1 2 1 1", "route 1 2 2 2", b"no Route 7\n".as_slice()),
+        ("dual 1 2 1", "dual 1 2 2", b"no Dual 13\n".as_slice()),
+        (
+            "leaf 1000000 1",
+            "leaf 1000000 4",
+            b"no CutNumber 29\n".as_slice(),
+        ),
+        ("1 1000000\n", "1 1000001\n", b"no Weight 29\n".as_slice()),
+        (" 1 1000000\n", "\n", b"no Leaf 29\n".as_slice()),
+        ("empty\nend\n", "empty\n", b"no Ended 34\n".as_slice()),
+        ("end\n", "end\n ", b"no BadLine 35\n".as_slice()),
+    ] {
+        let text = changed(rt.alloc(), TWO_SOLVED, old, new)?;
+        expect(
+            &rt,
+            rt.alloc(),
+            CHECK,
+            (TWO_NODES, text.as_bytes()),
+            (Status::No, line, b""),
+        )?;
+    }
     Ok(())
 }
 
@@ -93,21 +199,35 @@ fn faults_are_told_on_err(rt: HostRuntime) -> Result<(), Fail> {
             b"hub: instance fault 4 Extra at 6\n".as_slice(),
         ),
     ] {
-        expect(&rt, rt.alloc(), SOLVE, bytes, (Status::Instance, b"", line))?;
+        expect(
+            &rt,
+            rt.alloc(),
+            SOLVE,
+            (bytes, b""),
+            (Status::Instance, b"", line),
+        )?;
     }
+    expect(
+        &rt,
+        rt.alloc(),
+        &["hub", "solve", "cab-matrix", "f", "--costs", "g"],
+        (ONE_NODE, b"5 6"),
+        (Status::Instance, b"", b"hub: costs fault 4 Extra at 2\n"),
+    )?;
     Ok(())
 }
 
 #[test]
 fn words_that_are_no_command_are_usage(rt: HostRuntime) -> Result<(), Fail> {
     let wanted = (Status::Usage, b"".as_slice(), USAGE);
-    expect(&rt, rt.alloc(), &[], ONE_NODE, wanted)?;
-    expect(&rt, rt.alloc(), &["hub", "--help"], ONE_NODE, wanted)?;
+    let files = (ONE_NODE, b"".as_slice());
+    expect(&rt, rt.alloc(), &[], files, wanted)?;
+    expect(&rt, rt.alloc(), &["hub", "--help"], files, wanted)?;
     expect(
         &rt,
         rt.alloc(),
         &["hub", "solve", "cab-matrix", "-f"],
-        ONE_NODE,
+        files,
         wanted,
     )?;
     Ok(())
@@ -116,9 +236,9 @@ fn words_that_are_no_command_are_usage(rt: HostRuntime) -> Result<(), Fail> {
 #[test]
 fn a_failing_read_is_told_and_out_stays_empty(rt: HostRuntime) -> Result<(), Fail> {
     let alloc = rt.alloc();
-    let words = words_of(alloc, SOLVE)?;
-    for call in 1..4 {
-        let mut shelf = shelf_of(alloc, ONE_NODE, &[call])?;
+    let words = words_of(alloc, CHECK)?;
+    for call in 1..7 {
+        let mut shelf = shelf_of(alloc, ONE_NODE, ONE_SOLVED, &[call])?;
         let mut out = MemSink::new(alloc, 2000)?;
         let mut err = MemSink::new(alloc, 2000)?;
         let ended = run(
@@ -135,7 +255,7 @@ fn a_failing_read_is_told_and_out_stays_empty(rt: HostRuntime) -> Result<(), Fai
 fn a_failing_put_ends_the_run(rt: HostRuntime) -> Result<(), Fail> {
     let alloc = rt.alloc();
     let words = words_of(alloc, SOLVE)?;
-    let mut shelf = shelf_of(alloc, ONE_NODE, &[])?;
+    let mut shelf = shelf_of(alloc, ONE_NODE, b"", &[])?;
     let failing = [Partial { call: 1, taken: 10 }].to_vec(alloc)?;
     let mut out = MemSink::with_faults(alloc, 2000, failing)?;
     let mut err = MemSink::new(alloc, 2000)?;

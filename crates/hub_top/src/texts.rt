@@ -1,16 +1,35 @@
 //! The texts that the product prints.
 
-ghost use Rattle.std.specs.Prelude.{◌+◌, ◌++◌, codes, decimal};
+ghost use Rattle.std.specs.Prelude.{◌≡◌, ◌+◌, [], ◌∷◌, codes, decimal};
 ghost use Rattle.std.specs.Fmt.{signed_decimal};
 ghost use Rattle.hub_io.specs.Outside.{Puts};
 ghost use Rattle.hub_model.specs.Naturals.{natural};
 ghost use Rattle.hub_model.specs.Faults.{fault_of, missing_of};
 ghost use Rattle.file_spec.specs.Faults.{missing_pair, repeated};
-ghost use Rattle.hub_top.specs.Texts.{usage_text, memory_text, read_text, fault_line, fault_text};
+ghost use Rattle.hub_top.specs.Texts.{usage_text, memory_text, read_text, blame_words, fault_line, fault_text};
+ghost use Rattle.hub_top.specs.Blames.{blame_of};
 
 use dec_text::{Piece, put_line};
 use hub_io::{Failed, Sink};
 use hub_model::{InstanceFault, Wanted};
+
+/// The file that is blamed for a fault of an instance.
+#[derive(Clone, Copy, Debug, PartialEq, Eq)]
+pub enum Blamed {
+    Instance,
+    Costs,
+}
+
+impl Blamed {
+    fn words(&self) -> &'static [u8]
+        ensures { result.now ≡ blame_words (blame_of self.now) }
+    {
+        match self {
+            Blamed::Instance => b"hub: instance fault ",
+            Blamed::Costs => b"hub: costs fault ",
+        }
+    }
+}
 
 /// Puts the usage text.
 #[tactic(auto, unfolding(crate::specs::Texts::usage_text))]
@@ -38,41 +57,41 @@ pub fn put_read<K: Sink>(sink: &mut K) -> Result<(), Failed>
     sink.put(b"hub: read failed\n")
 }
 
-/// Puts the line of a fault of the instance file.
-pub fn put_fault<K: Sink>(fault: &InstanceFault, sink: &mut K) -> Result<(), Failed>
-    ensures { Puts K.taken K.faults sink.old sink.new result (fault_text (fault_of fault.now)) }
+/// Puts the line of a fault.
+pub fn put_fault<K: Sink>(file: Blamed, fault: &InstanceFault, sink: &mut K) -> Result<(), Failed>
+    ensures { Puts K.taken K.faults sink.old sink.new result (fault_text (blame_of file) (fault_of fault.now)) }
 {
     match *fault {
-        InstanceFault::TooLong => put_words(b"1 TooLong", sink),
-        InstanceFault::BadNumber { at } => put_at(b"2 BadNumber at ", at, sink),
-        InstanceFault::Missing { what } => put_missing(&what, sink),
-        InstanceFault::Extra { at } => put_at(b"4 Extra at ", at, sink),
-        InstanceFault::Size { got } => put_size(got, sink),
-        InstanceFault::Negative { at } => put_at(b"6 Negative at ", at, sink),
-        InstanceFault::TooBig { at } => put_at(b"7 TooBig at ", at, sink),
-        InstanceFault::BadIndex { at } => put_at(b"8 BadIndex at ", at, sink),
-        InstanceFault::Repeated { i, j } => put_repeated(i, j, sink),
-        InstanceFault::NoCandidate { k } => put_at(b"10 NoCandidate ", k as u64 + 1, sink),
-        InstanceFault::TooCostly { sum } => put_sum(sum, sink),
+        InstanceFault::TooLong => put_words(file, b"1 TooLong", sink),
+        InstanceFault::BadNumber { at } => put_at(file, b"2 BadNumber at ", at, sink),
+        InstanceFault::Missing { what } => put_missing(file, &what, sink),
+        InstanceFault::Extra { at } => put_at(file, b"4 Extra at ", at, sink),
+        InstanceFault::Size { got } => put_size(file, got, sink),
+        InstanceFault::Negative { at } => put_at(file, b"6 Negative at ", at, sink),
+        InstanceFault::TooBig { at } => put_at(file, b"7 TooBig at ", at, sink),
+        InstanceFault::BadIndex { at } => put_at(file, b"8 BadIndex at ", at, sink),
+        InstanceFault::Repeated { i, j } => put_repeated(file, i, j, sink),
+        InstanceFault::NoCandidate { k } => put_at(file, b"10 NoCandidate ", k as u64 + 1, sink),
+        InstanceFault::TooCostly { sum } => put_sum(file, sum, sink),
     }
 }
 
-fn put_missing<K: Sink>(what: &Wanted, sink: &mut K) -> Result<(), Failed>
-    ensures { Puts K.taken K.faults sink.old sink.new result (fault_text (missing_of what.now)) }
+fn put_missing<K: Sink>(file: Blamed, what: &Wanted, sink: &mut K) -> Result<(), Failed>
+    ensures { Puts K.taken K.faults sink.old sink.new result (fault_text (blame_of file) (missing_of what.now)) }
 {
     match *what {
-        Wanted::Token(count) => put_at(b"3 Missing token ", count, sink),
-        Wanted::Pair(i, j) => put_missing_pair(i, j, sink),
+        Wanted::Token(count) => put_at(file, b"3 Missing token ", count, sink),
+        Wanted::Pair(i, j) => put_missing_pair(file, i, j, sink),
     }
 }
 
 #[tactic(auto, unfolding(crate::specs::Texts::fault_line))]
-fn put_words<K: Sink>(words: &[u8], sink: &mut K) -> Result<(), Failed>
-    ensures { Puts K.taken K.faults sink.old sink.new result (fault_line words.now) }
+fn put_words<K: Sink>(file: Blamed, words: &[u8], sink: &mut K) -> Result<(), Failed>
+    ensures { Puts K.taken K.faults sink.old sink.new result (fault_line (blame_of file) (words.now ∷ [])) }
 {
     put_line(
         &[
-            Piece::Text(b"hub: instance fault "),
+            Piece::Text(file.words()),
             Piece::Text(words),
             Piece::Text(b"\n"),
         ],
@@ -81,12 +100,12 @@ fn put_words<K: Sink>(words: &[u8], sink: &mut K) -> Result<(), Failed>
 }
 
 #[tactic(auto, unfolding(crate::specs::Texts::fault_line))]
-fn put_at<K: Sink>(words: &[u8], at: u64, sink: &mut K) -> Result<(), Failed>
-    ensures { Puts K.taken K.faults sink.old sink.new result (fault_line (words.now ++ decimal at)) }
+fn put_at<K: Sink>(file: Blamed, words: &[u8], at: u64, sink: &mut K) -> Result<(), Failed>
+    ensures { Puts K.taken K.faults sink.old sink.new result (fault_line (blame_of file) (words.now ∷ decimal at ∷ [])) }
 {
     put_line(
         &[
-            Piece::Text(b"hub: instance fault "),
+            Piece::Text(file.words()),
             Piece::Text(words),
             Piece::Count(at as u128),
             Piece::Text(b"\n"),
@@ -95,25 +114,25 @@ fn put_at<K: Sink>(words: &[u8], at: u64, sink: &mut K) -> Result<(), Failed>
     )
 }
 
-fn put_missing_pair<K: Sink>(i: u32, j: u32, sink: &mut K) -> Result<(), Failed>
-    ensures { Puts K.taken K.faults sink.old sink.new result (fault_text (missing_pair i j)) }
+fn put_missing_pair<K: Sink>(file: Blamed, i: u32, j: u32, sink: &mut K) -> Result<(), Failed>
+    ensures { Puts K.taken K.faults sink.old sink.new result (fault_text (blame_of file) (missing_pair i j)) }
 {
-    put_pair(b"3 Missing pair ", i, j, sink)
+    put_pair(file, b"3 Missing pair ", i, j, sink)
 }
 
-fn put_repeated<K: Sink>(i: u32, j: u32, sink: &mut K) -> Result<(), Failed>
-    ensures { Puts K.taken K.faults sink.old sink.new result (fault_text (repeated i j)) }
+fn put_repeated<K: Sink>(file: Blamed, i: u32, j: u32, sink: &mut K) -> Result<(), Failed>
+    ensures { Puts K.taken K.faults sink.old sink.new result (fault_text (blame_of file) (repeated i j)) }
 {
-    put_pair(b"9 Repeated ", i, j, sink)
+    put_pair(file, b"9 Repeated ", i, j, sink)
 }
 
 #[tactic(auto, unfolding(crate::specs::Texts::fault_line))]
-fn put_pair<K: Sink>(words: &[u8], i: u32, j: u32, sink: &mut K) -> Result<(), Failed>
-    ensures { Puts K.taken K.faults sink.old sink.new result (fault_line (words.now ++ decimal (i + 1) ++ codes " " ++ decimal (j + 1))) }
+fn put_pair<K: Sink>(file: Blamed, words: &[u8], i: u32, j: u32, sink: &mut K) -> Result<(), Failed>
+    ensures { Puts K.taken K.faults sink.old sink.new result (fault_line (blame_of file) (words.now ∷ decimal (i + 1) ∷ codes " " ∷ decimal (j + 1) ∷ [])) }
 {
     put_line(
         &[
-            Piece::Text(b"hub: instance fault "),
+            Piece::Text(file.words()),
             Piece::Text(words),
             Piece::Count(i as u128 + 1),
             Piece::Text(b" "),
@@ -125,12 +144,13 @@ fn put_pair<K: Sink>(words: &[u8], i: u32, j: u32, sink: &mut K) -> Result<(), F
 }
 
 #[tactic(auto, unfolding(crate::specs::Texts::fault_line))]
-fn put_size<K: Sink>(got: i128, sink: &mut K) -> Result<(), Failed>
-    ensures { Puts K.taken K.faults sink.old sink.new result (fault_line (codes "5 Size " ++ signed_decimal got)) }
+fn put_size<K: Sink>(file: Blamed, got: i128, sink: &mut K) -> Result<(), Failed>
+    ensures { Puts K.taken K.faults sink.old sink.new result (fault_line (blame_of file) (codes "5 Size " ∷ signed_decimal got ∷ [])) }
 {
     put_line(
         &[
-            Piece::Text(b"hub: instance fault 5 Size "),
+            Piece::Text(file.words()),
+            Piece::Text(b"5 Size "),
             Piece::Number(got),
             Piece::Text(b"\n"),
         ],
@@ -139,16 +159,22 @@ fn put_size<K: Sink>(got: i128, sink: &mut K) -> Result<(), Failed>
 }
 
 #[tactic(auto, unfolding(crate::specs::Texts::fault_line))]
-fn put_sum<K: Sink>(sum: i128, sink: &mut K) -> Result<(), Failed>
-    ensures { Puts K.taken K.faults sink.old sink.new result (fault_line (codes "11 TooCostly " ++ decimal (natural sum))) }
+fn put_sum<K: Sink>(file: Blamed, sum: i128, sink: &mut K) -> Result<(), Failed>
+    ensures { Puts K.taken K.faults sink.old sink.new result (fault_line (blame_of file) (codes "11 TooCostly " ∷ decimal (natural sum) ∷ [])) }
 {
-    let sum = if sum < 0 { 0 } else { sum as u128 };
     put_line(
         &[
-            Piece::Text(b"hub: instance fault 11 TooCostly "),
-            Piece::Count(sum),
+            Piece::Text(file.words()),
+            Piece::Text(b"11 TooCostly "),
+            Piece::Count(count_of(sum)),
             Piece::Text(b"\n"),
         ],
         sink,
     )
+}
+
+fn count_of(sum: i128) -> u128
+    ensures { result ≡ natural sum }
+{
+    if sum < 0 { 0 } else { sum as u128 }
 }

@@ -2,27 +2,34 @@
 
 ghost use Rattle.std.specs.Prelude.{◌≡◌, ◌⊎◌};
 ghost use Rattle.hub_io.specs.Outside.{Rose};
-ghost use Rattle.hub_top.specs.Words as spec;
-ghost use Rattle.hub_top.specs.Views.{ending, texts};
+ghost use Rattle.hub_words.specs.Words as spec;
+ghost use Rattle.hub_words.specs.Views.{texts};
+ghost use Rattle.hub_top.specs.Views.{ending};
 ghost use Rattle.hub_top.specs.Endings.{Ending, MayEnd, ShelfFails, Written};
 ghost use Rattle.hub_top.specs.Meanings.{Means};
+ghost use Rattle.hub_top.specs.Headline.{Headline};
 
 use crate::Status;
+use crate::checking::check;
 use crate::endings::{Intended, write};
 use crate::solving::solve;
-use crate::words::{Command, asked};
 use hub_io::{Gate, Shelf, Sink};
+use hub_words::{Command, asked};
 use std::alloc::Global;
 use std::thread::Threads;
 
 /// Runs the command that the words give, of which the first is the program's name.
 ///
-/// It reads and decides first, and then writes: the certificate on `out`, and what hinders it on `err`. The runtime and
+/// It reads and decides first, and then writes: the certificate or the verdict on `out`, and what hinders it on `err`. The runtime and
 /// the gate are not used so far.
 ///
 /// - `ends`: there is an ending that the words, the files and the shelf's faults allow, and it was written, with its
 ///   status; where a sink failed, a front of the text that it was to take, and nothing further.
 /// - `means`: what each status says of the words, the files, the faults and what `out` took.
+/// - `headline`: the headline. Where `solve` ends with status 0, the text it wrote names hubs and routes that cost
+///   exactly the printed cost, and no nonempty set of candidate hubs with any routing costs less; `check` on the same
+///   instance and that text ends with status 0; and wherever `check` ends with status 0, on any bytes whatever, the
+///   named network attains its cost and no plan costs less.
 pub fn run<R: Threads + Sync, S: Shelf, O: Sink, E: Sink, G: Gate>(
     _rt: &R,
     alloc: Global,
@@ -37,6 +44,8 @@ pub fn run<R: Threads + Sync, S: Shelf, O: Sink, E: Sink, G: Gate>(
         × Written O.taken O.faults E.taken E.faults out.old out.new err.old err.new result ending }
     ensures means { Means (spec.asked (texts words.now)) (S.held shelf.old) (ShelfFails S.held S.faults S.sound shelf.old shelf.new)
         (O.taken out.old) (O.taken out.new) (Rose (O.faults out.old) (O.faults out.new) ⊎ Rose (E.faults err.old) (E.faults err.new)) result }
+    ensures headline { Headline (spec.asked (texts words.now)) (S.held shelf.old) (O.taken out.old) (O.taken out.new)
+        ((Rose (S.faults shelf.old) (S.faults shelf.new) → ⊥) × (Rose (O.faults out.old) (O.faults out.new) → ⊥) × (Rose (E.faults err.old) (E.faults err.new) → ⊥)) result }
     ensures same { S.held shelf.new ≡ S.held shelf.old }
 {
     let intended = intend(alloc, words, shelf);
@@ -48,8 +57,10 @@ fn intend<S: Shelf>(alloc: Global, words: &[String], shelf: &mut S) -> Intended
     ensures may { MayEnd (spec.asked (texts words.now)) (S.held shelf.old) (ShelfFails S.held S.faults S.sound shelf.old shelf.new) (ending result) }
     ensures same { S.held shelf.new ≡ S.held shelf.old }
 {
-    match asked(words) {
-        None => Intended::Usage,
-        Some(Command::Solve { file, fixed }) => solve(alloc, file, fixed, shelf),
+    match asked(alloc, words) {
+        Err(_) => Intended::Memory,
+        Ok(None) => Intended::Usage,
+        Ok(Some(Command::Solve(source))) => solve(alloc, &source, shelf),
+        Ok(Some(Command::Check(source, certificate))) => check(alloc, &source, certificate, shelf),
     }
 }

@@ -1,4 +1,4 @@
-use Rattle.std.proofs.Common.{◌≡◌, ℤ, List, length, SFits, to_z, of_z, to_z-of_z, ap, ◌∙◌, rules}
+use Rattle.std.proofs.Common.{length, SFits, to_z-of_z, ap, ◌∙◌, rules}
 use Rattle.std.specs.Int.{w128}
 use Rattle.std.specs.declared.vec.Vec.{Vec}
 use Rattle.std.specs.declared.alloc.Global.{Global}
@@ -6,7 +6,7 @@ use Rattle.hub_spec.specs.Plans.{plan_cost}
 use Rattle.hub_model.specs.declared.tree_lines.TreeLine.{TreeLine}
 use Rattle.dual_cuts.specs.HubCuts.{HubCut}
 use Rattle.branch_tree.specs.Held.{cuts_of}
-use Rattle.hub_top.proofs.FoundCertificates.{AreParts, sized_certificate, sized_solution, natural_cost}
+use Rattle.hub_top.proofs.FoundCertificates.{sized_certificate, sized_solution, natural_cost}
 use Rattle.hub_top.proofs.certificates.certificate_of.Goals as goal
 
 pub new-requires : goal.new-requires

@@ -1,7 +1,7 @@
-use Rattle.std.proofs.Common.{◌≡◌}
+use Rattle.std.proofs.Common.{◌≡◌, map}
 use Rattle.branch_tree.specs.Held.{cuts_of}
-use Rattle.cert_text.specs.Certificates.{cuts_of as rows_as_cuts}
+use Rattle.cert_format.specs.Held.{cut_of}
 use Rattle.hub_top.proofs.certificates.rows_of.Given as goal
 
 abbrev pub invariant-loop-cut : goal.invariant-loop-cut
-invariant-loop-cut l = rows_as_cuts l.all.items ≡ cuts_of l.yielded
+invariant-loop-cut l = map cut_of l.all.items ≡ cuts_of l.yielded

@@ -1,17 +1,34 @@
-use Rattle.std.proofs.Common.{subst}
-use Rattle.std.specs.Prelude.{IfErr}
-use Rattle.file_spec.specs.Options.{Options}
-use Rattle.hub_top.specs.Halts.{IsRefusal}
-use Rattle.hub_top.proofs.Givings.{one_source, refused_whole}
+use Rattle.std.proofs.lemmas.Result.{IfErr-weaker, IfOk-weaker}
+use Rattle.hub_model.specs.Building.{costs_of}
+use Rattle.hub_words.specs.Views.{source_of}
+use Rattle.hub_top.proofs.Halting.{token_halts, whole_halts, built_instance}
+use Rattle.hub_top.proofs.Sources.{one_source}
 use Rattle.hub_top.proofs.instances.instance_of.Goals as goal
 
-pub build-requires-clause-one_source : goal.build-requires-clause-one_source
-build-requires-clause-one_source c =
-    one_source c.terms_with-terms.result c.args.bytes.now c.in_ok-parts.parts c.in_ok-parts.ensures.contents
+pub build-requires : goal.build-requires
+build-requires g c = record {
+  given = c.in-Ok-costs_of_file.ensures.legal;
+  one_source = one_source (source_of c.args.source.now) c.args.bytes.now c.in-Ok.parts (costs_of c.in-Ok-costs_of_file.costs)
+      c.requires.sources c.in-Ok.ensures.contents c.in-Ok-costs_of_file.ensures.named;
+}
 
-pub returns-clause-refused : goal.returns-clause-refused
-returns-clause-refused c =
-    let P : Options → Type 0 = λ o. IfErr c.build.result (IsRefusal c.args.bytes.now o) in
-    subst P c.terms_with-terms.ensures
-    (refused_whole c.terms_with-terms.result c.args.bytes.now c.in_ok-parts.parts c.build.result c.requires.not_too_long
-    c.in_ok-parts.ensures.contents c.build.ensures.refused)
+pub returns-in-Ok-costs_of_file-clause-given : goal.returns-in-Ok-costs_of_file-clause-given
+returns-in-Ok-costs_of_file-clause-given g c =
+    IfOk-weaker c.build.result _ _
+    (λ p built. built_instance (g.S.Shelf.held c.args.shelf.now) (source_of c.args.source.now) c.args.bytes.now c.in-Ok.parts
+    (costs_of c.in-Ok-costs_of_file.costs) p c.requires.not_too_long c.requires.held c.in-Ok.ensures.contents
+    c.in-Ok-costs_of_file.ensures.held built)
+    c.build.ensures.built
+
+pub returns-in-Ok-costs_of_file-clause-halted : goal.returns-in-Ok-costs_of_file-clause-halted
+returns-in-Ok-costs_of_file-clause-halted g c =
+    IfErr-weaker c.build.result _ _
+    (λ h halted. whole_halts (g.S.Shelf.held c.args.shelf.now) (source_of c.args.source.now) _ c.args.bytes.now c.in-Ok.parts
+    (costs_of c.in-Ok-costs_of_file.costs) h c.requires.not_too_long c.requires.held c.in-Ok.ensures.contents
+    c.in-Ok-costs_of_file.ensures.held halted)
+    c.build.ensures.halted
+
+pub returns-in-Err-clause-halted : goal.returns-in-Err-clause-halted
+returns-in-Err-clause-halted g c =
+    token_halts (g.S.Shelf.held c.args.shelf.now) (source_of c.args.source.now) _ c.args.bytes.now c.in-Err.halt
+    c.requires.not_too_long c.requires.held c.in-Err.ensures.halted

@@ -1,10 +1,15 @@
 use Rattle.hub_top.specs.Views.{ending}
 use Rattle.hub_top.proofs.Rows.{meaning}
+use Rattle.hub_top.proofs.Headlines.{headline}
 use Rattle.hub_top.proofs.top.run.Goals as goal
 
 pub returns : goal.returns
-returns g c = record {
-  ends = (ending c.intend-intended.result, c.intend-intended.ensures.may, c.write.ensures);
-  means = meaning _ _ _ _ _ _ _ _ _ _ _ _ (ending c.intend-intended.result) c.intend-intended.ensures.may c.write.ensures;
-  same = c.intend-intended.ensures.same;
-}
+returns g c =
+    let may = c.intend-intended.ensures.may in
+    let means = meaning _ _ _ _ _ _ _ _ _ _ _ _ (ending c.intend-intended.result) may c.write.ensures in
+    record {
+      ends = (ending c.intend-intended.result, may, c.write.ensures);
+      means = means;
+      headline = headline g.S.Shelf.held g.S.Shelf.faults g.S.Shelf.sound c.args.shelf.now c.intend-intended.new.shelf _ _ _ _ _ _ _ _ _ _ (ending c.intend-intended.result) may c.write.ensures means;
+      same = c.intend-intended.ensures.same;
+    }

@@ -1,0 +1,42 @@
+-- The headline: what a run says that ends with status 0.
+use Rattle.std.specs.Prelude.{◌≡◌, ℕ, ◌≤◌, ◌^◌, List, length, Option, Some, None, ◌⊎◌}
+use Rattle.std.specs.Io.KnownBytes.{Appends}
+use Rattle.hub_io.specs.Outside.{Files}
+use Rattle.hub_spec.specs.Problem.{Problem}
+use Rattle.hub_top.specs.declared.status.Status.{Status}
+use Rattle.hub_top.specs.declared.status.Status.TheVariants.{Done, Memory}
+use Rattle.hub_words.specs.Requests.{Source, Request, solve, check}
+use Rattle.hub_top.specs.Texts.{optimal_line}
+use Rattle.hub_top.specs.Commands.{HoldsInstance, SolvesFile, ProvesOptimal}
+
+-- the costs files named hold the same bytes, or none is named
+abbrev pub SameCosts : Files → Option (List ℕ) → Files → Option (List ℕ) → Type 0
+SameCosts before None now None = Unit {0}
+SameCosts before None now (Some name) = ⊥
+SameCosts before (Some name) now None = ⊥
+SameCosts before (Some old) now (Some new) = now new ≡ before old
+
+-- the same instance is named again: the same layout, options and bytes, whatever the names
+pub record IsSameInstance (before : Files) (s : Source) (now : Files) (t : Source) : Type 0 where
+  pub layout : t.layout ≡ s.layout
+  pub options : t.options ≡ s.options
+  pub file : now t.file ≡ before s.file
+  pub costs : SameCosts before s.costs now t.costs
+
+-- the headline, for what the words ask for, the files held, what out took, whether no fault rose, and the status
+pub record Headline (asked : Option Request) (held : Option Files) (old new : Option (List ℕ)) (quiet : Type 0) (status : Status) : Type 0 where
+  -- where `solve` ends with status 0, the text it wrote names hubs and routes that cost exactly the printed cost, and
+  -- no nonempty set of candidate hubs with any routing costs less
+  pub solved : (files : Files) (s : Source) → held ≡ Some files → asked ≡ Some (solve s) → status ≡ Done
+      → (text : List ℕ) × Appends old new text × SolvesFile files s text
+  -- `check` on the same instance and that text ends with status 0, where no fault rises, memory is not wanting and the
+  -- text has at most 2^30 bytes
+  pub checked : (before files : Files) (s t : Source) (certificate text : List ℕ) → held ≡ Some files → asked ≡ Some (check t certificate)
+      → SolvesFile before s text → length text ≤ 2 ^ 30
+      → IsSameInstance before s files t → files certificate ≡ Some text → quiet
+      → (status ≡ Done) ⊎ (status ≡ Memory)
+  -- wherever `check` ends with status 0, on any bytes whatever, the named network attains its cost and no plan costs less
+  pub certified : (files : Files) (s : Source) (certificate : List ℕ) → held ≡ Some files → asked ≡ Some (check s certificate) → status ≡ Done
+      → (p : Problem) × HoldsInstance files s p
+      × (bytes : List ℕ) × (files certificate ≡ Some bytes)
+      × (cost : ℕ) × ProvesOptimal p bytes cost × Appends old new (optimal_line cost)

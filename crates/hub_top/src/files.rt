@@ -1,0 +1,36 @@
+//! The bytes of an instance file or a costs file.
+
+ghost use Rattle.std.specs.Prelude.{◌≡◌, ◌≤◌, length, IfOk, IfErr};
+ghost use Rattle.hub_io.specs.Outside.{Rose, Holds, TellsOf};
+ghost use Rattle.file_spec.specs.Instances.{file_limit};
+ghost use Rattle.hub_top.specs.Blames.{blame_of};
+ghost use Rattle.hub_top.specs.Halts.{Halts, IsTooLong};
+
+use crate::halts::{Halt, unread};
+use crate::texts::Blamed;
+use hub_io::{Shelf, read_whole};
+use std::alloc::Global;
+
+/// An instance file and a costs file may each hold at most this many bytes.
+const FILE_LIMIT: u64 = 67_108_864;
+
+/// The bytes of the file, which is blamed where they are too many.
+pub fn read_file<S: Shelf>(
+    alloc: Global,
+    file: &str,
+    blamed: Blamed,
+    shelf: &mut S,
+) -> Result<Vec<u8>, Halt>
+    ensures whole { IfOk result (λ bytes. Holds (S.held shelf.old) file.now bytes.items) }
+    ensures within { IfOk result (λ bytes. length bytes.items ≤ file_limit) }
+    ensures halted { IfErr result (Halts (IsTooLong (S.held shelf.old) file.now (blame_of blamed))
+        (Rose (S.faults shelf.old) (S.faults shelf.new) × (S.sound shelf.old → TellsOf (S.held shelf.old) file.now → ⊥))) }
+    ensures later { S.faults shelf.old ≤ S.faults shelf.new }
+    ensures same { S.held shelf.new ≡ S.held shelf.old }
+    ensures stays_sound { S.sound shelf.old → S.sound shelf.new }
+{
+    match read_whole(alloc, shelf, file, FILE_LIMIT) {
+        Ok(bytes) => Ok(bytes),
+        Err(end) => Err(unread(blamed, end)),
+    }
+}

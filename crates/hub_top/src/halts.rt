@@ -1,0 +1,37 @@
+//! Why a command has no instance.
+
+ghost use Rattle.std.specs.Prelude.{◌≡◌};
+ghost use Rattle.hub_top.specs.Halts.{halted_by, unread_by};
+
+use crate::texts::Blamed;
+use hub_io::ReadEnd;
+use hub_model::{InstanceFault, Refusal};
+
+/// Why a command has no instance.
+#[derive(Clone, Copy, Debug)]
+pub enum Halt {
+    Fault(Blamed, InstanceFault),
+    Memory,
+    Read,
+}
+
+/// Why there is no instance, where what this file gives was refused.
+pub fn halt_by(blamed: Blamed, refusal: Refusal) -> Halt
+    ensures { result ≡ halted_by blamed refusal }
+{
+    match refusal {
+        Refusal::Fault(fault) => Halt::Fault(blamed, fault),
+        Refusal::OutOfMemory => Halt::Memory,
+    }
+}
+
+/// Why there is no instance, where the reading of this file ended so.
+pub fn unread(blamed: Blamed, end: ReadEnd) -> Halt
+    ensures { result ≡ unread_by blamed end }
+{
+    match end {
+        ReadEnd::TooLong => Halt::Fault(blamed, InstanceFault::TooLong),
+        ReadEnd::ReadFault => Halt::Read,
+        ReadEnd::OutOfMemory => Halt::Memory,
+    }
+}
