@@ -23,6 +23,20 @@ const ONE_SOLVED: &[u8] =
 const TWO_SOLVED: &str =
     "HUBCERT 1\nsize 2 2\ncost 25000000000000\nbound 25000000000000\nhubs 1\nroute 1 1 1 1\nroute 1 2 1 1\nroute 2 1 1 1\nroute 2 2 1 1\ncuts 3\ncut 1\ndual 1 1 0\ndual 1 2 10000000000000\ndual 2 1 10000000000000\ndual 2 2 0\ncut 2\ndual 1 1 0\ndual 1 2 10000000000000\ndual 2 1 10000000000000\ndual 2 2 0\ncut 3\ndual 1 1 0\ndual 1 2 10000000000000\ndual 2 1 10000000000000\ndual 2 2 0\nnodes 7\nbranch 1\nbranch 2\nleaf 1000000 1 1000000\nleaf 1000000 2 1000000\nbranch 2\nleaf 1000000 3 1000000\nempty\nend\n";
 
+// The certificate of one cut for each of two sets, with no leaf for both hubs: a tree that plain branching does not make.
+const CERTIFICATE: &str =
+    "HUBCERT 1\nsize 2 2\ncost 25000000000000\nbound 25000000000000\nhubs 1\nroute 1 1 1 1\nroute 1 2 1 1\nroute 2 1 1 1\nroute 2 2 1 1\ncuts 2\ncut 1\ndual 1 1 0\ndual 1 2 10000000000000\ndual 2 1 10000000000000\ndual 2 2 0\ncut 2\ndual 1 1 0\ndual 1 2 10000000000000\ndual 2 1 10000000000000\ndual 2 2 0\nnodes 5\nbranch 1\nleaf 1000000 1 1000000\nbranch 2\nleaf 1000000 1 1000000\nempty\nend\n";
+
+const TREE: &str =
+    "branch 1\nleaf 1000000 1 1000000\nbranch 2\nleaf 1000000 1 1000000\nempty\nend\n";
+
+// The tree with its number of lines, and with one line less.
+const WITH_FIVE: &str =
+    "nodes 5\nbranch 1\nleaf 1000000 1 1000000\nbranch 2\nleaf 1000000 1 1000000\nempty\n";
+
+const WITH_FOUR: &str =
+    "nodes 4\nbranch 1\nleaf 1000000 1 1000000\nbranch 2\nleaf 1000000 1 1000000\n";
+
 // A plan of one node with a bound that is far below its cost.
 const UNPROVED: &str =
     "HUBCERT 1\nsize 1 1\ncost 5000000000000\nbound 0\nhubs 1\nroute 1 1 1 1\ncuts 1\ncut 1\ndual 1 1 0\nnodes 1\nleaf 1000000\nend\n";
@@ -135,6 +149,13 @@ fn what_solve_writes_is_checked(rt: HostRuntime) -> Result<(), Fail> {
         &rt,
         rt.alloc(),
         CHECK,
+        (TWO_NODES, CERTIFICATE.as_bytes()),
+        (Status::Done, b"optimal 25.000000000000\n", b""),
+    )?;
+    expect(
+        &rt,
+        rt.alloc(),
+        CHECK,
         (ONE_NODE, UNPROVED.as_bytes()),
         (
             Status::Stopped,
@@ -145,36 +166,113 @@ fn what_solve_writes_is_checked(rt: HostRuntime) -> Result<(), Fail> {
     Ok(())
 }
 
+// The certificate with the first such part replaced must be refused with this line.
+fn refuse<R: Threads + Sync + Abort>(
+    rt: &R,
+    alloc: Global,
+    old: &str,
+    new: &str,
+    line: &[u8],
+) -> Result<(), AllocError> {
+    let text = changed(alloc, CERTIFICATE, old, new)?;
+    expect(
+        rt,
+        alloc,
+        CHECK,
+        (TWO_NODES, text.as_bytes()),
+        (Status::No, line, b""),
+    )
+}
+
 #[test]
-fn what_does_not_certify_is_named(rt: HostRuntime) -> Result<(), Fail> {
+fn a_wrong_plan_or_cut_is_named(rt: HostRuntime) -> Result<(), Fail> {
+    let alloc = rt.alloc();
     for (old, new, line) in [
-        ("size 2 2", "size 1 1", b"no BadLine 7\n".as_slice()),
-        ("bound 25", "bound 26", b"no BoundOverCost 4\n".as_slice()),
         (
-            "cost 25000000000000",
-            "cost 25000000000001",
+            "cost 25000000000000\nbound 25000000000000",
+            "cost 24999999999999\nbound 24999999999999",
             b"no Cost 9\n".as_slice(),
         ),
-        ("route 1 2 1 1", "route 1 2 2 2", b"no Route 7\n".as_slice()),
-        ("dual 1 2 1", "dual 1 2 2", b"no Dual 13\n".as_slice()),
         (
-            "leaf 1000000 1",
-            "leaf 1000000 4",
-            b"no CutNumber 29\n".as_slice(),
+            "bound 25000000000000",
+            "bound 25000000000001",
+            b"no BoundOverCost 4\n".as_slice(),
         ),
-        ("1 1000000\n", "1 1000001\n", b"no Weight 29\n".as_slice()),
-        (" 1 1000000\n", "\n", b"no Leaf 29\n".as_slice()),
-        ("empty\nend\n", "empty\n", b"no Ended 34\n".as_slice()),
-        ("end\n", "end\n ", b"no BadLine 35\n".as_slice()),
+        ("route 1 2 1 1", "route 1 2 2 2", b"no Route 7\n".as_slice()),
+        (
+            "dual 1 2 10000000000000",
+            "dual 1 2 10000000000001",
+            b"no Dual 13\n".as_slice(),
+        ),
+        (
+            "dual 1 1 0",
+            "dual 1 1 0 2 100000000000000000000000000001",
+            b"no Sum 15\n".as_slice(),
+        ),
+        (
+            "dual 1 1 0",
+            "dual 1 1 0 2 100000000000000000000000000000",
+            b"no Leaf 23\n".as_slice(),
+        ),
     ] {
-        let text = changed(rt.alloc(), TWO_SOLVED, old, new)?;
-        expect(
-            &rt,
-            rt.alloc(),
-            CHECK,
-            (TWO_NODES, text.as_bytes()),
-            (Status::No, line, b""),
-        )?;
+        refuse(&rt, alloc, old, new, line)?;
+    }
+    expect(
+        &rt,
+        alloc,
+        CHECK,
+        (ONE_NODE, CERTIFICATE.as_bytes()),
+        (Status::No, b"no Size 2\n", b""),
+    )?;
+    Ok(())
+}
+
+#[test]
+fn a_wrong_tree_is_named(rt: HostRuntime) -> Result<(), Fail> {
+    for (old, new, line) in [
+        (
+            "1000000\nbranch 2",
+            "1000000 2 1\nbranch 2",
+            b"no Weight 23\n".as_slice(),
+        ),
+        (
+            "1 1000000\nbranch 2",
+            "3 1\nbranch 2",
+            b"no CutNumber 23\n".as_slice(),
+        ),
+        (
+            " 1 1000000\nbranch 2",
+            "\nbranch 2",
+            b"no Leaf 23\n".as_slice(),
+        ),
+        (
+            "leaf 1000000 1 1000000\nbranch 2",
+            "empty\nbranch 2",
+            b"no Empty 23\n".as_slice(),
+        ),
+        ("branch 2", "branch 1", b"no Branch 24\n".as_slice()),
+    ] {
+        refuse(&rt, rt.alloc(), old, new, line)?;
+    }
+    Ok(())
+}
+
+#[test]
+fn a_fault_of_the_text_is_named(rt: HostRuntime) -> Result<(), Fail> {
+    for (old, new, line) in [
+        ("end\n", "", b"no Ended 27\n".as_slice()),
+        (TREE, "bran", b"no Ended 22\n".as_slice()),
+        ("branch 1", "branch 01", b"no BadLine 22\n".as_slice()),
+        (
+            "10000000000000\n",
+            "10000000000000 2 0\n",
+            b"no BadLine 13\n".as_slice(),
+        ),
+        ("nodes 5", "nodes 7", b"no BadLine 26\n".as_slice()),
+        (WITH_FIVE, WITH_FOUR, b"no BadLine 24\n".as_slice()),
+        ("end\n", "end\n ", b"no BadLine 28\n".as_slice()),
+    ] {
+        refuse(&rt, rt.alloc(), old, new, line)?;
     }
     Ok(())
 }
