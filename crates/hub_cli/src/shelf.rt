@@ -1,6 +1,6 @@
 //! The files of the machine as a shelf.
 
-ghost use Rattle.std.specs.Prelude.{◌≤◌, length, None, IfSome};
+ghost use Rattle.std.specs.Prelude.{◌≡◌, ◌≤◌, length, None, IfSome};
 ghost use Rattle.hub_io.specs.Outside.{Rose};
 
 use hub_io::{Failed, Shelf};
@@ -18,7 +18,10 @@ pub struct DiskShelf<'a, R: Files> {
 
 impl<'a, R: Files> DiskShelf<'a, R> {
     /// A shelf of which no file is begun and no call has failed.
-    pub fn new(files: &'a R) -> Self {
+    pub fn new(files: &'a R) -> Self
+        ensures unbegun { result.begun ≡ None }
+        ensures faults { result.faults ≡ 0 }
+    {
         DiskShelf {
             files,
             begun: None,

@@ -1,6 +1,6 @@
 //! A stream of the machine as a sink.
 
-ghost use Rattle.std.specs.Prelude.{None};
+ghost use Rattle.std.specs.Prelude.{◌≡◌, None};
 
 use hub_io::{Failed, Sink};
 use std::io::{ErrorKind, Write};
@@ -14,7 +14,9 @@ pub struct StreamSink<W: Write + Drop> {
 
 impl<W: Write + Drop> StreamSink<W> {
     /// A sink over the stream, of which no put has failed.
-    pub fn new(stream: W) -> Self {
+    pub fn new(stream: W) -> Self
+        ensures faults { result.faults ≡ 0 }
+    {
         StreamSink { stream, faults: 0 }
     }
 }
