@@ -7,6 +7,7 @@ pub mod HeldCosts
 pub mod OutsideNodes
 pub mod Turns
 pub mod Entries
+pub mod Reaches
 pub mod ListedDuals
 pub mod RowLoads
 pub mod WholeCuts

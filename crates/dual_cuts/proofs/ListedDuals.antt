@@ -46,6 +46,12 @@ listed_is_minimal p hubs order c a values is_order price turns none = record {
       (λ e some. in_order order values e.0 none some) (entries_from 0 values) (entries_listed values);
 }
 
+-- no node that is no candidate has a value
+pub none_outside : (p : Problem) (hubs order values : List ℕ) → IsOrder p hubs order → HaveNoneElse order values → HaveNoneElse p.candidates values
+none_outside p hubs order values is_order none = record {
+  none_else = λ k out. none.none_else k (λ in_it. out (All-contains (λ (m : ℕ). Contains p.candidates m) order k is_order.are_candidates in_it));
+}
+
 -- each value is within its limit
 pub turns_limit : (p : Problem) (hubs order : List ℕ) (c : ℕ × ℕ) (a : ℕ) (values : List ℕ) → a ≤ 10 ^ 29
     → AreInTurn p hubs order c a values (length order) → HaveNoneElse order values → All (λ v. v ≤ 10 ^ 29) values

@@ -82,18 +82,27 @@ fn set_values(
     }
 }
 
-/// The dual of this price that lists the nodes that have a value.
-fn dual_of(alloc: Global, price: u128, values: &[u128]) -> Result<Dual, AllocError>
+/// The dual of this price that lists the nodes that have a value, all of them candidates.
+fn dual_of(
+    alloc: Global,
+    instance: &Instance,
+    price: u128,
+    values: &[u128],
+) -> Result<Dual, AllocError>
     requires price { price ≤ 10 ^ 29 }
-    requires few { length values.now ≤ 200 }
+    requires by_node { length values.now ≡ instance.now.size }
     requires values { All (λ v. v ≤ 10 ^ 29) values.now }
+    requires none_else { HaveNoneElse instance.now.candidates values.now }
     ensures { IfOk result (λ d. d ≡ record { a = price; u = entries_from 0 values.now }) }
 {
+    instance.limits();
+    let candidates = instance.candidates();
     let mut u = Vec::new(alloc);
-    for k in 0..values.len() {
-        let value = values[k];
+    for t in 0..candidates.len() {
+        let k = candidates[t];
+        let value = values[k as usize];
         if value > 0 {
-            u.push((k as u32, signed(value)))?;
+            u.push((k, signed(value)))?;
         }
     }
     Ok(Dual::new(signed(price), u))
@@ -154,5 +163,5 @@ pub(crate) fn priced_dual(
 {
     instance.limits();
     set_values(instance, i, j, price, hubs, order, values);
-    dual_of(alloc, price, values)
+    dual_of(alloc, instance, price, values)
 }
