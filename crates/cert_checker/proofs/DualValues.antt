@@ -1,5 +1,5 @@
 -- The values of a dual listed by node, and the conditions on it by that list.
-use Rattle.std.proofs.Common.{◌≡◌, ℕ, ◌^◌, ◌<◌, List, [], ◌∷◌, length, get_or, nat_eq, All, Contains, inl, inr, ⊎_elim, ap, arith}
+use Rattle.std.proofs.Common.{◌≡◌, ℕ, ◌^◌, ◌<◌, List, [], ◌∷◌, length, get_or, nat_eq, Bool, IsTrue, ◌↔◌, All, Contains, inl, inr, ⊎_elim, ap, arith}
 use Rattle.std.specs.Prelude.{ℤ, pos}
 use Rattle.std.proofs.lemmas.Bool.{cases_eq, cond_both}
 use Rattle.std.proofs.lemmas.List.{get_or-map}
@@ -8,7 +8,7 @@ use Rattle.hub_spec.specs.Problem.{Problem}
 use Rattle.hub_spec.specs.Cuts.{Prices, value_at, IsDual}
 use Rattle.hub_spec.proofs.Sets.{All-from_contains}
 use Rattle.hub_model.specs.Held.{held_values}
-use Rattle.cert_checker.specs.Duals.{AreValues, IsCovered, IsCoveredSingle}
+use Rattle.cert_checker.specs.Duals.{AreValues, IsCovered, IsCoveredSingle, IsCoveredByAll}
 
 pub held_node : (u : List (ℕ × ℕ)) (i : ℕ) (d : ℕ × ℤ) → i < length u → (get_or (held_values u) i d).0 ≡ (get_or u i (0, 0)).0
 held_node u i d below = ap (λ (e : ℕ × ℤ). e.0) (get_or-map (λ (e : ℕ × ℕ). (e.0, pos e.1)) u i (0, 0) d below)
@@ -30,7 +30,7 @@ values_short u values h are =
 
 -- ---- the conditions by the list of values
 
-pub dual_from_values : (p : Problem) (c : ℕ × ℕ) (d : Prices) (values : List ℕ) → AreValues d.u values
+dual_from_values : (p : Problem) (c : ℕ × ℕ) (d : Prices) (values : List ℕ) → AreValues d.u values
     → All (λ (e : ℕ × ℕ). Contains p.candidates e.0) d.u → All (IsCoveredSingle p c d.a values) p.candidates
     → All (λ k. All (IsCovered p c d.a values k) p.candidates) p.candidates → IsDual p c d
 dual_from_values p c d values are listed singles pairs = record {
@@ -43,15 +43,23 @@ dual_from_values p c d values are listed singles pairs = record {
       (All-contains (λ k. All (IsCovered p c d.a values k) p.candidates) p.candidates k pairs in_k) in_m);
 }
 
-pub singles_from_dual : (p : Problem) (c : ℕ × ℕ) (d : Prices) (values : List ℕ) → AreValues d.u values → IsDual p c d
+singles_from_dual : (p : Problem) (c : ℕ × ℕ) (d : Prices) (values : List ℕ) → AreValues d.u values → IsDual p c d
     → All (IsCoveredSingle p c d.a values) p.candidates
 singles_from_dual p c d values are h =
     All-from_contains (IsCoveredSingle p c d.a values) p.candidates (λ k in_k. let g = h.one_hub k in_k in omega (arith, g, are k))
 
-pub pairs_from_dual : (p : Problem) (c : ℕ × ℕ) (d : Prices) (values : List ℕ) → AreValues d.u values → IsDual p c d
+pairs_from_dual : (p : Problem) (c : ℕ × ℕ) (d : Prices) (values : List ℕ) → AreValues d.u values → IsDual p c d
     → All (λ k. All (IsCovered p c d.a values k) p.candidates) p.candidates
 pairs_from_dual p c d values are h =
     All-from_contains (λ k. All (IsCovered p c d.a values k) p.candidates) p.candidates (λ k in_k.
     All-from_contains (IsCovered p c d.a values k) p.candidates (λ m in_m.
     ⊎_elim (λ same. inl same) (λ apart. let g = h.two_hubs k m in_k in_m apart in inr (omega (arith, g, are k, are m)))
     (cases_eq k m)))
+
+-- the dual is feasible exactly where all routes and values cover its price
+pub dual_by_values : (p : Problem) (c : ℕ × ℕ) (d : Prices) (values : List ℕ) (covered : Bool) → AreValues d.u values
+    → All (λ (e : ℕ × ℕ). Contains p.candidates e.0) d.u → (IsTrue covered ↔ IsCoveredByAll p c d.a values) → (IsTrue covered ↔ IsDual p c d)
+dual_by_values p c d values covered are listed says = (
+  λ yes. dual_from_values p c d values are listed (says.0 yes).0 (says.0 yes).1,
+  λ dual. says.1 (singles_from_dual p c d values are dual, pairs_from_dual p c d values are dual),
+)

@@ -1,12 +1,9 @@
-mod AllLoops
-mod PlanCosts
 mod Reductions
 mod Parts
 mod DualValues
 mod Collections
+mod DualEntries
 mod DualSums
-mod ChildLists
-mod Mixes
 mod TreeWalks
 mod WholeChecks
 mod HeldWeights

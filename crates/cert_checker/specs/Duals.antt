@@ -1,5 +1,5 @@
 -- The conditions on a dual whose values are listed by node, and the sums of a cut.
-use Rattle.std.specs.Prelude.{◌≡◌, ℕ, ◌+◌, ◌≤◌, List, slice_index, ◌⊎◌}
+use Rattle.std.specs.Prelude.{◌≡◌, ℕ, ◌+◌, ◌≤◌, List, slice_index, All, ◌⊎◌}
 use Rattle.hub_spec.specs.Problem.{Problem, route_cost}
 use Rattle.hub_spec.specs.Cuts.{value_at, Cut, total, load}
 
@@ -14,6 +14,11 @@ IsCoveredSingle p c a values k = a ≤ route_cost p c.0 c.1 k k + slice_index va
 -- the hubs are one, or the route through both and their values are no less than the price
 abbrev pub IsCovered : Problem → ℕ × ℕ → ℕ → List ℕ → ℕ → ℕ → Type 0
 IsCovered p c a values k m = (k ≡ m) ⊎ (a ≤ route_cost p c.0 c.1 k m + slice_index values k + slice_index values m)
+
+-- so it is with each candidate, and with each two
+abbrev pub IsCoveredByAll : Problem → ℕ × ℕ → ℕ → List ℕ → Type 0
+IsCoveredByAll p c a values =
+    All (IsCoveredSingle p c a values) p.candidates × All (λ k. All (IsCovered p c a values k) p.candidates) p.candidates
 
 -- the total and the loads are those of the cut
 pub record IsSummed (cut : Cut) (sum : ℕ) (loads : List ℕ) : Type 0 where

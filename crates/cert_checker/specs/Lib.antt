@@ -1,4 +1,3 @@
 pub mod Answers
 pub mod Duals
-pub mod Branches
 pub mod Walks

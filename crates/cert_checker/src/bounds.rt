@@ -3,8 +3,7 @@
 ghost use Rattle.std.specs.Prelude.{◌≡◌, ℕ, ◌+◌, ◌-◌, ◌*◌, ◌^◌, ◌≤◌, ◌<◌, pos, ◌-ℤ◌, length, sum_by, All, Contains};
 ghost use Rattle.hub_spec.specs.Problem.{fixed_cost};
 ghost use Rattle.hub_spec.specs.Cuts.{total, load, IsCut};
-ghost use Rattle.hub_spec.specs.Trees.{cut_at, weight_sum, mixed_total, mixed_load, leaf_bound, IsMix};
-ghost use Rattle.cert_checker.specs.Branches.{IsBranch};
+ghost use Rattle.hub_spec.specs.Trees.{cut_at, weight_sum, mixed_total, mixed_load, leaf_bound, IsMix, IsBranch};
 
 use crate::branches::Branch;
 use crate::sums::SummedCut;

@@ -1,20 +1,20 @@
 //! The conditions of the duals of a cut.
 
-ghost use Rattle.std.specs.Prelude.{◌≡◌, ℕ, ◌+◌, ◌*◌, ◌^◌, ◌<◌, ◌≤◌, ◌↔◌, length, slice_index_or, IsTrue, IfErr, OnOk, All, Contains};
+ghost use Rattle.std.specs.Prelude.{◌≡◌, ℕ, ◌+◌, ◌*◌, ◌^◌, ◌<◌, ◌≤◌, ◌↔◌, [], length, slice_index_or, IsTrue, IfErr, OnOk, All, Contains};
 ghost use Rattle.hub_spec.specs.Problem.{flow, distance, commodities};
 ghost use Rattle.hub_spec.specs.Cuts.{IsDual};
 ghost use Rattle.hub_spec.specs.Conditions.{AllHold, dual_claims};
 ghost use Rattle.hub_spec.specs.Text.{IsDualText};
 ghost use Rattle.cert_checker.specs.Answers.{IsFailure};
-ghost use Rattle.cert_checker.specs.Duals.{AreValues, IsCovered, IsCoveredSingle};
+ghost use Rattle.cert_checker.specs.Duals.{AreValues, IsCovered, IsCoveredSingle, IsCoveredByAll};
 
 use crate::failures::Failure;
 use crate::kinds::Kind;
 use crate::nodes::is_among;
 use hub_model::{Dual, Instance, route_cost_held};
 
-/// Tries the duals of a cut, one for each commodity; the first dual stands at this line. `values` has room for a value
-/// of each node.
+/// Tries the duals of a cut, one for each commodity; the first dual stands at this line. `values` has a 0 for each node,
+/// and has so again.
 pub(crate) fn check_duals(
     instance: &Instance,
     line: u64,
@@ -25,8 +25,10 @@ pub(crate) fn check_duals(
     requires one_for_each { length duals.now ≡ instance.now.size * instance.now.size }
     requires duals { All (IsDualText instance.now.size) duals.now }
     requires values { length values.old ≡ instance.now.size }
+    requires cleared { AreValues [] values.old }
     ensures holds { OnOk result (AllHold (dual_claims instance.now line (commodities instance.now.size) duals.now)) }
     ensures fails { IfErr result (IsFailure (dual_claims instance.now line (commodities instance.now.size) duals.now)) }
+    ensures cleared { AreValues [] values.new }
 {
     instance.limits();
     let n = instance.size();
@@ -41,24 +43,36 @@ pub(crate) fn check_duals(
     Ok(())
 }
 
-/// Tells whether this is a feasible dual of the commodity from `i` to `j`.
+/// Tells whether this is a feasible dual of the commodity from `i` to `j`. Only the listed values are put into `values`
+/// and taken back, so that a dual takes no pass over all nodes.
 fn is_dual(instance: &Instance, i: u32, j: u32, dual: &Dual, values: &mut [u128]) -> bool
     requires from { i < instance.now.size }
     requires to { j < instance.now.size }
     requires dual { IsDualText instance.now.size dual.now }
     requires values { length values.old ≡ instance.now.size }
-    ensures { IsTrue result ↔ IsDual instance.now (i, j) dual.now }
+    requires cleared { AreValues [] values.old }
+    ensures is { IsTrue result ↔ IsDual instance.now (i, j) dual.now }
+    ensures cleared { AreValues [] values.new }
 {
-    instance.limits();
     if !lists_candidates(instance, dual) {
         return false;
     }
     spread(dual, values);
-    let a = price(dual);
-    if !is_covered_by_singles(instance, i, j, a, values) {
-        return false;
-    }
-    is_covered_by_pairs(instance, i, j, a, values)
+    let covered = is_covered_by_all(instance, i, j, price(dual), values);
+    clear(dual, values);
+    covered
+}
+
+/// Tells whether the price is covered by the routes and values of each candidate and of each two.
+fn is_covered_by_all(instance: &Instance, i: u32, j: u32, a: u128, values: &[u128]) -> bool
+    requires from { i < instance.now.size }
+    requires to { j < instance.now.size }
+    requires long { length values.now ≡ instance.now.size }
+    requires short { All (λ v. v < 10 ^ 30) values.now }
+    ensures { IsTrue result ↔ IsCoveredByAll instance.now (i, j) a values.now }
+{
+    is_covered_by_singles(instance, i, j, a, values)
+        && is_covered_by_pairs(instance, i, j, a, values)
 }
 
 fn lists_candidates(instance: &Instance, dual: &Dual) -> bool
@@ -175,18 +189,31 @@ fn is_covered(instance: &Instance, i: u32, j: u32, a: u128, values: &[u128], k: 
     a <= route_cost_held(instance, i, j, k, m) + values[k as usize] + values[m as usize]
 }
 
-/// Lists the value of each node, 0 where the dual has none.
-pub(crate) fn spread(dual: &Dual, values: &mut [u128])
-    requires { IsDualText (length values.old) dual.now }
+/// Puts the values that the dual lists at their nodes.
+fn spread(dual: &Dual, values: &mut [u128])
+    requires dual { IsDualText (length values.old) dual.now }
+    requires cleared { AreValues [] values.old }
     ensures values { AreValues dual.now.u values.new }
     ensures short { All (λ v. v < 10 ^ 30) values.new }
 {
-    values.fill(0);
     let mut left = count(dual);
     while left > 0 {
         left -= 1;
         let (k, value) = listed(dual, left);
         values[k as usize] = value;
+    }
+}
+
+/// Takes the values that the dual lists back.
+fn clear(dual: &Dual, values: &mut [u128])
+    requires dual { IsDualText (length values.old) dual.now }
+    requires values { AreValues dual.now.u values.old }
+    ensures { AreValues [] values.new }
+{
+    let mut left = count(dual);
+    while left > 0 {
+        left -= 1;
+        values[listed(dual, left).0 as usize] = 0;
     }
 }
 
@@ -197,13 +224,14 @@ pub(crate) fn price(dual: &Dual) -> u128
 }
 
 /// How many values the dual lists.
-fn count(dual: &Dual) -> usize
+pub(crate) fn count(dual: &Dual) -> usize
     ensures { result ≡ length dual.now.u }
 {
     dual.u().len()
 }
 
-fn listed(dual: &Dual, i: usize) -> (u32, u128)
+/// The listed node and value of this place.
+pub(crate) fn listed(dual: &Dual, i: usize) -> (u32, u128)
     requires { i < length dual.now.u }
     ensures node { result.0 ≡ (slice_index_or dual.now.u i (0, 0)).0 }
     ensures value { result.1 ≡ (slice_index_or dual.now.u i (0, 0)).1 }

@@ -2,11 +2,10 @@
 
 ghost use Rattle.std.specs.Prelude.{◌≡◌, ℕ, ◌+◌, ◌*◌, ◌^◌, ◌<◌, ◌≤◌, ◌↔◌, pos, ◌-ℤ◌, ◌<ℤ◌, length, slice_index_or, IsTrue, IfOk, IfErr, OnOk, All};
 ghost use Rattle.hub_spec.specs.Cuts.{IsCut};
-ghost use Rattle.hub_spec.specs.Trees.{weight_sum, Closes, leaf_of};
+ghost use Rattle.hub_spec.specs.Trees.{weight_sum, Closes, leaf_of, IsBranch};
 ghost use Rattle.hub_spec.specs.Conditions.{AllHold};
 ghost use Rattle.hub_spec.specs.Text.{IsTreeLineText};
 ghost use Rattle.cert_checker.specs.Answers.{IsFailure};
-ghost use Rattle.cert_checker.specs.Branches.{IsBranch};
 ghost use Rattle.cert_checker.specs.Walks.{line_claims};
 
 use crate::bounds::leaf_bound;

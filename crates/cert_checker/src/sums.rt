@@ -4,7 +4,7 @@ ghost use Rattle.std.specs.Prelude.{◌≡◌, ℕ, ◌+◌, ◌*◌, ◌^◌, �
 ghost use Rattle.hub_spec.specs.Cuts.{value_at, total, load};
 ghost use Rattle.hub_spec.specs.Text.{IsDualText};
 
-use crate::duals::{price, spread};
+use crate::duals::{count, listed, price};
 use hub_model::Dual;
 use std::alloc::{AllocError, Global};
 use std::marker::Model;
@@ -29,18 +29,14 @@ impl<'a> Model for SummedCut<'a> {
 }
 
 impl<'a> SummedCut<'a> {
-    /// The cut of these duals; `values` has room for a value of each node.
-    pub(crate) fn of(
-        alloc: Global,
-        duals: &'a [Dual],
-        values: &mut [u128],
-    ) -> Result<SummedCut<'a>, AllocError>
+    /// The cut of these duals of an instance of `n` nodes.
+    pub(crate) fn of(alloc: Global, n: u32, duals: &'a [Dual]) -> Result<SummedCut<'a>, AllocError>
         requires few { length duals.now ≤ 40000 }
-        requires duals { All (IsDualText (length values.old)) duals.now }
+        requires duals { All (IsDualText n) duals.now }
         ensures { IfOk result (λ cut. cut ≡ record { duals = duals.now }) }
     {
         let total = total_of(duals);
-        let loads = loads_of(alloc, duals, values)?;
+        let loads = loads_of(alloc, n, duals)?;
         Ok(SummedCut {
             duals,
             total,
@@ -79,27 +75,26 @@ fn total_of(duals: &[Dual]) -> u128
 }
 
 /// The sums of the duals' values, by node.
-fn loads_of(alloc: Global, duals: &[Dual], values: &mut [u128]) -> Result<Vec<u128>, AllocError>
+fn loads_of(alloc: Global, n: u32, duals: &[Dual]) -> Result<Vec<u128>, AllocError>
     requires few { length duals.now ≤ 40000 }
-    requires duals { All (IsDualText (length values.old)) duals.now }
+    requires duals { All (IsDualText n) duals.now }
     ensures { IfOk result (λ loads. (k : ℕ) → slice_index loads.items k ≡ sum_by (λ d. value_at d.u k) duals.now) }
 {
-    let mut loads = vec![in alloc; 0; values.len()]?;
+    let mut loads = vec![in alloc; 0; n as usize]?;
     for dual in duals {
-        spread(dual, values);
-        add(&mut loads, values);
+        add(&mut loads, dual);
     }
     Ok(loads)
 }
 
-/// Adds the value of each node to its load.
-fn add(loads: &mut [u128], values: &[u128])
-    requires long { length loads.old ≡ length values.now }
+/// Adds the values that the dual lists to the loads of their nodes.
+fn add(loads: &mut [u128], dual: &Dual)
+    requires dual { IsDualText (length loads.old) dual.now }
     requires most { All (λ x. x ≤ 40000 * 10 ^ 30) loads.old }
-    requires short { All (λ v. v < 10 ^ 30) values.now }
-    ensures { (k : ℕ) → slice_index loads.new k ≡ slice_index loads.old k + slice_index values.now k }
+    ensures { (k : ℕ) → slice_index loads.new k ≡ slice_index loads.old k + value_at dual.now.u k }
 {
-    for k in 0..loads.len() {
-        loads[k] += values[k];
+    for e in 0..count(dual) {
+        let (k, value) = listed(dual, e);
+        loads[k as usize] += value;
     }
 }

@@ -2,12 +2,11 @@
 
 ghost use Rattle.std.specs.Prelude.{◌≡◌, ℕ, ◌+◌, ◌^◌, ◌<◌, [], ◌∷◌, ◌++◌, length, map, reverse, IfOk, IfErr, OnOk, All, Contains};
 ghost use Rattle.hub_spec.specs.Cuts.{IsCut};
-ghost use Rattle.hub_spec.specs.Trees.{root, open_child, closed_child, IsClosed};
+ghost use Rattle.hub_spec.specs.Trees.{root, open_child, closed_child, IsClosed, IsBranch};
 ghost use Rattle.hub_spec.specs.Conditions.{claim, Branch as of_branch, Empty, AllHold};
 ghost use Rattle.hub_spec.specs.Text.{IsTreeLineText};
 ghost use Rattle.hub_model.specs.Lines.{tree_line_of};
 ghost use Rattle.cert_checker.specs.Answers.{IsFailure};
-ghost use Rattle.cert_checker.specs.Branches.{IsBranch};
 ghost use Rattle.cert_checker.specs.Walks.{line_claims, pending_after, walk_claims};
 
 use crate::branches::{Branch, closed_child, open_child, root};

@@ -1,7 +1,6 @@
 pub mod Asked
 pub mod MinimalDuals
 pub mod SetCuts
-pub mod BestRoutes
 pub mod Assigned
 pub mod HeldCosts
 pub mod OutsideNodes
@@ -12,3 +11,4 @@ pub mod ListedDuals
 pub mod RowLoads
 pub mod WholeCuts
 pub mod RowsSoFar
+pub mod RouteViews

@@ -1,67 +1,21 @@
 -- The loads as far as they are summed: row by row, and entry by entry of a row.
-use Rattle.std.proofs.Common.{◌≡◌, ◌≢◌, ℕ, zero, suc, ◌+◌, ◌<◌, ◌≤◌, ◌^◌, ℤ, pos, ◌+ℤ◌, false, FitsSigned, to_z, of_z, rules, nat_eq, List, [], ◌∷◌, ◌++◌, length, get_or, take, map, set, All, refl, ap, sym, subst, ◌∙◌, ⊎_elim, ne_eqb, eq-eqb, arith}
+use Rattle.std.proofs.Common.{◌≡◌, ℕ, ◌+◌, ◌<◌, ◌≤◌, ◌^◌, ℤ, pos, ◌+ℤ◌, FitsSigned, to_z, of_z, rules, List, length, get_or, take, map, set, All, refl, ap, sym, subst, ◌∙◌, ⊎_elim, arith}
 use mir.Syntax.{w128}
 use Rattle.hub_model.specs.Held.{held_values, natural_values, ArePrices}
 use Rattle.dual_cuts.proofs.Entries.{naturals_held}
 use Rattle.dual_cuts.proofs.HeldCosts.{handed_on}
 use Rattle.std.specs.List.Sorted.{IsStrictlyIncreasing}
 use Rattle.std.proofs.lemmas.Bool.{cases_eq}
-use Rattle.std.proofs.lemmas.List.{take_more, take_all, get_or-map, get_or-take, length-take-le, length-map, get_or-set_same, get_or-set_other}
-use Rattle.std.proofs.lemmas.List.Elements.{All-get_or, All-head, All-tail, All-from_get_or}
-use Rattle.std.proofs.lemmas.List.Kept.{AllPairs-from_increasing}
+use Rattle.std.proofs.lemmas.List.{take_all, get_or-map, length-map, get_or-set_same, get_or-set_other}
+use Rattle.std.proofs.lemmas.List.Elements.{All-get_or}
 use Rattle.std.proofs.lemmas.List.Sums.{sum_by_more, sum_by_more_le}
 use Rattle.hub_spec.specs.Cuts.{Prices, value_at, load}
-use Rattle.hub_spec.proofs.SumLemmas.{by_test}
+use Rattle.hub_spec.proofs.ListedValues.{IsNextValue, next_value, first_value_within}
 use Rattle.dual_cuts.specs.HubCuts.{cut_by, AreLoads, HasLoadsWithin, ListNodes}
 
 -- the loads of the first t rows, and of the first entries of the row after them
 pub record AreLoadsUpTo (loads : List ℤ) (rows : List Prices) (t : ℕ) (u : List (ℕ × ℕ)) (e : ℕ) : Type 0 where
   pub each : (k : ℕ) → get_or loads k (pos 0) ≡ pos (load (cut_by (take t rows)) k + value_at (take e u) k)
-
--- an entry more of another node, and of a node that is not listed yet
-push_other : (u : List (ℕ × ℕ)) (k v m : ℕ) → k ≢ m → value_at (u ++ (k, v) ∷ []) m ≡ value_at u m
-push_other [] k v m apart = rw (ne_eqb k m apart) refl
-push_other (e ∷ u) k v m apart =
-    by_test (nat_eq e.0 m) (λ t. rw t refl) (λ t. rw t (push_other u k v m apart))
-
-push_fresh : (u : List (ℕ × ℕ)) (k v : ℕ) → All (λ (e : ℕ × ℕ). e.0 < k) u → value_at (u ++ (k, v) ∷ []) k ≡ v
-push_fresh [] k v fresh = rw (eq-eqb k k refl) refl
-push_fresh (e ∷ u) k v fresh =
-    let below : e.0 < k = All-head (λ (x : ℕ × ℕ). x.0 < k) e u fresh in
-    let apart : nat_eq e.0 k ≡ false = ne_eqb e.0 k (λ i. absurd (omega (arith, below, i))) in
-    rw apart (push_fresh u k v (All-tail (λ (x : ℕ × ℕ). x.0 < k) e u fresh))
-
-fresh_value : (u : List (ℕ × ℕ)) (k : ℕ) → All (λ (e : ℕ × ℕ). e.0 < k) u → value_at u k ≡ 0
-fresh_value [] k fresh = refl
-fresh_value (e ∷ u) k fresh =
-    let below : e.0 < k = All-head (λ (x : ℕ × ℕ). x.0 < k) e u fresh in
-    let apart : nat_eq e.0 k ≡ false = ne_eqb e.0 k (λ i. absurd (omega (arith, below, i))) in
-    rw apart (fresh_value u k (All-tail (λ (x : ℕ × ℕ). x.0 < k) e u fresh))
-
--- the first entries give a node at most what all give it
-first_value_within : (n : ℕ) (u : List (ℕ × ℕ)) (k : ℕ) → value_at (take n u) k ≤ value_at u k
-first_value_within zero u k = omega arith
-first_value_within (suc n) [] k = omega arith
-first_value_within (suc n) (e ∷ u) k = by_test (nat_eq e.0 k) (λ t. rw t (omega arith)) (λ t. rw t (first_value_within n u k))
-
--- the nodes of the first entries are below that of the next
-first_of : ℕ × ℕ → ℕ
-first_of e = e.0
-
-fresh_before : (u : List (ℕ × ℕ)) (e : ℕ) → IsStrictlyIncreasing (map (λ (x : ℕ × ℕ). x.0) u) → e < length u
-    → All (λ (x : ℕ × ℕ). x.0 < (get_or u e (0, 0)).0) (take e u)
-unfolding first_of
-fresh_before u e up below =
-    let firsts = map first_of u in
-    let pairs = AllPairs-from_increasing firsts up in
-    All-from_get_or (λ (x : ℕ × ℕ). x.0 < (get_or u e (0, 0)).0) (take e u) (0, 0) (λ s l.
-    let short = length-take-le e u (omega arith) in
-    let less : s < e = omega (arith, l, short) in
-    let here : get_or (take e u) s (0, 0) ≡ get_or u s (0, 0) = get_or-take e u s (0, 0) less in
-    let low = get_or-map first_of u s (0, 0) 0 (omega arith) in
-    let high = get_or-map first_of u e (0, 0) 0 below in
-    let risen = pairs s e 0 less (omega (arith, length-map u first_of, below)) in
-    rw here (omega (arith, low, high, risen)))
 
 -- ---- one entry more
 
@@ -99,10 +53,8 @@ entry_limit : (loads : List ℤ) (rows : List Prices) (t : ℕ) (u : List (ℕ �
 entry_limit loads rows t u e row below =
     let k = (get_or u e (0, 0)).0 in
     let v = (get_or u e (0, 0)).1 in
-    let fresh = fresh_before u e row.ascend below in
-    let none = fresh_value (take e u) k fresh in
-    let next : value_at (take (e + 1) u) k ≡ v = ap (λ (xs : List (ℕ × ℕ)). value_at xs k) (take_more u e (0, 0) below) ∙ push_fresh (take e u) k v fresh in
-    omega (arith, none, next, first_value_within (e + 1) u k, row.load_within k)
+    let next = next_value u e row.ascend below in
+    omega (arith, next.none, next.same, first_value_within (e + 1) u k, row.load_within k)
 
 -- a load and a value as they are held, and what they add up to
 added : (x z : ℤ) (n v : ℕ) → x ≡ pos n → z ≡ pos v → n + v ≤ 10 ^ 29
@@ -140,26 +92,20 @@ loaded_more loads rows t u e k w row below node within so_far is = record {
   each = λ m. ⊎_elim (λ same. at_node m same) (λ apart. elsewhere m apart) (cases_eq k m);
 }
   where
-    v : ℕ
-    v = (get_or u e (0, 0)).1
-
-    grown : (m : ℕ) → value_at (take (e + 1) u) m ≡ value_at (take e u ++ get_or u e (0, 0) ∷ []) m
-    grown m = ap (λ (xs : List (ℕ × ℕ)). value_at xs m) (take_more u e (0, 0) below)
+    next : IsNextValue u e
+    next = next_value u e row.ascend below
 
     elsewhere : (m : ℕ) → (k ≡ m → ⊥) → get_or (set loads k w) m (pos 0) ≡ pos (load (cut_by (take t rows)) m + value_at (take (e + 1) u) m)
     elsewhere m apart =
-        let kept = push_other (take e u) (get_or u e (0, 0)).0 v m (λ same. apart (node ∙ same)) in
+        let kept = next.other m (λ same. apart (node ∙ same)) in
         get_or-set_other loads k m w (pos 0) (λ same. apart (sym same)) ∙ so_far.each m
-        ∙ ap (λ (x : ℕ). pos (load (cut_by (take t rows)) m + x)) (sym (grown m ∙ kept))
+        ∙ ap (λ (x : ℕ). pos (load (cut_by (take t rows)) m + x)) (sym kept)
 
     at_node : (m : ℕ) → k ≡ m → get_or (set loads k w) m (pos 0) ≡ pos (load (cut_by (take t rows)) m + value_at (take (e + 1) u) m)
     at_node m same =
         let here : (get_or u e (0, 0)).0 ≡ m = sym node ∙ same in
-        let fresh = fresh_before u e row.ascend below in
-        let none = fresh_value (take e u) (get_or u e (0, 0)).0 fresh in
-        let next = push_fresh (take e u) (get_or u e (0, 0)).0 v fresh in
-        let value : value_at (take (e + 1) u) (get_or u e (0, 0)).0 ≡ value_at (take e u) (get_or u e (0, 0)).0 + v =
-        omega (arith, grown (get_or u e (0, 0)).0, none, next) in
+        let value : value_at (take (e + 1) u) (get_or u e (0, 0)).0 ≡ value_at (take e u) (get_or u e (0, 0)).0 + (get_or u e (0, 0)).1 =
+        omega (arith, next.none, next.same) in
         ap (λ (x : ℕ). get_or (set loads k w) x (pos 0)) (sym same) ∙ get_or-set_same loads k w (pos 0) within ∙ is
         ∙ ap pos (omega (arith, value)) ∙ ap (λ (x : ℕ). pos (load (cut_by (take t rows)) x + value_at (take (e + 1) u) x)) here
 

@@ -1,4 +1,3 @@
 pub mod Laws
-pub mod Routes
 pub mod Values
 pub mod HubCuts

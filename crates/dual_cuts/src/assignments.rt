@@ -52,7 +52,7 @@ fn assign_to(alloc: Global, instance: &Instance, hubs: &[u32]) -> Result<Assignm
 }
 
 /// The sum of the fixed costs of the hubs.
-#[tactic(auto, using(crate::proofs::BestRoutes::hub_is_node, crate::proofs::Assigned::opening_more_limit, crate::proofs::Assigned::opening_within))]
+#[tactic(auto, using(hub_spec::proofs::BestRoutes::hub_is_node, crate::proofs::Assigned::opening_more_limit, crate::proofs::Assigned::opening_within))]
 fn opening(instance: &Instance, hubs: &[u32]) -> u128
     requires { IsHubSet instance.now hubs.now }
     ensures value { result ≡ opening_cost instance.now hubs.now }

@@ -3,8 +3,7 @@
 ghost use Rattle.std.specs.Prelude.{◌≡◌, ℕ, ◌^◌, ◌<◌, ◌≤◌, ◌⊎◌, pos};
 ghost use Rattle.hub_spec.specs.Problem.{route_cost};
 ghost use Rattle.hub_spec.specs.Edges.{IsLeastCost};
-ghost use Rattle.hub_spec.specs.Plans.{IsHubSet, IsLeastRoute};
-ghost use Rattle.dual_cuts.specs.Routes.{IsNotAfter};
+ghost use Rattle.hub_spec.specs.Plans.{IsHubSet, IsLeastRoute, IsNotAfter};
 
 use crate::held::signed;
 use hub_model::{Instance, route_cost_held};
@@ -43,7 +42,7 @@ pub fn least_route(instance: &Instance, hubs: &[u32], i: u32, j: u32) -> Route
     }
 }
 
-#[tactic(auto, using(crate::proofs::BestRoutes::hub_is_node))]
+#[tactic(auto, using(hub_spec::proofs::BestRoutes::hub_is_node))]
 pub(crate) fn least_route_held(instance: &Instance, hubs: &[u32], i: u32, j: u32) -> HeldRoute
     requires hubs { IsHubSet instance.now hubs.now }
     requires from { i < instance.now.size }

@@ -11,7 +11,7 @@ use Rattle.file_spec.specs.Faults.{no_candidate, too_costly}
 use Rattle.file_spec.specs.Instances.{chosen, made, sum_fault, build_fault}
 use Rattle.hub_model.specs.Naturals.{natural}
 use Rattle.hub_model.specs.Building.{AreGivenCosts, costs_of}
-use Rattle.hub_model.proofs.MadeLimits.{no_stray, made_limits}
+use Rattle.file_spec.proofs.MadeLimits.{no_stray, made_limits}
 
 -- the candidates of the instance that are asked for and no nodes
 pub stray_is : (o : Options) (c : Contents) (costs : Option (List ℕ)) (r : Option ℕ) (p : Problem) → p ≡ made o c costs

@@ -2,6 +2,5 @@ pub mod HeldNumbers
 pub mod Ceilings
 pub mod HeldLists
 pub mod Gathered
-pub mod MadeLimits
 pub mod Built
 pub mod HeldPairs

@@ -1,19 +1,16 @@
 -- The first failure of a plan and of a whole certificate, by those of its parts.
-use Rattle.std.proofs.Common.{◌≡◌, ℕ, ◌+◌, ◌*◌, ◌≤◌, ◌^◌, List, [], ◌∷◌, ◌++◌, length, All, Contains, true, false, is_some, Option, None, Some, inl, inr, refl, sym, ap, subst, ◌∙◌, append_assoc, arith}
+use Rattle.std.proofs.Common.{◌≡◌, ℕ, ◌+◌, ◌*◌, ◌≤◌, List, [], ◌∷◌, ◌++◌, length, All, Contains, true, false, is_some, Option, None, Some, inl, inr, refl, sym, ap, subst, ◌∙◌, append_assoc, arith}
 use Rattle.std.specs.List.{AllZip}
 use Rattle.std.specs.List.Sorted.{IsStrictlyIncreasing}
-use Rattle.std.proofs.lemmas.List.Elements.{All-head, All-tail, All-cons, All-nil, All-contains_itself, All-weaker}
-use Rattle.hub_spec.specs.Problem.{Problem, IsProblem, commodities}
+use Rattle.std.proofs.lemmas.List.Elements.{All-head, All-tail, All-cons, All-nil}
+use Rattle.hub_spec.specs.Problem.{Problem, commodities}
 use Rattle.hub_spec.specs.Plans.{Plan, IsRoute, IsPlan, plan_cost}
-use Rattle.hub_spec.specs.Cuts.{Cut}
-use Rattle.hub_spec.specs.Trees.{Branching, root, Tree, branch, leaf, empty, TreeLine, branch_on, leaf_of, no_hub, preorder}
+use Rattle.hub_spec.specs.Trees.{root, Tree, branch, leaf, empty, TreeLine, branch_on, leaf_of, preorder}
 use Rattle.hub_spec.specs.Certificates.{Proof}
-use Rattle.hub_spec.specs.Text.{IsInRange, IsCutText, IsTreeLineText}
+use Rattle.hub_spec.specs.Text.{IsTreeLineText}
 use Rattle.hub_spec.specs.Conditions.{Claim, claim, AllHold, FailsFirst, Size, BoundOverCost, Hubs, Cost, route_claims, cut_claims, tree_claims, claims}
 use Rattle.hub_spec.proofs.Commodities.{length_commodities}
-use Rattle.hub_spec.proofs.Limits.{few_candidates}
 use Rattle.hub_plain.specs.declared.kinds.Kind as code
-use Rattle.hub_plain.specs.Branches.{IsBranch}
 use Rattle.hub_plain.specs.Answers.{kind_of, IsFirstFailure, HasLeavesInRange, plan_claims}
 use Rattle.hub_plain.proofs.Reductions.{early, first_holds, later_after}
 
@@ -108,10 +105,3 @@ leaves_in_range n (branch k opened closed) h =
     )
 leaves_in_range n (leaf denom weights) h = All-head (IsTreeLineText n) (leaf_of denom weights) [] h
 leaves_in_range n empty h = tt
-
-pub root_branch : (p : Problem) (b : Branching) → IsProblem p → b.inside ≡ [] → b.free ≡ p.candidates → IsBranch p b
-root_branch p b ok inside free = record {
-  inside = subst (All (Contains p.candidates)) (sym inside) (All-nil (Contains p.candidates));
-  free = subst (All (Contains p.candidates)) (sym free) (All-contains_itself p.candidates);
-  few = omega (arith, ap length inside, ap length free, few_candidates p.candidates p.size ok.candidates_ascend ok.candidates_are_nodes, ok.size_limit);
-}

@@ -1,13 +1,9 @@
 pub mod Ceilings
-pub mod BestRoutes
 pub mod RoutedSets
-pub mod PlanCosts
-pub mod AllLoops
 pub mod Assigned
 pub mod SetSearch
 pub mod DualLists
-pub mod Mixes
-pub mod ChildLists
 pub mod Reductions
 pub mod FirstFailures
 pub mod TextSteps
+pub mod RouteViews

@@ -1,5 +1,5 @@
 -- The text so far, and what is still to come.
-use Rattle.std.proofs.Common.{◌≡◌, ℕ, suc, ◌+◌, ◌<◌, ◌≤◌, List, [], ◌∷◌, ◌++◌, length, map, flat_map, zip, take, drop, get_or, decimal, refl, sym, ap, ap₂, ◌∙◌, append_assoc, arith}
+use Rattle.std.proofs.Common.{◌≡◌, ℕ, suc, ◌+◌, ◌<◌, ◌≤◌, List, [], ◌∷◌, ◌++◌, length, map, flat_map, zip, drop, get_or, decimal, sym, ap, ap₂, ◌∙◌, append_assoc, arith}
 use Rattle.std.specs.List.{join_with_byte, enumerate_from}
 use Rattle.std.proofs.Math.Seq.{drop-cons}
 use Rattle.std.proofs.lemmas.Grind.{flat_map-append}

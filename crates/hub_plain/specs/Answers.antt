@@ -3,8 +3,8 @@ use Rattle.std.specs.Prelude.{◌≡◌, ℕ, All, Contains, ◌≤◌, ◌+◌,
 use Rattle.hub_spec.specs.Problem.{Problem, commodities}
 use Rattle.hub_spec.specs.Plans.{Plan, plan_cost}
 use Rattle.hub_spec.specs.Cuts.{Cut, IsWithinSums}
-use Rattle.hub_spec.specs.Trees.{Tree, branch, leaf, empty, leaf_of}
-use Rattle.hub_spec.specs.Text.{IsTreeLineText, IsWeightsText}
+use Rattle.hub_spec.specs.Trees.{Tree, branch, leaf, empty}
+use Rattle.hub_spec.specs.Text.{IsWeightsText}
 use Rattle.hub_spec.specs.Conditions.{Claim, claim, route_claims, dual_claims, AllHold, FailsFirst, Kind, Size, BoundOverCost, Hubs, Route, Cost, Dual, Sum, Branch, Empty, CutNumber, Weight, Leaf}
 use Rattle.hub_plain.specs.declared.kinds.Kind as code
 

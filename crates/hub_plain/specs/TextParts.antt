@@ -1,5 +1,5 @@
 -- The parts of a certificate's text.
-use Rattle.std.specs.Prelude.{ℕ, List, [], ◌∷◌, ◌++◌, map, flat_map, zip}
+use Rattle.std.specs.Prelude.{ℕ, List, [], ◌∷◌, map, flat_map, zip}
 use Rattle.std.specs.List.{enumerate_from}
 use Rattle.hub_spec.specs.Cuts.{Cut}
 use Rattle.hub_spec.specs.Trees.{Tree, preorder}

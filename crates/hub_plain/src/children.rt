@@ -3,8 +3,7 @@
 ghost use Rattle.std.specs.Prelude.{◌≡◌, ◌≤◌, length, IfOk, Contains};
 ghost use Rattle.std.specs.List.{insert, remove};
 ghost use Rattle.hub_spec.specs.Sums.{with_node, without};
-ghost use Rattle.hub_spec.specs.Trees.{root, open_child, closed_child};
-ghost use Rattle.hub_plain.specs.Branches.{IsBranch};
+ghost use Rattle.hub_spec.specs.Trees.{root, open_child, closed_child, IsBranch};
 
 use crate::branches::Branch;
 use crate::instance::Instance;

@@ -4,10 +4,9 @@ ghost use Rattle.std.specs.Prelude.{◌≡◌, ℕ, ◌+◌, ◌*◌, ◌^◌, �
 ghost use Rattle.std.specs.List.Sorted.{IsStrictlyIncreasing};
 ghost use Rattle.hub_spec.specs.Problem.{commodities};
 ghost use Rattle.hub_spec.specs.Cuts.{IsCut};
-ghost use Rattle.hub_spec.specs.Trees.{leaf, line_count, IsClosed};
+ghost use Rattle.hub_spec.specs.Trees.{leaf, line_count, IsClosed, IsBranch};
 ghost use Rattle.hub_spec.specs.Text.{IsInRange, IsCutText, IsWeightsText};
 ghost use Rattle.hub_spec.specs.Conditions.{claim, Empty, route_claims, dual_claims, cut_claims, tree_claims, claims};
-ghost use Rattle.hub_plain.specs.Branches.{IsBranch};
 ghost use Rattle.hub_plain.specs.TreeViews.{tree_of};
 ghost use Rattle.hub_plain.specs.CertificateViews.{proof_of};
 ghost use Rattle.hub_plain.specs.Answers.{IsFirstFailure, HasLeavesInRange, one_cut, plan_claims};

@@ -2,8 +2,7 @@
 
 ghost use Rattle.std.specs.Prelude.{◌≡◌, ℕ, ◌^◌, ◌<◌, ◌≤◌, ◌⊎◌};
 ghost use Rattle.hub_spec.specs.Problem.{route_cost};
-ghost use Rattle.hub_spec.specs.Plans.{IsHubSet, IsLeastRoute, IsSetCost};
-ghost use Rattle.hub_plain.specs.Routes.{IsNotAfter};
+ghost use Rattle.hub_spec.specs.Plans.{IsHubSet, IsLeastRoute, IsSetCost, IsNotAfter};
 
 use crate::instance::Instance;
 
@@ -16,7 +15,7 @@ pub struct Route {
 }
 
 /// The cheapest route from `i` to `j` through these hubs. Of those that cost the same it is the first by its hubs.
-#[tactic(auto, using(crate::proofs::BestRoutes::hub_is_node))]
+#[tactic(auto, using(hub_spec::proofs::BestRoutes::hub_is_node))]
 pub fn least_route(instance: &Instance, hubs: &[u32], i: u32, j: u32) -> Route
     requires hubs { IsHubSet instance.now hubs.now }
     requires from { i < instance.now.size }

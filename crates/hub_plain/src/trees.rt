@@ -2,8 +2,7 @@
 
 ghost use Rattle.std.specs.Prelude.{◌≡◌, ℕ, ◌+◌, ◌*◌, ◌^◌, ◌<◌, ◌≤◌, ◌↔◌, pos, ◌-ℤ◌, ◌<ℤ◌, length, IsTrue, IfOk, All, Contains};
 ghost use Rattle.hub_spec.specs.Cuts.{IsCut};
-ghost use Rattle.hub_spec.specs.Trees.{leaf_bound, weight_sum, Closes, IsMix, IsClosed, IsSound};
-ghost use Rattle.hub_plain.specs.Branches.{IsBranch};
+ghost use Rattle.hub_spec.specs.Trees.{leaf_bound, weight_sum, Closes, IsMix, IsClosed, IsSound, IsBranch};
 ghost use Rattle.hub_plain.specs.TreeViews.{tree_of};
 
 use crate::branches::{Branch, leaf_bound};

@@ -19,3 +19,9 @@ pub mod Stages
 pub mod LeadsBack
 pub mod OneText
 pub mod TextOrFault
+pub mod AllLoops
+pub mod PlanCosts
+pub mod BestRoutes
+pub mod Mixes
+pub mod ChildLists
+pub mod ListedValues

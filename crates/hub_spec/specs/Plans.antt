@@ -28,6 +28,10 @@ cost_of_route p t = route_cost p t.0.0 t.0.1 t.1.0 t.1.1
 abbrev pub IsUpTo : ℕ × ℕ → ℕ × ℕ → Type 0
 IsUpTo a b = (a.0 < b.0) ⊎ ((a.0 ≡ b.0) × (a.1 ≤ b.1))
 
+-- a route of cost c is cheaper than another of cost d, or costs as much and its hubs are not after the other's
+abbrev pub IsNotAfter : ℕ → ℕ × ℕ → ℕ → ℕ × ℕ → Type 0
+IsNotAfter c route d other = (c < d) ⊎ ((c ≡ d) × IsUpTo route other)
+
 -- the route of the commodity through these hubs that is taken: none costs less, and it is the first of those that cost the same
 pub record IsLeastRoute (p : Problem) (hubs : List ℕ) (commodity route : ℕ × ℕ) : Type 0 where
   pub is_route : IsRoute p hubs commodity route

@@ -16,6 +16,12 @@ pub record Branching : Type 0 where
 abbrev pub root : Problem → Branching
 root p = record { inside = []; outside = []; free = p.candidates }
 
+-- the nodes inside and the free nodes are candidates, at most 400 in all: twice the most candidates that an instance has
+pub record IsBranch (p : Problem) (b : Branching) : Type 0 where
+  pub inside : All (Contains p.candidates) b.inside
+  pub free : All (Contains p.candidates) b.free
+  pub few : length b.inside + length b.free ≤ 400
+
 -- the branch in which the free k is a hub
 abbrev pub open_child : Branching → ℕ → Branching
 open_child b k = record { inside = with_node k b.inside; outside = b.outside; free = without k b.free }

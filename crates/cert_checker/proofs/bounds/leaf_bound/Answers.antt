@@ -3,7 +3,7 @@ use Rattle.hub_spec.specs.Problem.{fixed_cost}
 use Rattle.hub_spec.specs.Trees.{mixed_load}
 use Rattle.std.specs.Int.{w128}
 use Rattle.std.proofs.lemmas.Int.{to_z-of_z}
-use Rattle.cert_checker.proofs.Mixes.{leaf_bound_is}
+use Rattle.hub_spec.proofs.Mixes.{leaf_bound_is}
 use Rattle.cert_checker.proofs.bounds.leaf_bound.Goals as goal
 
 pub weighted_costs-costs-requires-clause-nodes : goal.weighted_costs-costs-requires-clause-nodes

@@ -1,6 +1,6 @@
 use Rattle.std.proofs.Common.{Contains}
 use Rattle.std.proofs.lemmas.List.Elements.{All-get_or}
-use Rattle.cert_checker.proofs.Mixes.{loads_limit}
+use Rattle.hub_spec.proofs.Mixes.{loads_limit}
 use Rattle.cert_checker.proofs.bounds.losses.Goals as goal
 
 pub mixed_load-requires-clause-loads : goal.mixed_load-requires-clause-loads

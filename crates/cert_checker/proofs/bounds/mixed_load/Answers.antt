@@ -1,7 +1,7 @@
 use Rattle.std.proofs.Common.{◌+◌, arith}
 use Rattle.hub_spec.specs.Cuts.{load}
 use Rattle.hub_spec.specs.Trees.{cut_at}
-use Rattle.cert_checker.proofs.Mixes.{mixed_product, mixed_next, mixed_limit}
+use Rattle.hub_spec.proofs.Mixes.{mixed_product, mixed_next, mixed_limit}
 use Rattle.cert_checker.proofs.bounds.mixed_load.Goals as goal
 
 pub overflow_mul-sum : goal.overflow_mul-sum

@@ -1,7 +1,7 @@
 use Rattle.std.proofs.Common.{◌≡◌, ap, ◌∙◌, rules}
 use Rattle.hub_spec.specs.Sums.{without}
 use Rattle.hub_spec.specs.Trees.{Branching}
-use Rattle.cert_checker.proofs.ChildLists.{closed_branch}
+use Rattle.hub_spec.proofs.ChildLists.{closed_branch}
 use Rattle.cert_checker.proofs.branches.closed_child.Goals as goal
 
 pub returns-clause-branch : goal.returns-clause-branch

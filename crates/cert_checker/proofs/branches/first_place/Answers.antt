@@ -1,4 +1,4 @@
-use Rattle.cert_checker.proofs.ChildLists.{without_at}
+use Rattle.hub_spec.proofs.ChildLists.{without_at}
 use Rattle.cert_checker.proofs.branches.first_place.Goals as goal
 
 pub returns-then-nodes-i : goal.returns-then-nodes-i

@@ -1,6 +1,6 @@
 use Rattle.std.proofs.Common.{◌≡◌, ◌∙◌, rules}
 use Rattle.hub_spec.specs.Trees.{Branching}
-use Rattle.cert_checker.proofs.ChildLists.{root_branch}
+use Rattle.hub_spec.proofs.ChildLists.{root_branch}
 use Rattle.cert_checker.proofs.branches.root.Goals as goal
 
 pub returns-clause-branch : goal.returns-clause-branch

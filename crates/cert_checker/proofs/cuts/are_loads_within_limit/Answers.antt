@@ -1,6 +1,6 @@
 use Rattle.std.proofs.Common.{ℕ, ◌↔◌, ◌≤◌, ◌^◌, true, false, List, IsTrue, All, subst}
 use Rattle.hub_spec.specs.Cuts.{load}
-use Rattle.cert_checker.proofs.AllLoops.{all_ended, all_broken, all_goes_on}
+use Rattle.hub_spec.proofs.AllLoops.{all_ended, all_broken, all_goes_on}
 use Rattle.cert_checker.proofs.cuts.are_loads_within_limit.Goals as goal
 
 pub returns-then-not-is_load_within_limit : goal.returns-then-not-is_load_within_limit

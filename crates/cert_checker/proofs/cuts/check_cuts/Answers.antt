@@ -66,6 +66,7 @@ loop-duals-preserved c =
       are_cuts = subst (All (IsCut p)) (sym pushed)
           (All-push (IsCut p) _ _ c.loop-duals.invariant.are_cuts (subst (IsCut p) cut c.in_ok-cut.ensures.is_cut));
       long = omega arith;
+      cleared = c.in_ok-cut.ensures.cleared;
     }
 
 pub returns-clause-same : goal.returns-clause-same

@@ -1,7 +1,8 @@
-use Rattle.std.proofs.Common.{◌≡◌, ◌+◌, ◌*◌, length, map, take, drop, All}
+use Rattle.std.proofs.Common.{◌≡◌, ◌+◌, ◌*◌, [], length, map, take, drop, All}
 use Rattle.hub_spec.specs.Cuts.{IsCut}
 use Rattle.hub_spec.specs.Conditions.{cut_claims}
 use Rattle.cert_format.specs.Held.{cut_of}
+use Rattle.cert_checker.specs.Duals.{AreValues}
 use Rattle.cert_checker.proofs.Reductions.{Reduces}
 use Rattle.cert_checker.proofs.cuts.check_cuts.Given as goal
 
@@ -12,4 +13,5 @@ invariant-loop-duals l = record {
   same : l.summed.items ≡ take l.duals-index (map cut_of l.cuts);
   are_cuts : All (IsCut l.instance) l.summed.items;
   long : length l.values ≡ l.instance.size;
+  cleared : AreValues [] l.values;
 }

@@ -1,5 +1,5 @@
 use Rattle.std.proofs.Common.{arith}
-use Rattle.cert_checker.proofs.AllLoops.{last_decides}
+use Rattle.hub_spec.proofs.AllLoops.{last_decides}
 use Rattle.cert_checker.proofs.cuts.is_within_sums.Goals as goal
 
 pub returns : goal.returns

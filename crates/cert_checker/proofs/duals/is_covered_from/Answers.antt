@@ -1,6 +1,6 @@
 use Rattle.std.proofs.Common.{refl, arith, ℕ, ◌↔◌, true, false, List, IsTrue, All, subst}
 use Rattle.cert_checker.specs.Duals.{IsCovered}
-use Rattle.cert_checker.proofs.AllLoops.{all_ended, all_broken, all_goes_on}
+use Rattle.hub_spec.proofs.AllLoops.{all_ended, all_broken, all_goes_on}
 use Rattle.cert_checker.proofs.Collections.{covered_by_collection}
 use Rattle.cert_checker.proofs.duals.is_covered_from.Goals as goal
 

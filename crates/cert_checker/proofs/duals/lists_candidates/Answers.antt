@@ -1,5 +1,5 @@
 use Rattle.std.proofs.Common.{ℕ, ◌↔◌, IsTrue, get_or, Contains, subst, arith}
-use Rattle.cert_checker.proofs.AllLoops.{all_ended, all_broken, all_goes_on}
+use Rattle.hub_spec.proofs.AllLoops.{all_ended, all_broken, all_goes_on}
 use Rattle.cert_checker.proofs.duals.lists_candidates.Goals as goal
 use Rattle.cert_checker.proofs.duals.lists_candidates.Goals.{After-is_candidate}
 

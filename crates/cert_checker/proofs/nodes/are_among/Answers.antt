@@ -1,5 +1,5 @@
 use Rattle.std.proofs.Common.{Contains}
-use Rattle.cert_checker.proofs.AllLoops.{all_ended, all_broken, all_goes_on}
+use Rattle.hub_spec.proofs.AllLoops.{all_ended, all_broken, all_goes_on}
 use Rattle.cert_checker.proofs.nodes.are_among.Goals as goal
 
 pub returns-then-not-is_among : goal.returns-then-not-is_among

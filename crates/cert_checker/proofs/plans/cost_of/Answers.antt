@@ -4,7 +4,7 @@ use Rattle.hub_spec.specs.Plans.{IsRoute}
 use Rattle.hub_spec.specs.Problem.{commodities}
 use Rattle.hub_spec.proofs.Commodities.{commodity_index, length_commodities}
 use Rattle.hub_spec.proofs.Limits.{AreNodes, route_nodes}
-use Rattle.cert_checker.proofs.PlanCosts.{IsCosted, costed_more, costed_limit, costed_all, route_at}
+use Rattle.hub_spec.proofs.PlanCosts.{IsCosted, costed_more, costed_limit, costed_all, route_at}
 use Rattle.cert_checker.proofs.plans.cost_of.Goals as goal
 use Rattle.cert_checker.proofs.plans.cost_of.Goals.{In-loop-j, After-route_cost_held-total}
 

@@ -1,5 +1,5 @@
 use Rattle.std.proofs.Common.{◌+◌, ◌*◌}
-use Rattle.cert_checker.proofs.PlanCosts.{IsCosted}
+use Rattle.hub_spec.proofs.PlanCosts.{IsCosted}
 use Rattle.cert_checker.proofs.plans.cost_of.Given as goal
 
 abbrev pub invariant-loop-j : goal.invariant-loop-j

@@ -4,7 +4,6 @@ use Rattle.cert_checker.proofs.sums.loads_of.Given as goal
 
 abbrev pub invariant-loop-dual : goal.invariant-loop-dual
 invariant-loop-dual l = record {
-  long : length l.values ≡ length l.fn.values;
-  same : length l.loads.items ≡ length l.values;
+  same : length l.loads.items ≡ l.n;
   sums : (k : ℕ) → get_or l.loads.items k 0 ≡ sum_by (λ (d : Prices). value_at d.u k) (take l.dual-index l.duals);
 }

@@ -1,6 +1,6 @@
 use Rattle.std.proofs.Common.{All, sym, subst}
 use Rattle.std.proofs.lemmas.List.Elements.{All-push}
-use Rattle.cert_checker.specs.Branches.{IsBranch}
+use Rattle.hub_spec.specs.Trees.{IsBranch}
 use Rattle.cert_checker.proofs.walks.put_children.Goals as goal
 
 pub returns-clause-branches : goal.returns-clause-branches

@@ -1,9 +1,9 @@
-use Rattle.std.proofs.Common.{ℕ, ◌≡◌, ◌+◌, ◌-◌, ◌*◌, List, All, Contains, pos, ◌-ℤ◌, sum_by, sym, ap, ap₂, subst, ◌∙◌, FitsSigned, rules}
+use Rattle.std.proofs.Common.{◌≡◌, ◌+◌, ◌-◌, ◌*◌, All, Contains, pos, ◌-ℤ◌, sum_by, sym, ap, ap₂, subst, ◌∙◌, FitsSigned, rules}
 use Rattle.hub_spec.specs.Problem.{fixed_cost}
-use Rattle.hub_spec.specs.Trees.{mixed_total, mixed_load, leaf_bound}
+use Rattle.hub_spec.specs.Trees.{mixed_load}
 use Rattle.std.specs.Int.{w128}
 use Rattle.std.proofs.lemmas.Int.{to_z-of_z}
-use Rattle.hub_plain.proofs.Mixes.{leaf_bound_is}
+use Rattle.hub_spec.proofs.Mixes.{leaf_bound_is}
 use Rattle.hub_plain.proofs.branches.leaf_bound.Goals as goal
 
 pub weighted_costs-costs-requires-clause-nodes : goal.weighted_costs-costs-requires-clause-nodes

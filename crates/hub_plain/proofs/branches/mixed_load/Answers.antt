@@ -1,9 +1,7 @@
-use Rattle.std.proofs.Common.{ℕ, ◌+◌, ◌≤◌, ◌^◌, length, get_or, take, sum_by, refl, arith}
-use Rattle.std.proofs.lemmas.List.{take_all}
-use Rattle.std.proofs.lemmas.List.Elements.{All-get_or}
+use Rattle.std.proofs.Common.{◌+◌, arith}
 use Rattle.hub_spec.specs.Cuts.{load}
 use Rattle.hub_spec.specs.Trees.{cut_at}
-use Rattle.hub_plain.proofs.Mixes.{weighted, mixed_product, mixed_next, mixed_limit}
+use Rattle.hub_spec.proofs.Mixes.{mixed_product, mixed_next, mixed_limit}
 use Rattle.hub_plain.proofs.branches.mixed_load.Goals as goal
 
 pub overflow_mul-sum : goal.overflow_mul-sum

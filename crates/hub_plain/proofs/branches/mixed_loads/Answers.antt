@@ -2,7 +2,7 @@ use Rattle.std.proofs.Common.{Contains, arith}
 use Rattle.std.proofs.lemmas.List.Elements.{All-get_or}
 use Rattle.std.proofs.lemmas.List.Sums.{sum_by_more}
 use Rattle.hub_spec.specs.Trees.{mixed_load}
-use Rattle.hub_plain.proofs.Mixes.{loads_limit}
+use Rattle.hub_spec.proofs.Mixes.{loads_limit}
 use Rattle.hub_plain.proofs.branches.mixed_loads.Goals as goal
 
 pub mixed_load-sum-requires-clause-loads : goal.mixed_load-sum-requires-clause-loads

@@ -1,4 +1,4 @@
-use Rattle.std.proofs.Common.{◌≡◌, ◌≤◌, ◌*◌, ◌-◌, ◌^◌, sum_by, take}
+use Rattle.std.proofs.Common.{◌≡◌, ◌≤◌, ◌*◌, ◌^◌, sum_by, take}
 use Rattle.hub_spec.specs.Trees.{mixed_load}
 use Rattle.hub_plain.proofs.branches.mixed_loads.Given as goal
 

@@ -1,6 +1,6 @@
 use Rattle.hub_spec.specs.Cuts.{total}
 use Rattle.hub_spec.specs.Trees.{cut_at}
-use Rattle.hub_plain.proofs.Mixes.{IsMixed}
+use Rattle.hub_spec.proofs.Mixes.{IsMixed}
 use Rattle.hub_plain.proofs.branches.mixed_total.Given as goal
 
 abbrev pub invariant-loop-entry : goal.invariant-loop-entry

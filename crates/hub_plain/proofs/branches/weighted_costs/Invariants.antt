@@ -1,4 +1,4 @@
-use Rattle.std.proofs.Common.{◌≡◌, ◌≤◌, ◌*◌, ◌-◌, ◌^◌, sum_by, take}
+use Rattle.std.proofs.Common.{◌≡◌, ◌≤◌, ◌*◌, ◌^◌, sum_by, take}
 use Rattle.hub_spec.specs.Problem.{fixed_cost}
 use Rattle.hub_plain.proofs.branches.weighted_costs.Given as goal
 

@@ -1,7 +1,7 @@
 use Rattle.std.proofs.Common.{◌≡◌, ap, ◌∙◌, rules}
 use Rattle.hub_spec.specs.Sums.{without}
 use Rattle.hub_spec.specs.Trees.{Branching}
-use Rattle.hub_plain.proofs.ChildLists.{closed_branch}
+use Rattle.hub_spec.proofs.ChildLists.{closed_branch}
 use Rattle.hub_plain.proofs.children.closed_child.Goals as goal
 
 pub returns-clause-branch : goal.returns-clause-branch

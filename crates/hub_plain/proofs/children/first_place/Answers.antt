@@ -1,5 +1,4 @@
-use Rattle.std.proofs.Common.{arith}
-use Rattle.hub_plain.proofs.ChildLists.{without_at}
+use Rattle.hub_spec.proofs.ChildLists.{without_at}
 use Rattle.hub_plain.proofs.children.first_place.Goals as goal
 
 pub returns-then-nodes-i : goal.returns-then-nodes-i

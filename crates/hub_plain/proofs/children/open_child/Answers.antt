@@ -1,7 +1,7 @@
 use Rattle.std.proofs.Common.{ap, ◌∙◌}
 use Rattle.hub_spec.specs.Sums.{with_node, without}
 use Rattle.hub_spec.specs.Trees.{Branching}
-use Rattle.hub_plain.proofs.ChildLists.{opened_branch}
+use Rattle.hub_spec.proofs.ChildLists.{opened_branch}
 use Rattle.hub_plain.proofs.children.open_child.Goals as goal
 
 pub returns-clause-branch : goal.returns-clause-branch

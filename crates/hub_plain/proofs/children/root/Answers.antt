@@ -1,6 +1,6 @@
 use Rattle.std.proofs.Common.{◌≡◌, ◌∙◌, rules}
 use Rattle.hub_spec.specs.Trees.{Branching}
-use Rattle.hub_plain.proofs.FirstFailures.{root_branch}
+use Rattle.hub_spec.proofs.ChildLists.{root_branch}
 use Rattle.hub_plain.proofs.children.root.Goals as goal
 
 pub returns-clause-branch : goal.returns-clause-branch

@@ -2,7 +2,7 @@ use Rattle.std.proofs.Common.{◌↔◌, IsTrue, List, ap, ◌∙◌, subst}
 use Rattle.std.specs.List.{AllZip}
 use Rattle.hub_spec.specs.Problem.{commodities}
 use Rattle.hub_spec.specs.Cuts.{Prices, IsDual}
-use Rattle.hub_plain.proofs.AllLoops.{first_fails, last_decides}
+use Rattle.hub_spec.proofs.AllLoops.{first_fails, last_decides}
 use Rattle.hub_plain.proofs.cuts.is_cut.Goals as goal
 use Rattle.hub_plain.proofs.cuts.is_cut.Goals.{After-are_duals}
 

@@ -1,5 +1,5 @@
 use Rattle.std.proofs.Common.{arith}
-use Rattle.hub_plain.proofs.AllLoops.{last_decides}
+use Rattle.hub_spec.proofs.AllLoops.{last_decides}
 use Rattle.hub_plain.proofs.cuts.is_within_sums.Goals as goal
 
 pub returns : goal.returns

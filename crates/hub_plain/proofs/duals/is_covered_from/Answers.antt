@@ -1,6 +1,6 @@
-use Rattle.std.proofs.Common.{ℕ, ◌↔◌, ◌≤◌, ◌^◌, true, false, List, IsTrue, All, Contains, subst}
-use Rattle.hub_plain.specs.Duals.{IsCovered, IsCoveredSingle}
-use Rattle.hub_plain.proofs.AllLoops.{all_ended, all_broken, all_goes_on}
+use Rattle.std.proofs.Common.{ℕ, ◌↔◌, true, false, List, IsTrue, All, subst}
+use Rattle.hub_plain.specs.Duals.{IsCovered}
+use Rattle.hub_spec.proofs.AllLoops.{all_ended, all_broken, all_goes_on}
 use Rattle.hub_plain.proofs.duals.is_covered_from.Goals as goal
 
 pub returns-then-not-is_covered : goal.returns-then-not-is_covered

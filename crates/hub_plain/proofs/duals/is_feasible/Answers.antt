@@ -1,7 +1,6 @@
-use Rattle.std.proofs.Common.{ℕ}
 use Rattle.hub_spec.proofs.Decided.{dual_from_covers, covers_from_dual}
 use Rattle.hub_spec.specs.Cuts.{Prices}
-use Rattle.hub_plain.proofs.AllLoops.{first_fails, last_decides}
+use Rattle.hub_spec.proofs.AllLoops.{first_fails, last_decides}
 use Rattle.hub_plain.proofs.duals.is_feasible.Goals as goal
 
 pub returns-then-not-lists_candidates : goal.returns-then-not-lists_candidates

@@ -1,5 +1,5 @@
-use Rattle.std.proofs.Common.{ℕ, ◌↔◌, ◌≤◌, ◌^◌, true, false, List, IsTrue, All, Contains, subst}
-use Rattle.hub_plain.proofs.AllLoops.{all_ended, all_broken, all_goes_on}
+use Rattle.std.proofs.Common.{ℕ, Contains}
+use Rattle.hub_spec.proofs.AllLoops.{all_ended, all_broken, all_goes_on}
 use Rattle.hub_plain.proofs.duals.lists_candidates.Goals as goal
 
 pub returns-then-not-is_candidate : goal.returns-then-not-is_candidate

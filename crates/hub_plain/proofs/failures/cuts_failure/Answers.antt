@@ -1,7 +1,7 @@
 use Rattle.std.proofs.Common.{◌≡◌, ◌+◌, ◌*◌, All, drop, refl, sym, ap, subst, arith}
 use Rattle.std.proofs.lemmas.List.{take_all}
 use Rattle.std.proofs.lemmas.List.Elements.{All-more}
-use Rattle.hub_spec.specs.Cuts.{Cut, IsCut}
+use Rattle.hub_spec.specs.Cuts.{IsCut}
 use Rattle.hub_spec.specs.Conditions.{cut_claims}
 use Rattle.hub_plain.specs.Answers.{one_cut}
 use Rattle.hub_plain.proofs.Reductions.{reduces_same, cut_claims_at, part_fails, part_holds}

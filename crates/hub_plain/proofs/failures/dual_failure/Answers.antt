@@ -1,4 +1,4 @@
-use Rattle.std.proofs.Common.{ℕ, ◌≡◌, ◌+◌, ◌*◌, ◌/◌, ◌%◌, ◌<◌, ◌≤◌, [], List, length, drop, get_or, ap, sym, refl, subst, ◌∙◌, arith}
+use Rattle.std.proofs.Common.{ℕ, ◌≡◌, ◌+◌, ◌*◌, ◌/◌, ◌%◌, ◌<◌, drop, get_or, ap, sym, refl, subst, ◌∙◌, arith}
 use Rattle.hub_spec.specs.Problem.{commodities}
 use Rattle.hub_spec.specs.Conditions.{dual_claims}
 use Rattle.hub_spec.proofs.Commodities.{commodity_at, length_commodities}

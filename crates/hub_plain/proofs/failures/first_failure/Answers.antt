@@ -1,7 +1,6 @@
-use Rattle.std.proofs.Common.{◌≡◌, ℕ, ◌≤◌, ◌+◌, ◌*◌, List, ◌++◌, length, is_some, sym, ap, subst, ◌∙◌, rules, arith}
+use Rattle.std.proofs.Common.{◌≡◌, ℕ, ◌+◌, ◌*◌, List, ◌++◌, length, sym, ap, subst, ◌∙◌, rules, arith}
 use Rattle.hub_spec.specs.Cuts.{Cut}
 use Rattle.hub_spec.specs.Trees.{Branching, root}
-use Rattle.hub_spec.specs.Certificates.{Proof}
 use Rattle.hub_spec.specs.Conditions.{cut_claims, tree_claims}
 use Rattle.hub_plain.specs.CertificateViews.{proof_of}
 use Rattle.hub_plain.specs.Answers.{IsFirstFailure, plan_claims}

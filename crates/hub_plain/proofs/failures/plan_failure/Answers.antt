@@ -1,5 +1,5 @@
-use Rattle.std.proofs.Common.{◌≡◌, ℕ, ◌↔◌, List, IsTrue, All, Contains, inl, refl, sym, ap, subst, ◌∙◌, arith}
-use Rattle.hub_spec.specs.Conditions.{AllHold, route_claims}
+use Rattle.std.proofs.Common.{ℕ, ◌↔◌, List, IsTrue, All, Contains, inl, refl, sym, ap, subst, ◌∙◌}
+use Rattle.hub_spec.specs.Conditions.{route_claims}
 use Rattle.hub_plain.specs.Answers.{IsFirstFailure}
 use Rattle.hub_plain.proofs.Reductions.{not_by}
 use Rattle.hub_plain.proofs.FirstFailures.{none_holds, plan_from_claims, routes_fail, cost_fails, plan_holds}

@@ -1,5 +1,5 @@
-use Rattle.std.proofs.Common.{ℕ, ◌≡◌, ◌+◌, ◌++◌, [], List, length, drop, get_or, Contains, ap, sym, refl, arith}
-use Rattle.hub_spec.specs.Conditions.{claim, Route, route_claims}
+use Rattle.std.proofs.Common.{◌≡◌, ◌+◌, ap, refl, arith}
+use Rattle.hub_spec.specs.Conditions.{route_claims}
 use Rattle.std.proofs.lemmas.List.{drop_all}
 use Rattle.hub_plain.specs.declared.kinds.Kind.TheVariants as code
 use Rattle.hub_plain.proofs.Reductions.{reduces_itself, reduces_same, route_claims_at, not_by, fails_here, goes_on, none_left}

@@ -1,10 +1,10 @@
-use Rattle.std.proofs.Common.{ℕ, ◌+◌, ◌*◌, ◌≡◌, ◌<◌, length, get_or, ap, subst, sym, refl, arith}
+use Rattle.std.proofs.Common.{◌+◌, ◌*◌, ◌≡◌, ◌<◌, get_or, ap, arith}
 use Rattle.std.proofs.lemmas.List.Elements.{length_all_zip}
 use Rattle.hub_spec.specs.Plans.{IsRoute}
 use Rattle.hub_spec.specs.Problem.{commodities}
 use Rattle.hub_spec.proofs.Commodities.{commodity_index, length_commodities}
 use Rattle.hub_spec.proofs.Limits.{AreNodes, route_nodes}
-use Rattle.hub_plain.proofs.PlanCosts.{IsCosted, costed_more, costed_limit, costed_all, route_at}
+use Rattle.hub_spec.proofs.PlanCosts.{IsCosted, costed_more, costed_limit, costed_all, route_at}
 use Rattle.hub_plain.proofs.plans.cost_of.Goals as goal
 use Rattle.hub_plain.proofs.plans.cost_of.Goals.{In-loop-j, After-route_cost-total}
 

@@ -1,4 +1,4 @@
-use Rattle.std.proofs.Common.{ℕ, List, ◌+◌, ◌*◌, ◌≡◌, take, subst, arith}
+use Rattle.std.proofs.Common.{ℕ, List, ◌*◌, ◌≡◌, subst, arith}
 use Rattle.std.specs.List.{AllZip}
 use Rattle.std.proofs.lemmas.List.{take_all}
 use Rattle.hub_spec.specs.Problem.{commodities}

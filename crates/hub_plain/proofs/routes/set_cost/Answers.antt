@@ -1,4 +1,4 @@
-use Rattle.std.proofs.Common.{◌<◌, ◌*◌, ◌≡◌, arith}
+use Rattle.std.proofs.Common.{◌*◌, ◌≡◌, arith}
 use Rattle.hub_plain.proofs.RoutedSets.{routed_limit, routed_more, routed_all}
 use Rattle.hub_plain.proofs.routes.set_cost.Goals as goal
 

@@ -1,4 +1,4 @@
-use Rattle.std.proofs.Common.{ℕ, List, [], subst, sym, refl, ◌∙◌}
+use Rattle.std.proofs.Common.{ℕ, List, subst, sym, refl, ◌∙◌}
 use Rattle.hub_spec.specs.Plans.{plan_cost}
 use Rattle.hub_spec.specs.AllSets.{AreFirstHubs, NoneCheaper}
 use Rattle.hub_spec.proofs.AllSets.{first_hubs_none, optimal_incumbent}

@@ -1,4 +1,4 @@
-use Rattle.std.proofs.Common.{◌≡◌, [], ◌≤◌, length, arith}
+use Rattle.std.proofs.Common.{◌≡◌, [], arith}
 use Rattle.std.proofs.lemmas.Bool.Decides.{nat_tests}
 use Rattle.hub_spec.specs.Plans.{plan_cost}
 use Rattle.hub_spec.proofs.AllSets.{first_hubs_set, none_cheaper_set, none_cheaper_less, none_cheaper_empty}

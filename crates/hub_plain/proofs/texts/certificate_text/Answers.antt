@@ -1,4 +1,4 @@
-use Rattle.std.proofs.Common.{◌≡◌, ℕ, List, ◌++◌, length, sym, ap, ◌∙◌, rules}
+use Rattle.std.proofs.Common.{◌≡◌, ◌++◌, length, sym, ap, ◌∙◌, rules}
 use Rattle.hub_spec.specs.Problem.{commodities}
 use Rattle.hub_spec.specs.Trees.{line_count}
 use Rattle.hub_spec.specs.Lines.{says_hubs, says_route, says_cuts, says_nodes, says_end}

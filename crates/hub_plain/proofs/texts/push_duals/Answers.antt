@@ -1,4 +1,4 @@
-use Rattle.std.proofs.Common.{◌+◌, ◌*◌, ◌/◌, ◌%◌, get_or, sym, arith}
+use Rattle.std.proofs.Common.{◌/◌, ◌%◌, sym, arith}
 use Rattle.hub_spec.specs.Problem.{commodities}
 use Rattle.hub_spec.specs.Lines.{says_dual}
 use Rattle.hub_spec.proofs.Commodities.{commodity_at, length_commodities}

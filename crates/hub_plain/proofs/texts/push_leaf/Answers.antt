@@ -1,4 +1,4 @@
-use Rattle.std.proofs.Common.{◌≡◌, [], ◌∷◌, ◌++◌, map, codes, decimal, ap, ◌∙◌}
+use Rattle.std.proofs.Common.{[], ◌∷◌, ◌++◌, map, codes, decimal, ap, ◌∙◌}
 use Rattle.std.specs.List.{join_with_byte}
 use Rattle.hub_spec.specs.Lines.{weight_numbers, line_text}
 use Rattle.hub_plain.proofs.texts.push_leaf.Goals as goal

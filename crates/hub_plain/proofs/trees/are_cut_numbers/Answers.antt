@@ -1,5 +1,5 @@
 use Rattle.std.proofs.Common.{ℕ, ◌≤◌, length}
-use Rattle.hub_plain.proofs.AllLoops.{all_ended, all_broken, all_goes_on}
+use Rattle.hub_spec.proofs.AllLoops.{all_ended, all_broken, all_goes_on}
 use Rattle.hub_plain.proofs.trees.are_cut_numbers.Goals as goal
 
 pub returns-then-not-is_cut_number : goal.returns-then-not-is_cut_number

@@ -2,7 +2,7 @@ use Rattle.std.proofs.Common.{Some, None, FitsSigned, rules}
 use Rattle.std.specs.Int.{w128}
 use Rattle.std.proofs.lemmas.Int.{to_z-of_z}
 use Rattle.hub_model.specs.Building.{costs_of}
-use Rattle.hub_model.proofs.MadeLimits.{no_stray}
+use Rattle.file_spec.proofs.MadeLimits.{no_stray}
 use Rattle.hub_model.proofs.Built.{stray_is, stray_fault, costly, not_costly, given_costs, draft_limits}
 use Rattle.hub_model.proofs.instance.Instance.build.Goals as goal
 use Rattle.hub_model.proofs.instance.Instance.build.Goals.{In_default}

@@ -1,5 +1,5 @@
 use Rattle.std.proofs.Common.{◌*◌, ◌+◌, ◌≤◌, ◌^◌, length, arith, subst, sym, ap}
-use Rattle.hub_spec.specs.Problem.{Problem, IsWithinLimits}
+use Rattle.hub_spec.specs.Problem.{IsWithinLimits}
 use Rattle.hub_spec.proofs.Limits.{few_candidates}
 use Rattle.hub_plain.proofs.Ceilings.{ceiling_fits}
 use Rattle.hub_plain.proofs.instance.Draft.cost_ceiling.Goals as goal

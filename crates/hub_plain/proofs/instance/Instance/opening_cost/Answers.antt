@@ -1,4 +1,4 @@
-use Rattle.std.proofs.Common.{◌≤◌, length, arith, subst}
+use Rattle.std.proofs.Common.{arith, subst}
 use Rattle.hub_spec.specs.Problem.{IsProblem}
 use Rattle.hub_spec.proofs.Limits.{few_candidates, hubs_are_nodes}
 use Rattle.hub_plain.proofs.instance.Instance.opening_cost.Goals as goal

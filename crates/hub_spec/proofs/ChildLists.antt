@@ -7,9 +7,8 @@ use Rattle.std.proofs.lemmas.List.Elements.{All-head, All-tail, All-cons, All-ni
 use Rattle.hub_spec.specs.Sums.{with_node, without}
 use Rattle.hub_spec.specs.Problem.{Problem, IsProblem}
 use Rattle.hub_spec.proofs.Limits.{few_candidates}
-use Rattle.hub_spec.specs.Trees.{Branching}
+use Rattle.hub_spec.specs.Trees.{Branching, IsBranch}
 use Rattle.hub_spec.proofs.Decided.{Contains-cases, Contains-none}
-use Rattle.cert_checker.specs.Branches.{IsBranch}
 
 pub without_at : (k : ℕ) (nodes : List ℕ) (i : ℕ) → i < length nodes → get_or nodes i 0 ≡ k
     → without k nodes ≡ take i nodes ++ without k (drop i nodes) → without k nodes ≡ remove nodes i
