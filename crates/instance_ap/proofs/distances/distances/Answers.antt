@@ -1,32 +1,34 @@
-use Rattle.std.proofs.Common.{◌≡◌, ◌++◌, ◌∷◌, [], ◌*◌, map, length, arith, rules, ap, ◌∙◌}
-use Rattle.hub_model.specs.Naturals.{natural}
+use Rattle.std.proofs.Common.{◌≡◌, ◌+◌, ◌++◌, ◌∷◌, [], map, length, All, sym, subst, arith, rules, ap, ◌∙◌}
+use Rattle.std.specs.List.{range_with_len}
+use Rattle.std.proofs.lemmas.List.Elements.{All-push}
+use Rattle.hub_model.specs.Naturals.{natural, IsHeld}
 use Rattle.instance_ap.specs.Points.{coordinates_of, distance_of, distances_front}
-use Rattle.instance_ap.proofs.Numbers.{formula_none, formula_more, held_none, held_more}
+use Rattle.instance_ap.proofs.Numbers.{formula_none, formula_push, held_none}
 use Rattle.instance_ap.proofs.distances.distances.Goals as goal
-use mir.Val.{to_z}
-use mir.Syntax.{w128}
 
-pub loop-place-init : goal.loop-place-init
+pub loop-items-init : goal.loop-items-init
 unfolding distances_front
-loop-place-init c =
+loop-items-init c =
     let none : c.in_ok-items.items.items ≡ [] = search rules in
+    let f = distance_of c.args.divide (length c.args.points.now) (map coordinates_of c.args.points.now) in
+    let empty : 0 ≡ length c.in_ok-items.items.items = sym (ap length none) in
     record {
-      values = formula_none natural (distance_of c.args.divide (length c.args.points.now) (map coordinates_of c.args.points.now)) _ none;
+      few = omega (arith, empty);
+      values = formula_none natural f _ none ∙ ap (λ m. map f (range_with_len 0 m)) empty;
       limits = held_none _ none;
     }
 
-pub loop-place-preserved : goal.loop-place-preserved
+pub loop-items-preserved : goal.loop-items-preserved
 unfolding distances_front
-loop-place-preserved c =
-    let pushed : c.push.new.self.items ≡ c.loop-place.items.items ++ to_z w128 c.commodity_distance.result ∷ [] = search rules in
+loop-items-preserved c =
+    let before = c.loop-items.items.items in
+    let next = c.next_distance-next.result in
+    let f = distance_of c.args.divide (length c.args.points.now) (map coordinates_of c.args.points.now) in
+    let pushed : c.push.new.self.items ≡ before ++ next ∷ [] = search rules in
+    let longer : length before + 1 ≡ length c.push.new.self.items = search rules in
     record {
-      values = formula_more (distance_of c.args.divide (length c.args.points.now) (map coordinates_of c.args.points.now)) c.loop-place.place
-          c.commodity_distance.result _ _ pushed (omega arith) c.commodity_distance.ensures c.loop-place.invariant.values;
-      limits = held_more c.commodity_distance.result _ _ pushed (omega arith) c.loop-place.invariant.limits;
+      few = search rules;
+      values = formula_push natural f (length before) next before _ pushed (c.next_distance-next.ensures.value ∙ ap f (ap length c.deref.ensures.value)) c.loop-items.invariant.values
+          ∙ ap (λ m. map f (range_with_len 0 m)) longer;
+      limits = subst (All IsHeld) (sym pushed) (All-push IsHeld before next c.loop-items.invariant.limits c.next_distance-next.ensures.held);
     }
-
-pub returns : goal.returns
-returns c =
-    let n = length c.args.points.now in
-    let all : c.loop-place.place ≡ n * n = omega arith in
-    c.from_vec.ensures ∙ (c.loop-place.invariant.values ∙ ap (distances_front c.args.divide n (map coordinates_of c.args.points.now)) all)

@@ -1,10 +1,14 @@
-use Rattle.std.proofs.Common.{◌≡◌, map, All}
+use Rattle.std.proofs.Common.{◌≡◌, ◌-◌, ◌*◌, ◌≤◌, length, map, All}
 use Rattle.hub_model.specs.Naturals.{natural, IsHeld}
 use Rattle.instance_ap.specs.Points.{coordinates_of, distances_front}
 use Rattle.instance_ap.proofs.distances.distances.Given as goal
 
-abbrev pub invariant-loop-place : goal.invariant-loop-place
-invariant-loop-place l = record {
-  values : map natural l.items.items ≡ distances_front l.divide l.n (map coordinates_of l.points) l.place;
+abbrev pub invariant-loop-items : goal.invariant-loop-items
+invariant-loop-items l = record {
+  few : length l.items.items ≤ l.n * l.n;
+  values : map natural l.items.items ≡ distances_front l.divide l.n (map coordinates_of l.points) (length l.items.items);
   limits : All IsHeld l.items.items;
 }
+
+abbrev pub decreases-loop-items : goal.decreases-loop-items
+decreases-loop-items l = l.n * l.n - length l.items.items
