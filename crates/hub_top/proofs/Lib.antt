@@ -2,7 +2,8 @@ pub mod SolvedVerdict
 pub mod FoundCertificates
 pub mod Solutions
 pub mod Rows
-pub mod CheckedAgain
+pub mod OneReading
+pub mod Completions
 pub mod Headlines
 pub mod Halting
 pub mod Sources

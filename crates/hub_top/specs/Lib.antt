@@ -3,6 +3,7 @@ pub mod Commands
 pub mod Texts
 pub mod Endings
 pub mod Meanings
+pub mod Completeness
 pub mod Headline
 pub mod Theorems
 pub mod Blames

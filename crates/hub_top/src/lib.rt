@@ -1,8 +1,9 @@
 //! The top call of the product: words, files and sinks to a status.
 //!
-//! [`run`] carries the headline as its clauses. `specs/` has their words in the order of reading: `Words` (what is asked
-//! for), `Texts` (what is printed), `Commands` (what a command does with its files), `Endings` (how a run may end and
-//! what is written then), `Meanings` (what each status says), `Theorems`.
+//! [`run`] carries the headline as its clauses. `specs/` has their words in the order of reading: `Commands` (what a
+//! command does with its files), `Texts` (what is printed), `Endings` (how a run may end and what is written then),
+//! `Meanings` (what each status says), `Completeness` (how it ends where nothing fails), `Headline`, `Theorems`. What the
+//! words ask for is defined in the crate `hub_words`.
 #![tactic(auto)]
 
 mod certificates;

@@ -7,6 +7,7 @@ ghost use Rattle.hub_words.specs.Views.{texts};
 ghost use Rattle.hub_top.specs.Views.{ending};
 ghost use Rattle.hub_top.specs.Endings.{Ending, MayEnd, ShelfFails, Written};
 ghost use Rattle.hub_top.specs.Meanings.{Means};
+ghost use Rattle.hub_top.specs.Completeness.{Completeness};
 ghost use Rattle.hub_top.specs.Headline.{Headline};
 
 use crate::Status;
@@ -20,12 +21,15 @@ use std::thread::Threads;
 
 /// Runs the command that the words give, of which the first is the program's name.
 ///
-/// It reads and decides first, and then writes: the certificate or the verdict on `out`, and what hinders it on `err`. The runtime and
-/// the gate are not used so far.
+/// It reads and decides first, and then writes: the certificate or the verdict on `out`, and what hinders it on `err`. The
+/// runtime and the gate are not used so far.
 ///
 /// - `ends`: there is an ending that the words, the files and the shelf's faults allow, and it was written, with its
 ///   status; where a sink failed, a front of the text that it was to take, and nothing further.
 /// - `means`: what each status says of the words, the files, the faults and what `out` took.
+/// - `complete`: where no fault rose, words that are no command end with status 3, a fault of the instance with 4, `solve`
+///   of an instance with 0, and `check` of an instance and a certificate's bytes with 0, 1 or 2 by the verdict on them; or
+///   it is want of memory.
 /// - `headline`: the headline. Where `solve` ends with status 0, the text it wrote names hubs and routes that cost
 ///   exactly the printed cost, and no nonempty set of candidate hubs with any routing costs less; `check` on the same
 ///   instance and that text ends with status 0; and wherever `check` ends with status 0, on any bytes whatever, the
@@ -44,6 +48,8 @@ pub fn run<R: Threads + Sync, S: Shelf, O: Sink, E: Sink, G: Gate>(
         × Written O.taken O.faults E.taken E.faults out.old out.new err.old err.new result ending }
     ensures means { Means (spec.asked (texts words.now)) (S.held shelf.old) (ShelfFails S.held S.faults S.sound shelf.old shelf.new)
         (O.taken out.old) (O.taken out.new) (Rose (O.faults out.old) (O.faults out.new) ⊎ Rose (E.faults err.old) (E.faults err.new)) result }
+    ensures complete { Completeness (spec.asked (texts words.now)) (S.held shelf.old)
+        ((Rose (S.faults shelf.old) (S.faults shelf.new) → ⊥) × (Rose (O.faults out.old) (O.faults out.new) → ⊥) × (Rose (E.faults err.old) (E.faults err.new) → ⊥)) result }
     ensures headline { Headline (spec.asked (texts words.now)) (S.held shelf.old) (O.taken out.old) (O.taken out.new)
         ((Rose (S.faults shelf.old) (S.faults shelf.new) → ⊥) × (Rose (O.faults out.old) (O.faults out.new) → ⊥) × (Rose (E.faults err.old) (E.faults err.new) → ⊥)) result }
     ensures same { S.held shelf.new ≡ S.held shelf.old }
