@@ -1,6 +1,12 @@
 //! The program `hub`: the words and files of the machine, handed to `run`.
 #![tactic(auto)]
 
+ghost use Rattle.std.specs.Prelude.{◌≡◌, ◌⊎◌};
+ghost use Rattle.std.specs.Io.KnownBytes.{Appends};
+ghost use Rattle.hub_io.specs.Outside.{Rose};
+ghost use Rattle.hub_top.specs.declared.status.Status.TheVariants.{Memory, Write};
+ghost use Rattle.hub_top.specs.Texts.{memory_text};
+
 mod shelf;
 mod sink;
 
@@ -44,7 +50,11 @@ fn words(rt: &HostRuntime) -> Result<Vec<String>, AllocError> {
 }
 
 /// Tells that memory ran out while the words were read.
-fn tell_memory<K: Sink>(err: &mut K) -> Status {
+#[tactic(auto, unfolding(hub_top::specs::Texts::memory_text))]
+fn tell_memory<K: Sink>(err: &mut K) -> Status
+    ensures told { result ≡ Memory → Appends (K.taken err.old) (K.taken err.new) memory_text }
+    ensures status { (result ≡ Memory) ⊎ ((result ≡ Write) × Rose (K.faults err.old) (K.faults err.new)) }
+{
     match err.put(b"hub: out of memory\n") {
         Ok(()) => Status::Memory,
         Err(_) => Status::Write,

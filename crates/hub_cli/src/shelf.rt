@@ -1,6 +1,8 @@
 //! The files of the machine as a shelf.
 
-ghost use Rattle.std.specs.Prelude.{◌≡◌, ◌≤◌, length, None, IfSome};
+ghost use Rattle.std.specs.Prelude.{◌≡◌, ◌<◌, ◌≤◌, length, take, None, IfSome};
+ghost use Rattle.std.specs.Option.{MatchOption};
+ghost use Rattle.std.specs.Io.KnownBytes.{Keeps, Consumes, IsAtEnd};
 ghost use Rattle.hub_io.specs.Outside.{Rose};
 
 use hub_io::{Failed, Shelf};
@@ -72,7 +74,10 @@ impl<R: Files> Shelf for DiskShelf<'_, R> {
 
 /// Reads at least one byte, or 0 at the end; none where the reader failed. An interrupted read is tried again.
 fn read_some<T: Read>(reader: &mut T, into: &mut [u8]) -> Option<usize>
-    ensures { IfSome result (λ count. count ≤ length into.new) }
+    ensures most { IfSome result (λ count. count ≤ length into.new) }
+    ensures bytes { MatchOption result (Keeps (T.remaining reader.old) (T.remaining reader.new))
+        (λ count. Consumes (T.remaining reader.old) (T.remaining reader.new) (take count into.new)) }
+    ensures end { IfSome result (λ count. count ≡ 0 → 0 < length into.new → IsAtEnd (T.remaining reader.new)) }
 {
     for _ in 0..u64::MAX {
         match reader.read(into) {

@@ -1,11 +1,14 @@
 //! A stream of the machine as a sink.
 
-ghost use Rattle.std.specs.Prelude.{◌≡◌, None};
+ghost use Rattle.std.specs.Prelude.{◌≡◌};
+ghost use Rattle.std.specs.Bool.{MatchBool};
+ghost use Rattle.std.specs.Io.KnownBytes.{Appends};
+ghost use Rattle.hub_io.specs.Outside.{AppendsFront};
 
 use hub_io::{Failed, Sink};
 use std::io::{ErrorKind, Write};
 
-/// A stream that bytes are written to. It tells nothing of what it took.
+/// A stream that bytes are written to. It tells what it took where the stream does, which those of the machine do not.
 #[derive(Drop)]
 pub struct StreamSink<W: Write + Drop> {
     stream: W,
@@ -22,7 +25,7 @@ impl<W: Write + Drop> StreamSink<W> {
 }
 
 impl<W: Write + Drop> Sink for StreamSink<W> {
-    ghost taken = { λ _. None };
+    ghost taken = { λ s. W.contents s.stream };
 
     ghost faults = { λ s. s.faults };
 
@@ -35,9 +38,12 @@ impl<W: Write + Drop> Sink for StreamSink<W> {
     }
 }
 
-/// Writes the whole piece, or tells that the stream failed. A stream that takes nothing of a piece has failed; an
-/// interrupted write is tried again.
-fn write_whole<W: Write>(stream: &mut W, piece: &[u8]) -> bool {
+/// Writes the whole piece, or tells that the stream failed and took a front of it. A stream that takes nothing of a piece
+/// has failed; an interrupted write is tried again.
+fn write_whole<W: Write>(stream: &mut W, piece: &[u8]) -> bool
+    ensures { MatchBool result (Appends (W.contents stream.old) (W.contents stream.new) piece.now)
+        (AppendsFront (W.contents stream.old) (W.contents stream.new) piece.now) }
+{
     let mut rest = piece;
     for _ in 0..u64::MAX {
         if rest.is_empty() {
