@@ -9,7 +9,7 @@ use Rattle.hub_spec.specs.Problem.{Problem, IsProblem}
 use Rattle.hub_spec.specs.Plans.{IsHubSet}
 use Rattle.hub_spec.proofs.SumLemmas.{nil_contains_none}
 use Rattle.hub_spec.proofs.Sets.{Contains-head, Contains-later, ascend_tail, ascend_head, All-from_contains}
-use Rattle.branch_tree.specs.Growing.{IsBranch}
+use Rattle.branch_tree.specs.Growing.{IsOrderedBranch}
 
 -- a greater number at the end
 ascend_push : (xs : List ℕ) (k : ℕ) → IsStrictlyIncreasing xs → ((m : ℕ) → Contains xs m → m < k) → IsStrictlyIncreasing (xs ++ k ∷ [])
@@ -24,7 +24,7 @@ ascend_push xs k up below = λ j l.
     omega (arith, here, last, below (get_or xs j 0) (Contains-get_or xs j 0 long)) in
     ⊎_elim inner outer (cases_lt (j + 1) (length xs))
 
-pub root_branch : (p : Problem) → IsProblem p → IsBranch p [] p.candidates
+pub root_branch : (p : Problem) → IsProblem p → IsOrderedBranch p [] p.candidates
 root_branch p ok = record {
   inside_ascend = λ k l. absurd (omega arith);
   free_ascend = ok.candidates_ascend;
@@ -34,10 +34,10 @@ root_branch p ok = record {
 }
 
 -- what is inside is below the least free candidate
-pub inside_below : (p : Problem) (k : ℕ) (inside rest : List ℕ) → IsBranch p inside (k ∷ rest) → All (λ m. m < k) inside
+pub inside_below : (p : Problem) (k : ℕ) (inside rest : List ℕ) → IsOrderedBranch p inside (k ∷ rest) → All (λ m. m < k) inside
 inside_below p k inside rest b = All-from_contains (λ (m : ℕ). m < k) inside (λ m c. b.before m k c (Contains-head k rest))
 
-pub opened_branch : (p : Problem) (k : ℕ) (inside rest : List ℕ) → IsBranch p inside (k ∷ rest) → IsBranch p (inside ++ k ∷ []) rest
+pub opened_branch : (p : Problem) (k : ℕ) (inside rest : List ℕ) → IsOrderedBranch p inside (k ∷ rest) → IsOrderedBranch p (inside ++ k ∷ []) rest
 opened_branch p k inside rest b = record {
   inside_ascend = ascend_push inside k b.inside_ascend (λ m c. b.before m k c (Contains-head k rest));
   free_ascend = ascend_tail k rest b.free_ascend;
@@ -47,7 +47,7 @@ opened_branch p k inside rest b = record {
   free_are = All-tail (Contains p.candidates) k rest b.free_are;
 }
 
-pub closed_branch : (p : Problem) (k : ℕ) (inside rest : List ℕ) → IsBranch p inside (k ∷ rest) → IsBranch p inside rest
+pub closed_branch : (p : Problem) (k : ℕ) (inside rest : List ℕ) → IsOrderedBranch p inside (k ∷ rest) → IsOrderedBranch p inside rest
 closed_branch p k inside rest b = record {
   inside_ascend = b.inside_ascend;
   free_ascend = ascend_tail k rest b.free_ascend;
@@ -57,5 +57,5 @@ closed_branch p k inside rest b = record {
 }
 
 -- what is inside is a hub set, unless nothing is
-pub inside_set : (p : Problem) (inside free : List ℕ) → IsBranch p inside free → 1 ≤ length inside → IsHubSet p inside
+pub inside_set : (p : Problem) (inside free : List ℕ) → IsOrderedBranch p inside free → 1 ≤ length inside → IsHubSet p inside
 inside_set p inside free b some = record { some_hub = some; ascend = b.inside_ascend; are_candidates = b.inside_are }

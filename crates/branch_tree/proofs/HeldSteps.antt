@@ -5,7 +5,7 @@ use Rattle.hub_spec.specs.Problem.{Problem}
 use Rattle.hub_spec.specs.Cuts.{Cut}
 use Rattle.hub_spec.specs.Trees.{TreeLine}
 use Rattle.dual_cuts.specs.HubCuts.{HubCut}
-use Rattle.branch_tree.specs.Growing.{Growth, IsPricedCut, IsBranch, IsGrowth, HasCut}
+use Rattle.branch_tree.specs.Growing.{Growth, IsPricedCut, IsOrderedBranch, IsGrowth, HasCut}
 use Rattle.branch_tree.specs.Held.{cuts_of}
 use Rattle.branch_tree.proofs.Branches.{inside_set}
 use Rattle.branch_tree.proofs.Steps.{cheaper_cut, dearer_cut}
@@ -20,7 +20,7 @@ with_cuts a b lines h k cost cuts hubs = λ i. record { cuts = cuts i; lines = l
 -- the cut of the set is pushed, and the set becomes the incumbent
 pub cheaper_held : (p : Problem) (cuts more : List HubCut) (c : HubCut) (lines : List TreeLine) (hubs inside best : List ℕ) (least cost : ℕ)
     → more ≡ cuts ++ c ∷ [] → best ≡ inside → IsGrowth p (record { cuts = cuts_of cuts; lines = lines; hubs = hubs; cost = least })
-    → length cuts < 67108864 → IsPricedCut p inside c.cut cost → IsBranch p inside [] → 1 ≤ length inside → cost < least
+    → length cuts < 67108864 → IsPricedCut p inside c.cut cost → IsOrderedBranch p inside [] → 1 ≤ length inside → cost < least
     → HasCut p inside (record { cuts = cuts_of cuts; lines = lines; hubs = hubs; cost = least })
     (record { cuts = cuts_of more; lines = lines; hubs = best; cost = cost })
 cheaper_held p cuts more c lines hubs inside best least cost pushed taken ok few priced branch some less =

@@ -3,7 +3,6 @@ pub mod Keeping
 pub mod Trees
 pub mod Branches
 pub mod CutTexts
-pub mod Openings
 pub mod PricedCuts
 pub mod Steps
 pub mod HeldSteps

@@ -7,7 +7,7 @@ use Rattle.hub_spec.specs.Plans.{IsHubSet, IsSetCost}
 use Rattle.hub_spec.specs.Cuts.{Cut, total, load, IsCut}
 use Rattle.hub_spec.specs.Trees.{TreeLine, branch_on, leaf_of, no_hub}
 use Rattle.hub_spec.specs.Text.{IsCutText, IsTreeLineText}
-use Rattle.branch_tree.specs.Growing.{Growth, all_on, IsPricedCut, IsReached, IsBranch, IsGrowth, IsNext, HasCut, HasGrown, with_line}
+use Rattle.branch_tree.specs.Growing.{Growth, all_on, IsPricedCut, IsReached, IsOrderedBranch, IsGrowth, IsNext, HasCut, HasGrown, with_line}
 use Rattle.branch_tree.proofs.Keeping.{kept_same, kept_twice, kept_more, cut_at-last, reached_kept}
 use Rattle.branch_tree.proofs.Trees.{grown_kept, grown_leaf, grown_empty, grown_branch}
 use Rattle.branch_tree.proofs.Branches.{inside_below}
@@ -146,7 +146,7 @@ three_parts lines first second line =
     append_assoc (lines ++ line ∷ []) first second ∙ append_assoc lines (line ∷ []) (first ++ second)
 
 -- the line of the branch, the tree of its open child, and the tree of its closed child
-pub branch_end : (p : Problem) (k : ℕ) (inside rest : List ℕ) (g h i : Growth) → IsProblem p → IsBranch p inside (k ∷ rest)
+pub branch_end : (p : Problem) (k : ℕ) (inside rest : List ℕ) (g h i : Growth) → IsProblem p → IsOrderedBranch p inside (k ∷ rest)
     → IsNext p g (with_line g (branch_on k)) → HasGrown p (inside ++ k ∷ []) rest (with_line g (branch_on k)) h
     → HasGrown p inside rest h i → HasGrown p inside (k ∷ rest) g i
 branch_end p k inside rest g h i ok branch begun opened closed = record {
@@ -159,6 +159,6 @@ branch_end p k inside rest g h i ok branch begun opened closed = record {
       closed.grown;
 }
 
-pub branch_text : (p : Problem) (k : ℕ) (inside rest : List ℕ) → IsProblem p → IsBranch p inside (k ∷ rest) → k < p.size
+pub branch_text : (p : Problem) (k : ℕ) (inside rest : List ℕ) → IsProblem p → IsOrderedBranch p inside (k ∷ rest) → k < p.size
 branch_text p k inside rest ok branch =
     All-contains (λ (m : ℕ). m < p.size) p.candidates k ok.candidates_are_nodes (branch.free_are 0 k (omega arith))

@@ -43,7 +43,7 @@ pub record IsKept (cuts longer : List Cut) : Type 0 where
   pub same : (x : ℕ) → 1 ≤ x → x ≤ length cuts → cut_at longer x ≡ cut_at cuts x
 
 -- the candidates inside come before the free ones, and both ascend
-pub record IsBranch (p : Problem) (inside free : List ℕ) : Type 0 where
+pub record IsOrderedBranch (p : Problem) (inside free : List ℕ) : Type 0 where
   pub inside_ascend : IsStrictlyIncreasing inside
   pub free_ascend : IsStrictlyIncreasing free
   pub before : (m k : ℕ) → Contains inside m → Contains free k → m < k

@@ -1,7 +1,7 @@
 //! The growth of the tree, a branch at a time.
 
 ghost use Rattle.std.specs.Prelude.{◌≡◌, ◌≤◌, [], length, OnOk};
-ghost use Rattle.branch_tree.specs.Growing.{IsBranch, IsGrowth, HasCut, HasGrown};
+ghost use Rattle.branch_tree.specs.Growing.{IsOrderedBranch, IsGrowth, HasCut, HasGrown};
 ghost use Rattle.branch_tree.specs.Held.{growth_of};
 
 use crate::pricing::price;
@@ -17,7 +17,7 @@ pub(crate) fn grow(
     inside: &mut Vec<u32>,
     progress: &mut Progress,
 ) -> Result<(), AllocError>
-    requires branch { IsBranch instance.now inside.old.items free.now }
+    requires branch { IsOrderedBranch instance.now inside.old.items free.now }
     requires growth { IsGrowth instance.now (growth_of progress.old) }
     ensures inside { OnOk result (inside.new.items ≡ inside.old.items) }
     ensures grown { OnOk result (HasGrown instance.now inside.old.items free.now (growth_of progress.old) (growth_of progress.new)) }
@@ -42,7 +42,7 @@ fn end_branch(
     inside: &[u32],
     progress: &mut Progress,
 ) -> Result<(), AllocError>
-    requires branch { IsBranch instance.now inside.now [] }
+    requires branch { IsOrderedBranch instance.now inside.now [] }
     requires growth { IsGrowth instance.now (growth_of progress.old) }
     ensures { OnOk result (HasGrown instance.now inside.now [] (growth_of progress.old) (growth_of progress.new)) }
 {
@@ -66,7 +66,7 @@ fn add_cut(
     inside: &[u32],
     progress: &mut Progress,
 ) -> Result<(), AllocError>
-    requires branch { IsBranch instance.now inside.now [] }
+    requires branch { IsOrderedBranch instance.now inside.now [] }
     requires some_hub { 1 ≤ length inside.now }
     requires growth { IsGrowth instance.now (growth_of progress.old) }
     ensures { OnOk result (HasCut instance.now inside.now (growth_of progress.old) (growth_of progress.new)) }

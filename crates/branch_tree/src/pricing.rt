@@ -1,12 +1,11 @@
 //! The cut of a hub set, and what the set costs.
 
-ghost use Rattle.std.specs.Prelude.{◌≡◌, ◌≤◌, ◌^◌, All, IfOk};
-ghost use Rattle.hub_spec.specs.Problem.{opening_cost};
+ghost use Rattle.std.specs.Prelude.{All, IfOk};
 ghost use Rattle.hub_spec.specs.Plans.{IsHubSet};
 ghost use Rattle.hub_model.specs.Held.{ArePrices};
 ghost use Rattle.branch_tree.specs.Growing.{IsPricedCut};
 
-use dual_cuts::{Cut, cut_of, outside};
+use dual_cuts::{Cut, cut_of, opening_cost, outside};
 use hub_model::{Dual, HubSet, Instance};
 use std::alloc::{AllocError, Global};
 
@@ -32,7 +31,7 @@ pub(crate) fn price(
     let order = outside(alloc, instance, &set)?;
     let cut = cut_of(alloc, instance, set, &order)?;
     are_prices(cut.rows());
-    let cost = cut.total() as u128 + opening(instance, hubs);
+    let cost = cut.total() as u128 + opening_cost(instance, hubs);
     Ok(PricedCut { cut, cost })
 }
 
@@ -43,19 +42,4 @@ fn are_prices(duals: &[Dual])
     for dual in duals {
         dual.limits();
     }
-}
-
-/// The sum of the fixed costs of the hubs.
-#[tactic(auto, using(crate::proofs::Openings::hub_is_node, crate::proofs::Openings::opening_more_limit, crate::proofs::Openings::opening_all))]
-fn opening(instance: &Instance, hubs: &[u32]) -> u128
-    requires { IsHubSet instance.now hubs.now }
-    ensures value { result ≡ opening_cost instance.now hubs.now }
-    ensures limit { result ≤ 10 ^ 29 }
-{
-    instance.limits();
-    let mut total = 0;
-    for k in hubs {
-        total += instance.fixed_held(*k);
-    }
-    total
 }

@@ -36,7 +36,7 @@ fn assign_to(alloc: Global, instance: &Instance, hubs: &[u32]) -> Result<Assignm
 {
     instance.limits();
     let n = instance.size();
-    let mut cost = opening(instance, hubs);
+    let mut cost = opening_cost(instance, hubs);
     let mut routes = Vec::new(alloc);
     for i in 0..n {
         for j in 0..n {
@@ -51,9 +51,9 @@ fn assign_to(alloc: Global, instance: &Instance, hubs: &[u32]) -> Result<Assignm
     })
 }
 
-/// The sum of the fixed costs of the hubs.
+/// The sum of the fixed costs of the hubs, in 10^-12.
 #[tactic(auto, using(hub_spec::proofs::BestRoutes::hub_is_node, crate::proofs::Assigned::opening_more_limit, crate::proofs::Assigned::opening_within))]
-fn opening(instance: &Instance, hubs: &[u32]) -> u128
+pub fn opening_cost(instance: &Instance, hubs: &[u32]) -> u128
     requires { IsHubSet instance.now hubs.now }
     ensures value { result ≡ opening_cost instance.now hubs.now }
     ensures limit { result ≤ 10 ^ 29 }

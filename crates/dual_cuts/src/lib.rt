@@ -16,7 +16,7 @@ mod laws;
 mod orders;
 mod routes;
 
-pub use assignments::{Assignment, assign};
+pub use assignments::{Assignment, assign, opening_cost};
 pub use cuts::{Cut, cut_of};
 pub use duals::minimal_dual;
 pub use laws::{minimal_is_dual, no_load_on_hubs, set_cut_is_cut, set_cut_is_tight};

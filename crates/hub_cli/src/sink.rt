@@ -18,6 +18,7 @@ pub struct StreamSink<W: Write + Drop> {
 impl<W: Write + Drop> StreamSink<W> {
     /// A sink over the stream, of which no put has failed.
     pub fn new(stream: W) -> Self
+        ensures taken { W.contents result.stream ≡ W.contents stream }
         ensures faults { result.faults ≡ 0 }
     {
         StreamSink { stream, faults: 0 }

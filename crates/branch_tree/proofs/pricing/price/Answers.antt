@@ -10,4 +10,4 @@ returns c =
     priced_cut c.args.instance.now c.in_ok-set.set c.args.hubs.now c.in_ok-cut.cut.cut _ c.in_ok-set.ensures c.limits.ensures
     c.in_ok-cut.ensures.cut (subst (λ (ds : List Prices). All ArePrices ds) c.rows.ensures c.are_prices.ensures)
     c.in_ok-cut.ensures.no_load c.in_ok-cut.ensures.tight
-    (ap₂ (λ (m n : ℕ). m + n) total c.opening.ensures.value)
+    (ap₂ (λ (m n : ℕ). m + n) total c.opening_cost.ensures.value)

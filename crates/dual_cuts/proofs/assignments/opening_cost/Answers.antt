@@ -2,7 +2,7 @@ use Rattle.std.proofs.Common.{ap, arith}
 use Rattle.std.proofs.lemmas.List.{take_all}
 use Rattle.hub_spec.specs.Problem.{opening_cost}
 use Rattle.dual_cuts.proofs.Assigned.{opening_within}
-use Rattle.dual_cuts.proofs.assignments.opening.Goals as goal
+use Rattle.dual_cuts.proofs.assignments.opening_cost.Goals as goal
 
 pub returns-clause-limit : goal.returns-clause-limit
 returns-clause-limit c =
