@@ -6,7 +6,7 @@ use Rattle.std.proofs.Math.Seq.{get_or-append_seam}
 use Rattle.std.proofs.lemmas.List.Sums.{sum_by-cons}
 use Rattle.std.proofs.lemmas.List.Elements.{All-head, All-tail, All-weaker}
 use Rattle.hub_spec.specs.Problem.{Problem, fixed_cost}
-use Rattle.hub_spec.specs.Cuts.{Cut, total, load}
+use Rattle.hub_spec.specs.Cuts.{Cut, cut_by, total, load}
 use Rattle.hub_spec.specs.Trees.{Branching, open_child, closed_child, cut_at, mixed_total, mixed_load, gain, branch_bound, leaf_bound, Closes, IsMix, Tree, branch, leaf, empty, IsSound}
 use Rattle.branch_tree.specs.Growing.{IsKept, IsReached}
 
@@ -22,14 +22,14 @@ kept_twice cuts longer longest first second = record {
 pub kept_more : (cuts : List Cut) (cut : Cut) → IsKept cuts (cuts ++ cut ∷ [])
 kept_more cuts cut = record {
   long = omega (arith, length_push cuts cut);
-  same = λ x least most. get_or_append_left cuts (cut ∷ []) (record { duals = [] }) (x - 1) (omega (arith, least, most));
+  same = λ x least most. get_or_append_left cuts (cut ∷ []) (cut_by []) (x - 1) (omega (arith, least, most));
 }
 
 -- the cut that was added last
 pub cut_at-last : (cuts : List Cut) (cut : Cut) (x : ℕ) → x ≡ length cuts + 1 → cut_at (cuts ++ cut ∷ []) x ≡ cut
 cut_at-last cuts cut x e =
     let place : x - 1 ≡ length cuts = omega (arith, e) in
-    ap (λ (i : ℕ). get_or (cuts ++ cut ∷ []) i (record { duals = [] })) place ∙ get_or-append_seam cuts cut [] (record { duals = [] })
+    ap (λ (i : ℕ). get_or (cuts ++ cut ∷ []) i (cut_by [])) place ∙ get_or-append_seam cuts cut [] (cut_by [])
 
 -- ---- leaves
 

@@ -1,12 +1,10 @@
 pub mod Closing
 pub mod Keeping
 pub mod Trees
-pub mod Branches
-pub mod CutTexts
+pub mod CutRanges
 pub mod PricedCuts
 pub mod Steps
-pub mod HeldSteps
+pub mod AddedCuts
 pub mod BranchEnds
 pub mod GrownBranches
-pub mod Beginnings
 pub mod Whole

@@ -1,22 +1,23 @@
 -- The whole tree, with the incumbent's plan, is a certificate that the plan is optimal.
-use Rattle.std.proofs.Common.{◌≡◌, ℕ, ◌^◌, ◌<◌, ◌≤◌, ℤ, pos, SFits, to_z, of_z, to_z-of_z, rules, List, [], ◌∷◌, length, All, refl, ap, sym, subst, ◌∙◌, length-append, arith}
+use Rattle.std.proofs.Common.{◌≡◌, ℕ, ◌<◌, ◌≤◌, ℤ, pos, SFits, to_z, of_z, to_z-of_z, rules, List, [], ◌∷◌, length, All, refl, ap, sym, subst, ◌∙◌, length-append, arith}
 use mir.Syntax.{w128}
 use Rattle.std.specs.List.{AllZip}
 use Rattle.std.proofs.lemmas.List.Elements.{All-nil, All-cons}
 use Rattle.std.proofs.lemmas.Slice.Zip.{AllZip-long}
-use Rattle.hub_spec.specs.Problem.{Problem, IsProblem, commodities}
+use Rattle.hub_spec.specs.Limits.{most_cost}
+use Rattle.hub_spec.specs.Problem.{Problem, commodities}
 use Rattle.hub_spec.specs.Plans.{Plan, IsLeastRoute, IsOptimal, plan_cost}
 use Rattle.hub_spec.specs.Trees.{Tree, branch, leaf, empty, TreeLine, preorder, line_count, root, IsSound}
 use Rattle.hub_spec.specs.Certificates.{Proof, Holds}
-use Rattle.hub_spec.specs.Text.{IsInRange, IsTreeLineText}
+use Rattle.hub_spec.specs.Ranges.{IsInRange, IsLineInRange}
 use Rattle.hub_spec.proofs.Commodities.{length_commodities}
 use Rattle.hub_spec.proofs.Limits.{AreNodes, few_candidates, hubs_are_nodes, least_route_nodes, plan_cost_limit}
 use Rattle.hub_spec.proofs.SetCosts.{plan_of_least, set_cost_is, one_set_cost}
 use Rattle.hub_spec.proofs.WeakDuality.{no_plan_below_bound}
-use Rattle.hub_model.specs.Naturals.{natural}
+use Rattle.hub_model.specs.Amounts.{natural}
 use Rattle.branch_tree.specs.declared.found.Found.{Found}
 use Rattle.branch_tree.specs.Growing.{Growth, IsGrown, IsGrowth}
-use Rattle.branch_tree.specs.Held.{cuts_of, lines_of}
+use Rattle.branch_tree.specs.Views.{cuts_of, lines_of}
 use Rattle.branch_tree.specs.Findings.{proof_of, IsProved}
 
 length-preorder : (t : Tree) → length (preorder t) ≡ line_count t
@@ -33,9 +34,8 @@ routes_are_nodes n (c ∷ cs) (r ∷ rs) are =
 
 -- a search that has ended: the tree of the root, and the incumbent's least routes
 pub record IsEnded (p : Problem) (g : Growth) (routes : List (ℕ × ℕ)) : Type 0 where
-  pub ok : IsProblem p
   pub growth : IsGrowth p g
-  pub grown : IsGrown p g.cuts g.cost [] p.candidates g.lines
+  pub grown : IsGrown p g.cuts g.cost (root p) g.lines
   pub least : AllZip (IsLeastRoute p g.hubs) (commodities p.size) routes
 
 abbrev ended_plan : Growth → List (ℕ × ℕ) → Plan
@@ -62,14 +62,15 @@ ended_holds p g routes e = record {
   candidates = refl;
   bound = omega arith;
   plan = plan_of_least p g.hubs routes e.growth.is_set e.least;
+  wanted = tt;
   cost = refl;
   cuts = e.growth.are_cuts;
-  tree = subst (λ (c : ℕ). IsSound p g.cuts c (root p) e.grown.tree) (incumbent_cost p g routes e) (e.grown.sound []);
+  tree = subst (λ (c : ℕ). IsSound p g.cuts c (root p) e.grown.tree) (incumbent_cost p g routes e) e.grown.sound;
 }
 
 ended_in_range : (p : Problem) (g : Growth) (routes : List (ℕ × ℕ)) (e : IsEnded p g routes) → IsInRange (ended_proof p g routes e.grown.tree)
 ended_in_range p g routes e =
-    let ok = e.ok in
+    let ok = e.growth.problem in
     let short = plan_cost_limit p (ended_plan g routes) ok (plan_of_least p g.hubs routes e.growth.is_set e.least) in
     let nodes = least_route_nodes p g.hubs (commodities p.size) routes ok.limits e.growth.is_set e.least in
     record {
@@ -85,9 +86,9 @@ ended_in_range p g routes e =
       one_route_each = AllZip-long (IsLeastRoute p g.hubs) (commodities p.size) routes e.least ∙ length_commodities p.size;
       routes = routes_are_nodes p.size (commodities p.size) routes nodes;
       cut_count = e.growth.cut_count;
-      cuts = e.growth.cut_texts;
+      cuts = e.growth.cuts_in_range;
       line_count = omega (arith, length-preorder e.grown.tree, ap (λ (ls : List TreeLine). length ls) e.grown.are, e.growth.line_count);
-      tree = subst (All (IsTreeLineText p.size)) (sym e.grown.are) e.growth.line_texts;
+      tree = subst (All (IsLineInRange p.size)) (sym e.grown.are) e.growth.lines_in_range;
     }
 
 -- the plan's cost as it is passed on
@@ -95,11 +96,11 @@ pub passed_cost : (p : Problem) (g : Growth) (routes : List (ℕ × ℕ)) (z : �
     → z ≡ pos (plan_cost p (record { hubs = g.hubs; routes = routes }))
     → to_z w128 (of_z w128 z) ≡ pos (plan_cost p (record { hubs = g.hubs; routes = routes }))
 passed_cost p g routes z e cost =
-    let short = plan_cost_limit p (ended_plan g routes) e.ok (plan_of_least p g.hubs routes e.growth.is_set e.least) in
+    let short = plan_cost_limit p (ended_plan g routes) e.growth.problem (plan_of_least p g.hubs routes e.growth.is_set e.least) in
     let fits : SFits w128 z = rw cost (small (plan_cost p (ended_plan g routes)) short) in
     to_z-of_z fits ∙ cost
   where
-    small : (n : ℕ) → n ≤ 10 ^ 29 → SFits w128 (pos n)
+    small : (n : ℕ) → n ≤ most_cost → SFits w128 (pos n)
     small n low = search (rules, arith)
 
 -- what was found is that certificate
@@ -139,5 +140,6 @@ pub found_is_optimal : (p : Problem) (g : Growth) (routes : List (ℕ × ℕ)) (
     → IsOptimal p plan
 found_is_optimal p g routes plan e same = subst (IsOptimal p) (sym same) (record {
   is_plan = plan_of_least p g.hubs routes e.growth.is_set e.least;
-  least = no_plan_below_bound p (ended_proof p g routes e.grown.tree) e.ok (ended_holds p g routes e);
+  wanted = tt;
+  least = no_plan_below_bound p (ended_proof p g routes e.grown.tree) e.growth.problem (ended_holds p g routes e);
 })

@@ -1,3 +1,3 @@
 pub mod Growing
-pub mod Held
+pub mod Views
 pub mod Findings

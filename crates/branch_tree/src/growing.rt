@@ -1,36 +1,35 @@
 //! The growth of the tree, a branch at a time.
 
-ghost use Rattle.std.specs.Prelude.{◌≡◌, ◌≤◌, [], length, OnOk};
-ghost use Rattle.branch_tree.specs.Growing.{IsOrderedBranch, IsGrowth, HasCut, HasGrown};
-ghost use Rattle.branch_tree.specs.Held.{growth_of};
+ghost use Rattle.std.specs.Prelude.{◌≡◌, [], OnOk};
+ghost use Rattle.hub_spec.specs.Plans.{IsHubSet};
+ghost use Rattle.hub_spec.specs.Trees.{IsBranch};
+ghost use Rattle.branch_tree.specs.Growing.{IsGrowth, HasCut, HasGrown};
+ghost use Rattle.branch_tree.specs.Views.{growth_of};
 
 use crate::pricing::price;
-use crate::progress::{MOST_CUTS, Progress, add_line, leaf_on};
-use hub_model::{HubSet, Instance, TreeLine};
+use crate::progress::{Progress, add_line, leaf_on};
+use hub_model::{Branch, HubSet, Instance, MOST_CUTS, TreeLine};
 use std::alloc::{AllocError, Global};
 
-/// Grows the tree of the branch with these candidates inside and these free ones, which come after them.
+/// Grows the tree of the branch.
 pub(crate) fn grow(
     alloc: Global,
     instance: &Instance,
-    free: &[u32],
-    inside: &mut Vec<u32>,
+    branch: &Branch,
     progress: &mut Progress,
 ) -> Result<(), AllocError>
-    requires branch { IsOrderedBranch instance.now inside.old.items free.now }
+    requires branch { IsBranch instance.now branch.now }
     requires growth { IsGrowth instance.now (growth_of progress.old) }
-    ensures inside { OnOk result (inside.new.items ≡ inside.old.items) }
-    ensures grown { OnOk result (HasGrown instance.now inside.old.items free.now (growth_of progress.old) (growth_of progress.new)) }
+    ensures { OnOk result (HasGrown instance.now branch.now (growth_of progress.old) (growth_of progress.new)) }
 {
-    instance.limits();
-    match free {
-        [] => end_branch(alloc, instance, inside, progress),
-        [k, rest @ ..] => {
+    match branch.free() {
+        [] => end_branch(alloc, instance, branch, progress),
+        [k, ..] => {
             add_line(progress, TreeLine::BranchOn(*k))?;
-            inside.push(*k)?;
-            grow(alloc, instance, rest, inside, progress)?;
-            inside.pop();
-            grow(alloc, instance, rest, inside, progress)
+            let opened = branch.open_child(alloc, *k)?;
+            grow(alloc, instance, &opened, progress)?;
+            let closed = branch.closed_child(alloc, *k)?;
+            grow(alloc, instance, &closed, progress)
         }
     }
 }
@@ -39,21 +38,23 @@ pub(crate) fn grow(
 fn end_branch(
     alloc: Global,
     instance: &Instance,
-    inside: &[u32],
+    branch: &Branch,
     progress: &mut Progress,
 ) -> Result<(), AllocError>
-    requires branch { IsOrderedBranch instance.now inside.now [] }
+    requires branch { IsBranch instance.now branch.now }
+    requires none_free { branch.now.free ≡ [] }
     requires growth { IsGrowth instance.now (growth_of progress.old) }
-    ensures { OnOk result (HasGrown instance.now inside.now [] (growth_of progress.old) (growth_of progress.new)) }
+    ensures { OnOk result (HasGrown instance.now branch.now (growth_of progress.old) (growth_of progress.new)) }
 {
-    if inside.is_empty() {
+    let hubs = branch.inside();
+    if hubs.is_empty() {
         return add_line(progress, TreeLine::Empty);
     }
-    if inside == instance.candidates() {
+    if hubs == instance.candidates() {
         let leaf = leaf_on(alloc, 1)?;
         return add_line(progress, leaf);
     }
-    add_cut(alloc, instance, inside, progress)?;
+    add_cut(alloc, instance, hubs, progress)?;
     let leaf = leaf_on(alloc, progress.cuts.len())?;
     add_line(progress, leaf)
 }
@@ -63,21 +64,20 @@ fn end_branch(
 fn add_cut(
     alloc: Global,
     instance: &Instance,
-    inside: &[u32],
+    hubs: &[u32],
     progress: &mut Progress,
 ) -> Result<(), AllocError>
-    requires branch { IsOrderedBranch instance.now inside.now [] }
-    requires some_hub { 1 ≤ length inside.now }
+    requires hubs { IsHubSet instance.now hubs.now }
     requires growth { IsGrowth instance.now (growth_of progress.old) }
-    ensures { OnOk result (HasCut instance.now inside.now (growth_of progress.old) (growth_of progress.new)) }
+    ensures { OnOk result (HasCut instance.now hubs.now (growth_of progress.old) (growth_of progress.new)) }
 {
     if progress.cuts.len() >= MOST_CUTS {
         return Err(AllocError);
     }
-    let priced = price(alloc, instance, inside)?;
+    let priced = price(alloc, instance, hubs)?;
     progress.cuts.push(priced.cut)?;
     if priced.cost < progress.cost {
-        progress.hubs = HubSet::of(alloc, inside)?;
+        progress.hubs = HubSet::of(alloc, hubs)?;
         progress.cost = priced.cost;
     }
     Ok(())

@@ -1,12 +1,12 @@
 //! The cut of a hub set, and what the set costs.
 
-ghost use Rattle.std.specs.Prelude.{All, IfOk};
+ghost use Rattle.std.specs.Prelude.{IfOk};
 ghost use Rattle.hub_spec.specs.Plans.{IsHubSet};
-ghost use Rattle.hub_model.specs.Held.{ArePrices};
 ghost use Rattle.branch_tree.specs.Growing.{IsPricedCut};
 
-use dual_cuts::{Cut, cut_of, opening_cost, outside};
-use hub_model::{Dual, HubSet, Instance};
+use dual_cuts::{Cut, cut_of};
+use hub_model::{HubSet, Instance, unsigned};
+use hub_plain::outside;
 use std::alloc::{AllocError, Global};
 
 /// The cut of a hub set, and what the set costs, in 10^-12.
@@ -26,20 +26,9 @@ pub(crate) fn price(
     requires { IsHubSet instance.now hubs.now }
     ensures { IfOk result (λ priced. IsPricedCut instance.now hubs.now priced.cut.cut priced.cost) }
 {
-    instance.limits();
     let set = HubSet::of(alloc, hubs)?;
     let order = outside(alloc, instance, &set)?;
     let cut = cut_of(alloc, instance, set, &order)?;
-    are_prices(cut.rows());
-    let cost = cut.total() as u128 + opening_cost(instance, hubs);
+    let cost = unsigned(cut.total()) + instance.opening_cost(hubs);
     Ok(PricedCut { cut, cost })
-}
-
-/// Tells that each dual lists ascending nodes with values above 0.
-fn are_prices(duals: &[Dual])
-    ensures { All ArePrices duals.now }
-{
-    for dual in duals {
-        dual.limits();
-    }
 }

@@ -1,11 +1,12 @@
 -- The values of a dual, added to loads and taken back entry by entry.
-use Rattle.std.proofs.Common.{◌≡◌, ℕ, ◌+◌, ◌*◌, ◌^◌, ◌<◌, ◌≤◌, List, length, get_or, take, map, set, All, ap, sym, ◌∙◌, ⊎_elim, arith}
+use Rattle.std.proofs.Common.{◌≡◌, ℕ, ◌+◌, ◌<◌, ◌≤◌, List, length, get_or, take, map, set, All, ap, sym, ◌∙◌, ⊎_elim, arith}
 use Rattle.std.specs.List.Sorted.{IsStrictlyIncreasing}
 use Rattle.std.proofs.lemmas.Bool.{cases_eq}
 use Rattle.std.proofs.lemmas.List.{get_or-set_same, get_or-set_other}
 use Rattle.std.proofs.lemmas.List.Elements.{All-get_or}
 use Rattle.hub_spec.specs.Cuts.{value_at}
 use Rattle.hub_spec.proofs.ListedValues.{next_value}
+use Rattle.cert_checker.specs.Duals.{most_sum}
 
 -- without the value of the last entry, those of the entries before it stand
 pub cleared_more : (u : List (ℕ × ℕ)) (values : List ℕ) (e left k : ℕ) → IsStrictlyIncreasing (map (λ (x : ℕ × ℕ). x.0) u) → left ≡ e + 1
@@ -27,10 +28,10 @@ load_before u old loads e k up below node each =
     omega (arith, none, each k)
 
 pub load_limit : (u : List (ℕ × ℕ)) (old loads : List ℕ) (e k : ℕ) → IsStrictlyIncreasing (map (λ (x : ℕ × ℕ). x.0) u) → e < length u
-    → k ≡ (get_or u e (0, 0)).0 → k < length old → All (λ x. x ≤ 40000 * 10 ^ 30) old
-    → ((m : ℕ) → get_or loads m 0 ≡ get_or old m 0 + value_at (take e u) m) → get_or loads k 0 ≤ 40000 * 10 ^ 30
+    → k ≡ (get_or u e (0, 0)).0 → k < length old → All (λ x. x ≤ most_sum) old
+    → ((m : ℕ) → get_or loads m 0 ≡ get_or old m 0 + value_at (take e u) m) → get_or loads k 0 ≤ most_sum
 load_limit u old loads e k up below node within most each =
-    omega (arith, load_before u old loads e k up below node each, All-get_or (λ x. x ≤ 40000 * 10 ^ 30) old k 0 within most)
+    omega (arith, load_before u old loads e k up below node each, All-get_or (λ x. x ≤ most_sum) old k 0 within most)
 
 -- with the value of the next entry added to its node's load
 pub loaded_more : (u : List (ℕ × ℕ)) (old loads : List ℕ) (e k w : ℕ) → IsStrictlyIncreasing (map (λ (x : ℕ × ℕ). x.0) u) → e < length u

@@ -1,11 +1,9 @@
 mod Reductions
 mod Parts
 mod DualValues
-mod Collections
 mod DualEntries
 mod DualSums
 mod TreeWalks
 mod WholeChecks
-mod HeldWeights
 mod CutLists
 mod Shown

@@ -1,7 +1,7 @@
 -- Conditions that are tried one after another.
 use Rattle.std.proofs.Common.{◌≡◌, ℕ, List, [], ◌∷◌, ◌++◌, Bool, true, false, IsTrue, ◌↔◌, inl, inr, refl, sym, subst, ◌∙◌}
-use Rattle.hub_spec.specs.Conditions.{Kind, Claim, AllHold, FailsFirst}
-use Rattle.hub_spec.proofs.Claims.{AllHold-append}
+use Rattle.cert_spec.specs.Conditions.{Kind, Claim, AllHold, FailsFirst}
+use Rattle.cert_spec.proofs.Claims.{AllHold-append}
 use Rattle.cert_checker.specs.declared.kinds.Kind as code
 use Rattle.cert_checker.specs.declared.failures.Failure.{Failure}
 use Rattle.cert_checker.specs.declared.failures.Failure.TheVariants.{Fails, OutOfMemory}

@@ -1,11 +1,9 @@
 -- What the check answers: the kinds of conditions with their names, and the first condition that fails.
-use Rattle.std.specs.Prelude.{◌≡◌, ℕ, ◌+◌, ◌*◌, ◌≤◌, ◌<◌, List, [], ◌∷◌, ◌++◌, length, codes, All, Contains}
-use Rattle.hub_spec.specs.Problem.{Problem, commodities}
-use Rattle.hub_spec.specs.Plans.{plan_cost, NoPlanBelow, IsOptimal}
-use Rattle.hub_spec.specs.Cuts.{Cut, IsWithinSums}
-use Rattle.hub_spec.specs.Trees.{root}
+use Rattle.std.specs.Prelude.{◌≡◌, ℕ, ◌<◌, List, length, codes}
+use Rattle.hub_spec.specs.Problem.{Problem}
+use Rattle.hub_spec.specs.Plans.{NoPlanBelow, IsOptimal}
 use Rattle.hub_spec.specs.Certificates.{Proof, Holds}
-use Rattle.hub_spec.specs.Conditions.{Claim, claim, Kind, Size, BoundOverCost, Hubs, Route, Cost, Dual, Sum, Branch, Empty, CutNumber, Weight, Leaf, AllHold, FailsFirst, route_claims, dual_claims, cut_claims, tree_claims, claims}
+use Rattle.cert_spec.specs.Conditions.{Claim, Kind, Size, BoundOverCost, Hubs, Route, Cost, Dual, Sum, Branch, Empty, CutNumber, Weight, Leaf, AllHold, FailsFirst, hub_claims, claims}
 use Rattle.cert_checker.specs.declared.kinds.Kind as code
 use Rattle.cert_checker.specs.declared.kinds.Verdict as answer
 use Rattle.cert_checker.specs.declared.failures.Failure.{Failure}
@@ -46,32 +44,13 @@ abbrev pub IsFailure : List Claim → Failure → Type 0
 IsFailure cs (Fails kind line) = FailsFirst cs (kind_of kind) line
 IsFailure cs OutOfMemory = Unit {0}
 
--- the conditions that speak of neither plan, cuts nor tree
-abbrev pub head_claims : Problem → Proof → List Claim
-head_claims p k =
-    claim Size 2 ((k.size ≡ p.size) × (k.candidates ≡ length p.candidates)) ∷ claim BoundOverCost 4 (k.bound ≤ k.cost) ∷ []
+-- the numbers of nodes and candidates are the instance's
+abbrev pub IsOfSize : Problem → Proof → Type 0
+IsOfSize p k = (k.size ≡ p.size) × (k.candidates ≡ length p.candidates)
 
--- the conditions of a plan of this stated cost
-abbrev pub plan_claims : Problem → ℕ → List ℕ → List (ℕ × ℕ) → List Claim
-plan_claims p cost hubs routes =
-    claim Hubs 5 (All (Contains p.candidates) hubs)
-    ∷ (route_claims hubs 6 routes
-    ++ claim Cost (5 + p.size * p.size) (cost ≡ plan_cost p (record { hubs = hubs; routes = routes })) ∷ [])
-
--- the conditions of one cut, which stands at this line
-abbrev pub one_cut : Problem → ℕ → Cut → List Claim
-one_cut p line cut =
-    dual_claims p (line + 1) (commodities p.size) cut.duals ++ claim Sum (line + p.size * p.size) (IsWithinSums p cut) ∷ []
-
--- the conditions of a certificate's plan, cuts and tree
-abbrev pub plan_of : Problem → Proof → List Claim
-plan_of p k = plan_claims p k.cost k.plan.hubs k.plan.routes
-
-abbrev pub cuts_of : Problem → Proof → List Claim
-cuts_of p k = cut_claims p (7 + k.size * k.size) k.cuts
-
-abbrev pub tree_of : Problem → Proof → List Claim
-tree_of p k = tree_claims p k.cuts k.bound (8 + k.size * k.size + length k.cuts * (k.size * k.size + 1)) (root p) k.tree
+-- the conditions of a certificate's hubs and routes
+abbrev pub hub_claims_of : Problem → Proof → List Claim
+hub_claims_of p k = hub_claims p k.size k.cost k.plan.hubs k.plan.routes
 
 -- the verdict is right, by the conditions in the order in which they are tried
 abbrev pub IsVerdict : Problem → Proof → answer.Verdict → Type 0

@@ -1,3 +1,5 @@
 pub mod Answers
 pub mod Duals
+pub mod Bounds
 pub mod Walks
+pub mod Shows

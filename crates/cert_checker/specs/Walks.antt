@@ -1,9 +1,12 @@
 -- The conditions of the lines of a tree, one line after another, with the branches that are still to be filled.
-use Rattle.std.specs.Prelude.{ℕ, ◌+◌, ◌≤◌, List, [], ◌∷◌, ◌++◌, length, All, Contains}
+use Rattle.std.specs.Prelude.{◌≡◌, ℕ, ◌+◌, ◌≤◌, List, [], ◌∷◌, ◌++◌, length, reverse, All, Contains}
 use Rattle.hub_spec.specs.Problem.{Problem}
 use Rattle.hub_spec.specs.Cuts.{Cut}
-use Rattle.hub_spec.specs.Trees.{Branching, open_child, closed_child, weight_sum, leaf_bound, Closes, TreeLine, branch_on, leaf_of, no_hub, IsClosed}
-use Rattle.hub_spec.specs.Conditions.{Claim, claim, Branch, CutNumber, Weight, Leaf, Empty}
+use Rattle.hub_spec.specs.Trees.{Branching, root, open_child, closed_child, weight_sum, leaf_bound, Closes, TreeLine, branch_on, leaf_of, no_hub, IsClosed}
+use Rattle.hub_model.specs.Mixtures.{Mixture}
+use Rattle.hub_model.specs.Lines.{tree_line_of}
+use Rattle.hub_model.specs.declared.tree_lines.TreeLine as code
+use Rattle.cert_spec.specs.Conditions.{Claim, claim, Branch, CutNumber, Weight, Leaf, Empty}
 
 -- the conditions of one line of a branch's tree
 abbrev pub line_claims : Problem → List Cut → ℕ → ℕ → Branching → TreeLine → List Claim
@@ -15,11 +18,27 @@ line_claims p cuts target line b (leaf_of denom weights) =
     ∷ []
 line_claims p cuts target line b no_hub = claim Empty line (IsClosed b) ∷ []
 
+-- those of a leaf with this mix
+abbrev pub leaf_claims : Problem → List Cut → ℕ → ℕ → Branching → Mixture → List Claim
+leaf_claims p cuts target line b mix = line_claims p cuts target line b (leaf_of mix.denom mix.weights)
+
+-- those of a line as code has it
+abbrev pub coded_claims : Problem → List Cut → ℕ → ℕ → Branching → code.TreeLine → List Claim
+coded_claims p cuts target line b l = line_claims p cuts target line b (tree_line_of l)
+
 -- the branches to be filled after a line of this one, the next one first
 abbrev pub pending_after : Branching → TreeLine → List Branching → List Branching
 pending_after b (branch_on k) pending = open_child b k ∷ closed_child b k ∷ pending
 pending_after b (leaf_of denom weights) pending = pending
 pending_after b no_hub pending = pending
+
+-- the children of a branch, as they are put on a stack
+abbrev pub children : Branching → ℕ → List Branching
+children b k = closed_child b k ∷ open_child b k ∷ []
+
+-- the stack of the branches to be filled, the next one last, before and after a line of a branch
+abbrev pub IsStackAfter : Branching → code.TreeLine → List Branching → List Branching → Type 0
+IsStackAfter b l before after = reverse after ≡ pending_after b (tree_line_of l) (reverse before)
 
 -- the conditions of the lines, from this line on, where these branches are still to be filled, the next one first
 abbrev pub walk_claims : Problem → List Cut → ℕ → ℕ → List Branching → List TreeLine → List Claim
@@ -27,3 +46,7 @@ walk_claims p cuts target line pending [] = []
 walk_claims p cuts target line [] (l ∷ lines) = []
 walk_claims p cuts target line (b ∷ pending) (l ∷ lines) =
     line_claims p cuts target line b l ++ walk_claims p cuts target (line + 1) (pending_after b l pending) lines
+
+-- those of a whole tree
+abbrev pub root_claims : Problem → List Cut → ℕ → ℕ → List TreeLine → List Claim
+root_claims p cuts target line lines = walk_claims p cuts target line (root p ∷ []) lines

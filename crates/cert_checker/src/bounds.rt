@@ -1,31 +1,33 @@
 //! The bound of a leaf.
 
-ghost use Rattle.std.specs.Prelude.{◌≡◌, ℕ, ◌+◌, ◌-◌, ◌*◌, ◌^◌, ◌≤◌, ◌<◌, pos, ◌-ℤ◌, length, sum_by, All, Contains};
-ghost use Rattle.hub_spec.specs.Problem.{fixed_cost};
+ghost use Rattle.std.specs.Prelude.{◌≡◌, ℕ, ◌-◌, ◌*◌, ◌^◌, ◌≤◌, ◌<◌, pos, ◌-ℤ◌, length, sum_by, All, Contains};
+ghost use Rattle.hub_spec.specs.Limits.{most_nodes, most_cost, most_denominator, most_fixed_cost};
+ghost use Rattle.hub_spec.specs.Problem.{fixed_cost, IsProblem};
 ghost use Rattle.hub_spec.specs.Cuts.{total, load, IsCut};
-ghost use Rattle.hub_spec.specs.Trees.{cut_at, weight_sum, mixed_total, mixed_load, leaf_bound, IsMix, IsBranch};
+ghost use Rattle.hub_spec.specs.Trees.{cut_at, mixed_total, mixed_load, leaf_bound, IsMix, IsBranch};
+ghost use Rattle.cert_checker.specs.Bounds.{AreLoadsWithin, loss};
 
-use crate::branches::Branch;
 use crate::sums::SummedCut;
-use hub_model::Instance;
+use hub_model::{Branch, Instance, Mix};
 
-/// The bound at a leaf with these weights: pairs of a cut's number, counted from 1, and its weight.
+/// The bound at a leaf of the branch with this mix of the cuts.
 pub(crate) fn leaf_bound(
     instance: &Instance,
     cuts: &[SummedCut<'_>],
-    denom: u128,
-    weights: &[(u128, u128)],
     branch: &Branch,
+    mix: &Mix,
 ) -> i128
+    requires problem { IsProblem instance.now }
     requires cuts { All (IsCut instance.now) cuts.now }
-    requires mix { IsMix cuts.now denom weights.now }
     requires branch { IsBranch instance.now branch.now }
-    ensures { result ≡ leaf_bound instance.now cuts.now denom weights.now branch.now }
+    requires mix { IsMix cuts.now mix.now.denom mix.now.weights }
+    ensures { result ≡ leaf_bound instance.now cuts.now mix.now.denom mix.now.weights branch.now }
 {
-    let base = mixed_total(cuts, weights);
-    let costs = weighted_costs(instance, denom, &branch.inside);
-    let loads = mixed_loads(instance, cuts, weights, &branch.inside);
-    let losses = losses(instance, cuts, denom, weights, &branch.free);
+    let base = mixed_total(cuts, mix);
+    let inside = branch.inside();
+    let costs = weighted_costs(instance, mix.denominator(), inside);
+    let loads = mixed_loads(cuts, mix, inside);
+    let losses = losses(instance, cuts, mix, branch.free());
     difference(base + costs, loads + losses)
 }
 
@@ -38,16 +40,16 @@ fn difference(more: u128, less: u128) -> i128
 }
 
 /// The weighted sum of the cuts' totals.
-fn mixed_total(cuts: &[SummedCut<'_>], weights: &[(u128, u128)]) -> u128
-    requires numbers { All (λ e. (1 ≤ e.0) × (e.0 ≤ length cuts.now)) weights.now }
-    requires most { weight_sum weights.now ≤ 10 ^ 6 }
-    requires totals { All (λ c. total c ≤ 10 ^ 29) cuts.now }
-    ensures value { result ≡ mixed_total cuts.now weights.now }
-    ensures limit { result ≤ 10 ^ 35 }
+fn mixed_total(cuts: &[SummedCut<'_>], mix: &Mix) -> u128
+    requires mix { IsMix cuts.now mix.now.denom mix.now.weights }
+    requires totals { All (λ c. total c ≤ most_cost) cuts.now }
+    ensures value { result ≡ mixed_total cuts.now mix.now.weights }
+    ensures limit { result ≤ most_denominator * most_cost }
 {
     let mut sum = 0;
-    for entry in weights {
-        sum += entry.1 * total_at(cuts, entry.0);
+    for at in 0..mix.count() {
+        let (number, weight) = mix.weight(at);
+        sum += weight * total_at(cuts, number);
     }
     sum
 }
@@ -55,24 +57,24 @@ fn mixed_total(cuts: &[SummedCut<'_>], weights: &[(u128, u128)]) -> u128
 fn total_at(cuts: &[SummedCut<'_>], number: u128) -> u128
     requires least { 1 ≤ number }
     requires most { number ≤ length cuts.now }
-    requires totals { All (λ c. total c ≤ 10 ^ 29) cuts.now }
+    requires totals { All (λ c. total c ≤ most_cost) cuts.now }
     ensures value { result ≡ total (cut_at cuts.now number) }
-    ensures limit { result ≤ 10 ^ 29 }
+    ensures limit { result ≤ most_cost }
 {
     cuts[number as usize - 1].total()
 }
 
 /// The weighted sum of the cuts' loads of the node.
-fn mixed_load(cuts: &[SummedCut<'_>], weights: &[(u128, u128)], k: u32) -> u128
-    requires numbers { All (λ e. (1 ≤ e.0) × (e.0 ≤ length cuts.now)) weights.now }
-    requires most { weight_sum weights.now ≤ 10 ^ 6 }
-    requires loads { All (λ c. load c k ≤ 10 ^ 29) cuts.now }
-    ensures value { result ≡ mixed_load cuts.now weights.now k }
-    ensures limit { result ≤ 10 ^ 35 }
+fn mixed_load(cuts: &[SummedCut<'_>], mix: &Mix, k: u32) -> u128
+    requires mix { IsMix cuts.now mix.now.denom mix.now.weights }
+    requires loads { AreLoadsWithin cuts.now k }
+    ensures value { result ≡ mixed_load cuts.now mix.now.weights k }
+    ensures limit { result ≤ most_denominator * most_cost }
 {
     let mut sum = 0;
-    for entry in weights {
-        sum += entry.1 * load_at(cuts, entry.0, k);
+    for at in 0..mix.count() {
+        let (number, weight) = mix.weight(at);
+        sum += weight * load_at(cuts, number, k);
     }
     sum
 }
@@ -80,20 +82,21 @@ fn mixed_load(cuts: &[SummedCut<'_>], weights: &[(u128, u128)], k: u32) -> u128
 fn load_at(cuts: &[SummedCut<'_>], number: u128, k: u32) -> u128
     requires least { 1 ≤ number }
     requires most { number ≤ length cuts.now }
-    requires loads { All (λ c. load c k ≤ 10 ^ 29) cuts.now }
+    requires loads { AreLoadsWithin cuts.now k }
     ensures value { result ≡ load (cut_at cuts.now number) k }
-    ensures limit { result ≤ 10 ^ 29 }
+    ensures limit { result ≤ most_cost }
 {
     cuts[number as usize - 1].load(k)
 }
 
 /// The sum of the fixed costs of these nodes, times the denominator.
 fn weighted_costs(instance: &Instance, denom: u128, nodes: &[u32]) -> u128
-    requires denom { denom ≤ 10 ^ 6 }
-    requires few { length nodes.now ≤ 400 }
+    requires problem { IsProblem instance.now }
+    requires denom { denom ≤ most_denominator }
+    requires few { length nodes.now ≤ most_nodes }
     requires nodes { All (Contains instance.now.candidates) nodes.now }
     ensures value { result ≡ sum_by (λ k. denom * fixed_cost instance.now k) nodes.now }
-    ensures limit { result ≤ 400 * 10 ^ 30 }
+    ensures limit { result ≤ most_nodes * (most_denominator * most_fixed_cost) }
 {
     let mut sum = 0;
     for k in nodes {
@@ -103,57 +106,44 @@ fn weighted_costs(instance: &Instance, denom: u128, nodes: &[u32]) -> u128
 }
 
 fn weighted_cost(instance: &Instance, denom: u128, k: u32) -> u128
-    requires denom { denom ≤ 10 ^ 6 }
+    requires problem { IsProblem instance.now }
+    requires denom { denom ≤ most_denominator }
     requires node { Contains instance.now.candidates k }
     ensures value { result ≡ denom * fixed_cost instance.now k }
-    ensures limit { result ≤ 10 ^ 30 }
+    ensures limit { result ≤ most_denominator * most_fixed_cost }
 {
-    instance.limits();
-    denom * instance.fixed_held(k)
+    denom * instance.fixed_cost(k)
 }
 
 /// The sum of the mixed loads of these nodes.
-fn mixed_loads(
-    instance: &Instance,
-    cuts: &[SummedCut<'_>],
-    weights: &[(u128, u128)],
-    nodes: &[u32],
-) -> u128
-    requires cuts { All (IsCut instance.now) cuts.now }
-    requires numbers { All (λ e. (1 ≤ e.0) × (e.0 ≤ length cuts.now)) weights.now }
-    requires most { weight_sum weights.now ≤ 10 ^ 6 }
-    requires few { length nodes.now ≤ 400 }
-    requires nodes { All (Contains instance.now.candidates) nodes.now }
-    ensures value { result ≡ sum_by (mixed_load cuts.now weights.now) nodes.now }
-    ensures limit { result ≤ 400 * 10 ^ 35 }
+fn mixed_loads(cuts: &[SummedCut<'_>], mix: &Mix, nodes: &[u32]) -> u128
+    requires mix { IsMix cuts.now mix.now.denom mix.now.weights }
+    requires few { length nodes.now ≤ most_nodes }
+    requires loads { All (AreLoadsWithin cuts.now) nodes.now }
+    ensures value { result ≡ sum_by (mixed_load cuts.now mix.now.weights) nodes.now }
+    ensures limit { result ≤ most_nodes * (most_denominator * most_cost) }
 {
     let mut sum = 0;
     for k in nodes {
-        sum += mixed_load(cuts, weights, *k);
+        sum += mixed_load(cuts, mix, *k);
     }
     sum
 }
 
 /// The sum of what the mixed loads of these nodes exceed their weighted fixed costs by.
-fn losses(
-    instance: &Instance,
-    cuts: &[SummedCut<'_>],
-    denom: u128,
-    weights: &[(u128, u128)],
-    nodes: &[u32],
-) -> u128
-    requires cuts { All (IsCut instance.now) cuts.now }
-    requires denom { denom ≤ 10 ^ 6 }
-    requires numbers { All (λ e. (1 ≤ e.0) × (e.0 ≤ length cuts.now)) weights.now }
-    requires most { weight_sum weights.now ≤ 10 ^ 6 }
-    requires few { length nodes.now ≤ 400 }
+fn losses(instance: &Instance, cuts: &[SummedCut<'_>], mix: &Mix, nodes: &[u32]) -> u128
+    requires problem { IsProblem instance.now }
+    requires mix { IsMix cuts.now mix.now.denom mix.now.weights }
+    requires few { length nodes.now ≤ most_nodes }
     requires nodes { All (Contains instance.now.candidates) nodes.now }
-    ensures value { result ≡ sum_by (λ k. mixed_load cuts.now weights.now k - denom * fixed_cost instance.now k) nodes.now }
-    ensures limit { result ≤ 400 * 10 ^ 35 }
+    requires loads { All (AreLoadsWithin cuts.now) nodes.now }
+    ensures value { result ≡ sum_by (loss instance.now cuts.now mix.now) nodes.now }
+    ensures limit { result ≤ most_nodes * (most_denominator * most_cost) }
 {
+    let denom = mix.denominator();
     let mut sum = 0;
     for k in nodes {
-        sum += mixed_load(cuts, weights, *k).saturating_sub(weighted_cost(instance, denom, *k));
+        sum += mixed_load(cuts, mix, *k).saturating_sub(weighted_cost(instance, denom, *k));
     }
     sum
 }

@@ -1,20 +1,20 @@
 //! The conditions of the duals of a cut.
 
 ghost use Rattle.std.specs.Prelude.{◌≡◌, ℕ, ◌+◌, ◌*◌, ◌^◌, ◌<◌, ◌≤◌, ◌↔◌, [], length, slice_index_or, IsTrue, IfErr, OnOk, All, Contains};
-ghost use Rattle.hub_spec.specs.Problem.{flow, distance, commodities};
+ghost use Rattle.hub_spec.specs.Problem.{commodities};
 ghost use Rattle.hub_spec.specs.Cuts.{IsDual};
-ghost use Rattle.hub_spec.specs.Conditions.{AllHold, dual_claims};
-ghost use Rattle.hub_spec.specs.Text.{IsDualText};
+ghost use Rattle.cert_spec.specs.Conditions.{AllHold, dual_claims};
+ghost use Rattle.hub_spec.specs.Ranges.{IsAmount, IsDualInRange};
 ghost use Rattle.cert_checker.specs.Answers.{IsFailure};
-ghost use Rattle.cert_checker.specs.Duals.{AreValues, IsCovered, IsCoveredSingle, IsCoveredByAll};
+ghost use Rattle.cert_checker.specs.Duals.{AreValues, IsCovered, IsCoveredSingle, IsCoveredFrom, IsCoveredByAll};
 
 use crate::failures::Failure;
 use crate::kinds::Kind;
 use crate::nodes::is_among;
-use hub_model::{Dual, Instance, route_cost_held};
+use hub_model::{Dual, Instance};
 
-/// Tries the duals of a cut, one for each commodity; the first dual stands at this line. `values` has a 0 for each node,
-/// and has so again.
+/// Tries the duals of a cut, one for each commodity; the first dual stands at this line. `values` has a 0 for each
+/// node, and has so again.
 pub(crate) fn check_duals(
     instance: &Instance,
     line: u64,
@@ -23,14 +23,13 @@ pub(crate) fn check_duals(
 ) -> Result<(), Failure>
     requires line { line < 2 ^ 60 }
     requires one_for_each { length duals.now ≡ instance.now.size * instance.now.size }
-    requires duals { All (IsDualText instance.now.size) duals.now }
+    requires duals { All (IsDualInRange instance.now.size) duals.now }
     requires values { length values.old ≡ instance.now.size }
     requires cleared { AreValues [] values.old }
     ensures holds { OnOk result (AllHold (dual_claims instance.now line (commodities instance.now.size) duals.now)) }
     ensures fails { IfErr result (IsFailure (dual_claims instance.now line (commodities instance.now.size) duals.now)) }
     ensures cleared { AreValues [] values.new }
 {
-    instance.limits();
     let n = instance.size();
     for t in 0..n * n {
         if !is_dual(instance, t / n, t % n, &duals[t as usize], values) {
@@ -48,7 +47,7 @@ pub(crate) fn check_duals(
 fn is_dual(instance: &Instance, i: u32, j: u32, dual: &Dual, values: &mut [u128]) -> bool
     requires from { i < instance.now.size }
     requires to { j < instance.now.size }
-    requires dual { IsDualText instance.now.size dual.now }
+    requires dual { IsDualInRange instance.now.size dual.now }
     requires values { length values.old ≡ instance.now.size }
     requires cleared { AreValues [] values.old }
     ensures is { IsTrue result ↔ IsDual instance.now (i, j) dual.now }
@@ -58,7 +57,7 @@ fn is_dual(instance: &Instance, i: u32, j: u32, dual: &Dual, values: &mut [u128]
         return false;
     }
     spread(dual, values);
-    let covered = is_covered_by_all(instance, i, j, price(dual), values);
+    let covered = is_covered_by_all(instance, i, j, dual.price(), values);
     clear(dual, values);
     covered
 }
@@ -68,7 +67,7 @@ fn is_covered_by_all(instance: &Instance, i: u32, j: u32, a: u128, values: &[u12
     requires from { i < instance.now.size }
     requires to { j < instance.now.size }
     requires long { length values.now ≡ instance.now.size }
-    requires short { All (λ v. v < 10 ^ 30) values.now }
+    requires short { All IsAmount values.now }
     ensures { IsTrue result ↔ IsCoveredByAll instance.now (i, j) a values.now }
 {
     is_covered_by_singles(instance, i, j, a, values)
@@ -78,8 +77,8 @@ fn is_covered_by_all(instance: &Instance, i: u32, j: u32, a: u128, values: &[u12
 fn lists_candidates(instance: &Instance, dual: &Dual) -> bool
     ensures { IsTrue result ↔ All (λ e. Contains instance.now.candidates e.0) dual.now.u }
 {
-    for i in 0..count(dual) {
-        if !is_candidate(instance, listed(dual, i).0) {
+    for i in 0..dual.count() {
+        if !is_candidate(instance, dual.value(i).0) {
             return false;
         }
     }
@@ -96,10 +95,9 @@ fn is_covered_by_singles(instance: &Instance, i: u32, j: u32, a: u128, values: &
     requires from { i < instance.now.size }
     requires to { j < instance.now.size }
     requires long { length values.now ≡ instance.now.size }
-    requires short { All (λ v. v < 10 ^ 30) values.now }
+    requires short { All IsAmount values.now }
     ensures { IsTrue result ↔ All (IsCoveredSingle instance.now (i, j) a values.now) instance.now.candidates }
 {
-    instance.limits();
     let candidates = instance.candidates();
     for k in candidates {
         if !is_covered_by(instance, i, j, a, values, *k) {
@@ -113,21 +111,20 @@ fn is_covered_by(instance: &Instance, i: u32, j: u32, a: u128, values: &[u128], 
     requires from { i < instance.now.size }
     requires to { j < instance.now.size }
     requires long { length values.now ≡ instance.now.size }
-    requires short { All (λ v. v < 10 ^ 30) values.now }
+    requires short { All IsAmount values.now }
     requires hub { k < instance.now.size }
     ensures { IsTrue result ↔ IsCoveredSingle instance.now (i, j) a values.now k }
 {
-    a <= route_cost_held(instance, i, j, k, k) + values[k as usize]
+    a <= instance.cost_of_route(i, j, k, k) + values[k as usize]
 }
 
 fn is_covered_by_pairs(instance: &Instance, i: u32, j: u32, a: u128, values: &[u128]) -> bool
     requires from { i < instance.now.size }
     requires to { j < instance.now.size }
     requires long { length values.now ≡ instance.now.size }
-    requires short { All (λ v. v < 10 ^ 30) values.now }
-    ensures { IsTrue result ↔ All (λ k. All (IsCovered instance.now (i, j) a values.now k) instance.now.candidates) instance.now.candidates }
+    requires short { All IsAmount values.now }
+    ensures { IsTrue result ↔ All (IsCoveredFrom instance.now (i, j) a values.now) instance.now.candidates }
 {
-    instance.limits();
     let candidates = instance.candidates();
     for k in candidates {
         if !is_covered_from(instance, i, j, a, values, *k) {
@@ -143,12 +140,11 @@ fn is_covered_from(instance: &Instance, i: u32, j: u32, a: u128, values: &[u128]
     requires from { i < instance.now.size }
     requires to { j < instance.now.size }
     requires long { length values.now ≡ instance.now.size }
-    requires short { All (λ v. v < 10 ^ 30) values.now }
+    requires short { All IsAmount values.now }
     requires hub { k < instance.now.size }
-    ensures { IsTrue result ↔ All (IsCovered instance.now (i, j) a values.now k) instance.now.candidates }
+    ensures { IsTrue result ↔ IsCoveredFrom instance.now (i, j) a values.now k }
 {
-    instance.limits();
-    if a <= collection_cost(instance, i, j, k) + values[k as usize] {
+    if a <= instance.collection_cost(i, j, k) + values[k as usize] {
         return true;
     }
     let candidates = instance.candidates();
@@ -160,25 +156,11 @@ fn is_covered_from(instance: &Instance, i: u32, j: u32, a: u128, values: &[u128]
     true
 }
 
-/// The cost of collection alone on the routes of the commodity by way of `k` first.
-#[tactic(auto, using(crate::proofs::Collections::unit_limit, crate::proofs::Collections::collection_limit))]
-fn collection_cost(instance: &Instance, i: u32, j: u32, k: u32) -> u128
-    requires from { i < instance.now.size }
-    requires to { j < instance.now.size }
-    requires hub { k < instance.now.size }
-    ensures value { result ≡ flow instance.now i j * (instance.now.collect * distance instance.now i k) }
-    ensures limit { result ≤ 10 ^ 29 }
-{
-    instance.limits();
-    let factor = instance.factors().collect as u128;
-    instance.flow(i, j) as u128 * (factor * instance.dist(i, k) as u128)
-}
-
 fn is_covered(instance: &Instance, i: u32, j: u32, a: u128, values: &[u128], k: u32, m: u32) -> bool
     requires from { i < instance.now.size }
     requires to { j < instance.now.size }
     requires long { length values.now ≡ instance.now.size }
-    requires short { All (λ v. v < 10 ^ 30) values.now }
+    requires short { All IsAmount values.now }
     requires first { k < instance.now.size }
     requires last { m < instance.now.size }
     ensures { IsTrue result ↔ IsCovered instance.now (i, j) a values.now k m }
@@ -186,56 +168,33 @@ fn is_covered(instance: &Instance, i: u32, j: u32, a: u128, values: &[u128], k: 
     if k == m {
         return true;
     }
-    a <= route_cost_held(instance, i, j, k, m) + values[k as usize] + values[m as usize]
+    a <= instance.cost_of_route(i, j, k, m) + values[k as usize] + values[m as usize]
 }
 
 /// Puts the values that the dual lists at their nodes.
 fn spread(dual: &Dual, values: &mut [u128])
-    requires dual { IsDualText (length values.old) dual.now }
+    requires dual { IsDualInRange (length values.old) dual.now }
     requires cleared { AreValues [] values.old }
     ensures values { AreValues dual.now.u values.new }
-    ensures short { All (λ v. v < 10 ^ 30) values.new }
+    ensures short { All IsAmount values.new }
 {
-    let mut left = count(dual);
+    let mut left = dual.count();
     while left > 0 {
         left -= 1;
-        let (k, value) = listed(dual, left);
+        let (k, value) = dual.value(left);
         values[k as usize] = value;
     }
 }
 
 /// Takes the values that the dual lists back.
 fn clear(dual: &Dual, values: &mut [u128])
-    requires dual { IsDualText (length values.old) dual.now }
+    requires dual { IsDualInRange (length values.old) dual.now }
     requires values { AreValues dual.now.u values.old }
     ensures { AreValues [] values.new }
 {
-    let mut left = count(dual);
+    let mut left = dual.count();
     while left > 0 {
         left -= 1;
-        values[listed(dual, left).0 as usize] = 0;
+        values[dual.value(left).0 as usize] = 0;
     }
-}
-
-pub(crate) fn price(dual: &Dual) -> u128
-    ensures { result ≡ dual.now.a }
-{
-    dual.a() as u128
-}
-
-/// How many values the dual lists.
-pub(crate) fn count(dual: &Dual) -> usize
-    ensures { result ≡ length dual.now.u }
-{
-    dual.u().len()
-}
-
-/// The listed node and value of this place.
-pub(crate) fn listed(dual: &Dual, i: usize) -> (u32, u128)
-    requires { i < length dual.now.u }
-    ensures node { result.0 ≡ (slice_index_or dual.now.u i (0, 0)).0 }
-    ensures value { result.1 ≡ (slice_index_or dual.now.u i (0, 0)).1 }
-{
-    let (k, value) = dual.u()[i];
-    (k, value as u128)
 }

@@ -2,6 +2,7 @@
 //!
 //! `check` tries the conditions on a certificate in the order in which they are defined, and answers that the plan is
 //! optimal, that it stands with a lower bound, or the first condition that fails, with its line in the text.
+//! `check_text` reads bytes as a certificate and checks it: its verdict is the one that the definitions give the bytes.
 #![tactic(auto)]
 
 // What is answered.
@@ -19,14 +20,16 @@ mod sums;
 
 // The tree.
 mod bounds;
-mod branches;
 mod leaves;
 mod walks;
 
 // All of it.
 mod checks;
+mod lines;
 #[cfg(test)]
 mod tests;
+mod texts;
 
 pub use checks::check;
 pub use kinds::{Kind, Verdict};
+pub use texts::{Ending, check_text};

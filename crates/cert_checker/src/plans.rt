@@ -3,15 +3,17 @@
 ghost use Rattle.std.specs.Prelude.{◌≡◌, ℕ, ◌+◌, ◌*◌, ◌^◌, ◌<◌, ◌≤◌, ◌↔◌, length, IsTrue, IfErr, OnOk, All, Contains};
 ghost use Rattle.std.specs.List.{AllZip};
 ghost use Rattle.std.specs.List.Sorted.{IsStrictlyIncreasing};
-ghost use Rattle.hub_spec.specs.Problem.{commodities, opening_cost};
-ghost use Rattle.hub_spec.specs.Plans.{IsHubSet, IsRoute, routing_cost};
-ghost use Rattle.hub_spec.specs.Conditions.{AllHold, route_claims};
-ghost use Rattle.cert_checker.specs.Answers.{IsFailure, plan_claims};
+ghost use Rattle.hub_spec.specs.Limits.{most_cost};
+ghost use Rattle.hub_spec.specs.Problem.{commodities};
+ghost use Rattle.hub_spec.specs.Plans.{IsHubSet, IsRoute, plan_cost};
+ghost use Rattle.cert_spec.specs.Conditions.{AllHold, route_claims, hub_claims};
+ghost use Rattle.cert_checker.specs.Answers.{IsFailure};
 
 use crate::failures::Failure;
 use crate::kinds::Kind;
+use crate::lines::{FIRST_ROUTE_LINE, HUBS_LINE, last_route_line};
 use crate::nodes::{are_among, is_among};
-use hub_model::{Instance, route_cost_held};
+use hub_model::Instance;
 
 /// Tries the conditions of a plan of this stated cost.
 pub(crate) fn check_plan(
@@ -23,22 +25,21 @@ pub(crate) fn check_plan(
     requires some_hub { 1 ≤ length hubs.now }
     requires ascend { IsStrictlyIncreasing hubs.now }
     requires one_route_each { length routes.now ≡ instance.now.size * instance.now.size }
-    ensures holds { OnOk result (AllHold (plan_claims instance.now cost hubs.now routes.now)) }
-    ensures fails { IfErr result (IsFailure (plan_claims instance.now cost hubs.now routes.now)) }
+    ensures holds { OnOk result (AllHold (hub_claims instance.now instance.now.size cost hubs.now routes.now)) }
+    ensures fails { IfErr result (IsFailure (hub_claims instance.now instance.now.size cost hubs.now routes.now)) }
 {
-    instance.limits();
-    let n = instance.size() as u64;
+    let n = instance.size();
     if !are_candidates(instance, hubs) {
         return Err(Failure::Fails {
             kind: Kind::Hubs,
-            line: 5,
+            line: HUBS_LINE,
         });
     }
-    check_routes(hubs, 6, routes)?;
+    check_routes(hubs, FIRST_ROUTE_LINE, routes)?;
     if cost != cost_of(instance, hubs, routes) {
         return Err(Failure::Fails {
             kind: Kind::Cost,
-            line: 5 + n * n,
+            line: last_route_line(n),
         });
     }
     Ok(())
@@ -78,31 +79,16 @@ fn goes_through(hubs: &[u32], first: u32, last: u32) -> bool
 fn cost_of(instance: &Instance, hubs: &[u32], routes: &[(u32, u32)]) -> u128
     requires hubs { IsHubSet instance.now hubs.now }
     requires routes { AllZip (IsRoute instance.now hubs.now) (commodities instance.now.size) routes.now }
-    ensures value { result ≡ opening_cost instance.now hubs.now + routing_cost instance.now (commodities instance.now.size) routes.now }
-    ensures limit { result ≤ 10 ^ 29 }
+    ensures value { result ≡ plan_cost instance.now (record { hubs = hubs.now; routes = routes.now }) }
+    ensures limit { result ≤ most_cost }
 {
-    instance.limits();
     let n = instance.size();
-    let mut total = opening(instance, hubs);
+    let mut total = instance.opening_cost(hubs);
     for i in 0..n {
         for j in 0..n {
             let (first, last) = routes[i as usize * n as usize + j as usize];
-            total += route_cost_held(instance, i, j, first, last);
+            total += instance.cost_of_route(i, j, first, last);
         }
-    }
-    total
-}
-
-/// The sum of the fixed costs of these hubs.
-fn opening(instance: &Instance, hubs: &[u32]) -> u128
-    requires { IsHubSet instance.now hubs.now }
-    ensures value { result ≡ opening_cost instance.now hubs.now }
-    ensures limit { result ≤ 2 * 10 ^ 26 }
-{
-    instance.limits();
-    let mut total = 0;
-    for k in hubs {
-        total += instance.fixed_held(*k);
     }
     total
 }

@@ -1,10 +1,10 @@
 //! Cuts with their sums.
 
-ghost use Rattle.std.specs.Prelude.{◌≡◌, ℕ, ◌+◌, ◌*◌, ◌^◌, ◌<◌, ◌≤◌, length, slice_index, sum_by, IfOk, All};
-ghost use Rattle.hub_spec.specs.Cuts.{value_at, total, load};
-ghost use Rattle.hub_spec.specs.Text.{IsDualText};
+ghost use Rattle.std.specs.Prelude.{◌≡◌, ℕ, ◌+◌, ◌≤◌, length, slice_index, sum_by, IfOk, All};
+ghost use Rattle.hub_spec.specs.Cuts.{cut_by, value_at, total, load};
+ghost use Rattle.hub_spec.specs.Ranges.{IsAmount, IsDualInRange};
+ghost use Rattle.cert_checker.specs.Duals.{most_duals, most_sum};
 
-use crate::duals::{count, listed, price};
 use hub_model::Dual;
 use std::alloc::{AllocError, Global};
 use std::marker::Model;
@@ -18,22 +18,22 @@ pub(crate) struct SummedCut<'a> {
 }
 
 impl<'a> Model for SummedCut<'a> {
-    ghost use Rattle.hub_spec.specs.Cuts.{Cut};
+    ghost use Rattle.hub_spec.specs.Cuts.{Cut, cut_by};
     ghost use Rattle.cert_checker.specs.Duals.{IsSummed};
 
     ghost Value = { Cut };
 
-    ghost view = { λ c. record { duals = c.duals.now } };
+    ghost view = { λ c. cut_by c.duals.now };
 
-    ghost invariant = { λ c. IsSummed (record { duals = c.duals.now }) c.total c.loads.items };
+    ghost invariant = { λ c. IsSummed (cut_by c.duals.now) c.total c.loads.items };
 }
 
 impl<'a> SummedCut<'a> {
     /// The cut of these duals of an instance of `n` nodes.
     pub(crate) fn of(alloc: Global, n: u32, duals: &'a [Dual]) -> Result<SummedCut<'a>, AllocError>
-        requires few { length duals.now ≤ 40000 }
-        requires duals { All (IsDualText n) duals.now }
-        ensures { IfOk result (λ cut. cut ≡ record { duals = duals.now }) }
+        requires few { length duals.now ≤ most_duals }
+        requires duals { All (IsDualInRange n) duals.now }
+        ensures { IfOk result (λ cut. cut ≡ cut_by duals.now) }
     {
         let total = total_of(duals);
         let loads = loads_of(alloc, n, duals)?;
@@ -63,22 +63,22 @@ impl<'a> SummedCut<'a> {
 }
 
 fn total_of(duals: &[Dual]) -> u128
-    requires few { length duals.now ≤ 40000 }
-    requires short { All (λ d. d.a < 10 ^ 30) duals.now }
+    requires few { length duals.now ≤ most_duals }
+    requires short { All (λ d. IsAmount d.a) duals.now }
     ensures { result ≡ sum_by (λ d. d.a) duals.now }
 {
     let mut sum = 0;
     for dual in duals {
-        sum += price(dual);
+        sum += dual.price();
     }
     sum
 }
 
 /// The sums of the duals' values, by node.
 fn loads_of(alloc: Global, n: u32, duals: &[Dual]) -> Result<Vec<u128>, AllocError>
-    requires few { length duals.now ≤ 40000 }
-    requires duals { All (IsDualText n) duals.now }
-    ensures { IfOk result (λ loads. (k : ℕ) → slice_index loads.items k ≡ sum_by (λ d. value_at d.u k) duals.now) }
+    requires few { length duals.now ≤ most_duals }
+    requires duals { All (IsDualInRange n) duals.now }
+    ensures { IfOk result (λ loads. (k : ℕ) → slice_index loads.items k ≡ load (cut_by duals.now) k) }
 {
     let mut loads = vec![in alloc; 0; n as usize]?;
     for dual in duals {
@@ -89,12 +89,12 @@ fn loads_of(alloc: Global, n: u32, duals: &[Dual]) -> Result<Vec<u128>, AllocErr
 
 /// Adds the values that the dual lists to the loads of their nodes.
 fn add(loads: &mut [u128], dual: &Dual)
-    requires dual { IsDualText (length loads.old) dual.now }
-    requires most { All (λ x. x ≤ 40000 * 10 ^ 30) loads.old }
+    requires dual { IsDualInRange (length loads.old) dual.now }
+    requires most { All (λ x. x ≤ most_sum) loads.old }
     ensures { (k : ℕ) → slice_index loads.new k ≡ slice_index loads.old k + value_at dual.now.u k }
 {
-    for e in 0..count(dual) {
-        let (k, value) = listed(dual, e);
+    for e in 0..dual.count() {
+        let (k, value) = dual.value(e);
         loads[k as usize] += value;
     }
 }

@@ -1,21 +1,21 @@
 //! The conditions of the lines of a tree.
 
 ghost use Rattle.std.specs.Prelude.{◌≡◌, ℕ, ◌+◌, ◌^◌, ◌<◌, [], ◌∷◌, ◌++◌, length, map, reverse, IfOk, IfErr, OnOk, All, Contains};
+ghost use Rattle.hub_spec.specs.Problem.{IsProblem};
 ghost use Rattle.hub_spec.specs.Cuts.{IsCut};
 ghost use Rattle.hub_spec.specs.Trees.{root, open_child, closed_child, IsClosed, IsBranch};
-ghost use Rattle.hub_spec.specs.Conditions.{claim, Branch as of_branch, Empty, AllHold};
-ghost use Rattle.hub_spec.specs.Text.{IsTreeLineText};
+ghost use Rattle.cert_spec.specs.Conditions.{claim, Branch as of_branch, Empty, AllHold};
+ghost use Rattle.hub_spec.specs.Ranges.{IsShort, IsLineInRange};
 ghost use Rattle.hub_model.specs.Lines.{tree_line_of};
 ghost use Rattle.cert_checker.specs.Answers.{IsFailure};
-ghost use Rattle.cert_checker.specs.Walks.{line_claims, pending_after, walk_claims};
+ghost use Rattle.cert_checker.specs.Walks.{coded_claims, children, IsStackAfter, root_claims};
 
-use crate::branches::{Branch, closed_child, open_child, root};
 use crate::failures::Failure;
 use crate::kinds::Kind;
 use crate::leaves::check_leaf;
 use crate::nodes::is_among;
 use crate::sums::SummedCut;
-use hub_model::{Instance, TreeLine};
+use hub_model::{Branch, Instance, TreeLine};
 use std::alloc::{AllocError, Global};
 
 /// Tries the conditions of the lines of a tree, the first of which stands at this line. The branches that are still to
@@ -28,12 +28,13 @@ pub(crate) fn check_tree(
     line: u64,
     lines: &[TreeLine],
 ) -> Result<(), Failure>
+    requires problem { IsProblem instance.now }
     requires cuts { All (IsCut instance.now) cuts.now }
-    requires target { target < 10 ^ 30 }
+    requires target { IsShort target }
     requires room { line + length lines.now < 2 ^ 60 }
-    requires lines { All (λ l. IsTreeLineText instance.now.size (tree_line_of l)) lines.now }
-    ensures holds { OnOk result (AllHold (walk_claims instance.now cuts.now target line (root instance.now ∷ []) (map tree_line_of lines.now))) }
-    ensures fails { IfErr result (IsFailure (walk_claims instance.now cuts.now target line (root instance.now ∷ []) (map tree_line_of lines.now))) }
+    requires lines { All (λ l. IsLineInRange instance.now.size (tree_line_of l)) lines.now }
+    ensures holds { OnOk result (AllHold (root_claims instance.now cuts.now target line (map tree_line_of lines.now))) }
+    ensures fails { IfErr result (IsFailure (root_claims instance.now cuts.now target line (map tree_line_of lines.now))) }
 {
     let mut pending = root_alone(alloc, instance)?;
     for i in 0..lines.len() {
@@ -55,11 +56,10 @@ pub(crate) fn check_tree(
 }
 
 fn root_alone(alloc: Global, instance: &Instance) -> Result<Vec<Branch>, AllocError>
-    ensures root { IfOk result (λ pending. pending.items ≡ root instance.now ∷ []) }
-    ensures branches { IfOk result (λ pending. All (IsBranch instance.now) pending.items) }
+    ensures { IfOk result (λ pending. pending.items ≡ root instance.now ∷ []) }
 {
     let mut pending = Vec::new(alloc);
-    pending.push(root(alloc, instance)?)?;
+    pending.push(Branch::root(alloc, instance)?)?;
     Ok(pending)
 }
 
@@ -74,23 +74,24 @@ fn check_line(
     tree_line: &TreeLine,
     pending: &mut Vec<Branch>,
 ) -> Result<(), Failure>
+    requires problem { IsProblem instance.now }
     requires cuts { All (IsCut instance.now) cuts.now }
-    requires target { target < 10 ^ 30 }
+    requires target { IsShort target }
     requires branch { IsBranch instance.now branch.now }
-    requires text { IsTreeLineText instance.now.size (tree_line_of tree_line.now) }
+    requires text { IsLineInRange instance.now.size (tree_line_of tree_line.now) }
     requires branches { All (IsBranch instance.now) pending.old.items }
-    ensures holds { OnOk result (AllHold (line_claims instance.now cuts.now target line branch.now (tree_line_of tree_line.now))) }
-    ensures fails { IfErr result (IsFailure (line_claims instance.now cuts.now target line branch.now (tree_line_of tree_line.now))) }
-    ensures pending { OnOk result (reverse pending.new.items ≡ pending_after branch.now (tree_line_of tree_line.now) (reverse pending.old.items)) }
+    ensures holds { OnOk result (AllHold (coded_claims instance.now cuts.now target line branch.now tree_line.now)) }
+    ensures fails { IfErr result (IsFailure (coded_claims instance.now cuts.now target line branch.now tree_line.now)) }
+    ensures pending { OnOk result (IsStackAfter branch.now tree_line.now pending.old.items pending.new.items) }
     ensures branches { OnOk result (All (IsBranch instance.now) pending.new.items) }
 {
     match tree_line {
         TreeLine::BranchOn(k) => {
             check_branch(line, branch, *k)?;
-            put_children(alloc, instance, branch, *k, pending)?;
+            put_children(alloc, branch, *k, pending)?;
             Ok(())
         }
-        TreeLine::Leaf(mix) => check_leaf(alloc, instance, cuts, target, line, branch, mix),
+        TreeLine::Leaf(mix) => check_leaf(instance, cuts, target, line, branch, mix),
         TreeLine::Empty => check_empty(line, branch),
     }
 }
@@ -99,7 +100,7 @@ fn check_branch(line: u64, branch: &Branch, k: u32) -> Result<(), Failure>
     ensures holds { OnOk result (Contains branch.now.free k) }
     ensures fails { IfErr result (IsFailure (claim of_branch line (Contains branch.now.free k) ∷ [])) }
 {
-    if !is_among(&branch.free, k) {
+    if !is_among(branch.free(), k) {
         return Err(Failure::Fails {
             kind: Kind::Branch,
             line,
@@ -112,7 +113,7 @@ fn check_empty(line: u64, branch: &Branch) -> Result<(), Failure>
     ensures holds { OnOk result (IsClosed branch.now) }
     ensures fails { IfErr result (IsFailure (claim Empty line (IsClosed branch.now) ∷ [])) }
 {
-    if !branch.inside.is_empty() || !branch.free.is_empty() {
+    if !branch.inside().is_empty() || !branch.free().is_empty() {
         return Err(Failure::Fails {
             kind: Kind::Empty,
             line,
@@ -124,19 +125,15 @@ fn check_empty(line: u64, branch: &Branch) -> Result<(), Failure>
 /// Puts the children of the branch on the branches to be filled, the open child to be the next.
 fn put_children(
     alloc: Global,
-    instance: &Instance,
     branch: &Branch,
     k: u32,
     pending: &mut Vec<Branch>,
 ) -> Result<(), AllocError>
-    requires branch { IsBranch instance.now branch.now }
-    requires free { Contains branch.now.free k }
-    requires branches { All (IsBranch instance.now) pending.old.items }
-    ensures pending { OnOk result (reverse pending.new.items ≡ open_child branch.now k ∷ closed_child branch.now k ∷ reverse pending.old.items) }
-    ensures branches { OnOk result (All (IsBranch instance.now) pending.new.items) }
+    requires { Contains branch.now.free k }
+    ensures { OnOk result (pending.new.items ≡ pending.old.items ++ children branch.now k) }
 {
-    let closed = closed_child(alloc, instance, branch, k)?;
-    let opened = open_child(alloc, instance, branch, k)?;
+    let closed = branch.closed_child(alloc, k)?;
+    let opened = branch.open_child(alloc, k)?;
     pending.push(closed)?;
     pending.push(opened)?;
     Ok(())

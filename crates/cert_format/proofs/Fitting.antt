@@ -4,7 +4,7 @@ use Rattle.std.specs.List.{AllByRecursion}
 use Rattle.std.specs.List.Sorted.{IsStrictlyIncreasing}
 use Rattle.std.proofs.lemmas.Bool.{and_from, and_parts, cases_Bool, ltb-true, lt-ltb, leb-true, le-leb}
 use Rattle.std.proofs.lemmas.List.{take_all}
-use Rattle.hub_spec.specs.Lines.{value_numbers, weight_numbers}
+use Rattle.cert_spec.specs.Lines.{value_numbers, weight_numbers}
 use Rattle.hub_spec.proofs.Sets.{ascend_tail, ascend_head}
 use Rattle.cert_format.specs.Fits.{nodes_fit, pairs_fit}
 

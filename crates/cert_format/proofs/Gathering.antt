@@ -1,15 +1,14 @@
 -- Nodes, values of nodes and weights of cuts, gathered from the numbers of a line.
-use Rattle.std.proofs.Common.{◌≡◌, ℕ, zero, suc, ◌+◌, ◌-◌, ◌<◌, ◌≤◌, ℤ, to_z, true, ◌&&◌, List, [], ◌∷◌, ◌++◌, length, get_or, take, drop, map, All, nat_lt, nat_le, refl, sym, ap, ap₂, ◌∙◌, subst, arith, append_assoc, append-nil}
-use Rattle.std.specs.Int.{w128}
+use Rattle.std.proofs.Common.{◌≡◌, ℕ, zero, suc, ◌+◌, ◌-◌, ◌<◌, ◌≤◌, ℤ, true, ◌&&◌, List, [], ◌∷◌, ◌++◌, length, get_or, take, drop, map, All, nat_lt, nat_le, refl, sym, ap, ap₂, ◌∙◌, subst, arith, append_assoc, append-nil}
 use Rattle.std.specs.List.{AllByRecursion}
 use Rattle.std.proofs.lemmas.Bool.{and_parts, ltb-true, leb-true, false≢true}
-use Rattle.std.proofs.lemmas.Int.{to_z_pos}
 use Rattle.std.proofs.lemmas.List.{take_all, take_more, map_push}
-use Rattle.std.proofs.lemmas.List.Elements.{All-get_or, All-from_recursion, recursion_from_All}
-use Rattle.hub_spec.specs.Lines.{value_numbers, weight_numbers}
-use Rattle.hub_spec.specs.Text.{IsShort}
-use Rattle.hub_model.specs.Naturals.{natural}
-use Rattle.hub_model.specs.Held.{natural_values, natural_weights}
+use Rattle.std.proofs.lemmas.List.Elements.{All-from_recursion, recursion_from_All}
+use Rattle.cert_spec.specs.Lines.{value_numbers, weight_numbers}
+use Rattle.hub_spec.specs.Ranges.{IsShort}
+use Rattle.hub_model.specs.Amounts.{natural}
+use Rattle.hub_model.specs.Prices.{natural_values}
+use Rattle.hub_model.specs.Mixtures.{natural_weights}
 use Rattle.cert_format.specs.Fits.{nodes_fit, pairs_fit}
 
 -- the numbers behind the first two
@@ -55,35 +54,22 @@ short_behind (x ∷ y ∷ ns) l h = (h.1.0, subst (AllByRecursion IsShort) (sym 
 pub all_short_behind : (ns : List ℕ) → 2 ≤ length ns → All IsShort ns → All IsShort (behind_two ns)
 all_short_behind ns l h = All-from_recursion IsShort (behind_two ns) (short_behind ns l (recursion_from_All IsShort ns h)).1
 
--- a number that is held with a sign
-pub natural_held : (ns : List ℕ) (i : ℕ) → i < length ns → All IsShort ns → natural (to_z w128 (get_or ns i 0)) ≡ get_or ns i 0
-natural_held ns i l h = ap natural (to_z_pos w128 (get_or ns i 0) (omega (arith, All-get_or IsShort ns i 0 l h)))
+-- one more pair, where the texts of the pairs so far stand before it
+pub pairs_more : (front rest : List ℕ) {more ns : List ℕ} {a b : ℕ} → 2 ≤ length rest → front ++ rest ≡ ns → more ≡ front ++ (a ∷ b ∷ []) → a ≡ get_or rest 0 0 → b ≡ get_or rest 1 0
+    → more ++ behind_two rest ≡ ns
+pairs_more front rest {a = a} {b = b} l e m first second =
+    ap (λ bs. bs ++ behind_two rest) m
+    ∙ append_assoc front (a ∷ b ∷ []) (behind_two rest)
+    ∙ ap₂ (λ x y. front ++ (x ∷ y ∷ behind_two rest)) first second
+    ∙ ap (λ r. front ++ r) (sym (two_and_behind rest l)) ∙ e
 
--- one more value
-values_push : (u : List (ℕ × ℤ)) (k : ℕ) (v : ℤ) → value_numbers (natural_values (u ++ (k, v) ∷ [])) ≡ value_numbers (natural_values u) ++ ((k + 1) ∷ natural v ∷ [])
+pub values_push : (u : List (ℕ × ℤ)) (k : ℕ) (v : ℤ) → value_numbers (natural_values (u ++ (k, v) ∷ [])) ≡ value_numbers (natural_values u) ++ ((k + 1) ∷ natural v ∷ [])
 values_push [] k v = refl
 values_push (e ∷ u) k v = ap (λ ns. (e.0 + 1) ∷ natural e.1 ∷ ns) (values_push u k v)
 
-pub values_more : (u : List (ℕ × ℤ)) (ns rest : List ℕ) (k : ℕ) (v : ℤ) → 2 ≤ length rest → value_numbers (natural_values u) ++ rest ≡ ns
-    → k + 1 ≡ get_or rest 0 0 → natural v ≡ get_or rest 1 0 → value_numbers (natural_values (u ++ (k, v) ∷ [])) ++ behind_two rest ≡ ns
-values_more u ns rest k v l e a b =
-    ap (λ front. front ++ behind_two rest) (values_push u k v)
-    ∙ append_assoc (value_numbers (natural_values u)) ((k + 1) ∷ natural v ∷ []) (behind_two rest)
-    ∙ ap₂ (λ x y. value_numbers (natural_values u) ++ (x ∷ y ∷ behind_two rest)) a b
-    ∙ ap (λ r. value_numbers (natural_values u) ++ r) (sym (two_and_behind rest l)) ∙ e
-
--- one more weight
-weights_push : (w : List (ℤ × ℤ)) (c v : ℤ) → weight_numbers (natural_weights (w ++ (c, v) ∷ [])) ≡ weight_numbers (natural_weights w) ++ (natural c ∷ natural v ∷ [])
+pub weights_push : (w : List (ℤ × ℤ)) (c v : ℤ) → weight_numbers (natural_weights (w ++ (c, v) ∷ [])) ≡ weight_numbers (natural_weights w) ++ (natural c ∷ natural v ∷ [])
 weights_push [] c v = refl
 weights_push (e ∷ w) c v = ap (λ ns. natural e.0 ∷ natural e.1 ∷ ns) (weights_push w c v)
-
-pub weights_more : (w : List (ℤ × ℤ)) (ns rest : List ℕ) (c v : ℤ) → 2 ≤ length rest → weight_numbers (natural_weights w) ++ rest ≡ ns
-    → natural c ≡ get_or rest 0 0 → natural v ≡ get_or rest 1 0 → weight_numbers (natural_weights (w ++ (c, v) ∷ [])) ++ behind_two rest ≡ ns
-weights_more w ns rest c v l e a b =
-    ap (λ front. front ++ behind_two rest) (weights_push w c v)
-    ∙ append_assoc (weight_numbers (natural_weights w)) (natural c ∷ natural v ∷ []) (behind_two rest)
-    ∙ ap₂ (λ x y. weight_numbers (natural_weights w) ++ (x ∷ y ∷ behind_two rest)) a b
-    ∙ ap (λ r. weight_numbers (natural_weights w) ++ r) (sym (two_and_behind rest l)) ∙ e
 
 -- numbers of which nothing is left
 pub none_left : (front rest ns : List ℕ) → front ++ rest ≡ ns → rest ≡ [] → front ≡ ns

@@ -7,10 +7,11 @@ use Rattle.std.proofs.lemmas.List.{length-map}
 use Rattle.std.proofs.lemmas.List.Elements.{All-from_recursion, recursion_from_All}
 use Rattle.hub_spec.specs.Cuts.{Prices}
 use Rattle.hub_spec.specs.Trees.{leaf_of}
-use Rattle.hub_spec.specs.Lines.{value_numbers, weight_numbers}
-use Rattle.hub_spec.specs.Text.{IsShort, IsDualText, IsTreeLineText}
-use Rattle.hub_model.specs.Naturals.{natural, IsNatural}
-use Rattle.hub_model.specs.Held.{natural_values, natural_weights, AreHeldPrices, IsHeldMixture}
+use Rattle.cert_spec.specs.Lines.{value_numbers, weight_numbers}
+use Rattle.hub_spec.specs.Ranges.{IsShort, IsDualInRange, IsLineInRange}
+use Rattle.hub_model.specs.Amounts.{natural, IsNatural}
+use Rattle.hub_model.specs.Prices.{natural_values, AreSignedPrices}
+use Rattle.hub_model.specs.Mixtures.{natural_weights, IsSignedMixture}
 use Rattle.cert_format.specs.Fits.{nodes_fit, pairs_fit}
 use Rattle.cert_format.proofs.Fitting.{climbs_ascend, ascend_climbs, climbs_from_1, nodes_from_fit, fit_from_nodes, values_from_fit, fit_from_values, weights_from_fit, fit_from_weights, IsValueOf, IsWeightOf}
 
@@ -39,7 +40,7 @@ each_value n [] h s = tt
 each_value n (e ∷ u) h s = ((h.0.0, h.0.1, s.0), each_value n u h.1 s.1)
 
 pub dual_legal : (n a : ℕ) (u : List (ℕ × ℕ)) (ns : List ℕ) → value_numbers u ≡ ns → pairs_fit n 0 ns ≡ true → All IsShort ns → IsShort a
-    → IsDualText n (record { a = a; u = u })
+    → IsDualInRange n (record { a = a; u = u })
 dual_legal n a u ns e fit short price =
     let all = values_from_fit n 0 u (ap (pairs_fit n 0) e ∙ fit) in
     let each = each_value n u all.1 (values_short u (subst (AllByRecursion IsShort) (sym e) (recursion_from_All IsShort ns short))) in
@@ -49,7 +50,7 @@ value_parts : (n : ℕ) (u : List (ℕ × ℕ)) → AllByRecursion (λ (e : ℕ 
 value_parts n [] h = tt
 value_parts n (e ∷ u) h = ((h.0.0, h.0.1), value_parts n u h.1)
 
-pub dual_fits : (n : ℕ) (dual : Prices) (ns : List ℕ) → value_numbers dual.u ≡ ns → IsDualText n dual → pairs_fit n 0 ns ≡ true
+pub dual_fits : (n : ℕ) (dual : Prices) (ns : List ℕ) → value_numbers dual.u ≡ ns → IsDualInRange n dual → pairs_fit n 0 ns ≡ true
 dual_fits n dual ns e h =
     sym (ap (pairs_fit n 0) e)
     ∙ fit_from_values n 0 dual.u (ascend_climbs _ h.ascend) (value_parts n dual.u (recursion_from_All (λ (e : ℕ × ℕ). (e.0 < n) × (1 ≤ e.1) × IsShort e.1) dual.u h.each))
@@ -62,17 +63,17 @@ above_0 : (z : ℤ) → 1 ≤ natural z → pos 1 ≤ℤ z
 above_0 (pos n) h = omega (arith, ints)
 above_0 (negsuc n) h = absurd (omega arith)
 
-held_values_above : (n : ℕ) (u : List (ℕ × ℤ)) → AllByRecursion (IsValueOf n) (natural_values u) → AllByRecursion (λ (e : ℕ × ℤ). pos 1 ≤ℤ e.1) u
-held_values_above n [] h = tt
-held_values_above n (e ∷ u) h = (above_0 e.1 h.0.1, held_values_above n u h.1)
+values_above : (n : ℕ) (u : List (ℕ × ℤ)) → AllByRecursion (IsValueOf n) (natural_values u) → AllByRecursion (λ (e : ℕ × ℤ). pos 1 ≤ℤ e.1) u
+values_above n [] h = tt
+values_above n (e ∷ u) h = (above_0 e.1 h.0.1, values_above n u h.1)
 
 pub prices_legal : (n : ℕ) (a : ℤ) (u : List (ℕ × ℤ)) (ns : List ℕ) → IsNatural a → value_numbers (natural_values u) ≡ ns → pairs_fit n 0 ns ≡ true
-    → AreHeldPrices a u
+    → AreSignedPrices a u
 prices_legal n a u ns price e fit =
     let all = values_from_fit n 0 (natural_values u) (ap (pairs_fit n 0) e ∙ fit) in
     record {
       price = price;
-      values = All-from_recursion (λ (e : ℕ × ℤ). pos 1 ≤ℤ e.1) u (held_values_above n u all.1);
+      values = All-from_recursion (λ (e : ℕ × ℤ). pos 1 ≤ℤ e.1) u (values_above n u all.1);
       ascend = subst IsStrictlyIncreasing (nodes_of_values u) (climbs_ascend 0 _ all.0);
     }
 
@@ -87,7 +88,7 @@ each_weight most [] h s = tt
 each_weight most (e ∷ w) h s = ((h.0.0, s.0.0, h.0.2, s.0.1), each_weight most w h.1 s.1)
 
 pub leaf_legal : (n denom : ℕ) (w : List (ℕ × ℕ)) (ns : List ℕ) → 1 ≤ denom → denom ≤ 10 ^ 6 → weight_numbers w ≡ ns → pairs_fit (10 ^ 30) 0 ns ≡ true
-    → All IsShort ns → IsTreeLineText n (leaf_of denom w)
+    → All IsShort ns → IsLineInRange n (leaf_of denom w)
 leaf_legal n denom w ns least most e fit short =
     let all = weights_from_fit (10 ^ 30) 0 w (ap (pairs_fit (10 ^ 30) 0) e ∙ fit) in
     let each = each_weight (10 ^ 30) w all.1 (weights_short w (subst (AllByRecursion IsShort) (sym e) (recursion_from_All IsShort ns short))) in
@@ -98,7 +99,7 @@ weight_parts : (w : List (ℕ × ℕ)) → AllByRecursion (λ (e : ℕ × ℕ). 
 weight_parts [] h = (tt, tt)
 weight_parts (e ∷ w) h = let later = weight_parts w h.1 in ((((h.0.0, omega (arith, h.0.1), h.0.2), later.0)), (h.0.0, later.1))
 
-pub leaf_fits : (n denom : ℕ) (w : List (ℕ × ℕ)) (ns : List ℕ) → weight_numbers w ≡ ns → IsTreeLineText n (leaf_of denom w) → pairs_fit (10 ^ 30) 0 ns ≡ true
+pub leaf_fits : (n denom : ℕ) (w : List (ℕ × ℕ)) (ns : List ℕ) → weight_numbers w ≡ ns → IsLineInRange n (leaf_of denom w) → pairs_fit (10 ^ 30) 0 ns ≡ true
 leaf_fits n denom w ns e h =
     let parts = weight_parts w (recursion_from_All (λ (e : ℕ × ℕ). (1 ≤ e.0) × IsShort e.0 × (1 ≤ e.1) × IsShort e.1) w h.2.each) in
     sym (ap (pairs_fit (10 ^ 30) 0) e) ∙ fit_from_weights (10 ^ 30) 0 w (climbs_from_1 _ h.2.ascend parts.1) parts.0
@@ -107,16 +108,16 @@ cuts_of_weights : (w : List (ℤ × ℤ)) → map (λ (e : ℕ × ℕ). e.0) (na
 cuts_of_weights [] = refl
 cuts_of_weights (e ∷ w) = ap (λ cs. natural e.0 ∷ cs) (cuts_of_weights w)
 
-held_weights_above : (most : ℕ) (w : List (ℤ × ℤ)) → AllByRecursion (IsWeightOf most) (natural_weights w)
+weights_above : (most : ℕ) (w : List (ℤ × ℤ)) → AllByRecursion (IsWeightOf most) (natural_weights w)
     → AllByRecursion (λ (e : ℤ × ℤ). pos 1 ≤ℤ e.0) w × AllByRecursion (λ (e : ℤ × ℤ). pos 1 ≤ℤ e.1) w
-held_weights_above most [] h = (tt, tt)
-held_weights_above most (e ∷ w) h = let later = held_weights_above most w h.1 in ((above_0 e.0 h.0.0, later.0), (above_0 e.1 h.0.2, later.1))
+weights_above most [] h = (tt, tt)
+weights_above most (e ∷ w) h = let later = weights_above most w h.1 in ((above_0 e.0 h.0.0, later.0), (above_0 e.1 h.0.2, later.1))
 
 pub mixture_legal : (most : ℕ) (denom : ℤ) (w : List (ℤ × ℤ)) (ns : List ℕ) → pos 1 ≤ℤ denom → weight_numbers (natural_weights w) ≡ ns → pairs_fit most 0 ns ≡ true
-    → IsHeldMixture denom w
+    → IsSignedMixture denom w
 mixture_legal most denom w ns least e fit =
     let all = weights_from_fit most 0 (natural_weights w) (ap (pairs_fit most 0) e ∙ fit) in
-    let above = held_weights_above most w all.1 in
+    let above = weights_above most w all.1 in
     record {
       denom_least = least;
       numbers = All-from_recursion (λ (e : ℤ × ℤ). pos 1 ≤ℤ e.0) w above.0;

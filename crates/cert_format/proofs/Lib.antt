@@ -12,5 +12,7 @@ pub mod LineReads
 pub mod TakenLines
 pub mod Finished
 pub mod Steps
+pub mod Amounts
 pub mod Written
+pub mod Following
 pub mod Putting

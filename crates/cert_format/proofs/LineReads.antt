@@ -4,11 +4,11 @@ use Rattle.std.specs.Prelude.{option_and_then}
 use Rattle.std.specs.List.{slice_split}
 use Rattle.std.proofs.lemmas.Bool.{cond-true}
 use Rattle.std.proofs.lemmas.Option.{cond_some, none-some}
-use Rattle.hub_spec.specs.Lines.{Item}
-use Rattle.hub_spec.specs.Grammar.{Stage, IsLine}
-use Rattle.hub_spec.specs.Reading.{wants, if_wanted, item_of, item_of_words, wanted_item, IsStage}
-use Rattle.hub_spec.proofs.Decoding.{and_then_some, item_of-same, item_of-back}
-use Rattle.hub_spec.proofs.Wanted.{wants_decides, lines_read_back_lem}
+use Rattle.cert_spec.specs.Lines.{Item}
+use Rattle.cert_spec.specs.Grammar.{Stage, IsLine}
+use Rattle.cert_spec.specs.Reading.{wants, if_wanted, item_of, item_of_words, wanted_item, IsStage}
+use Rattle.cert_spec.proofs.Decoding.{and_then_some, item_of-same, item_of-back}
+use Rattle.cert_spec.proofs.Wanted.{wants_decides, lines_read_back_lem}
 use Rattle.cert_format.specs.Words.{HasWords, HasNoNumbers}
 use Rattle.cert_format.specs.Said.{IsSaid}
 

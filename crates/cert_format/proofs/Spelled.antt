@@ -1,7 +1,7 @@
 -- The words of a line, read as numbers one after another.
 use Rattle.std.proofs.Common.{◌≡◌, ℕ, List, [], ◌∷◌, ◌++◌, Option, Some, None, option_map, refl, sym, ap, ◌∙◌, append_assoc}
 use Rattle.std.specs.Option.{option_and_then}
-use Rattle.hub_spec.specs.Reading.{number_of, numbers_of}
+use Rattle.cert_spec.specs.Reading.{number_of, numbers_of}
 
 abbrev behind : List ℕ → Option (List ℕ) → Option (List ℕ)
 behind front rest = option_map (λ (ns : List ℕ). front ++ ns) rest

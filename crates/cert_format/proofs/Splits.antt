@@ -1,16 +1,16 @@
 -- Where a list is cut at the first element that passes.
-use Rattle.std.proofs.Common.{◌≡◌, ℕ, suc, ◌+◌, ◌<◌, ◌≤◌, Bool, true, false, not, List, [], ◌∷◌, length, take, drop, refl, sym, ap, ◌∙◌, arith}
+use Rattle.std.proofs.Common.{◌≡◌, ℕ, suc, ◌+◌, ◌<◌, ◌≤◌, Bool, true, false, List, [], ◌∷◌, length, take, drop, refl, sym, ap, ◌∙◌, arith}
 use Rattle.std.specs.List.{slice_split, onto_first, position_or_len}
-use Rattle.std.proofs.lemmas.Bool.{cond-true, cond-false, not_from_true, not_from_false}
+use Rattle.std.proofs.lemmas.Bool.{not_from_true, not_from_false}
 use Rattle.std.proofs.lemmas.List.Splits.{slice_split_first, slice_split-cons_no}
 use Rattle.cert_format.specs.Words.{is_at}
 
 module _ {X : Type 0} (p : X → Bool) where
   first_here : (x : X) (xs : List X) → p x ≡ true → position_or_len p (x ∷ xs) ≡ 0
-  first_here x xs e = cond-false (not (p x)) _ _ (not_from_true (p x) e)
+  first_here x xs e = rw (not_from_true (p x) e) refl
 
   first_later : (x : X) (xs : List X) → p x ≡ false → position_or_len p (x ∷ xs) ≡ suc (position_or_len p xs)
-  first_later x xs e = cond-true (not (p x)) _ _ (not_from_false (p x) e) ∙ omega arith
+  first_later x xs e = rw (not_from_false (p x) e) (omega arith)
 
   whole_step : (t : Bool) (x : X) (xs : List X) → p x ≡ t → (length xs ≤ position_or_len p xs → slice_split p xs ≡ xs ∷ [])
       → length (x ∷ xs) ≤ position_or_len p (x ∷ xs) → slice_split p (x ∷ xs) ≡ (x ∷ xs) ∷ []

@@ -4,13 +4,14 @@ use Rattle.std.specs.List.{join_with_byte}
 use Rattle.std.proofs.lemmas.List.{flat_map_more}
 use Rattle.std.proofs.lemmas.List.Splits.{length-slice_split, join_with_byte-slice_split}
 use Rattle.hub_spec.specs.Certificates.{Proof}
-use Rattle.hub_spec.specs.Lines.{Item, line_text}
-use Rattle.hub_spec.specs.Text.{certificate_items, certificate_text, line_bytes, IsInRange, Spells}
-use Rattle.hub_spec.specs.Grammar.{Stage, want_version, want_nothing, after, Leads, IsLine, TextFault, bad_line, IsFaultFrom, IsTextFault, parts}
-use Rattle.hub_spec.specs.Reading.{IsStage}
-use Rattle.hub_spec.proofs.Leads.{Leads-append}
-use Rattle.hub_spec.proofs.LeadsBack.{each_lead_is_text_lem}
-use Rattle.hub_spec.proofs.Stages.{stage_after}
+use Rattle.cert_spec.specs.Lines.{Item, line_text}
+use Rattle.cert_spec.specs.Text.{certificate_items, certificate_text, line_bytes, Spells}
+use Rattle.hub_spec.specs.Ranges.{IsInRange}
+use Rattle.cert_spec.specs.Grammar.{Stage, want_version, want_nothing, after, Leads, IsLine, TextFault, bad_line, IsFaultFrom, IsTextFault, parts}
+use Rattle.cert_spec.specs.Reading.{IsStage}
+use Rattle.cert_spec.proofs.Leads.{Leads-append}
+use Rattle.cert_spec.proofs.LeadsBack.{each_lead_is_text_lem}
+use Rattle.cert_spec.proofs.Stages.{stage_after}
 use Rattle.cert_format.specs.Words.{is_at}
 use Rattle.cert_format.specs.Gathered.{nothing_gathered, with_item, with_items, all_gathered}
 use Rattle.cert_format.specs.Drafts.{stage_of, gathered_of, TookLine}
@@ -61,9 +62,9 @@ front_step bytes rest part next items item e cut text =
     ∙ sym (append_assoc (flat_map line_bytes items) (line_bytes item) next)
     ∙ ap (λ f. f ++ next) (flat_map_more line_bytes [] items item)
 
-pub read_more : (bytes rest part next : List ℕ) (line : ℕ) (old new : Draft) → HasRead bytes rest line old → parts rest ≡ part ∷ parts next → length next < length rest
+pub read_more : {bytes rest : List ℕ} {line : ℕ} {old : Draft} (part next : List ℕ) (new : Draft) → HasRead bytes rest line old → parts rest ≡ part ∷ parts next → length next < length rest
     → TookLine old new part → HasRead bytes next (line + 1) new
-read_more bytes rest part next line old new h e shorter took = record {
+read_more {bytes = bytes} {rest = rest} {line = line} {old = old} part next new h e shorter took = record {
   items = h.items ++ took.item ∷ [];
   lead = Leads-append want_version (stage_of old) (stage_of new) h.items (took.item ∷ []) h.lead (took.is_line.wanted, sym took.stage);
   gathered = took.gathered ∙ ap (λ g. with_item g took.item) h.gathered ∙ sym (with_items-append nothing_gathered h.items (took.item ∷ []));
@@ -78,13 +79,13 @@ bad_step stage line rest part next e none =
     let more = some_part next (parts next) refl in
     subst (λ ps. IsFaultFrom stage line ps (bad_line line)) (sym (e ∙ ap (λ ps. part ∷ ps) more.are)) (inr (none, refl))
 
-pub read_bad : (bytes rest part next : List ℕ) (line : ℕ) (draft : Draft) → HasRead bytes rest line draft → parts rest ≡ part ∷ parts next
+pub read_bad : {bytes rest : List ℕ} {line : ℕ} {draft : Draft} (part next : List ℕ) → HasRead bytes rest line draft → parts rest ≡ part ∷ parts next
     → ((item : Item) → IsLine (stage_of draft) part item → ⊥) → IsTextFault bytes (bad_line line)
-read_bad bytes rest part next line draft h e none = h.fault (bad_line line) (bad_step (stage_of draft) line rest part next e none)
+read_bad {rest = rest} {line = line} {draft = draft} part next h e none = h.fault (bad_line line) (bad_step (stage_of draft) line rest part next e none)
 
-pub read_extra : (bytes rest last : List ℕ) (line : ℕ) (draft : Draft) → HasRead bytes rest line draft → parts rest ≡ last ∷ [] → stage_of draft ≡ want_nothing
+pub read_extra : {bytes rest : List ℕ} {line : ℕ} {draft : Draft} (last : List ℕ) → HasRead bytes rest line draft → parts rest ≡ last ∷ [] → stage_of draft ≡ want_nothing
     → rest ≢ [] → IsTextFault bytes (bad_line line)
-read_extra bytes rest last line draft h e s some =
+read_extra {rest = rest} {line = line} {draft = draft} last h e s some =
     let same : rest ≡ last = sym (join_with_byte-slice_split 10 rest) ∙ ap (join_with_byte 10) e in
     h.fault (bad_line line) (subst (λ ps. IsFaultFrom (stage_of draft) line ps (bad_line line)) (sym e)
     (subst (λ stage. IsFaultFrom stage line (last ∷ []) (bad_line line)) (sym s) ((λ none. some (same ∙ none)), refl)))
@@ -101,8 +102,8 @@ unfolding certificate_text
 text_whole bytes rest items k e none same =
     e ∙ ap (λ r. flat_map line_bytes items ++ r) none ∙ append-nil (flat_map line_bytes items) ∙ ap (flat_map line_bytes) same
 
-pub read_whole : (bytes rest : List ℕ) (line : ℕ) (draft : Draft) → HasRead bytes rest line draft → stage_of draft ≡ want_nothing → rest ≡ [] → IsRead bytes draft
-read_whole bytes rest line draft h s none =
+pub read_whole : {bytes rest : List ℕ} {line : ℕ} {draft : Draft} → HasRead bytes rest line draft → stage_of draft ≡ want_nothing → rest ≡ [] → IsRead bytes draft
+read_whole {bytes = bytes} {rest = rest} h s none =
     let text = each_lead_is_text_lem h.items (subst (Leads want_version h.items) s h.lead) in
     record {
       proof = text.0;
@@ -115,5 +116,5 @@ stage_led : (first last : Stage) (items : List Item) → IsStage first → Leads
 stage_led first last [] s h = subst IsStage h s
 stage_led first last (item ∷ items) s h = stage_led (after first item) last items (stage_after first item s h.0) h.1
 
-pub read_stage : (bytes rest : List ℕ) (line : ℕ) (draft : Draft) → HasRead bytes rest line draft → IsStage (stage_of draft)
-read_stage bytes rest line draft h = stage_led want_version (stage_of draft) h.items tt h.lead
+pub read_stage : {bytes rest : List ℕ} {line : ℕ} {draft : Draft} → HasRead bytes rest line draft → IsStage (stage_of draft)
+read_stage {draft = draft} h = stage_led want_version (stage_of draft) h.items tt h.lead

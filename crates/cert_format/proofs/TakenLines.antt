@@ -1,6 +1,6 @@
 -- A draft that takes in what the words of a line say takes in the line.
 use Rattle.std.proofs.Common.{ℕ, Bool, true, false, List, Result, Ok, Err, IfOk}
-use Rattle.hub_spec.specs.Reading.{IsStage}
+use Rattle.cert_spec.specs.Reading.{IsStage}
 use Rattle.cert_format.specs.Words.{HasWords}
 use Rattle.cert_format.specs.Drafts.{stage_of, TakesIf, TakesLineIf}
 use Rattle.cert_format.specs.declared.drafts.Draft.{Draft}

@@ -16,7 +16,7 @@ all_digits_same (d ∷ ds) = ap (λ b. is_ascii_digit d && b) (all_digits_same d
 
 pub digit_at : (ds : List ℕ) (i d : ℕ) → list_all is_ascii_digit ds ≡ true → i < length ds → is_ascii_digit (get_or ds i d) ≡ true
 digit_at [] i d h l = absurd (omega arith)
-digit_at (x ∷ ds) zero d h l = (and_parts _ _ h).0
+digit_at (x ∷ ds) zero d h l = (and_parts (is_ascii_digit x) _ h).0
 digit_at (x ∷ ds) (suc i) d h l = digit_at ds i d (and_parts (is_ascii_digit x) _ h).1 (omega arith)
 
 digits_take : (k : ℕ) (ds : List ℕ) → all_ascii_digits ds ≡ true → all_ascii_digits (take k ds) ≡ true

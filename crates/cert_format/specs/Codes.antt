@@ -3,7 +3,7 @@ use Rattle.std.specs.Prelude.{◌≡◌, ℕ, List, [], ◌∷◌, ◌++◌, ◌
 use Rattle.std.proofs.Common.{sym, ap, ◌∙◌, append_assoc, append-nil, inl, inr}
 use Rattle.std.specs.Coded.{Coded, code_by, coded×, coded⊎, coded_ℕ, coded_list}
 use Rattle.hub_spec.specs.Plans.{Plan}
-use Rattle.hub_spec.specs.Cuts.{Prices, Cut}
+use Rattle.hub_spec.specs.Cuts.{Prices, Cut, cut_by}
 use Rattle.hub_spec.specs.Trees.{Tree, branch, leaf, empty, TreeLine, branch_on, leaf_of, no_hub, preorder}
 use Rattle.hub_spec.specs.Certificates.{Proof}
 use Rattle.cert_format.specs.Growing.{planted, grown, first_tree, tree_of}
@@ -56,7 +56,7 @@ coded_prices = code_by (ℕ × List (ℕ × ℕ)) (coded× coded_ℕ coded_pairs
 
 -- a cut by its duals
 abbrev pub coded_cut : Coded Cut
-coded_cut = code_by (List Prices) (coded_list coded_prices) (λ c. c.duals) (λ ds. record { duals = ds }) (λ _. refl)
+coded_cut = code_by (List Prices) (coded_list coded_prices) (λ c. c.duals) cut_by (λ _. refl)
 
 -- a plan by its hubs and its routes
 abbrev pub coded_plan : Coded Plan

@@ -1,19 +1,19 @@
 -- The reader's draft of a certificate, and the stage that it has reached.
 use Rattle.std.specs.Prelude.{◌≡◌, ℕ, Bool, List, map}
 use Rattle.std.specs.Bool.{MatchBool}
-use Rattle.hub_spec.specs.Lines.{Item}
-use Rattle.hub_spec.specs.Grammar as grammar
-use Rattle.hub_spec.specs.Grammar.{after, ended, IsLine, LastFault}
+use Rattle.cert_spec.specs.Lines.{Item}
+use Rattle.cert_spec.specs.Grammar as grammar
+use Rattle.cert_spec.specs.Grammar.{shape, after, ended, IsLine, LastFault}
 use Rattle.hub_model.specs.Lines.{tree_line_of}
 use Rattle.cert_format.specs.Gathered.{Gathered, with_item}
 use Rattle.cert_format.specs.Said.{IsSaid, SaysNothing}
-use Rattle.cert_format.specs.Held.{cut_of}
+use Rattle.cert_format.specs.Parts.{cut_of}
 use Rattle.cert_format.specs.Stages.{stage_at}
 use Rattle.cert_format.specs.declared.drafts.Draft.{Draft}
 
 -- the stage that the draft has reached
 abbrev pub stage_of : Draft → grammar.Stage
-stage_of d = stage_at d.size d.stage
+stage_of d = stage_at (shape d.size) d.stage
 
 -- what the draft holds
 abbrev pub gathered_of : Draft → Gathered

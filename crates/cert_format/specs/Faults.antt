@@ -1,6 +1,6 @@
 -- The fault of a text that code speaks of.
 use Rattle.std.specs.Prelude.{ℕ, List}
-use Rattle.hub_spec.specs.Grammar.{bad_line, ended, IsTextFault}
+use Rattle.cert_spec.specs.Grammar.{bad_line, ended, IsTextFault}
 use Rattle.cert_format.specs.declared.reader.CertFault.{CertFault}
 use Rattle.cert_format.specs.declared.reader.CertFault.TheVariants.{BadLine, Ended, OutOfMemory}
 

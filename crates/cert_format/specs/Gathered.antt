@@ -1,9 +1,9 @@
 -- What the lines of a text have given so far.
 use Rattle.std.specs.Prelude.{ℕ, ◌*◌, List, [], ◌∷◌, ◌++◌, length, nat_eq, if◌then◌else◌}
-use Rattle.hub_spec.specs.Cuts.{Prices, Cut}
+use Rattle.hub_spec.specs.Cuts.{Prices, Cut, cut_by}
 use Rattle.hub_spec.specs.Trees.{TreeLine, preorder}
 use Rattle.hub_spec.specs.Certificates.{Proof}
-use Rattle.hub_spec.specs.Lines.{Item, says_size, says_cost, says_bound, says_hubs, says_route, says_dual, says_tree}
+use Rattle.cert_spec.specs.Lines.{Item, says_size, says_cost, says_bound, says_hubs, says_route, says_dual, says_tree}
 
 -- the parts of a certificate, and the duals of the cut that is not whole yet
 pub record Gathered : Type 0 where
@@ -25,7 +25,7 @@ nothing_gathered = record { size = 0; candidates = 0; cost = 0; bound = 0; hubs 
 abbrev pub with_duals : Gathered → List Prices → Gathered
 with_duals g duals =
     if nat_eq (length duals) (g.size * g.size)
-    then record g { cuts = g.cuts ++ record { duals = duals } ∷ []; duals = [] }
+    then record g { cuts = g.cuts ++ cut_by duals ∷ []; duals = [] }
     else record g { duals = duals }
 
 -- with what one more line says

@@ -3,11 +3,11 @@ pub mod Said
 pub mod Fits
 pub mod Growing
 pub mod Codes
-pub mod Held
+pub mod Parts
 pub mod Gathered
 pub mod Stages
 pub mod Drafts
 pub mod Faults
 pub mod Readings
-pub mod Rows
-pub mod Lists
+pub mod Spaced
+pub mod Puts

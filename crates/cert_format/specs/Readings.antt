@@ -1,8 +1,8 @@
 -- How far a text was read.
 use Rattle.std.specs.Prelude.{◌≡◌, ℕ, ◌+◌, ◌≤◌, List, ◌++◌, length, flat_map}
-use Rattle.hub_spec.specs.Lines.{Item}
-use Rattle.hub_spec.specs.Text.{line_bytes}
-use Rattle.hub_spec.specs.Grammar.{want_version, Leads, TextFault, IsFaultFrom, IsTextFault, parts}
+use Rattle.cert_spec.specs.Lines.{Item}
+use Rattle.cert_spec.specs.Text.{line_bytes}
+use Rattle.cert_spec.specs.Grammar.{want_version, Leads, TextFault, IsFaultFrom, IsTextFault, parts}
 use Rattle.cert_format.specs.Gathered.{nothing_gathered, with_items}
 use Rattle.cert_format.specs.Drafts.{stage_of, gathered_of}
 use Rattle.cert_format.specs.declared.drafts.Draft.{Draft}

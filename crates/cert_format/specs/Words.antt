@@ -2,7 +2,7 @@
 use Rattle.std.specs.Prelude.{◌≡◌, ℕ, Bool, List, ◌∷◌, ◌++◌, Some, None, option_map, nat_eq}
 use Rattle.std.specs.Bool.{MatchBool}
 use Rattle.std.specs.List.{slice_split}
-use Rattle.hub_spec.specs.Reading.{numbers_of}
+use Rattle.cert_spec.specs.Reading.{numbers_of}
 
 -- the byte is this one
 abbrev pub is_at : ℕ → ℕ → Bool

@@ -1,8 +1,8 @@
 ghost use Rattle.std.specs.Prelude.{◌≡◌, pos, map};
 ghost use Rattle.hub_spec.specs.Trees.{preorder};
-ghost use Rattle.hub_spec.specs.Text.{IsInRange};
+ghost use Rattle.hub_spec.specs.Ranges.{IsInRange};
 ghost use Rattle.hub_model.specs.Lines.{tree_line_of};
-ghost use Rattle.cert_format.specs.Held.{cut_of, proof_of, IsHeldCertificate};
+ghost use Rattle.cert_format.specs.Parts.{cut_of, proof_of, AreCertificateParts};
 
 use hub_model::{Dual, Plan, TreeLine};
 use std::marker::Model;
@@ -31,11 +31,11 @@ impl Model for Certificate {
 
     ghost coded = { coded_proof };
 
-    ghost use Rattle.cert_format.specs.Held.{proof_of, IsHeldCertificate};
+    ghost use Rattle.cert_format.specs.Parts.{proof_of, AreCertificateParts};
 
     ghost view = { λ c. proof_of c.size c.candidates c.cost c.bound c.plan c.cuts.items c.tree.items };
 
-    ghost invariant = { λ c. IsHeldCertificate c.size c.candidates c.cost c.bound c.plan c.cuts.items c.tree.items };
+    ghost invariant = { λ c. AreCertificateParts c.size c.candidates c.cost c.bound c.plan c.cuts.items c.tree.items };
 }
 
 impl Certificate {
@@ -49,7 +49,7 @@ impl Certificate {
         cuts: Vec<Vec<Dual>>,
         tree: Vec<TreeLine>,
     ) -> Certificate
-        requires { IsHeldCertificate size candidates cost bound plan cuts.items tree.items }
+        requires { AreCertificateParts size candidates cost bound plan cuts.items tree.items }
         ensures { result ≡ proof_of size candidates cost bound plan cuts.items tree.items }
     {
         Certificate {
@@ -65,7 +65,8 @@ impl Certificate {
 
     /// The number of nodes.
     pub fn size(&self) -> u32
-        ensures { result ≡ self.now.size }
+        ensures value { result ≡ self.now.size }
+        ensures in_range { IsInRange self.now }
     {
         self.size
     }
@@ -91,6 +92,14 @@ impl Certificate {
         self.bound
     }
 
+    /// The plan.
+    pub fn plan(&self) -> &Plan
+        ensures value { result.now ≡ self.now.plan }
+        ensures in_range { IsInRange self.now }
+    {
+        &self.plan
+    }
+
     /// The hubs of the plan, ascending.
     pub fn hubs(&self) -> &[u32]
         ensures { result.now ≡ self.now.plan.hubs }
@@ -100,29 +109,25 @@ impl Certificate {
 
     /// The first and the last hub of each commodity's route, in the order of commodities.
     pub fn routes(&self) -> &[(u32, u32)]
-        ensures { result.now ≡ self.now.plan.routes }
+        ensures value { result.now ≡ self.now.plan.routes }
+        ensures in_range { IsInRange self.now }
     {
         self.plan.routes()
     }
 
     /// The cuts, each by its duals.
     pub fn cuts(&self) -> &[Vec<Dual>]
-        ensures { map cut_of result.now ≡ self.now.cuts }
+        ensures value { map cut_of result.now ≡ self.now.cuts }
+        ensures in_range { IsInRange self.now }
     {
         &self.cuts
     }
 
     /// The lines of the tree.
     pub fn tree(&self) -> &[TreeLine]
-        ensures { map tree_line_of result.now ≡ preorder self.now.tree }
+        ensures value { map tree_line_of result.now ≡ preorder self.now.tree }
+        ensures in_range { IsInRange self.now }
     {
         &self.tree
-    }
-
-    /// Tells that the certificate is within the ranges of the grammar.
-    pub fn limits(&self)
-        ensures { IsInRange self.now }
-    {
-        let _ = &self.size;
     }
 }

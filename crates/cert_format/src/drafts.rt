@@ -1,9 +1,10 @@
 // A certificate in the making, line by line.
 ghost use Rattle.std.specs.Prelude.{◌≡◌, ◌^◌, ◌<◌, ◌≤◌, false, IsTrue, IfOk, All};
-ghost use Rattle.hub_spec.specs.Grammar.{want_version, want_size, want_cost, want_bound, want_hubs, want_route, want_cuts, want_cut, want_dual, want_nodes, want_tree, want_end, want_nothing};
-ghost use Rattle.hub_spec.specs.Reading.{IsStage};
+ghost use Rattle.cert_spec.specs.Grammar.{want_version, want_size, want_cost, want_bound, want_hubs, want_route, want_cuts, want_cut, want_dual, want_nodes, want_tree, want_end, want_nothing, shape};
+ghost use Rattle.cert_spec.specs.Reading.{IsStage};
+ghost use Rattle.hub_spec.specs.Limits.{most_nodes};
 ghost use Rattle.hub_spec.specs.Certificates.{Proof};
-ghost use Rattle.hub_spec.specs.Text.{IsInRange};
+ghost use Rattle.hub_spec.specs.Ranges.{IsInRange, IsShort};
 
 use crate::Certificate;
 use crate::listed::{dual_said, hubs_said, tree_said};
@@ -13,7 +14,7 @@ use crate::said::{
 };
 use crate::stages::{Stage, after_cut, after_dual, after_line, after_route};
 use crate::words::read_words;
-use hub_model::{Dual, Plan, TreeLine};
+use hub_model::{Dual, Plan, TreeLine, signed};
 use std::alloc::{AllocError, Global};
 use std::mem;
 
@@ -74,7 +75,7 @@ impl Draft {
     #[tactic(auto, using(crate::proofs::Saying::nothing_more))]
     fn take(&mut self, alloc: Global, word: &[u8], numbers: &[u128]) -> Result<bool, AllocError>
         requires legal { IsStage (stage_of self.old) }
-        requires short { All (λ n. n < 10 ^ 30) numbers.now }
+        requires short { All IsShort numbers.now }
         ensures { IfOk result (TakesIf self.old self.new word.now numbers.now) }
     {
         match self.stage {
@@ -119,20 +120,14 @@ impl Draft {
             ..
         } = self;
         let plan = Plan::new(hubs, routes);
-        Certificate::new(
-            size,
-            candidates,
-            cost as i128,
-            bound as i128,
-            plan,
-            cuts,
-            lines,
-        )
+        let cost = signed(cost);
+        let bound = signed(bound);
+        Certificate::new(size, candidates, cost, bound, plan, cuts, lines)
     }
 
     fn take_version(&mut self, word: &[u8], numbers: &[u128]) -> bool
         requires at { stage_of self.old ≡ want_version }
-        requires short { All (λ n. n < 10 ^ 30) numbers.now }
+        requires short { All IsShort numbers.now }
         ensures { TakesIf self.old self.new word.now numbers.now result }
     {
         if !version_said(word, numbers) {
@@ -156,8 +151,8 @@ impl Draft {
     }
 
     fn take_cost(&mut self, word: &[u8], numbers: &[u128]) -> bool
-        requires at { stage_of self.old ≡ want_cost self.old.size }
-        requires short { All (λ n. n < 10 ^ 30) numbers.now }
+        requires at { stage_of self.old ≡ want_cost (shape self.old.size) }
+        requires short { All IsShort numbers.now }
         ensures { TakesIf self.old self.new word.now numbers.now result }
     {
         let Some(cost) = cost_said(word, numbers, self.size) else {
@@ -169,8 +164,8 @@ impl Draft {
     }
 
     fn take_bound(&mut self, word: &[u8], numbers: &[u128]) -> bool
-        requires at { stage_of self.old ≡ want_bound self.old.size }
-        requires short { All (λ n. n < 10 ^ 30) numbers.now }
+        requires at { stage_of self.old ≡ want_bound (shape self.old.size) }
+        requires short { All IsShort numbers.now }
         ensures { TakesIf self.old self.new word.now numbers.now result }
     {
         let Some(bound) = bound_said(word, numbers, self.size) else {
@@ -187,7 +182,7 @@ impl Draft {
         word: &[u8],
         numbers: &[u128],
     ) -> Result<bool, AllocError>
-        requires at { stage_of self.old ≡ want_hubs self.old.size }
+        requires at { stage_of self.old ≡ want_hubs (shape self.old.size) }
         ensures { IfOk result (TakesIf self.old self.new word.now numbers.now) }
     {
         let Some(hubs) = hubs_said(alloc, word, numbers, self.size)? else {
@@ -199,7 +194,7 @@ impl Draft {
     }
 
     fn take_route(&mut self, word: &[u8], numbers: &[u128], t: u32) -> Result<bool, AllocError>
-        requires at { stage_of self.old ≡ want_route self.old.size t }
+        requires at { stage_of self.old ≡ want_route (shape self.old.size) t }
         requires legal { IsStage (stage_of self.old) }
         ensures { IfOk result (TakesIf self.old self.new word.now numbers.now) }
     {
@@ -212,8 +207,8 @@ impl Draft {
     }
 
     fn take_cuts(&mut self, word: &[u8], numbers: &[u128]) -> bool
-        requires at { stage_of self.old ≡ want_cuts self.old.size }
-        requires short { All (λ n. n < 10 ^ 30) numbers.now }
+        requires at { stage_of self.old ≡ want_cuts (shape self.old.size) }
+        requires short { All IsShort numbers.now }
         ensures { TakesIf self.old self.new word.now numbers.now result }
     {
         let Some(all) = cuts_said(word, numbers, self.size) else {
@@ -224,8 +219,8 @@ impl Draft {
     }
 
     fn take_cut(&mut self, word: &[u8], numbers: &[u128], all: u32, x: u32) -> bool
-        requires at { stage_of self.old ≡ want_cut self.old.size all x }
-        requires short { All (λ n. n < 10 ^ 30) numbers.now }
+        requires at { stage_of self.old ≡ want_cut (shape self.old.size) all x }
+        requires short { All IsShort numbers.now }
         ensures { TakesIf self.old self.new word.now numbers.now result }
     {
         if !cut_said(word, numbers, self.size, all, x) {
@@ -244,9 +239,9 @@ impl Draft {
         x: u32,
         t: u32,
     ) -> Result<bool, AllocError>
-        requires at { stage_of self.old ≡ want_dual self.old.size all x t }
+        requires at { stage_of self.old ≡ want_dual (shape self.old.size) all x t }
         requires legal { IsStage (stage_of self.old) }
-        requires short { All (λ n. n < 10 ^ 30) numbers.now }
+        requires short { All IsShort numbers.now }
         ensures { IfOk result (TakesIf self.old self.new word.now numbers.now) }
     {
         let Some(dual) = dual_said(alloc, word, numbers, self.size, t)? else {
@@ -260,10 +255,11 @@ impl Draft {
 
     // Ends the cut where there is a dual for each commodity.
     fn end_cut(&mut self, alloc: Global) -> Result<(), AllocError>
-        requires { self.old.size ≤ 200 }
+        requires { self.old.size ≤ most_nodes }
         ensures stage { IfOk result (λ _. self.new.stage ≡ self.old.stage) }
         ensures size { IfOk result (λ _. self.new.size ≡ self.old.size) }
-        ensures gathered { IfOk result (λ _. gathered_of self.new ≡ with_duals (gathered_of self.old) self.old.duals.items) }
+        ensures gathered { IfOk result (λ _.
+            gathered_of self.new ≡ with_duals (gathered_of self.old) self.old.duals.items) }
     {
         if self.duals.len() != (self.size * self.size) as usize {
             return Ok(());
@@ -274,8 +270,8 @@ impl Draft {
     }
 
     fn take_nodes(&mut self, word: &[u8], numbers: &[u128]) -> bool
-        requires at { stage_of self.old ≡ want_nodes self.old.size }
-        requires short { All (λ n. n < 10 ^ 30) numbers.now }
+        requires at { stage_of self.old ≡ want_nodes (shape self.old.size) }
+        requires short { All IsShort numbers.now }
         ensures { TakesIf self.old self.new word.now numbers.now result }
     {
         let Some(all) = nodes_said(word, numbers, self.size) else {
@@ -293,8 +289,8 @@ impl Draft {
         places: u32,
         left: u32,
     ) -> Result<bool, AllocError>
-        requires at { stage_of self.old ≡ want_tree self.old.size places left }
-        requires short { All (λ n. n < 10 ^ 30) numbers.now }
+        requires at { stage_of self.old ≡ want_tree (shape self.old.size) places left }
+        requires short { All IsShort numbers.now }
         ensures { IfOk result (TakesIf self.old self.new word.now numbers.now) }
     {
         let Some(line) = tree_said(alloc, word, numbers, self.size)? else {

@@ -1,11 +1,12 @@
 //! The certificate as a type, and its text written and read.
 //!
 //! - [`Certificate`] is a certificate within the ranges of the grammar, seen by contracts as the definitions' `Proof`.
-//! - [`write_cert`] puts its text on a sink: just `certificate_text` of it.
+//! - [`write_cert`] puts its text on a sink: just `certificate_text` of it. [`put_top`], [`put_cut`], [`put_dual`] and
+//!   [`put_tree`] put its parts, for a text whose duals are made while they are put.
 //! - [`read_cert`] reads bytes back: a certificate exactly where all of the bytes spell it, and otherwise the fault of
 //!   the text that the definitions give it, as a [`CertFault`] with the number of the line.
 //!
-//! The text is defined in the crate `hub_spec`: `Lines`, `Text` and `Grammar`. A line is read as its first word and the
+//! The text is defined in the crate `cert_spec`: `Lines`, `Text` and `Grammar`. A line is read as its first word and the
 //! numbers behind it (`words`), these say an item at a stage of the text (`said`, `listed`), and a draft takes items in
 //! until it is a certificate (`drafts`).
 #![tactic(auto)]
@@ -22,14 +23,15 @@ mod said;
 mod stages;
 mod words;
 
-// Writing.
+// Writing: the words of a line, lines, and the parts of a text.
 mod lines;
-mod rows;
+mod spaced;
 mod writer;
 
 pub use certificate::Certificate;
+pub use lines::{put_cut, put_dual};
 pub use reader::{CertFault, read_cert};
-pub use writer::write_cert;
+pub use writer::{put_top, put_tree, write_cert};
 
 #[cfg(test)]
 mod tests;

@@ -1,17 +1,18 @@
 // The lines of a certificate put through a buffer.
-ghost use Rattle.std.specs.Prelude.{◌≡◌, ◌+◌, ◌++◌, ◌≤◌, ℕ, [], ◌∷◌, flat_map, codes, All};
+ghost use Rattle.std.specs.Prelude.{◌≡◌, ◌+◌, ◌≤◌, ℕ, flat_map, All};
+ghost use Rattle.hub_spec.specs.Problem.{commodity_at};
 ghost use Rattle.hub_spec.specs.Trees.{leaf_of};
-ghost use Rattle.hub_spec.specs.Lines.{says_hubs, says_route, says_cut, says_dual, says_tree, keyword, numbers};
-ghost use Rattle.hub_spec.specs.Text.{line_bytes};
-ghost use Rattle.hub_spec.specs.Grammar.{commodity_at};
+ghost use Rattle.cert_spec.specs.Lines.{says_hubs, says_route, says_cut, says_dual, says_tree};
 ghost use Rattle.hub_io.specs.Outside.{PutsThrough};
-ghost use Rattle.hub_model.specs.Naturals.{natural, IsNatural};
+ghost use Rattle.hub_model.specs.Amounts.{natural, IsNatural};
+ghost use Rattle.hub_model.specs.Prices.{natural_values};
 ghost use Rattle.hub_model.specs.Lines.{tree_line_of};
-ghost use Rattle.cert_format.specs.Rows.{spaced_node, spaced_value, spaced_weight, words_text};
+ghost use Rattle.cert_format.specs.Spaced.{spaced_node, spaced_value, spaced_weight};
+ghost use Rattle.cert_format.specs.Puts.{PutsLine};
 
-use crate::rows::{put_number, put_numbers, put_row, put_words};
+use crate::spaced::{put_line, put_number, put_numbers, put_words};
 use hub_io::{Buffer, Failed, Sink};
-use hub_model::{Dual, Mix, TreeLine};
+use hub_model::{Mix, TreeLine, unsigned};
 
 // Puts the line of the hubs.
 pub(crate) fn put_hubs<K: Sink>(
@@ -19,21 +20,16 @@ pub(crate) fn put_hubs<K: Sink>(
     buffer: &mut Buffer,
     sink: &mut K,
 ) -> Result<(), Failed>
-    ensures { PutsThrough K.taken K.faults sink.old sink.new buffer.old buffer.new result (line_bytes (says_hubs hubs.now)) }
+    ensures { PutsLine K.taken K.faults sink.old sink.new buffer.old buffer.new result (says_hubs hubs.now) }
 {
-    put_hub_words(hubs, buffer, sink)?;
+    buffer.put(b"hubs", sink)?;
+    put_nodes(hubs, buffer, sink)?;
     buffer.put(b"\n", sink)
 }
 
-fn put_hub_words<K: Sink>(hubs: &[u32], buffer: &mut Buffer, sink: &mut K) -> Result<(), Failed>
-    ensures { PutsThrough K.taken K.faults sink.old sink.new buffer.old buffer.new result (codes "hubs" ++ flat_map spaced_node hubs.now) }
-{
-    buffer.put(b"hubs", sink)?;
-    put_nodes(hubs, buffer, sink)
-}
-
 fn put_nodes<K: Sink>(nodes: &[u32], buffer: &mut Buffer, sink: &mut K) -> Result<(), Failed>
-    ensures { PutsThrough K.taken K.faults sink.old sink.new buffer.old buffer.new result (flat_map spaced_node nodes.now) }
+    ensures { PutsThrough K.taken K.faults sink.old sink.new buffer.old buffer.new result
+        (flat_map spaced_node nodes.now) }
 {
     for node in nodes {
         put_number(*node as u128 + 1, buffer, sink)?;
@@ -50,46 +46,43 @@ pub(crate) fn put_route<K: Sink>(
     sink: &mut K,
 ) -> Result<(), Failed>
     requires { 1 ≤ n }
-    ensures { PutsThrough K.taken K.faults sink.old sink.new buffer.old buffer.new result (line_bytes (says_route (commodity_at n t) (route.0, route.1))) }
+    ensures { PutsLine K.taken K.faults sink.old sink.new buffer.old buffer.new result
+        (says_route (commodity_at n t) (route.0, route.1)) }
 {
     let i = (t / n) as u128 + 1;
     let j = (t % n) as u128 + 1;
     let k = route.0 as u128 + 1;
     let m = route.1 as u128 + 1;
-    put_row(b"route", &[i, j, k, m], buffer, sink)
+    put_line(b"route", &[i, j, k, m], buffer, sink)
 }
 
-// Puts the line of the dual of the commodity number t.
-pub(crate) fn put_dual<K: Sink>(
-    n: u32,
-    t: u32,
-    dual: &Dual,
+/// Puts the line that begins the cut of this number, counted from 1.
+pub fn put_cut<K: Sink>(x: u64, buffer: &mut Buffer, sink: &mut K) -> Result<(), Failed>
+    ensures { PutsLine K.taken K.faults sink.old sink.new buffer.old buffer.new result (says_cut x) }
+{
+    put_line(b"cut", &[x as u128], buffer, sink)
+}
+
+/// Puts the line of the dual of the commodity from node i to node j: its price `a`, and some nodes with their values.
+pub fn put_dual<K: Sink>(
+    i: u32,
+    j: u32,
+    a: i128,
+    values: &[(u32, i128)],
     buffer: &mut Buffer,
     sink: &mut K,
 ) -> Result<(), Failed>
-    requires { 1 ≤ n }
-    ensures { PutsThrough K.taken K.faults sink.old sink.new buffer.old buffer.new result (line_bytes (says_dual (commodity_at n t) dual.now)) }
+    requires price { IsNatural a }
+    requires values { All (λ e. IsNatural e.1) values.now }
+    ensures { PutsLine K.taken K.faults sink.old sink.new buffer.old buffer.new result
+        (says_dual (i, j) (record { a = natural a; u = natural_values values.now })) }
 {
-    put_dual_words(n, t, dual, buffer, sink)?;
+    let first = i as u128 + 1;
+    let last = j as u128 + 1;
+    let price = unsigned(a);
+    put_words(b"dual", &[first, last, price], buffer, sink)?;
+    put_values(values, buffer, sink)?;
     buffer.put(b"\n", sink)
-}
-
-fn put_dual_words<K: Sink>(
-    n: u32,
-    t: u32,
-    dual: &Dual,
-    buffer: &mut Buffer,
-    sink: &mut K,
-) -> Result<(), Failed>
-    requires { 1 ≤ n }
-    ensures { let item = says_dual (commodity_at n t) dual.now in PutsThrough K.taken K.faults sink.old sink.new buffer.old buffer.new result (words_text (keyword item) (numbers item)) }
-{
-    let i = (t / n) as u128 + 1;
-    let j = (t % n) as u128 + 1;
-    let a = unsigned(&dual.a());
-    let values = dual.u();
-    put_words(b"dual", &[i, j, a], buffer, sink)?;
-    put_values(values, buffer, sink)
 }
 
 fn put_values<K: Sink>(
@@ -98,11 +91,12 @@ fn put_values<K: Sink>(
     sink: &mut K,
 ) -> Result<(), Failed>
     requires { All (λ e. IsNatural e.1) values.now }
-    ensures { PutsThrough K.taken K.faults sink.old sink.new buffer.old buffer.new result (flat_map spaced_value values.now) }
+    ensures { PutsThrough K.taken K.faults sink.old sink.new buffer.old buffer.new result
+        (flat_map spaced_value values.now) }
 {
     for value in values {
         let node = value.0 as u128 + 1;
-        let number = unsigned(&value.1);
+        let number = unsigned(value.1);
         put_numbers(&[node, number], buffer, sink)?;
     }
     Ok(())
@@ -114,32 +108,28 @@ pub(crate) fn put_tree_line<K: Sink>(
     buffer: &mut Buffer,
     sink: &mut K,
 ) -> Result<(), Failed>
-    ensures { PutsThrough K.taken K.faults sink.old sink.new buffer.old buffer.new result (line_bytes (says_tree (tree_line_of line.now))) }
+    ensures { PutsLine K.taken K.faults sink.old sink.new buffer.old buffer.new result
+        (says_tree (tree_line_of line.now)) }
 {
     match line {
         TreeLine::BranchOn(k) => {
             let node = *k as u128 + 1;
-            put_row(b"branch", &[node], buffer, sink)
+            put_line(b"branch", &[node], buffer, sink)
         }
         TreeLine::Leaf(mix) => put_leaf(mix, buffer, sink),
-        TreeLine::Empty => put_row(b"empty", &[], buffer, sink),
+        TreeLine::Empty => put_line(b"empty", &[], buffer, sink),
     }
 }
 
 fn put_leaf<K: Sink>(mix: &Mix, buffer: &mut Buffer, sink: &mut K) -> Result<(), Failed>
-    ensures { PutsThrough K.taken K.faults sink.old sink.new buffer.old buffer.new result (line_bytes (says_tree (leaf_of mix.now.denom mix.now.weights))) }
+    ensures { PutsLine K.taken K.faults sink.old sink.new buffer.old buffer.new result
+        (says_tree (leaf_of mix.now.denom mix.now.weights)) }
 {
-    put_leaf_words(mix, buffer, sink)?;
-    buffer.put(b"\n", sink)
-}
-
-fn put_leaf_words<K: Sink>(mix: &Mix, buffer: &mut Buffer, sink: &mut K) -> Result<(), Failed>
-    ensures { let item = says_tree (leaf_of mix.now.denom mix.now.weights) in PutsThrough K.taken K.faults sink.old sink.new buffer.old buffer.new result (words_text (keyword item) (numbers item)) }
-{
-    let denom = unsigned(&mix.denom());
+    let denominator = mix.denominator();
     let weights = mix.weights();
-    put_words(b"leaf", &[denom], buffer, sink)?;
-    put_weights(weights, buffer, sink)
+    put_words(b"leaf", &[denominator], buffer, sink)?;
+    put_weights(weights, buffer, sink)?;
+    buffer.put(b"\n", sink)
 }
 
 fn put_weights<K: Sink>(
@@ -148,19 +138,13 @@ fn put_weights<K: Sink>(
     sink: &mut K,
 ) -> Result<(), Failed>
     requires { All (λ e. IsNatural e.0 × IsNatural e.1) weights.now }
-    ensures { PutsThrough K.taken K.faults sink.old sink.new buffer.old buffer.new result (flat_map spaced_weight weights.now) }
+    ensures { PutsThrough K.taken K.faults sink.old sink.new buffer.old buffer.new result
+        (flat_map spaced_weight weights.now) }
 {
     for weight in weights {
-        let cut = unsigned(&weight.0);
-        let number = unsigned(&weight.1);
+        let cut = unsigned(weight.0);
+        let number = unsigned(weight.1);
         put_numbers(&[cut, number], buffer, sink)?;
     }
     Ok(())
-}
-
-pub(crate) fn unsigned(value: &i128) -> u128
-    requires { IsNatural value.now }
-    ensures { result ≡ natural value.now }
-{
-    *value as u128
 }

@@ -1,19 +1,19 @@
 // What a line with a list says: hubs, the dual of a commodity, or a tree line.
 ghost use Rattle.std.specs.Prelude.{◌≡◌, ◌+◌, ◌^◌, ◌<◌, ◌≤◌, ℕ, List, codes, true, None, Some, IfOk, MatchOption, All};
+ghost use Rattle.hub_spec.specs.Ranges.{IsShort};
 ghost use Rattle.hub_spec.specs.Trees as definitions;
 ghost use Rattle.hub_spec.specs.Trees.{branch_on, leaf_of, no_hub};
-ghost use Rattle.hub_spec.specs.Lines.{says_hubs, says_dual};
-ghost use Rattle.hub_spec.specs.Grammar.{want_hubs, want_dual, commodity_at};
+ghost use Rattle.cert_spec.specs.Lines.{says_hubs, says_dual};
+ghost use Rattle.cert_spec.specs.Grammar.{want_hubs, want_dual, shape};
+ghost use Rattle.hub_spec.specs.Problem.{commodity_at};
 ghost use Rattle.hub_model.specs.Lines.{tree_line_of};
-ghost use Rattle.cert_format.specs.Said.{Says, IsTreeSaid};
+ghost use Rattle.cert_format.specs.Said.{Says, SaysDual, Finds, FindsBy, IsTreeSaid};
 
 use crate::fits::{do_nodes_fit, do_pairs_fit};
 use crate::lists::{cut_weights, node_values, nodes_named};
 use crate::said::{has_no_numbers, is_word, names_commodity, node_said, one_number};
-use hub_model::{Dual, Mix, TreeLine};
+use hub_model::{Dual, MOST_DENOMINATOR, Mix, TreeLine, signed};
 use std::alloc::{AllocError, Global};
-
-const MOST_DENOMINATOR: u128 = 1_000_000;
 
 // Above each number that has at most 30 digits.
 const NO_LIMIT: u128 = 1_000_000_000_000_000_000_000_000_000_000;
@@ -25,7 +25,7 @@ pub(crate) fn hubs_said(
     numbers: &[u128],
     n: u32,
 ) -> Result<Option<Vec<u32>>, AllocError>
-    ensures { IfOk result (λ hubs. Says (want_hubs n) word.now numbers.now (λ h. says_hubs h.items) hubs) }
+    ensures { IfOk result (λ hubs. Says (want_hubs (shape n)) word.now numbers.now (λ h. says_hubs h.items) hubs) }
 {
     if !is_word(word, b"hubs") {
         return Ok(None);
@@ -48,8 +48,8 @@ pub(crate) fn dual_said(
     t: u32,
 ) -> Result<Option<Dual>, AllocError>
     requires some_node { 1 ≤ n }
-    requires short { All (λ n. n < 10 ^ 30) numbers.now }
-    ensures { IfOk result (λ dual. (all x : ℕ) → Says (want_dual n all x t) word.now numbers.now (λ d. says_dual (commodity_at n t) d) dual) }
+    requires short { All IsShort numbers.now }
+    ensures { IfOk result (SaysDual n t word.now numbers.now) }
 {
     let [i, j, a, rest @ ..] = numbers else {
         return Ok(None);
@@ -64,7 +64,7 @@ pub(crate) fn dual_said(
         return Ok(None);
     }
     let values = node_values(alloc, rest, n)?;
-    Ok(Some(Dual::new(*a as i128, values)))
+    Ok(Some(Dual::new(signed(*a), values)))
 }
 
 // A line of the tree.
@@ -75,8 +75,8 @@ pub(crate) fn tree_said(
     numbers: &[u128],
     n: u32,
 ) -> Result<Option<TreeLine>, AllocError>
-    requires short { All (λ n. n < 10 ^ 30) numbers.now }
-    ensures { IfOk result (λ line. MatchOption line ((l : definitions.TreeLine) → IsTreeSaid n word.now numbers.now l → ⊥) (λ l. IsTreeSaid n word.now numbers.now (tree_line_of l))) }
+    requires short { All IsShort numbers.now }
+    ensures { IfOk result (FindsBy tree_line_of (IsTreeSaid n word.now numbers.now)) }
 {
     if let Some(k) = branch_said(word, numbers, n) {
         return Ok(Some(TreeLine::BranchOn(k)));
@@ -93,8 +93,8 @@ pub(crate) fn tree_said(
 // The node of a branch.
 #[tactic(auto, using(crate::proofs::Listing::said_branch, crate::proofs::Listing::unsaid_branch))]
 fn branch_said(word: &[u8], numbers: &[u128], n: u32) -> Option<u32>
-    requires short { All (λ n. n < 10 ^ 30) numbers.now }
-    ensures { MatchOption result ((k : ℕ) → IsTreeSaid n word.now numbers.now (branch_on k) → ⊥) (λ k. IsTreeSaid n word.now numbers.now (branch_on k)) }
+    requires short { All IsShort numbers.now }
+    ensures { Finds (λ k. IsTreeSaid n word.now numbers.now (branch_on k)) result }
 {
     let Some(number) = one_number(word, numbers, b"branch") else {
         return None;
@@ -112,8 +112,8 @@ fn leaf_said(
     numbers: &[u128],
     n: u32,
 ) -> Result<Option<Mix>, AllocError>
-    requires short { All (λ n. n < 10 ^ 30) numbers.now }
-    ensures { IfOk result (λ mix. MatchOption mix ((denom : ℕ) (weights : List (ℕ × ℕ)) → IsTreeSaid n word.now numbers.now (leaf_of denom weights) → ⊥) (λ m. IsTreeSaid n word.now numbers.now (leaf_of m.denom m.weights))) }
+    requires short { All IsShort numbers.now }
+    ensures { IfOk result (Finds (λ m. IsTreeSaid n word.now numbers.now (leaf_of m.denom m.weights))) }
 {
     let [denom, rest @ ..] = numbers else {
         return Ok(None);
@@ -128,5 +128,5 @@ fn leaf_said(
         return Ok(None);
     }
     let weights = cut_weights(alloc, rest, NO_LIMIT)?;
-    Ok(Some(Mix::new(*denom as i128, weights)))
+    Ok(Some(Mix::new(signed(*denom), weights)))
 }

@@ -1,9 +1,12 @@
 // Nodes, values of nodes and weights of cuts, gathered from the numbers of a line that fit.
 ghost use Rattle.std.specs.Prelude.{◌≡◌, ◌+◌, ◌^◌, ◌<◌, ◌≤◌, true, map, IfOk, All};
-ghost use Rattle.hub_spec.specs.Lines.{value_numbers, weight_numbers};
-ghost use Rattle.hub_model.specs.Held.{natural_values, natural_weights};
+ghost use Rattle.cert_spec.specs.Lines.{value_numbers, weight_numbers};
+ghost use Rattle.hub_model.specs.Prices.{natural_values};
+ghost use Rattle.hub_model.specs.Mixtures.{natural_weights};
 ghost use Rattle.cert_format.specs.Fits.{nodes_fit, pairs_fit};
+ghost use Rattle.hub_spec.specs.Ranges.{IsShort};
 
+use hub_model::signed;
 use std::alloc::{AllocError, Global};
 
 // The nodes that a line names.
@@ -27,13 +30,13 @@ pub(crate) fn node_values(
     n: u32,
 ) -> Result<Vec<(u32, i128)>, AllocError>
     requires fit { pairs_fit n 0 numbers.now ≡ true }
-    requires short { All (λ n. n < 10 ^ 30) numbers.now }
+    requires short { All IsShort numbers.now }
     ensures { IfOk result (λ u. value_numbers (natural_values u.items) ≡ numbers.now) }
 {
     let mut values = Vec::new(alloc);
     let mut rest = numbers;
     'values: while let [number, value, behind @ ..] = rest {
-        values.push(((*number - 1) as u32, *value as i128))?;
+        values.push(((*number - 1) as u32, signed(*value)))?;
         rest = behind;
     }
     Ok(values)
@@ -47,13 +50,13 @@ pub(crate) fn cut_weights(
     most: u128,
 ) -> Result<Vec<(i128, i128)>, AllocError>
     requires fit { pairs_fit most 0 numbers.now ≡ true }
-    requires short { All (λ n. n < 10 ^ 30) numbers.now }
+    requires short { All IsShort numbers.now }
     ensures { IfOk result (λ w. weight_numbers (natural_weights w.items) ≡ numbers.now) }
 {
     let mut weights = Vec::new(alloc);
     let mut rest = numbers;
     'weights: while let [number, value, behind @ ..] = rest {
-        weights.push((*number as i128, *value as i128))?;
+        weights.push((signed(*number), signed(*value)))?;
         rest = behind;
     }
     Ok(weights)

@@ -1,5 +1,5 @@
 ghost use Rattle.std.specs.Prelude.{◌≡◌, IfOk, IfErr};
-ghost use Rattle.hub_spec.specs.Text.{Spells};
+ghost use Rattle.cert_spec.specs.Text.{Spells};
 ghost use Rattle.cert_format.specs.Faults.{ToldFault};
 ghost use Rattle.cert_format.specs.declared.reader.CertFault.TheVariants.{OutOfMemory};
 

@@ -1,12 +1,12 @@
 // What a line says at each stage, by its first word and the numbers behind it.
 ghost use Rattle.std.specs.Prelude.{◌≡◌, ◌+◌, ◌*◌, ◌/◌, ◌%◌, ◌^◌, ◌<◌, ◌≤◌, ◌↔◌, ℕ, [], ◌∷◌, length, pos, codes, Some, None, IsTrue, IfOk, IfSome, MatchOption, All};
-ghost use Rattle.hub_spec.specs.Lines.{says_version, says_size, says_cost, says_bound, says_hubs, says_route, says_cuts, says_cut, says_nodes, says_end};
-ghost use Rattle.hub_spec.specs.Grammar.{want_version, want_size, want_cost, want_bound, want_hubs, want_route, want_cuts, want_cut, want_nodes, want_end, commodity_at};
-ghost use Rattle.cert_format.specs.Said.{Says, SaysIf, IsRow};
+ghost use Rattle.cert_spec.specs.Lines.{says_version, says_size, says_cost, says_bound, says_hubs, says_route, says_cuts, says_cut, says_nodes, says_end};
+ghost use Rattle.cert_spec.specs.Grammar.{want_version, want_size, want_cost, want_bound, want_hubs, want_route, want_cuts, want_cut, want_nodes, want_end, shape};
+ghost use Rattle.hub_spec.specs.Ranges.{IsShort};
+ghost use Rattle.hub_spec.specs.Problem.{commodity_at};
+ghost use Rattle.cert_format.specs.Said.{Says, SaysIf, Finds, IsRow};
 
-const MOST_CUTS: u128 = 67_108_864;
-
-const MOST_TREE_LINES: u128 = 268_435_456;
+use hub_model::{MOST_CUTS, MOST_NODES, MOST_TREE_LINES};
 
 #[tactic(auto, using(crate::proofs::Single::same_word))]
 pub(crate) fn is_word(word: &[u8], wanted: &[u8]) -> bool
@@ -29,9 +29,9 @@ pub(crate) fn has_no_numbers(word: &[u8], numbers: &[u128], wanted: &[u8]) -> bo
 // The only number of a line with the wanted first word.
 #[tactic(auto, using(crate::proofs::Single::listed_1))]
 pub(crate) fn one_number(word: &[u8], numbers: &[u128], wanted: &[u8]) -> Option<u128>
-    requires { All (λ n. n < 10 ^ 30) numbers.now }
-    ensures row { MatchOption result ((n : ℕ) → IsRow word.now numbers.now wanted.now (n ∷ []) → ⊥) (λ n. IsRow word.now numbers.now wanted.now (n ∷ [])) }
-    ensures short { IfSome result (λ n. n < 10 ^ 30) }
+    requires { All IsShort numbers.now }
+    ensures row { Finds (λ n. IsRow word.now numbers.now wanted.now (n ∷ [])) result }
+    ensures short { IfSome result IsShort }
 {
     match numbers {
         [n] if word == wanted => Some(*n),
@@ -42,7 +42,7 @@ pub(crate) fn one_number(word: &[u8], numbers: &[u128], wanted: &[u8]) -> Option
 // The two numbers of a line with the wanted first word.
 #[tactic(auto, using(crate::proofs::Single::listed_2))]
 fn two_numbers(word: &[u8], numbers: &[u128], wanted: &[u8]) -> Option<(u128, u128)>
-    ensures { MatchOption result ((a b : ℕ) → IsRow word.now numbers.now wanted.now (a ∷ b ∷ []) → ⊥) (λ p. IsRow word.now numbers.now wanted.now (p.0 ∷ p.1 ∷ [])) }
+    ensures { Finds (λ p. IsRow word.now numbers.now wanted.now (p.0 ∷ p.1 ∷ [])) result }
 {
     match numbers {
         [a, b] if word == wanted => Some((*a, *b)),
@@ -53,7 +53,7 @@ fn two_numbers(word: &[u8], numbers: &[u128], wanted: &[u8]) -> Option<(u128, u1
 // The four numbers of a line with the wanted first word.
 #[tactic(auto, using(crate::proofs::Single::listed_4))]
 fn four_numbers(word: &[u8], numbers: &[u128], wanted: &[u8]) -> Option<(u128, u128, u128, u128)>
-    ensures { MatchOption result ((a b e f : ℕ) → IsRow word.now numbers.now wanted.now (a ∷ b ∷ e ∷ f ∷ []) → ⊥) (λ p. IsRow word.now numbers.now wanted.now (p.0 ∷ p.1 ∷ p.2 ∷ p.3 ∷ [])) }
+    ensures { Finds (λ p. IsRow word.now numbers.now wanted.now (p.0 ∷ p.1 ∷ p.2 ∷ p.3 ∷ [])) result }
 {
     match numbers {
         [a, b, c, d] if word == wanted => Some((*a, *b, *c, *d)),
@@ -63,7 +63,7 @@ fn four_numbers(word: &[u8], numbers: &[u128], wanted: &[u8]) -> Option<(u128, u
 
 // The node that a text names by this number.
 pub(crate) fn node_said(number: u128, n: u32) -> Option<u32>
-    ensures { MatchOption result ((k : ℕ) → k + 1 ≡ number → k < n → ⊥) (λ k. (k + 1 ≡ number) × (k < n)) }
+    ensures { Finds (λ k. (k + 1 ≡ number) × (k < n)) result }
 {
     if number < 1 || number > n as u128 {
         return None;
@@ -81,7 +81,7 @@ pub(crate) fn names_commodity(i: u128, j: u128, n: u32, t: u32) -> bool
 
 #[tactic(auto, using(crate::proofs::Saying::no_version))]
 pub(crate) fn version_said(word: &[u8], numbers: &[u128]) -> bool
-    requires { All (λ n. n < 10 ^ 30) numbers.now }
+    requires { All IsShort numbers.now }
     ensures { SaysIf want_version word.now numbers.now says_version result }
 {
     one_number(word, numbers, b"HUBCERT") == Some(1)
@@ -90,8 +90,10 @@ pub(crate) fn version_said(word: &[u8], numbers: &[u128]) -> bool
 pub(crate) fn size_said(word: &[u8], numbers: &[u128]) -> Option<(u32, u32)>
     ensures { Says want_size word.now numbers.now (λ s. says_size s.0 s.1) result }
 {
-    let (n, q) = two_numbers(word, numbers, b"size")?;
-    if n < 1 || n > 200 || q < 1 || q > n {
+    let Some((n, q)) = two_numbers(word, numbers, b"size") else {
+        return None;
+    };
+    if n < 1 || n > MOST_NODES as u128 || q < 1 || q > n {
         return None;
     }
     Some((n as u32, q as u32))
@@ -99,16 +101,16 @@ pub(crate) fn size_said(word: &[u8], numbers: &[u128]) -> Option<(u32, u32)>
 
 #[tactic(auto, using(crate::proofs::Saying::no_cost))]
 pub(crate) fn cost_said(word: &[u8], numbers: &[u128], n: u32) -> Option<u128>
-    requires { All (λ n. n < 10 ^ 30) numbers.now }
-    ensures { Says (want_cost n) word.now numbers.now says_cost result }
+    requires { All IsShort numbers.now }
+    ensures { Says (want_cost (shape n)) word.now numbers.now says_cost result }
 {
     one_number(word, numbers, b"cost")
 }
 
 #[tactic(auto, using(crate::proofs::Saying::no_bound))]
 pub(crate) fn bound_said(word: &[u8], numbers: &[u128], n: u32) -> Option<u128>
-    requires { All (λ n. n < 10 ^ 30) numbers.now }
-    ensures { Says (want_bound n) word.now numbers.now says_bound result }
+    requires { All IsShort numbers.now }
+    ensures { Says (want_bound (shape n)) word.now numbers.now says_bound result }
 {
     one_number(word, numbers, b"bound")
 }
@@ -116,7 +118,7 @@ pub(crate) fn bound_said(word: &[u8], numbers: &[u128], n: u32) -> Option<u128>
 // The route of the commodity number t.
 pub(crate) fn route_said(word: &[u8], numbers: &[u128], n: u32, t: u32) -> Option<(u32, u32)>
     requires { 1 ≤ n }
-    ensures { Says (want_route n t) word.now numbers.now (λ r. says_route (commodity_at n t) (r.0, r.1)) result }
+    ensures { Says (want_route (shape n) t) word.now numbers.now (says_route (commodity_at n t)) result }
 {
     let Some((i, j, k, m)) = four_numbers(word, numbers, b"route") else {
         return None;
@@ -135,11 +137,11 @@ pub(crate) fn route_said(word: &[u8], numbers: &[u128], n: u32, t: u32) -> Optio
 
 #[tactic(auto, using(crate::proofs::Saying::no_cuts))]
 pub(crate) fn cuts_said(word: &[u8], numbers: &[u128], n: u32) -> Option<u32>
-    requires { All (λ n. n < 10 ^ 30) numbers.now }
-    ensures { Says (want_cuts n) word.now numbers.now says_cuts result }
+    requires { All IsShort numbers.now }
+    ensures { Says (want_cuts (shape n)) word.now numbers.now says_cuts result }
 {
     let all = one_number(word, numbers, b"cuts")?;
-    if all > MOST_CUTS {
+    if all > MOST_CUTS as u128 {
         return None;
     }
     Some(all as u32)
@@ -148,19 +150,19 @@ pub(crate) fn cuts_said(word: &[u8], numbers: &[u128], n: u32) -> Option<u32>
 // Whether the cut behind x others is begun.
 #[tactic(auto, using(crate::proofs::Saying::no_cut))]
 pub(crate) fn cut_said(word: &[u8], numbers: &[u128], n: u32, all: u32, x: u32) -> bool
-    requires { All (λ n. n < 10 ^ 30) numbers.now }
-    ensures { SaysIf (want_cut n all x) word.now numbers.now (says_cut (x + 1)) result }
+    requires { All IsShort numbers.now }
+    ensures { SaysIf (want_cut (shape n) all x) word.now numbers.now (says_cut (x + 1)) result }
 {
     one_number(word, numbers, b"cut") == Some(x as u128 + 1)
 }
 
 #[tactic(auto, using(crate::proofs::Saying::no_nodes))]
 pub(crate) fn nodes_said(word: &[u8], numbers: &[u128], n: u32) -> Option<u32>
-    requires { All (λ n. n < 10 ^ 30) numbers.now }
-    ensures { Says (want_nodes n) word.now numbers.now says_nodes result }
+    requires { All IsShort numbers.now }
+    ensures { Says (want_nodes (shape n)) word.now numbers.now says_nodes result }
 {
     let all = one_number(word, numbers, b"nodes")?;
-    if all < 1 || all > MOST_TREE_LINES {
+    if all < 1 || all > MOST_TREE_LINES as u128 {
         return None;
     }
     Some(all as u32)

@@ -1,9 +1,10 @@
 // What the next line is to be.
-ghost use Rattle.std.specs.Prelude.{◌≡◌, ◌-◌, ◌<◌, ◌≤◌, ℕ, MatchOption};
-ghost use Rattle.hub_spec.specs.Grammar as grammar;
-ghost use Rattle.hub_spec.specs.Grammar.{places_after, IsOpen};
+ghost use Rattle.std.specs.Prelude.{◌≡◌, ◌-◌, ◌<◌, ◌≤◌, ℕ};
+ghost use Rattle.hub_spec.specs.Limits.{most_nodes};
+ghost use Rattle.cert_spec.specs.Grammar as grammar;
+ghost use Rattle.cert_spec.specs.Grammar.{shape, places_after};
 ghost use Rattle.hub_model.specs.Lines.{tree_line_of};
-ghost use Rattle.cert_format.specs.Stages.{stage_at};
+ghost use Rattle.cert_format.specs.Stages.{stage_at, IsAfterLine};
 
 use hub_model::TreeLine;
 
@@ -30,8 +31,8 @@ pub(crate) enum Stage {
 
 // What is wanted after t routes.
 pub(crate) fn after_route(n: u32, t: u32) -> Stage
-    requires { n ≤ 200 }
-    ensures { stage_at n result ≡ grammar.after_route n t }
+    requires { n ≤ most_nodes }
+    ensures { stage_at (shape n) result ≡ grammar.after_route (shape n) t }
 {
     if t == n * n {
         Stage::Cuts
@@ -42,7 +43,7 @@ pub(crate) fn after_route(n: u32, t: u32) -> Stage
 
 // What is wanted after x cuts.
 pub(crate) fn after_cut(all: u32, x: u32) -> Stage
-    ensures { (n : ℕ) → stage_at n result ≡ grammar.after_cut n all x }
+    ensures { (s : grammar.Shape) → stage_at s result ≡ grammar.after_cut s all x }
 {
     if x == all {
         Stage::Nodes
@@ -53,9 +54,9 @@ pub(crate) fn after_cut(all: u32, x: u32) -> Stage
 
 // What is wanted after t duals of a cut.
 pub(crate) fn after_dual(n: u32, all: u32, x: u32, t: u32) -> Stage
-    requires few { n ≤ 200 }
+    requires few { n ≤ most_nodes }
     requires place { x < all }
-    ensures { stage_at n result ≡ grammar.after_dual n all x t }
+    ensures { stage_at (shape n) result ≡ grammar.after_dual (shape n) all x t }
 {
     if t == n * n {
         after_cut(all, x + 1)
@@ -66,7 +67,7 @@ pub(crate) fn after_dual(n: u32, all: u32, x: u32, t: u32) -> Stage
 
 // What is wanted after this line, where it leaves no more places than lines, and some place where a line is left.
 pub(crate) fn after_line(line: &TreeLine, places: u32, left: u32) -> Option<Stage>
-    ensures { let after = places_after places (tree_line_of line.now) in MatchOption result (IsOpen after (left - 1) → ⊥) (λ stage. IsOpen after (left - 1) × ((n : ℕ) → stage_at n stage ≡ grammar.after_tree n after (left - 1))) }
+    ensures { IsAfterLine (places_after places (tree_line_of line.now)) (left - 1) result }
 {
     let behind = left.saturating_sub(1);
     let open = match line {

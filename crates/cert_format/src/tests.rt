@@ -4,79 +4,12 @@ use hub_io::{MemSink, Partial};
 use hub_model::TreeLine;
 use std::alloc::{AllocError, Global};
 use std::test::Fail;
-
-// One node, and a branch on it: its open child is bounded by a leaf, its closed child has no hub.
-const FIRST_TEXT: &str = "HUBCERT 1
-size 1 1
-cost 5000000000000
-bound 5000000000000
-hubs 1
-route 1 1 1 1
-cuts 1
-cut 1
-dual 1 1 0
-nodes 3
-branch 1
-leaf 1000000
-empty
-end
-";
-
-// Two nodes.
-const SECOND_TEXT: &str = "HUBCERT 1
-size 2 2
-cost 25000000000000
-bound 25000000000000
-hubs 1
-route 1 1 1 1
-route 1 2 1 1
-route 2 1 1 1
-route 2 2 1 1
-cuts 2
-cut 1
-dual 1 1 0
-dual 1 2 10000000000000
-dual 2 1 10000000000000
-dual 2 2 0
-cut 2
-dual 1 1 0
-dual 1 2 10000000000000
-dual 2 1 10000000000000
-dual 2 2 0
-nodes 5
-branch 1
-leaf 1000000 1 1000000
-branch 2
-leaf 1000000 1 1000000
-empty
-end
-";
-
-// Values of nodes, and two cuts at a leaf.
-const THIRD_TEXT: &str = "HUBCERT 1
-size 2 1
-cost 0
-bound 999999999999999999999999999999
-hubs 1 2
-route 1 1 2 1
-route 1 2 1 2
-route 2 1 2 2
-route 2 2 1 1
-cuts 1
-cut 1
-dual 1 1 7 1 8 2 9
-dual 1 2 0 2 999999999999999999999999999999
-dual 2 1 0
-dual 2 2 0
-nodes 1
-leaf 1 3 4 5 6
-end
-";
+use worked_cases::{FORM_ALONE, ONE_NODE_CERTIFICATE, TWO_NODES_CERTIFICATE};
 
 #[test]
 fn texts_are_written_back(rt: HostRuntime) -> Result<(), Fail> {
     let alloc = rt.alloc();
-    for text in [FIRST_TEXT, SECOND_TEXT, THIRD_TEXT] {
+    for text in [ONE_NODE_CERTIFICATE, TWO_NODES_CERTIFICATE, FORM_ALONE] {
         let certificate = read_cert(alloc, text.as_bytes())?;
         let mut sink = MemSink::new(alloc, 1000)?;
         assert_eq!(rt; write_cert(&certificate, &mut sink), Ok(()));
@@ -87,7 +20,7 @@ fn texts_are_written_back(rt: HostRuntime) -> Result<(), Fail> {
 
 #[test]
 fn parts(rt: HostRuntime) -> Result<(), Fail> {
-    let certificate = read_cert(rt.alloc(), THIRD_TEXT.as_bytes())?;
+    let certificate = read_cert(rt.alloc(), FORM_ALONE.as_bytes())?;
     assert_eq!(rt; certificate.size(), 2);
     assert_eq!(rt; certificate.candidates(), 1);
     assert_eq!(rt; certificate.cost(), 0);
@@ -122,7 +55,7 @@ fn parts(rt: HostRuntime) -> Result<(), Fail> {
 #[test]
 fn failing_put(rt: HostRuntime) -> Result<(), Fail> {
     let alloc = rt.alloc();
-    let certificate = read_cert(alloc, FIRST_TEXT.as_bytes())?;
+    let certificate = read_cert(alloc, ONE_NODE_CERTIFICATE.as_bytes())?;
     let mut failing = Vec::new(alloc);
     failing.push(Partial { call: 1, taken: 5 })?;
     let mut sink = MemSink::with_faults(alloc, 1000, failing)?;
@@ -153,8 +86,12 @@ const FAULTS: [(&str, &str, CertFault); 23] = [
         CertFault::BadLine { line: 24 },
     ),
     ("end\n", "end\nx", CertFault::BadLine { line: 28 }),
-    (SECOND_TEXT, "", CertFault::Ended { line: 1 }),
-    (SECOND_TEXT, "HUBCERT 1", CertFault::Ended { line: 1 }),
+    (TWO_NODES_CERTIFICATE, "", CertFault::Ended { line: 1 }),
+    (
+        TWO_NODES_CERTIFICATE,
+        "HUBCERT 1",
+        CertFault::Ended { line: 1 },
+    ),
     ("HUBCERT 1\n", "HUBCERT 9\n", CertFault::BadLine { line: 1 }),
     (
         "HUBCERT 1\n",
@@ -220,7 +157,7 @@ fn faults(rt: HostRuntime) -> Result<(), Fail> {
 // The second text with the first such part replaced.
 fn replaced(alloc: Global, old: &str, new: &str) -> Result<String, AllocError> {
     let mut text = String::new(alloc);
-    if let Some((front, back)) = SECOND_TEXT.split_once(old) {
+    if let Some((front, back)) = TWO_NODES_CERTIFICATE.split_once(old) {
         text.push_str(front)?;
         text.push_str(new)?;
         text.push_str(back)?;

@@ -3,8 +3,9 @@ ghost use Rattle.std.specs.Prelude.{◌≡◌, ◌+◌, ◌^◌, ◌<◌, ◌≤
 ghost use Rattle.std.specs.List.{slice_split, position_or_len, list_all};
 ghost use Rattle.std.specs.Char.{is_ascii_digit, digit_value};
 ghost use Rattle.std.specs.Str.Parse.{digits_value};
-ghost use Rattle.hub_spec.specs.Reading.{number_of, numbers_of};
+ghost use Rattle.cert_spec.specs.Reading.{number_of, numbers_of};
 ghost use Rattle.cert_format.specs.Words.{is_at, HasNoNumbers, HasWords, SaysNumbers};
+ghost use Rattle.hub_spec.specs.Ranges.{IsShort};
 
 use std::alloc::AllocError;
 
@@ -14,7 +15,8 @@ const MOST_DIGITS: usize = 30;
 // The bytes before the first such byte, and those behind it where there is one.
 #[tactic(auto, using(crate::proofs::Splits::split_nowhere))]
 pub(crate) fn split_first(bytes: &[u8], at: u8) -> (&[u8], Option<&[u8]>)
-    ensures parts { MatchOption result.1 (slice_split (is_at at) bytes.now ≡ result.0.now ∷ []) (λ back. slice_split (is_at at) bytes.now ≡ result.0.now ∷ slice_split (is_at at) back.now) }
+    ensures parts { MatchOption result.1 (slice_split (is_at at) bytes.now ≡ result.0.now ∷ [])
+        (λ back. slice_split (is_at at) bytes.now ≡ result.0.now ∷ slice_split (is_at at) back.now) }
     ensures shorter { IfSome result.1 (λ back. length back.now < length bytes.now) }
 {
     let place = place_of(bytes, at);
@@ -38,10 +40,10 @@ fn place_of(bytes: &[u8], at: u8) -> usize
 }
 
 // The number that a word spells.
-#[tactic(auto, using(crate::proofs::Values::all_digits_same), unfolding(hub_spec::specs::Reading::number_of))]
+#[tactic(auto, using(crate::proofs::Values::all_digits_same), unfolding(cert_spec::specs::Reading::number_of))]
 fn read_number(word: &[u8]) -> Option<u128>
     ensures value { result ≡ number_of word.now }
-    ensures short { IfSome result (λ n. n < 10 ^ 30) }
+    ensures short { IfSome result IsShort }
 {
     if word.is_empty()
         || word.len() > MOST_DIGITS
@@ -64,7 +66,7 @@ fn value_of(digits: &[u8]) -> u128
     requires few { length digits.now ≤ MOST_DIGITS }
     requires digits { list_all is_ascii_digit digits.now ≡ true }
     ensures value { result ≡ digits_value 10 digits.now }
-    ensures short { result < 10 ^ 30 }
+    ensures short { IsShort result }
 {
     let mut value = 0;
     for byte in digits {
@@ -86,8 +88,9 @@ pub(crate) fn read_words<'a>(
     line: &'a [u8],
     numbers: &mut Vec<u128>,
 ) -> Result<Option<&'a [u8]>, AllocError>
-    ensures words { IfOk result (λ keyword. MatchOption keyword (HasNoNumbers line.now) (λ word. HasWords line.now word.now numbers.new.items)) }
-    ensures short { All (λ n. n < 10 ^ 30) numbers.new.items }
+    ensures words { IfOk result (λ keyword. MatchOption keyword (HasNoNumbers line.now)
+        (λ word. HasWords line.now word.now numbers.new.items)) }
+    ensures short { All IsShort numbers.new.items }
 {
     numbers.clear();
     let (keyword, behind) = split_first(line, b' ');
@@ -105,9 +108,9 @@ pub(crate) fn read_words<'a>(
 
 // Reads the words as numbers, where all are, behind those that stand already.
 fn read_numbers(words: &[u8], numbers: &mut Vec<u128>) -> Result<bool, AllocError>
-    requires { All (λ n. n < 10 ^ 30) numbers.old.items }
-    ensures numbers { IfOk result (λ all. SaysNumbers (slice_split (is_at 32) words.now) numbers.old.items numbers.new.items all) }
-    ensures short { All (λ n. n < 10 ^ 30) numbers.new.items }
+    requires { All IsShort numbers.old.items }
+    ensures numbers { IfOk result (SaysNumbers (slice_split (is_at 32) words.now) numbers.old.items numbers.new.items) }
+    ensures short { All IsShort numbers.new.items }
 {
     let mut rest = words;
     'words: loop {

@@ -1,18 +1,21 @@
-ghost use Rattle.std.specs.Prelude.{◌≡◌, ◌+◌, ◌*◌, ◌++◌, ◌≤◌, ◌<◌, ◌^◌, ℕ, [], ◌∷◌, flat_map, length, map, All};
-ghost use Rattle.std.specs.List.{enumerate_from};
-ghost use Rattle.hub_spec.specs.Trees.{preorder};
-ghost use Rattle.hub_spec.specs.Lines.{says_version, says_size, says_cost, says_bound, says_hubs, says_nodes, says_tree};
-ghost use Rattle.hub_spec.specs.Text.{line_bytes, cut_items, certificate_text};
-ghost use Rattle.hub_io.specs.Outside.{Puts, PutsThrough};
+// A certificate's text put part by part.
+ghost use Rattle.std.specs.Prelude.{◌≡◌, ◌+◌, ◌*◌, ◌≤◌, ◌<◌, ◌^◌, ℕ, [], ◌∷◌, length, map, zip, All};
+ghost use Rattle.hub_spec.specs.Limits.{most_nodes};
+ghost use Rattle.hub_spec.specs.Problem.{commodities};
+ghost use Rattle.hub_spec.specs.Cuts.{cut_by};
+ghost use Rattle.cert_spec.specs.Lines.{says_version, says_size, says_cost, says_bound, says_tree};
+ghost use Rattle.cert_spec.specs.Text.{route_items, dual_items, cut_items, top_items, cuts_items, tree_items, certificate_items, certificate_text};
+ghost use Rattle.hub_io.specs.Outside.{Puts};
+ghost use Rattle.hub_model.specs.Amounts.{natural, IsNatural};
 ghost use Rattle.hub_model.specs.Lines.{tree_line_of};
-ghost use Rattle.cert_format.specs.Held.{cut_of};
-ghost use Rattle.cert_format.specs.Lists.{route_items, dual_items, all_cut_items, end_items};
+ghost use Rattle.cert_format.specs.Parts.{cut_of};
+ghost use Rattle.cert_format.specs.Puts.{PutsLines};
 
 use crate::Certificate;
-use crate::lines::{put_dual, put_hubs, put_route, put_tree_line, unsigned};
-use crate::rows::put_row;
+use crate::lines::{put_cut, put_dual, put_hubs, put_route, put_tree_line};
+use crate::spaced::put_line;
 use hub_io::{Buffer, Failed, Sink};
-use hub_model::{Dual, TreeLine};
+use hub_model::{Dual, Plan, TreeLine, unsigned};
 
 /// Puts the text of a certificate, in puts of about 8192 bytes each. It takes no memory but for those bytes.
 pub fn write_cert<K: Sink>(certificate: &Certificate, sink: &mut K) -> Result<(), Failed>
@@ -28,77 +31,75 @@ fn put_certificate<K: Sink>(
     buffer: &mut Buffer,
     sink: &mut K,
 ) -> Result<(), Failed>
-    ensures { PutsThrough K.taken K.faults sink.old sink.new buffer.old buffer.new result (certificate_text certificate.now) }
+    ensures { PutsLines K.taken K.faults sink.old sink.new buffer.old buffer.new result
+        (certificate_items certificate.now) }
 {
-    put_sizes(certificate, buffer, sink)?;
-    put_costs(certificate, buffer, sink)?;
-    put_body(certificate, buffer, sink)
-}
-
-fn put_sizes<K: Sink>(
-    certificate: &Certificate,
-    buffer: &mut Buffer,
-    sink: &mut K,
-) -> Result<(), Failed>
-    ensures { PutsThrough K.taken K.faults sink.old sink.new buffer.old buffer.new result (line_bytes says_version ++ line_bytes (says_size certificate.now.size certificate.now.candidates)) }
-{
-    let size = certificate.size() as u128;
-    let candidates = certificate.candidates() as u128;
-    put_row(b"HUBCERT", &[1], buffer, sink)?;
-    put_row(b"size", &[size, candidates], buffer, sink)
-}
-
-fn put_costs<K: Sink>(
-    certificate: &Certificate,
-    buffer: &mut Buffer,
-    sink: &mut K,
-) -> Result<(), Failed>
-    ensures { PutsThrough K.taken K.faults sink.old sink.new buffer.old buffer.new result (line_bytes (says_cost certificate.now.cost) ++ line_bytes (says_bound certificate.now.bound)) }
-{
-    let cost = unsigned(&certificate.cost());
-    let bound = unsigned(&certificate.bound());
-    put_row(b"cost", &[cost], buffer, sink)?;
-    put_row(b"bound", &[bound], buffer, sink)
-}
-
-fn put_body<K: Sink>(
-    certificate: &Certificate,
-    buffer: &mut Buffer,
-    sink: &mut K,
-) -> Result<(), Failed>
-    ensures { PutsThrough K.taken K.faults sink.old sink.new buffer.old buffer.new result (line_bytes (says_hubs certificate.now.plan.hubs) ++ (flat_map line_bytes (route_items certificate.now.size certificate.now.plan.routes) ++ (flat_map line_bytes (all_cut_items certificate.now.size certificate.now.cuts) ++ flat_map line_bytes (end_items (preorder certificate.now.tree))))) }
-{
-    certificate.limits();
-    put_hubs(certificate.hubs(), buffer, sink)?;
-    put_rest(certificate, buffer, sink)
-}
-
-fn put_rest<K: Sink>(
-    certificate: &Certificate,
-    buffer: &mut Buffer,
-    sink: &mut K,
-) -> Result<(), Failed>
-    ensures { PutsThrough K.taken K.faults sink.old sink.new buffer.old buffer.new result (flat_map line_bytes (route_items certificate.now.size certificate.now.plan.routes) ++ (flat_map line_bytes (all_cut_items certificate.now.size certificate.now.cuts) ++ flat_map line_bytes (end_items (preorder certificate.now.tree)))) }
-{
-    certificate.limits();
     let n = certificate.size();
-    put_routes(n, certificate.routes(), buffer, sink)?;
-    put_proof(certificate, buffer, sink)
-}
-
-fn put_proof<K: Sink>(
-    certificate: &Certificate,
-    buffer: &mut Buffer,
-    sink: &mut K,
-) -> Result<(), Failed>
-    ensures { PutsThrough K.taken K.faults sink.old sink.new buffer.old buffer.new result (flat_map line_bytes (all_cut_items certificate.now.size certificate.now.cuts) ++ flat_map line_bytes (end_items (preorder certificate.now.tree))) }
-{
-    certificate.limits();
-    let n = certificate.size();
+    let candidates = certificate.candidates();
+    let cost = certificate.cost();
+    let bound = certificate.bound();
+    let plan = certificate.plan();
     let cuts = certificate.cuts();
     let tree = certificate.tree();
-    put_all_cuts(n, cuts, buffer, sink)?;
-    put_end(tree, buffer, sink)
+    put_top(
+        n,
+        candidates,
+        cost,
+        bound,
+        plan,
+        cuts.len() as u64,
+        buffer,
+        sink,
+    )?;
+    put_cuts(n, cuts, buffer, sink)?;
+    put_tree(tree, buffer, sink)
+}
+
+/// Puts the lines up to the number of cuts. The cuts and the tree are to follow: a certificate's text is put so where
+/// its duals are made while they are put.
+pub fn put_top<K: Sink>(
+    size: u32,
+    candidates: u32,
+    cost: i128,
+    bound: i128,
+    plan: &Plan,
+    cuts: u64,
+    buffer: &mut Buffer,
+    sink: &mut K,
+) -> Result<(), Failed>
+    requires some { 1 ≤ size }
+    requires few { size ≤ most_nodes }
+    requires whole { length plan.now.routes ≡ size * size }
+    requires cost { IsNatural cost }
+    requires bound { IsNatural bound }
+    ensures { PutsLines K.taken K.faults sink.old sink.new buffer.old buffer.new result
+        (top_items size candidates (natural cost) (natural bound) plan.now cuts) }
+{
+    let hubs = plan.hubs();
+    let routes = plan.routes();
+    let paid = unsigned(cost);
+    let least = unsigned(bound);
+    put_head(size, candidates, paid, least, buffer, sink)?;
+    put_hubs(hubs, buffer, sink)?;
+    put_routes(size, routes, buffer, sink)?;
+    put_line(b"cuts", &[cuts as u128], buffer, sink)
+}
+
+fn put_head<K: Sink>(
+    size: u32,
+    candidates: u32,
+    cost: u128,
+    bound: u128,
+    buffer: &mut Buffer,
+    sink: &mut K,
+) -> Result<(), Failed>
+    ensures { PutsLines K.taken K.faults sink.old sink.new buffer.old buffer.new result
+        (says_version ∷ says_size size candidates ∷ says_cost cost ∷ says_bound bound ∷ []) }
+{
+    put_line(b"HUBCERT", &[1], buffer, sink)?;
+    put_line(b"size", &[size as u128, candidates as u128], buffer, sink)?;
+    put_line(b"cost", &[cost], buffer, sink)?;
+    put_line(b"bound", &[bound], buffer, sink)
 }
 
 fn put_routes<K: Sink>(
@@ -108,31 +109,15 @@ fn put_routes<K: Sink>(
     sink: &mut K,
 ) -> Result<(), Failed>
     requires some { 1 ≤ n }
-    requires few { n ≤ 200 }
+    requires few { n ≤ most_nodes }
     requires whole { length routes.now ≡ n * n }
-    ensures { PutsThrough K.taken K.faults sink.old sink.new buffer.old buffer.new result (flat_map line_bytes (route_items n routes.now)) }
+    ensures { PutsLines K.taken K.faults sink.old sink.new buffer.old buffer.new result
+        (route_items (zip (commodities n) routes.now)) }
 {
     for (t, route) in routes.iter().enumerate() {
         put_route(n, t as u32, *route, buffer, sink)?;
     }
     Ok(())
-}
-
-// Puts how many cuts there are, and the cuts.
-fn put_all_cuts<K: Sink>(
-    n: u32,
-    cuts: &[Vec<Dual>],
-    buffer: &mut Buffer,
-    sink: &mut K,
-) -> Result<(), Failed>
-    requires some { 1 ≤ n }
-    requires few { n ≤ 200 }
-    requires whole { All (λ c. length c.duals ≡ n * n) (map cut_of cuts.now) }
-    ensures { PutsThrough K.taken K.faults sink.old sink.new buffer.old buffer.new result (flat_map line_bytes (all_cut_items n (map cut_of cuts.now))) }
-{
-    let count = cuts.len() as u128;
-    put_row(b"cuts", &[count], buffer, sink)?;
-    put_cuts(n, cuts, buffer, sink)
 }
 
 fn put_cuts<K: Sink>(
@@ -142,29 +127,31 @@ fn put_cuts<K: Sink>(
     sink: &mut K,
 ) -> Result<(), Failed>
     requires some { 1 ≤ n }
-    requires few { n ≤ 200 }
+    requires few { n ≤ most_nodes }
     requires whole { All (λ c. length c.duals ≡ n * n) (map cut_of cuts.now) }
-    ensures { PutsThrough K.taken K.faults sink.old sink.new buffer.old buffer.new result (flat_map line_bytes (flat_map (cut_items n) (enumerate_from 1 (map cut_of cuts.now)))) }
+    ensures { PutsLines K.taken K.faults sink.old sink.new buffer.old buffer.new result
+        (cuts_items n 1 (map cut_of cuts.now)) }
 {
     for (x, cut) in cuts.iter().enumerate() {
-        put_cut(n, x as u128 + 1, cut, buffer, sink)?;
+        put_whole_cut(n, x as u64 + 1, cut, buffer, sink)?;
     }
     Ok(())
 }
 
-fn put_cut<K: Sink>(
+fn put_whole_cut<K: Sink>(
     n: u32,
-    number: u128,
+    x: u64,
     duals: &[Dual],
     buffer: &mut Buffer,
     sink: &mut K,
 ) -> Result<(), Failed>
     requires some { 1 ≤ n }
-    requires few { n ≤ 200 }
+    requires few { n ≤ most_nodes }
     requires whole { length duals.now ≡ n * n }
-    ensures { PutsThrough K.taken K.faults sink.old sink.new buffer.old buffer.new result (flat_map line_bytes (cut_items n (number, record { duals = duals.now }))) }
+    ensures { PutsLines K.taken K.faults sink.old sink.new buffer.old buffer.new result
+        (cut_items n (x, cut_by duals.now)) }
 {
-    put_row(b"cut", &[number], buffer, sink)?;
+    put_cut(x, buffer, sink)?;
     put_duals(n, duals, buffer, sink)
 }
 
@@ -175,34 +162,40 @@ fn put_duals<K: Sink>(
     sink: &mut K,
 ) -> Result<(), Failed>
     requires some { 1 ≤ n }
-    requires few { n ≤ 200 }
+    requires few { n ≤ most_nodes }
     requires whole { length duals.now ≡ n * n }
-    ensures { PutsThrough K.taken K.faults sink.old sink.new buffer.old buffer.new result (flat_map line_bytes (dual_items n duals.now)) }
+    ensures { PutsLines K.taken K.faults sink.old sink.new buffer.old buffer.new result
+        (dual_items (zip (commodities n) duals.now)) }
 {
     for (t, dual) in duals.iter().enumerate() {
-        put_dual(n, t as u32, dual, buffer, sink)?;
+        let i = t as u32 / n;
+        let j = t as u32 % n;
+        put_dual(i, j, dual.a(), dual.u(), buffer, sink)?;
     }
     Ok(())
 }
 
-// Puts how many lines the tree has, the lines, and the end.
-fn put_end<K: Sink>(lines: &[TreeLine], buffer: &mut Buffer, sink: &mut K) -> Result<(), Failed>
-    ensures { PutsThrough K.taken K.faults sink.old sink.new buffer.old buffer.new result (flat_map line_bytes (end_items (map tree_line_of lines.now))) }
+/// Puts the lines of the tree, with how many they are in front, and the last line of the text.
+pub fn put_tree<K: Sink>(
+    lines: &[TreeLine],
+    buffer: &mut Buffer,
+    sink: &mut K,
+) -> Result<(), Failed>
+    ensures { PutsLines K.taken K.faults sink.old sink.new buffer.old buffer.new result
+        (tree_items (map tree_line_of lines.now)) }
 {
-    put_tree(lines, buffer, sink)?;
-    put_row(b"end", &[], buffer, sink)
+    put_line(b"nodes", &[lines.len() as u128], buffer, sink)?;
+    put_tree_lines(lines, buffer, sink)?;
+    put_line(b"end", &[], buffer, sink)
 }
 
-fn put_tree<K: Sink>(lines: &[TreeLine], buffer: &mut Buffer, sink: &mut K) -> Result<(), Failed>
-    ensures { PutsThrough K.taken K.faults sink.old sink.new buffer.old buffer.new result (line_bytes (says_nodes (length lines.now)) ++ flat_map line_bytes (map says_tree (map tree_line_of lines.now))) }
-{
-    let count = lines.len() as u128;
-    put_row(b"nodes", &[count], buffer, sink)?;
-    put_lines(lines, buffer, sink)
-}
-
-fn put_lines<K: Sink>(lines: &[TreeLine], buffer: &mut Buffer, sink: &mut K) -> Result<(), Failed>
-    ensures { PutsThrough K.taken K.faults sink.old sink.new buffer.old buffer.new result (flat_map line_bytes (map says_tree (map tree_line_of lines.now))) }
+fn put_tree_lines<K: Sink>(
+    lines: &[TreeLine],
+    buffer: &mut Buffer,
+    sink: &mut K,
+) -> Result<(), Failed>
+    ensures { PutsLines K.taken K.faults sink.old sink.new buffer.old buffer.new result
+        (map says_tree (map tree_line_of lines.now)) }
 {
     for line in lines {
         put_tree_line(line, buffer, sink)?;

@@ -2,4 +2,4 @@ pub mod Turns
 pub mod Marks
 pub mod Values
 pub mod Exponents
-pub mod Rows
+pub mod PutPieces

@@ -1,14 +1,2 @@
-pub mod Asked
-pub mod MinimalDuals
-pub mod SetCuts
-pub mod Assigned
-pub mod HeldCosts
-pub mod OutsideNodes
-pub mod Turns
-pub mod Entries
-pub mod Reaches
-pub mod ListedDuals
 pub mod RowLoads
 pub mod WholeCuts
-pub mod RowsSoFar
-pub mod RouteViews

@@ -1,17 +1,18 @@
 -- The loads as far as they are summed: row by row, and entry by entry of a row.
-use Rattle.std.proofs.Common.{◌≡◌, ℕ, ◌+◌, ◌<◌, ◌≤◌, ◌^◌, ℤ, pos, ◌+ℤ◌, FitsSigned, to_z, of_z, rules, List, length, get_or, take, map, set, All, refl, ap, sym, subst, ◌∙◌, ⊎_elim, arith}
+use Rattle.std.proofs.Common.{◌≡◌, ℕ, ◌+◌, ◌<◌, ◌≤◌, ℤ, pos, ◌+ℤ◌, FitsSigned, to_z, of_z, rules, List, length, get_or, take, map, set, All, refl, ap, sym, subst, ◌∙◌, ⊎_elim, arith}
 use mir.Syntax.{w128}
-use Rattle.hub_model.specs.Held.{held_values, natural_values, ArePrices}
-use Rattle.dual_cuts.proofs.Entries.{naturals_held}
-use Rattle.dual_cuts.proofs.HeldCosts.{handed_on}
+use Rattle.hub_model.specs.Prices.{natural_values, signed_values}
+use Rattle.hub_plain.proofs.Entries.{entries_again}
+use Rattle.hub_plain.proofs.SignedCosts.{handed_on}
 use Rattle.std.specs.List.Sorted.{IsStrictlyIncreasing}
 use Rattle.std.proofs.lemmas.Bool.{cases_eq}
 use Rattle.std.proofs.lemmas.List.{take_all, get_or-map, length-map, get_or-set_same, get_or-set_other}
 use Rattle.std.proofs.lemmas.List.Elements.{All-get_or}
 use Rattle.std.proofs.lemmas.List.Sums.{sum_by_more, sum_by_more_le}
-use Rattle.hub_spec.specs.Cuts.{Prices, value_at, load}
+use Rattle.hub_spec.specs.Limits.{most_cost}
+use Rattle.hub_spec.specs.Cuts.{Prices, value_at, load, cut_by}
 use Rattle.hub_spec.proofs.ListedValues.{IsNextValue, next_value, first_value_within}
-use Rattle.dual_cuts.specs.HubCuts.{cut_by, AreLoads, HasLoadsWithin, ListNodes}
+use Rattle.dual_cuts.specs.HubCuts.{AreLoads, HasLoadsWithin, ListNodes}
 
 -- the loads of the first t rows, and of the first entries of the row after them
 pub record AreLoadsUpTo (loads : List ℤ) (rows : List Prices) (t : ℕ) (u : List (ℕ × ℕ)) (e : ℕ) : Type 0 where
@@ -19,27 +20,27 @@ pub record AreLoadsUpTo (loads : List ℤ) (rows : List Prices) (t : ℕ) (u : L
 
 -- ---- one entry more
 
--- the next entry as it is held
-pub entry_at : (items : List (ℕ × ℤ)) (u : List (ℕ × ℕ)) (e : ℕ) → items ≡ held_values u → e < length items
+-- the next entry as a signed one
+pub entry_at : (items : List (ℕ × ℤ)) (u : List (ℕ × ℕ)) (e : ℕ) → items ≡ signed_values u → e < length items
     → (e < length u) × ((get_or items e (0, pos 0)).0 ≡ (get_or u e (0, 0)).0) × ((get_or items e (0, pos 0)).1 ≡ pos (get_or u e (0, 0)).1)
 entry_at items u e same below =
-    let held : ℕ × ℕ → ℕ × ℤ = λ x. (x.0, pos x.1) in
-    let long : length items ≡ length u = ap (length {A = ℕ × ℤ}) same ∙ length-map u held in
+    let signed : ℕ × ℕ → ℕ × ℤ = λ x. (x.0, pos x.1) in
+    let long : length items ≡ length u = ap (length {A = ℕ × ℤ}) same ∙ length-map u signed in
     let short : e < length u = omega arith in
-    let here : get_or items e (0, pos 0) ≡ held (get_or u e (0, 0)) =
-    ap (λ (xs : List (ℕ × ℤ)). get_or xs e (0, pos 0)) same ∙ get_or-map held u e (0, 0) (0, pos 0) short in
+    let here : get_or items e (0, pos 0) ≡ signed (get_or u e (0, 0)) =
+    ap (λ (xs : List (ℕ × ℤ)). get_or xs e (0, pos 0)) same ∙ get_or-map signed u e (0, 0) (0, pos 0) short in
     (short, ap (λ (x : ℕ × ℤ). x.0) here, ap (λ (x : ℕ × ℤ). x.1) here)
 
 -- the row after the first t rows
 pub record IsRow (rows : List Prices) (t : ℕ) (u : List (ℕ × ℕ)) : Type 0 where
   pub ascend : IsStrictlyIncreasing (map (λ (x : ℕ × ℕ). x.0) u)
   pub load_more : (k : ℕ) → load (cut_by (take (t + 1) rows)) k ≡ load (cut_by (take t rows)) k + value_at u k
-  pub load_within : (k : ℕ) → load (cut_by (take t rows)) k + value_at u k ≤ 10 ^ 29
+  pub load_within : (k : ℕ) → load (cut_by (take t rows)) k + value_at u k ≤ most_cost
 
-pub row_is : (rows : List Prices) (t : ℕ) (row : Prices) → t < length rows → row ≡ get_or rows t row → ArePrices row
+pub row_is : (rows : List Prices) (t : ℕ) (row : Prices) → t < length rows → row ≡ get_or rows t row → IsStrictlyIncreasing (map (λ (x : ℕ × ℕ). x.0) row.u)
     → HasLoadsWithin (cut_by rows) → IsRow rows t row.u
-row_is rows t row below is prices limit = record {
-  ascend = prices.ascend;
+row_is rows t row below is ascend limit = record {
+  ascend = ascend;
   load_more = λ k. sum_by_more (λ (d : Prices). value_at d.u k) rows t row below ∙ at k;
   load_within = λ k. omega (arith, sum_by_more_le (λ (d : Prices). value_at d.u k) rows t row below, at k, limit.each k);
 }
@@ -49,15 +50,15 @@ row_is rows t row below is prices limit = record {
 
 -- what the next entry adds to is within the limit
 entry_limit : (loads : List ℤ) (rows : List Prices) (t : ℕ) (u : List (ℕ × ℕ)) (e : ℕ) → IsRow rows t u → e < length u
-    → load (cut_by (take t rows)) (get_or u e (0, 0)).0 + value_at (take e u) (get_or u e (0, 0)).0 + (get_or u e (0, 0)).1 ≤ 10 ^ 29
+    → load (cut_by (take t rows)) (get_or u e (0, 0)).0 + value_at (take e u) (get_or u e (0, 0)).0 + (get_or u e (0, 0)).1 ≤ most_cost
 entry_limit loads rows t u e row below =
     let k = (get_or u e (0, 0)).0 in
     let v = (get_or u e (0, 0)).1 in
     let next = next_value u e row.ascend below in
     omega (arith, next.none, next.same, first_value_within (e + 1) u k, row.load_within k)
 
--- a load and a value as they are held, and what they add up to
-added : (x z : ℤ) (n v : ℕ) → x ≡ pos n → z ≡ pos v → n + v ≤ 10 ^ 29
+-- a load and a value as signed numbers, and what they add up to
+added : (x z : ℤ) (n v : ℕ) → x ≡ pos n → z ≡ pos v → n + v ≤ most_cost
     → FitsSigned w128 (to_z w128 (of_z w128 x) +ℤ to_z w128 (of_z w128 z))
     × (to_z w128 (of_z w128 (to_z w128 (of_z w128 x) +ℤ to_z w128 (of_z w128 z))) ≡ pos (n + v))
 added x z n v e f low =
@@ -66,12 +67,12 @@ added x z n v e f low =
     let whole : (to_z w128 (of_z w128 x) +ℤ to_z w128 (of_z w128 z)) ≡ pos (n + v) = rw (first, second) refl in
     (rw whole (small (n + v) low), handed_on (to_z w128 (of_z w128 x) +ℤ to_z w128 (of_z w128 z)) (n + v) whole low)
   where
-    small : (m : ℕ) → m ≤ 10 ^ 29 → FitsSigned w128 (pos m)
+    small : (m : ℕ) → m ≤ most_cost → FitsSigned w128 (pos m)
     small m l = search (rules, arith)
 
 -- the sum of the load and of the value of the next entry
 pub entry_added : (loads : List ℤ) (rows : List Prices) (t : ℕ) (u : List (ℕ × ℕ)) (items : List (ℕ × ℤ)) (e : ℕ) → IsRow rows t u
-    → items ≡ held_values u → e < length items → AreLoadsUpTo loads rows t u e
+    → items ≡ signed_values u → e < length items → AreLoadsUpTo loads rows t u e
     → let x = get_or loads (get_or items e (0, pos 0)).0 (pos 0) in let z = (get_or items e (0, pos 0)).1 in
     let k = (get_or u e (0, 0)).0 in
     FitsSigned w128 (to_z w128 (of_z w128 x) +ℤ to_z w128 (of_z w128 z))
@@ -112,16 +113,12 @@ loaded_more loads rows t u e k w row below node within so_far is = record {
 -- ---- where a row begins and ends
 
 pub entry_node : (size : ℕ) (rows : List Prices) (t : ℕ) (row : Prices) (items : List (ℕ × ℤ)) (e : ℕ) → t < length rows → row ≡ get_or rows t row
-    → ListNodes size rows → items ≡ held_values row.u → e < length items → (get_or items e (0, pos 0)).0 < size
+    → ListNodes size rows → items ≡ signed_values row.u → e < length items → (get_or items e (0, pos 0)).0 < size
 entry_node size rows t row items e below is nodes same within =
     let at = entry_at items row.u e same within in
     let listed = All-get_or (λ (d : Prices). All (λ (x : ℕ × ℕ). x.0 < size) d.u) rows t row below nodes.each in
     let here = subst (λ (d : Prices). All (λ (x : ℕ × ℕ). x.0 < size) d.u) (sym is) listed in
     omega (arith, at.1, All-get_or (λ (x : ℕ × ℕ). x.0 < size) row.u e (0, 0) at.0 here)
-
-pub loaded_start : (loads : List ℤ) (rows : List Prices) (t : ℕ) (u : List (ℕ × ℕ)) → AreLoads loads (cut_by (take t rows))
-    → AreLoadsUpTo loads rows t u 0
-loaded_start loads rows t u before = record { each = λ k. before.each k ∙ ap pos (omega arith) }
 
 pub loaded_all : (loads : List ℤ) (rows : List Prices) (t : ℕ) (u : List (ℕ × ℕ)) (e : ℕ) → IsRow rows t u → length u ≤ e
     → AreLoadsUpTo loads rows t u e → AreLoads loads (cut_by (take (t + 1) rows))
@@ -131,19 +128,19 @@ loaded_all loads rows t u e row all so_far = record {
       so_far.each k ∙ ap pos (omega (arith, whole, row.load_more k));
 }
 
--- the entries as they are held and as they are
-pub by_row : (loads : List ℤ) (rows : List Prices) (t : ℕ) (u : List (ℕ × ℕ)) (items : List (ℕ × ℤ)) (e : ℕ) → items ≡ held_values u
+-- the entries with signed values and as they are
+pub by_row : (loads : List ℤ) (rows : List Prices) (t : ℕ) (u : List (ℕ × ℕ)) (items : List (ℕ × ℤ)) (e : ℕ) → items ≡ signed_values u
     → AreLoadsUpTo loads rows t (natural_values items) e → AreLoadsUpTo loads rows t u e
 by_row loads rows t u items e same so_far =
-    subst (λ (x : List (ℕ × ℕ)). AreLoadsUpTo loads rows t x e) (ap natural_values same ∙ naturals_held u) so_far
+    subst (λ (x : List (ℕ × ℕ)). AreLoadsUpTo loads rows t x e) (ap natural_values same ∙ entries_again u) so_far
 
-pub by_items : (loads : List ℤ) (rows : List Prices) (t : ℕ) (u : List (ℕ × ℕ)) (items : List (ℕ × ℤ)) (e : ℕ) → items ≡ held_values u
+pub by_items : (loads : List ℤ) (rows : List Prices) (t : ℕ) (u : List (ℕ × ℕ)) (items : List (ℕ × ℤ)) (e : ℕ) → items ≡ signed_values u
     → AreLoadsUpTo loads rows t u e → AreLoadsUpTo loads rows t (natural_values items) e
 by_items loads rows t u items e same so_far =
-    subst (λ (x : List (ℕ × ℕ)). AreLoadsUpTo loads rows t x e) (sym (ap natural_values same ∙ naturals_held u)) so_far
+    subst (λ (x : List (ℕ × ℕ)). AreLoadsUpTo loads rows t x e) (sym (ap natural_values same ∙ entries_again u)) so_far
 
-pub all_entries : (u : List (ℕ × ℕ)) (items : List (ℕ × ℤ)) (e : ℕ) → items ≡ held_values u → length items ≤ e → length u ≤ e
+pub all_entries : (u : List (ℕ × ℕ)) (items : List (ℕ × ℤ)) (e : ℕ) → items ≡ signed_values u → length items ≤ e → length u ≤ e
 all_entries u items e same all =
-    let held : ℕ × ℕ → ℕ × ℤ = λ x. (x.0, pos x.1) in
-    let long : length items ≡ length u = ap (length {A = ℕ × ℤ}) same ∙ length-map u held in
+    let signed : ℕ × ℕ → ℕ × ℤ = λ x. (x.0, pos x.1) in
+    let long : length items ≡ length u = ap (length {A = ℕ × ℤ}) same ∙ length-map u signed in
     omega arith

@@ -1,15 +1,16 @@
 -- The duals of a cut list nodes, and each node's load is within the limit of the sums.
-use Rattle.std.proofs.Common.{◌≡◌, ℕ, ◌<◌, ◌≤◌, ◌^◌, List, [], ◌∷◌, sum_by, All, Contains, refl, sym, ◌∙◌, arith}
+use Rattle.std.proofs.Common.{◌≡◌, ℕ, ◌<◌, ◌≤◌, List, [], ◌∷◌, sum_by, All, Contains, refl, sym, ◌∙◌, arith}
 use Rattle.std.specs.List.{AllZip}
 use Rattle.std.proofs.lemmas.Bool.{false≢true}
 use Rattle.std.proofs.lemmas.List.Elements.{All-nil, All-cons, All-weaker, All-contains}
 use Rattle.std.proofs.lemmas.List.Sums.{sum_by-cons}
+use Rattle.hub_spec.specs.Limits.{most_cost}
 use Rattle.hub_spec.specs.Problem.{Problem, IsWithinLimits, commodities}
-use Rattle.hub_spec.specs.Cuts.{Prices, value_at, IsDual, Cut, load, IsCut}
+use Rattle.hub_spec.specs.Cuts.{Prices, value_at, IsDual, Cut, load, IsCut, cut_by}
 use Rattle.hub_spec.proofs.Sets.{is_in, is_in-yes, Contains-from_is_in}
 use Rattle.hub_spec.proofs.SumLemmas.{by_test}
-use Rattle.dual_cuts.specs.HubCuts.{ListNodes, HasLoadsWithin, cut_by}
-use Rattle.dual_cuts.proofs.SetCuts.{unlisted_value}
+use Rattle.dual_cuts.specs.HubCuts.{ListNodes, HasLoadsWithin}
+use Rattle.hub_spec.proofs.SetCuts.{unlisted_value}
 
 listed_nodes : (p : Problem) (c : ℕ × ℕ) (d : Prices) → IsWithinLimits p → IsDual p c d → All (λ (e : ℕ × ℕ). e.0 < p.size) d.u
 listed_nodes p c d ok dual =
@@ -43,6 +44,6 @@ no_load_outside p (c ∷ cs) (d ∷ duals) k are none =
 pub cut_loads_within : (p : Problem) (cut : Cut) → IsCut p cut → HasLoadsWithin cut
 cut_loads_within p cut ok = record {
   each = λ k. by_test (is_in p.candidates k)
-      (λ e. All-contains (λ m. load cut m ≤ 10 ^ 29) p.candidates k ok.sums.load_limit (Contains-from_is_in p.candidates k e))
+      (λ e. All-contains (λ m. load cut m ≤ most_cost) p.candidates k ok.sums.load_limit (Contains-from_is_in p.candidates k e))
       (λ e. omega (arith, no_load_outside p (commodities p.size) cut.duals k ok.duals (λ in_it. false≢true (sym e ∙ is_in-yes p.candidates k in_it))));
 }

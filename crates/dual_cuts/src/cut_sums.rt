@@ -1,15 +1,16 @@
 //! The total and the loads of a cut.
 
-ghost use Rattle.std.specs.Prelude.{◌≡◌, ◌+◌, ◌<◌, ◌≤◌, ◌^◌, pos, length, take, IfOk};
-ghost use Rattle.hub_spec.specs.Cuts.{total};
-ghost use Rattle.dual_cuts.specs.HubCuts.{cut_by, AreLoads, HasLoadsWithin, ListNodes};
+ghost use Rattle.std.specs.Prelude.{◌≡◌, ◌+◌, ◌<◌, ◌≤◌, pos, length, take, IfOk};
+ghost use Rattle.hub_spec.specs.Limits.{most_cost};
+ghost use Rattle.hub_spec.specs.Cuts.{cut_by, total};
+ghost use Rattle.dual_cuts.specs.HubCuts.{AreLoads, HasLoadsWithin, ListNodes};
 
 use hub_model::Dual;
 use std::alloc::{AllocError, Global};
 
 /// The sum of the prices.
 pub(crate) fn total_of(rows: &[Dual]) -> i128
-    requires { total (cut_by rows.now) ≤ 10 ^ 29 }
+    requires { total (cut_by rows.now) ≤ most_cost }
     ensures { result ≡ pos (total (cut_by rows.now)) }
 {
     let mut sum = 0;
@@ -41,9 +42,7 @@ fn add_row(loads: &mut [i128], rows: &[Dual], t: usize)
     requires before { AreLoads loads.old (cut_by (take t rows.now)) }
     ensures { AreLoads loads.new (cut_by (take (t + 1) rows.now)) }
 {
-    let row = &rows[t];
-    row.limits();
-    for (k, value) in row.u() {
+    for (k, value) in rows[t].u() {
         loads[*k as usize] += *value;
     }
 }

@@ -1,18 +1,15 @@
 //! The cut of a hub set.
 
-ghost use Rattle.std.specs.Prelude.{◌≡◌, ℕ, ◌+◌, ◌<◌, ◌≤◌, ◌^◌, pos, length, IfOk, Contains};
-ghost use Rattle.std.specs.List.{AllZip};
-ghost use Rattle.hub_spec.specs.Problem.{commodities, opening_cost};
+ghost use Rattle.std.specs.Prelude.{◌≡◌, ℕ, ◌+◌, pos, length, IfOk, Contains};
+ghost use Rattle.hub_spec.specs.Problem.{opening_cost};
 ghost use Rattle.hub_spec.specs.Plans.{IsHubSet, IsSetCost};
-ghost use Rattle.hub_spec.specs.Cuts.{total, load, IsCut};
-ghost use Rattle.hub_spec.specs.Separation.{IsOrder, IsMinimalDual, IsSetCut};
-ghost use Rattle.dual_cuts.specs.HubCuts.{cut_by, AreLoads};
-ghost use Rattle.dual_cuts.specs.Values.{HaveNoneElse};
+ghost use Rattle.hub_spec.specs.Cuts.{cut_by, total, load, IsCut, IsTight};
+ghost use Rattle.hub_spec.specs.Separation.{IsOrder, IsSetCut, set_cut};
+ghost use Rattle.dual_cuts.specs.HubCuts.{AreLoads};
 
 use crate::cut_sums::{loads_of, total_of};
-use crate::duals::priced_dual;
-use crate::routes::least_route_held;
 use hub_model::{Dual, HubSet, Instance};
+use hub_plain::set_cut_rows;
 use std::alloc::{AllocError, Global};
 use std::marker::Model;
 
@@ -28,7 +25,8 @@ pub struct Cut {
 
 impl Model for Cut {
     ghost use Rattle.std.specs.Prelude.{length};
-    ghost use Rattle.dual_cuts.specs.HubCuts.{HubCut, cut_by, HasSums};
+    ghost use Rattle.hub_spec.specs.Cuts.{cut_by};
+    ghost use Rattle.dual_cuts.specs.HubCuts.{HubCut, HasSums};
 
     ghost Value = { HubCut };
 
@@ -48,7 +46,6 @@ impl Cut {
         requires { IsCut instance.now (cut_by rows.items) }
         ensures { IfOk result (λ c. c ≡ record { hubs = set; size = instance.now.size; cut = cut_by rows.items }) }
     {
-        instance.limits();
         let total = total_of(&rows);
         let loads = loads_of(alloc, instance.size(), &rows)?;
         Ok(Cut {
@@ -81,18 +78,16 @@ impl Cut {
         rows
     }
 
-    /// The sum of the prices, from 0 to 10^29.
+    /// The sum of the prices.
     pub fn total(&self) -> i128
-        ensures value { result ≡ pos (total self.now.cut) }
-        ensures limit { total self.now.cut ≤ 10 ^ 29 }
+        ensures { result ≡ pos (total self.now.cut) }
     {
         self.total
     }
 
-    /// The load of the node, from 0 to 10^29.
+    /// The load of the node.
     pub fn load(&self, k: u32) -> i128
-        ensures value { result ≡ pos (load self.now.cut k) }
-        ensures limit { load self.now.cut k ≤ 10 ^ 29 }
+        ensures { result ≡ pos (load self.now.cut k) }
     {
         match self.loads.get(k as usize) {
             Some(load) => *load,
@@ -123,38 +118,12 @@ pub fn cut_of(
     ensures hubs { IfOk result (λ c. c.hubs ≡ set) }
     ensures size { IfOk result (λ c. c.size ≡ instance.now.size) }
     ensures set_cut { IfOk result (λ c. IsSetCut instance.now set order.now c.cut) }
+    ensures is { IfOk result (λ c. c.cut ≡ set_cut instance.now set order.now) }
     ensures cut { IfOk result (λ c. IsCut instance.now c.cut) }
     ensures no_load { IfOk result (λ c. (k : ℕ) → Contains set k → load c.cut k ≡ 0) }
-    ensures tight { IfOk result (λ c. IsSetCost instance.now set (total c.cut + opening_cost instance.now set)) }
+    ensures cost { IfOk result (λ c. IsSetCost instance.now set (total c.cut + opening_cost instance.now set)) }
+    ensures tight { IfOk result (λ c. IsTight instance.now set c.cut) }
 {
-    instance.limits();
-    let mut values = vec![in alloc; 0; instance.size() as usize]?;
-    let rows = rows_of(alloc, instance, set.members(), order, &mut values)?;
+    let rows = set_cut_rows(alloc, instance, &set, order)?;
     Cut::of(alloc, instance, set, rows)
-}
-
-/// The minimal dual of each commodity, with `values` to work in.
-fn rows_of(
-    alloc: Global,
-    instance: &Instance,
-    hubs: &[u32],
-    order: &[u32],
-    values: &mut [u128],
-) -> Result<Vec<Dual>, AllocError>
-    requires set { IsHubSet instance.now hubs.now }
-    requires order { IsOrder instance.now hubs.now order.now }
-    requires by_node { length values.old ≡ instance.now.size }
-    requires none_else { HaveNoneElse order.now values.old }
-    ensures { IfOk result (λ rows. AllZip (IsMinimalDual instance.now hubs.now order.now) (commodities instance.now.size) rows.items) }
-{
-    let n = instance.size();
-    let mut rows = Vec::new(alloc);
-    for i in 0..n {
-        for j in 0..n {
-            let price = least_route_held(instance, hubs, i, j).cost;
-            let row = priced_dual(alloc, instance, i, j, price, hubs, order, values)?;
-            rows.push(row)?;
-        }
-    }
-    Ok(rows)
 }

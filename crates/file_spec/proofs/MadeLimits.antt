@@ -10,7 +10,7 @@ use Rattle.std.proofs.lemmas.List.Elements.{All-from_get_or, All-map, All-nil, A
 use Rattle.hub_spec.specs.Problem.{distance, IsWithinLimits}
 use Rattle.file_spec.specs.Options.{Options, IsNodeList, IsOptions}
 use Rattle.file_spec.specs.Contents.{Contents, AreCosts, IsContents}
-use Rattle.file_spec.specs.Instances.{held_flows, costs_as_read, chosen, made}
+use Rattle.file_spec.specs.Instances.{kept_flows, costs_as_read, chosen, made}
 
 find_none : (n : ℕ) (nodes : List ℕ) → find (λ k. nat_le n k) nodes ≡ None → All (λ k. k < n) nodes
 find_none n [] e = All-nil (λ k. k < n)
@@ -49,14 +49,14 @@ numbered_within limit at (x ∷ xs) h =
 cleared_within : (limit a b w : ℕ) → w ≤ limit → cond (nat_eq a b) 0 w ≤ limit
 cleared_within limit a b w h = grind (arith, nat_tests)
 
-flows_held : (no_self : Bool) (n limit : ℕ) (flows : List ℕ) → All (λ w. w ≤ limit) flows → All (λ w. w ≤ limit) (held_flows no_self n flows)
-flows_held false n limit flows h = h
-flows_held true n limit flows h =
+flows_kept : (no_self : Bool) (n limit : ℕ) (flows : List ℕ) → All (λ w. w ≤ limit) flows → All (λ w. w ≤ limit) (kept_flows no_self n flows)
+flows_kept false n limit flows h = h
+flows_kept true n limit flows h =
     All-map (λ w. w ≤ limit) (λ (e : ℕ × ℕ). cond (nat_eq (e.0 / n) (e.0 % n)) 0 e.1) (enumerate_from 0 flows)
     (All-weaker (λ (e : ℕ × ℕ). e.1 ≤ limit) (λ (e : ℕ × ℕ). cond (nat_eq (e.0 / n) (e.0 % n)) 0 e.1 ≤ limit)
     (λ e h. cleared_within limit (e.0 / n) (e.0 % n) e.1 h) (enumerate_from 0 flows) (numbered_within limit 0 flows h))
 
-flows_counted : (no_self : Bool) (n : ℕ) (flows : List ℕ) → length (held_flows no_self n flows) ≡ length flows
+flows_counted : (no_self : Bool) (n : ℕ) (flows : List ℕ) → length (kept_flows no_self n flows) ≡ length flows
 flows_counted false n flows = refl
 flows_counted true n flows = length-map (enumerate_from 0 flows) _ ∙ length-enumerate_from 0 flows
 
@@ -91,7 +91,7 @@ made_limits o c costs ok within given none_past =
       candidates_ascend = nodes.ascend;
       candidates_are_nodes = nodes.below;
       flow_for_each_pair = flows_counted o.no_self c.size c.flows ∙ within.flow_for_each_pair;
-      flow_limit = flows_held o.no_self c.size (10 ^ 13) c.flows within.flow_limit;
+      flow_limit = flows_kept o.no_self c.size (10 ^ 13) c.flows within.flow_limit;
       distance_for_each_pair = within.distance_for_each_pair;
       distance_limit = within.distance_limit;
       distance_to_itself = within.distance_to_itself;

@@ -1,15 +1,17 @@
 -- The instance that the contents of a file, the options and the costs file give, or the fault that they have together.
 use Rattle.std.specs.Prelude.{◌≡◌, ℕ, ◌*◌, ◌/◌, ◌%◌, ◌^◌, ◌<◌, ◌≤◌, Bool, List, map, find, length, replicate, Option, Some, None, nat_eq, nat_le, nat_lt, if◌then◌else◌, unwrap_or}
 use Rattle.std.specs.List.{range_with_len, enumerate_from}
+use Rattle.hub_spec.specs.Limits.{most_cost}
 use Rattle.hub_spec.specs.Problem.{Problem, cost_ceiling}
 use Rattle.file_spec.specs.Options.{Layout, Options}
 use Rattle.file_spec.specs.Faults.{Fault, too_long, no_candidate, too_costly}
 use Rattle.file_spec.specs.Contents.{Contents}
 use Rattle.file_spec.specs.Files.{HasContents, HasFault, HasCosts, HasCostFault}
+use Rattle.file_spec.specs.Limits.{file_limit}
 
 -- the flows, those of a node to itself set to 0 where it is asked for
-abbrev pub held_flows : Bool → ℕ → List ℕ → List ℕ
-held_flows no_self n flows =
+abbrev pub kept_flows : Bool → ℕ → List ℕ → List ℕ
+kept_flows no_self n flows =
     if no_self then map (λ (e : ℕ × ℕ). if nat_eq (e.0 / n) (e.0 % n) then 0 else e.1) (enumerate_from 0 flows) else flows
 
 -- the fixed costs as read: of the costs file, of the file's tail, or one for all nodes; at most one of them is given
@@ -28,7 +30,7 @@ unfoldable pub made : Options → Contents → Option (List ℕ) → Problem
 made o contents costs = record {
   size = contents.size;
   candidates = chosen contents.size o.candidates;
-  flows = held_flows o.no_self contents.size contents.flows;
+  flows = kept_flows o.no_self contents.size contents.flows;
   distances = contents.distances;
   fixed_costs = map (λ x. x * 10 ^ 6) (costs_as_read contents.size costs contents.costs o.fixed);
   collect = unwrap_or o.collect contents.collect;
@@ -39,7 +41,7 @@ made o contents costs = record {
 
 -- what is wrong with the contents and the options together: a candidate that is no node, or else the sum rule
 abbrev pub sum_fault : ℕ → Option Fault
-sum_fault sum = if nat_lt (10 ^ 29) sum then Some (too_costly sum) else None
+sum_fault sum = if nat_lt most_cost sum then Some (too_costly sum) else None
 
 abbrev pub candidate_fault : Option ℕ → Option Fault → Option Fault
 candidate_fault (Some k) other = Some (no_candidate k)
@@ -50,10 +52,6 @@ build_fault o contents costs =
     candidate_fault (find (λ k. nat_le contents.size k) (chosen contents.size o.candidates))
     (sum_fault (cost_ceiling (made o contents costs)))
 
--- an instance file and a costs file may each hold at most this many bytes
-abbrev pub file_limit : ℕ
-file_limit = 67108864
-
 -- the file and the options give this instance
 pub record GivesInstance (layout : Layout) (o : Options) (bytes : List ℕ) (costs : Option (List ℕ)) (p : Problem) : Type 0 where
   pub not_too_long : length bytes ≤ file_limit
@@ -62,10 +60,14 @@ pub record GivesInstance (layout : Layout) (o : Options) (bytes : List ℕ) (cos
   pub legal : build_fault o contents costs ≡ None
   pub is : p ≡ made o contents costs
 
--- the file and the options have this fault: too many bytes, else the first of a token, else of the whole
+-- the instance file alone has this fault, whatever the fixed costs: too many bytes, else the first of a token
+pub data GivesFileFault (layout : Layout) (o : Options) (bytes : List ℕ) (fault : Fault) : Type 0 where
+  of_length : file_limit < length bytes → fault ≡ too_long → GivesFileFault layout o bytes fault
+  of_token : length bytes ≤ file_limit → HasFault layout o bytes fault → GivesFileFault layout o bytes fault
+
+-- the file, the options and the fixed costs have this fault: the file alone, else all of them together
 pub data GivesFault (layout : Layout) (o : Options) (bytes : List ℕ) (costs : Option (List ℕ)) (fault : Fault) : Type 0 where
-  of_length : file_limit < length bytes → fault ≡ too_long → GivesFault layout o bytes costs fault
-  of_token : length bytes ≤ file_limit → HasFault layout o bytes fault → GivesFault layout o bytes costs fault
+  of_file : GivesFileFault layout o bytes fault → GivesFault layout o bytes costs fault
   of_whole : (contents : Contents) → length bytes ≤ file_limit → HasContents layout o bytes contents
       → build_fault o contents costs ≡ Some fault → GivesFault layout o bytes costs fault
 
@@ -76,5 +78,5 @@ pub record GivesCosts (n : ℕ) (bytes costs : List ℕ) : Type 0 where
 
 -- the costs file has this fault: too many bytes, else the first of a token
 pub data GivesCostFault (n : ℕ) (bytes : List ℕ) (fault : Fault) : Type 0 where
-  of_length : file_limit < length bytes → fault ≡ too_long → GivesCostFault n bytes fault
-  of_token : length bytes ≤ file_limit → HasCostFault n bytes fault → GivesCostFault n bytes fault
+  of_cost_length : file_limit < length bytes → fault ≡ too_long → GivesCostFault n bytes fault
+  of_cost_token : length bytes ≤ file_limit → HasCostFault n bytes fault → GivesCostFault n bytes fault

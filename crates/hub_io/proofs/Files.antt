@@ -1,5 +1,5 @@
 -- Files in memory: the first of a name, and what is read of one.
-use Rattle.std.proofs.Common.{◌≡◌, ◌<◌, ℕ, ◌+◌, ◌-◌, min, List, ◌++◌, length, take, drop, Bool, true, false, cond, Option, None, Some, IsSome, MatchOption, inl, inr, nat_lt, refl, sym, subst, ap, ◌∙◌, arith, length-take, length-drop, take-append-drop}
+use Rattle.std.proofs.Common.{◌≡◌, ◌<◌, ℕ, ◌+◌, ◌-◌, min, List, ◌++◌, length, take, drop, Bool, true, false, cond, Option, None, Some, IsSome, inl, inr, nat_lt, refl, sym, subst, ap, ◌∙◌, arith, length-take, length-drop, take-append-drop}
 use Rattle.std.specs.Prelude.{option_map, find, position, slice_get}
 use Rattle.std.proofs.lemmas.List.{drop-drop, drop_all}
 use Rattle.std.proofs.lemmas.List.Folds.{find_at}
@@ -7,8 +7,7 @@ use Rattle.std.proofs.lemmas.Option.{slice_get_cases, slice_get_past}
 use Rattle.std.proofs.lemmas.Grind.{common_steps}
 use Rattle.std.proofs.Math.Seq.{take-append_seam}
 use Rattle.std.specs.List.{position_or_len}
-use Rattle.hub_io.specs.Outside.{Starts}
-use Rattle.hub_io.specs.MemShelf.{has_name, held_bytes, left_bytes}
+use Rattle.hub_io.specs.MemShelf.{has_name, Finds}
 use Rattle.hub_io.specs.declared.mem_shelf.MemFile.{MemFile}
 use borrow.Author.Tests.{ltb-true, ltb-false}
 
@@ -20,18 +19,14 @@ some_within f xs k h = elim (slice_get_cases xs k).1 as (λ _. IsSome (option_ma
 ]
 
 module _ (files : List MemFile) (name : List ℕ) where
-  -- what is left from the first byte of the file on, or that no file has the name
-  abbrev Named : Option ℕ → Type 0
-  Named found = MatchOption found (held_bytes files name ≡ None) (λ k. Starts (Some (held_bytes files)) name (left_bytes files (Some (record { file = k; byte = 0 }))))
-
   -- by whether the index of the first file of that name is within the list
-  named_by : (k : ℕ) → find (has_name name) files ≡ slice_get files k → (b : Bool) → nat_lt k (length files) ≡ b → Named (cond b (Some k) None)
+  named_by : (k : ℕ) → find (has_name name) files ≡ slice_get files k → (b : Bool) → nat_lt k (length files) ≡ b → Finds files name (cond b (Some k) None)
   named_by k at true e = (some_within (λ (f : MemFile). drop 0 f.bytes.items) files k (ltb-true k (length files) e), ap (option_map (λ f. f.bytes.items)) at)
   named_by k at false e = ap (option_map (λ f. f.bytes.items)) (at ∙ slice_get_past files k (ltb-false k (length files) e))
 
   -- what `position` finds is what `held_bytes` finds
-  pub first_named : (found : Option ℕ) → found ≡ position (has_name name) files → Named found
-  first_named found e = let p = has_name name in subst Named (sym e) (named_by (position_or_len p files) (find_at p files) (nat_lt (position_or_len p files) (length files)) refl)
+  pub first_named : (found : Option ℕ) → found ≡ position (has_name name) files → Finds files name found
+  first_named found e = let p = has_name name in subst (Finds files name) (sym e) (named_by (position_or_len p files) (find_at p files) (nat_lt (position_or_len p files) (length files)) refl)
 
 -- nothing stands past the end
 drop-min : (bytes : List ℕ) (byte : ℕ) → drop byte bytes ≡ drop (min byte (length bytes)) bytes

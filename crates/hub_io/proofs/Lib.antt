@@ -1,3 +1,2 @@
 mod Files
-pub mod Puts
 pub mod Through

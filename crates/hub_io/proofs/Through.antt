@@ -3,7 +3,10 @@ use Rattle.std.proofs.Common.{◌≡◌, ℕ, List, [], ◌++◌, Option, Result
 use Rattle.std.specs.Io.KnownBytes.{Appends}
 use Rattle.std.proofs.KnownBytes.{Appends-trans, Appends-nil}
 use Rattle.hub_io.specs.Outside.{Puts, PutsThrough, AppendsFront}
-use Rattle.hub_io.proofs.Puts.{front_of_more}
+
+-- a front of a text is one of a longer text
+front_of_more : (old new : Option (List ℕ)) (a b : List ℕ) → AppendsFront old new a → AppendsFront old new (a ++ b)
+front_of_more old new a b f = (f.0, f.1 ++ b, sym (append_assoc f.0 f.1 b) ∙ ap (λ l. l ++ b) f.2, f.3)
 
 -- an empty text is put by doing nothing
 pub through_none : {K E : Type 0} {taken : K → Option (List ℕ)} {faults : K → ℕ} (at : K) (waiting : List ℕ) → PutsThrough {E = E} taken faults at at waiting waiting (Ok tt) []
@@ -69,11 +72,3 @@ module _ {K E : Type 0} {taken : K → Option (List ℕ)} {faults : K → ℕ} w
   through_finish first mid last waiting between rest text r s ok none all p q =
       through_done first last waiting rest text s none all
       (subst (PutsThrough taken faults first last waiting rest s) (append-nil text) (through_on first mid last waiting between rest text [] r s ok p q))
-
-  -- a text was not put whole through a buffer in which nothing waited, so no more was put
-  pub through_fail : (first last : K) (waiting rest text : List ℕ) (r s : Result (Unit {0}) E) → IsErr r → IsErr s → waiting ≡ [] → PutsThrough taken faults first last waiting rest r text
-      → Puts taken faults first last s text
-  through_fail first last waiting rest text (Err e) (Err d) no_r no_s none p =
-      record { whole = tt; front = subst (AppendsFront (taken first) (taken last)) (ap (λ l. l ++ text) none) p.front; later = p.later; failed = p.failed }
-  through_fail first last waiting rest text (Ok x) s no_r no_s none p = absurd (search (rules, no_r))
-  through_fail first last waiting rest text (Err e) (Ok y) no_r no_s none p = absurd (search (rules, no_s))

@@ -1,5 +1,5 @@
 -- What the objects outside the program hold, take and fail at.
-use Rattle.std.specs.Prelude.{◌≡◌, ◌<◌, ◌≤◌, ℕ, ◌+◌, ◌-◌, ◌^◌, min, List, ◌++◌, length, ⊤, Option, None, Some, IsSome, Result, OnOk, OnErr}
+use Rattle.std.specs.Prelude.{◌≡◌, ◌<◌, ◌≤◌, ℕ, ◌+◌, ◌-◌, ◌^◌, min, List, ◌++◌, length, drop, ⊤, Option, None, Some, IsSome, Result, OnOk, OnErr}
 use Rattle.std.specs.Io.KnownBytes.{Appends}
 
 -- the bytes under each name, or none where no file has it
@@ -29,6 +29,11 @@ Holds (Some files) name bytes = files name ≡ Some bytes
 abbrev pub HoldsMore : Option Files → List ℕ → ℕ → Type 0
 HoldsMore None name limit = ⊤
 HoldsMore (Some files) name limit = (bytes : List ℕ) × (files name ≡ Some bytes) × (limit < length bytes)
+
+-- more bytes than that are held under the name, and what is left of them stands behind the limit and one byte
+abbrev pub LeavesRest : Option Files → Option (List ℕ) → List ℕ → ℕ → Type 0
+LeavesRest None left name limit = ⊤
+LeavesRest (Some files) left name limit = (bytes : List ℕ) × (files name ≡ Some bytes) × (limit < length bytes) × (left ≡ Some (drop (limit + 1) bytes))
 
 -- it is told that a file of that name is held
 abbrev pub TellsOf : Option Files → List ℕ → Type 0

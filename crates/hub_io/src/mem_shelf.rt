@@ -1,7 +1,6 @@
 // A shelf in memory, which fails where it is told to.
-ghost use Rattle.std.specs.Prelude.{◌≡◌, ◌+◌, ◌-◌, ◌^◌, ◌<◌, ◌≤◌, ◌↔◌, ◌++◌, min, Contains, IsTrue, ℕ, Option, None, Some, [], length, take, drop, All, position, find, slice_get, string_bytes, false, IfOk, IfSome, MatchOption};
-ghost use Rattle.hub_io.specs.Outside.{Starts};
-ghost use Rattle.hub_io.specs.MemShelf.{has_name, held_bytes, left_bytes, ReadsOn};
+ghost use Rattle.std.specs.Prelude.{◌≡◌, ◌+◌, ◌-◌, ◌^◌, ◌<◌, ◌≤◌, ◌↔◌, ◌++◌, min, Contains, IsTrue, ℕ, Option, None, Some, [], length, take, drop, All, slice_get, string_bytes, false, IfOk, IfSome};
+ghost use Rattle.hub_io.specs.MemShelf.{Finds, held_bytes, left_bytes, most_given, ReadsOn};
 
 use crate::{Failed, Shelf};
 use std::alloc::{AllocError, Global};
@@ -38,12 +37,15 @@ struct Place {
 ///
 /// Calls of `begin` and `read` are counted together from 1, and those in a list fail and do nothing
 /// else. Besides them, `begin` fails at a name that isn't held, and `read` before anything was begun.
+/// Reads that give bytes are counted from 1 too, and the lengths of a list bound them in turn.
 #[derive(Debug, Drop)]
 pub struct MemShelf {
     files: Vec<MemFile>,
     failing: Vec<u64>,
+    lengths: Vec<usize>,
     begun: Option<Place>,
     calls: u64,
+    gave: usize,
     faults: u64,
 }
 
@@ -65,11 +67,25 @@ impl MemShelf {
         ensures faults { ⟦<MemShelf as Shelf>⟧.faults result ≡ 0 }
         ensures sound { All (λ n. n ≤ 0) failing.items → ⟦<MemShelf as Shelf>⟧.sound result }
     {
+        let lengths = Vec::new(*files.allocator());
+        MemShelf::with_short_reads(files, failing, lengths)
+    }
+
+    /// A shelf on which the calls of these numbers are to fail, and the first reads that give bytes give
+    /// at most these lengths of them, in turn, and at least one byte.
+    pub fn with_short_reads(files: Vec<MemFile>, failing: Vec<u64>, lengths: Vec<usize>) -> MemShelf
+        ensures held { ⟦<MemShelf as Shelf>⟧.held result ≡ Some (held_bytes files.items) }
+        ensures unbegun { ⟦<MemShelf as Shelf>⟧.left result ≡ None }
+        ensures faults { ⟦<MemShelf as Shelf>⟧.faults result ≡ 0 }
+        ensures sound { All (λ n. n ≤ 0) failing.items → ⟦<MemShelf as Shelf>⟧.sound result }
+    {
         MemShelf {
             files,
             failing,
+            lengths,
             begun: None,
             calls: 0,
+            gave: 0,
             faults: 0,
         }
     }
@@ -95,6 +111,18 @@ impl MemShelf {
                 self.calls = call;
                 self.failing.contains(&call)
             }
+        }
+    }
+
+    // How many bytes the next read gives at most, where it asks for so many.
+    fn most(&self, asked: usize) -> usize
+        ensures within { result ≤ asked }
+        ensures some { 0 < asked → 0 < result }
+        ensures listed { result ≡ most_given (slice_get self.now.lengths.items self.now.gave) asked }
+    {
+        match self.lengths.get(self.gave) {
+            Some(length) => (*length).max(1).min(asked),
+            None => asked,
         }
     }
 
@@ -133,24 +161,21 @@ impl Shelf for MemShelf {
         if self.call_fails() {
             return Err(self.fault());
         }
-        let Some((place, count)) = read_on(&self.files, self.begun, into) else {
+        let most = self.most(into.len());
+        let Some((place, count)) = read_on(&self.files, self.begun, &mut into[..most]) else {
             return Err(self.fault());
         };
         self.begun = Some(place);
+        if count > 0 {
+            self.gave = self.gave.saturating_add(1);
+        }
         Ok(count)
     }
 }
 
 // The number of the first file of that name, which is read from its first byte on.
 fn file_named(files: &[MemFile], name: &str) -> Option<usize>
-    ensures { MatchOption result (held_bytes files.now name.now ≡ None) (λ file. Starts (Some (held_bytes files.now)) name.now (left_bytes files.now (Some (record { file = file; byte = 0 })))) }
-{
-    position_named(files, name)
-}
-
-// The same as a search through the list.
-fn position_named(files: &[MemFile], name: &str) -> Option<usize>
-    ensures { result ≡ position (has_name name.now) files.now }
+    ensures { Finds files.now name.now result }
 {
     files.iter().position(|file| file.name.as_str() == name)
 }

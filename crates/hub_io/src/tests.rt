@@ -7,9 +7,18 @@ use std::alloc::{AllocError, Global};
 use std::test::Fail;
 
 fn one_file(alloc: Global, bytes: &[u8], failing: &[u64]) -> Result<MemShelf, AllocError> {
+    short_file(alloc, bytes, failing, &[])
+}
+
+fn short_file(
+    alloc: Global,
+    bytes: &[u8],
+    failing: &[u64],
+    lengths: &[usize],
+) -> Result<MemShelf, AllocError> {
     let mut files = Vec::new(alloc);
     files.push(MemFile::new(alloc, "one", bytes)?)?;
-    Ok(MemShelf::with_faults(files, failing.to_vec(alloc)?))
+    Ok(MemShelf::with_short_reads(files, failing.to_vec(alloc)?, lengths.to_vec(alloc)?))
 }
 
 fn put_all<K: Sink>(pieces: &[&[u8]], sink: &mut K) -> Result<(), Failed> {
@@ -51,6 +60,69 @@ fn a_read_fails_at_each_call(rt: HostRuntime) -> Result<(), Fail> {
     let read = read_whole(alloc, &mut shelf, "one", 6000)?;
     assert_eq!(rt; read.as_slice(), bytes.as_slice());
     assert_eq!(rt; shelf.faults(), 0);
+    Ok(())
+}
+
+#[test]
+fn short_reads_give_the_same_bytes(rt: HostRuntime) -> Result<(), Fail> {
+    let alloc = rt.alloc();
+    let bytes = b"hub 12";
+    // The lengths, and how many reads then give bytes.
+    for (lengths, reads) in [
+        ([1usize; 6].as_slice(), 6),
+        (&[0, 0, 0, 0, 0, 0], 6),
+        (&[2, 1, 9], 3),
+        (&[3, 0], 3),
+        (&[9, 1], 1),
+        (&[], 1),
+    ] {
+        let mut shelf = short_file(alloc, bytes, &[], lengths)?;
+        let read = read_whole(alloc, &mut shelf, "one", 6)?;
+        assert_eq!(rt; read.as_slice(), bytes.as_slice());
+        assert_eq!(rt; shelf.faults(), 0);
+        // The begin is the first call, and the read at the end the last.
+        for call in 1..reads + 3 {
+            let mut shelf = short_file(alloc, bytes, &[call], lengths)?;
+            let read = read_whole(alloc, &mut shelf, "one", 6);
+            assert_eq!(rt; read.err(), Some(ReadEnd::ReadFault), "call {call}");
+            assert_eq!(rt; shelf.faults(), 1, "call {call}");
+        }
+        let mut shelf = short_file(alloc, bytes, &[reads + 3], lengths)?;
+        assert_eq!(rt;
+            read_whole(alloc, &mut shelf, "one", 6)?.as_slice(),
+            bytes.as_slice()
+        );
+    }
+    Ok(())
+}
+
+#[test]
+fn a_short_read_gives_its_length_where_the_file_has_so_many(rt: HostRuntime) -> Result<(), Fail> {
+    let alloc = rt.alloc();
+    // A call that fails takes no length.
+    let mut shelf = short_file(alloc, b"hub 12", &[3], &[2, 0, 9])?;
+    let mut into = [0; 8];
+    assert_eq!(rt; shelf.begin("one"), Ok(()));
+    for count in [Ok(2), Err(Failed), Ok(1), Ok(3), Ok(0)] {
+        assert_eq!(rt; shelf.read(&mut into), count);
+    }
+    // Neither does a read at the end, and past the list a read gives as much as fits.
+    assert_eq!(rt; shelf.begin("one"), Ok(()));
+    assert_eq!(rt; shelf.read(&mut into), Ok(6));
+    Ok(())
+}
+
+#[test]
+fn a_file_too_long_is_left_behind_the_limit_and_one_byte(rt: HostRuntime) -> Result<(), Fail> {
+    let alloc = rt.alloc();
+    for lengths in [[].as_slice(), &[1], &[2, 2]] {
+        let mut shelf = short_file(alloc, b"hub 12", &[], lengths)?;
+        let read = read_whole(alloc, &mut shelf, "one", 3);
+        assert_eq!(rt; read.err(), Some(ReadEnd::TooLong));
+        let mut into = [0; 4];
+        assert_eq!(rt; shelf.read(&mut into), Ok(2));
+        assert_eq!(rt; into[..2], b"12"[..]);
+    }
     Ok(())
 }
 

@@ -1,6 +1,6 @@
 // A whole file, up to a limit.
 ghost use Rattle.std.specs.Prelude.{◌≡◌, ◌≤◌, length, IfOk};
-ghost use Rattle.hub_io.specs.Outside.{Holds, HoldsMore, Rose, TellsOf};
+ghost use Rattle.hub_io.specs.Outside.{Holds, HoldsMore, LeavesRest, Rose, TellsOf};
 
 use crate::Shelf;
 use std::alloc::Global;
@@ -19,8 +19,7 @@ pub enum ReadEnd {
     OutOfMemory,
 }
 
-/// The bytes of the file of that name, at most `limit` of them. It reads one byte past the limit at
-/// most.
+/// The bytes of the file of that name, at most `limit` of them.
 ///
 /// Where no count of faults rose and memory sufficed, the answer is `TooLong` exactly where the file
 /// has more than `limit` bytes, and else its bytes: so the clauses say together.
@@ -33,9 +32,9 @@ pub fn read_whole<S: Shelf>(
     ensures whole { IfOk result (λ bytes. Holds (S.held shelf.old) name.now bytes.items) }
     ensures within { IfOk result (λ bytes. length bytes.items ≤ limit) }
     ensures too_long { result ≡ Err ReadEnd.TooLong → HoldsMore (S.held shelf.old) name.now limit }
+    ensures rest { result ≡ Err ReadEnd.TooLong → LeavesRest (S.held shelf.old) (S.left shelf.new) name.now limit }
     ensures fault { result ≡ Err ReadEnd.ReadFault → Rose (S.faults shelf.old) (S.faults shelf.new) }
     ensures sound { S.sound shelf.old → TellsOf (S.held shelf.old) name.now → result ≡ Err ReadEnd.ReadFault → ⊥ }
-
     ensures later { S.faults shelf.old ≤ S.faults shelf.new }
     ensures same { S.held shelf.new ≡ S.held shelf.old }
     ensures stays_sound { S.sound shelf.old → S.sound shelf.new }

@@ -3,17 +3,21 @@
 ghost use Rattle.std.specs.Prelude.{◌≡◌, ℕ, ◌+◌, ◌*◌, ◌^◌, ◌<◌, ◌≤◌, List, Option, map, length, sum, sum_by, slice_index, find, true, unwrap_or, replicate, All, IfOk, IfSome, nat_le, nat_eq, if◌then◌else◌, ◌/◌, ◌%◌, pos, ◌≤ℤ◌, ℤ};
 ghost use Rattle.std.specs.List.{range_with_len};
 ghost use Rattle.std.specs.Option.{option_map};
-ghost use Rattle.hub_spec.specs.Problem.{greatest, cost_ceiling, IsWithinLimits};
-ghost use Rattle.file_spec.specs.Instances.{chosen, held_flows, costs_as_read, made};
-ghost use Rattle.hub_model.specs.Naturals.{natural, IsNatural};
+ghost use Rattle.hub_spec.specs.Limits.{most_nodes, most_flow, most_distance, most_factor, most_fixed_cost};
+ghost use Rattle.file_spec.specs.Limits.{most_cost_read};
+ghost use Rattle.hub_spec.specs.Problem.{greatest, opening_cost, cost_ceiling, IsWithinLimits};
+ghost use Rattle.file_spec.specs.Contents.{IsContents};
+ghost use Rattle.file_spec.specs.Options.{IsOptions};
+ghost use Rattle.file_spec.specs.Instances.{chosen, kept_flows, costs_as_read, made};
+ghost use Rattle.hub_model.specs.Amounts.{natural, IsNatural};
 ghost use Rattle.hub_model.specs.Building.{AreGivenCosts, costs_of};
 
-use crate::{Nodes, Numbers, Parts, Terms};
+use crate::{Nodes, Numbers, Parts, Terms, unsigned, unsigned_small};
 use std::alloc::{AllocError, Global};
 use std::marker::Model;
 
 // What an instance is to be made of, seen as the problem that it would be.
-#[derive(Drop)]
+#[derive(Debug, Drop)]
 pub(crate) struct Draft {
     pub(crate) size: u32,
     pub(crate) candidates: Vec<u32>,
@@ -53,13 +57,15 @@ impl Draft {
         costs: &Option<Vec<i128>>,
     ) -> Result<Draft, AllocError>
         requires { IfSome costs.now (λ c. AreGivenCosts parts.now.size c.items) }
-        ensures { IfOk result (λ draft. draft ≡ made terms.now parts.now (costs_of costs.now)) }
+        ensures made { IfOk result (λ draft. draft ≡ made terms.now parts.now (costs_of costs.now)) }
+        ensures options { IsOptions terms.now }
+        ensures contents { IsContents parts.now }
     {
         Ok(Draft {
             size: parts.n,
             candidates: chosen(alloc, parts.n, &terms.candidates)?,
-            flows: flows_held(alloc, terms.no_self, parts.n as usize, &parts.flows)?,
-            distances: numbers_held(alloc, &parts.distances)?,
+            flows: flows_kept(alloc, terms.no_self, parts.n as usize, &parts.flows)?,
+            distances: unsigned_numbers(alloc, &parts.distances)?,
             fixed_costs: fixed_costs(alloc, parts.n, costs, &parts.tail_costs, terms.fixed)?,
             collect: factor(terms.collect, parts.factors.collect),
             trunk: factor(terms.trunk, parts.factors.trunk),
@@ -85,8 +91,20 @@ impl Draft {
         let flow_sum = sum_of(&self.flows);
         let factors = (self.collect + self.trunk + self.deliver) as u128;
         let farthest = greatest_of(&self.distances) as u128;
-        let opening = sum_at(&self.fixed_costs, &self.candidates);
+        let opening = self.opening_cost(&self.candidates);
         flow_sum * factors * farthest + opening
+    }
+
+    // The sum of the fixed costs of these nodes.
+    #[tactic(auto, unfolding(hub_spec::specs::Problem::fixed_cost))]
+    pub(crate) fn opening_cost(&self, nodes: &[u32]) -> u128
+        requires within { IsWithinLimits self.now }
+        requires few { length nodes.now ≤ most_nodes }
+        requires nodes { All (λ k. k < self.now.size) nodes.now }
+        ensures value { result ≡ opening_cost self.now nodes.now }
+        ensures limit { result ≤ most_nodes * most_fixed_cost }
+    {
+        sum_at(&self.fixed_costs, nodes)
     }
 }
 
@@ -98,17 +116,17 @@ fn first_past(n: u32, nodes: &[u32]) -> Option<u32>
 }
 
 // The flows, those of a node to itself set to 0 where it is asked for.
-fn flows_held(
+fn flows_kept(
     alloc: Global,
     no_self: bool,
     n: usize,
     flows: &Numbers,
 ) -> Result<Vec<u64>, AllocError>
     requires some_node { 1 ≤ n }
-    requires limit { All (λ w. w ≤ 10 ^ 13) flows.now }
-    ensures { IfOk result (λ held. held.items ≡ held_flows no_self n flows.now) }
+    requires limit { All (λ w. w ≤ most_flow) flows.now }
+    ensures { IfOk result (λ amounts. amounts.items ≡ kept_flows no_self n flows.now) }
 {
-    let flows = numbers_held(alloc, flows)?;
+    let flows = unsigned_numbers(alloc, flows)?;
     if no_self {
         without_self(alloc, n, &flows)
     } else {
@@ -116,36 +134,36 @@ fn flows_held(
     }
 }
 
-fn numbers_held(alloc: Global, numbers: &Numbers) -> Result<Vec<u64>, AllocError>
-    requires { All (λ x. x ≤ 10 ^ 13) numbers.now }
-    ensures { IfOk result (λ held. held.items ≡ numbers.now) }
+fn unsigned_numbers(alloc: Global, numbers: &Numbers) -> Result<Vec<u64>, AllocError>
+    requires { All (λ x. x ≤ most_flow) numbers.now }
+    ensures { IfOk result (λ amounts. amounts.items ≡ numbers.now) }
 {
-    held(alloc, numbers.as_slice())
+    unsigned_list(alloc, numbers.as_slice())
 }
 
-// The numbers held without sign.
-fn held(alloc: Global, numbers: &[i128]) -> Result<Vec<u64>, AllocError>
+// The numbers without sign.
+fn unsigned_list(alloc: Global, numbers: &[i128]) -> Result<Vec<u64>, AllocError>
     requires least { All IsNatural numbers.now }
-    requires most { All (λ z. natural z ≤ 10 ^ 13) numbers.now }
-    ensures { IfOk result (λ held. held.items ≡ map natural numbers.now) }
+    requires most { All (λ z. natural z ≤ most_flow) numbers.now }
+    ensures { IfOk result (λ amounts. amounts.items ≡ map natural numbers.now) }
 {
-    let mut held = Vec::with_capacity(alloc, numbers.len())?;
+    let mut amounts = Vec::with_capacity(alloc, numbers.len())?;
     for z in numbers {
-        held.push(*z as u64)?;
+        amounts.push(unsigned_small(*z))?;
     }
-    Ok(held)
+    Ok(amounts)
 }
 
 // The flows with those of a node to itself set to 0.
 fn without_self(alloc: Global, n: usize, flows: &[u64]) -> Result<Vec<u64>, AllocError>
     requires { 1 ≤ n }
-    ensures { IfOk result (λ held. held.items ≡ held_flows true n flows.now) }
+    ensures { IfOk result (λ amounts. amounts.items ≡ kept_flows true n flows.now) }
 {
-    let mut held = Vec::with_capacity(alloc, flows.len())?;
+    let mut amounts = Vec::with_capacity(alloc, flows.len())?;
     for at in 0..flows.len() {
-        held.push(flow_kept(n, at, flows[at]))?;
+        amounts.push(flow_kept(n, at, flows[at]))?;
     }
-    Ok(held)
+    Ok(amounts)
 }
 
 // The flow of the commodity number `at`, 0 if it goes from a node to itself.
@@ -185,10 +203,10 @@ fn fixed_costs(
     fixed: Option<i128>,
 ) -> Result<Vec<u128>, AllocError>
     requires costs { IfSome costs.now (λ c. AreGivenCosts n c.items) }
-    requires tail { IfSome tail.now (All (λ x. x ≤ 10 ^ 18)) }
+    requires tail { IfSome tail.now (All (λ x. x ≤ most_cost_read)) }
     requires fixed_least { IfSome fixed IsNatural }
-    requires fixed_most { IfSome fixed (λ z. natural z ≤ 10 ^ 18) }
-    ensures { IfOk result (λ held. held.items ≡ map (λ x. x * 10 ^ 6) (costs_as_read n (costs_of costs.now) tail.now (option_map natural fixed))) }
+    requires fixed_most { IfSome fixed (λ z. natural z ≤ most_cost_read) }
+    ensures { IfOk result (λ amounts. amounts.items ≡ map (λ x. x * 10 ^ 6) (costs_as_read n (costs_of costs.now) tail.now (option_map natural fixed))) }
 {
     match (costs, tail) {
         (Some(costs), _) => scaled(alloc, costs.as_slice()),
@@ -198,17 +216,17 @@ fn fixed_costs(
 }
 
 fn numbers_scaled(alloc: Global, costs: &Numbers) -> Result<Vec<u128>, AllocError>
-    requires { All (λ x. x ≤ 10 ^ 18) costs.now }
-    ensures { IfOk result (λ held. held.items ≡ map (λ x. x * 10 ^ 6) costs.now) }
+    requires { All (λ x. x ≤ most_cost_read) costs.now }
+    ensures { IfOk result (λ amounts. amounts.items ≡ map (λ x. x * 10 ^ 6) costs.now) }
 {
     scaled(alloc, costs.as_slice())
 }
 
-#[tactic(auto, using(crate::proofs::HeldLists::scaled_same))]
+#[tactic(auto, using(crate::proofs::Progress::scaled_same))]
 fn same_cost(alloc: Global, n: usize, fixed: Option<i128>) -> Result<Vec<u128>, AllocError>
     requires least { IfSome fixed IsNatural }
-    requires most { IfSome fixed (λ z. natural z ≤ 10 ^ 18) }
-    ensures { IfOk result (λ held. held.items ≡ map (λ x. x * 10 ^ 6) (replicate n (unwrap_or (option_map natural fixed) 0))) }
+    requires most { IfSome fixed (λ z. natural z ≤ most_cost_read) }
+    ensures { IfOk result (λ amounts. amounts.items ≡ map (λ x. x * 10 ^ 6) (replicate n (unwrap_or (option_map natural fixed) 0))) }
 {
     let cost = cost_or_0(fixed) * 1_000_000;
     vec![in alloc; cost; n]
@@ -216,48 +234,48 @@ fn same_cost(alloc: Global, n: usize, fixed: Option<i128>) -> Result<Vec<u128>, 
 
 fn cost_or_0(fixed: Option<i128>) -> u128
     requires least { IfSome fixed IsNatural }
-    requires most { IfSome fixed (λ z. natural z ≤ 10 ^ 18) }
+    requires most { IfSome fixed (λ z. natural z ≤ most_cost_read) }
     ensures value { result ≡ unwrap_or (option_map natural fixed) 0 }
-    ensures limit { result ≤ 10 ^ 18 }
+    ensures limit { result ≤ most_cost_read }
 {
     match fixed {
-        Some(cost) => cost as u128,
+        Some(cost) => unsigned(cost),
         None => 0,
     }
 }
 
-// Costs in 10^-6 held in 10^-12.
+// Costs in 10^-6, in 10^-12.
 fn scaled(alloc: Global, costs: &[i128]) -> Result<Vec<u128>, AllocError>
     requires least { All IsNatural costs.now }
-    requires most { All (λ z. natural z ≤ 10 ^ 18) costs.now }
-    ensures { IfOk result (λ held. held.items ≡ map (λ x. x * 10 ^ 6) (map natural costs.now)) }
+    requires most { All (λ z. natural z ≤ most_cost_read) costs.now }
+    ensures { IfOk result (λ amounts. amounts.items ≡ map (λ x. x * 10 ^ 6) (map natural costs.now)) }
 {
-    let mut held = Vec::with_capacity(alloc, costs.len())?;
+    let mut amounts = Vec::with_capacity(alloc, costs.len())?;
     for z in costs {
-        held.push(*z as u128 * 1_000_000)?;
+        amounts.push(unsigned(*z) * 1_000_000)?;
     }
-    Ok(held)
+    Ok(amounts)
 }
 
 // The factor that is asked for, or else the given one.
 fn factor(asked: Option<i128>, given: i128) -> u64
     requires asked_least { IfSome asked IsNatural }
-    requires asked_most { IfSome asked (λ z. natural z ≤ 10 ^ 6) }
+    requires asked_most { IfSome asked (λ z. natural z ≤ most_factor) }
     requires least { pos 0 ≤ℤ given }
-    requires most { natural given ≤ 10 ^ 6 }
+    requires most { natural given ≤ most_factor }
     ensures { result ≡ unwrap_or (option_map natural asked) (natural given) }
 {
     match asked {
-        Some(factor) => factor as u64,
-        None => given as u64,
+        Some(factor) => unsigned_small(factor),
+        None => unsigned_small(given),
     }
 }
 
 fn sum_of(flows: &[u64]) -> u128
-    requires few { length flows.now ≤ 40000 }
-    requires limit { All (λ w. w ≤ 10 ^ 13) flows.now }
+    requires few { length flows.now ≤ most_nodes * most_nodes }
+    requires limit { All (λ w. w ≤ most_flow) flows.now }
     ensures value { result ≡ sum flows.now }
-    ensures limit { result ≤ 4 * 10 ^ 17 }
+    ensures limit { result ≤ most_nodes * most_nodes * most_flow }
 {
     let mut total: u128 = 0;
     for w in flows {
@@ -268,9 +286,9 @@ fn sum_of(flows: &[u64]) -> u128
 
 #[tactic(auto, unfolding(hub_spec::specs::Problem::greatest))]
 fn greatest_of(distances: &[u64]) -> u64
-    requires { All (λ d. d ≤ 10 ^ 10) distances.now }
+    requires { All (λ d. d ≤ most_distance) distances.now }
     ensures value { result ≡ greatest distances.now }
-    ensures limit { result ≤ 10 ^ 10 }
+    ensures limit { result ≤ most_distance }
 {
     let mut most = 0;
     for d in distances {
@@ -282,11 +300,11 @@ fn greatest_of(distances: &[u64]) -> u64
 }
 
 fn sum_at(values: &[u128], nodes: &[u32]) -> u128
-    requires few { length nodes.now ≤ 200 }
+    requires few { length nodes.now ≤ most_nodes }
     requires nodes { All (λ k. k < length values.now) nodes.now }
-    requires limit { All (λ f. f ≤ 10 ^ 24) values.now }
+    requires limit { All (λ f. f ≤ most_fixed_cost) values.now }
     ensures value { result ≡ sum_by (slice_index values.now) nodes.now }
-    ensures limit { result ≤ 2 * 10 ^ 26 }
+    ensures limit { result ≤ most_nodes * most_fixed_cost }
 {
     let mut total = 0;
     for k in nodes {

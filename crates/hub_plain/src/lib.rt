@@ -1,43 +1,29 @@
-//! A plain, slow program that computes the definitions of hub location.
+//! A plain, slow program that computes the definitions of hub location over `hub_model`'s instance.
 //!
 //! Each function answers just what a definition of `hub_spec` says, by loops over all cases: all routes through
-//! given hubs, all sets of candidates, all pairs of hubs of a dual, all lines of a certificate. Faster programs are
-//! compared with it. Amounts are held as unsigned numbers; only the bound of a leaf may fall below 0.
+//! given hubs, all pairs of hubs of a dual, all sets of candidates. Later, faster bodies are compared with it. Costs
+//! are in 10^-12: they are summed as `u128`. Nodes are `u32`, counted from 0.
 //!
-//! The modules build on one another in this order: `nodes`, `instance` (draft, instance, cost of a route), `routes`
-//! (least route, cost of a set), `plans`, `sets` (an optimal plan), `duals`, `cuts`, `branches` (bound of a leaf),
-//! `children`, `trees`, `certificates`, `kinds`, `failures` (the first condition that fails), `texts`.
+//! The modules build on one another in this order: `nodes`, `routes` (the least route of a commodity), `assignments`
+//! (what a hub set costs, with all its routes), `plans`, `best_plans` (an optimal plan), `orders` (the candidates
+//! outside a hub set), `duals` (the value that each of them has at least, in its turn), `set_cuts`.
 #![tactic(auto)]
 
-mod branches;
-mod certificates;
-mod children;
-mod cuts;
+mod assignments;
+mod best_plans;
 mod duals;
-mod failures;
-mod instance;
-mod kinds;
 mod nodes;
+mod orders;
 mod plans;
-#[cfg(test)]
-mod ranges;
 mod routes;
-mod sets;
+mod set_cuts;
 #[cfg(test)]
 mod tests;
-mod texts;
-mod trees;
 
-pub use branches::{Branch, leaf_bound};
-pub use certificates::Certificate;
-pub use children::{closed_child, open_child, root};
-pub use cuts::{Cut, is_cut, is_within_sums};
-pub use duals::{Dual, is_dual};
-pub use failures::first_failure;
-pub use instance::{Draft, Instance};
-pub use kinds::Kind;
-pub use plans::{Plan, assign, is_hub_set, is_plan, plan_cost};
-pub use routes::{Route, least_route, set_cost};
-pub use sets::best_plan;
-pub use texts::certificate_text;
-pub use trees::{Tree, is_mix, is_sound};
+pub use assignments::{Assignment, assign, set_cost};
+pub use best_plans::best_plan;
+pub use duals::minimal_dual;
+pub use orders::outside;
+pub use plans::{is_hub_set, is_plan, plan_cost};
+pub use routes::{Route, least_route};
+pub use set_cuts::set_cut_rows;

@@ -5,6 +5,7 @@ use Rattle.std.proofs.Math.Nat.{mul-le-mul_left, mul-le-mul}
 use Rattle.std.proofs.lemmas.Int.{ints, clamps}
 use Rattle.std.proofs.lemmas.List.Sums.{sum_by-cons, sum_by_more, sum_by_more_le, sum_by-take-le}
 use Rattle.std.proofs.lemmas.List.Elements.{All-contains, All-weaker}
+use Rattle.hub_spec.specs.Limits.{most_cost}
 use Rattle.hub_spec.specs.Sums.{sum_ints}
 use Rattle.hub_spec.specs.Problem.{Problem, IsProblem, fixed_cost}
 use Rattle.hub_spec.specs.Cuts.{Cut, total, load, IsCut}
@@ -16,15 +17,15 @@ weighted f weights = sum_by (λ (e : ℕ × ℕ). e.1 * f e.0) weights
 
 pub record IsMixed (f : ℕ → ℕ) (weights : List (ℕ × ℕ)) (i sum : ℕ) : Type 0 where
   pub value : sum ≡ weighted f (take i weights)
-  pub limit : sum ≤ weight_sum (take i weights) * 10 ^ 29
+  pub limit : sum ≤ weight_sum (take i weights) * most_cost
 
-pub mixed_product : (weights : List (ℕ × ℕ)) (i v : ℕ) → i < length weights → weight_sum weights ≤ 10 ^ 6 → v ≤ 10 ^ 29
+pub mixed_product : (weights : List (ℕ × ℕ)) (i v : ℕ) → i < length weights → weight_sum weights ≤ 10 ^ 6 → v ≤ most_cost
     → (get_or weights i (0, 0)).1 * v ≤ 10 ^ 35
 mixed_product weights i v below most limit =
     let w : (get_or weights i (0, 0)).1 ≤ 10 ^ 6 = omega (arith, sum_by_more_le (λ (e : ℕ × ℕ). e.1) weights i (0, 0) below, most) in
     mul-le-mul w limit
 
-pub mixed_next : (f : ℕ → ℕ) (weights : List (ℕ × ℕ)) (i sum v : ℕ) → i < length weights → v ≤ 10 ^ 29 → v ≡ f (get_or weights i (0, 0)).0
+pub mixed_next : (f : ℕ → ℕ) (weights : List (ℕ × ℕ)) (i sum v : ℕ) → i < length weights → v ≤ most_cost → v ≡ f (get_or weights i (0, 0)).0
     → IsMixed f weights i sum → IsMixed f weights (i + 1) (sum + (get_or weights i (0, 0)).1 * v)
 mixed_next f weights i sum v below limit is so_far =
     let e = get_or weights i (0, 0) in
@@ -46,13 +47,13 @@ mixed_limit f weights i sum most so_far =
 pub candidate_is_node : (p : Problem) (k : ℕ) → IsProblem p → Contains p.candidates k → k < p.size
 candidate_is_node p k ok here = All-contains (λ m. m < p.size) p.candidates k ok.candidates_are_nodes here
 
-pub totals_limit : (p : Problem) (cuts : List Cut) → All (IsCut p) cuts → All (λ (c : Cut). total c ≤ 10 ^ 29) cuts
-totals_limit p cuts are = All-weaker (IsCut p) (λ (c : Cut). total c ≤ 10 ^ 29) (λ c h. h.sums.total_limit) cuts are
+pub totals_limit : (p : Problem) (cuts : List Cut) → All (IsCut p) cuts → All (λ (c : Cut). total c ≤ most_cost) cuts
+totals_limit p cuts are = All-weaker (IsCut p) (λ (c : Cut). total c ≤ most_cost) (λ c h. h.sums.total_limit) cuts are
 
-pub loads_limit : (p : Problem) (cuts : List Cut) (k : ℕ) → All (IsCut p) cuts → Contains p.candidates k → All (λ (c : Cut). load c k ≤ 10 ^ 29) cuts
+pub loads_limit : (p : Problem) (cuts : List Cut) (k : ℕ) → All (IsCut p) cuts → Contains p.candidates k → All (λ (c : Cut). load c k ≤ most_cost) cuts
 loads_limit p cuts k are here =
-    All-weaker (IsCut p) (λ (c : Cut). load c k ≤ 10 ^ 29)
-    (λ c h. All-contains (λ m. load c m ≤ 10 ^ 29) p.candidates k h.sums.load_limit here) cuts are
+    All-weaker (IsCut p) (λ (c : Cut). load c k ≤ most_cost)
+    (λ c h. All-contains (λ m. load c m ≤ most_cost) p.candidates k h.sums.load_limit here) cuts are
 
 -- ---- gains by sums that are not below 0
 

@@ -1,8 +1,9 @@
 -- The cost of a plan so far, in a loop over all commodities by i and j.
-use Rattle.std.proofs.Common.{◌≡◌, ℕ, zero, suc, ◌+◌, ◌*◌, ◌<◌, ◌≤◌, ◌^◌, List, [], ◌∷◌, ◌++◌, length, take, get_or, All, Contains, refl, subst, ap, sym, ◌∙◌, arith}
+use Rattle.std.proofs.Common.{◌≡◌, ℕ, zero, suc, ◌+◌, ◌*◌, ◌<◌, ◌≤◌, List, [], ◌∷◌, ◌++◌, length, take, get_or, All, Contains, refl, subst, ap, sym, ◌∙◌, arith}
 use Rattle.std.specs.List.{AllZip}
 use Rattle.std.proofs.lemmas.List.{take_all, take_more}
 use Rattle.std.proofs.lemmas.List.Elements.{AllZip-get_or, All-head, All-tail, All-cons, All-nil}
+use Rattle.hub_spec.specs.Limits.{most_cost}
 use Rattle.hub_spec.specs.Problem.{Problem, IsProblem, route_cost, opening_cost, commodities}
 use Rattle.hub_spec.specs.Plans.{IsHubSet, IsRoute, routing_cost}
 use Rattle.hub_spec.proofs.Commodities.{next_cost, commodity_index, commodity_at_index, length_commodities}
@@ -64,7 +65,7 @@ costed_more p hubs routes i j total r are long row column is so_far =
     record { sum = rw grown (omega (arith, next, so_far.sum)) }
 
 pub costed_limit : (p : Problem) (hubs : List ℕ) (routes : List (ℕ × ℕ)) (t total : ℕ) → IsProblem p → IsHubSet p hubs
-    → AllZip (IsRoute p hubs) (commodities p.size) routes → IsCosted p hubs routes t total → total ≤ 10 ^ 29
+    → AllZip (IsRoute p hubs) (commodities p.size) routes → IsCosted p hubs routes t total → total ≤ most_cost
 costed_limit p hubs routes t total ok set are so_far =
     let nodes = AllZip_weaker (IsRoute p hubs) (AreNodes p.size) (commodities p.size) routes (λ c r h. route_nodes p hubs c r ok.limits set h) are in
     omega (arith, so_far.sum, cost_limit p hubs t (take t routes) ok set (AllZip_take (AreNodes p.size) t (commodities p.size) routes nodes))

@@ -9,7 +9,7 @@ use Rattle.std.proofs.lemmas.List.Elements.{All-head, All-tail, All-contains, Al
 use Rattle.hub_spec.specs.Sums.{sum_ints}
 use Rattle.hub_spec.specs.Problem.{Problem, IsProblem, route_cost, fixed_cost, opening_cost, commodities}
 use Rattle.hub_spec.specs.Plans.{Plan, IsRoute, IsPlan, cost_of_route, routing_cost, plan_cost, NoPlanBelow}
-use Rattle.hub_spec.specs.Cuts.{Prices, value_at, IsDual, Cut, total, load, IsCut}
+use Rattle.hub_spec.specs.Cuts.{Prices, value_at, IsDual, Cut, cut_by, total, load, IsCut}
 use Rattle.hub_spec.specs.Trees.{Branching, root, open_child, closed_child, cut_at, weight_sum, mixed_total, mixed_load, gain, branch_bound, leaf_bound, Closes, IsMix, Tree, branch, leaf, empty, IsClosed, IsSound}
 use Rattle.hub_spec.specs.Certificates.{Proof, Holds}
 use Rattle.hub_spec.proofs.SumLemmas.{by_test, sum_by-plus, sum_by-times, sum_by-same, within_sum, two_within_sum, sum_ints-with_node, sum_ints-without_in, sum_ints-without_out, sum_ints-capped, sum_ints-ones}
@@ -68,7 +68,7 @@ mix_bound p plan cuts (e ∷ es) ok each numbers =
     let number = All-head (λ (f : ℕ × ℕ). (1 ≤ f.0) × (f.0 ≤ length cuts)) e es numbers in
     let rest = mix_bound p plan cuts es ok each (All-tail (λ (f : ℕ × ℕ). (1 ≤ f.0) × (f.0 ≤ length cuts)) e es numbers) in
     let cut = cut_at cuts e.0 in
-    let is_cut = All-get_or (IsCut p) cuts (e.0 - 1) (record { duals = [] }) (omega (arith, number.0, number.1)) each in
+    let is_cut = All-get_or (IsCut p) cuts (e.0 - 1) (cut_by []) (omega (arith, number.0, number.1)) each in
     let one = mul-le-mul_left e.1 (cut_bound p plan cut ok is_cut) in
     let spread = mul-add e.1 routing (sum_by (load cut) plan.hubs) in
     let totals = sum_by-cons (λ (f : ℕ × ℕ). f.1 * total (cut_at cuts f.0)) e es in
@@ -169,7 +169,7 @@ tree_weak p cuts target b (leaf denom weights) plan h ok each same agrees sound 
 tree_weak p cuts target b empty plan h ok each same agrees sound = empty_weak p b plan h ok same agrees sound
 
 pub no_plan_below_bound : (p : Problem) (k : Proof) → IsProblem p → Holds p k → NoPlanBelow p k.bound
-no_plan_below_bound p k ok holds = λ plan is_plan.
+no_plan_below_bound p k ok holds = λ plan is_plan wanted.
     tree_weak p k.cuts k.bound (root p) k.tree plan (is_in plan.hubs) is_plan holds.cuts
     (part_is_filter p.candidates plan.hubs ok.candidates_ascend is_plan.hubs.ascend is_plan.hubs.are_candidates)
     (Agrees-root p (is_in plan.hubs)) holds.tree

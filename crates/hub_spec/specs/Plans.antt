@@ -53,13 +53,18 @@ routing_cost p cs routes = sum_by (cost_of_route p) (zip cs routes)
 abbrev pub plan_cost : Problem → Plan → ℕ
 plan_cost p plan = opening_cost p plan.hubs + routing_cost p (commodities p.size) plan.routes
 
--- no plan of the problem costs less than c
-abbrev pub NoPlanBelow : Problem → ℕ → Type 0
-NoPlanBelow p c = (other : Plan) → IsPlan p other → c ≤ plan_cost p other
+-- the plan is one of those among which an optimal one is looked for: every plan is
+abbrev pub IsWanted : Problem → Plan → Type 0
+IsWanted p plan = Unit {0}
 
--- a plan, and no plan of the problem costs less
+-- no wanted plan of the problem costs less than c
+abbrev pub NoPlanBelow : Problem → ℕ → Type 0
+NoPlanBelow p c = (other : Plan) → IsPlan p other → IsWanted p other → c ≤ plan_cost p other
+
+-- a wanted plan, and no wanted plan of the problem costs less
 pub record IsOptimal (p : Problem) (plan : Plan) : Type 0 where
   pub is_plan : IsPlan p plan
+  pub wanted : IsWanted p plan
   pub least : NoPlanBelow p (plan_cost p plan)
 
 -- c is the cost of the hub set: the least cost of a plan with just these hubs

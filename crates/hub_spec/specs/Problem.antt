@@ -1,7 +1,8 @@
 -- The instance: flows in 10^-6, distances and factors in 10^-3, fixed costs and costs in 10^-12. Nodes count from 0.
-use Rattle.std.specs.Prelude.{◌≡◌, ℕ, ◌+◌, ◌*◌, ◌^◌, ◌<◌, ◌≤◌, List, length, map, fold, max, sum, sum_by, flat_map, slice_index, All, Option, IfSome}
+use Rattle.std.specs.Prelude.{◌≡◌, ℕ, ◌+◌, ◌*◌, ◌/◌, ◌%◌, ◌<◌, ◌≤◌, List, length, map, fold, max, sum, sum_by, flat_map, slice_index, All, Option, IfSome}
 use Rattle.std.specs.List.{range_with_len}
 use Rattle.std.specs.List.Sorted.{IsStrictlyIncreasing}
+use Rattle.hub_spec.specs.Limits.{most_nodes, most_flow, most_distance, most_fixed_cost, most_factor, most_listed, most_cost}
 
 -- an instance of the uncapacitated hub location problem with multiple allocation: nodes 0 .. size - 1,
 -- the candidates for hubs, flows and distances row by row, fixed costs by node, and the three factors
@@ -38,6 +39,10 @@ route_cost p i j k m =
 unfoldable pub commodities : ℕ → List (ℕ × ℕ)
 commodities n = flat_map (λ i. map (λ j. (i, j)) (range_with_len 0 n)) (range_with_len 0 n)
 
+-- the commodity number t, counted from 0
+abbrev pub commodity_at : ℕ → ℕ → ℕ × ℕ
+commodity_at n t = (t / n, t % n)
+
 -- the sum of the fixed costs of these nodes
 abbrev pub opening_cost : Problem → List ℕ → ℕ
 opening_cost p hubs = sum_by (fixed_cost p) hubs
@@ -54,24 +59,24 @@ cost_ceiling p =
 -- the numbers of an instance are within their limits
 pub record IsWithinLimits (p : Problem) : Type 0 where
   pub some_node : 1 ≤ p.size
-  pub size_limit : p.size ≤ 200
+  pub size_limit : p.size ≤ most_nodes
   pub some_candidate : 1 ≤ length p.candidates
   pub candidates_ascend : IsStrictlyIncreasing p.candidates
   pub candidates_are_nodes : All (λ k. k < p.size) p.candidates
   pub flow_for_each_pair : length p.flows ≡ p.size * p.size
-  pub flow_limit : All (λ w. w ≤ 10 ^ 13) p.flows
+  pub flow_limit : All (λ w. w ≤ most_flow) p.flows
   pub distance_for_each_pair : length p.distances ≡ p.size * p.size
-  pub distance_limit : All (λ d. d ≤ 10 ^ 10) p.distances
+  pub distance_limit : All (λ d. d ≤ most_distance) p.distances
   pub distance_to_itself : (k : ℕ) → k < p.size → distance p k k ≡ 0
   pub cost_for_each_node : length p.fixed_costs ≡ p.size
-  pub cost_limit : All (λ f. f ≤ 10 ^ 24) p.fixed_costs
-  pub collect_limit : p.collect ≤ 10 ^ 6
-  pub trunk_limit : p.trunk ≤ 10 ^ 6
-  pub deliver_limit : p.deliver ≤ 10 ^ 6
-  pub listed_p_limit : IfSome p.listed_p (λ n. n ≤ 1000)
+  pub cost_limit : All (λ f. f ≤ most_fixed_cost) p.fixed_costs
+  pub collect_limit : p.collect ≤ most_factor
+  pub trunk_limit : p.trunk ≤ most_factor
+  pub deliver_limit : p.deliver ≤ most_factor
+  pub listed_p_limit : IfSome p.listed_p (λ n. n ≤ most_listed)
 
 -- an instance: the limits and the sum rule
 pub record IsProblem (p : Problem) : Type 0 where
   pub limits : IsWithinLimits p
   pub open limits use *
-  pub sum_rule : cost_ceiling p ≤ 10 ^ 29
+  pub sum_rule : cost_ceiling p ≤ most_cost

@@ -1,10 +1,12 @@
 -- Branches, the bound of a leaf, and the branching tree. Bounds and gains alone may fall below 0.
-use Rattle.std.specs.Prelude.{◌≡◌, ℕ, ◌+◌, ◌-◌, ◌*◌, ◌^◌, ◌≤◌, ℤ, pos, ◌+ℤ◌, ◌-ℤ◌, ◌<ℤ◌, List, [], ◌∷◌, ◌++◌, length, sum_by, All, Contains}
+use Rattle.std.specs.Prelude.{◌≡◌, ℕ, ◌+◌, ◌-◌, ◌*◌, ◌≤◌, ℤ, pos, ◌+ℤ◌, ◌-ℤ◌, ◌<ℤ◌, List, [], ◌∷◌, ◌++◌, length, sum_by, All, Contains, ◌⊎◌}
 use Rattle.std.specs.List.{slice_index_or}
+use Rattle.std.specs.List.Sorted.{IsStrictlyIncreasing}
 use Rattle.std.specs.Int.{int_min}
+use Rattle.hub_spec.specs.Limits.{most_denominator}
 use Rattle.hub_spec.specs.Sums.{sum_ints, with_node, without}
 use Rattle.hub_spec.specs.Problem.{Problem, fixed_cost}
-use Rattle.hub_spec.specs.Cuts.{Cut, total, load}
+use Rattle.hub_spec.specs.Cuts.{Cut, cut_by, total, load}
 
 -- a branch: the candidates that are hubs, those that are closed, and the free rest
 pub record Branching : Type 0 where
@@ -16,11 +18,23 @@ pub record Branching : Type 0 where
 abbrev pub root : Problem → Branching
 root p = record { inside = []; outside = []; free = p.candidates }
 
--- the nodes inside and the free nodes are candidates, at most 400 in all: twice the most candidates that an instance has
+-- the three lists of a branch ascend, and no node stands in two of them
+pub record IsSplit (b : Branching) : Type 0 where
+  pub inside_ascends : IsStrictlyIncreasing b.inside
+  pub outside_ascends : IsStrictlyIncreasing b.outside
+  pub free_ascends : IsStrictlyIncreasing b.free
+  pub not_both : (k : ℕ) → Contains b.inside k → Contains b.outside k → ⊥
+  pub inside_apart : (k : ℕ) → Contains b.free k → Contains b.inside k → ⊥
+  pub outside_apart : (k : ℕ) → Contains b.free k → Contains b.outside k → ⊥
+
+-- a branch of the problem: its lists have each candidate once, and nothing else
 pub record IsBranch (p : Problem) (b : Branching) : Type 0 where
-  pub inside : All (Contains p.candidates) b.inside
-  pub free : All (Contains p.candidates) b.free
-  pub few : length b.inside + length b.free ≤ 400
+  pub split : IsSplit b
+  pub open split use *
+  pub all : (k : ℕ) → Contains p.candidates k → Contains b.inside k ⊎ Contains b.outside k ⊎ Contains b.free k
+  pub inside_are : All (Contains p.candidates) b.inside
+  pub outside_are : All (Contains p.candidates) b.outside
+  pub free_are : All (Contains p.candidates) b.free
 
 -- the branch in which the free k is a hub
 abbrev pub open_child : Branching → ℕ → Branching
@@ -32,7 +46,7 @@ closed_child b k = record { inside = b.inside; outside = with_node k b.outside; 
 
 -- the cut of this number, counted from 1
 abbrev pub cut_at : List Cut → ℕ → Cut
-cut_at cuts c = slice_index_or cuts (c - 1) (record { duals = [] })
+cut_at cuts c = slice_index_or cuts (c - 1) (cut_by [])
 
 -- the sum of the weights, which are pairs of a cut's number and its weight
 abbrev pub weight_sum : List (ℕ × ℕ) → ℕ
@@ -50,6 +64,10 @@ mixed_load cuts weights k = sum_by (λ e. e.1 * load (cut_at cuts e.0) k) weight
 abbrev pub gain : ℕ → (ℕ → ℕ) → (ℕ → ℕ) → ℕ → ℤ
 gain denom fixed loads k = pos (denom * fixed k) -ℤ pos (loads k)
 
+-- that gain with these weights on the cuts
+abbrev pub mixed_gain : Problem → List Cut → ℕ → List (ℕ × ℕ) → ℕ → ℤ
+mixed_gain p cuts denom weights k = gain denom (fixed_cost p) (mixed_load cuts weights) k
+
 -- the bound of a branch: a node inside counts with its gain, a free node only if its gain is below 0
 abbrev pub branch_bound : ℕ → (ℕ → ℤ) → Branching → ℤ
 branch_bound base gains b =
@@ -58,7 +76,7 @@ branch_bound base gains b =
 -- the bound at a leaf with these weights
 abbrev pub leaf_bound : Problem → List Cut → ℕ → List (ℕ × ℕ) → Branching → ℤ
 leaf_bound p cuts denom weights b =
-    branch_bound (mixed_total cuts weights) (gain denom (fixed_cost p) (mixed_load cuts weights)) b
+    branch_bound (mixed_total cuts weights) (mixed_gain p cuts denom weights) b
 
 -- the bound is above denom * (target - 1)
 abbrev pub Closes : ℕ → ℕ → ℤ → Type 0
@@ -67,7 +85,7 @@ Closes denom target bound = (pos (denom * target) -ℤ pos denom) <ℤ bound
 -- weights on these cuts, of total at most the denominator
 pub record IsMix (cuts : List Cut) (denom : ℕ) (weights : List (ℕ × ℕ)) : Type 0 where
   pub denom_least : 1 ≤ denom
-  pub denom_most : denom ≤ 10 ^ 6
+  pub denom_most : denom ≤ most_denominator
   pub numbers : All (λ e. (1 ≤ e.0) × (e.0 ≤ length cuts)) weights
   pub most : weight_sum weights ≤ denom
 

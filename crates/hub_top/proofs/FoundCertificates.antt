@@ -8,14 +8,14 @@ use Rattle.hub_spec.specs.Plans.{Plan}
 use Rattle.hub_spec.specs.Cuts.{Prices, Cut}
 use Rattle.hub_spec.specs.Trees.{Tree, preorder}
 use Rattle.hub_spec.specs.Certificates.{Proof, Holds}
-use Rattle.hub_spec.specs.Text.{IsInRange}
-use Rattle.hub_model.specs.Naturals.{natural, IsNatural}
+use Rattle.hub_spec.specs.Ranges.{IsInRange}
+use Rattle.hub_model.specs.Amounts.{natural, IsNatural}
 use Rattle.hub_model.specs.Lines.{tree_line_of}
 use Rattle.hub_model.specs.declared.tree_lines.TreeLine.{TreeLine}
 use Rattle.branch_tree.specs.declared.found.Found.{Found}
 use Rattle.branch_tree.specs.Findings.{IsProved, proof_of as found_proof}
-use Rattle.branch_tree.specs.Held.{cuts_of}
-use Rattle.cert_format.specs.Held.{cut_of, proof_of as text_proof, IsHeldCertificate}
+use Rattle.branch_tree.specs.Views.{cuts_of}
+use Rattle.cert_format.specs.Parts.{cut_of, proof_of as text_proof, AreCertificateParts}
 use Rattle.cert_format.specs.Growing.{tree_of}
 use Rattle.cert_format.specs.Codes.{tree_of-preorder}
 use Rattle.hub_top.specs.Solving.{IsSolution}
@@ -50,7 +50,7 @@ same_proof p found h cost bound plan rows lines e =
 
 pub found_is_certificate : (p : Problem) (found : Found) (h : IsProved p found) (cost bound : ℤ) (plan : Plan) (rows : List (Vec Prices Global)) (lines : List TreeLine)
     → AreParts found cost bound plan rows lines → IsNatural found.cost → found.bound ≡ found.cost
-    → IsHeldCertificate p.size (length p.candidates) cost bound plan rows lines
+    → AreCertificateParts p.size (length p.candidates) cost bound plan rows lines
 found_is_certificate p found h cost bound plan rows lines e least gap =
     let P : Proof → Type 0 = λ k. IsInRange k in
     let N : ℤ → Type 0 = λ z. IsNatural z in
@@ -78,10 +78,10 @@ found_is_solution p found h cost bound plan rows lines e ok gap =
 -- the same with the sizes as they are handed over
 pub sized_certificate : (p : Problem) (found : Found) (h : IsProved p found) (n q : ℕ) (cost bound : ℤ) (plan : Plan) (rows : List (Vec Prices Global)) (lines : List TreeLine)
     → n ≡ p.size → q ≡ length p.candidates → AreParts found cost bound plan rows lines → IsNatural found.cost → found.bound ≡ found.cost
-    → IsHeldCertificate n q cost bound plan rows lines
+    → AreCertificateParts n q cost bound plan rows lines
 sized_certificate p found h n q cost bound plan rows lines size candidates e least gap =
-    let P : ℕ → Type 0 = λ x. IsHeldCertificate x q cost bound plan rows lines in
-    let Q : ℕ → Type 0 = λ x. IsHeldCertificate p.size x cost bound plan rows lines in
+    let P : ℕ → Type 0 = λ x. AreCertificateParts x q cost bound plan rows lines in
+    let Q : ℕ → Type 0 = λ x. AreCertificateParts p.size x cost bound plan rows lines in
     subst P (sym size) (subst Q (sym candidates) (found_is_certificate p found h cost bound plan rows lines e least gap))
 
 pub sized_solution : (p : Problem) (found : Found) (h : IsProved p found) (n q : ℕ) (cost bound : ℤ) (plan : Plan) (rows : List (Vec Prices Global)) (lines : List TreeLine) (k : Proof)

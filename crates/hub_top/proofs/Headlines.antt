@@ -1,16 +1,17 @@
 -- The headline follows from what each status says, and from how a run ends in which nothing fails.
-use Rattle.std.proofs.Common.{◌≡◌, ℕ, ◌≤◌, ◌^◌, List, length, Option, Some, ◌⊎◌, sym, subst, ◌∙◌}
+use Rattle.std.proofs.Common.{◌≡◌, ℕ, ◌≤◌, List, length, Option, Some, ◌⊎◌, sym, subst, ◌∙◌}
 use Rattle.std.specs.Io.KnownBytes.{Appends}
 use Rattle.hub_io.specs.Outside.{Files}
 use Rattle.hub_spec.specs.Problem.{Problem}
-use Rattle.hub_spec.specs.Verdicts.{Verdict, optimal, bounds, misread, too_long}
-use Rattle.hub_spec.specs.Verdicts as verdicts
+use Rattle.cert_spec.specs.Verdicts.{Verdict, optimal, bounds, misread, too_long, certificate_limit}
+use Rattle.cert_spec.specs.Verdicts as verdicts
 use Rattle.hub_top.specs.declared.status.Status.{Status}
 use Rattle.hub_top.specs.declared.status.Status.TheVariants.{Done, Memory}
-use Rattle.hub_words.specs.Requests.{Source, Request, solve, check}
+use Rattle.hub_words.specs.Requests.{Source, Solving, Request, solve, check}
 use Rattle.hub_top.specs.Texts.{optimal_line, verdict_text}
-use Rattle.hub_top.specs.Commands.{HoldsInstance, SolvesFile, JudgesFile, ProvesOptimal}
-use Rattle.hub_top.specs.Endings.{WhereTold, verdict_status}
+use Rattle.hub_top.specs.Commands.{HoldsInstance, SolvesFile, JudgesFile}
+use Rattle.cert_checker.specs.Shows.{ProvesOptimal}
+use Rattle.hub_top.specs.Outcomes.{WhereTold, verdict_status}
 use Rattle.hub_top.specs.Meanings.{Judges, Answers, Answered, Means}
 use Rattle.hub_top.specs.Headline.{IsSameInstance, Headline}
 use Rattle.hub_top.specs.Completeness.{Completeness}
@@ -18,8 +19,8 @@ use Rattle.hub_top.proofs.OneReading.{held_again}
 use Rattle.hub_top.proofs.SolvedVerdict.{solved_verdict}
 
 solved_of : (asked : Option Request) (held : Option Files) (old new : Option (List ℕ)) → Answered asked held old new Done
-    → (files : Files) (s : Source) → held ≡ Some files → asked ≡ Some (solve s)
-    → (text : List ℕ) × Appends old new text × SolvesFile files s text
+    → (files : Files) (s : Solving) → held ≡ Some files → asked ≡ Some (solve s)
+    → (text : List ℕ) × Appends old new text × SolvesFile files s.source text
 solved_of asked held old new h files s told is =
     let e : Some (solve s) ≡ Some h.request = sym is ∙ h.is_asked in
     let r : solve s ≡ h.request = cc in
@@ -57,11 +58,11 @@ certified_of asked held old new h files s certificate told is =
 -- a check of a text that solves the same instance
 checked_of : (asked : Option Request) (held : Option Files) (quiet : Type 0) (status : Status) → Completeness asked held quiet status
     → (before files : Files) (s t : Source) (certificate text : List ℕ) → held ≡ Some files → asked ≡ Some (check t certificate)
-    → SolvesFile before s text → length text ≤ 2 ^ 30
+    → SolvesFile before s text → length text ≤ certificate_limit
     → IsSameInstance before s files t → files certificate ≡ Some text → quiet
     → (status ≡ Done) ⊎ (status ≡ Memory)
 checked_of asked held quiet status complete before files s t certificate text told asks h short same there calm =
-    complete.judged files t certificate h.problem text (optimal h.solves.certificate.cost) told asks
+    complete.judged files t certificate h.problem text (optimal h.solves.cost) told asks
     (held_again before files s t h.problem h.instance same) there
     (solved_verdict h.problem text h.solves short).0 calm
 

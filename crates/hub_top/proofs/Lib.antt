@@ -1,7 +1,7 @@
 pub mod SolvedVerdict
 pub mod FoundCertificates
 pub mod Solutions
-pub mod Rows
+pub mod StatusMeanings
 pub mod OneReading
 pub mod Completions
 pub mod Headlines

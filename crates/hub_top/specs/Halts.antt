@@ -1,11 +1,12 @@
--- Why a command has no instance.
+-- Why a command has no instance or no certificate.
 use Rattle.std.specs.Prelude.{◌≡◌, ℕ, List, Option, Some, None}
 use Rattle.hub_io.specs.Outside.{Files, HoldsMore}
+use Rattle.file_spec.specs.Limits.{file_limit}
 use Rattle.file_spec.specs.Options.{Layout, Options}
 use Rattle.file_spec.specs.Faults.{Fault, too_long}
 use Rattle.file_spec.specs.Contents.{Contents}
-use Rattle.file_spec.specs.Files.{HasFault}
-use Rattle.file_spec.specs.Instances.{build_fault, file_limit, GivesCostFault}
+use Rattle.file_spec.specs.Files.{HasFault, HasCostFault}
+use Rattle.file_spec.specs.Instances.{build_fault, GivesCostFault}
 use Rattle.hub_model.specs.Faults.{fault_of}
 use Rattle.hub_top.specs.declared.halts.Halt.{Halt}
 use Rattle.hub_top.specs.declared.halts.Halt.TheVariants as halts
@@ -17,7 +18,7 @@ use Rattle.hub_model.specs.declared.faults.Refusal.TheVariants as refusals
 use Rattle.hub_top.specs.declared.texts.Blamed.{Blamed}
 use Rattle.hub_words.specs.Requests.{Source}
 use Rattle.hub_top.specs.Commands.{Blame, on_instance, on_costs, HasBlame}
-use Rattle.hub_top.specs.Endings.{WhereTold}
+use Rattle.hub_top.specs.Outcomes.{WhereTold}
 use Rattle.hub_top.specs.Blames.{blame_of}
 
 -- a fault that is so, or a read that failed so; want of memory says nothing
@@ -45,6 +46,15 @@ HasCostsFault files (Some name) n fault = (bytes : List ℕ) × (files name ≡ 
 
 abbrev pub IsOfCosts : Option Files → Option (List ℕ) → ℕ → Blame → Fault → Type 0
 IsOfCosts held costs n blame fault = (blame ≡ on_costs) × WhereTold held (λ files. HasCostsFault files costs n fault)
+
+-- a token of the costs file for n nodes has the fault
+abbrev pub IsOfCostTokens : ℕ → List ℕ → Blame → Fault → Type 0
+IsOfCostTokens n bytes blame fault = (blame ≡ on_costs) × HasCostFault n bytes fault
+
+-- a costs file is named and not held
+abbrev pub LacksCosts : Option (List ℕ) → Files → Type 0
+LacksCosts None files = ⊥
+LacksCosts (Some name) files = files name ≡ None
 
 -- a file of the instance has the fault
 abbrev pub IsOfSource : Option Files → Source → Blame → Fault → Type 0

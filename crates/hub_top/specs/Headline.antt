@@ -1,13 +1,15 @@
 -- The headline: what a run says that ends with status 0.
-use Rattle.std.specs.Prelude.{◌≡◌, ℕ, ◌≤◌, ◌^◌, List, length, Option, Some, None, ◌⊎◌}
+use Rattle.std.specs.Prelude.{◌≡◌, ℕ, ◌≤◌, List, length, Option, Some, None, ◌⊎◌}
 use Rattle.std.specs.Io.KnownBytes.{Appends}
 use Rattle.hub_io.specs.Outside.{Files}
 use Rattle.hub_spec.specs.Problem.{Problem}
+use Rattle.cert_spec.specs.Verdicts.{certificate_limit}
 use Rattle.hub_top.specs.declared.status.Status.{Status}
 use Rattle.hub_top.specs.declared.status.Status.TheVariants.{Done, Memory}
-use Rattle.hub_words.specs.Requests.{Source, Request, solve, check}
+use Rattle.hub_words.specs.Requests.{Source, Solving, Request, solve, check}
 use Rattle.hub_top.specs.Texts.{optimal_line}
-use Rattle.hub_top.specs.Commands.{HoldsInstance, SolvesFile, ProvesOptimal}
+use Rattle.hub_top.specs.Commands.{HoldsInstance, SolvesFile}
+use Rattle.cert_checker.specs.Shows.{ProvesOptimal}
 
 -- the costs files named hold the same bytes, or none is named
 abbrev pub SameCosts : Files → Option (List ℕ) → Files → Option (List ℕ) → Type 0
@@ -27,12 +29,12 @@ pub record IsSameInstance (before : Files) (s : Source) (now : Files) (t : Sourc
 pub record Headline (asked : Option Request) (held : Option Files) (old new : Option (List ℕ)) (quiet : Type 0) (status : Status) : Type 0 where
   -- where `solve` ends with status 0, the text it wrote names hubs and routes that cost exactly the printed cost, and
   -- no nonempty set of candidate hubs with any routing costs less
-  pub solved : (files : Files) (s : Source) → held ≡ Some files → asked ≡ Some (solve s) → status ≡ Done
-      → (text : List ℕ) × Appends old new text × SolvesFile files s text
+  pub solved : (files : Files) (s : Solving) → held ≡ Some files → asked ≡ Some (solve s) → status ≡ Done
+      → (text : List ℕ) × Appends old new text × SolvesFile files s.source text
   -- `check` on the same instance and that text ends with status 0, where no fault rises, memory is not wanting and the
   -- text has at most 2^30 bytes
   pub checked : (before files : Files) (s t : Source) (certificate text : List ℕ) → held ≡ Some files → asked ≡ Some (check t certificate)
-      → SolvesFile before s text → length text ≤ 2 ^ 30
+      → SolvesFile before s text → length text ≤ certificate_limit
       → IsSameInstance before s files t → files certificate ≡ Some text → quiet
       → (status ≡ Done) ⊎ (status ≡ Memory)
   -- wherever `check` ends with status 0, on any bytes whatever, the named network attains its cost and no plan costs less

@@ -1,7 +1,7 @@
 pub mod Statuses
 pub mod Commands
 pub mod Texts
-pub mod Endings
+pub mod Outcomes
 pub mod Meanings
 pub mod Completeness
 pub mod Headline
@@ -12,3 +12,4 @@ pub mod Building
 pub mod Halts
 pub mod Solving
 pub mod Judging
+pub mod Told

@@ -2,14 +2,14 @@
 use Rattle.std.specs.Prelude.{◌≡◌, ℕ, List, [], Option, Some, None}
 use Rattle.std.specs.Io.KnownBytes.{Appends}
 use Rattle.hub_io.specs.Outside.{Files}
-use Rattle.hub_spec.specs.Verdicts.{Verdict}
+use Rattle.cert_spec.specs.Verdicts.{Verdict}
 use Rattle.file_spec.specs.Faults.{Fault}
 use Rattle.hub_top.specs.declared.status.Status.{Status}
 use Rattle.hub_top.specs.declared.status.Status.TheVariants.{Done, Stopped, No, Usage, Instance, Memory, Read, Write}
 use Rattle.hub_words.specs.Requests.{Source, Request, solve, check, instance}
 use Rattle.hub_top.specs.Texts.{verdict_text}
 use Rattle.hub_top.specs.Commands.{Blame, HasBlame, SolvesFile, JudgesFile}
-use Rattle.hub_top.specs.Endings.{WhereTold, verdict_status}
+use Rattle.hub_top.specs.Outcomes.{WhereTold, verdict_status}
 
 -- the text is the line of a verdict with this status, which is the verdict on the certificate
 pub record Judges (files : Files) (s : Source) (certificate : List ℕ) (status : Status) (text : List ℕ) : Type 0 where
@@ -20,7 +20,7 @@ pub record Judges (files : Files) (s : Source) (certificate : List ℕ) (status 
 
 -- what a command says that ends with this status and this text on out
 abbrev pub Answers : Request → Status → Files → List ℕ → Type 0
-Answers (solve s) Done files text = SolvesFile files s text
+Answers (solve s) Done files text = SolvesFile files s.source text
 Answers (solve s) status files text = ⊥
 Answers (check s certificate) status files text = Judges files s certificate status text
 
@@ -36,9 +36,11 @@ pub record Answered (asked : Option Request) (held : Option Files) (old new : Op
 pub record Refused (asked : Option Request) (held : Option Files) (old new : Option (List ℕ)) : Type 0 where
   pub request : Request
   pub is_asked : asked ≡ Some request
+  pub source : Source
+  pub is_named : instance request ≡ Some source
   pub blame : Blame
   pub fault : Fault
-  pub holds : WhereTold held (λ files. HasBlame files (instance request) blame fault)
+  pub holds : WhereTold held (λ files. HasBlame files source blame fault)
   pub taken : Appends old new []
 
 -- the words are a command, the shelf failed, and out took nothing

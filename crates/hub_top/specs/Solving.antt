@@ -2,7 +2,7 @@
 use Rattle.std.specs.Prelude.{◌≡◌}
 use Rattle.hub_spec.specs.Problem.{Problem, IsProblem}
 use Rattle.hub_spec.specs.Certificates.{Proof, Holds}
-use Rattle.hub_spec.specs.Text.{IsInRange}
+use Rattle.hub_spec.specs.Ranges.{IsInRange}
 
 -- the certificate has a text and holds for the instance, and its bound is its cost
 pub record IsSolution (p : Problem) (k : Proof) : Type 0 where

@@ -3,8 +3,8 @@ use Rattle.std.specs.Prelude.{ℕ, ◌+◌, List, [], ◌∷◌, ◌++◌, codes
 use Rattle.std.specs.List.{concat}
 use Rattle.std.specs.Fmt.{signed_decimal}
 use Rattle.text_spec.specs.Fixed.{fixed_text}
-use Rattle.hub_spec.specs.Grammar.{bad_line, ended}
-use Rattle.hub_spec.specs.Verdicts.{Verdict, optimal, bounds, fails, misread, too_long}
+use Rattle.cert_spec.specs.Grammar.{bad_line, ended}
+use Rattle.cert_spec.specs.Verdicts.{Verdict, optimal, bounds, fails, misread, too_long}
 use Rattle.file_spec.specs.Faults.{Fault, bad_number, missing_token, missing_pair, extra, bad_size, negative, too_big, bad_index, repeated, no_candidate, too_costly}
 use Rattle.file_spec.specs.Faults as faults
 use Rattle.cert_checker.specs.Answers.{kind_name}
@@ -30,18 +30,22 @@ memory_text = codes "hub: out of memory\n"
 unfoldable pub read_text : List ℕ
 read_text = codes "hub: read failed\n"
 
+-- words with two nodes behind them
+abbrev pub pair_words : List ℕ → ℕ → ℕ → List (List ℕ)
+pair_words words i j = words ∷ decimal (i + 1) ∷ codes " " ∷ decimal (j + 1) ∷ []
+
 -- a fault's number, name and what it carries, in parts
 abbrev pub fault_words : Fault → List (List ℕ)
 fault_words faults.too_long = codes "1 TooLong" ∷ []
 fault_words (bad_number at) = codes "2 BadNumber at " ∷ decimal at ∷ []
 fault_words (missing_token t) = codes "3 Missing token " ∷ decimal t ∷ []
-fault_words (missing_pair i j) = codes "3 Missing pair " ∷ decimal (i + 1) ∷ codes " " ∷ decimal (j + 1) ∷ []
+fault_words (missing_pair i j) = pair_words (codes "3 Missing pair ") i j
 fault_words (extra at) = codes "4 Extra at " ∷ decimal at ∷ []
 fault_words (bad_size got) = codes "5 Size " ∷ signed_decimal got ∷ []
 fault_words (negative at) = codes "6 Negative at " ∷ decimal at ∷ []
 fault_words (too_big at) = codes "7 TooBig at " ∷ decimal at ∷ []
 fault_words (bad_index at) = codes "8 BadIndex at " ∷ decimal at ∷ []
-fault_words (repeated i j) = codes "9 Repeated " ∷ decimal (i + 1) ∷ codes " " ∷ decimal (j + 1) ∷ []
+fault_words (repeated i j) = pair_words (codes "9 Repeated ") i j
 fault_words (no_candidate k) = codes "10 NoCandidate " ∷ decimal (k + 1) ∷ []
 fault_words (too_costly sum) = codes "11 TooCostly " ∷ decimal sum ∷ []
 

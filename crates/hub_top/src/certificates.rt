@@ -4,8 +4,8 @@ ghost use Rattle.std.specs.Prelude.{◌≡◌, IfOk, map, pos};
 ghost use Rattle.hub_top.specs.Solving.{IsSolution};
 ghost use Rattle.hub_spec.specs.Plans.{plan_cost};
 ghost use Rattle.branch_tree.specs.Findings.{IsProved};
-ghost use Rattle.branch_tree.specs.Held.{cuts_of};
-ghost use Rattle.cert_format.specs.Held.{cut_of};
+ghost use Rattle.branch_tree.specs.Views.{cuts_of};
+ghost use Rattle.cert_format.specs.Parts.{cut_of};
 
 use branch_tree::Found;
 use cert_format::Certificate;
@@ -24,7 +24,6 @@ pub fn certificate_of(
     requires no_gap { found.bound ≡ found.cost }
     ensures { IfOk result (IsSolution instance.now) }
 {
-    instance.limits();
     let size = instance.size();
     let candidates = instance.candidates().len() as u32;
     let cost = found.cost();

@@ -1,10 +1,12 @@
 //! The bytes of an instance file or a costs file.
 
 ghost use Rattle.std.specs.Prelude.{◌≡◌, ◌≤◌, length, IfOk, IfErr};
-ghost use Rattle.hub_io.specs.Outside.{Rose, Holds, TellsOf};
-ghost use Rattle.file_spec.specs.Instances.{file_limit};
+ghost use Rattle.hub_io.specs.Outside.{Holds};
+ghost use Rattle.file_spec.specs.Limits.{file_limit};
 ghost use Rattle.hub_top.specs.Blames.{blame_of};
+ghost use Rattle.hub_top.specs.Outcomes.{FailsFor, StaysShelf};
 ghost use Rattle.hub_top.specs.Halts.{Halts, IsTooLong};
+ghost use Rattle.hub_top.specs.Told.{LacksFile};
 
 use crate::halts::{Halt, unread};
 use crate::texts::Blamed;
@@ -24,10 +26,8 @@ pub fn read_file<S: Shelf>(
     ensures whole { IfOk result (λ bytes. Holds (S.held shelf.old) file.now bytes.items) }
     ensures within { IfOk result (λ bytes. length bytes.items ≤ file_limit) }
     ensures halted { IfErr result (Halts (IsTooLong (S.held shelf.old) file.now (blame_of blamed))
-        (Rose (S.faults shelf.old) (S.faults shelf.new) × (S.sound shelf.old → TellsOf (S.held shelf.old) file.now → ⊥))) }
-    ensures later { S.faults shelf.old ≤ S.faults shelf.new }
-    ensures same { S.held shelf.new ≡ S.held shelf.old }
-    ensures stays_sound { S.sound shelf.old → S.sound shelf.new }
+        (FailsFor S.held S.faults S.sound shelf.old shelf.new (LacksFile file.now))) }
+    ensures stays { StaysShelf S.held S.faults S.sound shelf.old shelf.new }
 {
     match read_whole(alloc, shelf, file, FILE_LIMIT) {
         Ok(bytes) => Ok(bytes),

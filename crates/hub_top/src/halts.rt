@@ -1,18 +1,28 @@
-//! Why a command has no instance.
+//! Why a command has no instance, or no certificate.
 
 ghost use Rattle.std.specs.Prelude.{◌≡◌};
 ghost use Rattle.hub_top.specs.Halts.{halted_by, unread_by};
+ghost use Rattle.hub_top.specs.declared.halts.Halt.TheVariants.{Memory};
 
 use crate::texts::Blamed;
 use hub_io::ReadEnd;
 use hub_model::{InstanceFault, Refusal};
+use std::alloc::AllocError;
 
-/// Why a command has no instance.
+/// Why a command has no instance, or no certificate.
 #[derive(Clone, Copy, Debug)]
 pub enum Halt {
     Fault(Blamed, InstanceFault),
     Memory,
     Read,
+}
+
+impl From<AllocError> for Halt {
+    ghost from_gives = { λ _ r. r ≡ Memory };
+
+    fn from(_error: AllocError) -> Halt {
+        Halt::Memory
+    }
 }
 
 /// Why there is no instance, where what this file gives was refused.

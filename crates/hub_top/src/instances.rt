@@ -1,17 +1,16 @@
 //! The instance of a command, from its files.
 
-ghost use Rattle.std.specs.Prelude.{◌≡◌, ◌≤◌, length, IfOk, IfErr};
-ghost use Rattle.hub_io.specs.Outside.{Rose, Holds};
+ghost use Rattle.std.specs.Prelude.{◌≡◌, IfOk, IfErr};
 ghost use Rattle.file_spec.specs.Files.{HasContents};
-ghost use Rattle.file_spec.specs.Instances.{file_limit};
 ghost use Rattle.token_reader.specs.Refusals.{IsRefused};
 ghost use Rattle.hub_model.specs.Building.{costs_of};
 ghost use Rattle.hub_words.specs.Requests.{AreSources};
 ghost use Rattle.hub_words.specs.Views.{layout_of, source_of};
-ghost use Rattle.hub_top.specs.Commands.{HoldsInstance, TellsSource};
-ghost use Rattle.hub_top.specs.Endings.{WhereTold};
+ghost use Rattle.hub_top.specs.Commands.{LacksSource};
+ghost use Rattle.hub_top.specs.Outcomes.{FailsFor, StaysShelf};
 ghost use Rattle.hub_top.specs.Building.{IsBuilt, AreBuildable};
 ghost use Rattle.hub_top.specs.Halts.{Halts, IsOfToken, IsOfWhole, IsOfSource};
+ghost use Rattle.hub_top.specs.Told.{ToldInstance};
 
 use crate::costs::costs_of_file;
 use crate::files::read_file;
@@ -31,43 +30,15 @@ pub fn read_instance<S: Shelf>(
     shelf: &mut S,
 ) -> Result<Instance, Halt>
     requires { AreSources (source_of source.now) }
-    ensures given { IfOk result (λ p. WhereTold (S.held shelf.old) (λ files. HoldsInstance files (source_of source.now) p)) }
+    ensures given { IfOk result (ToldInstance (S.held shelf.old) (source_of source.now)) }
     ensures halted { IfErr result (Halts (IsOfSource (S.held shelf.old) (source_of source.now))
-        (Rose (S.faults shelf.old) (S.faults shelf.new) × (S.sound shelf.old → TellsSource (S.held shelf.old) (source_of source.now) → ⊥))) }
-    ensures later { S.faults shelf.old ≤ S.faults shelf.new }
-    ensures same { S.held shelf.new ≡ S.held shelf.old }
-    ensures stays_sound { S.sound shelf.old → S.sound shelf.new }
+        (FailsFor S.held S.faults S.sound shelf.old shelf.new (λ files. LacksSource files (source_of source.now)))) }
+    ensures stays { StaysShelf S.held S.faults S.sound shelf.old shelf.new }
 {
-    match read_file(alloc, source.file, Blamed::Instance, shelf) {
-        Ok(bytes) => instance_of(alloc, &bytes, source, shelf),
-        Err(halt) => Err(halt),
-    }
-}
-
-/// The instance that the bytes of the instance file give.
-fn instance_of<S: Shelf>(
-    alloc: Global,
-    bytes: &[u8],
-    source: &Source<'_>,
-    shelf: &mut S,
-) -> Result<Instance, Halt>
-    requires sources { AreSources (source_of source.now) }
-    requires not_too_long { length bytes.now ≤ file_limit }
-    requires held { Holds (S.held shelf.old) source.now.file.now bytes.now }
-    ensures given { IfOk result (λ p. WhereTold (S.held shelf.old) (λ files. HoldsInstance files (source_of source.now) p)) }
-    ensures halted { IfErr result (Halts (IsOfSource (S.held shelf.old) (source_of source.now))
-        (Rose (S.faults shelf.old) (S.faults shelf.new) × (S.sound shelf.old → TellsSource (S.held shelf.old) (source_of source.now) → ⊥))) }
-    ensures later { S.faults shelf.old ≤ S.faults shelf.new }
-    ensures same { S.held shelf.new ≡ S.held shelf.old }
-    ensures stays_sound { S.sound shelf.old → S.sound shelf.new }
-{
-    match parts_of(alloc, bytes, source) {
-        Ok(parts) => match costs_of_file(alloc, source.costs, &parts, shelf) {
-            Ok(costs) => build(alloc, parts, &source.terms, costs),
-            Err(halt) => Err(halt),
-        },
-        Err(halt) => Err(halt),
-    }
+    let bytes = read_file(alloc, source.file, Blamed::Instance, shelf)?;
+    let parts = parts_of(alloc, &bytes, source)?;
+    let costs = costs_of_file(alloc, source.costs, &parts, shelf)?;
+    build(alloc, parts, &source.terms, costs)
 }
 
 /// What the bytes of the instance file give.

@@ -1,7 +1,7 @@
 //! The top call of the product: words, files and sinks to a status.
 //!
 //! [`run`] carries the headline as its clauses. `specs/` has their words in the order of reading: `Commands` (what a
-//! command does with its files), `Texts` (what is printed), `Endings` (how a run may end and what is written then),
+//! command does with its files), `Texts` (what is printed), `Outcomes` (what a run may come to and what is written then),
 //! `Meanings` (what each status says), `Completeness` (how it ends where nothing fails), `Headline`, `Theorems`. What the
 //! words ask for is defined in the crate `hub_words`.
 #![tactic(auto)]
@@ -9,19 +9,19 @@
 mod certificates;
 mod checking;
 mod costs;
-mod endings;
 mod files;
 mod halts;
 mod instances;
-mod judgements;
 mod laws;
+mod outcomes;
 mod solving;
 mod status;
 #[cfg(test)]
 mod tests;
 mod texts;
 mod top;
+mod verdict_lines;
 
-pub use laws::solved_is_optimal;
+pub use laws::{one_blame, solved_is_optimal};
 pub use status::Status;
 pub use top::run;

@@ -1,14 +1,16 @@
 //! The command `solve`: an instance from its file to its certificate.
 
-ghost use Rattle.std.specs.Prelude.{◌≡◌, Some, IfOk};
-ghost use Rattle.hub_words.specs.Requests.{AreSources, solve};
+ghost use Rattle.std.specs.Prelude.{◌≡◌, IfOk, IfErr};
+ghost use Rattle.hub_words.specs.Requests.{AreSources};
 ghost use Rattle.hub_words.specs.Views.{source_of};
-ghost use Rattle.hub_top.specs.Views.{ending};
-ghost use Rattle.hub_top.specs.Endings.{MayEnd, ShelfFails};
+ghost use Rattle.cert_spec.specs.Text.{certificate_text};
+ghost use Rattle.hub_top.specs.Commands.{LacksSource};
+ghost use Rattle.hub_top.specs.Outcomes.{FailsFor, StaysShelf};
+ghost use Rattle.hub_top.specs.Halts.{Halts, IsOfSource};
 ghost use Rattle.hub_top.specs.Solving.{IsSolution};
+ghost use Rattle.hub_top.specs.Told.{ToldSolved};
 
 use crate::certificates::certificate_of;
-use crate::endings::Intended;
 use crate::halts::Halt;
 use crate::instances::read_instance;
 use branch_tree::search;
@@ -18,21 +20,20 @@ use hub_model::Instance;
 use hub_words::Source;
 use std::alloc::{AllocError, Global};
 
-/// Solves the instance that the source names.
-pub fn solve<S: Shelf>(alloc: Global, source: &Source<'_>, shelf: &mut S) -> Intended
+/// The certificate of an optimal plan of the instance that the source names.
+pub fn solve<S: Shelf>(
+    alloc: Global,
+    source: &Source<'_>,
+    shelf: &mut S,
+) -> Result<Certificate, Halt>
     requires { AreSources (source_of source.now) }
-    ensures may { MayEnd (Some (solve (source_of source.now))) (S.held shelf.old) (ShelfFails S.held S.faults S.sound shelf.old shelf.new) (ending result) }
-    ensures same { S.held shelf.new ≡ S.held shelf.old }
+    ensures solved { IfOk result (λ k. ToldSolved (S.held shelf.old) (source_of source.now) (certificate_text k)) }
+    ensures halted { IfErr result (Halts (IsOfSource (S.held shelf.old) (source_of source.now))
+        (FailsFor S.held S.faults S.sound shelf.old shelf.new (λ files. LacksSource files (source_of source.now)))) }
+    ensures stays { StaysShelf S.held S.faults S.sound shelf.old shelf.new }
 {
-    match read_instance(alloc, source, shelf) {
-        Ok(instance) => match certified(alloc, &instance) {
-            Ok(certificate) => Intended::Solved(certificate),
-            Err(_) => Intended::Memory,
-        },
-        Err(Halt::Fault(blamed, fault)) => Intended::Refused(blamed, fault),
-        Err(Halt::Memory) => Intended::Memory,
-        Err(Halt::Read) => Intended::Read,
-    }
+    let instance = read_instance(alloc, source, shelf)?;
+    Ok(certified(alloc, &instance)?)
 }
 
 /// The certificate of an optimal plan.

@@ -1,17 +1,16 @@
 //! The texts that the product prints.
 
-ghost use Rattle.std.specs.Prelude.{◌≡◌, ◌+◌, [], ◌∷◌, codes, decimal};
-ghost use Rattle.std.specs.Fmt.{signed_decimal};
+ghost use Rattle.std.specs.Prelude.{◌≡◌, [], ◌∷◌, decimal};
 ghost use Rattle.hub_io.specs.Outside.{Puts};
-ghost use Rattle.hub_model.specs.Naturals.{natural};
+ghost use Rattle.hub_model.specs.Amounts.{natural};
 ghost use Rattle.hub_model.specs.Faults.{fault_of, missing_of};
-ghost use Rattle.file_spec.specs.Faults.{missing_pair, repeated};
-ghost use Rattle.hub_top.specs.Texts.{usage_text, memory_text, read_text, blame_words, fault_line, fault_text};
+ghost use Rattle.file_spec.specs.Faults.{missing_pair, bad_size, repeated, too_costly};
+ghost use Rattle.hub_top.specs.Texts.{usage_text, memory_text, read_text, blame_words, pair_words, fault_line, fault_text};
 ghost use Rattle.hub_top.specs.Blames.{blame_of};
 
 use dec_text::{Piece, put_line};
 use hub_io::{Failed, Sink};
-use hub_model::{InstanceFault, Wanted};
+use hub_model::{InstanceFault, Wanted, unsigned};
 
 /// The file that is blamed for a fault of an instance.
 #[derive(Clone, Copy, Debug, PartialEq, Eq)]
@@ -128,7 +127,7 @@ fn put_repeated<K: Sink>(file: Blamed, i: u32, j: u32, sink: &mut K) -> Result<(
 
 #[tactic(auto, unfolding(crate::specs::Texts::fault_line))]
 fn put_pair<K: Sink>(file: Blamed, words: &[u8], i: u32, j: u32, sink: &mut K) -> Result<(), Failed>
-    ensures { Puts K.taken K.faults sink.old sink.new result (fault_line (blame_of file) (words.now ∷ decimal (i + 1) ∷ codes " " ∷ decimal (j + 1) ∷ [])) }
+    ensures { Puts K.taken K.faults sink.old sink.new result (fault_line (blame_of file) (pair_words words.now i j)) }
 {
     put_line(
         &[
@@ -145,7 +144,7 @@ fn put_pair<K: Sink>(file: Blamed, words: &[u8], i: u32, j: u32, sink: &mut K) -
 
 #[tactic(auto, unfolding(crate::specs::Texts::fault_line))]
 fn put_size<K: Sink>(file: Blamed, got: i128, sink: &mut K) -> Result<(), Failed>
-    ensures { Puts K.taken K.faults sink.old sink.new result (fault_line (blame_of file) (codes "5 Size " ∷ signed_decimal got ∷ [])) }
+    ensures { Puts K.taken K.faults sink.old sink.new result (fault_text (blame_of file) (bad_size got)) }
 {
     put_line(
         &[
@@ -160,21 +159,22 @@ fn put_size<K: Sink>(file: Blamed, got: i128, sink: &mut K) -> Result<(), Failed
 
 #[tactic(auto, unfolding(crate::specs::Texts::fault_line))]
 fn put_sum<K: Sink>(file: Blamed, sum: i128, sink: &mut K) -> Result<(), Failed>
-    ensures { Puts K.taken K.faults sink.old sink.new result (fault_line (blame_of file) (codes "11 TooCostly " ∷ decimal (natural sum) ∷ [])) }
+    ensures { Puts K.taken K.faults sink.old sink.new result (fault_text (blame_of file) (too_costly (natural sum))) }
 {
     put_line(
         &[
             Piece::Text(file.words()),
             Piece::Text(b"11 TooCostly "),
-            Piece::Count(count_of(sum)),
+            Piece::Count(natural_of(sum)),
             Piece::Text(b"\n"),
         ],
         sink,
     )
 }
 
-fn count_of(sum: i128) -> u128
-    ensures { result ≡ natural sum }
+/// The number that this is, 0 where it is below 0.
+pub fn natural_of(amount: i128) -> u128
+    ensures { result ≡ natural amount }
 {
-    if sum < 0 { 0 } else { sum as u128 }
+    if amount < 0 { 0 } else { unsigned(amount) }
 }

@@ -4,18 +4,18 @@ ghost use Rattle.std.specs.Prelude.{◌≡◌, ◌⊎◌};
 ghost use Rattle.hub_io.specs.Outside.{Rose};
 ghost use Rattle.hub_words.specs.Words as spec;
 ghost use Rattle.hub_words.specs.Views.{texts};
-ghost use Rattle.hub_top.specs.Views.{ending};
-ghost use Rattle.hub_top.specs.Endings.{Ending, MayEnd, ShelfFails, Written};
+ghost use Rattle.hub_top.specs.Views.{outcome};
+ghost use Rattle.hub_top.specs.Outcomes.{Outcome, MayComeTo, ShelfFails, Quiet, Written};
 ghost use Rattle.hub_top.specs.Meanings.{Means};
 ghost use Rattle.hub_top.specs.Completeness.{Completeness};
 ghost use Rattle.hub_top.specs.Headline.{Headline};
 
 use crate::Status;
 use crate::checking::check;
-use crate::endings::{Intended, write};
+use crate::outcomes::{Intended, write};
 use crate::solving::solve;
 use hub_io::{Gate, Shelf, Sink};
-use hub_words::{Command, asked};
+use hub_words::{Command, Source, asked};
 use std::alloc::Global;
 use std::thread::Threads;
 
@@ -24,16 +24,13 @@ use std::thread::Threads;
 /// It reads and decides first, and then writes: the certificate or the verdict on `out`, and what hinders it on `err`. The
 /// runtime and the gate are not used so far.
 ///
-/// - `ends`: there is an ending that the words, the files and the shelf's faults allow, and it was written, with its
+/// - `ends`: there is an outcome that the words, the files and the shelf's faults allow, and it was written, with its
 ///   status; where a sink failed, a front of the text that it was to take, and nothing further.
 /// - `means`: what each status says of the words, the files, the faults and what `out` took.
 /// - `complete`: where no fault rose, words that are no command end with status 3, a fault of the instance with 4, `solve`
 ///   of an instance with 0, and `check` of an instance and a certificate's bytes with 0, 1 or 2 by the verdict on them; or
 ///   it is want of memory.
-/// - `headline`: the headline. Where `solve` ends with status 0, the text it wrote names hubs and routes that cost
-///   exactly the printed cost, and no nonempty set of candidate hubs with any routing costs less; `check` on the same
-///   instance and that text ends with status 0; and wherever `check` ends with status 0, on any bytes whatever, the
-///   named network attains its cost and no plan costs less.
+/// - `headline`: the headline, whose three sentences stand with their meaning in `specs/Headline.antt`.
 pub fn run<R: Threads + Sync, S: Shelf, O: Sink, E: Sink, G: Gate>(
     _rt: &R,
     alloc: Global,
@@ -43,15 +40,15 @@ pub fn run<R: Threads + Sync, S: Shelf, O: Sink, E: Sink, G: Gate>(
     err: &mut E,
     _gate: &G,
 ) -> Status
-    ensures ends { (ending : Ending)
-        × MayEnd (spec.asked (texts words.now)) (S.held shelf.old) (ShelfFails S.held S.faults S.sound shelf.old shelf.new) ending
-        × Written O.taken O.faults E.taken E.faults out.old out.new err.old err.new result ending }
-    ensures means { Means (spec.asked (texts words.now)) (S.held shelf.old) (ShelfFails S.held S.faults S.sound shelf.old shelf.new)
-        (O.taken out.old) (O.taken out.new) (Rose (O.faults out.old) (O.faults out.new) ⊎ Rose (E.faults err.old) (E.faults err.new)) result }
+    ensures ends { (came : Outcome)
+        × MayComeTo (spec.asked (texts words.now)) (S.held shelf.old) (ShelfFails S.held S.faults S.sound shelf.old shelf.new) came
+        × Written O.taken O.faults E.taken E.faults out.old out.new err.old err.new result came }
+    ensures means { Means (spec.asked (texts words.now)) (S.held shelf.old)
+        (ShelfFails S.held S.faults S.sound shelf.old shelf.new) (O.taken out.old) (O.taken out.new) (Rose (O.faults out.old) (O.faults out.new) ⊎ Rose (E.faults err.old) (E.faults err.new)) result }
     ensures complete { Completeness (spec.asked (texts words.now)) (S.held shelf.old)
-        ((Rose (S.faults shelf.old) (S.faults shelf.new) → ⊥) × (Rose (O.faults out.old) (O.faults out.new) → ⊥) × (Rose (E.faults err.old) (E.faults err.new) → ⊥)) result }
+        (Quiet S.faults shelf.old shelf.new O.faults out.old out.new E.faults err.old err.new) result }
     ensures headline { Headline (spec.asked (texts words.now)) (S.held shelf.old) (O.taken out.old) (O.taken out.new)
-        ((Rose (S.faults shelf.old) (S.faults shelf.new) → ⊥) × (Rose (O.faults out.old) (O.faults out.new) → ⊥) × (Rose (E.faults err.old) (E.faults err.new) → ⊥)) result }
+        (Quiet S.faults shelf.old shelf.new O.faults out.old out.new E.faults err.old err.new) result }
     ensures same { S.held shelf.new ≡ S.held shelf.old }
 {
     let intended = intend(alloc, words, shelf);
@@ -60,13 +57,22 @@ pub fn run<R: Threads + Sync, S: Shelf, O: Sink, E: Sink, G: Gate>(
 
 /// What the words and files come to. It writes nothing.
 fn intend<S: Shelf>(alloc: Global, words: &[String], shelf: &mut S) -> Intended
-    ensures may { MayEnd (spec.asked (texts words.now)) (S.held shelf.old) (ShelfFails S.held S.faults S.sound shelf.old shelf.new) (ending result) }
+    ensures may { MayComeTo (spec.asked (texts words.now)) (S.held shelf.old)
+        (ShelfFails S.held S.faults S.sound shelf.old shelf.new) (outcome result) }
     ensures same { S.held shelf.new ≡ S.held shelf.old }
 {
     match asked(alloc, words) {
         Err(_) => Intended::Memory,
         Ok(None) => Intended::Usage,
-        Ok(Some(Command::Solve(source))) => solve(alloc, &source, shelf),
-        Ok(Some(Command::Check(source, certificate))) => check(alloc, &source, certificate, shelf),
+        Ok(Some(Command::Solve(solving))) => match solve(alloc, &solving.source, shelf) {
+            Ok(certificate) => Intended::Solved(certificate),
+            Err(halt) => Intended::Halted(halt),
+        },
+        Ok(Some(Command::Check(source, certificate))) => {
+            match check(alloc, &source, certificate, shelf) {
+                Ok(ending) => Intended::Checked(ending),
+                Err(halt) => Intended::Halted(halt),
+            }
+        }
     }
 }

@@ -12,6 +12,7 @@ use Rattle.std.proofs.lemmas.List.Splits.{slice_split_first, slice_split_none}
 use Rattle.std.proofs.lemmas.List.Sums.{position_or_len_is}
 use Rattle.memchr.specs.Find.{IsFirstByte, is_byte}
 use Rattle.text_spec.specs.Numbers.{count_value}
+use Rattle.hub_spec.specs.Limits.{most_nodes}
 use Rattle.file_spec.specs.Options.{IsNodeList}
 use Rattle.hub_words.specs.Values.{is_comma, node_before, nodes_from, nodes_listed}
 use Rattle.hub_words.proofs.Counts.{count_limits}
@@ -47,12 +48,12 @@ pub record IsRead (word nodes : List ℕ) (least : ℕ) (rest : List ℕ) : Type
   pub from_one : 1 ≤ least
   pub left : joined nodes (nodes_from least (slice_split is_comma rest)) ≡ nodes_listed word
 
-nodes_more : (least : ℕ) (part : List ℕ) (parts : List (List ℕ)) (number : ℕ) → count_value least 200 part ≡ Some number
+nodes_more : (least : ℕ) (part : List ℕ) (parts : List (List ℕ)) (number : ℕ) → count_value least most_nodes part ≡ Some number
     → nodes_from least (part ∷ parts) ≡ node_before (number - 1) (nodes_from (number + 1) parts)
 unfolding nodes_from
 nodes_more least part parts number e = rw e refl
 
-nodes_refused : (least : ℕ) (part : List ℕ) (parts : List (List ℕ)) → count_value least 200 part ≡ None → nodes_from least (part ∷ parts) ≡ None
+nodes_refused : (least : ℕ) (part : List ℕ) (parts : List (List ℕ)) → count_value least most_nodes part ≡ None → nodes_from least (part ∷ parts) ≡ None
 unfolding nodes_from
 nodes_refused least part parts e = rw e refl
 
@@ -68,7 +69,7 @@ pub read_none : (word : List ℕ) → IsRead word [] 1 word
 read_none word = record { from_one = omega arith; left = joined_none (nodes_from 1 (slice_split is_comma word)) }
 
 pub read_more : (word nodes : List ℕ) (least : ℕ) (rest part later : List ℕ) (number : ℕ) → IsRead word nodes least rest
-    → slice_split is_comma rest ≡ part ∷ slice_split is_comma later → Some number ≡ count_value least 200 part
+    → slice_split is_comma rest ≡ part ∷ slice_split is_comma later → Some number ≡ count_value least most_nodes part
     → IsRead word (nodes ++ (number - 1) ∷ []) (number + 1) later
 read_more word nodes least rest part later number read cut e = record {
   from_one = omega arith;
@@ -77,7 +78,7 @@ read_more word nodes least rest part later number read cut e = record {
 }
 
 pub read_refused : (word nodes : List ℕ) (least : ℕ) (rest part : List ℕ) (parts : List (List ℕ)) → IsRead word nodes least rest
-    → slice_split is_comma rest ≡ part ∷ parts → None ≡ count_value least 200 part → None ≡ nodes_listed word
+    → slice_split is_comma rest ≡ part ∷ parts → None ≡ count_value least most_nodes part → None ≡ nodes_listed word
 read_refused word nodes least rest part parts read cut e =
     ap (joined nodes) (sym (nodes_refused least part parts (sym e)) ∙ ap (nodes_from least) (sym cut)) ∙ read.left
 
@@ -86,7 +87,7 @@ unfolding nodes_from
 nodes_end least = refl
 
 pub read_last : (word nodes : List ℕ) (least : ℕ) (rest : List ℕ) (number : ℕ) → IsRead word nodes least rest
-    → slice_split is_comma rest ≡ rest ∷ [] → Some number ≡ count_value least 200 rest → Some (nodes ++ (number - 1) ∷ []) ≡ nodes_listed word
+    → slice_split is_comma rest ≡ rest ∷ [] → Some number ≡ count_value least most_nodes rest → Some (nodes ++ (number - 1) ∷ []) ≡ nodes_listed word
 read_last word nodes least rest number read uncut e =
     ap (joined nodes) (sym (nodes_more least rest [] number (sym e) ∙ ap (node_before (number - 1)) (nodes_end (number + 1))) ∙ ap (nodes_from least) (sym uncut))
     ∙ read.left
@@ -96,7 +97,7 @@ read_last word nodes least rest number read uncut e =
 record AreFrom (least : ℕ) (nodes : List ℕ) : Type 0 where
   ascend : IsStrictlyIncreasing nodes
   low : All (λ k. least ≤ k + 1) nodes
-  limit : All (λ k. k < 200) nodes
+  limit : All (λ k. k < most_nodes) nodes
 
 ascend_cons : (x : ℕ) (xs : List ℕ) → All (λ y. x < y) xs → IsStrictlyIncreasing xs → IsStrictlyIncreasing (x ∷ xs)
 ascend_cons x [] above ascend k below = absurd (omega arith)
@@ -107,20 +108,20 @@ all_cons : (P : ℕ → Type 0) (x : ℕ) (xs : List ℕ) → P x → All P xs �
 all_cons P x xs p all zero d below = p
 all_cons P x xs p all (suc k) d below = all k d (omega arith)
 
-from_cons : (least number : ℕ) (later : List ℕ) → 1 ≤ least → least ≤ number → number ≤ 200 → AreFrom (number + 1) later
+from_cons : (least number : ℕ) (later : List ℕ) → 1 ≤ least → least ≤ number → number ≤ most_nodes → AreFrom (number + 1) later
     → AreFrom least ((number - 1) ∷ later)
 from_cons least number later one low high r = record {
   ascend = ascend_cons (number - 1) later (λ k d below. omega (arith, r.low k d below)) r.ascend;
   low = all_cons (λ k. least ≤ k + 1) (number - 1) later (omega arith) (λ k d below. omega (arith, r.low k d below));
-  limit = all_cons (λ k. k < 200) (number - 1) later (omega arith) r.limit;
+  limit = all_cons (λ k. k < most_nodes) (number - 1) later (omega arith) r.limit;
 }
 
-step_some : (least number : ℕ) (later : Option (List ℕ)) → 1 ≤ least → (least ≤ number) × (number ≤ 200) → IfSome later (AreFrom (number + 1))
+step_some : (least number : ℕ) (later : Option (List ℕ)) → 1 ≤ least → (least ≤ number) × (number ≤ most_nodes) → IfSome later (AreFrom (number + 1))
     → IfSome (node_before (number - 1) later) (AreFrom least)
 step_some least number None one limits r = tt
 step_some least number (Some later) one limits r = from_cons least number later one limits.0 limits.1 r
 
-step : (least : ℕ) (o : Option ℕ) (later : ℕ → Option (List ℕ)) → 1 ≤ least → IfSome o (λ n. (least ≤ n) × (n ≤ 200))
+step : (least : ℕ) (o : Option ℕ) (later : ℕ → Option (List ℕ)) → 1 ≤ least → IfSome o (λ n. (least ≤ n) × (n ≤ most_nodes))
     → ((n : ℕ) → IfSome (later (n + 1)) (AreFrom (n + 1)))
     → IfSome (option_and_then (λ number. node_before (number - 1) (later (number + 1))) o) (AreFrom least)
 step least None later one limits rest = tt
@@ -134,7 +135,7 @@ nodes_are_from [] least one = record {
   limit = λ k d below. absurd (omega arith);
 }
 nodes_are_from (word ∷ words) least one =
-    step least (count_value least 200 word) (λ n. nodes_from n words) one (count_limits least 200 word) (λ n. nodes_are_from words (n + 1) (omega arith))
+    step least (count_value least most_nodes word) (λ n. nodes_from n words) one (count_limits least most_nodes word) (λ n. nodes_are_from words (n + 1) (omega arith))
 
 pub nodes_legal : (word : List ℕ) (nodes : List ℕ) → 1 ≤ length nodes → Some nodes ≡ nodes_listed word → IsNodeList nodes
 nodes_legal word nodes some e =

@@ -1,6 +1,6 @@
 -- What the words of a command line ask for.
-use Rattle.std.specs.Prelude.{◌≡◌, ℕ, List, Option, None, IsSome}
-use Rattle.file_spec.specs.Options.{Layout, Options, tail_costs}
+use Rattle.std.specs.Prelude.{◌≡◌, ℕ, List, Option, Some, None, IsSome}
+use Rattle.file_spec.specs.Options.{Layout, Options, IsOptions, tail_costs}
 
 -- an instance as the words name it: the layout and name of its file, the options, and the name of the costs file
 pub record Source : Type 0 where
@@ -9,15 +9,23 @@ pub record Source : Type 0 where
   pub options : Options
   pub costs : Option (List ℕ)
 
+-- what is to be solved
+pub record Solving : Type 0 where
+  pub source : Source
+
 -- a command: solve an instance, or check a certificate against it
 pub data Request : Type 0 where
-  solve : Source → Request
+  solve : Solving → Request
   check : Source → (certificate : List ℕ) → Request
 
--- the instance that a request names
-abbrev pub instance : Request → Source
-instance (solve source) = source
-instance (check source certificate) = source
+-- the instance that a request names, if it names one
+abbrev pub instance : Request → Option Source
+instance (solve solving) = Some solving.source
+instance (check source certificate) = Some source
+
+-- the options are within their limits
+abbrev pub HasOptions : Source → Type 0
+HasOptions s = IsOptions s.options
 
 -- the fixed costs come from one source at most: the costs file, the file's tail, one cost for all nodes
 pub record AreSources (s : Source) : Type 0 where

@@ -1,5 +1,6 @@
 -- The options that are single values as contracts see them.
-use Rattle.std.specs.Prelude.{ℕ, ◌^◌, ◌≤◌, Option, None, IfSome}
+use Rattle.std.specs.Prelude.{ℕ, ◌≤◌, Option, None, IfSome}
+use Rattle.hub_spec.specs.Limits.{most_factor}
 use Rattle.file_spec.specs.Options.{Options}
 use Rattle.hub_model.specs.Asked.{order_of, tail_of}
 use Rattle.hub_words.specs.declared.settings.Factors.{Factors}
@@ -11,7 +12,7 @@ factors_of f = (f.collect, f.trunk, f.deliver)
 
 -- a factor in 10^-3 within its limit
 abbrev pub IsFactor : Option ℕ → Type 0
-IsFactor factor = IfSome factor (λ x. x ≤ 10 ^ 6)
+IsFactor factor = IfSome factor (λ x. x ≤ most_factor)
 
 -- each factor is within its limit
 pub record IsFactors (f : Factors) : Type 0 where

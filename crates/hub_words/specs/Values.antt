@@ -1,7 +1,9 @@
 -- The forms of the values that the words give to the options of an instance.
-use Rattle.std.specs.Prelude.{ℕ, ◌+◌, ◌-◌, ◌^◌, ◌==◌, Bool, false, List, [], ◌∷◌, codes, bytes_eq, nat_le, ℤ, pos, Option, Some, None, option_map, option_and_then, if◌then◌else◌}
+use Rattle.std.specs.Prelude.{ℕ, ◌+◌, ◌-◌, ◌==◌, Bool, false, List, [], ◌∷◌, codes, bytes_eq, nat_le, ℤ, pos, Option, Some, None, option_map, option_and_then, if◌then◌else◌}
 use Rattle.std.specs.List.{slice_split}
 use Rattle.text_spec.specs.Numbers.{count_value, decimal_value}
+use Rattle.hub_spec.specs.Limits.{most_nodes, most_factor}
+use Rattle.file_spec.specs.Limits.{most_cost_read, most_divisor}
 use Rattle.file_spec.specs.Options.{Layout, cab_matrix, cab_rows, australia_post, Order, flow_first, distance_first, Tail, tail_ignored, tail_costs}
 
 -- the layout of this name
@@ -38,7 +40,7 @@ tail_asked layout (Some word) = None
 -- by what distances are divided
 abbrev pub divide_asked : Option (List ℕ) → Option ℕ
 divide_asked None = Some 1
-divide_asked (Some word) = count_value 1 1000000 word
+divide_asked (Some word) = count_value 1 most_divisor word
 
 -- a number that is not negative and at most the limit
 abbrev pub within : ℕ → Option ℤ → Option ℕ
@@ -56,11 +58,11 @@ optional form (Some word) = option_map (λ v. Some v) (form word)
 
 -- a factor in 10^-3, at most 1000 units
 abbrev pub factor_asked : Option (List ℕ) → Option (Option ℕ)
-factor_asked = optional (quantity 3 (10 ^ 6))
+factor_asked = optional (quantity 3 most_factor)
 
 -- a fixed cost of every node in 10^-6, at most 10^12 units
 abbrev pub fixed_asked : Option (List ℕ) → Option (Option ℕ)
-fixed_asked = optional (quantity 6 (10 ^ 18))
+fixed_asked = optional (quantity 6 most_cost_read)
 
 -- `,`
 abbrev pub is_comma : ℕ → Bool
@@ -73,7 +75,7 @@ node_before k = option_map (λ nodes. k ∷ nodes)
 -- numbers of nodes, each above the one before it, the first at least so much; nodes count from 0
 unfoldable pub nodes_from : ℕ → List (List ℕ) → Option (List ℕ)
 nodes_from least [] = Some []
-nodes_from least (word ∷ words) = option_and_then (λ number. node_before (number - 1) (nodes_from (number + 1) words)) (count_value least 200 word)
+nodes_from least (word ∷ words) = option_and_then (λ number. node_before (number - 1) (nodes_from (number + 1) words)) (count_value least most_nodes word)
 
 -- the numbers of a list of candidates, separated by single commas
 abbrev pub nodes_listed : List ℕ → Option (List ℕ)

@@ -1,12 +1,15 @@
 -- The words, and the answers of the code, as contracts see them.
-use Rattle.std.specs.Prelude.{ℕ, List, map, option_map, string_bytes, String}
+use Rattle.std.specs.Prelude.{ℕ, List, map, Option, option_map, string_bytes, String}
 use Rattle.std.specs.declared.alloc.Global.{Global}
+use Rattle.clap.specs.Words.{Row, found_of, rows_of}
+use Rattle.clap.specs.declared.parser.matches.ArgMatches.{ArgMatches}
 use Rattle.file_spec.specs.Options as file
 use Rattle.file_spec.specs.Options.{Options}
 use Rattle.hub_words.specs.Requests as request
 use Rattle.hub_words.specs.declared.requests.Layout.{Layout}
 use Rattle.hub_words.specs.declared.requests.Layout.TheVariants.{CabMatrix, CabRows, AustraliaPost}
 use Rattle.hub_words.specs.declared.requests.Source.{Source}
+use Rattle.hub_words.specs.declared.requests.Solving.{Solving}
 use Rattle.hub_words.specs.declared.requests.Command.{Command}
 use Rattle.hub_words.specs.declared.requests.Command.TheVariants.{Solve, Check}
 
@@ -24,7 +27,19 @@ layout_of AustraliaPost = file.australia_post
 abbrev pub source_of : Source → request.Source
 source_of s = record { layout = layout_of s.layout; file = s.file.now; options = s.terms; costs = option_map (λ name. name.now) s.costs }
 
+-- what is to be solved
+abbrev pub solving_of : Solving → request.Solving
+solving_of s = record { source = source_of s.source }
+
+-- the values that a command was given, in rows
+abbrev pub rows_found : ArgMatches → List Row
+rows_found found = rows_of (found_of found)
+
 -- the request
 abbrev pub request_of : Command → request.Request
-request_of (Solve source) = request.solve (source_of source)
+request_of (Solve solving) = request.solve (solving_of solving)
 request_of (Check source certificate) = request.check (source_of source) certificate.now
+
+-- the request, if there is one
+abbrev pub requested : Option Command → Option request.Request
+requested command = option_map request_of command

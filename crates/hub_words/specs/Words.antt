@@ -82,7 +82,7 @@ source_asked rows = source_from rows (layout_asked rows) (given rows (codes "fil
 
 -- a call to solve the instance
 abbrev pub solve_asked : List Row → Option Request
-solve_asked rows = option_map solve (source_asked rows)
+solve_asked rows = option_map (λ source. solve (record { source = source })) (source_asked rows)
 
 -- a call to check the certificate
 abbrev pub checked : Option Text → Option Source → Option Request

@@ -7,12 +7,9 @@ ghost use Rattle.hub_words.specs.Values as spec;
 ghost use Rattle.hub_words.specs.Values.{is_comma};
 
 use crate::values::count;
-use hub_model::Nodes;
+use hub_model::{MOST_NODES, Nodes};
 use memchr::memchr;
 use std::alloc::{AllocError, Global};
-
-/// The greatest number of a node.
-const MOST_NODE: u64 = 200;
 
 /// The candidates, where they are given.
 pub(crate) fn candidates(
@@ -38,14 +35,14 @@ fn nodes_listed(alloc: Global, word: &str) -> Result<Option<Nodes>, AllocError>
     let mut rest = word;
     let mut least = 1;
     while let Some((part, later)) = cut(rest) {
-        let Some(number) = count(part, least, MOST_NODE) else {
+        let Some(number) = count(part, least, MOST_NODES as u64) else {
             return Ok(None);
         };
         nodes.push(number as u32 - 1)?;
         least = number + 1;
         rest = later;
     }
-    let Some(last) = count(rest, least, MOST_NODE) else {
+    let Some(last) = count(rest, least, MOST_NODES as u64) else {
         return Ok(None);
     };
     nodes.push(last as u32 - 1)?;

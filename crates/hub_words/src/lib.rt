@@ -20,4 +20,4 @@ mod tests;
 mod values;
 
 pub use asking::asked;
-pub use requests::{Command, Layout, Source};
+pub use requests::{Command, Layout, Solving, Source};

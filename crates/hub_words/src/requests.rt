@@ -21,11 +21,17 @@ pub struct Source<'a> {
     pub costs: Option<&'a str>,
 }
 
+/// What is to be solved.
+#[derive(Debug, Drop)]
+pub struct Solving<'a> {
+    pub source: Source<'a>,
+}
+
 /// A command that the words give.
 #[derive(Debug, Drop)]
 pub enum Command<'a> {
     /// Solve the instance.
-    Solve(Source<'a>),
+    Solve(Solving<'a>),
     /// Check the certificate in the file of this name against the instance.
     Check(Source<'a>, &'a str),
 }

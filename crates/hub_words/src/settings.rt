@@ -1,17 +1,16 @@
 //! The options of an instance that are single values, and the options with the candidates.
 
 ghost use Rattle.std.specs.Prelude.{◌≡◌, IfSome, Some, option_map};
-ghost use Rattle.clap.specs.Words.{found_of, rows_of};
 ghost use Rattle.file_spec.specs.Options.{IsOptions};
-ghost use Rattle.hub_model.specs.Naturals.{IsNatural, natural};
+ghost use Rattle.hub_model.specs.Amounts.{IsNatural, natural};
 ghost use Rattle.hub_words.specs.Words as spec;
-ghost use Rattle.hub_words.specs.Views.{layout_of};
+ghost use Rattle.hub_words.specs.Views.{layout_of, rows_found};
 ghost use Rattle.hub_words.specs.Settings.{IsFactors, factors_of, settings_of};
 
 use crate::requests::Layout;
 use crate::values::{divide, factor, fixed, is_set, order, tail};
 use clap::ArgMatches;
-use hub_model::{Nodes, Order, Tail, Terms};
+use hub_model::{Nodes, Order, Tail, Terms, signed};
 
 /// The options that are single values.
 #[derive(Clone, Copy)]
@@ -34,14 +33,14 @@ pub(crate) struct Factors {
 
 /// The value that the words give to the argument of this name.
 pub(crate) fn given<'a>(found: &ArgMatches<'a>, name: &str) -> Option<&'a str>
-    ensures { option_map (λ word. word.now) result ≡ spec.given (rows_of (found_of found.now)) name.now }
+    ensures { option_map (λ word. word.now) result ≡ spec.given (rows_found found.now) name.now }
 {
     found.get_str(name)
 }
 
 /// The single values, where each is within its form.
 pub(crate) fn read_settings(layout: Layout, found: &ArgMatches<'_>) -> Option<Settings>
-    ensures value { option_map settings_of result ≡ spec.settings_asked (layout_of layout) (rows_of (found_of found.now)) }
+    ensures value { option_map settings_of result ≡ spec.settings_asked (layout_of layout) (rows_found found.now) }
     ensures limits { IfSome result (λ s. IsOptions (settings_of s)) }
 {
     Some(Settings {
@@ -55,7 +54,7 @@ pub(crate) fn read_settings(layout: Layout, found: &ArgMatches<'_>) -> Option<Se
 }
 
 fn read_factors(found: &ArgMatches<'_>) -> Option<Factors>
-    ensures value { option_map factors_of result ≡ spec.factors_asked (rows_of (found_of found.now)) }
+    ensures value { option_map factors_of result ≡ spec.factors_asked (rows_found found.now) }
     ensures limits { IfSome result IsFactors }
 {
     Some(Factors {
@@ -75,18 +74,21 @@ pub(crate) fn terms(settings: Settings, candidates: Option<Nodes>) -> Terms
         order: settings.order,
         tail: settings.tail,
         divide: settings.divide,
-        collect: held(settings.factors.collect),
-        trunk: held(settings.factors.trunk),
-        deliver: held(settings.factors.deliver),
-        fixed: held(settings.fixed),
+        collect: amount(settings.factors.collect),
+        trunk: amount(settings.factors.trunk),
+        deliver: amount(settings.factors.deliver),
+        fixed: amount(settings.fixed),
         candidates,
         no_self: settings.no_self,
     }
 }
 
-fn held(value: Option<u64>) -> Option<i128>
+fn amount(value: Option<u64>) -> Option<i128>
     ensures same { option_map natural result ≡ value }
     ensures natural { IfSome result IsNatural }
 {
-    value.map(i128::from)
+    match value {
+        Some(amount) => Some(signed(amount as u128)),
+        None => None,
+    }
 }

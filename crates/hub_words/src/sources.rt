@@ -1,13 +1,11 @@
 //! An instance as the words name it, put together from its layout, file, options and costs file.
 
 ghost use Rattle.std.specs.Prelude.{◌≡◌, IfOk, IfSome, codes, option_map};
-ghost use Rattle.clap.specs.Words.{found_of, rows_of};
-ghost use Rattle.file_spec.specs.Options.{IsOptions};
 ghost use Rattle.hub_model.specs.Asked.{tail_of};
-ghost use Rattle.hub_words.specs.Requests.{AreSources};
+ghost use Rattle.hub_words.specs.Requests.{HasOptions, AreSources};
 ghost use Rattle.hub_words.specs.Words as spec;
 ghost use Rattle.hub_words.specs.Settings.{settings_of};
-ghost use Rattle.hub_words.specs.Views.{layout_of, source_of};
+ghost use Rattle.hub_words.specs.Views.{layout_of, rows_found, source_of};
 
 use crate::candidates::candidates;
 use crate::requests::{Layout, Source};
@@ -23,8 +21,8 @@ pub(crate) fn source<'a>(
     alloc: Global,
     found: &ArgMatches<'a>,
 ) -> Result<Option<Source<'a>>, AllocError>
-    ensures named { IfOk result (λ source. option_map source_of source ≡ spec.source_asked (rows_of (found_of found.now))) }
-    ensures limits { IfOk result (λ source. IfSome source (λ s. IsOptions (source_of s).options)) }
+    ensures named { IfOk result (λ source. option_map source_of source ≡ spec.source_asked (rows_found found.now)) }
+    ensures limits { IfOk result (λ source. IfSome source (λ s. HasOptions (source_of s))) }
     ensures sources { IfOk result (λ source. IfSome source (λ s. AreSources (source_of s))) }
 {
     let Some(layout) = layout(found) else {
@@ -37,7 +35,7 @@ pub(crate) fn source<'a>(
 }
 
 fn layout(found: &ArgMatches<'_>) -> Option<Layout>
-    ensures { option_map layout_of result ≡ spec.layout_asked (rows_of (found_of found.now)) }
+    ensures { option_map layout_of result ≡ spec.layout_asked (rows_found found.now) }
 {
     match given(found, "layout") {
         Some(name) => layout_named(name),
@@ -52,8 +50,8 @@ fn source_of_file<'a>(
     file: &'a str,
     found: &ArgMatches<'a>,
 ) -> Result<Option<Source<'a>>, AllocError>
-    ensures named { IfOk result (λ source. option_map source_of source ≡ spec.source_of_file (rows_of (found_of found.now)) (layout_of layout) file.entry.now) }
-    ensures limits { IfOk result (λ source. IfSome source (λ s. IsOptions (source_of s).options)) }
+    ensures named { IfOk result (λ source. option_map source_of source ≡ spec.source_of_file (rows_found found.now) (layout_of layout) file.entry.now) }
+    ensures limits { IfOk result (λ source. IfSome source (λ s. HasOptions (source_of s))) }
     ensures sources { IfOk result (λ source. IfSome source (λ s. AreSources (source_of s))) }
 {
     let Some(settings) = read_settings(layout, found) else {

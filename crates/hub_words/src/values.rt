@@ -1,6 +1,8 @@
 //! The values of single options, by their forms.
 
-ghost use Rattle.std.specs.Prelude.{◌≡◌, ◌≤◌, ◌^◌, IfSome, option_map};
+ghost use Rattle.std.specs.Prelude.{◌≡◌, ◌≤◌, IfSome, option_map};
+ghost use Rattle.hub_spec.specs.Limits.{most_factor};
+ghost use Rattle.file_spec.specs.Limits.{most_cost_read, most_divisor};
 ghost use Rattle.text_spec.specs.Numbers.{count_value};
 ghost use Rattle.hub_model.specs.Asked.{order_of, tail_of};
 ghost use Rattle.hub_words.specs.Values as spec;
@@ -8,16 +10,7 @@ ghost use Rattle.hub_words.specs.Views.{layout_of};
 
 use crate::requests::Layout;
 use dec_text::{read_count, read_decimal};
-use hub_model::{Order, Tail};
-
-/// The greatest factor, in 10^-3.
-const MOST_FACTOR: u64 = 1_000_000;
-
-/// The greatest fixed cost of a node, in 10^-6.
-const MOST_FIXED: u64 = 1_000_000_000_000_000_000;
-
-/// The greatest number that distances are divided by.
-const MOST_DIVIDE: u64 = 1_000_000;
+use hub_model::{MOST_COST_READ, MOST_DIVISOR, MOST_FACTOR, Order, Tail, unsigned_small};
 
 pub(crate) fn layout_named(word: &str) -> Option<Layout>
     ensures { option_map layout_of result ≡ spec.layout_named word.now }
@@ -85,11 +78,11 @@ pub(crate) fn tail(layout: Layout, given: Option<&str>) -> Option<Tail>
 
 pub(crate) fn divide(given: Option<&str>) -> Option<u32>
     ensures value { result ≡ spec.divide_asked (option_map (λ word. word.now) given.entry) }
-    ensures limits { IfSome result (λ d. (1 ≤ d) × (d ≤ 10 ^ 6)) }
+    ensures limits { IfSome result (λ d. (1 ≤ d) × (d ≤ most_divisor)) }
 {
     match given {
         None => Some(1),
-        Some(word) => match count(word, 1, MOST_DIVIDE) {
+        Some(word) => match count(word, 1, MOST_DIVISOR as u64) {
             Some(d) => Some(d as u32),
             None => None,
         },
@@ -106,7 +99,7 @@ pub(crate) fn count(word: &str, least: u64, most: u64) -> Option<u64>
 
 pub(crate) fn factor(given: Option<&str>) -> Option<Option<u64>>
     ensures value { result ≡ spec.factor_asked (option_map (λ word. word.now) given.entry) }
-    ensures limit { IfSome result (λ factor. IfSome factor (λ x. x ≤ 10 ^ 6)) }
+    ensures limit { IfSome result (λ factor. IfSome factor (λ x. x ≤ most_factor)) }
 {
     match given {
         None => Some(None),
@@ -116,11 +109,11 @@ pub(crate) fn factor(given: Option<&str>) -> Option<Option<u64>>
 
 pub(crate) fn fixed(given: Option<&str>) -> Option<Option<u64>>
     ensures value { result ≡ spec.fixed_asked (option_map (λ word. word.now) given.entry) }
-    ensures limit { IfSome result (λ fixed. IfSome fixed (λ x. x ≤ 10 ^ 18)) }
+    ensures limit { IfSome result (λ fixed. IfSome fixed (λ x. x ≤ most_cost_read)) }
 {
     match given {
         None => Some(None),
-        Some(word) => quantity(word, 6, MOST_FIXED).map(Some),
+        Some(word) => quantity(word, 6, MOST_COST_READ as u64).map(Some),
     }
 }
 
@@ -130,7 +123,7 @@ fn quantity(word: &str, places: u32, most: u64) -> Option<u64>
     ensures limit { IfSome result (λ x. x ≤ most) }
 {
     match read_decimal(word.as_bytes(), places) {
-        Ok(value) if value >= 0 && value <= most as i128 => Some(value as u64),
+        Ok(value) if value >= 0 && value <= most as i128 => Some(unsigned_small(value)),
         _ => None,
     }
 }

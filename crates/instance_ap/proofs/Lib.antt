@@ -1,6 +1,5 @@
 pub mod Gaps
 pub mod Mirrored
-pub mod Numbers
 pub mod Legal
 pub mod Tails
 pub mod PostTokens

@@ -10,7 +10,7 @@ use Rattle.std.proofs.lemmas.List.Elements.{All-get_or}
 use mir.Val.{to_z, of_z}
 use mir.Syntax.{w128}
 use Rattle.file_spec.specs.Distances.{planar_distance, gap}
-use Rattle.hub_model.specs.Naturals.{natural, IsHeld}
+use Rattle.hub_model.specs.Amounts.{natural, IsListedNumber}
 use Rattle.instance_ap.specs.Points.{origin, distance_between, distance_of, distances_front}
 
 gap_back : (a b : ℤ) → gap a b ≡ gap b a
@@ -52,15 +52,15 @@ back_distance : (divide n : ℕ) (points : List (ℤ × ℤ)) (before : List ℤ
 back_distance divide n points before from to is_from is_to below within earlier values =
     front_at divide n points before (to * n + from) earlier values ∙ mirrored divide n points (length before) from to is_from is_to below within
 
-fits : (z : ℤ) → IsHeld z → FitsSigned w128 z
+fits : (z : ℤ) → IsListedNumber z → FitsSigned w128 z
 fits (pos n) h = record { sfits = omega (arith, ints, h.most) }
 fits (negsuc n) h = absurd (omega (arith, ints, h.least))
 
 -- as the machine hands it on
-pub back_held : (divide n : ℕ) (points : List (ℤ × ℤ)) (before : List ℤ) (from to : ℕ) → from ≡ length before / n → to ≡ length before % n
-    → from < n → to < n → to * n + from < length before → All IsHeld before → map natural before ≡ distances_front divide n points (length before)
+pub back_handed : (divide n : ℕ) (points : List (ℤ × ℤ)) (before : List ℤ) (from to : ℕ) → from ≡ length before / n → to ≡ length before % n
+    → from < n → to < n → to * n + from < length before → All IsListedNumber before → map natural before ≡ distances_front divide n points (length before)
     → natural (to_z w128 (of_z w128 (get_or before (to * n + from) (pos 0)))) ≡ distance_of divide n points (length before)
-back_held divide n points before from to is_from is_to below within earlier held values =
-    let one = fits (get_or before (to * n + from) (pos 0)) (All-get_or IsHeld before (to * n + from) (pos 0) earlier held) in
+back_handed divide n points before from to is_from is_to below within earlier listed values =
+    let one = fits (get_or before (to * n + from) (pos 0)) (All-get_or IsListedNumber before (to * n + from) (pos 0) earlier listed) in
     ap natural (to_z-of_z w128 (get_or before (to * n + from) (pos 0)) one)
     ∙ back_distance divide n points before from to is_from is_to below within earlier values

@@ -1,5 +1,5 @@
 -- What a file gives whose front and tail are read.
-use Rattle.std.proofs.Common.{◌≡◌, ℕ, zero, suc, ◌+◌, ◌-◌, ◌*◌, ◌/◌, ◌%◌, ◌<◌, ◌≤◌, List, ◌∷◌, map, length, get_or, Option, Some, None, Result, Ok, Err, IfErr, refl, sym, subst, ap, ap₂, ◌∙◌, inl, inr, arith}
+use Rattle.std.proofs.Common.{◌≡◌, ℕ, ◌+◌, ◌-◌, ◌*◌, ◌/◌, ◌%◌, ◌<◌, ◌≤◌, List, map, length, get_or, Option, Some, None, Result, Ok, Err, IfErr, refl, sym, subst, ap, ap₂, ◌∙◌, inl, inr, arith}
 use Rattle.std.specs.List.{range_with_len}
 use Rattle.std.proofs.lemmas.Bool.{cases_lt}
 use Rattle.std.proofs.lemmas.List.{length-map}
@@ -16,27 +16,20 @@ use Rattle.hub_model.specs.Faults.{fault_of}
 use Rattle.hub_model.specs.declared.faults.Refusal.{Refusal}
 use Rattle.hub_model.specs.declared.faults.Refusal.TheVariants.{Fault as of_fault, OutOfMemory}
 use Rattle.token_reader.specs.Refusals.{IsRefused}
-use Rattle.token_reader.specs.Unread.{Unread, whole, later, fault_here, value_here, coordinate_here}
+use Rattle.token_reader.specs.Unread.{Unread, whole, later, fault_here, value_here, coordinate_here, values_here}
 use Rattle.token_reader.proofs.Ahead.{later-later}
+use Rattle.token_reader.proofs.Formulas.{same_below}
 use Rattle.token_reader.proofs.Stretches.{fault_later, value_later, coordinate_later}
 use Rattle.instance_ap.specs.declared.layout.Front.{Front}
 use Rattle.instance_ap.specs.Points.{origin, coordinates_of, distance_between, distance_of, distances_front}
-use Rattle.instance_ap.specs.Fronts.{values_front, point_here, points_front, tail_here, IsLegalTail, IsTailFault, StoppedInTail}
+use Rattle.instance_ap.specs.Fronts.{point_here, points_front, tail_here, IsLegalTail, IsTailFault, StoppedInTail}
 use Rattle.instance_ap.specs.Files.{front_length, IsFront, contents_with}
 use Rattle.instance_ap.proofs.PostTokens.{post_fault}
 
--- two formulas that agree below a + m give the same list
-same_from : {X : Type 0} (f g : ℕ → X) (a m : ℕ) → ((s : ℕ) → s < a + m → f s ≡ g s) → map f (range_with_len a m) ≡ map g (range_with_len a m)
-same_from f g a zero h = refl
-same_from f g a (suc m) h = ap₂ (λ x xs. x ∷ xs) (h a (omega arith)) (same_from f g (a + 1) m (λ s l. h s (omega arith)))
-
-same_below : {X : Type 0} (f g : ℕ → X) (m : ℕ) → ((s : ℕ) → s < m → f s ≡ g s) → map f (range_with_len 0 m) ≡ map g (range_with_len 0 m)
-same_below f g m h = same_from f g 0 m (λ s l. h s (omega arith))
-
 -- the numbers behind the first k tokens
 values_are : (bytes : List ℕ) (places k m first : ℕ) → first ≡ 1 + k
-    → values_front places m (later k (whole bytes)) ≡ map (λ s. value_at (tokens_of bytes) places (first + s)) (range_with_len 0 m)
-unfolding values_front
+    → values_here places m (later k (whole bytes)) ≡ map (λ s. value_at (tokens_of bytes) places (first + s)) (range_with_len 0 m)
+unfolding values_here
 values_are bytes places k m first e =
     same_below (λ s. value_here places (later s (later k (whole bytes)))) (λ s. value_at (tokens_of bytes) places (first + s)) m
     (λ s l. (let t : 1 + (k + s) ≡ first + s = omega arith in

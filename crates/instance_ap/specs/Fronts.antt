@@ -7,11 +7,7 @@ use Rattle.file_spec.specs.Places.{tail_wanted}
 use Rattle.hub_model.specs.Faults.{fault_of}
 use Rattle.hub_model.specs.declared.faults.Refusal.{Refusal}
 use Rattle.hub_model.specs.declared.faults.Refusal.TheVariants.{Fault as of_fault, OutOfMemory}
-use Rattle.token_reader.specs.Unread.{Unread, later, fault_here, value_here, coordinate_here}
-
--- the numbers that the next m tokens write, in units of 10^-places
-unfoldable pub values_front : ℕ → ℕ → Unread → List ℕ
-values_front places m r = map (λ s. value_here places (later s r)) (range_with_len 0 m)
+use Rattle.token_reader.specs.Unread.{Unread, later, fault_here, values_here, coordinate_here}
 
 -- the point that the next two tokens write
 unfoldable pub point_here : Unread → ℤ × ℤ
@@ -24,7 +20,7 @@ points_front m r = map (λ k. point_here (later (2 * k) r)) (range_with_len 0 m)
 -- the fixed costs that a tail gives for n nodes
 abbrev pub tail_here : Tail → ℕ → Unread → Option (List ℕ)
 tail_here tail_ignored n r = None
-tail_here tail_costs n r = Some (values_front 6 n r)
+tail_here tail_costs n r = Some (values_here 6 n r)
 
 -- no token of the tail has a fault
 pub record IsLegalTail (tail : Tail) (n : ℕ) (r : Unread) : Type 0 where

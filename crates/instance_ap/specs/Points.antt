@@ -1,5 +1,5 @@
 -- The distances between nodes that lie at given points, each the pair of its coordinates in 10^-6.
-use Rattle.std.specs.Prelude.{ℕ, ◌/◌, ◌%◌, List, map, ℤ, pos}
+use Rattle.std.specs.Prelude.{ℕ, ◌/◌, ◌%◌, List, length, map, ℤ, pos}
 use Rattle.std.specs.List.{range_with_len}
 use Rattle.std.proofs.Math.ListN.{get_or}
 use Rattle.file_spec.specs.Distances.{planar_distance, gap}
@@ -24,3 +24,11 @@ distance_of divide n points s = distance_between divide (get_or points (s / n) o
 -- the distances of the first m commodities
 unfoldable pub distances_front : ℕ → ℕ → List (ℤ × ℤ) → ℕ → List ℕ
 distances_front divide n points m = map (distance_of divide n points) (range_with_len 0 m)
+
+-- the distance of the commodity number s, with a node at each of these points
+abbrev pub distance_at : ℕ → List Point → ℕ → ℕ
+distance_at divide points s = distance_of divide (length points) (map coordinates_of points) s
+
+-- the distances of the first m commodities, with a node at each of these points
+abbrev pub first_distances : ℕ → List Point → ℕ → List ℕ
+first_distances divide points m = distances_front divide (length points) (map coordinates_of points) m

@@ -7,16 +7,10 @@ ghost use Rattle.instance_ap.specs.Files.{IsFront, contents_with};
 
 use crate::distances::distances;
 use crate::points::Point;
-use crate::reading::{read_factors, read_numbers, read_points, read_tail};
-use hub_model::{Factors, Numbers, Parts, Refusal, Terms};
+use crate::reading::{read_factors, read_points, read_tail};
+use hub_model::{Factors, MOST_FLOW, MOST_LISTED, Numbers, Parts, Refusal, Terms};
 use std::alloc::Global;
 use token_reader::Reader;
-
-// A flow is at most this many 10^-6.
-const FLOW_LIMIT: u64 = 10_000_000_000_000;
-
-// At most this many hubs are listed.
-const HUB_LIMIT: u64 = 1000;
 
 /// Reads an instance file in the layout of Australia Post: what it gives, or the first fault in the order of tokens.
 ///
@@ -28,7 +22,6 @@ pub fn read_ap(alloc: Global, bytes: &[u8], terms: &Terms) -> Result<Parts, Refu
     ensures contents { IfOk result (λ parts. HasContents australia_post terms.now bytes.now parts) }
     ensures fault { IfErr result (IsRefused australia_post terms.now bytes.now) }
 {
-    terms.limits();
     let Front {
         n,
         points,
@@ -38,7 +31,7 @@ pub fn read_ap(alloc: Global, bytes: &[u8], terms: &Terms) -> Result<Parts, Refu
         mut rest,
     } = read_front(alloc, bytes)?;
     let tail_costs = read_tail(alloc, &mut rest, terms.tail, n)?;
-    let distances = distances(alloc, &points, terms.divide)?;
+    let distances = distances(alloc, &points, terms.divisor())?;
     Ok(parts(n, flows, distances, listed_p, factors, tail_costs))
 }
 
@@ -61,8 +54,10 @@ fn read_front(alloc: Global, bytes: &[u8]) -> Result<Front<'_>, Refusal>
     let mut rest = Reader::over(bytes);
     let n = rest.size().map_err(Refusal::Fault)?;
     let points = read_points(alloc, &mut rest, n)?;
-    let flows = read_numbers(alloc, &mut rest, n * n, 6, FLOW_LIMIT)?;
-    let listed_p = rest.quantity(0, HUB_LIMIT).map_err(Refusal::Fault)? as u32;
+    let flows = rest.quantities(alloc, n * n, 6, MOST_FLOW)?;
+    let listed_p = rest
+        .quantity(0, MOST_LISTED as u64)
+        .map_err(Refusal::Fault)? as u32;
     let factors = read_factors(&mut rest).map_err(Refusal::Fault)?;
     Ok(Front {
         n,

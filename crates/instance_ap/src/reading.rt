@@ -1,44 +1,18 @@
-ghost use Rattle.std.specs.Prelude.{◌≡◌, ◌*◌, ◌≤◌, map, IfOk, IfErr, OnOk};
-ghost use Rattle.file_spec.specs.Places.{a_quantity, a_coordinate, a_factor};
+ghost use Rattle.std.specs.Prelude.{◌≡◌, ◌*◌, map, IfOk, IfErr, OnOk};
+ghost use Rattle.file_spec.specs.Places.{a_coordinate, a_factor};
 ghost use Rattle.hub_model.specs.Asked.{tail_of};
 ghost use Rattle.hub_model.specs.Faults.{fault_of};
-ghost use Rattle.hub_model.specs.Naturals.{natural};
+ghost use Rattle.hub_model.specs.Amounts.{natural};
 ghost use Rattle.token_reader.specs.Unread.{later, value_here, AreLegal, IsFirstFault, StoppedAt};
 ghost use Rattle.instance_ap.specs.Points.{coordinates_of};
-ghost use Rattle.instance_ap.specs.Fronts.{values_front, point_here, points_front, tail_here, IsLegalTail, StoppedInTail};
+ghost use Rattle.instance_ap.specs.Fronts.{point_here, points_front, tail_here, IsLegalTail, StoppedInTail};
 
 use crate::points::Point;
-use hub_model::{Factors, InstanceFault, Numbers, Refusal, Tail};
+use hub_model::{
+    Factors, InstanceFault, MOST_COST_READ, MOST_FACTOR, Numbers, Refusal, Tail, signed,
+};
 use std::alloc::{AllocError, Global};
 use token_reader::Reader;
-
-// A fixed cost is at most this many 10^-6.
-const COST_LIMIT: u64 = 1_000_000_000_000_000_000;
-
-// A factor is at most this many 10^-3.
-const FACTOR_LIMIT: u64 = 1_000_000;
-
-/// Reads the next m tokens as numbers in units of 10^-places that are not negative and at most the limit.
-pub(crate) fn read_numbers(
-    alloc: Global,
-    reader: &mut Reader<'_>,
-    m: u32,
-    places: u32,
-    limit: u64,
-) -> Result<Numbers, Refusal>
-    requires { places ≤ 6 }
-    ensures legal { OnOk result (AreLegal (a_quantity places limit) m reader.old) }
-    ensures values { IfOk result (λ all. all ≡ values_front places m reader.old) }
-    ensures moved { OnOk result (reader.new ≡ later m reader.old) }
-    ensures fault { IfErr result (StoppedAt (a_quantity places limit) m reader.old) }
-{
-    let mut items = Vec::with_capacity(alloc, m as usize)?;
-    for _place in 0..m {
-        let value = reader.quantity(places, limit).map_err(Refusal::Fault)?;
-        items.push(value as i128).map_err(AllocError::from)?;
-    }
-    Ok(Numbers::from_vec(items))
-}
 
 // Reads the next two tokens as a point.
 fn read_point(reader: &mut Reader<'_>) -> Result<Point, InstanceFault>
@@ -80,13 +54,13 @@ pub(crate) fn read_factors(reader: &mut Reader<'_>) -> Result<Factors, InstanceF
     ensures moved { OnOk result (reader.new ≡ later 3 reader.old) }
     ensures fault { IfErr result (λ f. IsFirstFault a_factor 3 reader.old (fault_of f)) }
 {
-    let collect = reader.quantity(3, FACTOR_LIMIT)?;
-    let trunk = reader.quantity(3, FACTOR_LIMIT)?;
-    let deliver = reader.quantity(3, FACTOR_LIMIT)?;
+    let collect = reader.quantity(3, MOST_FACTOR)?;
+    let trunk = reader.quantity(3, MOST_FACTOR)?;
+    let deliver = reader.quantity(3, MOST_FACTOR)?;
     Ok(Factors {
-        collect: collect as i128,
-        trunk: trunk as i128,
-        deliver: deliver as i128,
+        collect: signed(collect as u128),
+        trunk: signed(trunk as u128),
+        deliver: signed(deliver as u128),
     })
 }
 
@@ -104,7 +78,7 @@ pub(crate) fn read_tail(
     match tail {
         Tail::Ignore => Ok(None),
         Tail::Fixed => {
-            let costs = read_numbers(alloc, reader, n, 6, COST_LIMIT)?;
+            let costs = reader.quantities(alloc, n, 6, MOST_COST_READ as u64)?;
             reader.end().map_err(Refusal::Fault)?;
             Ok(Some(costs))
         }

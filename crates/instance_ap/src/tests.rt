@@ -1,33 +1,22 @@
 // Worked files: the numbers they give, and the first faults of others.
-ghost use Rattle.std.specs.Prelude.{◌^◌, ◌≤◌};
+ghost use Rattle.std.specs.Prelude.{◌≤◌};
+ghost use Rattle.file_spec.specs.Limits.{most_divisor};
 
 use crate::read_ap;
-use hub_model::{InstanceFault, Order, Parts, Refusal, Tail, Terms, Wanted};
+use hub_model::{InstanceFault, Parts, Refusal, Tail, Terms, Wanted};
 use std::alloc::Global;
 
-// Options with a tail and a divisor.
-fn terms(tail: Tail, divide: u32) -> Terms
+// A file read with a tail and a divisor.
+fn read(alloc: Global, text: &str, tail: Tail, divide: u32) -> Result<Parts, Refusal>
     requires least { 1 ≤ divide }
-    requires most { divide ≤ 10 ^ 6 }
+    requires most { divide ≤ most_divisor }
 {
-    Terms {
-        order: Order::FlowFirst,
+    let terms = Terms {
         tail,
         divide,
-        collect: None,
-        trunk: None,
-        deliver: None,
-        fixed: None,
-        candidates: None,
-        no_self: false,
-    }
-}
-
-fn refusal(alloc: Global, text: &str, tail: Tail) -> Option<Refusal> {
-    match read_ap(alloc, text.as_bytes(), &terms(tail, 1)) {
-        Ok(_) => None,
-        Err(refusal) => Some(refusal),
-    }
+        ..Terms::plain()
+    };
+    read_ap(alloc, text.as_bytes(), &terms)
 }
 
 fn gives(parts: &Result<Parts, Refusal>, flows: &[i128], distances: &[i128]) -> bool {
@@ -40,8 +29,9 @@ fn gives(parts: &Result<Parts, Refusal>, flows: &[i128], distances: &[i128]) -> 
 fn lists(parts: &Result<Parts, Refusal>, hubs: u32, factors: (i128, i128, i128)) -> bool {
     match parts {
         Ok(parts) => {
-            let held = &parts.factors;
-            parts.listed_p == Some(hubs) && (held.collect, held.trunk, held.deliver) == factors
+            let listed = &parts.factors;
+            parts.listed_p == Some(hubs)
+                && (listed.collect, listed.trunk, listed.deliver) == factors
         }
         Err(_) => false,
     }
@@ -51,10 +41,10 @@ fn fixed_costs(parts: &Result<Parts, Refusal>, costs: &[i128]) -> bool {
     match parts {
         Ok(
             Parts {
-                tail_costs: Some(held),
+                tail_costs: Some(read),
                 ..
             },
-        ) => held.as_slice() == costs,
+        ) => read.as_slice() == costs,
         _ => false,
     }
 }
@@ -86,7 +76,7 @@ fn first_faults(rt: HostRuntime) {
         ("201 0 0", InstanceFault::Size { got: 201 }),
     ] {
         assert_eq!(rt;
-            refusal(rt.alloc(), text, Tail::Ignore),
+            read(rt.alloc(), text, Tail::Ignore, 1).err(),
             Some(Refusal::Fault(fault)),
             "{text}"
         );
@@ -113,9 +103,13 @@ fn faults_of_a_tail(rt: HostRuntime) {
         ),
         ("1 0 0 0 1 3 0.75 2 5 x", InstanceFault::Extra { at: 21 }),
     ] {
-        assert_eq!(rt; refusal(rt.alloc(), text, Tail::Ignore), None, "{text}");
         assert_eq!(rt;
-            refusal(rt.alloc(), text, Tail::Fixed),
+            read(rt.alloc(), text, Tail::Ignore, 1).err(),
+            None,
+            "{text}"
+        );
+        assert_eq!(rt;
+            read(rt.alloc(), text, Tail::Fixed, 1).err(),
             Some(Refusal::Fault(fault)),
             "{text}"
         );
@@ -124,10 +118,11 @@ fn faults_of_a_tail(rt: HostRuntime) {
 
 #[test]
 fn one_node(rt: HostRuntime) {
-    let parts = read_ap(
+    let parts = read(
         rt.alloc(),
-        b"1 -1000000 0 2.5 1 3 0.75 2 words",
-        &terms(Tail::Ignore, 1),
+        "1 -1000000 0 2.5 1 3 0.75 2 words",
+        Tail::Ignore,
+        1,
     );
     assert!(rt; gives(&parts, &[2_500_000], &[0]));
     assert!(rt; lists(&parts, 1, (3000, 750, 2000)));
@@ -135,8 +130,8 @@ fn one_node(rt: HostRuntime) {
 
 #[test]
 fn two_nodes(rt: HostRuntime) {
-    let text = b"2 38 62 78 246 3 4 4 6 1 3 0.75 2 1200 1300";
-    let parts = read_ap(rt.alloc(), text, &terms(Tail::Fixed, 1));
+    let text = "2 38 62 78 246 3 4 4 6 1 3 0.75 2 1200 1300";
+    let parts = read(rt.alloc(), text, Tail::Fixed, 1);
     assert!(rt;
         gives(
             &parts,
@@ -150,10 +145,10 @@ fn two_nodes(rt: HostRuntime) {
 
 fn divided(alloc: Global, divide: u32) -> Result<Parts, Refusal>
     requires least { 1 ≤ divide }
-    requires most { divide ≤ 10 ^ 6 }
+    requires most { divide ≤ most_divisor }
 {
-    let text = b"2 0 0 3 -4 0 1 2 0 0 1 1 1";
-    read_ap(alloc, text, &terms(Tail::Ignore, divide))
+    let text = "2 0 0 3 -4 0 1 2 0 0 1 1 1";
+    read(alloc, text, Tail::Ignore, divide)
 }
 
 #[test]

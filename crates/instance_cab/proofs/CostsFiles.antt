@@ -8,8 +8,8 @@ use Rattle.file_spec.specs.Places.{a_cost, nothing, costs_wanted, value_at}
 use Rattle.file_spec.specs.Files.{cost_fault_at, HasCosts}
 use Rattle.file_spec.proofs.Ends.{costs_none_past}
 use Rattle.file_spec.proofs.CostsFiles.{costs_within}
-use Rattle.hub_model.proofs.HeldNumbers.{natural-pos, pos_least}
-use Rattle.hub_model.specs.Naturals.{natural, IsNatural}
+use Rattle.hub_model.proofs.Signs.{natural-pos, pos_least}
+use Rattle.hub_model.specs.Amounts.{natural, IsNatural}
 use Rattle.hub_model.specs.Building.{AreGivenCosts}
 use Rattle.hub_model.specs.declared.faults.InstanceFault.{InstanceFault}
 use Rattle.hub_model.specs.declared.faults.Refusal.{Refusal}
@@ -20,7 +20,7 @@ use Rattle.token_reader.proofs.Ahead.{later-none}
 use Rattle.token_reader.proofs.Stretches.{AreWanted, stretch_of, one_legal}
 use Rattle.token_reader.proofs.Stages.{IsReadTo, read_nothing, read_on, one_refused_costs, stretch_refused_costs}
 use Rattle.instance_cab.specs.declared.kinds.Kind.TheVariants.{Cost}
-use Rattle.instance_cab.specs.Matrices.{held_front}
+use Rattle.instance_cab.specs.Matrices.{kept_front}
 use Rattle.instance_cab.proofs.MatrixFiles.{front_is}
 
 -- what is wrong with token t of the file
@@ -52,19 +52,19 @@ pub costs_end_refused : (n : ℕ) (bytes : List ℕ) (r : Unread) (outcome : Res
     → told outcome ≡ fault_here nothing r → IfErr outcome (λ f. IsRefusedCosts n bytes (of_fault f))
 costs_end_refused n bytes r outcome so_far fault = one_refused_costs n bytes nothing n r outcome (end_stretch n bytes) so_far fault
 
-costs_front : (n : ℕ) (bytes : List ℕ) → map (λ k. value_at (tokens_of bytes) 6 (1 + k)) (range_with_len 0 n) ≡ held_front Cost n n (whole bytes)
+costs_front : (n : ℕ) (bytes : List ℕ) → map (λ k. value_at (tokens_of bytes) 6 (1 + k)) (range_with_len 0 n) ≡ kept_front Cost n n (whole bytes)
 costs_front n bytes =
     front_is Cost n 0 n bytes (λ k. value_at (tokens_of bytes) 6 (1 + k)) (λ s. ap (value_at (tokens_of bytes) 6) (omega arith))
-    ∙ ap (held_front Cost n n) (later-none (whole bytes))
+    ∙ ap (kept_front Cost n n) (later-none (whole bytes))
 
 -- the file ends there, and the costs are its
 pub has_costs : (n : ℕ) (bytes costs : List ℕ) (start r : Unread) (outcome : Result (Unit {0}) InstanceFault) → start ≡ whole bytes
-    → AreCostsRead n bytes r → costs ≡ held_front Cost n n start → outcome ≡ Ok tt → told outcome ≡ fault_here nothing r → HasCosts n bytes costs
-has_costs n bytes costs start r outcome at so_far held ok fault =
+    → AreCostsRead n bytes r → costs ≡ kept_front Cost n n start → outcome ≡ Ok tt → told outcome ≡ fault_here nothing r → HasCosts n bytes costs
+has_costs n bytes costs start r outcome at so_far kept ok fault =
     let end = read_on (costs_fault n bytes) bytes nothing n 1 r (later 1 r) (end_stretch n bytes) so_far (one_legal nothing r (sym fault ∙ ap told ok)) refl in
     record {
       legal = costs_none_past n (tokens_of bytes) end.none;
-      is = held ∙ (ap (held_front Cost n n) at ∙ sym (costs_front n bytes));
+      is = kept ∙ (ap (kept_front Cost n n) at ∙ sym (costs_front n bytes));
     }
 
 -- and as the numbers of a vector

@@ -1,16 +1,14 @@
 -- The numbers of the commodities in order, up to the first that lacks its row.
-use Rattle.std.proofs.Common.{◌≡◌, ℕ, ◌+◌, ◌*◌, ◌/◌, ◌%◌, ◌^◌, ◌<◌, List, [], ◌∷◌, ◌++◌, map, true, false, Some, None, option_map, Result, Ok, Err, IfErr, ℤ, refl, sym, ap, ◌∙◌}
-use mir.Val.{to_z}
-use mir.Syntax.{w128}
+use Rattle.std.proofs.Common.{◌≡◌, ℕ, ◌+◌, ◌*◌, ◌/◌, ◌%◌, ◌<◌, List, [], ◌∷◌, ◌++◌, map, true, false, Some, None, option_map, Result, Ok, Err, IfErr, ℤ, pos, refl, sym, ap, ◌∙◌}
 use Rattle.file_spec.specs.Faults.{missing_pair}
-use Rattle.file_spec.specs.Files.{held_distance}
-use Rattle.hub_model.specs.Naturals.{natural}
+use Rattle.file_spec.specs.Files.{divided_distance}
+use Rattle.hub_model.specs.Amounts.{natural}
 use Rattle.hub_model.specs.Faults.{fault_of}
 use Rattle.hub_model.specs.declared.faults.InstanceFault.{InstanceFault}
 use Rattle.hub_model.specs.declared.faults.Refusal.TheVariants.{Fault as of_fault}
-use Rattle.instance_cab.specs.Rows.{Taken, taken_at, flow_of, distance_of, listed_flows, listed_distances, lacks, first_lack, IsLack}
+use Rattle.instance_cab.specs.ListedRows.{Taken, taken_at, flow_of, distance_of, listed_flows, listed_distances, lacks, first_lack, IsLack}
 use Rattle.instance_cab.proofs.Ranges.{none_more, found_here}
-use Rattle.instance_cab.proofs.Fronts.{formula_more}
+use Rattle.token_reader.proofs.Formulas.{amount_push}
 
 pub no_lack : (n : ℕ) (taken : Taken) → first_lack n taken 0 ≡ None
 unfolding first_lack
@@ -35,18 +33,18 @@ pub flows_none : (taken : Taken) → [] ≡ listed_flows taken 0
 unfolding listed_flows
 flows_none taken = refl
 
-pub flows_more : (taken : Taken) (m v : ℕ) (before after : List ℤ) → after ≡ before ++ to_z w128 v ∷ [] → v < 2 ^ 64 → v ≡ flow_of (taken_at taken m)
+pub flows_more : (taken : Taken) (m v : ℕ) (before after : List ℤ) → after ≡ before ++ pos v ∷ [] → v ≡ flow_of (taken_at taken m)
     → map natural before ≡ listed_flows taken m → map natural after ≡ listed_flows taken (m + 1)
 unfolding listed_flows
-flows_more taken m v before after pushed small e values = formula_more (λ s. flow_of (taken_at taken s)) m v before after pushed small e values
+flows_more taken m v before after pushed e values = amount_push (λ s. flow_of (taken_at taken s)) m v before after pushed e values
 
 pub distances_none : (divide n : ℕ) (taken : Taken) → [] ≡ listed_distances divide n taken 0
 unfolding listed_distances
 distances_none divide n taken = refl
 
-pub distances_more : (divide n : ℕ) (taken : Taken) (m v : ℕ) (before after : List ℤ) → after ≡ before ++ to_z w128 v ∷ [] → v < 2 ^ 64
-    → v ≡ held_distance divide n m (distance_of (taken_at taken m)) → map natural before ≡ listed_distances divide n taken m
+pub distances_more : (divide n : ℕ) (taken : Taken) (m v : ℕ) (before after : List ℤ) → after ≡ before ++ pos v ∷ []
+    → v ≡ divided_distance divide n m (distance_of (taken_at taken m)) → map natural before ≡ listed_distances divide n taken m
     → map natural after ≡ listed_distances divide n taken (m + 1)
 unfolding listed_distances
-distances_more divide n taken m v before after pushed small e values =
-    formula_more (λ s. held_distance divide n s (distance_of (taken_at taken s))) m v before after pushed small e values
+distances_more divide n taken m v before after pushed e values =
+    amount_push (λ s. divided_distance divide n s (distance_of (taken_at taken s))) m v before after pushed e values

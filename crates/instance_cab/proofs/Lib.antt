@@ -6,5 +6,5 @@ pub mod CostsFiles
 pub mod RowTokens
 pub mod Ranges
 pub mod Lacks
-pub mod RowsRead
+pub mod RowStages
 pub mod RowFiles

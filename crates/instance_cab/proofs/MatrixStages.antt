@@ -15,7 +15,7 @@ use Rattle.token_reader.specs.Refusals.{IsRefused}
 use Rattle.token_reader.proofs.Stretches.{one_legal}
 use Rattle.token_reader.proofs.Stages.{IsReadTo, read_nothing, read_on, read_one, one_refused, stretch_refused, size_is}
 use Rattle.instance_cab.specs.declared.kinds.Kind.{Kind}
-use Rattle.instance_cab.specs.Matrices.{wanted_of, held_front, contents_with}
+use Rattle.instance_cab.specs.Matrices.{wanted_of, kept_front, contents_with}
 use Rattle.instance_cab.proofs.MatrixTokens.{matrix_fault, first_of, second_of, size_stretch, first_stretch, second_stretch, end_stretch}
 use Rattle.instance_cab.proofs.MatrixFiles.{all_read}
 
@@ -28,14 +28,14 @@ pub record IsSized (o : Options) (bytes : List ℕ) (n : ℕ) (r : Unread) : Typ
 pub record IsHalfRead (o : Options) (bytes : List ℕ) (n : ℕ) (first : List ℕ) (r : Unread) : Type 0 where
   size : n ≡ file_size (tokens_of bytes)
   read : IsReadTo (matrix_fault o bytes) bytes (1 + n * n) r
-  first_is : first ≡ held_front (first_of o) n (n * n) (later 1 (whole bytes))
+  first_is : first ≡ kept_front (first_of o) n (n * n) (later 1 (whole bytes))
 
 -- and the second
 pub record AreBothRead (o : Options) (bytes : List ℕ) (n : ℕ) (first second : List ℕ) (r : Unread) : Type 0 where
   size : n ≡ file_size (tokens_of bytes)
   read : IsReadTo (matrix_fault o bytes) bytes (1 + n * n + n * n) r
-  first_is : first ≡ held_front (first_of o) n (n * n) (later 1 (whole bytes))
-  second_is : second ≡ held_front (second_of o) n (n * n) (later (1 + n * n) (whole bytes))
+  first_is : first ≡ kept_front (first_of o) n (n * n) (later 1 (whole bytes))
+  second_is : second ≡ kept_front (second_of o) n (n * n) (later (1 + n * n) (whole bytes))
 
 pub sized : (o : Options) (bytes : List ℕ) (n : ℕ) (start r : Unread) (outcome : Result ℕ InstanceFault) → outcome ≡ Ok n → start ≡ whole bytes
     → told outcome ≡ fault_here a_size start → IfOk outcome (λ n. n ≡ value_here 0 start) → OnOk outcome (r ≡ later 1 start) → IsSized o bytes n r
@@ -50,13 +50,13 @@ size_refused o bytes start outcome at fault =
     one_refused cab_matrix o bytes a_size 0 start outcome (size_stretch o bytes) (read_nothing (matrix_fault o bytes) bytes start at) fault
 
 pub half_read : (o : Options) (bytes : List ℕ) (n : ℕ) (kind : Kind) (start r : Unread) (first : List ℕ) → IsSized o bytes n start
-    → kind ≡ first_of o → AreLegal (wanted_of kind) (n * n) start → first ≡ held_front kind n (n * n) start → r ≡ later (n * n) start
+    → kind ≡ first_of o → AreLegal (wanted_of kind) (n * n) start → first ≡ kept_front kind n (n * n) start → r ≡ later (n * n) start
     → IsHalfRead o bytes n first r
-half_read o bytes n kind start r first so_far is legal held moved = record {
+half_read o bytes n kind start r first so_far is legal kept moved = record {
   size = so_far.size;
   read = read_on (matrix_fault o bytes) bytes (wanted_of (first_of o)) 1 (n * n) start r (first_stretch o bytes n so_far.size) so_far.read
       (subst (λ k. AreLegal (wanted_of k) (n * n) start) is legal) moved;
-  first_is = held ∙ (λ i. held_front (is i) n (n * n) (so_far.read.at i));
+  first_is = kept ∙ (λ i. kept_front (is i) n (n * n) (so_far.read.at i));
 }
 
 pub first_refused : (o : Options) (bytes : List ℕ) (n : ℕ) (kind : Kind) (start : Unread) (outcome : Result (List ℕ) Refusal) → IsSized o bytes n start
@@ -66,14 +66,14 @@ first_refused o bytes n kind start outcome so_far is stopped =
     (subst (λ k. IfErr outcome (StoppedAt (wanted_of k) (n * n) start)) is stopped)
 
 pub both_read : (o : Options) (bytes : List ℕ) (n : ℕ) (kind : Kind) (start r : Unread) (first second : List ℕ) → IsHalfRead o bytes n first start
-    → kind ≡ second_of o → AreLegal (wanted_of kind) (n * n) start → second ≡ held_front kind n (n * n) start → r ≡ later (n * n) start
+    → kind ≡ second_of o → AreLegal (wanted_of kind) (n * n) start → second ≡ kept_front kind n (n * n) start → r ≡ later (n * n) start
     → AreBothRead o bytes n first second r
-both_read o bytes n kind start r first second so_far is legal held moved = record {
+both_read o bytes n kind start r first second so_far is legal kept moved = record {
   size = so_far.size;
   read = read_on (matrix_fault o bytes) bytes (wanted_of (second_of o)) (1 + n * n) (n * n) start r (second_stretch o bytes n so_far.size) so_far.read
       (subst (λ k. AreLegal (wanted_of k) (n * n) start) is legal) moved;
   first_is = so_far.first_is;
-  second_is = held ∙ (λ i. held_front (is i) n (n * n) (so_far.read.at i));
+  second_is = kept ∙ (λ i. kept_front (is i) n (n * n) (so_far.read.at i));
 }
 
 pub second_refused : (o : Options) (bytes : List ℕ) (n : ℕ) (kind : Kind) (start : Unread) (first : List ℕ) (outcome : Result (List ℕ) Refusal)

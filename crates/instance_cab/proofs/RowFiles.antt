@@ -8,8 +8,8 @@ use Rattle.file_spec.specs.Options.{cab_rows, flow_first, Options, IsOptions}
 use Rattle.file_spec.specs.Faults.{Fault, missing_pair}
 use Rattle.file_spec.specs.Contents.{Contents, IsContents}
 use Rattle.file_spec.specs.Places.{token_at}
-use Rattle.file_spec.specs.Rows.{row_start, row_count, has_row, missing_fault, field_fault, end_fault, row_fault, row_of, listed}
-use Rattle.file_spec.specs.Files.{held_distance, file_contents, HasContents}
+use Rattle.file_spec.specs.RowLayout.{row_start, row_count, has_row, missing_fault, field_fault, end_fault, row_fault, row_of, listed}
+use Rattle.file_spec.specs.Files.{divided_distance, file_contents, HasContents}
 use Rattle.file_spec.proofs.Firsts.{NoneUpTo}
 use Rattle.file_spec.proofs.Ends.{none_past}
 use Rattle.file_spec.proofs.RowLimits.{row_fault_is}
@@ -20,8 +20,8 @@ use Rattle.hub_model.specs.declared.faults.Refusal.TheVariants.{Fault as of_faul
 use Rattle.token_reader.specs.Refusals.{IsRefused}
 use Rattle.token_reader.proofs.Stretches.{IsFirstOf}
 use Rattle.instance_cab.specs.Matrices.{contents_with}
-use Rattle.instance_cab.specs.Rows.{Taken, taken_at, flow_of, distance_of, listed_flows, listed_distances, first_lack, IsLack, listed_at, IsListing}
-use Rattle.instance_cab.proofs.RowsRead.{stands_is, stopped_refused}
+use Rattle.instance_cab.specs.ListedRows.{Taken, taken_at, flow_of, distance_of, listed_flows, listed_distances, first_lack, IsLack, listed_at, IsListing}
+use Rattle.instance_cab.proofs.RowStages.{stands_is, stopped_refused}
 
 -- the tokens in front of the end, by the field of the row that would follow
 past_is : (n : ℕ) (tokens : List Token) (field : ℕ) → field < 4 → length tokens ≡ 1 + 4 * row_count tokens
@@ -84,14 +84,14 @@ flows_are n bytes taken all =
     λ i. map (λ s. value s i) (range_with_len 0 (n * n))
 
 distances_are : (divide n : ℕ) (bytes : List ℕ) (taken : Taken) → IsListing bytes n taken
-    → map (λ s. held_distance divide n s (listed (tokens_of bytes) 3 3 (row_of n (tokens_of bytes) s))) (range_with_len 0 (n * n))
+    → map (λ s. divided_distance divide n s (listed (tokens_of bytes) 3 3 (row_of n (tokens_of bytes) s))) (range_with_len 0 (n * n))
     ≡ listed_distances divide n taken (n * n)
 unfolding listed_distances
 distances_are divide n bytes taken all =
     let tokens = tokens_of bytes in
     let value : (s : ℕ) → listed tokens 3 3 (row_of n tokens s) ≡ distance_of (taken_at taken s) =
     λ s. distance_by tokens (row_of n tokens s) ∙ ap distance_of (sym (all.holds s)) in
-    λ i. map (λ s. held_distance divide n s (value s i)) (range_with_len 0 (n * n))
+    λ i. map (λ s. divided_distance divide n s (value s i)) (range_with_len 0 (n * n))
 
 -- no token has a fault, up to where nothing new is said
 none_to_end : (n : ℕ) (bytes : List ℕ) (taken : Taken) → IsListing bytes n taken → first_lack n taken (n * n) ≡ None
@@ -119,7 +119,7 @@ abbrev contents_by : ℕ → ℕ → List Token → Contents
 contents_by divide n tokens = record {
   size = n;
   flows = map (λ s. listed tokens 6 2 (row_of n tokens s)) (range_with_len 0 (n * n));
-  distances = map (λ s. held_distance divide n s (listed tokens 3 3 (row_of n tokens s))) (range_with_len 0 (n * n));
+  distances = map (λ s. divided_distance divide n s (listed tokens 3 3 (row_of n tokens s))) (range_with_len 0 (n * n));
   collect = 1000;
   trunk = 1000;
   deliver = 1000;

@@ -7,7 +7,7 @@ use Rattle.hub_model.specs.Faults.{fault_of}
 use Rattle.hub_model.specs.declared.faults.InstanceFault.{InstanceFault}
 use Rattle.token_reader.specs.Unread.{Unread, later, fault_here, told}
 use Rattle.token_reader.proofs.Ahead.{later-none, later-later}
-use Rattle.instance_cab.specs.Rows.{IsRowLegal, IsRowFault}
+use Rattle.instance_cab.specs.ListedRows.{IsRowLegal, IsRowFault}
 
 -- the tokens of the row are read up to this field
 pub record IsReadInRow (n : ℕ) (start : Unread) (field : ℕ) (r : Unread) : Type 0 where

@@ -1,2 +1,2 @@
 pub mod Matrices
-pub mod Rows
+pub mod ListedRows

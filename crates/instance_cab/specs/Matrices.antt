@@ -1,10 +1,10 @@
 -- The matrices and fixed costs of a file, and what they are read as.
-use Rattle.std.specs.Prelude.{ℕ, ◌≤◌, List, map, None}
+use Rattle.std.specs.Prelude.{ℕ, ◌≤◌, List, length, map, None, slice_index}
 use Rattle.std.specs.List.{range_with_len}
 use Rattle.file_spec.specs.Options.{Order, flow_first, distance_first}
 use Rattle.file_spec.specs.Contents.{Contents}
 use Rattle.file_spec.specs.Places.{Wanted, a_flow, a_distance, a_cost}
-use Rattle.file_spec.specs.Files.{held_distance}
+use Rattle.file_spec.specs.Files.{divided_distance}
 use Rattle.token_reader.specs.Unread.{Unread, later, value_here}
 use Rattle.instance_cab.specs.declared.kinds.Kind.{Kind}
 use Rattle.instance_cab.specs.declared.kinds.Kind.TheVariants.{Flow, Distance, Cost}
@@ -26,15 +26,19 @@ IsKind Flow = Unit {0}
 IsKind (Distance divide) = 1 ≤ divide
 IsKind Cost = Unit {0}
 
--- what is held of the number s of its list, with n nodes
-abbrev pub held_of : Kind → ℕ → ℕ → ℕ → ℕ
-held_of Flow n s read = read
-held_of (Distance divide) n s read = held_distance divide n s read
-held_of Cost n s read = read
+-- what is kept of the number s of its list, with n nodes
+abbrev pub kept_of : Kind → ℕ → ℕ → ℕ → ℕ
+kept_of Flow n s read = read
+kept_of (Distance divide) n s read = divided_distance divide n s read
+kept_of Cost n s read = read
 
--- what is held of the next m numbers of a list
-unfoldable pub held_front : Kind → ℕ → ℕ → Unread → List ℕ
-held_front kind n m r = map (λ s. held_of kind n s (value_here (places_of kind) (later s r))) (range_with_len 0 m)
+-- what is kept of the next m numbers of a list
+unfoldable pub kept_front : Kind → ℕ → ℕ → Unread → List ℕ
+kept_front kind n m r = map (λ s. kept_of kind n s (value_here (places_of kind) (later s r))) (range_with_len 0 m)
+
+-- a list of distances, divided, with n nodes
+unfoldable pub divided_list : ℕ → ℕ → List ℕ → List ℕ
+divided_list divide n read = map (λ s. divided_distance divide n s (slice_index read s)) (range_with_len 0 (length read))
 
 -- the kinds of the two matrices, in the order of the file
 abbrev pub first_kind : Order → ℕ → Kind

@@ -1,6 +1,7 @@
 ghost use Rattle.std.specs.Prelude.{◌≤◌, map, IfOk, IfErr};
+ghost use Rattle.hub_spec.specs.Limits.{most_nodes};
 ghost use Rattle.file_spec.specs.Files.{HasCosts};
-ghost use Rattle.hub_model.specs.Naturals.{natural};
+ghost use Rattle.hub_model.specs.Amounts.{natural};
 ghost use Rattle.hub_model.specs.Building.{AreGivenCosts};
 ghost use Rattle.token_reader.specs.Refusals.{IsRefusedCosts};
 
@@ -13,7 +14,7 @@ use token_reader::Reader;
 /// Reads a costs file: a fixed cost for each of n nodes, in 10^-6 and cut, and nothing more.
 pub fn read_costs(alloc: Global, bytes: &[u8], n: u32) -> Result<Vec<i128>, Refusal>
     requires least { 1 ≤ n }
-    requires most { n ≤ 200 }
+    requires most { n ≤ most_nodes }
     ensures costs { IfOk result (λ costs. HasCosts n bytes.now (map natural costs.items)) }
     ensures naturals { IfOk result (λ costs. AreGivenCosts n costs.items) }
     ensures fault { IfErr result (IsRefusedCosts n bytes.now) }

@@ -12,7 +12,8 @@ mod costs;
 mod matrix_layout;
 mod row_layout;
 
-// A list of numbers, and what they are to be.
+// A list of numbers, what they are to be, and distances divided.
+mod distances;
 mod kinds;
 mod lists;
 

@@ -16,8 +16,8 @@ use token_reader::Reader;
 ///
 /// The file holds the number of nodes n, then n * n flows and n * n distances row by row, and nothing more; the option
 /// `order` tells which matrix stands first. A flow is read in 10^-6 and a distance in 10^-3, both cut; distances are
-/// then divided by the option `divide` and rounded down, and the distance from a node to itself is held as 0, whatever
-/// the file says. All factors are 1.
+/// then divided by the option `divide` and rounded down, and the distance from a node to itself is 0, whatever the file
+/// says. All factors are 1.
 pub fn read_matrix(alloc: Global, bytes: &[u8], terms: &Terms) -> Result<Parts, Refusal>
     ensures contents { IfOk result (λ parts. HasContents cab_matrix terms.now bytes.now parts) }
     ensures fault { IfErr result (IsRefused cab_matrix terms.now bytes.now) }
@@ -39,7 +39,7 @@ fn kinds(terms: &Terms) -> (Kind, Kind)
     ensures limits { IsOptions terms.now }
 {
     let distance = Kind::Distance {
-        divide: terms.divide,
+        divide: terms.divisor(),
     };
     match terms.order {
         Order::FlowFirst => (Kind::Flow, distance),

@@ -1,16 +1,17 @@
 ghost use Rattle.std.specs.Prelude.{◌≡◌, ◌*◌, ◌/◌, ◌%◌, ◌≤◌, true, false, None, IfOk, IfErr, OnOk};
+ghost use Rattle.hub_spec.specs.Limits.{most_nodes};
 ghost use Rattle.file_spec.specs.Faults.{missing_pair};
 ghost use Rattle.hub_model.specs.Faults.{fault_of};
-ghost use Rattle.instance_cab.specs.Rows.{taken_at, flow_of, distance_of, listed_flows, listed_distances, lacks, first_lack, IsLack};
+ghost use Rattle.instance_cab.specs.ListedRows.{taken_at, flow_of, distance_of, listed_flows, listed_distances, lacks, first_lack, IsLack};
 
-use crate::kinds::Kind;
+use crate::distances::divided_distance;
 use crate::rows::Listed;
-use hub_model::{InstanceFault, Numbers, Refusal, Wanted};
+use hub_model::{InstanceFault, Numbers, Refusal, Wanted, signed};
 use std::alloc::{AllocError, Global};
 use std::collections::BTreeMap;
 
-/// The flows and the held distances of all pairs of n nodes, of what the rows say; or the fault that a pair lacks its
-/// row.
+/// The flows and the divided distances of all pairs of n nodes, of what the rows say; or the fault that a pair lacks
+/// its row.
 pub(crate) fn matrices(
     alloc: Global,
     taken: &BTreeMap<u32, Listed>,
@@ -18,21 +19,24 @@ pub(crate) fn matrices(
     divide: u32,
 ) -> Result<(Numbers, Numbers), Refusal>
     requires least { 1 ≤ n }
-    requires most { n ≤ 200 }
+    requires most { n ≤ most_nodes }
     requires divide { 1 ≤ divide }
     ensures whole { OnOk result (first_lack n taken.now (n * n) ≡ None) }
     ensures flows { IfOk result (λ m. m.0 ≡ listed_flows taken.now (n * n)) }
     ensures distances { IfOk result (λ m. m.1 ≡ listed_distances divide n taken.now (n * n)) }
     ensures fault { IfErr result (IsLack n taken.now) }
 {
-    let distance = Kind::Distance { divide };
     let mut flows = Vec::with_capacity(alloc, n as usize * n as usize)?;
     let mut distances = Vec::with_capacity(alloc, n as usize * n as usize)?;
     for commodity in 0..n * n {
         let listed = listed(taken, n, commodity).map_err(Refusal::Fault)?;
-        flows.push(listed.flow as i128).map_err(AllocError::from)?;
-        let held = distance.held(n, commodity, listed.distance);
-        distances.push(held as i128).map_err(AllocError::from)?;
+        flows
+            .push(signed(listed.flow as u128))
+            .map_err(AllocError::from)?;
+        let distance = divided_distance(n, divide, commodity, listed.distance);
+        distances
+            .push(signed(distance as u128))
+            .map_err(AllocError::from)?;
     }
     Ok((Numbers::from_vec(flows), Numbers::from_vec(distances)))
 }

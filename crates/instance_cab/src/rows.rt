@@ -1,10 +1,10 @@
 ghost use Rattle.std.specs.Prelude.{◌≡◌, ◌*◌, ◌<◌, ◌≤◌, None, IfOk, IfErr, OnOk};
+ghost use Rattle.hub_spec.specs.Limits.{most_nodes};
 ghost use Rattle.hub_model.specs.Faults.{fault_of};
 ghost use Rattle.token_reader.specs.Unread.{later};
-ghost use Rattle.instance_cab.specs.Rows.{commodity_here, listed_here, IsRowLegal, IsRowFault, taken_at, TakesIn, IsRowRefused};
+ghost use Rattle.instance_cab.specs.ListedRows.{commodity_here, listed_here, IsRowLegal, IsRowFault, taken_at, TakesIn, IsRowRefused};
 
-use crate::kinds::{LARGEST_DISTANCE, LARGEST_FLOW};
-use hub_model::{InstanceFault, Refusal};
+use hub_model::{InstanceFault, MOST_DISTANCE, MOST_FLOW, Refusal};
 use std::alloc::AllocError;
 use std::collections::BTreeMap;
 use token_reader::Reader;
@@ -23,7 +23,7 @@ pub(crate) fn take_row(
     taken: &mut BTreeMap<u32, Listed>,
 ) -> Result<(), Refusal>
     requires least { 1 ≤ n }
-    requires most { n ≤ 200 }
+    requires most { n ≤ most_nodes }
     ensures legal { OnOk result (IsRowLegal n reader.old) }
     ensures fresh { OnOk result (taken_at taken.old (commodity_here n reader.old) ≡ None) }
     ensures takes_in { OnOk result (TakesIn taken.old taken.new (commodity_here n reader.old) (listed_here reader.old)) }
@@ -43,7 +43,7 @@ pub(crate) fn take_row(
 
 // Reads the next row: the number of its commodity, and what it says of it.
 fn read_row(reader: &mut Reader, n: u32) -> Result<(u32, Listed), InstanceFault>
-    requires { n ≤ 200 }
+    requires { n ≤ most_nodes }
     ensures commodity { IfOk result (λ row. row.0 ≡ commodity_here n reader.old) }
     ensures listed { IfOk result (λ row. row.1 ≡ listed_here reader.old) }
     ensures legal { OnOk result (IsRowLegal n reader.old) }
@@ -52,7 +52,7 @@ fn read_row(reader: &mut Reader, n: u32) -> Result<(u32, Listed), InstanceFault>
 {
     let from = reader.index(n)?;
     let to = reader.index(n)?;
-    let flow = reader.quantity(6, LARGEST_FLOW)?;
-    let distance = reader.quantity(3, LARGEST_DISTANCE)?;
+    let flow = reader.quantity(6, MOST_FLOW)?;
+    let distance = reader.quantity(3, MOST_DISTANCE)?;
     Ok(((from - 1) * n + (to - 1), Listed { flow, distance }))
 }

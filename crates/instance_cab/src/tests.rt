@@ -1,32 +1,21 @@
 // Worked files: the numbers they give, and the first faults of others.
-ghost use Rattle.std.specs.Prelude.{◌^◌, ◌≤◌};
+ghost use Rattle.std.specs.Prelude.{◌≤◌};
+ghost use Rattle.file_spec.specs.Limits.{most_divisor};
 
 use crate::{read_costs, read_matrix, read_rows};
-use hub_model::{InstanceFault, Order, Parts, Refusal, Tail, Terms, Wanted};
-use std::alloc::Global;
+use hub_model::{Instance, InstanceFault, Order, Parts, Refusal, Terms, Wanted};
+use std::alloc::{AllocError, Global};
+use std::test::Fail;
 
 // Options with an order and a divisor.
-fn terms(order: Order, divide: u32) -> Terms
+fn ordered(order: Order, divide: u32) -> Terms
     requires least { 1 ≤ divide }
-    requires most { divide ≤ 10 ^ 6 }
+    requires most { divide ≤ most_divisor }
 {
     Terms {
         order,
-        tail: Tail::Ignore,
         divide,
-        collect: None,
-        trunk: None,
-        deliver: None,
-        fixed: None,
-        candidates: None,
-        no_self: false,
-    }
-}
-
-fn refusal(outcome: Result<Parts, Refusal>) -> Option<Refusal> {
-    match outcome {
-        Ok(_) => None,
-        Err(refusal) => Some(refusal),
+        ..Terms::plain()
     }
 }
 
@@ -73,7 +62,7 @@ fn first_faults(rt: HostRuntime) {
         ),
     ] {
         assert_eq!(rt;
-            refusal(read_matrix(rt.alloc(), text.as_bytes(), &Terms::plain())),
+            read_matrix(rt.alloc(), text.as_bytes(), &Terms::plain()).err(),
             Some(Refusal::Fault(fault)),
             "{text}"
         );
@@ -93,9 +82,36 @@ fn one_node_files(rt: HostRuntime) {
     }
 }
 
+// A file of 200 nodes, each flow 1 and each distance 2.
+fn greatest_size(alloc: Global) -> Result<String, AllocError> {
+    let mut text = String::new(alloc);
+    text.push_str("200")?;
+    for number in [" 1", " 2"] {
+        for _ in 0..40_000 {
+            text.push_str(number)?;
+        }
+    }
+    Ok(text)
+}
+
+#[test]
+fn two_hundred_nodes(rt: HostRuntime) -> Result<(), Fail> {
+    let text = greatest_size(rt.alloc())?;
+    let parts = read_matrix(rt.alloc(), text.as_bytes(), &Terms::plain())?;
+    let instance = Instance::build(rt.alloc(), parts, &Terms::plain(), None)?;
+    assert_eq!(rt; instance.size(), 200);
+    assert!(rt;
+        instance.flows().len() == 40_000 && instance.flows().iter().all(|w| *w == 1_000_000)
+    );
+    let distances = instance.distances();
+    assert_eq!(rt; distances.len(), 40_000);
+    assert_eq!(rt; distances.iter().filter(|d| **d == 2000).count(), 39_800);
+    Ok(())
+}
+
 #[test]
 fn divided_distances(rt: HostRuntime) {
-    let terms = terms(Order::FlowFirst, 3);
+    let terms = ordered(Order::FlowFirst, 3);
     let parts = read_matrix(rt.alloc(), b"2 0 1 2 0 0 10 11 7", &terms);
     assert!(rt;
         gives(
@@ -109,7 +125,7 @@ fn divided_distances(rt: HostRuntime) {
 
 #[test]
 fn distances_before_flows(rt: HostRuntime) {
-    let terms = terms(Order::DistanceFirst, 1);
+    let terms = ordered(Order::DistanceFirst, 1);
     let parts = read_matrix(rt.alloc(), b"2 0 10 11 7 5 1 2 0", &terms);
     assert!(rt;
         gives(
@@ -146,11 +162,11 @@ fn first_faults_of_costs(rt: HostRuntime) {
         ),
         ("7 4 four", InstanceFault::BadNumber { at: 4 }),
     ] {
-        let refusal = match read_costs(rt.alloc(), text.as_bytes(), 3) {
-            Ok(_) => None,
-            Err(refusal) => Some(refusal),
-        };
-        assert_eq!(rt; refusal, Some(Refusal::Fault(fault)), "{text}");
+        assert_eq!(rt;
+            read_costs(rt.alloc(), text.as_bytes(), 3).err(),
+            Some(Refusal::Fault(fault)),
+            "{text}"
+        );
     }
 }
 
@@ -166,7 +182,7 @@ fn rows_in_any_order(rt: HostRuntime) {
 
 #[test]
 fn divided_distances_of_rows(rt: HostRuntime) {
-    let terms = terms(Order::DistanceFirst, 3);
+    let terms = ordered(Order::DistanceFirst, 3);
     let parts = read_rows(rt.alloc(), b"2 1 1 5 7 2 1 2 11 1 2 1 10", &terms);
     assert!(rt;
         gives(
@@ -206,7 +222,7 @@ fn first_faults_of_pairs(rt: HostRuntime) {
         ),
     ] {
         assert_eq!(rt;
-            refusal(read_rows(rt.alloc(), text.as_bytes(), &Terms::plain())),
+            read_rows(rt.alloc(), text.as_bytes(), &Terms::plain()).err(),
             Some(Refusal::Fault(fault)),
             "{text}"
         );
@@ -230,7 +246,7 @@ fn first_faults_of_rows(rt: HostRuntime) {
         ),
     ] {
         assert_eq!(rt;
-            refusal(read_rows(rt.alloc(), text.as_bytes(), &Terms::plain())),
+            read_rows(rt.alloc(), text.as_bytes(), &Terms::plain()).err(),
             Some(Refusal::Fault(fault)),
             "{text}"
         );

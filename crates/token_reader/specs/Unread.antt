@@ -1,6 +1,6 @@
 -- What is still to be read of a file, and what is wrong with its next tokens.
-use Rattle.std.specs.Prelude.{◌≡◌, ℕ, ◌+◌, ◌<◌, Bool, not, List, [], ◌∷◌, drop, ℤ, Option, Some, None, is_some, Result, Ok, Err}
-use Rattle.std.specs.List.{slice_get}
+use Rattle.std.specs.Prelude.{◌≡◌, ℕ, ◌+◌, ◌<◌, Bool, not, List, [], ◌∷◌, map, drop, ℤ, Option, Some, None, is_some, Result, Ok, Err}
+use Rattle.std.specs.List.{slice_get, range_with_len}
 use Rattle.text_spec.specs.Tokens.{Token, tokens_of}
 use Rattle.file_spec.specs.Faults.{Fault}
 use Rattle.file_spec.specs.Places.{Wanted, token_fault, token_value, token_coordinate}
@@ -34,6 +34,10 @@ fault_here w r = token_fault w r.next (slice_get r.tokens 0)
 -- what the next token writes, in units of 10^-places
 unfoldable pub value_here : ℕ → Unread → ℕ
 value_here places r = token_value places (slice_get r.tokens 0)
+
+-- the numbers that the next m tokens write, in units of 10^-places
+unfoldable pub values_here : ℕ → ℕ → Unread → List ℕ
+values_here places m r = map (λ s. value_here places (later s r)) (range_with_len 0 m)
 
 -- the coordinate that the next token writes
 unfoldable pub coordinate_here : Unread → ℤ

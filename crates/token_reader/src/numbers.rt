@@ -1,25 +1,27 @@
-ghost use Rattle.std.specs.Prelude.{◌≡◌, ◌^◌, ◌≤◌, nat_abs, Some, IfOk};
+ghost use Rattle.std.specs.Prelude.{◌≡◌, ◌≤◌, nat_abs, Some, IfOk};
 ghost use Rattle.text_spec.specs.Numbers.{decimal_value};
+ghost use Rattle.hub_spec.specs.Limits.{most_nodes};
+ghost use Rattle.file_spec.specs.Limits.{most_coordinate};
 ghost use Rattle.file_spec.specs.Places.{size_fault, quantity_fault, index_fault, coordinate_fault, quantity};
 ghost use Rattle.token_reader.specs.Unread.{told};
 
 use dec_text::read_decimal;
-use hub_model::InstanceFault;
+use hub_model::{InstanceFault, MOST_NODES, unsigned_small};
 
-/// The largest size of a coordinate, in 10^-6.
-const FARTHEST: u128 = 1_000_000_000_000;
+/// The greatest size of a coordinate, in 10^-6.
+const MOST_COORDINATE: u128 = 1_000_000_000_000;
 
 /// The number of nodes that the token at this place writes, or what is wrong with it.
 pub(crate) fn read_size(at: u64, token: &[u8]) -> Result<u32, InstanceFault>
     ensures fault { told result ≡ size_fault at (decimal_value 0 token.now) }
     ensures value { IfOk result (λ n. n ≡ quantity (decimal_value 0 token.now)) }
     ensures least { IfOk result (λ n. 1 ≤ n) }
-    ensures limit { IfOk result (λ n. n ≤ 200) }
+    ensures limit { IfOk result (λ n. n ≤ most_nodes) }
 {
     let Ok(got) = read_decimal(token, 0) else {
         return Err(InstanceFault::BadNumber { at });
     };
-    if got < 1 || got > 200 {
+    if got < 1 || got > MOST_NODES as i128 {
         return Err(InstanceFault::Size { got });
     }
     Ok(got as u32)
@@ -46,7 +48,7 @@ pub(crate) fn read_quantity(
     if value > limit as i128 {
         return Err(InstanceFault::TooBig { at });
     }
-    Ok(value as u64)
+    Ok(unsigned_small(value))
 }
 
 /// The number of one of n nodes that the token at this place writes, counted from 1, or what is wrong with it.
@@ -69,12 +71,12 @@ pub(crate) fn read_index(at: u64, token: &[u8], n: u32) -> Result<u32, InstanceF
 pub(crate) fn read_coordinate(at: u64, token: &[u8]) -> Result<i64, InstanceFault>
     ensures fault { told result ≡ coordinate_fault at (decimal_value 6 token.now) }
     ensures value { IfOk result (λ v. decimal_value 6 token.now ≡ Some v) }
-    ensures limit { IfOk result (λ v. nat_abs v ≤ 10 ^ 12) }
+    ensures limit { IfOk result (λ v. nat_abs v ≤ most_coordinate) }
 {
     let Ok(value) = read_decimal(token, 6) else {
         return Err(InstanceFault::BadNumber { at });
     };
-    if value.unsigned_abs() > FARTHEST {
+    if value.unsigned_abs() > MOST_COORDINATE {
         return Err(InstanceFault::TooBig { at });
     }
     Ok(value as i64)

@@ -1,13 +1,16 @@
-ghost use Rattle.std.specs.Prelude.{◌≡◌, ◌≤◌, ◌^◌, nat_abs, Some, None, IfOk, IfErr, OnOk};
+ghost use Rattle.std.specs.Prelude.{◌≡◌, ◌≤◌, nat_abs, Some, None, All, IfOk, IfErr, OnOk};
 ghost use Rattle.std.specs.List.{slice_get};
+ghost use Rattle.hub_spec.specs.Limits.{most_nodes};
+ghost use Rattle.file_spec.specs.Limits.{most_coordinate};
 ghost use Rattle.file_spec.specs.Places.{a_size, a_quantity, an_index, a_coordinate, nothing};
 ghost use Rattle.hub_model.specs.declared.faults.InstanceFault.TheVariants.{Missing};
 ghost use Rattle.hub_model.specs.declared.faults.Wanted.TheVariants.{Token as of_token};
-ghost use Rattle.token_reader.specs.Unread.{whole, later, fault_here, value_here, coordinate_here, has_ended, told};
+ghost use Rattle.token_reader.specs.Unread.{whole, later, fault_here, value_here, values_here, coordinate_here, has_ended, AreLegal, StoppedAt, told};
 
 use crate::numbers::{read_coordinate, read_index, read_quantity, read_size};
 use dec_text::Tokens;
-use hub_model::{InstanceFault, Wanted};
+use hub_model::{InstanceFault, Numbers, Refusal, Wanted, signed};
+use std::alloc::{AllocError, Global};
 use std::marker::Model;
 
 /// A file from its next token on, seen as what is unread of it.
@@ -59,7 +62,7 @@ impl<'a> Reader<'a> {
         ensures fault { told result ≡ fault_here a_size self.old }
         ensures value { IfOk result (λ n. n ≡ value_here 0 self.old) }
         ensures least { IfOk result (λ n. 1 ≤ n) }
-        ensures limit { IfOk result (λ n. n ≤ 200) }
+        ensures limit { IfOk result (λ n. n ≤ most_nodes) }
         ensures moved { OnOk result (self.new ≡ later 1 self.old) }
     {
         let (at, token) = self.token()?;
@@ -97,11 +100,34 @@ impl<'a> Reader<'a> {
     pub fn coordinate(&mut self) -> Result<i64, InstanceFault>
         ensures fault { told result ≡ fault_here a_coordinate self.old }
         ensures value { IfOk result (λ v. v ≡ coordinate_here self.old) }
-        ensures limit { IfOk result (λ v. nat_abs v ≤ 10 ^ 12) }
+        ensures limit { IfOk result (λ v. nat_abs v ≤ most_coordinate) }
         ensures moved { OnOk result (self.new ≡ later 1 self.old) }
     {
         let (at, token) = self.token()?;
         read_coordinate(at, token)
+    }
+
+    /// Reads the next m tokens as numbers in units of 10^-places that are not negative and at most the limit.
+    pub fn quantities(
+        &mut self,
+        alloc: Global,
+        m: u32,
+        places: u32,
+        limit: u64,
+    ) -> Result<Numbers, Refusal>
+        requires { places ≤ 6 }
+        ensures legal { OnOk result (AreLegal (a_quantity places limit) m self.old) }
+        ensures values { IfOk result (λ all. all ≡ values_here places m self.old) }
+        ensures limits { IfOk result (All (λ v. v ≤ limit)) }
+        ensures moved { OnOk result (self.new ≡ later m self.old) }
+        ensures fault { IfErr result (StoppedAt (a_quantity places limit) m self.old) }
+    {
+        let mut items = Vec::with_capacity(alloc, m as usize)?;
+        for _place in 0..m {
+            let value = self.quantity(places, limit).map_err(Refusal::Fault)?;
+            items.push(signed(value as u128)).map_err(AllocError::from)?;
+        }
+        Ok(Numbers::from_vec(items))
     }
 
     /// Sees that no token is left.

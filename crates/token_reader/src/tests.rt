@@ -1,6 +1,6 @@
 // Each kind of token once.
 use crate::Reader;
-use hub_model::{InstanceFault, Wanted};
+use hub_model::{InstanceFault, Refusal, Wanted};
 
 #[test]
 fn each_kind(rt: HostRuntime) {
@@ -16,6 +16,19 @@ fn each_kind(rt: HostRuntime) {
         reader.index(3),
         Err(InstanceFault::Missing {
             what: Wanted::Token(5)
+        })
+    );
+}
+
+#[test]
+fn lists(rt: HostRuntime) {
+    let mut reader = Reader::over(b"1.5;2 0.0019 x");
+    let values = reader.quantities(rt.alloc(), 3, 3, 2000);
+    assert!(rt; values.is_ok_and(|values| values.as_slice() == [1500, 2000, 1].as_slice()));
+    let refused = reader.quantities(rt.alloc(), 2, 3, 2000);
+    assert!(rt;
+        refused.is_err_and(|refusal| {
+            refusal == Refusal::Fault(InstanceFault::BadNumber { at: 13 })
         })
     );
 }

@@ -1,6 +1,9 @@
-use Rattle.branch_tree.proofs.Beginnings.{root_held}
+use Rattle.hub_spec.specs.Trees.{root}
+use Rattle.hub_spec.proofs.ChildLists.{root_branch}
+use Rattle.branch_tree.proofs.GrownBranches.{child_is_branch}
 use Rattle.branch_tree.proofs.searching.search.Goals as goal
 
 pub grow-requires-clause-branch : goal.grow-requires-clause-branch
 grow-requires-clause-branch c =
-    root_held c.args.instance.now c.new-inside.result.items c.candidates.result.now c.new-inside.ensures.items c.candidates.ensures c.limits.ensures
+    let p = c.args.instance.now in
+    child_is_branch p c.in_ok-root.root (root p) c.in_ok-root.ensures (root_branch p c.in_ok-progress.ensures.growth.problem)

@@ -1,7 +1,10 @@
-use Rattle.std.proofs.Common.{◌≡◌, ◌≤◌, ◌*◌, ◌-◌, ◌^◌, sum_by, take}
-use Rattle.hub_spec.specs.Problem.{fixed_cost}
-use Rattle.hub_spec.specs.Trees.{mixed_load}
+use Rattle.std.proofs.Common.{◌≡◌, ◌*◌, ◌≤◌, sum_by, take}
+use Rattle.hub_spec.specs.Limits.{most_cost, most_denominator}
+use Rattle.cert_checker.specs.Bounds.{loss}
 use Rattle.cert_checker.proofs.bounds.losses.Given as goal
 
 abbrev pub invariant-loop-k : goal.invariant-loop-k
-invariant-loop-k l = record { value : l.sum ≡ sum_by (λ k. mixed_load l.cuts l.weights k - l.denom * fixed_cost l.instance k) (take l.k-index l.nodes); limit : l.sum ≤ l.k-index * 10 ^ 35 }
+invariant-loop-k l = record {
+  value : l.sum ≡ sum_by (loss l.instance l.cuts l.mix) (take l.k-index l.nodes);
+  limit : l.sum ≤ l.k-index * (most_denominator * most_cost);
+}

@@ -3,5 +3,5 @@ use Rattle.hub_spec.specs.Trees.{cut_at}
 use Rattle.hub_spec.proofs.Mixes.{IsMixed}
 use Rattle.cert_checker.proofs.bounds.mixed_total.Given as goal
 
-abbrev pub invariant-loop-entry : goal.invariant-loop-entry
-invariant-loop-entry l = IsMixed (λ c. total (cut_at l.cuts c)) l.weights l.entry-index l.sum
+abbrev pub invariant-loop-at : goal.invariant-loop-at
+invariant-loop-at l = IsMixed (λ c. total (cut_at l.cuts c)) l.mix.weights l.at l.sum

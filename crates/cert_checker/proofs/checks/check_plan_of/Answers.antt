@@ -1,31 +1,37 @@
-use Rattle.std.proofs.Common.{ℕ, ◌*◌, List, length, sym, ap, subst, ◌∙◌}
-use Rattle.std.specs.Prelude.{OnOk, IfErr}
+use Rattle.std.proofs.Common.{◌≡◌, ◌*◌, List, length, ap, sym, subst, ◌∙◌, OnOk, IfErr, arith}
 use Rattle.std.specs.List.Sorted.{IsStrictlyIncreasing}
-use Rattle.hub_spec.specs.Conditions.{AllHold}
-use Rattle.cert_checker.specs.Answers.{IsFailure, plan_claims}
+use Rattle.std.proofs.lemmas.Int.{ints}
+use Rattle.cert_spec.specs.Conditions.{Claim, AllHold, hub_claims}
+use Rattle.cert_checker.specs.Answers.{IsFailure, hub_claims_of}
 use Rattle.cert_checker.proofs.checks.check_plan_of.Goals as goal
+use Rattle.cert_checker.proofs.checks.check_plan_of.Goals.{After-check_plan}
 
 pub check_plan-requires-clause-ascend : goal.check_plan-requires-clause-ascend
-check_plan-requires-clause-ascend c = subst IsStrictlyIncreasing (sym c.hubs.ensures) c.limits.ensures.hubs_ascend
+check_plan-requires-clause-ascend c = subst IsStrictlyIncreasing (sym c.hubs.ensures) c.routes.ensures.in_range.hubs_ascend
 
 pub check_plan-requires-clause-one_route_each : goal.check_plan-requires-clause-one_route_each
 check_plan-requires-clause-one_route_each c =
-    ap length c.routes.ensures ∙ c.limits.ensures.one_route_each ∙ ap (λ n. n * n) c.requires
+    ap length c.routes.ensures.value ∙ c.routes.ensures.in_range.one_route_each ∙ ap (λ n. n * n) c.requires
+
+-- the conditions that were tried are those of the certificate
+tried : (c : After-check_plan)
+    → hub_claims c.args.instance.now c.args.instance.now.size c.unsigned.result c.hubs.result.now c.routes.result.now
+    ≡ hub_claims_of c.args.instance.now c.args.certificate.now
+tried c =
+    let p = c.args.instance.now in
+    let k = c.args.certificate.now in
+    let stated : c.unsigned.result ≡ k.cost = omega (arith, ints, c.unsigned.ensures.same, c.cost.ensures) in
+    ap (λ n. hub_claims p n c.unsigned.result c.hubs.result.now c.routes.result.now) (sym c.requires)
+    ∙ ap (λ x. hub_claims p k.size x c.hubs.result.now c.routes.result.now) stated
+    ∙ ap (λ hs. hub_claims p k.size k.cost hs c.routes.result.now) c.hubs.ensures
+    ∙ ap (λ rs. hub_claims p k.size k.cost k.plan.hubs rs) c.routes.ensures.value
 
 pub returns-clause-holds : goal.returns-clause-holds
 returns-clause-holds c =
-    let p = c.args.instance.now in
-    let k = c.args.certificate.now in
-    subst (λ (n : ℕ). OnOk c.check_plan.result (AllHold (plan_claims p n k.plan.hubs k.plan.routes))) c.cost_of.ensures
-    (subst (λ (rs : List (ℕ × ℕ)). OnOk c.check_plan.result (AllHold (plan_claims p c.cost_of.result k.plan.hubs rs))) c.routes.ensures
-    (subst (λ (hs : List ℕ). OnOk c.check_plan.result (AllHold (plan_claims p c.cost_of.result hs c.routes.result.now))) c.hubs.ensures
-    c.check_plan.ensures.holds))
+    subst (λ (cs : List Claim). OnOk c.check_plan.result (AllHold cs)) (tried (goal.at.returns-clause-holds c).After-check_plan)
+    c.check_plan.ensures.holds
 
 pub returns-clause-fails : goal.returns-clause-fails
 returns-clause-fails c =
-    let p = c.args.instance.now in
-    let k = c.args.certificate.now in
-    subst (λ (n : ℕ). IfErr c.check_plan.result (IsFailure (plan_claims p n k.plan.hubs k.plan.routes))) c.cost_of.ensures
-    (subst (λ (rs : List (ℕ × ℕ)). IfErr c.check_plan.result (IsFailure (plan_claims p c.cost_of.result k.plan.hubs rs))) c.routes.ensures
-    (subst (λ (hs : List ℕ). IfErr c.check_plan.result (IsFailure (plan_claims p c.cost_of.result hs c.routes.result.now))) c.hubs.ensures
-    c.check_plan.ensures.fails))
+    subst (λ (cs : List Claim). IfErr c.check_plan.result (IsFailure cs)) (tried (goal.at.returns-clause-fails c).After-check_plan)
+    c.check_plan.ensures.fails

@@ -5,13 +5,13 @@ use Rattle.cert_checker.proofs.checks.verdict_of.Goals as goal
 
 pub returns-then-bound-cost-clause-bound : goal.returns-then-bound-cost-clause-bound
 returns-then-bound-cost-clause-bound c =
-    shown_bound c.args.instance.now c.args.certificate.now c.limits.ensures c.limits-2.ensures c.requires
+    shown_bound c.args.instance.now c.args.certificate.now c.requires.problem c.requires.in_range c.requires.holds
 
 pub returns-then-bound-cost-clause-optimal : goal.returns-then-bound-cost-clause-optimal
 returns-then-bound-cost-clause-optimal c =
     let same : c.args.certificate.now.bound ≡ c.args.certificate.now.cost = omega (arith, ints) in
-    shown_optimal c.args.instance.now c.args.certificate.now c.limits.ensures c.limits-2.ensures c.requires same
+    shown_optimal c.args.instance.now c.args.certificate.now c.requires.problem c.requires.in_range c.requires.holds same
 
 pub returns-clause-bound : goal.returns-clause-bound
 returns-clause-bound c =
-    shown_bound c.args.instance.now c.args.certificate.now c.limits.ensures c.limits-2.ensures c.requires
+    shown_bound c.args.instance.now c.args.certificate.now c.requires.problem c.requires.in_range c.requires.holds

@@ -1,15 +1,16 @@
-use Rattle.std.proofs.Common.{ℕ, ◌↔◌, ◌≤◌, ◌^◌, true, false, List, IsTrue, All, subst}
+use Rattle.std.proofs.Common.{ℕ, ◌↔◌, ◌≤◌, true, false, List, IsTrue, All, subst}
+use Rattle.hub_spec.specs.Limits.{most_cost}
 use Rattle.hub_spec.specs.Cuts.{load}
 use Rattle.hub_spec.proofs.AllLoops.{all_ended, all_broken, all_goes_on}
 use Rattle.cert_checker.proofs.cuts.are_loads_within_limit.Goals as goal
 
 pub returns-then-not-is_load_within_limit : goal.returns-then-not-is_load_within_limit
 returns-then-not-is_load_within_limit c =
-    subst (λ (cs : List ℕ). IsTrue false ↔ All (λ k. load c.args.cut.now k ≤ 10 ^ 29) cs) c.candidates-candidates.ensures (all_broken (λ k. load c.args.cut.now k ≤ 10 ^ 29) c.candidates-candidates.result.now c.loop-k.k-index 0 c.is_load_within_limit.result c.loop-k-test.true c.is_load_within_limit.ensures c.if-not-is_load_within_limit.true)
+    subst (λ (cs : List ℕ). IsTrue false ↔ All (λ k. load c.args.cut.now k ≤ most_cost) cs) c.candidates-candidates.ensures.value (all_broken (λ k. load c.args.cut.now k ≤ most_cost) c.candidates-candidates.result.now c.loop-k.k-index 0 c.is_load_within_limit.result c.loop-k-test.true c.is_load_within_limit.ensures c.if-not-is_load_within_limit.true)
 
 pub loop-k-preserved : goal.loop-k-preserved
 loop-k-preserved c =
-    all_goes_on (λ k. load c.args.cut.now k ≤ 10 ^ 29) c.candidates-candidates.result.now c.loop-k.k-index 0 c.is_load_within_limit.result c.loop-k-test.true c.is_load_within_limit.ensures c.if-not-is_load_within_limit.false c.loop-k.invariant
+    all_goes_on (λ k. load c.args.cut.now k ≤ most_cost) c.candidates-candidates.result.now c.loop-k.k-index 0 c.is_load_within_limit.result c.loop-k-test.true c.is_load_within_limit.ensures c.if-not-is_load_within_limit.false c.loop-k.invariant
 
 pub returns : goal.returns
-returns c = subst (λ (cs : List ℕ). IsTrue true ↔ All (λ k. load c.args.cut.now k ≤ 10 ^ 29) cs) c.candidates-candidates.ensures (all_ended (λ k. load c.args.cut.now k ≤ 10 ^ 29) c.candidates-candidates.result.now c.loop-k.k-index c.loop-k-test.false c.loop-k.invariant)
+returns c = subst (λ (cs : List ℕ). IsTrue true ↔ All (λ k. load c.args.cut.now k ≤ most_cost) cs) c.candidates-candidates.ensures.value (all_ended (λ k. load c.args.cut.now k ≤ most_cost) c.candidates-candidates.result.now c.loop-k.k-index c.loop-k-test.false c.loop-k.invariant)

@@ -1,6 +1,6 @@
 use Rattle.std.proofs.Common.{ℕ, ◌≡◌, ◌+◌, ◌*◌, ◌/◌, ◌%◌, ◌<◌, drop, get_or, ap, sym, refl, subst, ◌∙◌, arith}
 use Rattle.hub_spec.specs.Problem.{commodities}
-use Rattle.hub_spec.specs.Conditions.{dual_claims}
+use Rattle.cert_spec.specs.Conditions.{dual_claims}
 use Rattle.hub_spec.proofs.Commodities.{commodity_at, length_commodities}
 use Rattle.std.proofs.lemmas.List.{drop_all}
 use Rattle.cert_checker.specs.declared.kinds.Kind.TheVariants as code
@@ -10,13 +10,13 @@ use Rattle.cert_checker.proofs.duals.check_duals.Goals as goal
 use Rattle.cert_checker.proofs.duals.check_duals.Goals.{In-loop-t}
 
 below : (c : In-loop-t) → c.loop-t.t < c.args.instance.now.size * c.args.instance.now.size
-below c = subst (λ (m : ℕ). c.loop-t.t < m * m) c.size-n.ensures c.loop-t-test.true
+below c = subst (λ (m : ℕ). c.loop-t.t < m * m) c.size-n.ensures.value c.loop-t-test.true
 
 commodity : (c : In-loop-t) → get_or (commodities c.args.instance.now.size) c.loop-t.t (0, 0)
     ≡ (c.loop-t.t / c.size-n.result, c.loop-t.t % c.size-n.result)
 commodity c =
     commodity_at c.args.instance.now.size c.loop-t.t (0, 0) (below c)
-    ∙ ap (λ m. (c.loop-t.t / m, c.loop-t.t % m)) (sym c.size-n.ensures)
+    ∙ ap (λ m. (c.loop-t.t / m, c.loop-t.t % m)) (sym c.size-n.ensures.value)
 
 pub loop-t-init : goal.loop-t-init
 loop-t-init c =
@@ -54,7 +54,7 @@ loop-t-preserved c =
 pub returns-clause-holds : goal.returns-clause-holds
 returns-clause-holds c =
     let p = c.args.instance.now in
-    let square : c.size-n.result * c.size-n.result ≡ p.size * p.size = ap (λ m. m * m) c.size-n.ensures in
+    let square : c.size-n.result * c.size-n.result ≡ p.size * p.size = ap (λ m. m * m) c.size-n.ensures.value in
     none_left (dual_claims p c.args.line (commodities p.size) c.args.duals.now) _ c.loop-t.invariant.rest
     (ap (λ cs. dual_claims p (c.args.line + c.loop-t.t) cs (drop c.loop-t.t c.args.duals.now))
     (drop_all c.loop-t.t (commodities p.size) (omega (arith, length_commodities p.size, square, c.loop-t-test.false))))

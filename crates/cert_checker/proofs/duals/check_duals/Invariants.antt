@@ -1,6 +1,6 @@
 use Rattle.std.proofs.Common.{◌+◌, [], drop}
 use Rattle.hub_spec.specs.Problem.{commodities}
-use Rattle.hub_spec.specs.Conditions.{dual_claims}
+use Rattle.cert_spec.specs.Conditions.{dual_claims}
 use Rattle.cert_checker.specs.Duals.{AreValues}
 use Rattle.cert_checker.proofs.Reductions.{Reduces}
 use Rattle.cert_checker.proofs.duals.check_duals.Given as goal

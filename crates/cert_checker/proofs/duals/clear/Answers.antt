@@ -7,6 +7,6 @@ loop-left-preserved c =
     record {
       within = omega arith;
       long = search rules;
-      are = cleared_more c.args.dual.now.u c.loop-left.values _ c.loop-left.left c.listed.result.0 c.requires.dual.ascend (omega arith) (omega arith)
-          c.listed.ensures.node (omega arith) c.loop-left.invariant.are;
+      are = cleared_more c.args.dual.now.u c.loop-left.values _ c.loop-left.left c.value.result.0 c.requires.dual.ascend (omega arith) (omega arith)
+          c.value.ensures.node (omega arith) c.loop-left.invariant.are;
     }

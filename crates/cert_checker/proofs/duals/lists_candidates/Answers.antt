@@ -5,7 +5,7 @@ use Rattle.cert_checker.proofs.duals.lists_candidates.Goals.{After-is_candidate}
 
 said : (c : After-is_candidate) → IsTrue c.is_candidate.result ↔ Contains c.args.instance.now.candidates (get_or c.args.dual.now.u c.loop-i.i (0, 0)).0
 said c =
-    subst (λ (k : ℕ). IsTrue c.is_candidate.result ↔ Contains c.args.instance.now.candidates k) c.listed.ensures.node c.is_candidate.ensures
+    subst (λ (k : ℕ). IsTrue c.is_candidate.result ↔ Contains c.args.instance.now.candidates k) c.value.ensures.node c.is_candidate.ensures
 
 pub returns-then-not-is_candidate : goal.returns-then-not-is_candidate
 returns-then-not-is_candidate c =

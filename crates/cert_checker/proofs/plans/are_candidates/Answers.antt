@@ -3,4 +3,4 @@ use Rattle.cert_checker.proofs.plans.are_candidates.Goals as goal
 
 pub returns : goal.returns
 returns c =
-    subst (λ (cs : List ℕ). IsTrue c.are_among.result ↔ All (Contains cs) c.args.nodes.now) c.candidates.ensures c.are_among.ensures
+    subst (λ (cs : List ℕ). IsTrue c.are_among.result ↔ All (Contains cs) c.args.nodes.now) c.candidates.ensures.value c.are_among.ensures

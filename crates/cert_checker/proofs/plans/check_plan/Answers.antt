@@ -1,31 +1,34 @@
-use Rattle.std.proofs.Common.{sym, ◌∙◌, arith}
+use Rattle.std.proofs.Common.{sym, ap, ◌∙◌, arith}
 use Rattle.std.proofs.Math.Nat.{mul-le-mul}
 use Rattle.std.proofs.lemmas.Result.{err_from_is_err_and}
+use Rattle.cert_spec.specs.Text.{first_route_line, last_route_line}
 use Rattle.cert_checker.proofs.Parts.{routes_from_claims, routes_fail, cost_fails, plan_holds}
 use Rattle.cert_checker.proofs.plans.check_plan.Goals as goal
 
 pub check_routes-requires : goal.check_routes-requires
 check_routes-requires c =
-    let few = mul-le-mul c.limits.ensures.size_limit c.limits.ensures.size_limit in omega (arith, few, c.requires.one_route_each)
+    let few = mul-le-mul c.size-n.ensures.problem.size_limit c.size-n.ensures.problem.size_limit in omega (arith, few, c.requires.one_route_each)
 
 pub returns-in_err-check_routes-clause-fails : goal.returns-in_err-check_routes-clause-fails
 returns-in_err-check_routes-clause-fails c =
     let p = err_from_is_err_and c.from_residual.result c.from_residual.ensures.1 in
-    rw (p.1, p.2) (routes_fail c.args.instance.now c.args.cost c.args.hubs.now c.args.routes.now _
+    rw (p.1, p.2) (routes_fail c.args.instance.now c.args.instance.now.size c.args.cost c.args.hubs.now c.args.routes.now _
     (c.are_candidates.ensures.0 c.if-not-are_candidates.false) c.in_err-check_routes.ensures.fails)
 
 pub cost_of-requires-clause-routes : goal.cost_of-requires-clause-routes
 cost_of-requires-clause-routes c =
-    routes_from_claims c.args.instance.now c.args.hubs.now c.args.routes.now c.requires.one_route_each c.in_ok-check_routes.ensures.holds
+    routes_from_claims c.args.instance.now c.args.hubs.now first_route_line c.args.routes.now c.requires.one_route_each
+    c.in_ok-check_routes.ensures.holds
 
 pub returns-then-cost-cost_of-clause-fails : goal.returns-then-cost-cost_of-clause-fails
 returns-then-cost-cost_of-clause-fails c =
-    cost_fails c.args.instance.now c.args.cost c.size-n.result c.args.hubs.now c.args.routes.now c.size-n.ensures
+    cost_fails c.args.instance.now c.args.instance.now.size c.args.cost c.last_route_line.result c.args.hubs.now c.args.routes.now
+    (c.last_route_line.ensures ∙ ap last_route_line c.size-n.ensures.value)
     (c.are_candidates.ensures.0 c.if-not-are_candidates.false) c.in_ok-check_routes.ensures.holds
     (λ e. c.if-cost-cost_of.true (e ∙ sym c.cost_of.ensures.value))
 
 pub returns-clause-holds : goal.returns-clause-holds
 returns-clause-holds c =
-    plan_holds c.args.instance.now c.args.cost c.args.hubs.now c.args.routes.now
+    plan_holds c.args.instance.now c.args.instance.now.size c.args.cost c.args.hubs.now c.args.routes.now
     (c.are_candidates.ensures.0 c.if-not-are_candidates.false) c.in_ok-check_routes.ensures.holds
     (c.if-cost-cost_of.false ∙ c.cost_of.ensures.value)

@@ -1,8 +1,10 @@
-use Rattle.std.proofs.Common.{◌≡◌, ◌+◌, ◌++◌, ◌∷◌, [], List, length, map, reverse, drop, sym, ap, ◌∙◌, rules, arith}
+use Rattle.std.proofs.Common.{◌≡◌, ◌+◌, ◌++◌, ◌∷◌, [], All, Some, List, length, map, reverse, drop, sym, ap, subst, ◌∙◌, rules, arith}
 use Rattle.std.proofs.Math.ListN as lists
 use Rattle.std.proofs.lemmas.List.{reverse-append, length-map}
 use Rattle.std.proofs.lemmas.Result.{err_from_is_err_and}
-use Rattle.hub_spec.specs.Trees.{root, Branching}
+use Rattle.std.proofs.lemmas.List.Elements.{All-nil, All-cons, All-pop}
+use Rattle.hub_spec.specs.Trees.{root, Branching, IsBranch}
+use Rattle.hub_spec.proofs.ChildLists.{root_branch}
 use Rattle.hub_model.specs.Lines.{tree_line_of}
 use Rattle.cert_checker.specs.Walks.{line_claims, pending_after, walk_claims}
 use Rattle.cert_checker.proofs.Reductions.{reduces_itself, reduces_same, part_fails, part_holds, none_left}
@@ -18,9 +20,10 @@ loop-i-init c =
     record {
       rest = reduces_same all all _
           (ap (λ m. walk_claims p c.args.cuts.now c.args.target m (root p ∷ []) lines) (let e : c.args.line ≡ c.args.line + 0 = omega arith in e)
-          ∙ ap (λ (ps : List Branching). walk_claims p c.args.cuts.now c.args.target (c.args.line + 0) (reverse ps) lines) (sym c.in_ok-pending.ensures.root))
+          ∙ ap (λ (ps : List Branching). walk_claims p c.args.cuts.now c.args.target (c.args.line + 0) (reverse ps) lines) (sym c.in_ok-pending.ensures))
           (reduces_itself all);
-      branches = c.in_ok-pending.ensures.branches;
+      branches = subst (All (IsBranch p)) (sym c.in_ok-pending.ensures)
+          (All-cons (IsBranch p) (root p) [] (root_branch p c.requires.problem) (All-nil (IsBranch p)));
     }
 
 pub returns-in-None-clause-holds : goal.returns-in-None-clause-holds
@@ -46,6 +49,16 @@ left c =
     (omega (arith, c.loop-i-test.true, length-map c.args.lines.now tree_line_of))
     (lists.get_or-map tree_line_of c.args.lines.now c.loop-i.i c.index-lines-i.result ∙ ap tree_line_of (sym c.index-lines-i.is))
     (ap reverse c.in-Some.ensures.items ∙ reverse-append c.pop.new.self.items (c.in-Some.branch ∷ []))
+
+pub check_line-requires-clause-branch : goal.check_line-requires-clause-branch
+check_line-requires-clause-branch c =
+    (All-pop (IsBranch c.args.instance.now) c.loop-i.pending.items c.pop.new.self.items (Some c.in-Some.branch) c.in-Some.ensures.items
+    c.loop-i.invariant.branches).1
+
+pub check_line-requires-clause-branches : goal.check_line-requires-clause-branches
+check_line-requires-clause-branches c =
+    (All-pop (IsBranch c.args.instance.now) c.loop-i.pending.items c.pop.new.self.items (Some c.in-Some.branch) c.in-Some.ensures.items
+    c.loop-i.invariant.branches).0
 
 pub returns-in_err-check_line-in-Some-clause-fails : goal.returns-in_err-check_line-in-Some-clause-fails
 returns-in_err-check_line-in-Some-clause-fails c =

@@ -1,12 +1,23 @@
-use Rattle.std.proofs.Common.{ap, is_ok, is_err}
-use Rattle.dec_text.proofs.Rows.{two_stop, two_on}
-use Rattle.hub_spec.specs.Lines.{says_dual}
-use Rattle.hub_spec.specs.Grammar.{commodity_at}
-use Rattle.cert_format.proofs.Written.{row_bytes}
+use Rattle.std.proofs.Common.{rules, ◌∙◌, ap, is_ok, is_err}
+use Rattle.cert_format.proofs.Amounts.{same_amount}
+use Rattle.cert_format.proofs.Written.{dual_text}
+use Rattle.cert_format.proofs.Following.{as_text, then_put, then_none}
 use Rattle.cert_format.proofs.lines.put_dual.Goals as goal
 
-pub returns-in_err-put_dual_words : goal.returns-in_err-put_dual_words
-returns-in_err-put_dual_words g c = two_stop _ _ _ _ _ _ _ _ _ _ (row_bytes (says_dual (commodity_at c.args.n c.args.t) c.args.dual.now)) (ap is_err c.in_err-put_dual_words.was) c.from_residual.ensures.0 c.put_dual_words.ensures
+pub returns-in_err-put_words : goal.returns-in_err-put_words
+returns-in_err-put_words g c =
+    as_text (dual_text c.args.i c.args.j c.unsigned-price.result c.args.a c.args.values.now (c.unsigned-price.ensures.value ∙ same_amount c.args.a (search rules)))
+    (then_none _ c.put_words.ensures (ap is_err c.in_err-put_words.was) c.from_residual.ensures.0)
+
+pub returns-in_err-put_values : goal.returns-in_err-put_values
+returns-in_err-put_values g c =
+    as_text (dual_text c.args.i c.args.j c.unsigned-price.result c.args.a c.args.values.now (c.unsigned-price.ensures.value ∙ same_amount c.args.a (search rules)))
+    (then_put c.put_words.ensures (ap is_ok c.in_ok-put_words.was)
+    (then_none _ c.put_values.ensures (ap is_err c.in_err-put_values.was) c.from_residual-in_err-put_values.ensures.0))
 
 pub returns : goal.returns
-returns g c = two_on _ _ _ _ _ _ _ _ _ _ _ (row_bytes (says_dual (commodity_at c.args.n c.args.t) c.args.dual.now)) (ap is_ok c.in_ok-put_dual_words.was) c.put_dual_words.ensures c.put.ensures
+returns g c =
+    as_text (dual_text c.args.i c.args.j c.unsigned-price.result c.args.a c.args.values.now (c.unsigned-price.ensures.value ∙ same_amount c.args.a (search rules)))
+    (then_put c.put_words.ensures (ap is_ok c.in_ok-put_words.was)
+    (then_put c.put_values.ensures (ap is_ok c.in_ok-put_values.was)
+    (c.put.ensures)))

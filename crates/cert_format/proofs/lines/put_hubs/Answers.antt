@@ -1,10 +1,22 @@
 use Rattle.std.proofs.Common.{ap, is_ok, is_err}
-use Rattle.dec_text.proofs.Rows.{two_stop, two_on}
-use Rattle.cert_format.proofs.Written.{hub_line}
+use Rattle.cert_format.proofs.Written.{hubs_text}
+use Rattle.cert_format.proofs.Following.{as_text, then_put, then_none}
 use Rattle.cert_format.proofs.lines.put_hubs.Goals as goal
 
-pub returns-in_err-put_hub_words : goal.returns-in_err-put_hub_words
-returns-in_err-put_hub_words g c = two_stop _ _ _ _ _ _ _ _ _ _ (hub_line c.args.hubs.now) (ap is_err c.in_err-put_hub_words.was) c.from_residual.ensures.0 c.put_hub_words.ensures
+pub returns-in_err-put : goal.returns-in_err-put
+returns-in_err-put g c =
+    as_text (hubs_text c.args.hubs.now)
+    (then_none _ c.put.ensures (ap is_err c.in_err-put.was) c.from_residual.ensures.0)
+
+pub returns-in_err-put_nodes : goal.returns-in_err-put_nodes
+returns-in_err-put_nodes g c =
+    as_text (hubs_text c.args.hubs.now)
+    (then_put c.put.ensures (ap is_ok c.in_ok-put.was)
+    (then_none _ c.put_nodes.ensures (ap is_err c.in_err-put_nodes.was) c.from_residual-in_err-put_nodes.ensures.0))
 
 pub returns : goal.returns
-returns g c = two_on _ _ _ _ _ _ _ _ _ _ _ (hub_line c.args.hubs.now) (ap is_ok c.in_ok-put_hub_words.was) c.put_hub_words.ensures c.put.ensures
+returns g c =
+    as_text (hubs_text c.args.hubs.now)
+    (then_put c.put.ensures (ap is_ok c.in_ok-put.was)
+    (then_put c.put_nodes.ensures (ap is_ok c.in_ok-put_nodes.was)
+    (c.put-2.ensures)))

@@ -1,10 +1,6 @@
-use Rattle.std.proofs.Common.{ℕ, List, Result, drop, flat_map}
-use Rattle.hub_io.specs.Outside.{PutsThrough}
-use Rattle.hub_io.specs.declared.shelf.Failed.{Failed}
-use Rattle.cert_format.specs.Rows.{spaced_node}
+use Rattle.cert_format.specs.Spaced.{spaced_node}
+use Rattle.cert_format.proofs.Following.{HasPut}
 use Rattle.cert_format.proofs.lines.put_nodes.Given as goal
 
 abbrev pub invariant-loop-node : goal.invariant-loop-node
-invariant-loop-node g l = (let s = g.K.Sink in (last : g.row.K.Denot) (rest : List ℕ) (r : Result (Unit {0}) Failed)
-    → PutsThrough s.taken s.faults l.sink last l.buffer rest r (flat_map spaced_node (drop l.node-index l.nodes))
-    → PutsThrough s.taken s.faults l.initial.sink last l.initial.buffer rest r (flat_map spaced_node l.nodes))
+invariant-loop-node g l = (let s = g.K.Sink in HasPut s.taken s.faults l.initial.sink l.sink l.initial.buffer l.buffer spaced_node l.nodes l.node-index)

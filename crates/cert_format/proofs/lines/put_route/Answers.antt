@@ -1,7 +1,8 @@
-use Rattle.hub_spec.specs.Lines.{says_route}
-use Rattle.hub_spec.specs.Grammar.{commodity_at}
-use Rattle.cert_format.proofs.Written.{as_row}
+use Rattle.hub_spec.specs.Problem.{commodity_at}
+use Rattle.cert_spec.specs.Lines.{says_route}
+use Rattle.cert_format.proofs.Written.{line_of}
+use Rattle.cert_format.proofs.Following.{as_text}
 use Rattle.cert_format.proofs.lines.put_route.Goals as goal
 
 pub returns : goal.returns
-returns g c = as_row (says_route (commodity_at c.args.n c.args.t) c.args.route) _ _ _ _ _ c.put_row.ensures
+returns g c = as_text (line_of (says_route (commodity_at c.args.n c.args.t) c.args.route)) c.put_line.ensures

@@ -1,10 +1,6 @@
-use Rattle.std.proofs.Common.{ℕ, List, Result, drop, flat_map}
-use Rattle.hub_io.specs.Outside.{PutsThrough}
-use Rattle.hub_io.specs.declared.shelf.Failed.{Failed}
-use Rattle.cert_format.specs.Rows.{spaced_weight}
+use Rattle.cert_format.specs.Spaced.{spaced_weight}
+use Rattle.cert_format.proofs.Following.{HasPut}
 use Rattle.cert_format.proofs.lines.put_weights.Given as goal
 
 abbrev pub invariant-loop-weight : goal.invariant-loop-weight
-invariant-loop-weight g l = (let s = g.K.Sink in (last : g.row.K.Denot) (rest : List ℕ) (r : Result (Unit {0}) Failed)
-    → PutsThrough s.taken s.faults l.sink last l.buffer rest r (flat_map spaced_weight (drop l.weight-index l.weights))
-    → PutsThrough s.taken s.faults l.initial.sink last l.initial.buffer rest r (flat_map spaced_weight l.weights))
+invariant-loop-weight g l = (let s = g.K.Sink in HasPut s.taken s.faults l.initial.sink l.sink l.initial.buffer l.buffer spaced_weight l.weights l.weight-index)

@@ -1,6 +1,6 @@
 use Rattle.std.proofs.Common.{◌≡◌, ◌^◌, ◌<◌, ◌++◌, ℕ, All, length, true}
-use Rattle.hub_spec.specs.Lines.{weight_numbers}
-use Rattle.hub_model.specs.Held.{natural_weights}
+use Rattle.cert_spec.specs.Lines.{weight_numbers}
+use Rattle.hub_model.specs.Mixtures.{natural_weights}
 use Rattle.cert_format.specs.Fits.{pairs_fit}
 use Rattle.cert_format.proofs.lists.cut_weights.Given as goal
 

@@ -1,6 +1,6 @@
 use Rattle.std.proofs.Common.{◌≡◌, ◌^◌, ◌<◌, ◌++◌, ℕ, All, length, true}
-use Rattle.hub_spec.specs.Lines.{value_numbers}
-use Rattle.hub_model.specs.Held.{natural_values}
+use Rattle.cert_spec.specs.Lines.{value_numbers}
+use Rattle.hub_model.specs.Prices.{natural_values}
 use Rattle.cert_format.specs.Fits.{pairs_fit}
 use Rattle.cert_format.proofs.lists.node_values.Given as goal
 

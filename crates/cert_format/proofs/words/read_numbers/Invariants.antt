@@ -1,6 +1,6 @@
 use Rattle.std.proofs.Common.{◌≡◌, ◌^◌, ◌<◌, ◌++◌, ℕ, List, All, length, option_map}
 use Rattle.std.specs.List.{slice_split}
-use Rattle.hub_spec.specs.Reading.{numbers_of}
+use Rattle.cert_spec.specs.Reading.{numbers_of}
 use Rattle.cert_format.specs.Words.{is_at}
 use Rattle.cert_format.proofs.words.read_numbers.Given as goal
 

@@ -1,7 +1,7 @@
 use Rattle.std.proofs.Common.{ap, ◌∙◌, is_ok, nat_abs, SFits, to_z-of_z, rules}
 use mir.Syntax.{w128}
 use Rattle.text_spec.specs.Fixed.{fixed_text}
-use Rattle.dec_text.proofs.Rows.{finish_text}
+use Rattle.dec_text.proofs.PutPieces.{finish_text}
 use Rattle.dec_text.proofs.numbers.put_fixed.Goals as goal
 
 pub returns : goal.returns

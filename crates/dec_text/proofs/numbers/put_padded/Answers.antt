@@ -1,5 +1,5 @@
 use Rattle.std.proofs.Common.{ap, is_ok, is_err, ◌∙◌}
-use Rattle.dec_text.proofs.Rows.{two_stop, two_on, padded_is}
+use Rattle.dec_text.proofs.PutPieces.{two_stop, two_on, padded_is}
 use Rattle.dec_text.proofs.numbers.put_padded.Goals as goal
 
 pub returns-in_err-put_zeros : goal.returns-in_err-put_zeros

@@ -1,5 +1,5 @@
 use Rattle.std.proofs.Common.{ap, is_ok, is_err, arith}
-use Rattle.dec_text.proofs.Rows.{zero_stop, zero_more, zero_end}
+use Rattle.dec_text.proofs.PutPieces.{zero_stop, zero_more, zero_end}
 use Rattle.dec_text.proofs.numbers.put_zeros.Goals as goal
 
 pub returns-in_err-put : goal.returns-in_err-put

@@ -1,5 +1,5 @@
 use Rattle.std.proofs.Common.{ap, is_ok, is_err, arith}
-use Rattle.dec_text.proofs.Rows.{line_stop, line_more, line_end}
+use Rattle.dec_text.proofs.PutPieces.{line_stop, line_more, line_end}
 use Rattle.dec_text.proofs.pieces.put_pieces.Goals as goal
 
 pub returns-in_err-put_piece : goal.returns-in_err-put_piece

@@ -1,6 +1,6 @@
 use Rattle.std.proofs.Common.{◌≡◌, map}
-use Rattle.branch_tree.specs.Held.{cuts_of}
-use Rattle.cert_format.specs.Held.{cut_of}
+use Rattle.branch_tree.specs.Views.{cuts_of}
+use Rattle.cert_format.specs.Parts.{cut_of}
 use Rattle.hub_top.proofs.certificates.rows_of.Given as goal
 
 abbrev pub invariant-loop-cut : goal.invariant-loop-cut

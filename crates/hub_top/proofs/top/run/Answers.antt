@@ -1,5 +1,5 @@
-use Rattle.hub_top.specs.Views.{ending}
-use Rattle.hub_top.proofs.Rows.{meaning}
+use Rattle.hub_top.specs.Views.{outcome}
+use Rattle.hub_top.proofs.StatusMeanings.{meaning}
 use Rattle.hub_top.proofs.Completions.{completeness}
 use Rattle.hub_top.proofs.Headlines.{headline}
 use Rattle.hub_top.proofs.top.run.Goals as goal
@@ -7,10 +7,10 @@ use Rattle.hub_top.proofs.top.run.Goals as goal
 pub returns : goal.returns
 returns g c =
     let may = c.intend-intended.ensures.may in
-    let means = meaning _ _ _ _ _ _ _ _ _ _ _ _ (ending c.intend-intended.result) may c.write.ensures in
-    let complete = completeness g.S.Shelf.held g.S.Shelf.faults g.S.Shelf.sound c.args.shelf.now c.intend-intended.new.shelf _ _ _ _ _ _ _ _ _ _ (ending c.intend-intended.result) may c.write.ensures in
+    let means = meaning _ _ _ _ _ _ _ _ _ _ _ _ (outcome c.intend-intended.result) may c.write.ensures in
+    let complete = completeness g.S.Shelf.held g.S.Shelf.faults g.S.Shelf.sound c.args.shelf.now c.intend-intended.new.shelf _ _ _ _ _ _ _ _ _ _ (outcome c.intend-intended.result) may c.write.ensures in
     record {
-      ends = (ending c.intend-intended.result, may, c.write.ensures);
+      ends = (outcome c.intend-intended.result, may, c.write.ensures);
       means = means;
       complete = complete;
       headline = headline _ _ _ _ _ _ _ _ means complete;

@@ -1,9 +1,9 @@
 use Rattle.std.proofs.Common.{◌≡◌, ◌+◌, ◌++◌, ◌∷◌, [], map, length, All, sym, subst, arith, rules, ap, ◌∙◌}
 use Rattle.std.specs.List.{range_with_len}
 use Rattle.std.proofs.lemmas.List.Elements.{All-push}
-use Rattle.hub_model.specs.Naturals.{natural, IsHeld}
+use Rattle.hub_model.specs.Amounts.{natural, IsListedNumber}
 use Rattle.instance_ap.specs.Points.{coordinates_of, distance_of, distances_front}
-use Rattle.instance_ap.proofs.Numbers.{formula_none, formula_push, held_none}
+use Rattle.token_reader.proofs.Formulas.{formula_none, formula_push, listed_none}
 use Rattle.instance_ap.proofs.distances.distances.Goals as goal
 
 pub loop-items-init : goal.loop-items-init
@@ -15,7 +15,7 @@ loop-items-init c =
     record {
       few = omega (arith, empty);
       values = formula_none natural f _ none ∙ ap (λ m. map f (range_with_len 0 m)) empty;
-      limits = held_none _ none;
+      limits = listed_none _ none;
     }
 
 pub loop-items-preserved : goal.loop-items-preserved
@@ -30,5 +30,5 @@ loop-items-preserved c =
       few = search rules;
       values = formula_push natural f (length before) next before _ pushed (c.next_distance-next.ensures.value ∙ ap f (ap length c.deref.ensures.value)) c.loop-items.invariant.values
           ∙ ap (λ m. map f (range_with_len 0 m)) longer;
-      limits = subst (All IsHeld) (sym pushed) (All-push IsHeld before next c.loop-items.invariant.limits c.next_distance-next.ensures.held);
+      limits = subst (All IsListedNumber) (sym pushed) (All-push IsListedNumber before next c.loop-items.invariant.limits c.next_distance-next.ensures.listed);
     }

@@ -33,7 +33,7 @@ parts-requires c =
     let bytes = c.args.bytes.now in
     let read = c.in_ok-n.field-0 in
     let tail = tail_of c.terms.inside.tail in
-    let divide = c.terms.inside.divide in
+    let divide = c.divisor.result in
     let points = c.deref.result.now in
     let front : IsFront bytes read = search rules in
     let legal : IsLegalTail tail read.n read.rest = search rules in
@@ -41,8 +41,8 @@ parts-requires c =
     let between : c.in_ok-distances.distances ≡ distances_front divide (length points) (map coordinates_of points) (length points * length points) = search rules in
     let far = between ∙ ap (λ (ps : List Point). distances_front divide (length ps) (map coordinates_of ps) (length ps * length ps)) c.deref.ensures.value in
     let has = has_contents o bytes read tail divide (length read.points.items) c.in_ok-distances.distances c.in_ok-tail_costs.tail_costs front
-    (ap (λ (o : Options). o.tail) c.terms.view_is) (ap (λ (o : Options). o.divide) c.terms.view_is) (front_count bytes read front) legal fixed far in
-    contents_within australia_post o bytes _ c.limits.ensures has
+    (ap (λ (o : Options). o.tail) c.terms.view_is) c.divisor.ensures.value (front_count bytes read front) legal fixed far in
+    contents_within australia_post o bytes _ c.divisor.ensures.options has
 
 pub returns-clause-contents : goal.returns-clause-contents
 returns-clause-contents c =
@@ -50,7 +50,7 @@ returns-clause-contents c =
     let bytes = c.args.bytes.now in
     let read = c.in_ok-n.field-0 in
     let tail = tail_of c.terms.inside.tail in
-    let divide = c.terms.inside.divide in
+    let divide = c.divisor.result in
     let points = c.deref.result.now in
     let front : IsFront bytes read = search rules in
     let legal : IsLegalTail tail read.n read.rest = search rules in
@@ -58,5 +58,5 @@ returns-clause-contents c =
     let between : c.in_ok-distances.distances ≡ distances_front divide (length points) (map coordinates_of points) (length points * length points) = search rules in
     let far = between ∙ ap (λ (ps : List Point). distances_front divide (length ps) (map coordinates_of ps) (length ps * length ps)) c.deref.ensures.value in
     let has = has_contents o bytes read tail divide (length read.points.items) c.in_ok-distances.distances c.in_ok-tail_costs.tail_costs front
-    (ap (λ (o : Options). o.tail) c.terms.view_is) (ap (λ (o : Options). o.divide) c.terms.view_is) (front_count bytes read front) legal fixed far in
+    (ap (λ (o : Options). o.tail) c.terms.view_is) c.divisor.ensures.value (front_count bytes read front) legal fixed far in
     rw c.parts.ensures has

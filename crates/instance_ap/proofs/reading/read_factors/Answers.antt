@@ -1,12 +1,13 @@
-use Rattle.std.proofs.Common.{◌≡◌, ◌^◌, ◌≤◌, Ok, ap, sym, ◌∙◌, arith, rules}
-use Rattle.std.proofs.lemmas.Int.{to_z_pos}
-use mir.Syntax.{w128}
+use Rattle.std.proofs.Common.{◌≡◌, ◌≤◌, ℤ, pos, to_z, of_z, Ok, ap, sym, ◌∙◌, arith, rules}
+use Rattle.std.specs.Int.{w128}
+use Rattle.std.proofs.lemmas.Int.{to_z-of_z}
+use Rattle.hub_spec.specs.Limits.{most_factor}
 use Rattle.file_spec.specs.Places.{a_factor}
-use Rattle.hub_model.specs.Naturals.{natural}
+use Rattle.hub_model.specs.Amounts.{natural}
 use Rattle.token_reader.specs.Unread.{later, value_here}
 use Rattle.token_reader.proofs.Ahead.{later-none}
 use Rattle.token_reader.proofs.Stretches.{legal_none}
-use Rattle.instance_ap.proofs.Legal.{moved_token, legal_token, fault_token}
+use Rattle.token_reader.proofs.Steps.{moved_token, legal_token, fault_token}
 use Rattle.instance_ap.proofs.reading.read_factors.Goals as goal
 
 pub returns-in_err-collect-clause-fault : goal.returns-in_err-collect-clause-fault
@@ -55,8 +56,9 @@ returns-clause-deliver c =
     let further : c.quantity-2.new.self ≡ later 1 c.quantity.new.self = search rules in
     let two = moved_token 1 r _ _ past further in
     let value : c.in_ok-deliver.deliver ≡ value_here 3 c.quantity-2.new.self = search rules in
-    let small : c.in_ok-deliver.deliver ≤ 10 ^ 6 = search rules in
-    ap natural (to_z_pos w128 c.in_ok-deliver.deliver (omega arith)) ∙ (value ∙ ap (value_here 3) two)
+    let small : c.in_ok-deliver.deliver ≤ most_factor = search rules in
+    ap (λ (z : ℤ). natural (to_z w128 (of_z w128 z))) c.signed-3.ensures
+    ∙ (ap natural (to_z-of_z w128 (pos c.in_ok-deliver.deliver) (record { sfits = omega arith })) ∙ (value ∙ ap (value_here 3) two))
 
 pub returns-clause-moved : goal.returns-clause-moved
 returns-clause-moved c =

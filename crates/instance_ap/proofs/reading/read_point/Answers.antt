@@ -4,8 +4,8 @@ use Rattle.token_reader.specs.Unread.{later, coordinate_here}
 use Rattle.token_reader.proofs.Ahead.{later-none}
 use Rattle.token_reader.proofs.Stretches.{legal_none}
 use Rattle.instance_ap.specs.Fronts.{point_here}
-use Rattle.instance_ap.proofs.Gaps.{coordinate_held}
-use Rattle.instance_ap.proofs.Legal.{moved_token, legal_token, fault_token}
+use Rattle.instance_ap.proofs.Gaps.{coordinate_same}
+use Rattle.token_reader.proofs.Steps.{moved_token, legal_token, fault_token}
 use Rattle.instance_ap.proofs.reading.read_point.Goals as goal
 
 pub returns-in_err-x-clause-fault : goal.returns-in_err-x-clause-fault
@@ -46,7 +46,7 @@ returns-clause-value c =
     let y : c.in_ok-y.y ≡ coordinate_here c.coordinate.new.self = search rules in
     let near_x : nat_abs c.in_ok-x.x ≤ 10 ^ 12 = search rules in
     let near_y : nat_abs c.in_ok-y.y ≤ 10 ^ 12 = search rules in
-    ap₂ (λ a b. (a, b)) (coordinate_held c.in_ok-x.x near_x ∙ x) (coordinate_held c.in_ok-y.y near_y ∙ (y ∙ ap coordinate_here past))
+    ap₂ (λ a b. (a, b)) (coordinate_same c.in_ok-x.x near_x ∙ x) (coordinate_same c.in_ok-y.y near_y ∙ (y ∙ ap coordinate_here past))
 
 pub returns-clause-moved : goal.returns-clause-moved
 returns-clause-moved c =

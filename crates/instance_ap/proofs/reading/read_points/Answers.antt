@@ -5,7 +5,7 @@ use Rattle.token_reader.proofs.Ahead.{later-none}
 use Rattle.token_reader.proofs.Stretches.{legal_none}
 use Rattle.instance_ap.specs.Points.{coordinates_of}
 use Rattle.instance_ap.specs.Fronts.{point_here, points_front}
-use Rattle.instance_ap.proofs.Numbers.{formula_none, formula_push}
+use Rattle.token_reader.proofs.Formulas.{formula_none, formula_push}
 use Rattle.instance_ap.proofs.Legal.{moved_pair, legal_pair, fault_pair}
 use Rattle.instance_ap.proofs.reading.read_points.Goals as goal
 

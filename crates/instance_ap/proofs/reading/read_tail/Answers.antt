@@ -15,7 +15,7 @@ returns-in-Ignore-clause-legal c =
 pub returns-in_ok-map_err-in-Fixed-clause-legal : goal.returns-in_ok-map_err-in-Fixed-clause-legal
 returns-in_ok-map_err-in-Fixed-clause-legal c =
     let legal : AreLegal a_cost c.args.n c.args.reader.now = search rules in
-    let at : c.read_numbers.new.reader ≡ later c.args.n c.args.reader.now = search rules in
+    let at : c.quantities.new.self ≡ later c.args.n c.args.reader.now = search rules in
     let ended : c.end.result ≡ Ok tt = search rules in
     let P : Tail → Type 0 = λ tail. IsLegalTail tail c.args.n c.args.reader.now in
     subst P (sym (ap tail_of c.in-Fixed.is)) (costs_legal c.args.n c.args.reader.now _ c.end.result legal at ended c.end.ensures)

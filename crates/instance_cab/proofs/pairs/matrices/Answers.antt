@@ -1,13 +1,10 @@
-use Rattle.std.proofs.Common.{◌≡◌, ◌++◌, ◌∷◌, [], false, map, arith, rules, ap, ◌∙◌}
-use Rattle.std.proofs.lemmas.List.Elements.{All-nil}
-use Rattle.file_spec.specs.Files.{held_distance}
-use Rattle.hub_model.specs.Naturals.{natural, IsHeld}
-use Rattle.instance_cab.specs.Rows.{taken_at, flow_of, distance_of, lacks}
-use Rattle.instance_cab.proofs.Fronts.{limits_more}
+use Rattle.std.proofs.Common.{◌≡◌, ◌++◌, ◌∷◌, [], pos, false, map, arith, rules, ap, ◌∙◌}
+use Rattle.file_spec.specs.Files.{divided_distance}
+use Rattle.hub_model.specs.Amounts.{natural}
+use Rattle.instance_cab.specs.ListedRows.{taken_at, flow_of, distance_of, lacks}
+use Rattle.token_reader.proofs.Formulas.{listed_none, listed_push}
 use Rattle.instance_cab.proofs.Lacks.{no_lack, no_lack_more, lack_told, flows_none, flows_more, distances_none, distances_more}
 use Rattle.instance_cab.proofs.pairs.matrices.Goals as goal
-use mir.Val.{to_z}
-use mir.Syntax.{w128}
 
 pub loop-commodity-init : goal.loop-commodity-init
 loop-commodity-init c =
@@ -16,9 +13,9 @@ loop-commodity-init c =
     record {
       whole = no_lack c.args.n c.args.taken.now;
       flows = ap (map natural) flows ∙ flows_none c.args.taken.now;
-      flow_limits = rw flows (All-nil IsHeld);
+      flow_limits = listed_none _ flows;
       distances = ap (map natural) distances ∙ distances_none c.args.divide c.args.n c.args.taken.now;
-      distance_limits = rw distances (All-nil IsHeld);
+      distance_limits = listed_none _ distances;
     }
 
 pub returns-in_err-listed-clause-fault : goal.returns-in_err-listed-clause-fault
@@ -31,13 +28,13 @@ loop-commodity-preserved c =
     let whole : lacks c.args.n c.args.taken.now c.loop-commodity.commodity ≡ false = search rules in
     let flow : c.in_ok-listed.listed.flow ≡ flow_of (taken_at c.args.taken.now c.loop-commodity.commodity) = search rules in
     let distance : c.in_ok-listed.listed.distance ≡ distance_of (taken_at c.args.taken.now c.loop-commodity.commodity) = search rules in
-    let flows : c.push.new.self.items ≡ c.loop-commodity.flows.items ++ to_z w128 c.in_ok-listed.listed.flow ∷ [] = search rules in
-    let distances : c.push-in-loop-commodity.new.self.items ≡ c.loop-commodity.distances.items ++ to_z w128 c.held-held.result ∷ [] = search rules in
+    let flows : c.push.new.self.items ≡ c.loop-commodity.flows.items ++ pos c.in_ok-listed.listed.flow ∷ [] = search rules in
+    let distances : c.push-in-loop-commodity.new.self.items ≡ c.loop-commodity.distances.items ++ pos c.divided_distance-distance.result ∷ [] = search rules in
     record {
       whole = no_lack_more c.args.n c.args.taken.now c.loop-commodity.commodity c.loop-commodity.invariant.whole whole;
-      flows = flows_more c.args.taken.now c.loop-commodity.commodity c.in_ok-listed.listed.flow _ _ flows (omega arith) flow c.loop-commodity.invariant.flows;
-      flow_limits = limits_more c.in_ok-listed.listed.flow _ _ flows (omega arith) c.loop-commodity.invariant.flow_limits;
-      distances = distances_more c.args.divide c.args.n c.args.taken.now c.loop-commodity.commodity c.held-held.result _ _ distances (omega arith)
-          (c.held-held.ensures ∙ ap (held_distance c.args.divide c.args.n c.loop-commodity.commodity) distance) c.loop-commodity.invariant.distances;
-      distance_limits = limits_more c.held-held.result _ _ distances (omega arith) c.loop-commodity.invariant.distance_limits;
+      flows = flows_more c.args.taken.now c.loop-commodity.commodity c.in_ok-listed.listed.flow _ _ flows flow c.loop-commodity.invariant.flows;
+      flow_limits = listed_push c.in_ok-listed.listed.flow _ _ flows (omega arith) c.loop-commodity.invariant.flow_limits;
+      distances = distances_more c.args.divide c.args.n c.args.taken.now c.loop-commodity.commodity c.divided_distance-distance.result _ _ distances
+          (c.divided_distance-distance.ensures ∙ ap (divided_distance c.args.divide c.args.n c.loop-commodity.commodity) distance) c.loop-commodity.invariant.distances;
+      distance_limits = listed_push c.divided_distance-distance.result _ _ distances (omega arith) c.loop-commodity.invariant.distance_limits;
     }

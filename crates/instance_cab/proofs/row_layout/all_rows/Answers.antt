@@ -1,7 +1,7 @@
 use Rattle.std.proofs.Common.{◌≡◌, None, true, false, rules}
 use Rattle.token_reader.specs.Unread.{later, has_ended}
-use Rattle.instance_cab.specs.Rows.{commodity_here, listed_here, IsRowLegal, taken_at, TakesIn}
-use Rattle.instance_cab.proofs.RowsRead.{rows_begin, size_refused, row_more, row_refused, listing, fewer_left, none_taken}
+use Rattle.instance_cab.specs.ListedRows.{commodity_here, listed_here, IsRowLegal, taken_at, TakesIn}
+use Rattle.instance_cab.proofs.RowStages.{rows_begin, size_refused, row_more, row_refused, listing, fewer_left, none_taken}
 use Rattle.instance_cab.proofs.row_layout.all_rows.Goals as goal
 
 pub returns-in_err-n-clause-fault : goal.returns-in_err-n-clause-fault

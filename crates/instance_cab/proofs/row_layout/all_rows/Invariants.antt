@@ -1,5 +1,5 @@
 use Rattle.std.proofs.Common.{length}
-use Rattle.instance_cab.proofs.RowsRead.{AreRowsRead}
+use Rattle.instance_cab.proofs.RowStages.{AreRowsRead}
 use Rattle.instance_cab.proofs.row_layout.all_rows.Given as goal
 
 abbrev pub invariant-loop-reader : goal.invariant-loop-reader

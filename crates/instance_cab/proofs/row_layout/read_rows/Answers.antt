@@ -1,6 +1,5 @@
-use Rattle.std.proofs.Common.{◌≡◌, ◌*◌, None, ap, subst, ◌∙◌, rules}
-use Rattle.file_spec.specs.Options.{Options, IsOptions}
-use Rattle.instance_cab.specs.Rows.{IsListing, first_lack, listed_flows, listed_distances}
+use Rattle.std.proofs.Common.{◌≡◌, ◌*◌, None, ap, ◌∙◌, rules}
+use Rattle.instance_cab.specs.ListedRows.{IsListing, first_lack, listed_flows, listed_distances}
 use Rattle.instance_cab.proofs.RowFiles.{lack_refused, has_rows, rows_limits}
 use Rattle.instance_cab.proofs.row_layout.read_rows.Goals as goal
 
@@ -17,17 +16,17 @@ parts-requires c =
     let listing : IsListing c.args.bytes.now c.in_ok-n.n c.in_ok-n.taken = search rules in
     let whole : first_lack c.in_ok-n.n c.in_ok-n.taken (c.in_ok-n.n * c.in_ok-n.n) ≡ None = search rules in
     let flows : c.in_ok-flows.flows ≡ listed_flows c.in_ok-n.taken (c.in_ok-n.n * c.in_ok-n.n) = search rules in
-    let distances : c.in_ok-flows.distances ≡ listed_distances c.terms.inside.divide c.in_ok-n.n c.in_ok-n.taken (c.in_ok-n.n * c.in_ok-n.n) = search rules in
-    let divided = distances ∙ ap (λ (o : Options). listed_distances o.divide c.in_ok-n.n c.in_ok-n.taken (c.in_ok-n.n * c.in_ok-n.n)) c.terms.view_is in
+    let distances : c.in_ok-flows.distances ≡ listed_distances c.divisor.result c.in_ok-n.n c.in_ok-n.taken (c.in_ok-n.n * c.in_ok-n.n) = search rules in
+    let divided = distances ∙ ap (λ divide. listed_distances divide c.in_ok-n.n c.in_ok-n.taken (c.in_ok-n.n * c.in_ok-n.n)) c.divisor.ensures.value in
     let has = has_rows c.args.terms.now c.args.bytes.now c.in_ok-n.n c.in_ok-n.taken c.in_ok-flows.flows c.in_ok-flows.distances listing whole flows divided in
-    rows_limits c.args.terms.now c.args.bytes.now _ (subst IsOptions c.terms.view_is c.terms.invariant.options) has
+    rows_limits c.args.terms.now c.args.bytes.now _ c.divisor.ensures.options has
 
 pub returns-clause-contents : goal.returns-clause-contents
 returns-clause-contents c =
     let listing : IsListing c.args.bytes.now c.in_ok-n.n c.in_ok-n.taken = search rules in
     let whole : first_lack c.in_ok-n.n c.in_ok-n.taken (c.in_ok-n.n * c.in_ok-n.n) ≡ None = search rules in
     let flows : c.in_ok-flows.flows ≡ listed_flows c.in_ok-n.taken (c.in_ok-n.n * c.in_ok-n.n) = search rules in
-    let distances : c.in_ok-flows.distances ≡ listed_distances c.terms.inside.divide c.in_ok-n.n c.in_ok-n.taken (c.in_ok-n.n * c.in_ok-n.n) = search rules in
-    let divided = distances ∙ ap (λ (o : Options). listed_distances o.divide c.in_ok-n.n c.in_ok-n.taken (c.in_ok-n.n * c.in_ok-n.n)) c.terms.view_is in
+    let distances : c.in_ok-flows.distances ≡ listed_distances c.divisor.result c.in_ok-n.n c.in_ok-n.taken (c.in_ok-n.n * c.in_ok-n.n) = search rules in
+    let divided = distances ∙ ap (λ divide. listed_distances divide c.in_ok-n.n c.in_ok-n.taken (c.in_ok-n.n * c.in_ok-n.n)) c.divisor.ensures.value in
     let has = has_rows c.args.terms.now c.args.bytes.now c.in_ok-n.n c.in_ok-n.taken c.in_ok-flows.flows c.in_ok-flows.distances listing whole flows divided in
     rw c.parts.ensures has

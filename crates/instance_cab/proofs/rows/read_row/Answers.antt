@@ -1,7 +1,7 @@
 use Rattle.std.proofs.Common.{◌≡◌, refl, rules, arith}
 use Rattle.file_spec.specs.Places.{a_flow, a_distance, an_index}
 use Rattle.token_reader.specs.Unread.{value_here}
-use Rattle.instance_cab.specs.Rows.{commodity_here, listed_here}
+use Rattle.instance_cab.specs.ListedRows.{commodity_here, listed_here}
 use Rattle.instance_cab.proofs.RowTokens.{IsReadInRow, row_begins, field_read, field_stopped, row_legal}
 use Rattle.instance_cab.proofs.rows.read_row.Goals as goal
 

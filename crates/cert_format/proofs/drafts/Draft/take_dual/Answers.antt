@@ -1,7 +1,8 @@
 use Rattle.std.proofs.Common.{◌+◌, ◌∙◌, sym, ap, subst}
-use Rattle.hub_spec.specs.Lines.{says_dual}
-use Rattle.hub_spec.specs.Grammar as grammar
-use Rattle.hub_spec.specs.Grammar.{after, commodity_at}
+use Rattle.cert_spec.specs.Lines.{says_dual}
+use Rattle.cert_spec.specs.Grammar as grammar
+use Rattle.cert_spec.specs.Grammar.{after, shape}
+use Rattle.hub_spec.specs.Problem.{commodity_at}
 use Rattle.cert_format.specs.Said.{IsSaid, SaysNothing}
 use Rattle.cert_format.specs.Gathered.{with_duals}
 use Rattle.cert_format.specs.Drafts.{gathered_of}
@@ -19,6 +20,6 @@ returns c =
     record {
       item = item;
       said = subst (λ stage. IsSaid stage c.args.word.now c.args.numbers.now item) (sym c.requires.at) (some c.args.all c.args.x);
-      stage = c.after_dual-self.ensures ∙ ap (λ n. grammar.after_dual n c.args.all c.args.x (c.args.t + 1)) c.in_ok-end_cut.ensures.size ∙ sym (ap (λ stage. after stage item) c.requires.at);
+      stage = c.after_dual-self.ensures ∙ ap (λ n. grammar.after_dual (shape n) c.args.all c.args.x (c.args.t + 1)) c.in_ok-end_cut.ensures.size ∙ sym (ap (λ stage. after stage item) c.requires.at);
       gathered = c.in_ok-end_cut.ensures.gathered ∙ ap (with_duals (gathered_of c.args.self.now)) c.in_ok-push.ensures.items;
     }

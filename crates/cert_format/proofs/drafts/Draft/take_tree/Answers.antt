@@ -1,7 +1,7 @@
 use Rattle.std.proofs.Common.{◌∙◌, map, sym, ap, subst}
 use Rattle.std.proofs.lemmas.List.{map_push}
-use Rattle.hub_spec.specs.Lines.{says_tree}
-use Rattle.hub_spec.specs.Grammar.{after}
+use Rattle.cert_spec.specs.Lines.{says_tree}
+use Rattle.cert_spec.specs.Grammar.{after, shape}
 use Rattle.hub_model.specs.Lines.{tree_line_of}
 use Rattle.cert_format.specs.Said.{IsSaid}
 use Rattle.cert_format.specs.Drafts.{gathered_of}
@@ -15,6 +15,6 @@ returns c =
     record {
       item = item;
       said = subst (λ stage. IsSaid stage c.args.word.now c.args.numbers.now item) (sym c.requires.at) (record { wanted = (line.legal, next.0); keyword_is = line.keyword_is; numbers_are = line.numbers_are });
-      stage = next.1 c.args.self.now.size ∙ sym (ap (λ stage. after stage item) c.requires.at);
+      stage = next.1 (shape c.args.self.now.size) ∙ sym (ap (λ stage. after stage item) c.requires.at);
       gathered = ap (λ lines. record (gathered_of c.args.self.now) { lines = lines }) (ap (map tree_line_of) c.in_ok-push.ensures.items ∙ map_push tree_line_of c.args.self.now.lines.items c.in-Some.line);
     }

@@ -1,0 +1,51 @@
+-- What the check of a text comes to, and what that proves of the plan that the text names.
+use Rattle.std.specs.Prelude.{◌≡◌, ℕ, List}
+use Rattle.hub_spec.specs.Problem.{Problem}
+use Rattle.hub_spec.specs.Plans.{IsPlan, IsOptimal, NoPlanBelow, plan_cost}
+use Rattle.hub_spec.specs.Certificates.{Proof}
+use Rattle.hub_model.specs.Amounts.{natural}
+use Rattle.cert_spec.specs.Text.{Spells}
+use Rattle.cert_spec.specs.Grammar.{bad_line, ended}
+use Rattle.cert_spec.specs.Verdicts.{Verdict, optimal, bounds, fails, misread, too_long}
+use Rattle.cert_checker.specs.declared.kinds.Verdict as answer
+use Rattle.cert_checker.specs.declared.texts.Ending.{Ending}
+use Rattle.cert_checker.specs.declared.texts.Ending.TheVariants.{Optimal, Bounds, No, BadLine, Ended, TooLong}
+use Rattle.cert_checker.specs.Answers.{kind_of}
+
+-- the verdict that an ending stands for
+abbrev pub verdict_of : Ending → Verdict
+verdict_of (Optimal cost) = optimal (natural cost)
+verdict_of (Bounds bound cost) = bounds (natural bound) (natural cost)
+verdict_of (No kind line) = fails (kind_of kind) line
+verdict_of (BadLine line) = misread (bad_line line)
+verdict_of (Ended line) = misread (ended line)
+verdict_of TooLong = too_long
+
+-- the verdict on a certificate's text, by that on the certificate
+abbrev pub verdict_on : Proof → answer.Verdict → Verdict
+verdict_on k answer.TheVariants.Optimal = optimal k.cost
+verdict_on k answer.TheVariants.Bounds = bounds k.bound k.cost
+verdict_on k (answer.TheVariants.No kind line) = fails (kind_of kind) line
+
+-- the bytes spell a certificate that names a plan of this cost, and no plan of the instance costs less
+pub record ProvesOptimal (p : Problem) (bytes : List ℕ) (cost : ℕ) : Type 0 where
+  pub certificate : Proof
+  pub spelled : Spells bytes certificate
+  pub stated : certificate.cost ≡ cost
+  pub paid : plan_cost p certificate.plan ≡ cost
+  pub optimal : IsOptimal p certificate.plan
+
+-- the bytes spell a certificate that names a plan of this cost, and no plan of the instance costs less than the bound
+pub record ProvesBound (p : Problem) (bytes : List ℕ) (bound cost : ℕ) : Type 0 where
+  pub certificate : Proof
+  pub spelled : Spells bytes certificate
+  pub plan : IsPlan p certificate.plan
+  pub stated : certificate.cost ≡ cost
+  pub paid : plan_cost p certificate.plan ≡ cost
+  pub below : NoPlanBelow p bound
+
+-- what a verdict says beyond that it is the one on the bytes
+abbrev pub Proves : Problem → List ℕ → Verdict → Type 0
+Proves p bytes (optimal cost) = ProvesOptimal p bytes cost
+Proves p bytes (bounds bound cost) = ProvesBound p bytes bound cost
+Proves p bytes verdict = Unit {0}

@@ -1,0 +1,67 @@
+//! The check of the bytes of a certificate.
+
+ghost use Rattle.std.specs.Prelude.{◌≡◌, IfOk};
+ghost use Rattle.cert_spec.specs.Verdicts.{Why};
+ghost use Rattle.cert_checker.specs.Shows.{verdict_of, verdict_on, Proves};
+
+use crate::checks::check;
+use crate::kinds::{Kind, Verdict};
+use cert_format::{CertFault, Certificate, read_cert};
+use hub_model::Instance;
+use std::alloc::{AllocError, Global};
+
+// A certificate's text may have at most this many bytes: 2^30.
+const MOST_BYTES: usize = 1_073_741_824;
+
+/// How a check of bytes ends. Costs are in 10^-12, and lines count from 1.
+#[derive(Clone, Copy, Debug, PartialEq, Eq)]
+pub enum Ending {
+    /// They name a plan of this cost, and it is optimal.
+    Optimal { cost: i128 },
+    /// They name a plan of this cost, and no plan costs less than the bound, which is below that.
+    Bounds { bound: i128, cost: i128 },
+    /// They are a certificate of which the first condition that fails is of this kind, at this line.
+    No { kind: Kind, line: u64 },
+    /// This line is not as wanted, or something stands after the last line.
+    BadLine { line: u64 },
+    /// They end before this line ends.
+    Ended { line: u64 },
+    /// They are more than 2^30.
+    TooLong,
+}
+
+/// What these bytes show of the plan that they name for the instance. They are read as a certificate, whose conditions
+/// are then tried. The only error is want of memory.
+pub fn check_text(alloc: Global, instance: &Instance, bytes: &[u8]) -> Result<Ending, AllocError>
+    ensures why { IfOk result (λ e. Why instance.now bytes.now (verdict_of e)) }
+    ensures proves { IfOk result (λ e. Proves instance.now bytes.now (verdict_of e)) }
+{
+    if bytes.len() > MOST_BYTES {
+        return Ok(Ending::TooLong);
+    }
+    match read_cert(alloc, bytes) {
+        Ok(certificate) => {
+            let verdict = check(alloc, instance, &certificate)?;
+            Ok(ending_of(&certificate, verdict))
+        }
+        Err(CertFault::BadLine { line }) => Ok(Ending::BadLine { line }),
+        Err(CertFault::Ended { line }) => Ok(Ending::Ended { line }),
+        Err(CertFault::OutOfMemory) => Err(AllocError),
+    }
+}
+
+// The ending of the check of a certificate of which this is the verdict.
+fn ending_of(certificate: &Certificate, verdict: Verdict) -> Ending
+    ensures { verdict_of result ≡ verdict_on certificate.now verdict }
+{
+    match verdict {
+        Verdict::Optimal => Ending::Optimal {
+            cost: certificate.cost(),
+        },
+        Verdict::Bounds => Ending::Bounds {
+            bound: certificate.bound(),
+            cost: certificate.cost(),
+        },
+        Verdict::No { kind, line } => Ending::No { kind, line },
+    }
+}

@@ -1,0 +1,27 @@
+-- How a line is written: its first word, and numbers behind it, each behind a space.
+use Rattle.std.specs.Prelude.{ℕ, ℤ, ◌+◌, List, [], ◌∷◌, ◌++◌, flat_map, decimal}
+use Rattle.hub_model.specs.Amounts.{natural}
+
+-- a number behind a space
+abbrev pub spaced : ℕ → List ℕ
+spaced n = 32 ∷ decimal n
+
+-- the first word, and each number behind a space
+abbrev pub words_text : List ℕ → List ℕ → List ℕ
+words_text keyword numbers = keyword ++ flat_map spaced numbers
+
+-- and a line feed
+abbrev pub words_line : List ℕ → List ℕ → List ℕ
+words_line keyword numbers = words_text keyword numbers ++ 10 ∷ []
+
+-- the number of a node, behind a space
+abbrev pub spaced_node : ℕ → List ℕ
+spaced_node k = spaced (k + 1)
+
+-- a node and its value, each behind a space
+abbrev pub spaced_value : ℕ × ℤ → List ℕ
+spaced_value e = flat_map spaced ((e.0 + 1) ∷ natural e.1 ∷ [])
+
+-- the number of a cut and its weight, each behind a space
+abbrev pub spaced_weight : ℤ × ℤ → List ℕ
+spaced_weight e = flat_map spaced (natural e.0 ∷ natural e.1 ∷ [])

@@ -1,0 +1,12 @@
+pub mod Claims
+pub mod Decided
+pub mod VerdictLemmas
+pub mod Items
+pub mod Numbers
+pub mod Decoding
+pub mod Wanted
+pub mod Leads
+pub mod Stages
+pub mod LeadsBack
+pub mod OneText
+pub mod TextOrFault

@@ -1,0 +1,276 @@
+-- The reading of a line at a stage: it gives an item exactly where the line may stand there and says it.
+use Rattle.std.proofs.Common.{◌≡◌, ℕ, ◌+◌, ◌-◌, ◌*◌, ◌/◌, ◌%◌, ◌^◌, ◌<◌, ◌≤◌, Bool, true, false, not, ◌&&◌, ◌||◌, List, [], ◌∷◌, length, map, get_or, decimal, All, Decides, Some, None, nat_eq, nat_lt, nat_le, inl, inr, refl, sym, ap, ◌∙◌, subst, arith, add-one, zero, suc}
+use Rattle.std.specs.Prelude.{option_and_then}
+use Rattle.std.specs.List.{AllByRecursion, join_with_byte, slice_split, list_all}
+use Rattle.std.specs.List.Sorted.{IsStrictlyIncreasing}
+use Rattle.std.proofs.lemmas.Bool.{and_from, and_parts, or_cases, or_left, or_right, cases_Bool, cond-true, ltb-true, lt-ltb, leb-true, le-leb, eqb-true, eq-eqb, not-true, not_from_false, false≢true, both_ways}
+use Rattle.std.proofs.lemmas.Bool.Decides.{Decides-by_and}
+use Rattle.std.proofs.lemmas.Option.{cond_some, none-some, same_Some}
+use Rattle.std.proofs.lemmas.List.Splits.{join_with_byte-slice_split}
+use Rattle.std.proofs.lemmas.List.Elements.{recursion_from_All}
+use Rattle.std.proofs.lemmas.Nat.{div_below, mod_below}
+use Rattle.hub_spec.specs.Limits.{most_nodes, most_denominator, most_cuts, most_tree_lines}
+use Rattle.hub_spec.specs.Problem.{commodity_at}
+use Rattle.hub_spec.specs.Cuts.{Prices}
+use Rattle.hub_spec.specs.Trees.{TreeLine, branch_on, leaf_of, no_hub}
+use Rattle.cert_spec.specs.Lines.{Item, says_version, says_size, says_cost, says_bound, says_hubs, says_route, says_cuts, says_cut, says_dual, says_nodes, says_tree, says_end, keyword, numbers, value_numbers, weight_numbers, line_text}
+use Rattle.hub_spec.specs.Ranges.{IsShort, IsAmount, IsDualInRange, AreWeightsInRange, IsLineInRange}
+use Rattle.cert_spec.specs.Grammar.{Stage, want_version, want_size, want_end, want_cost, want_bound, want_hubs, want_cuts, want_nodes, want_route, want_cut, want_dual, want_tree, places_after, IsOpen, Wants, IsLine}
+use Rattle.cert_spec.specs.Reading.{is_short, is_amount, ascends, same_pair, is_dual_text, is_weights_text, is_tree_line_text, is_open, wants, if_wanted, item_of, item_of_words, numbers_of, wanted_item, IsStage, LinesReadBack}
+use Rattle.cert_spec.proofs.Numbers.{IsWord, IsWord-decimal, IsWord-tested, slice_split-joined, no_line_feed}
+use Rattle.cert_spec.proofs.Decoding.{and_then_some, numbers_of-decimals, decimals-numbers_of, item_of-same, item_of-back}
+
+Decides-leb : (a b : ℕ) → Decides (nat_le a b) (a ≤ b)
+Decides-leb a b = (leb-true a b, le-leb a b)
+
+Decides-ltb : (a b : ℕ) → Decides (nat_lt a b) (a < b)
+Decides-ltb a b = (ltb-true a b, lt-ltb a b)
+
+Decides-eqb : (a b : ℕ) → Decides (nat_eq a b) (a ≡ b)
+Decides-eqb a b = (eqb-true a b, eq-eqb a b)
+
+short_decides : (n : ℕ) → Decides (is_short n) (IsShort n)
+short_decides n = Decides-ltb n (10 ^ 30)
+
+amount_decides : (n : ℕ) → Decides (is_amount n) (IsAmount n)
+amount_decides n = Decides-ltb n (10 ^ 30)
+
+both : {P Q : Type 0} (x y : Bool) → Decides x P → Decides y Q → Decides (x && y) (P × Q)
+both x y p q = (λ e. (let k = and_parts x y e in (p.0 k.0, q.0 k.1)), λ h. and_from x y (p.1 h.0) (q.1 h.1))
+
+all_three : {P Q R : Type 0} (x y z : Bool) → Decides x P → Decides y Q → Decides z R → Decides (x && (y && z)) (P × Q × R)
+all_three x y z p q r = (
+  λ e. (let k = and_parts x (y && z) e in let m = and_parts y z k.1 in (p.0 k.0, q.0 m.0, r.0 m.1)),
+  λ h. and_from x (y && z) (p.1 h.0) (and_from y z (q.1 h.1) (r.1 h.2)),
+)
+
+all_four : {P Q R S : Type 0} (x y z w : Bool) → Decides x P → Decides y Q → Decides z R → Decides w S
+    → Decides (x && (y && (z && w))) (P × Q × R × S)
+all_four x y z w p q r s = (
+  λ e. (let k = and_parts x (y && (z && w)) e in let m = and_parts y (z && w) k.1 in let n = and_parts z w m.1 in (p.0 k.0, q.0 m.0, r.0 n.0, s.0 n.1)),
+  λ h. and_from x (y && (z && w)) (p.1 h.0) (and_from y (z && w) (q.1 h.1) (and_from z w (r.1 h.2) (s.1 h.3))),
+)
+
+implies : {P Q : Type 0} (x y : Bool) → Decides x P → Decides y Q → Decides (not x || y) (P → Q)
+implies x y p q = (
+  λ e h. elim (or_cases (not x) y e) [ inl off ↦ absurd (both_ways x (not-true x off) (p.1 h)) | inr on ↦ q.0 on ],
+  λ f. elim (cases_Bool x) [ inl on ↦ or_right (not x) y (q.1 (f (p.0 on))) | inr off ↦ or_left (not x) y (not_from_false x off) ],
+)
+
+-- the test of an ascending list
+Rises : List ℕ → Type 0
+Rises xs = (k : ℕ) → suc k < length xs → get_or xs k 0 < get_or xs (suc k) 0
+
+rises_more : (x y : ℕ) (rest : List ℕ) → (ascends (y ∷ rest) ≡ true → Rises (y ∷ rest)) → (nat_lt x y && ascends (y ∷ rest)) ≡ true → Rises (x ∷ y ∷ rest)
+unfolding Rises
+rises_more x y rest more e zero h = ltb-true x y (and_parts (nat_lt x y) (ascends (y ∷ rest)) e).0
+rises_more x y rest more e (suc k) h = more (and_parts (nat_lt x y) (ascends (y ∷ rest)) e).1 k (omega (arith, h))
+
+rises_decides : (xs : List ℕ) → Decides (ascends xs) (Rises xs)
+unfolding Rises
+rises_decides [] = (λ e k h. absurd (omega (arith, h)), λ h. refl)
+rises_decides (x ∷ []) = (λ e k h. absurd (omega (arith, h)), λ h. refl)
+rises_decides (x ∷ y ∷ rest) = (
+  rises_more x y rest (rises_decides (y ∷ rest)).0,
+  λ h. and_from (nat_lt x y) (ascends (y ∷ rest)) (lt-ltb x y (h 0 (omega arith))) ((rises_decides (y ∷ rest)).1 (λ k m. h (suc k) (omega (arith, m)))),
+)
+
+ascends_decides : (xs : List ℕ) → Decides (ascends xs) (IsStrictlyIncreasing xs)
+unfolding Rises
+ascends_decides xs = (
+  λ e k. subst (λ m. m < length xs → get_or xs k 0 < get_or xs m 0) (sym (add-one k)) ((rises_decides xs).0 e k),
+  λ h. (rises_decides xs).1 (λ k. subst (λ m. m < length xs → get_or xs k 0 < get_or xs m 0) (add-one k) (h k)),
+)
+
+all_decides : {X : Type 0} (p : X → Bool) (P : X → Type 0) → ((x : X) → Decides (p x) (P x)) → (xs : List X) → Decides (list_all p xs) (All P xs)
+all_decides p P each xs = Decides-by_and p P (list_all p) each refl (λ _ _. refl) xs
+
+same_pair_decides : (a b : ℕ × ℕ) → Decides (same_pair a b) (a ≡ b)
+same_pair_decides a b = (
+  λ e. (let k = and_parts (nat_eq a.0 b.0) (nat_eq a.1 b.1) e in let first = eqb-true a.0 b.0 k.0 in let last = eqb-true a.1 b.1 k.1 in λ i. (first i, last i)),
+  λ e. and_from (nat_eq a.0 b.0) (nat_eq a.1 b.1) (eq-eqb a.0 b.0 (ap (λ p. p.0) e)) (eq-eqb a.1 b.1 (ap (λ p. p.1) e)),
+)
+
+dual_decides : (n : ℕ) (dual : Prices) → Decides (is_dual_text n dual) (IsDualInRange n dual)
+dual_decides n dual =
+    let k = all_three (is_amount dual.a) (ascends (map (λ (e : ℕ × ℕ). e.0) dual.u)) (list_all (λ (e : ℕ × ℕ). nat_lt e.0 n && (nat_le 1 e.1 && is_amount e.1)) dual.u)
+    (amount_decides dual.a) (ascends_decides (map (λ (e : ℕ × ℕ). e.0) dual.u))
+    (all_decides (λ (e : ℕ × ℕ). nat_lt e.0 n && (nat_le 1 e.1 && is_amount e.1)) (λ (e : ℕ × ℕ). (e.0 < n) × (1 ≤ e.1) × IsAmount e.1)
+    (λ e. all_three (nat_lt e.0 n) (nat_le 1 e.1) (is_amount e.1) (Decides-ltb e.0 n) (Decides-leb 1 e.1) (amount_decides e.1)) dual.u) in
+    (λ e. record { a = (k.0 e).0; ascend = (k.0 e).1; each = (k.0 e).2 }, λ h. k.1 (h.a, h.ascend, h.each))
+
+weights_decides : (weights : List (ℕ × ℕ)) → Decides (is_weights_text weights) (AreWeightsInRange weights)
+weights_decides weights =
+    let k = both (ascends (map (λ (e : ℕ × ℕ). e.0) weights)) (list_all (λ (e : ℕ × ℕ). nat_le 1 e.0 && (is_short e.0 && (nat_le 1 e.1 && is_short e.1))) weights)
+    (ascends_decides (map (λ (e : ℕ × ℕ). e.0) weights))
+    (all_decides (λ (e : ℕ × ℕ). nat_le 1 e.0 && (is_short e.0 && (nat_le 1 e.1 && is_short e.1))) (λ (e : ℕ × ℕ). (1 ≤ e.0) × IsShort e.0 × (1 ≤ e.1) × IsShort e.1)
+    (λ e. all_four (nat_le 1 e.0) (is_short e.0) (nat_le 1 e.1) (is_short e.1) (Decides-leb 1 e.0) (short_decides e.0) (Decides-leb 1 e.1) (short_decides e.1)) weights) in
+    (λ e. record { ascend = (k.0 e).0; each = (k.0 e).1 }, λ h. k.1 (h.ascend, h.each))
+
+tree_line_decides : (n : ℕ) (line : TreeLine) → Decides (is_tree_line_text n line) (IsLineInRange n line)
+tree_line_decides n (branch_on k) = Decides-ltb k n
+tree_line_decides n (leaf_of denom weights) =
+    all_three (nat_le 1 denom) (nat_le denom most_denominator) (is_weights_text weights) (Decides-leb 1 denom) (Decides-leb denom most_denominator) (weights_decides weights)
+tree_line_decides n no_hub = (λ e. tt, λ h. refl)
+
+open_decides : (places left : ℕ) → Decides (is_open places left) (IsOpen places left)
+open_decides places left = both (nat_le places left) (not (nat_eq places 0) || nat_eq left 0) (Decides-leb places left)
+    (implies (nat_eq places 0) (nat_eq left 0) (Decides-eqb places 0) (Decides-eqb left 0))
+
+pub wants_decides : (stage : Stage) (item : Item) → Decides (wants stage item) (Wants stage item)
+wants_decides want_version says_version = (λ e. tt, λ h. refl)
+wants_decides want_size (says_size n q) = all_four (nat_le 1 n) (nat_le n most_nodes) (nat_le 1 q) (nat_le q n) (Decides-leb 1 n) (Decides-leb n most_nodes) (Decides-leb 1 q) (Decides-leb q n)
+wants_decides (want_cost s) (says_cost c) = short_decides c
+wants_decides (want_bound s) (says_bound b) = short_decides b
+wants_decides (want_hubs s) (says_hubs hubs) = all_three (nat_le 1 (length hubs)) (ascends hubs) (list_all (λ k. nat_lt k s.size) hubs)
+    (Decides-leb 1 (length hubs)) (ascends_decides hubs) (all_decides (λ k. nat_lt k s.size) (λ k. k < s.size) (λ k. Decides-ltb k s.size) hubs)
+wants_decides (want_route s t) (says_route commodity route) =
+    all_three (same_pair commodity (commodity_at s.size t)) (nat_lt route.0 s.size) (nat_lt route.1 s.size) (same_pair_decides commodity (commodity_at s.size t)) (Decides-ltb route.0 s.size) (Decides-ltb route.1 s.size)
+wants_decides (want_cuts s) (says_cuts all) = Decides-leb all most_cuts
+wants_decides (want_cut s all x) (says_cut number) = Decides-eqb number (x + 1)
+wants_decides (want_dual s all x t) (says_dual commodity dual) =
+    both (same_pair commodity (commodity_at s.size t)) (is_dual_text s.size dual) (same_pair_decides commodity (commodity_at s.size t)) (dual_decides s.size dual)
+wants_decides (want_nodes s) (says_nodes all) = both (nat_le 1 all) (nat_le all most_tree_lines) (Decides-leb 1 all) (Decides-leb all most_tree_lines)
+wants_decides (want_tree s places left) (says_tree line) =
+    both (is_tree_line_text s.size line) (is_open (places_after places line) (left - 1)) (tree_line_decides s.size line) (open_decides (places_after places line) (left - 1))
+wants_decides want_end says_end = (λ e. tt, λ h. refl)
+wants_decides stage item = (λ e. absurd (false≢true e), λ h. absurd h)
+
+-- the numbers of a line that may stand at a stage are short
+AreShort : List ℕ → Type 0
+AreShort ns = AllByRecursion IsShort ns
+
+short_nodes : (n : ℕ) (ks : List ℕ) → n ≤ most_nodes → AllByRecursion (λ k. k < n) ks → AreShort (map (λ k. k + 1) ks)
+unfolding AreShort
+short_nodes n [] few h = tt
+short_nodes n (k ∷ ks) few h = (omega (arith, h.0), short_nodes n ks few h.1)
+
+short_values : (n : ℕ) (u : List (ℕ × ℕ)) → n ≤ most_nodes → AllByRecursion (λ (e : ℕ × ℕ). (e.0 < n) × (1 ≤ e.1) × IsAmount e.1) u → AreShort (value_numbers u)
+unfolding AreShort
+short_values n [] few h = tt
+short_values n (e ∷ u) few h = (omega (arith, h.0.0), (omega (arith, h.0.2), short_values n u few h.1))
+
+short_weights : (weights : List (ℕ × ℕ)) → AllByRecursion (λ (e : ℕ × ℕ). (1 ≤ e.0) × IsShort e.0 × (1 ≤ e.1) × IsShort e.1) weights → AreShort (weight_numbers weights)
+unfolding AreShort
+short_weights [] h = tt
+short_weights (e ∷ weights) h = (h.0.1, (h.0.3, short_weights weights h.1))
+
+-- the nodes of a commodity
+pub commodity_nodes : (n t : ℕ) (c : ℕ × ℕ) → 1 ≤ n → t < n * n → c ≡ commodity_at n t → (c.0 < n) × (c.1 < n)
+commodity_nodes n t c some below e =
+    let first : c.0 ≡ t / n = ap (λ p. p.0) e in
+    let last : c.1 ≡ t % n = ap (λ p. p.1) e in
+    let row : t / n < n = div_below t n n some below in
+    let column : t % n < n = mod_below t n some in
+    (omega arith, omega arith)
+
+short_tree_line : (n : ℕ) (line : TreeLine) → n ≤ most_nodes → IsLineInRange n line → AreShort (numbers (says_tree line))
+unfolding AreShort
+short_tree_line n (branch_on k) few h = (omega (arith, h), tt)
+short_tree_line n (leaf_of denom weights) few h = (omega (arith, h.1), short_weights weights (recursion_from_All (λ (e : ℕ × ℕ). (1 ≤ e.0) × IsShort e.0 × (1 ≤ e.1) × IsShort e.1) weights h.2.each))
+short_tree_line n no_hub few h = tt
+
+short_numbers : (stage : Stage) (item : Item) → IsStage stage → Wants stage item → AreShort (numbers item)
+unfolding AreShort
+short_numbers want_version says_version ok h = (omega arith, tt)
+short_numbers want_size (says_size n q) ok h = (omega (arith, h.1), (omega (arith, h.1, h.3), tt))
+short_numbers (want_cost s) (says_cost c) ok h = (h, tt)
+short_numbers (want_bound s) (says_bound b) ok h = (h, tt)
+short_numbers (want_hubs s) (says_hubs hubs) ok h = short_nodes s.size hubs ok.1 (recursion_from_All (λ k. k < s.size) hubs h.2)
+short_numbers (want_route s t) (says_route commodity route) ok h =
+    let c = commodity_nodes s.size t commodity ok.0.0 ok.1 h.0 in
+    (omega (arith, c.0, ok.0.1), (omega (arith, c.1, ok.0.1), (omega (arith, h.1, ok.0.1), (omega (arith, h.2, ok.0.1), tt))))
+short_numbers (want_cuts s) (says_cuts all) ok h = (omega (arith, h), tt)
+short_numbers (want_cut s all x) (says_cut number) ok h = (omega (arith, h, ok.1.0, ok.1.1), tt)
+short_numbers (want_dual s all x t) (says_dual commodity dual) ok h =
+    let c = commodity_nodes s.size t commodity ok.0.0 ok.2 h.0 in (
+      omega (arith, c.0, ok.0.1),
+      (
+        omega (arith, c.1, ok.0.1),
+        (
+          omega (arith, h.1.a),
+          short_values s.size dual.u ok.0.1 (recursion_from_All (λ (e : ℕ × ℕ). (e.0 < s.size) × (1 ≤ e.1) × IsAmount e.1) dual.u h.1.each),
+        ),
+      ),
+    )
+short_numbers (want_nodes s) (says_nodes all) ok h = (omega (arith, h.1), tt)
+short_numbers (want_tree s places left) (says_tree line) ok h = short_tree_line s.size line ok.1 h.0
+short_numbers want_end says_end ok h = tt
+short_numbers stage item ok h = absurd h
+
+-- keywords and decimals are words
+keyword_is_word : (item : Item) → IsWord (keyword item)
+keyword_is_word says_version = IsWord-tested (keyword says_version) refl
+keyword_is_word (says_size n q) = IsWord-tested _ refl
+keyword_is_word (says_cost c) = IsWord-tested _ refl
+keyword_is_word (says_bound b) = IsWord-tested _ refl
+keyword_is_word (says_hubs hubs) = IsWord-tested _ refl
+keyword_is_word (says_route commodity route) = IsWord-tested _ refl
+keyword_is_word (says_cuts all) = IsWord-tested _ refl
+keyword_is_word (says_cut number) = IsWord-tested _ refl
+keyword_is_word (says_dual commodity dual) = IsWord-tested _ refl
+keyword_is_word (says_nodes all) = IsWord-tested _ refl
+keyword_is_word (says_tree (branch_on k)) = IsWord-tested _ refl
+keyword_is_word (says_tree (leaf_of denom weights)) = IsWord-tested _ refl
+keyword_is_word (says_tree no_hub) = IsWord-tested _ refl
+keyword_is_word says_end = IsWord-tested _ refl
+
+decimals_are_words : (ns : List ℕ) → AreShort ns → AllByRecursion IsWord (map decimal ns)
+unfolding AreShort
+decimals_are_words [] h = tt
+decimals_are_words (n ∷ ns) h = (IsWord-decimal n (omega (arith, h.0)), decimals_are_words ns h.1)
+
+-- the words of a line
+words_of_line : (item : Item) → AreShort (numbers item) → slice_split (λ b. nat_eq b 32) (line_text item) ≡ keyword item ∷ map decimal (numbers item)
+unfolding line_text
+words_of_line item short = slice_split-joined (keyword item) (map decimal (numbers item)) (keyword_is_word item) (decimals_are_words (numbers item) short)
+
+-- a line has no line feed
+pub line_has_no_feed : (stage : Stage) (item : Item) → IsStage stage → Wants stage item → All (λ b. nat_eq b 10 ≡ false) (line_text item)
+unfolding line_text
+line_has_no_feed stage item s h =
+    no_line_feed (keyword item ∷ map decimal (numbers item)) (keyword_is_word item, decimals_are_words (numbers item) (short_numbers stage item s h))
+
+item_of_words-line : (item : Item) → AreShort (numbers item) → item_of_words (keyword item ∷ map decimal (numbers item)) ≡ Some item
+unfolding AreShort
+item_of_words-line item short =
+    ap (option_and_then (item_of (keyword item))) (numbers_of-decimals (numbers item) short) ∙ item_of-same item
+
+wanted_item-line : (stage : Stage) (item : Item) → IsStage stage → Wants stage item → wanted_item stage (line_text item) ≡ Some item
+unfolding wanted_item
+wanted_item-line stage item s h =
+    let short = short_numbers stage item s h in
+    ap (λ words. option_and_then (if_wanted stage) (item_of_words words)) (words_of_line item short)
+    ∙ ap (option_and_then (if_wanted stage)) (item_of_words-line item short)
+    ∙ cond-true (wants stage item) (Some item) None ((wants_decides stage item).1 h)
+
+-- the words that say an item are its line
+line_of_words : (words : List (List ℕ)) (item : Item) → item_of_words words ≡ Some item → join_with_byte 32 words ≡ line_text item
+unfolding line_text
+line_of_words [] item e = absurd (none-some item e)
+line_of_words (word ∷ words) item e =
+    let k = and_then_some (item_of word) (numbers_of words) item e in
+    let says = item_of-back word k.0 item k.2 in
+    ap (λ w. join_with_byte 32 (w ∷ words)) (sym says.keyword_is)
+    ∙ ap (λ ws. join_with_byte 32 (keyword item ∷ ws)) (sym (decimals-numbers_of words k.0 k.1))
+    ∙ ap (λ ns. join_with_byte 32 (keyword item ∷ map decimal ns)) (sym says.numbers_are)
+
+wanted_item-back : (stage : Stage) (line : List ℕ) (item : Item) → wanted_item stage line ≡ Some item → IsLine stage line item
+unfolding wanted_item
+wanted_item-back stage line item e =
+    let k = and_then_some (if_wanted stage) (item_of_words (slice_split (λ b. nat_eq b 32) line)) item e in
+    let m = cond_some (wants stage k.0) k.0 item k.2 in
+    let wanted : Wants stage item = subst (Wants stage) m.1 ((wants_decides stage k.0).0 m.0) in
+    let text : line ≡ line_text k.0 = sym (join_with_byte-slice_split 32 line) ∙ line_of_words (slice_split (λ b. nat_eq b 32) line) k.0 k.1 in
+    record { wanted = wanted; text = text ∙ ap line_text m.1 }
+
+pub lines_read_back_lem : LinesReadBack
+lines_read_back_lem stage line item s = (
+  wanted_item-back stage line item,
+  λ h. ap (wanted_item stage) h.text ∙ wanted_item-line stage item s h.wanted,
+)
+
+-- so a line says one item at most
+pub one_item : (stage : Stage) (line : List ℕ) (a b : Item) → IsStage stage → IsLine stage line a → IsLine stage line b → a ≡ b
+one_item stage line a b s h k =
+    same_Some a b (sym ((lines_read_back_lem stage line a s).1 h) ∙ (lines_read_back_lem stage line b s).1 k)

@@ -1,0 +1,230 @@
+-- The reading of one line, as a function: what a line says at a stage of the text, if it may stand there.
+use Rattle.std.specs.Prelude.{◌≡◌, ℕ, zero, suc, ◌+◌, ◌-◌, ◌*◌, ◌^◌, ◌<◌, ◌≤◌, ◌↔◌, Bool, true, false, not, ◌&&◌, ◌||◌, List, [], ◌∷◌, length, map, codes, Option, Some, None, option_map, option_and_then, slice_index, nat_eq, nat_lt, nat_le, bytes_eq, if◌then◌else◌}
+use Rattle.std.specs.List.{slice_split, list_all}
+use Rattle.std.specs.Option.{option_zip}
+use Rattle.std.specs.Str.{all_ascii_digits}
+use Rattle.std.specs.Str.Parse.{digits_value}
+use Rattle.hub_spec.specs.Limits.{most_nodes, most_denominator, most_cuts, most_tree_lines}
+use Rattle.hub_spec.specs.Problem.{commodity_at}
+use Rattle.hub_spec.specs.Cuts.{Prices}
+use Rattle.hub_spec.specs.Trees.{TreeLine, branch_on, leaf_of, no_hub}
+use Rattle.cert_spec.specs.Lines.{Item, says_version, says_size, says_cost, says_bound, says_hubs, says_route, says_cuts, says_cut, says_dual, says_nodes, says_tree, says_end}
+use Rattle.cert_spec.specs.Grammar.{Stage, want_version, want_size, want_end, want_nothing, want_cost, want_bound, want_hubs, want_cuts, want_nodes, want_route, want_cut, want_dual, want_tree, places_after, IsLine}
+
+-- decimal digits, at least one and at most 30, and no zero in front of another digit
+abbrev pub is_number : List ℕ → Bool
+is_number word =
+    all_ascii_digits word && (nat_le (length word) 30 && (nat_lt 48 (slice_index word 0) || nat_eq (length word) 1))
+
+-- the number that a word spells
+unfoldable pub number_of : List ℕ → Option ℕ
+number_of word = if is_number word then Some (digits_value 10 word) else None
+
+-- what f makes of each element, if it makes something of all
+abbrev pub each_of : {X Y : Type 0} → (X → Option Y) → List X → Option (List Y)
+each_of f [] = Some []
+each_of f (x ∷ xs) = option_and_then (λ y. option_map (λ ys. y ∷ ys) (each_of f xs)) (f x)
+
+-- the numbers that words spell
+abbrev pub numbers_of : List (List ℕ) → Option (List ℕ)
+numbers_of words = each_of number_of words
+
+-- the node that a line names by this number
+abbrev pub node_of : ℕ → Option ℕ
+node_of zero = None
+node_of (suc k) = Some k
+
+-- the numbers two by two
+abbrev pub pairs_of : List ℕ → Option (List (ℕ × ℕ))
+pairs_of [] = Some []
+pairs_of (a ∷ []) = None
+pairs_of (a ∷ b ∷ rest) = option_map (λ pairs. (a, b) ∷ pairs) (pairs_of rest)
+
+-- a node and its value
+abbrev pub value_of : ℕ × ℕ → Option (ℕ × ℕ)
+value_of e = option_map (λ k. (k, e.1)) (node_of e.0)
+
+-- the values that a dual lists
+abbrev pub values_of : List ℕ → Option (List (ℕ × ℕ))
+values_of numbers = option_and_then (each_of value_of) (pairs_of numbers)
+
+-- the first line has the number 1
+abbrev pub version_item : List ℕ → Option Item
+version_item (v ∷ []) = if nat_eq v 1 then Some says_version else None
+version_item other = None
+
+-- a line with no number
+abbrev pub bare_item : Item → List ℕ → Option Item
+bare_item item [] = Some item
+bare_item item other = None
+
+-- a line with one number
+abbrev pub number_item : (ℕ → Item) → List ℕ → Option Item
+number_item item (n ∷ []) = Some (item n)
+number_item item other = None
+
+-- the number of nodes, and of candidates
+abbrev pub size_item : List ℕ → Option Item
+size_item (n ∷ q ∷ []) = Some (says_size n q)
+size_item other = None
+
+-- the nodes that are hubs
+abbrev pub hubs_item : List ℕ → Option Item
+hubs_item numbers = option_map says_hubs (each_of node_of numbers)
+
+-- the nodes of a commodity, and the hubs of its route
+abbrev pub route_of_nodes : List ℕ → Option Item
+route_of_nodes (i ∷ j ∷ k ∷ m ∷ []) = Some (says_route (i, j) (k, m))
+route_of_nodes other = None
+
+-- a commodity and its route
+abbrev pub route_item : List ℕ → Option Item
+route_item numbers = option_and_then route_of_nodes (each_of node_of numbers)
+
+-- a commodity, its price, and values
+abbrev pub dual_item : List ℕ → Option Item
+dual_item (i ∷ j ∷ a ∷ rest) =
+    option_and_then (λ commodity. option_map (λ u. says_dual commodity (record { a = a; u = u })) (values_of rest))
+    (option_zip (node_of i) (node_of j))
+dual_item other = None
+
+-- the node of a branch
+abbrev pub branch_item : List ℕ → Option Item
+branch_item (k ∷ []) = option_map (λ m. says_tree (branch_on m)) (node_of k)
+branch_item other = None
+
+-- the denominator and the weights of a leaf
+abbrev pub leaf_item : List ℕ → Option Item
+leaf_item (denom ∷ rest) = option_map (λ weights. says_tree (leaf_of denom weights)) (pairs_of rest)
+leaf_item other = None
+
+-- each keyword, with how the numbers after it are read
+abbrev pub readers : List (List ℕ × (List ℕ → Option Item))
+readers =
+    (codes "HUBCERT", version_item)
+    ∷ (codes "size", size_item)
+    ∷ (codes "cost", number_item says_cost)
+    ∷ (codes "bound", number_item says_bound)
+    ∷ (codes "hubs", hubs_item)
+    ∷ (codes "route", route_item)
+    ∷ (codes "cuts", number_item says_cuts)
+    ∷ (codes "cut", number_item says_cut)
+    ∷ (codes "dual", dual_item)
+    ∷ (codes "nodes", number_item says_nodes)
+    ∷ (codes "branch", branch_item)
+    ∷ (codes "leaf", leaf_item)
+    ∷ (codes "empty", bare_item (says_tree no_hub))
+    ∷ (codes "end", bare_item says_end)
+    ∷ []
+
+-- what the first reader of this keyword makes of the numbers
+abbrev pub read_by : List (List ℕ × (List ℕ → Option Item)) → List ℕ → List ℕ → Option Item
+read_by [] keyword numbers = None
+read_by (r ∷ rest) keyword numbers = if bytes_eq r.0 keyword then r.1 numbers else read_by rest keyword numbers
+
+-- what a keyword and the numbers after it say
+unfoldable pub item_of : List ℕ → List ℕ → Option Item
+item_of keyword numbers = read_by readers keyword numbers
+
+-- what the words of a line say
+abbrev pub item_of_words : List (List ℕ) → Option Item
+item_of_words [] = None
+item_of_words (keyword ∷ words) = option_and_then (item_of keyword) (numbers_of words)
+
+-- a number of at most 30 digits
+abbrev pub is_short : ℕ → Bool
+is_short n = nat_lt n (10 ^ 30)
+
+-- what a price or a value may be
+abbrev pub is_amount : ℕ → Bool
+is_amount n = nat_lt n (10 ^ 30)
+
+-- each number is below the one after it
+abbrev pub ascends : List ℕ → Bool
+ascends [] = true
+ascends (x ∷ []) = true
+ascends (x ∷ y ∷ rest) = nat_lt x y && ascends (y ∷ rest)
+
+-- the same pair
+abbrev pub same_pair : ℕ × ℕ → ℕ × ℕ → Bool
+same_pair a b = nat_eq a.0 b.0 && nat_eq a.1 b.1
+
+-- a dual that a line can list
+abbrev pub is_dual_text : ℕ → Prices → Bool
+is_dual_text n dual =
+    is_amount dual.a
+    && (ascends (map (λ (e : ℕ × ℕ). e.0) dual.u)
+    && list_all (λ (e : ℕ × ℕ). nat_lt e.0 n && (nat_le 1 e.1 && is_amount e.1)) dual.u)
+
+-- weights that a line can list
+abbrev pub is_weights_text : List (ℕ × ℕ) → Bool
+is_weights_text weights =
+    ascends (map (λ (e : ℕ × ℕ). e.0) weights)
+    && list_all (λ (e : ℕ × ℕ). nat_le 1 e.0 && (is_short e.0 && (nat_le 1 e.1 && is_short e.1))) weights
+
+-- what a tree line can say
+abbrev pub is_tree_line_text : ℕ → TreeLine → Bool
+is_tree_line_text n (branch_on k) = nat_lt k n
+is_tree_line_text n (leaf_of denom weights) = nat_le 1 denom && (nat_le denom most_denominator && is_weights_text weights)
+is_tree_line_text n no_hub = true
+
+-- no more places than lines are left, and no line is left where no place is
+abbrev pub is_open : ℕ → ℕ → Bool
+is_open places left = nat_le places left && (not (nat_eq places 0) || nat_eq left 0)
+
+-- the line may stand at this stage
+abbrev pub wants : Stage → Item → Bool
+wants want_version says_version = true
+wants want_size (says_size n q) = nat_le 1 n && (nat_le n most_nodes && (nat_le 1 q && nat_le q n))
+wants (want_cost s) (says_cost c) = is_short c
+wants (want_bound s) (says_bound b) = is_short b
+wants (want_hubs s) (says_hubs hubs) =
+    nat_le 1 (length hubs) && (ascends hubs && list_all (λ k. nat_lt k s.size) hubs)
+wants (want_route s t) (says_route commodity route) =
+    same_pair commodity (commodity_at s.size t) && (nat_lt route.0 s.size && nat_lt route.1 s.size)
+wants (want_cuts s) (says_cuts all) = nat_le all most_cuts
+wants (want_cut s all x) (says_cut number) = nat_eq number (x + 1)
+wants (want_dual s all x t) (says_dual commodity dual) =
+    same_pair commodity (commodity_at s.size t) && is_dual_text s.size dual
+wants (want_nodes s) (says_nodes all) = nat_le 1 all && nat_le all most_tree_lines
+wants (want_tree s places left) (says_tree line) =
+    is_tree_line_text s.size line && is_open (places_after places line) (left - 1)
+wants want_end says_end = true
+wants stage item = false
+
+-- the item, if it may stand at this stage
+abbrev pub if_wanted : Stage → Item → Option Item
+if_wanted stage item = if wants stage item then Some item else None
+
+-- what the line, without its line feed, says, if it may stand at this stage
+unfoldable pub wanted_item : Stage → List ℕ → Option Item
+wanted_item stage line = option_and_then (if_wanted stage) (item_of_words (slice_split (λ b. nat_eq b 32) line))
+
+-- the number of nodes is within its range
+abbrev pub IsSize : ℕ → Type 0
+IsSize n = (1 ≤ n) × (n ≤ most_nodes)
+
+-- not all cuts stand already
+abbrev pub IsCutPlace : ℕ → ℕ → Type 0
+IsCutPlace all x = (x < all) × (all ≤ most_cuts)
+
+-- a stage that lines can lead to: its numbers are within their ranges
+abbrev pub IsStage : Stage → Type 0
+IsStage want_version = Unit {0}
+IsStage want_size = Unit {0}
+IsStage want_end = Unit {0}
+IsStage want_nothing = Unit {0}
+IsStage (want_cost s) = IsSize s.size
+IsStage (want_bound s) = IsSize s.size
+IsStage (want_hubs s) = IsSize s.size
+IsStage (want_cuts s) = IsSize s.size
+IsStage (want_nodes s) = IsSize s.size
+IsStage (want_route s t) = IsSize s.size × (t < s.size * s.size)
+IsStage (want_cut s all x) = IsSize s.size × IsCutPlace all x
+IsStage (want_dual s all x t) = IsSize s.size × IsCutPlace all x × (t < s.size * s.size)
+IsStage (want_tree s places left) = IsSize s.size
+
+-- at a stage a line is read as an item exactly where it is a line that may stand there and says this
+abbrev pub LinesReadBack : Type 0
+LinesReadBack = (stage : Stage) (line : List ℕ) (item : Item) → IsStage stage
+    → (wanted_item stage line ≡ Some item) ↔ IsLine stage line item

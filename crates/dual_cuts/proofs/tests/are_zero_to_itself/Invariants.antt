@@ -1,5 +1,0 @@
-use Rattle.std.proofs.Common.{◌≡◌, ℕ, ◌+◌, ◌*◌, ◌<◌, pos, slice_index_or}
-use Rattle.dual_cuts.proofs.tests.are_zero_to_itself.Given as goal
-
-abbrev pub invariant-loop-k : goal.invariant-loop-k
-invariant-loop-k l = (k : ℕ) → k < l.k → slice_index_or l.distances (k * l.n + k) (pos 0) ≡ pos 0

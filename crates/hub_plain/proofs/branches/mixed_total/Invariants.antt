@@ -1,7 +1,0 @@
-use Rattle.hub_spec.specs.Cuts.{total}
-use Rattle.hub_spec.specs.Trees.{cut_at}
-use Rattle.hub_spec.proofs.Mixes.{IsMixed}
-use Rattle.hub_plain.proofs.branches.mixed_total.Given as goal
-
-abbrev pub invariant-loop-entry : goal.invariant-loop-entry
-invariant-loop-entry l = IsMixed (λ c. total (cut_at l.cuts c)) l.weights l.entry-index l.sum

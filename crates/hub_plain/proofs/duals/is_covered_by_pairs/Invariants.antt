@@ -1,6 +1,0 @@
-use Rattle.std.proofs.Common.{take, All}
-use Rattle.hub_plain.specs.Duals.{IsCovered}
-use Rattle.hub_plain.proofs.duals.is_covered_by_pairs.Given as goal
-
-abbrev pub invariant-loop-k : goal.invariant-loop-k
-invariant-loop-k l = All (λ k. All (IsCovered l.instance (l.i, l.j) l.a l.values k) l.instance.candidates) (take l.k-index l.candidates)

@@ -1,6 +1,0 @@
-use Rattle.std.proofs.Common.{take, All}
-use Rattle.hub_plain.specs.Duals.{IsCovered}
-use Rattle.hub_plain.proofs.duals.is_covered_from.Given as goal
-
-abbrev pub invariant-loop-m : goal.invariant-loop-m
-invariant-loop-m l = All (IsCovered l.instance (l.i, l.j) l.a l.values l.k) (take l.m-index l.candidates)

@@ -1,5 +1,0 @@
-use Rattle.std.proofs.Common.{ℕ, ◌≤◌, length, take, All}
-use Rattle.hub_plain.proofs.failures.are_within_cuts.Given as goal
-
-abbrev pub invariant-loop-entry : goal.invariant-loop-entry
-invariant-loop-entry l = All (λ (e : ℕ × ℕ). e.0 ≤ length l.cuts) (take l.entry-index l.weights)

@@ -1,9 +1,0 @@
-use Rattle.std.proofs.Common.{◌+◌, drop}
-use Rattle.hub_spec.specs.Problem.{commodities}
-use Rattle.hub_spec.specs.Conditions.{dual_claims}
-use Rattle.hub_plain.proofs.Reductions.{Reduces}
-use Rattle.hub_plain.proofs.failures.dual_failure.Given as goal
-
-abbrev pub invariant-loop-t : goal.invariant-loop-t
-invariant-loop-t l = Reduces (dual_claims l.instance l.line (commodities l.instance.size) l.duals)
-    (dual_claims l.instance (l.line + l.t) (drop l.t (commodities l.instance.size)) (drop l.t l.duals))

@@ -1,9 +1,0 @@
-use Rattle.std.proofs.Common.{◌+◌, ◌*◌}
-use Rattle.hub_plain.proofs.RoutedSets.{IsRouted}
-use Rattle.hub_plain.proofs.routes.set_cost.Given as goal
-
-abbrev pub invariant-loop-j : goal.invariant-loop-j
-invariant-loop-j l = IsRouted l.instance l.hubs (l.i * l.instance.size + l.j) l.total
-
-abbrev pub invariant-loop-i : goal.invariant-loop-i
-invariant-loop-i l = IsRouted l.instance l.hubs (l.i * l.instance.size) l.total

@@ -1,0 +1,106 @@
+-- What a run may come to before anything is written, and what is written then.
+use Rattle.std.specs.Prelude.{◌≡◌, ℕ, ◌≤◌, List, [], Option, Some, None, Ok, Err}
+use Rattle.hub_io.specs.Outside.{Files, Rose, Puts}
+use Rattle.hub_io.specs.declared.Failed.{Failed}
+use Rattle.cert_spec.specs.Verdicts.{Verdict, optimal, bounds}
+use Rattle.file_spec.specs.Faults.{Fault}
+use Rattle.hub_top.specs.declared.status.Status.{Status}
+use Rattle.hub_top.specs.declared.status.Status.TheVariants.{Done, Stopped, No, Usage, Instance, Memory, Read, Write}
+use Rattle.hub_words.specs.Requests.{Source, Solving, Request, solve, check, instance}
+use Rattle.hub_top.specs.Texts.{usage_text, fault_text, memory_text, read_text, verdict_text}
+use Rattle.hub_top.specs.Commands.{Blame, HasBlame, SolvesFile, JudgesFile, Lacks}
+
+-- what a run came to, before it was written
+pub data Outcome : Type 0 where
+  -- a certificate's text
+  solved : List ℕ → Outcome
+  -- the verdict on a certificate's bytes
+  judged : Verdict → Outcome
+  -- the words are no command
+  usage : Outcome
+  -- a file of the instance has this fault
+  faulty : Blame → Fault → Outcome
+  memory : Outcome
+  read : Outcome
+
+-- the status of a verdict
+abbrev pub verdict_status : Verdict → Status
+verdict_status (optimal cost) = Done
+verdict_status (bounds bound cost) = Stopped
+verdict_status verdict = No
+
+abbrev pub status_of : Outcome → Status
+status_of (solved text) = Done
+status_of (judged verdict) = verdict_status verdict
+status_of usage = Usage
+status_of (faulty blame fault) = Instance
+status_of memory = Memory
+status_of read = Read
+
+-- what is written to out
+abbrev pub out_text : Outcome → List ℕ
+out_text (solved text) = text
+out_text (judged verdict) = verdict_text verdict
+out_text outcome = []
+
+-- what is written to err
+abbrev pub err_text : Outcome → List ℕ
+err_text usage = usage_text
+err_text (faulty blame fault) = fault_text blame fault
+err_text memory = memory_text
+err_text read = read_text
+err_text outcome = []
+
+-- a fact about the files, where they are told
+abbrev pub WhereTold : Option Files → (Files → Type 0) → Type 0
+WhereTold None fact = Unit {0}
+WhereTold (Some files) fact = fact files
+
+-- the shelf failed in this call; and a sound one that tells lacks what is said of its files
+pub record FailsFor {S : Type 0} (held : S → Option Files) (faults : S → ℕ) (sound : S → Type 0) (old new : S) (lacks : Files → Type 0) : Type 0 where
+  pub rose : Rose (faults old) (faults new)
+  pub lacking : sound old → WhereTold (held old) lacks
+
+-- after a call the shelf holds the same, its faults never fell, and it is sound where it was
+pub record StaysShelf {S : Type 0} (held : S → Option Files) (faults : S → ℕ) (sound : S → Type 0) (old new : S) : Type 0 where
+  pub same : held new ≡ held old
+  pub later : faults old ≤ faults new
+  pub sound_still : sound old → sound new
+
+-- the shelf failed, and a sound one that tells lacks a file that the request names, when its turn comes
+abbrev pub ShelfFails : {S : Type 0} (held : S → Option Files) (faults : S → ℕ) (sound : S → Type 0) (old new : S) → Request → Type 0
+ShelfFails held faults sound old new request = FailsFor held faults sound old new (λ files. Lacks files request)
+
+-- no fault of the shelf or of a sink rose
+abbrev pub Quiet : {S O E : Type 0} → (S → ℕ) → S → S → (O → ℕ) → O → O → (E → ℕ) → E → E → Type 0
+Quiet faults old new out_faults out_old out_new err_faults err_old err_new =
+    (Rose (faults old) (faults new) → ⊥) × (Rose (out_faults out_old) (out_faults out_new) → ⊥) × (Rose (err_faults err_old) (err_faults err_new) → ⊥)
+
+-- the outcomes that the words, the files and the shelf's faults allow
+abbrev pub MayComeTo : Option Request → Option Files → (Request → Type 0) → Outcome → Type 0
+MayComeTo asked held fails (solved text) =
+    (s : Solving) × (asked ≡ Some (solve s)) × WhereTold held (λ files. SolvesFile files s.source text)
+MayComeTo asked held fails (judged verdict) =
+    (s : Source) × (certificate : List ℕ) × (asked ≡ Some (check s certificate))
+    × WhereTold held (λ files. JudgesFile files s certificate verdict)
+MayComeTo asked held fails usage = asked ≡ None
+MayComeTo asked held fails (faulty blame fault) =
+    (request : Request) × (s : Source) × (asked ≡ Some request) × (instance request ≡ Some s)
+    × WhereTold held (λ files. HasBlame files s blame fault)
+MayComeTo asked held fails memory = Unit {0}
+MayComeTo asked held fails read = (request : Request) × (asked ≡ Some request) × fails request
+
+-- an outcome was written: both texts, or a front of the first that failed and nothing further
+pub data Written {O E : Type 0} (out_taken : O → Option (List ℕ)) (out_faults : O → ℕ) (err_taken : E → Option (List ℕ)) (err_faults : E → ℕ) (out_old out_new : O) (err_old err_new : E) (status : Status) (outcome : Outcome) : Type 0 where
+  whole : Puts {E = Failed} out_taken out_faults out_old out_new (Ok tt) (out_text outcome)
+      → Puts {E = Failed} err_taken err_faults err_old err_new (Ok tt) (err_text outcome)
+      → status ≡ status_of outcome
+      → Written out_taken out_faults err_taken err_faults out_old out_new err_old err_new status outcome
+  out_cut : (failed : Failed) → Puts out_taken out_faults out_old out_new (Err failed) (out_text outcome)
+      → err_new ≡ err_old
+      → status ≡ Write
+      → Written out_taken out_faults err_taken err_faults out_old out_new err_old err_new status outcome
+  err_cut : (failed : Failed) → Puts {E = Failed} out_taken out_faults out_old out_new (Ok tt) (out_text outcome)
+      → Puts err_taken err_faults err_old err_new (Err failed) (err_text outcome)
+      → status ≡ Write
+      → Written out_taken out_faults err_taken err_faults out_old out_new err_old err_new status outcome

@@ -1,0 +1,39 @@
+//! The files of a case.
+
+use hub_io::MemFile;
+use std::alloc::{AllocError, Global};
+use std::fs;
+use std::io::{self, ErrorKind};
+
+/// The names that the files of cases have.
+const NAMES: [&str; 4] = ["f", "g", "k", "-x"];
+
+/// The files of this folder that have such names, with their bytes.
+#[derive(Drop)]
+pub struct Folder {
+    files: Vec<(&'static str, Vec<u8>)>,
+}
+
+impl Folder {
+    /// The files of the folder that the program is started in.
+    pub(crate) fn here(rt: &HostRuntime) -> Result<Folder, io::Error> {
+        let mut files = Vec::new(rt.alloc());
+        for name in NAMES {
+            match fs::read(rt, name) {
+                Ok(bytes) => files.push((name, bytes))?,
+                Err(error) if error.kind() == ErrorKind::NotFound => {}
+                Err(error) => return Err(error),
+            }
+        }
+        Ok(Folder { files })
+    }
+
+    /// The same files in memory.
+    pub(crate) fn copied(&self, alloc: Global) -> Result<Vec<MemFile>, AllocError> {
+        let mut copied = Vec::new(alloc);
+        for (name, bytes) in &self.files {
+            copied.push(MemFile::new(alloc, name, bytes)?)?;
+        }
+        Ok(copied)
+    }
+}
