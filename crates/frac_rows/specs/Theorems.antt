@@ -1,0 +1,89 @@
+-- What is proved of tables and runs; each statement is the contract of the public function of its name.
+use Rattle.std.specs.Prelude.{◌≡◌, ◌≢◌, ◌↔◌, ℕ, ◌+◌, ◌-◌, ◌<◌, ◌≤◌, List, length, take, slice_index, All, ℤ, pos, ◌*ℤ◌, ◌≤ℤ◌, ◌<ℤ◌, unsigned_abs}
+use Rattle.std.specs.Int.{◌∣◌}
+use Rattle.frac_rows.specs.Divisors.{divisor_of}
+use Rattle.frac_rows.specs.Rows.{Table, number, right_side, row_at, objective, after_pivot, IsTable, AreNarrow}
+use Rattle.frac_rows.specs.Runs.{run}
+use Rattle.frac_rows.specs.Starts.{start}
+use Rattle.frac_rows.specs.Stored.{dot}
+use Rattle.frac_rows.specs.declared.ended.Ended.TheVariants.{Best}
+
+-- the divisor of a row divides each of its numbers, and each number that does so divides it
+abbrev pub GreatestDivisor : Type 0
+GreatestDivisor = (row : List ℤ)
+    → All (λ x. divisor_of row ∣ unsigned_abs x) row
+    × ((d : ℕ) → All (λ x. d ∣ unsigned_abs x) row → d ∣ divisor_of row)
+
+-- ---- solutions
+
+-- Values of all columns but the right side, each divided by one denominator, solve a row: its numbers times the values
+-- add up to its right side.
+abbrev pub Solves : List ℤ → ℕ → List ℤ → Type 0
+Solves values denom row = dot row values ≡ pos denom *ℤ right_side row
+
+-- there is a value for each column but the right side, and they solve all rows
+pub record IsSolution (t : Table) (values : List ℤ) (denom : ℕ) : Type 0 where
+  pub one_each : length values + 1 ≡ length (objective t)
+  pub solves : All (Solves values denom) t.rows
+
+-- a pivot is made on a constraint row and on a column that is neither v nor the right side, with a number above 0 there
+pub record IsPlace (t : Table) (r c : ℕ) : Type 0 where
+  pub constraint : r < length t.basis
+  pub before_v : c + 2 < length (objective t)
+  pub above : pos 0 <ℤ number (row_at t r) c
+
+-- values solve a table exactly where they solve the table after a pivot
+abbrev pub SameSolutions : Type 0
+SameSolutions = (t : Table) (r c : ℕ) (values : List ℤ) (denom : ℕ) → IsTable t → IsPlace t r c
+    → IsSolution t values denom ↔ IsSolution (after_pivot t r c) values denom
+
+-- ---- what a run keeps
+
+-- no right side is below 0, that of the objective row among them
+abbrev pub AreRightsLow : Table → Type 0
+AreRightsLow t = All (λ row. pos 0 ≤ℤ right_side row) t.rows
+
+-- they stay so through a run
+abbrev pub RightsStay : Type 0
+RightsStay = (t : Table) → IsTable t → AreRightsLow t → AreRightsLow (run t).table
+
+-- each constraint row has a number above 0 in its basic column, where the other rows have 0
+pub record IsBasic (t : Table) : Type 0 where
+  pub own : (i : ℕ) → i < length t.basis → pos 0 <ℤ number (row_at t i) (slice_index t.basis i)
+  pub others : (i j : ℕ) → i < length t.basis → j ≤ length t.basis → j ≢ i
+      → number (row_at t j) (slice_index t.basis i) ≡ pos 0
+
+-- so it stays through a run
+abbrev pub BasisStays : Type 0
+BasisStays = (t : Table) → IsTable t → IsBasic t → IsBasic (run t).table
+
+-- v has a number above 0 in the objective row, and none in the others
+pub record IsOfObjective (t : Table) : Type 0 where
+  pub own : pos 0 <ℤ number (objective t) (length (objective t) - 2)
+  pub others : (i : ℕ) → i < length t.basis → number (row_at t i) (length (objective t) - 2) ≡ pos 0
+
+-- a solution in which no value is below 0, but v's may be
+pub record IsAdmissible (t : Table) (values : List ℤ) (denom : ℕ) : Type 0 where
+  pub solution : IsSolution t values denom
+  pub low : All (λ x. pos 0 ≤ℤ x) (take (length (objective t) - 2) values)
+
+-- Where a run ends with a best table, no admissible solution of the table that it began with gives v a greater value
+-- than the last right side over v's number.
+abbrev pub BestIsBest : Type 0
+BestIsBest = (t : Table) (values : List ℤ) (denom : ℕ)
+    → IsTable t → IsOfObjective t → (run t).ended ≡ Best → IsAdmissible t values denom
+    → (number (objective (run t).table) (length (objective t) - 2) *ℤ number values (length (objective t) - 2))
+    ≤ℤ (pos denom *ℤ right_side (objective (run t).table))
+
+-- ---- the table before the first pivot
+
+-- what it is where no number is too great
+pub record IsFirstTable (columns : List (List ℤ)) (rights : List ℤ) : Type 0 where
+  pub table : IsTable (start columns rights)
+  pub basic : IsBasic (start columns rights)
+  pub of_objective : IsOfObjective (start columns rights)
+  pub rights_low : All (λ x. pos 0 ≤ℤ x) rights → AreRightsLow (start columns rights)
+
+abbrev pub FirstIsTable : Type 0
+FirstIsTable = (columns : List (List ℤ)) (rights : List ℤ)
+    → All AreNarrow columns → AreNarrow rights → IsFirstTable columns rights

@@ -1,0 +1,135 @@
+//! The columns of the variables, from which a whole row follows.
+
+ghost use Rattle.std.specs.Prelude.{◌≡◌, ℕ, ◌+◌, ◌-◌, ◌*◌, ◌^◌, ◌<◌, ◌≤◌, length, map, IfOk};
+ghost use Rattle.std.specs.List.{position};
+ghost use Rattle.frac_rows.specs.Rows.{number, first_negative, is_wide_row, AreNarrow};
+ghost use Rattle.frac_rows.specs.Stored.{dot, extended, piece, pieces, AreColumns, Matrix, IsMatrix};
+
+use crate::limits::WIDEST;
+use crate::parts::part;
+use crate::products::{dot_64, dot_128, reach};
+use std::marker::Model;
+
+/// The columns of the variables, one after the other, and for each row the greatest size of their numbers there.
+#[derive(Drop)]
+pub(crate) struct Columns {
+    numbers: Vec<i64>,
+    tops: Vec<u64>,
+    variables: usize,
+    height: usize,
+}
+
+impl Model for Columns {
+    ghost use Rattle.frac_rows.specs.Stored.{Matrix, AreColumns, pieces};
+
+    ghost Value = { Matrix };
+
+    ghost view = { λ s. record { height = s.height; columns = pieces s.height s.variables s.numbers.items } };
+
+    ghost invariant = { λ s. AreColumns s.height s.variables s.numbers.items s.tops.items };
+}
+
+impl Columns {
+    /// These columns, which are taken as they are.
+    pub(crate) fn new(numbers: Vec<i64>, tops: Vec<u64>, variables: usize, height: usize) -> Columns
+        requires { AreColumns height variables numbers.items tops.items }
+        ensures { result ≡ record { height = height; columns = pieces height variables numbers.items } }
+    {
+        Columns {
+            numbers,
+            tops,
+            variables,
+            height,
+        }
+    }
+
+    /// How many rows there are, the objective row among them.
+    pub(crate) fn height(&self) -> usize
+        ensures value { result ≡ self.now.height }
+        ensures limits { IsMatrix self.now }
+    {
+        self.height
+    }
+
+    pub(crate) fn variables(&self) -> usize
+        ensures { result ≡ length self.now.columns }
+    {
+        self.variables
+    }
+
+    /// The number of the whole row in the column.
+    pub(crate) fn entry(&self, row: &[i64], column: usize) -> i64
+        requires long { length row.now ≡ self.now.height + 1 }
+        requires narrow { AreNarrow (extended self.now.columns row.now) }
+        requires within { column < length self.now.columns + self.now.height + 1 }
+        ensures { result ≡ number (extended self.now.columns row.now) column }
+    {
+        entry_of(&self.numbers, self.variables, row, column)
+    }
+
+    /// The least column before v with a number below 0 in the whole row.
+    pub(crate) fn first_negative(&self, row: &[i64]) -> Option<usize>
+        requires long { length row.now ≡ self.now.height + 1 }
+        requires narrow { AreNarrow (extended self.now.columns row.now) }
+        ensures { result ≡ first_negative (extended self.now.columns row.now) }
+    {
+        first_negative_of(&self.numbers, self.variables, row)
+    }
+
+    /// Whether a number of the whole row before those that are kept is too great.
+    pub(crate) fn is_wide(&self, row: &[i64]) -> bool
+        requires long { length row.now ≡ self.now.height + 1 }
+        requires narrow { AreNarrow row.now }
+        ensures { result ≡ is_wide_row (map (dot row.now) self.now.columns) }
+    {
+        is_wide_of(&self.numbers, &self.tops, self.variables, row)
+    }
+}
+
+// The number in the column: a sum of products for a variable, and else one of the row's own.
+fn entry_of(numbers: &[i64], variables: usize, row: &[i64], column: usize) -> i64
+    requires some { 1 ≤ length row.now }
+    requires long { length numbers.now ≡ variables * (length row.now - 1) }
+    requires narrow { AreNarrow (extended (pieces (length row.now - 1) variables numbers.now) row.now) }
+    requires within { column < variables + length row.now }
+    ensures { result ≡ number (extended (pieces (length row.now - 1) variables numbers.now) row.now) column }
+{
+    let height = row.len() - 1;
+    if column < variables {
+        return dot_64(row, part(numbers, height, column));
+    }
+    row[column - variables]
+}
+
+fn first_negative_of(numbers: &[i64], variables: usize, row: &[i64]) -> Option<usize>
+    requires some { 2 ≤ length row.now }
+    requires long { length numbers.now ≡ variables * (length row.now - 1) }
+    requires few { variables + length row.now ≤ 2 ^ 33 }
+    requires narrow { AreNarrow (extended (pieces (length row.now - 1) variables numbers.now) row.now) }
+    ensures { result ≡ first_negative (extended (pieces (length row.now - 1) variables numbers.now) row.now) }
+{
+    for j in 0..variables + row.len() - 2 {
+        if entry_of(numbers, variables, row, j) < 0 {
+            return Some(j);
+        }
+    }
+    None
+}
+
+// Where even the greatest sizes stay within the limit together, no column is looked at.
+fn is_wide_of(numbers: &[i64], tops: &[u64], variables: usize, row: &[i64]) -> bool
+    requires columns { AreColumns (length row.now - 1) variables numbers.now tops.now }
+    requires narrow { AreNarrow row.now }
+    ensures { result ≡ is_wide_row (map (dot row.now) (pieces (length row.now - 1) variables numbers.now)) }
+{
+    if reach(row, tops) <= u128::from(WIDEST) {
+        return false;
+    }
+    let height = row.len() - 1;
+    for j in 0..variables {
+        if dot_128(row, part(numbers, height, j)).unsigned_abs() > u128::from(WIDEST) {
+            return true;
+        }
+    }
+    false
+}

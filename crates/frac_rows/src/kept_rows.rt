@@ -1,0 +1,157 @@
+//! The rows of a linear program, on which pivots and runs are made.
+
+ghost use Rattle.std.specs.Prelude.{◌≡◌, ◌+◌, ◌*◌, ◌^◌, ◌<◌, ◌≤◌, ◌<ℤ◌, pos, true, false, length, slice_index, unsigned_abs, All, IfOk, OnOk, OnErr, OnSome, IfSome, IsNone};
+ghost use Rattle.frac_rows.specs.Rows.{widest, number, row_at, objective, after_pivot, is_wide, entering, IsTable};
+ghost use Rattle.frac_rows.specs.Runs.{step, goes, ends, ended_by, run};
+ghost use Rattle.frac_rows.specs.Starts.{start};
+ghost use Rattle.frac_rows.specs.Stored.{pieces};
+
+use crate::columns::Columns;
+use crate::limits::MOST_PIVOTS;
+use crate::starts::{first_rows, slacks, tops_of};
+use crate::{Ended, Wide, entries, moves};
+use std::alloc::{AllocError, Global};
+use std::marker::Model;
+
+/// A table: of each row a multiple of its numbers behind the variables is kept. The rest follows from the columns.
+#[derive(Drop)]
+pub struct Rows {
+    columns: Columns,
+    numbers: Vec<i64>,
+    spare: Vec<i64>,
+    basis: Vec<u32>,
+    denominator: u64,
+}
+
+impl Model for Rows {
+    ghost use Rattle.frac_rows.specs.Rows.{Table};
+    ghost use Rattle.frac_rows.specs.Stored.{table_of, IsRoomy};
+
+    ghost Value = { Table };
+
+    ghost view = { λ s. table_of s.columns s.numbers.items s.basis.items };
+
+    ghost invariant = { λ s. IsRoomy s.columns s.numbers.items s.spare.items s.basis.items };
+}
+
+impl Rows {
+    /// The table before the first pivot. The columns of the variables stand one after the other; each has a number for
+    /// each constraint, and last what v loses by the variable.
+    pub fn start(
+        alloc: Global,
+        columns: Vec<i64>,
+        variables: usize,
+        rights: &[i64],
+    ) -> Result<Rows, AllocError>
+        requires long { length columns.items ≡ variables * (length rights.now + 1) }
+        requires columns_limit { All (λ x. unsigned_abs x ≤ 2 ^ 32) columns.items }
+        requires rights_limit { All (λ x. unsigned_abs x ≤ widest) rights.now }
+        requires few { variables + length rights.now + 1 < 2 ^ 32 }
+        ensures { IfOk result (λ t. t ≡ start (pieces (length rights.now + 1) variables columns.items) rights.now) }
+    {
+        let height = rights.len() + 1;
+        let tops = tops_of(alloc, &columns, variables, height)?;
+        let numbers = first_rows(alloc, rights)?;
+        let spare = numbers.to_vec(alloc)?;
+        let basis = slacks(alloc, variables, rights.len())?;
+        Ok(Rows {
+            columns: Columns::new(columns, tops, variables, height),
+            numbers,
+            spare,
+            basis,
+            denominator: 1,
+        })
+    }
+
+    /// How many constraint rows there are.
+    pub fn constraints(&self) -> usize
+        ensures value { result ≡ length self.now.basis }
+        ensures table { IsTable self.now }
+    {
+        self.basis.len()
+    }
+
+    /// How many columns there are, those of v and of the right side among them.
+    pub fn columns(&self) -> usize
+        ensures value { result ≡ length (objective self.now) }
+        ensures table { IsTable self.now }
+    {
+        self.columns.variables() + self.columns.height() + 1
+    }
+
+    /// The number of the row in the column; the objective row is behind those of the constraints.
+    pub fn entry(&self, row: usize, column: usize) -> i64
+        requires row { row ≤ length self.now.basis }
+        requires column { column < length (objective self.now) }
+        ensures { result ≡ number (row_at self.now row) column }
+    {
+        entries::entry(&self.columns, &self.numbers, row, column)
+    }
+
+    /// The basic column of the constraint row.
+    pub fn basic(&self, row: usize) -> u32
+        requires { row < length self.now.basis }
+        ensures { result ≡ slice_index self.now.basis row }
+    {
+        self.basis[row]
+    }
+
+    /// Makes the pivot on the row and the column, unless the table after it would have a number that is too great.
+    pub fn pivot(&mut self, row: usize, column: usize) -> Result<(), Wide>
+        requires row { row < length self.old.basis }
+        requires column { column + 2 < length (objective self.old) }
+        requires above { pos 0 <ℤ number (row_at self.old row) column }
+        ensures ok { OnOk result (self.new ≡ after_pivot self.old row column) }
+        ensures ok_narrow { OnOk result (is_wide self.new ≡ false) }
+        ensures err { OnErr result (is_wide (after_pivot self.old row column) ≡ true) }
+        ensures err_same { OnErr result (self.new ≡ self.old) }
+    {
+        self.denominator = moves::pivot(
+            &self.columns,
+            &mut self.numbers,
+            &mut self.spare,
+            &mut self.basis,
+            self.denominator,
+            row,
+            column,
+        )?;
+        Ok(())
+    }
+
+    /// Makes pivots, each on the column that enters and the row that leaves, until the table is best, no pivot can be
+    /// made, or as many as are allowed were made. It tells which of these it was, and how many were made.
+    pub fn run(&mut self) -> (Ended, u32)
+        ensures { run self.old ≡ record { table = self.new; ended = result.0; pivots = result.1 } }
+    {
+        for made in 0..MOST_PIVOTS {
+            if let Some(ended) = self.step() {
+                return (ended, made);
+            }
+        }
+        (self.ending(), MOST_PIVOTS)
+    }
+
+    // One step of a run: how it ends, if it does.
+    fn step(&mut self) -> Option<Ended>
+        ensures goes { IsNone result → step self.old ≡ goes self.new }
+        ensures ends { IfSome result (λ e. step self.old ≡ ends e) }
+        ensures same { OnSome result (self.new ≡ self.old) }
+    {
+        let (ended, denominator) = moves::advance(
+            &self.columns,
+            &mut self.numbers,
+            &mut self.spare,
+            &mut self.basis,
+            self.denominator,
+        );
+        self.denominator = denominator;
+        ended
+    }
+
+    // How a run ends where no further pivot is allowed.
+    fn ending(&self) -> Ended
+        ensures { result ≡ ended_by (entering self.now) }
+    {
+        moves::ending(&self.columns, &self.numbers)
+    }
+}

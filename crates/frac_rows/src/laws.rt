@@ -1,0 +1,33 @@
+//! What holds of all tables and runs.
+
+ghost use Rattle.frac_rows.specs.Theorems.{GreatestDivisor, FirstIsTable, SameSolutions, RightsStay, BasisStays, BestIsBest};
+
+/// The number by which a row is divided is the greatest common divisor of its numbers.
+pub fn greatest_divisor()
+    ensures { GreatestDivisor }
+{}
+
+/// The table before the first pivot is one for which the other laws hold.
+pub fn first_is_table()
+    ensures { FirstIsTable }
+{}
+
+/// A pivot changes no solution.
+pub fn same_solutions()
+    ensures { SameSolutions }
+{}
+
+/// Right sides that are not below 0 stay so through a run.
+pub fn rights_stay()
+    ensures { RightsStay }
+{}
+
+/// Through a run each constraint row keeps a number above 0 in its basic column, where the other rows have 0.
+pub fn basis_stays()
+    ensures { BasisStays }
+{}
+
+/// Where a run ends with a best table, no admissible solution has a greater objective than that table tells.
+pub fn best_is_best()
+    ensures { BestIsBest }
+{}

@@ -1,0 +1,28 @@
+//! Exact pivots on the rows of a linear program in whole numbers.
+#![tactic(auto)]
+
+mod choices;
+mod columns;
+mod divisors;
+mod ended;
+mod entries;
+mod follows;
+mod kept_rows;
+mod laws;
+mod limits;
+mod moves;
+mod multipliers;
+mod parts;
+mod products;
+mod starts;
+mod steps;
+mod tables;
+#[cfg(test)]
+mod tests;
+
+pub use ended::{Ended, Wide};
+pub use kept_rows::Rows;
+pub use laws::{
+    basis_stays, best_is_best, first_is_table, greatest_divisor, rights_stay, same_solutions,
+};
+pub use limits::{MOST_PIVOTS, WIDEST};

@@ -1,0 +1,13 @@
+//! Parts of a list that stand one after the other, all of one length.
+
+ghost use Rattle.std.specs.Prelude.{◌≡◌, ◌+◌, ◌*◌, ◌≤◌, length};
+ghost use Rattle.frac_rows.specs.Stored.{piece};
+
+/// The part `i` of parts with `width` numbers each.
+pub(crate) fn part(flat: &[i64], width: usize, i: usize) -> &[i64]
+    requires { i * width + width ≤ length flat.now }
+    ensures value { result.now ≡ piece width flat.now i }
+    ensures long { length result.now ≡ width }
+{
+    &flat[i * width..i * width + width]
+}

@@ -1,0 +1,60 @@
+//! Sums of products of two lists' numbers.
+
+ghost use Rattle.std.specs.Prelude.{◌≡◌, ◌≤◌, ◌-◌, ◌^◌, ◌*◌, ◌+ℤ◌, ◌*ℤ◌, length, min, unsigned_abs};
+ghost use Rattle.std.specs.Int.{w64, w128, int_wrap};
+ghost use Rattle.frac_rows.specs.Stored.{dot, reach};
+
+/// The sum of the products, as far as it fits: of a row and a variable's column it is the row's number for the
+/// variable, which is within the limit.
+pub(crate) fn dot_64(row: &[i64], column: &[i64]) -> i64
+    requires { length column.now ≤ length row.now }
+    ensures { result ≡ int_wrap w64 (dot row.now column.now) }
+{
+    let mut sum = 0;
+    for k in 0..column.len() {
+        sum = wrapped_64(sum, row[k], column[k]);
+    }
+    sum
+}
+
+fn wrapped_64(sum: i64, a: i64, b: i64) -> i64
+    ensures { result ≡ int_wrap w64 (sum +ℤ a *ℤ b) }
+{
+    sum.wrapping_add(a.wrapping_mul(b))
+}
+
+/// The same in twice the bits, for a row that may have a number beyond the limit.
+pub(crate) fn dot_128(row: &[i64], column: &[i64]) -> i128
+    requires { length column.now ≤ length row.now }
+    ensures { result ≡ int_wrap w128 (dot row.now column.now) }
+{
+    let mut sum = 0;
+    for k in 0..column.len() {
+        sum = wrapped_128(sum, row[k], column[k]);
+    }
+    sum
+}
+
+fn wrapped_128(sum: i128, a: i64, b: i64) -> i128
+    ensures { result ≡ int_wrap w128 (sum +ℤ a *ℤ b) }
+{
+    sum.wrapping_add(i128::from(a).wrapping_mul(i128::from(b)))
+}
+
+/// What the sum of the products of the row and a column is at most in size, where the column's sizes are at most these.
+pub(crate) fn reach(row: &[i64], tops: &[u64]) -> u128
+    requires { length tops.now ≤ length row.now }
+    ensures { result ≡ min (2 ^ 128 - 1) (reach row.now tops.now) }
+{
+    let mut sum = 0u128;
+    for k in 0..tops.len() {
+        sum = sum.saturating_add(size_product(row[k], tops[k]));
+    }
+    sum
+}
+
+fn size_product(x: i64, top: u64) -> u128
+    ensures { result ≡ unsigned_abs x * top }
+{
+    u128::from(x.unsigned_abs()) * u128::from(top)
+}

@@ -1,0 +1,68 @@
+//! All rows after a pivot.
+
+ghost use Rattle.std.specs.Prelude.{◌≡◌, ◌+◌, ◌<◌, ◌*◌, length, OnOk, OnErr};
+ghost use Rattle.frac_rows.specs.Rows.{number};
+ghost use Rattle.frac_rows.specs.Stored.{piece, whole_row, AreKept};
+ghost use Rattle.frac_rows.specs.Steps.{IsAfter, AreAfter, IsWideAfter};
+
+use crate::Wide;
+use crate::columns::Columns;
+use crate::divisors::Divisor;
+use crate::follows::{Turn, next_row};
+use crate::parts::part;
+
+/// Writes what is kept of all rows after the pivot on the row `r`, and tells whether all of them were divided by the
+/// number that was expected to divide them.
+pub(crate) fn next_rows(
+    columns: &Columns,
+    by: &Option<Divisor>,
+    turn: Turn,
+    r: usize,
+    numbers: &[i64],
+    spare: &mut [i64],
+) -> Result<bool, Wide>
+    requires kept { AreKept columns.now numbers.now }
+    requires room { length spare.old ≡ length numbers.now }
+    requires row { r < columns.now.height }
+    requires column { turn.column < length columns.now.columns + columns.now.height + 1 }
+    requires number { turn.number ≡ number (whole_row columns.now numbers.now r) turn.column }
+    ensures ok { OnOk result (AreAfter columns.now numbers.now r turn.column columns.now.height spare.new) }
+    ensures err { OnErr result (IsWideAfter columns.now numbers.now r turn.column) }
+{
+    let height = columns.height();
+    let width = height + 1;
+    let mut divided = true;
+    for i in 0..height {
+        let out = &mut spare[i * width..i * width + width];
+        divided = row_after(columns, by, turn, r, i, numbers, out)? && divided;
+    }
+    Ok(divided)
+}
+
+// The row `i` after the pivot; the row `r` itself stays.
+fn row_after(
+    columns: &Columns,
+    by: &Option<Divisor>,
+    turn: Turn,
+    r: usize,
+    i: usize,
+    numbers: &[i64],
+    out: &mut [i64],
+) -> Result<bool, Wide>
+    requires kept { AreKept columns.now numbers.now }
+    requires room { length out.old ≡ columns.now.height + 1 }
+    requires row { r < columns.now.height }
+    requires within { i < columns.now.height }
+    requires column { turn.column < length columns.now.columns + columns.now.height + 1 }
+    requires number { turn.number ≡ number (whole_row columns.now numbers.now r) turn.column }
+    ensures ok { OnOk result (IsAfter columns.now numbers.now r turn.column i out.new) }
+    ensures err { OnErr result (IsWideAfter columns.now numbers.now r turn.column) }
+{
+    let width = columns.height() + 1;
+    let row = part(numbers, width, i);
+    if i == r {
+        out.copy_from_slice(row);
+        return Ok(true);
+    }
+    next_row(columns, by, turn, row, part(numbers, width, r), out)
+}

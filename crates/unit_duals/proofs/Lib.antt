@@ -1,0 +1,11 @@
+pub mod LaterValues
+pub mod LeastNumbers
+pub mod TableCells
+pub mod Listing
+pub mod LegRows
+pub mod FilledTables
+pub mod SetRows
+pub mod RowTurns
+pub mod HubLengths
+pub mod WholeOrigins
+pub mod FirstRoutes

@@ -1,0 +1,10 @@
+use Rattle.std.proofs.Common.{◌≡◌, ◌+◌, slice_index}
+use Rattle.unit_duals.specs.Leasts.{least_of}
+use Rattle.unit_duals.specs.Values.{back_leg}
+use Rattle.unit_duals.proofs.lengths.price_to.Given as goal
+
+abbrev pub invariant-loop-x : goal.invariant-loop-x
+invariant-loop-x l =
+    let legs = l.tables.legs in
+    l.least ≡ least_of (slice_index l.first legs.count + back_leg legs legs.count l.j)
+    (λ m. slice_index l.first (legs.count + m) + back_leg legs (legs.count + m) l.j) l.x

@@ -1,0 +1,5 @@
+use Rattle.unit_duals.specs.Nearness.{IsFarHome, AreNearUpTo}
+use Rattle.unit_duals.proofs.nearby.set_lists_home.Given as goal
+
+abbrev pub invariant-loop-t : goal.invariant-loop-t
+invariant-loop-t l = AreNearUpTo l.legs.size l.legs.count (IsFarHome l.legs l.back) l.t l.end l.starts l.nodes

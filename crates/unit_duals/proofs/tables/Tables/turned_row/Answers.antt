@@ -1,0 +1,23 @@
+use Rattle.std.proofs.Common.{◌+◌, length, ap, subst, arith}
+use Rattle.unit_duals.specs.Lengths.{RoomedLegs, IsLegRow, stops, trunk_leg}
+use Rattle.unit_duals.specs.TableParts.{table_legs}
+use Rattle.unit_duals.proofs.TableCells.{row_within, cell_within}
+use Rattle.unit_duals.proofs.LegRows.{leg_row, trunk_leg_limit}
+use Rattle.unit_duals.proofs.tables.Tables.turned_row.Goals as goal
+
+pub row-requires : goal.row-requires
+row-requires c =
+    let stop = rw (← c.self.view_is) at c.requires in
+    let n = c.self.inside.count + c.self.inside.hubs in
+    let long = ap length c.deref.ensures.value in
+    omega (arith, row_within c.args.k n (c.self.inside.count + c.self.inside.hubs) stop, c.self.invariant.made.turned_long, long)
+
+pub returns : goal.returns
+returns c =
+    let stop = rw (← c.self.view_is) at c.requires in
+    let n = c.self.inside.count + c.self.inside.hubs in
+    let l = table_legs c.self.inside in
+    subst (λ (v : RoomedLegs). IsLegRow (stops v.legs) (λ m. trunk_leg v.legs m c.args.k) c.row.result.now) c.self.view_is
+    (leg_row n c.args.k (λ m. trunk_leg l m c.args.k) c.deref.result.now c.self.inside.turned.items c.row.result.now c.deref.ensures.value c.row.ensures.long
+    c.row.ensures.each (λ j below. c.self.invariant.made.turned.each c.args.k j below (omega (arith, cell_within c.args.k j n n stop below, c.self.invariant.made.turned_long)))
+    (λ j below. trunk_leg_limit l j c.args.k c.self.invariant.made.legs below stop))

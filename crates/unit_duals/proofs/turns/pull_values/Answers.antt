@@ -1,0 +1,13 @@
+use Rattle.unit_duals.specs.Values.{origin_of}
+use Rattle.unit_duals.proofs.RowTurns.{slacks_more}
+use Rattle.unit_duals.proofs.turns.pull_values.Goals as goal
+
+pub loop-t-preserved : goal.loop-t-preserved
+loop-t-preserved c =
+    let l = c.args.tables.now.legs in
+    let o = origin_of l c.args.prices.now c.args.first.now c.args.reach.now in
+    record {
+      done = c.pull_row.ensures.done;
+      slacks = slacks_more o l.size c.loop-t.t c.pull_row.new.values c.loop-t.slack c.loop-t.rest c.set_slack_row.new.slack c.set_slack_row.new.rest
+          c.set_slack_row.ensures.slack c.set_slack_row.ensures.rest c.pull_row.ensures.noted;
+    }

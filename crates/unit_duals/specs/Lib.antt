@@ -1,0 +1,12 @@
+pub mod Limits
+pub mod Cells
+pub mod Lengths
+pub mod LeastValues
+pub mod Leasts
+pub mod Hops
+pub mod Values
+pub mod Nearness
+pub mod Raised
+pub mod TableParts
+pub mod HopParts
+pub mod DualParts

@@ -1,0 +1,30 @@
+//! The minimal duals of all commodities of an origin, by unit of flow, for a hub set and an order of places.
+//!
+//! It knows no instance: lengths come in as tables of legs between stops, the places of an order and then the hubs.
+//! In the order of reading: `legs` (the tables that come in), `hops` (the shortest routes by hubs alone, for an
+//! assignment), `tables` (what is worked out once for a cut: least lengths by a hub, and for each place and each
+//! earlier place the list of the destinations that are near; made by `filling` and `nearby`), `duals` (what is worked
+//! out of one origin: prices by `lengths`, then the values of all places for all destinations by `turns`).
+//!
+//! Two places ask nothing of each other for a destination where the way by both is no shorter than a way by hubs that
+//! is asked already. So the values of a place are raised along near lists alone (`raising`), and only where the way
+//! from the origin to the second place by the first is shorter than all others.
+#![tactic(auto)]
+
+mod duals;
+mod filling;
+mod hops;
+mod legs;
+mod lengths;
+mod nearby;
+mod raising;
+mod tables;
+mod turns;
+
+pub use duals::UnitDuals;
+pub use hops::{Hops, HubRoute};
+pub use legs::Legs;
+pub use tables::Tables;
+
+#[cfg(test)]
+mod tests;
