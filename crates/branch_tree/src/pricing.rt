@@ -4,9 +4,10 @@ ghost use Rattle.std.specs.Prelude.{IfOk};
 ghost use Rattle.hub_spec.specs.Plans.{IsHubSet};
 ghost use Rattle.branch_tree.specs.Growing.{IsPricedCut};
 
-use dual_cuts::{Cut, cut_of};
+use dual_cuts::Cut;
 use hub_model::{HubSet, Instance, unsigned};
 use hub_plain::outside;
+use pareto_cuts::cut_of;
 use std::alloc::{AllocError, Global};
 
 /// The cut of a hub set, and what the set costs, in 10^-12.

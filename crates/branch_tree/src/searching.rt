@@ -11,8 +11,8 @@ use crate::found::Found;
 use crate::growing::grow;
 use crate::pricing::price;
 use crate::progress::Progress;
+use assign_sub::assign;
 use hub_model::{Branch, HubSet, Instance, Plan};
-use hub_plain::assign;
 use std::alloc::{AllocError, Global};
 
 /// An optimal plan of the instance, with the cuts and the tree that show it.

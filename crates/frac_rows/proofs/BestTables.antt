@@ -75,7 +75,7 @@ record IsSolved (values : List ℤ) (denom width : ℕ) (t : Table) : Type 0 whe
   solution : IsSolution t values denom
   width_is : length (objective t) ≡ width
 
-objective_after : (t : Table) (r c : ℕ) → IsTable t → IsPlace t r c → IsOfObjective t → IsOfObjective (after_pivot t r c)
+pub objective_after : (t : Table) (r c : ℕ) → IsTable t → IsPlace t r c → IsOfObjective t → IsOfObjective (after_pivot t r c)
 objective_after t r c table place old =
     let u = after_pivot t r c in
     let v = length (objective t) - 2 in

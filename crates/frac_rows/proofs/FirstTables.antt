@@ -16,11 +16,11 @@ module _ (columns : List (List ℤ)) (rights : List ℤ) where
   unfolding start
   first_rows = length-map-range_with_len (start_row columns rights) 0 (length rights + 1)
 
-  first_row : (i : ℕ) → i < length rights + 1 → row_at (start columns rights) i ≡ start_row columns rights i
+  pub first_row : (i : ℕ) → i < length rights + 1 → row_at (start columns rights) i ≡ start_row columns rights i
   unfolding start
   first_row i low = get_or-map-range_with_len (start_row columns rights) 0 (length rights + 1) i i [] low (omega arith)
 
-  first_basis : length (start columns rights).basis ≡ length rights
+  pub first_basis : length (start columns rights).basis ≡ length rights
   unfolding start
   first_basis = length-range_with_len (length columns) (length rights)
 
@@ -41,11 +41,11 @@ module _ (columns : List (List ℤ)) (rights : List ℤ) where
       (length-map columns (λ (column : List ℤ). number column i)) (omega arith)
       ∙ ap (number (own_numbers rights i)) (omega arith)
 
-  first_right : (i : ℕ) → right_side (start_row columns rights i) ≡ number rights i
+  pub first_right : (i : ℕ) → right_side (start_row columns rights i) ≡ number rights i
   first_right i =
       ap (number (start_row columns rights i)) (omega (arith, first_length i)) ∙ first_number i (length rights + 1) ∙ own_right rights i (length rights + 1) refl
 
-  first_width : length (objective (start columns rights)) ≡ length columns + (length rights + 2)
+  pub first_width : length (objective (start columns rights)) ≡ length columns + (length rights + 2)
   first_width =
       ap length (ap (row_at (start columns rights)) first_basis ∙ first_row (length rights) (omega arith)) ∙ first_length (length rights)
 
@@ -56,7 +56,7 @@ module _ (columns : List (List ℤ)) (rights : List ℤ) where
       (All-map (λ x. unsigned_abs x ≤ widest) (λ (column : List ℤ). number column i) columns (λ k d l. narrow_at _ i (narrow k d l)))
       (own_narrow rights i limit)
 
-  first_table : All AreNarrow columns → AreNarrow rights → IsTable (start columns rights)
+  pub first_table : All AreNarrow columns → AreNarrow rights → IsTable (start columns rights)
   first_table narrow limit =
       let t = start columns rights in
       record {
@@ -76,7 +76,7 @@ module _ (columns : List (List ℤ)) (rights : List ℤ) where
             ∙ not_wide (start_row columns rights i) (first_narrow narrow limit i)));
       }
 
-  first_basis_is : IsBasic (start columns rights)
+  pub first_basis_is : IsBasic (start columns rights)
   first_basis_is = record {
     own =
         λ i l.
@@ -90,7 +90,7 @@ module _ (columns : List (List ℤ)) (rights : List ℤ) where
         (first_number j i ∙ own_zero rights j i (omega arith) (λ e. other (sym e)));
   }
 
-  first_objective : IsOfObjective (start columns rights)
+  pub first_objective : IsOfObjective (start columns rights)
   first_objective =
       let t = start columns rights in
       let n = length rights in
@@ -106,7 +106,7 @@ module _ (columns : List (List ℤ)) (rights : List ℤ) where
             rw (v, first_row i (omega arith)) (first_number i n ∙ own_zero rights i n (omega arith) (λ e. omega arith));
       }
 
-  first_rights : All (λ x. pos 0 ≤ℤ x) rights → AreRightsLow (start columns rights)
+  pub first_rights : All (λ x. pos 0 ≤ℤ x) rights → AreRightsLow (start columns rights)
   first_rights low =
       All-from_get_or (λ row. pos 0 ≤ℤ right_side row) (start columns rights).rows []
       (λ i l.

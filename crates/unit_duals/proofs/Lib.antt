@@ -9,3 +9,4 @@ pub mod RowTurns
 pub mod HubLengths
 pub mod WholeOrigins
 pub mod FirstRoutes
+pub mod SetStretches

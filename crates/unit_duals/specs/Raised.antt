@@ -51,3 +51,8 @@ pub record IsRowRaised (n t : ℕ) (asked : ℕ → ℕ) (spared : ℕ → Type 
 pub record IsRowSet (n t upto : ℕ) (value : ℕ → ℕ) (old new : List ℕ) : Type 0 where
   pub here : (j : ℕ) → j < upto → cell n new t j ≡ value j
   pub others : (s j : ℕ) → s ≢ t → j < n → cell n new s j ≡ cell n old s j
+
+-- n numbers from `at` on have these values; no other number changes
+pub record IsStretchSet (at n : ℕ) (value : ℕ → ℕ) (old new : List ℕ) : Type 0 where
+  pub here : (j : ℕ) → j < n → slice_index new (at + j) ≡ value j
+  pub others : (x : ℕ) → (x < at) ⊎ (at + n ≤ x) → slice_index new x ≡ slice_index old x

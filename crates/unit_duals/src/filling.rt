@@ -4,8 +4,10 @@ ghost use Rattle.std.specs.Prelude.{◌≡◌, ◌*◌, ◌<◌, ◌≤◌, leng
 ghost use Rattle.unit_duals.specs.Cells.{IsTable};
 ghost use Rattle.unit_duals.specs.Lengths.{stops, trunk_leg};
 ghost use Rattle.unit_duals.specs.Values.{back_leg};
+ghost use Rattle.unit_duals.specs.Raised.{IsRowSet};
 
 use crate::Legs;
+use crate::stretches::{lower_stretch, set_stretch};
 
 /// Gives the vector this length, within its room.
 pub(crate) fn fit<T: Copy + Drop>(items: &mut Vec<T>, len: usize, filler: T)
@@ -46,25 +48,22 @@ pub(crate) fn set_back(legs: &Legs, back: &mut [u64])
     requires { length back.old ≡ stops legs.now * legs.now.size }
     ensures { IsTable legs.now.size (λ k j v. v ≡ back_leg legs.now k j) back.new (length back.new) }
 {
-    let size = legs.size();
     for k in 0..legs.stops() {
-        for j in 0..size {
-            back[k * size + j] = least_back(legs, k, j);
-        }
+        set_back_row(legs, back, k);
     }
 }
 
-/// The least length from the stop to the destination, straight or by a hub.
-fn least_back(legs: &Legs, k: usize, j: usize) -> u64
+/// The least length from the stop to each destination, straight or by a hub.
+fn set_back_row(legs: &Legs, back: &mut [u64], k: usize)
     requires stop { k < stops legs.now }
-    requires destination { j < legs.now.size }
-    ensures { result ≡ back_leg legs.now k j }
+    requires long { length back.old ≡ stops legs.now * legs.now.size }
+    ensures { IsRowSet legs.now.size k legs.now.size (back_leg legs.now k) back.old back.new }
 {
+    let at = k * legs.size();
     let trunk = legs.trunk_row(k);
-    let mut least = legs.last_row(k)[j];
+    set_stretch(back, at, 0, legs.last_row(k));
     for x in 0..legs.hubs() {
         let m = legs.hub(x);
-        least = least.min(trunk[m] + legs.last_row(m)[j]);
+        lower_stretch(back, at, trunk[m], legs.last_row(m));
     }
-    least
 }

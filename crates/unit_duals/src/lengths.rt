@@ -5,6 +5,7 @@ ghost use Rattle.unit_duals.specs.Lengths.{AreFirstLegs, IsLegRow, stops};
 ghost use Rattle.unit_duals.specs.Values.{reach_leg, price_by, ArePricesBy};
 
 use crate::Tables;
+use crate::stretches::{lower_stretch, set_stretch};
 
 /// Sets the least length from the origin to each stop, straight or by a hub.
 pub(crate) fn set_reach(tables: &Tables, first: &[u64], reach: &mut [u64])
@@ -39,23 +40,10 @@ pub(crate) fn set_prices(tables: &Tables, first: &[u64], prices: &mut [u64])
     requires long { length prices.old ≡ tables.now.legs.size }
     ensures { ArePricesBy tables.now.legs first.now prices.new }
 {
-    for j in 0..tables.size() {
-        prices[j] = price_to(tables, first, j);
-    }
-}
-
-/// The least length from the origin to the destination, by one hub or by two.
-fn price_to(tables: &Tables, first: &[u64], j: usize) -> u64
-    requires some_hub { 1 ≤ tables.now.legs.hubs }
-    requires first { AreFirstLegs tables.now.legs first.now }
-    requires destination { j < tables.now.legs.size }
-    ensures { result ≡ price_by tables.now.legs first.now j }
-{
     let count = tables.count();
-    let mut least = first[count] + tables.back_row(count)[j];
+    set_stretch(prices, 0, first[count], tables.back_row(count));
     for x in 0..tables.hubs() {
         let m = tables.hub(x);
-        least = least.min(first[m] + tables.back_row(m)[j]);
+        lower_stretch(prices, 0, first[m], tables.back_row(m));
     }
-    least
 }

@@ -1,0 +1,4 @@
+pub mod PairLimits
+pub mod HubNodes
+pub mod LeastSums
+pub mod UnitCosts

@@ -1,0 +1,117 @@
+//! What a hub set costs, with the route of each commodity.
+
+ghost use Rattle.std.specs.Prelude.{◌≡◌, ◌<◌, ◌≤◌, [], IfOk, pos};
+ghost use Rattle.hub_spec.specs.Limits.{most_cost};
+ghost use Rattle.hub_spec.specs.Problem.{route_cost, IsProblem};
+ghost use Rattle.hub_spec.specs.Plans.{IsHubSet, IsLeastRoute, IsSetCost, plan_cost};
+ghost use Rattle.hub_model.specs.Amounts.{natural};
+ghost use Rattle.hub_plain.specs.Assignments.{AreLeastRoutes, plan_of};
+ghost use Rattle.leg_tables.specs.StopLegs.{AreLegsOf, AreFirstLegsOf};
+
+use crate::pairs::flow_between;
+use hub_model::{HubSet, Instance, signed};
+use leg_tables::{FirstLegs, SetLegs};
+use std::alloc::{AllocError, Global};
+use unit_duals::Hops;
+
+/// What a hub set costs, in 10^-12, and for each commodity in order the first and the last hub of its route.
+#[derive(Debug, Drop)]
+pub struct Assignment {
+    pub cost: i128,
+    pub routes: Vec<(u32, u32)>,
+}
+
+/// The first and the last hub of a commodity's route, and what the route costs, in 10^-12.
+#[derive(Clone, Copy)]
+struct PricedRoute {
+    first: u32,
+    last: u32,
+    cost: u128,
+}
+
+/// The cost of the hub set, and the least route of each commodity: of those that cost the same the one with the
+/// smallest first hub, and then the smallest last hub.
+pub fn assign(alloc: Global, instance: &Instance, set: &HubSet) -> Result<Assignment, AllocError>
+    requires { IsHubSet instance.now set.now }
+    ensures routes { IfOk result (λ a. AreLeastRoutes instance.now set.now a.routes.items) }
+    ensures cost { IfOk result (λ a. a.cost ≡ pos (plan_cost instance.now (plan_of set.now a.routes.items))) }
+    ensures set_cost { IfOk result (λ a. IsSetCost instance.now set.now (natural a.cost)) }
+{
+    assign_to(alloc, instance, set.members())
+}
+
+fn assign_to(alloc: Global, instance: &Instance, hubs: &[u32]) -> Result<Assignment, AllocError>
+    requires { IsHubSet instance.now hubs.now }
+    ensures routes { IfOk result (λ a. AreLeastRoutes instance.now hubs.now a.routes.items) }
+    ensures cost { IfOk result (λ a. a.cost ≡ pos (plan_cost instance.now (plan_of hubs.now a.routes.items))) }
+    ensures set_cost { IfOk result (λ a. IsSetCost instance.now hubs.now (natural a.cost)) }
+{
+    let n = instance.size();
+    let room = n as usize;
+    let hops = hops_of(alloc, instance, hubs)?;
+    let mut first = FirstLegs::new(alloc, room)?;
+    let mut routes = Vec::with_capacity(alloc, room * room)?;
+    let mut cost = instance.opening_cost(hubs);
+    for i in 0..n {
+        first.fill(instance, hubs, &[], i);
+        for j in 0..n {
+            let route = route_of(instance, hubs, &hops, first.as_slice(), i, j);
+            cost += route.cost;
+            routes.push((route.first, route.last))?;
+        }
+    }
+    Ok(Assignment {
+        cost: signed(cost),
+        routes,
+    })
+}
+
+/// The best last hub for each first hub and each node as a destination.
+fn hops_of(alloc: Global, instance: &Instance, hubs: &[u32]) -> Result<Hops, AllocError>
+    requires { IsHubSet instance.now hubs.now }
+    ensures legs { IfOk result (λ h. AreLegsOf instance.now hubs.now [] 0 h.legs) }
+    ensures size { IfOk result (λ h. h.legs.size ≡ instance.now.size) }
+{
+    let n = instance.size();
+    let room = n as usize;
+    let mut legs = SetLegs::new(alloc, room)?;
+    let mut hops = Hops::new(alloc, room)?;
+    legs.fill(instance, hubs, &[], 0, n);
+    hops.fill(&legs.legs());
+    Ok(hops)
+}
+
+/// The least route of the commodity from `i` to `j`. Where there is no flow, it is the first hub twice.
+fn route_of(
+    instance: &Instance,
+    hubs: &[u32],
+    hops: &Hops,
+    first: &[u64],
+    i: u32,
+    j: u32,
+) -> PricedRoute
+    requires problem { IsProblem instance.now }
+    requires set { IsHubSet instance.now hubs.now }
+    requires hops { AreLegsOf instance.now hubs.now [] 0 hops.now.legs }
+    requires first { AreFirstLegsOf instance.now hubs.now [] i first.now }
+    requires size { hops.now.legs.size ≡ instance.now.size }
+    requires from { i < instance.now.size }
+    requires to { j < instance.now.size }
+    ensures least { IsLeastRoute instance.now hubs.now (i, j) (result.first, result.last) }
+    ensures cost { result.cost ≡ route_cost instance.now i j result.first result.last }
+{
+    let flow = flow_between(instance, i, j);
+    if flow == 0 {
+        return PricedRoute {
+            first: hubs[0],
+            last: hubs[0],
+            cost: 0,
+        };
+    }
+    let route = hops.route(first, j as usize);
+    PricedRoute {
+        first: hubs[route.first],
+        last: hubs[route.last],
+        cost: flow as u128 * route.length as u128,
+    }
+}

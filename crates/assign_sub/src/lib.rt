@@ -1,0 +1,16 @@
+//! The assignment of all commodities to the hubs of a set: what the set costs, with the least route of each commodity.
+//!
+//! Lengths are found by unit of flow, and each is multiplied by its flow at the end. `assignments` finds the best last
+//! hub for each first hub and destination once, so that each route takes one pass over the first hubs: n * n * h steps
+//! for n nodes and h hubs. `set_costs` gives the cost alone and takes no memory: it keeps the least lengths from one
+//! origin to the last hubs. Costs are in 10^-12.
+#![tactic(auto)]
+
+mod assignments;
+mod pairs;
+mod set_costs;
+#[cfg(test)]
+mod tests;
+
+pub use assignments::{Assignment, assign};
+pub use set_costs::set_cost;

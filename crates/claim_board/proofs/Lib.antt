@@ -1,0 +1,5 @@
+pub mod Sums
+mod Sounds
+mod Runs
+mod Moves
+mod Closings

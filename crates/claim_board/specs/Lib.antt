@@ -1,0 +1,4 @@
+pub mod Hands
+pub mod Draws
+pub mod Rules
+pub mod Places

@@ -1,0 +1,5 @@
+pub mod SetOrder
+pub mod Indexes
+pub mod Columns
+pub mod Entered
+pub mod Grown

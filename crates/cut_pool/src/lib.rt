@@ -1,0 +1,15 @@
+//! The cuts that a search keeps, each under its number and found by its hub set.
+//!
+//! `CutSums` is what is kept of a cut: its hub set, its total and its load of each node. `Pool` numbers cuts from 1 in
+//! the order in which they are added, and `Pool::find` gives the number of a hub set's cut by a binary search. A pool
+//! keeps no duals. Totals and loads are `i128` in 10^-12, never below 0. Nodes are `u32`, counted from 0.
+#![tactic(auto)]
+
+mod cut_sums;
+mod places;
+mod pool;
+#[cfg(test)]
+mod tests;
+
+pub use cut_sums::CutSums;
+pub use pool::{Pool, Refused};

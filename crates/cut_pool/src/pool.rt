@@ -1,0 +1,186 @@
+//! Cuts under their numbers.
+
+ghost use Rattle.std.specs.Prelude.{◌≡◌, ℕ, ◌+◌, ◌<◌, ◌≤◌, [], ◌∷◌, ◌++◌, length, map, pos, slice_index, IfSome, IfNone, IsOk, IfOk, OnOk, OnErr, IfErr};
+ghost use Rattle.cut_pool.specs.Entries.{entry_of, entry_at, IsNumber, IsNumberOf, Lacks};
+
+use crate::CutSums;
+use crate::places::place_of;
+use hub_model::HubSet;
+use std::alloc::{AllocError, Global};
+use std::marker::Model;
+
+// The most cuts of a pool: their numbers are below 2^32.
+const MOST_KEPT: u64 = 4_294_967_295;
+
+/// The cuts of a search, numbered from 1 in the order in which they were added, no two of one hub set.
+///
+/// A pool is seen as its entries, with how many more can be added for certain without memory.
+#[derive(Debug, Drop)]
+pub struct Pool {
+    sets: Vec<HubSet>,
+    orders: Vec<Vec<u32>>,
+    totals: Vec<i128>,
+    loads: Vec<Vec<i128>>,
+    // The places of the sets, from 0, in the order of their members.
+    by_set: Vec<u32>,
+}
+
+impl Model for Pool {
+    ghost use Rattle.cut_pool.specs.Entries.{PoolState};
+
+    ghost Value = { PoolState };
+
+    ghost use Rattle.cut_pool.specs.PoolParts.{state_of, IsPool};
+
+    ghost view = { state_of };
+
+    ghost invariant = { IsPool };
+}
+
+/// A cut that was not added, since memory was wanting, with its order.
+#[derive(Debug, Drop)]
+pub struct Refused {
+    /// The cut.
+    pub cut: CutSums,
+    /// The order of the candidates outside its hub set.
+    pub order: Vec<u32>,
+}
+
+impl Pool {
+    /// A pool with no cut. It takes no memory.
+    pub fn new(alloc: Global) -> Result<Pool, AllocError>
+        ensures empty { IfOk result (λ p. p.entries ≡ []) }
+        ensures succeeds { IsOk result }
+    {
+        Ok(Pool {
+            sets: Vec::new(alloc),
+            orders: Vec::new(alloc),
+            totals: Vec::new(alloc),
+            loads: Vec::new(alloc),
+            by_set: Vec::new(alloc),
+        })
+    }
+
+    /// Takes memory for this many more cuts, so that adding them succeeds.
+    ///
+    /// A pool has at most 2^32 - 1 cuts: more are refused as want of memory.
+    pub fn reserve(&mut self, cuts: u64) -> Result<(), AllocError>
+        ensures entries { self.new.entries ≡ self.old.entries }
+        ensures spare { OnOk result (cuts ≤ self.new.spare) }
+        ensures kept { self.old.spare ≤ self.new.spare }
+        ensures succeeds { cuts ≤ self.old.spare → IsOk result }
+    {
+        if cuts > MOST_KEPT - self.sets.len() as u64 {
+            return Err(AllocError);
+        }
+        let more = cuts as usize;
+        self.sets.reserve(more)?;
+        self.orders.reserve(more)?;
+        self.totals.reserve(more)?;
+        self.loads.reserve(more)?;
+        self.by_set.reserve(more)
+    }
+
+    /// The number of the cut of this hub set, if there is one. It takes no memory.
+    ///
+    /// No two cuts are of one hub set, so the number is the only one.
+    pub fn find(&self, set: &HubSet) -> Option<u64>
+        ensures some { IfSome result (IsNumberOf self.now.entries set.now) }
+        ensures only { IfSome result (λ c. (x : ℕ) → IsNumberOf self.now.entries set.now x → x ≡ c) }
+        ensures none { IfNone result (Lacks self.now.entries set.now) }
+    {
+        let hubs = set.members();
+        let at = place_of(&self.sets, &self.by_set, hubs);
+        if at == self.by_set.len() {
+            return None;
+        }
+        let place = self.by_set[at];
+        if self.sets[place as usize].members() != hubs {
+            return None;
+        }
+        Some(u64::from(place) + 1)
+    }
+
+    /// Adds the cut of a hub set that has none yet, with the order of the other candidates that it was worked out over,
+    /// and gives its number, the next one.
+    ///
+    /// Cut and order come back where memory is wanting, or where the pool has all the cuts that it can number.
+    pub fn add(&mut self, cut: CutSums, order: Vec<u32>) -> Result<u64, Refused>
+        requires { Lacks self.old.entries cut.hubs }
+        ensures number { IfOk result (λ c. c ≡ length self.old.entries + 1) }
+        ensures added { OnOk result (self.new.entries ≡ self.old.entries ++ entry_of cut order.items ∷ []) }
+        ensures spare { OnOk result (self.old.spare ≤ self.new.spare + 1) }
+        ensures succeeds { 1 ≤ self.old.spare → IsOk result }
+        ensures refused { OnErr result (self.new.entries ≡ self.old.entries) }
+        ensures given_back { IfErr result (λ r. r.cut ≡ cut) }
+        ensures order_given_back { IfErr result (λ r. r.order.items ≡ order.items) }
+    {
+        if self.reserve(1).is_err() {
+            return Err(Refused { cut, order });
+        }
+        let place = self.sets.len() as u32;
+        let at = place_of(&self.sets, &self.by_set, cut.set().members());
+        // It succeeds, since there is room.
+        let _ = self.by_set.insert(at, place);
+        let (set, total, loads) = cut.into_parts();
+        self.sets.push_reserved(set);
+        self.orders.push_reserved(order);
+        self.totals.push_reserved(total);
+        self.loads.push_reserved(loads);
+        Ok(u64::from(place) + 1)
+    }
+
+    /// How many cuts there are.
+    pub fn len(&self) -> u64
+        ensures { result ≡ length self.now.entries }
+    {
+        self.sets.len() as u64
+    }
+
+    /// The total of cut `c`, in 10^-12.
+    pub fn total(&self, c: u64) -> i128
+        requires { IsNumber self.now.entries c }
+        ensures { result ≡ pos (entry_at self.now.entries c).total }
+    {
+        self.totals[(c - 1) as usize]
+    }
+
+    /// The load of node `k` in cut `c`, in 10^-12.
+    pub fn load(&self, c: u64, k: u32) -> i128
+        requires number { IsNumber self.now.entries c }
+        requires node { k < length (entry_at self.now.entries c).loads }
+        ensures { result ≡ pos (slice_index (entry_at self.now.entries c).loads k) }
+    {
+        self.loads[(c - 1) as usize][k as usize]
+    }
+
+    /// The hub set of cut `c`.
+    pub fn set(&self, c: u64) -> &HubSet
+        requires { IsNumber self.now.entries c }
+        ensures { result.now ≡ (entry_at self.now.entries c).hubs }
+    {
+        &self.sets[(c - 1) as usize]
+    }
+
+    /// The order of the candidates outside the hub set that cut `c` was worked out over.
+    pub fn order(&self, c: u64) -> &[u32]
+        requires { IsNumber self.now.entries c }
+        ensures { result.now ≡ (entry_at self.now.entries c).order }
+    {
+        &self.orders[(c - 1) as usize]
+    }
+
+    /// The total of each cut, in 10^-12, in the order of their numbers.
+    pub fn totals(&self) -> &[i128]
+        ensures { result.now ≡ map (λ e. pos e.total) self.now.entries }
+    {
+        &self.totals
+    }
+
+    /// The loads of each cut, in 10^-12, in the order of their numbers.
+    pub fn loads(&self) -> &[Vec<i128>]
+        ensures { map (λ v. v.items) result.now ≡ map (λ e. map pos e.loads) self.now.entries }
+    {
+        &self.loads
+    }
+}

@@ -1,0 +1,14 @@
+pub mod Parts
+pub mod Scalings
+pub mod MasterColumns
+pub mod WholeMasters
+pub mod Written
+pub mod LastTables
+pub mod Products
+pub mod BasicSolutions
+pub mod MasterRows
+pub mod Mixes
+pub mod MasterTables
+pub mod Advised
+pub mod IntegerSums
+pub mod BestMixes

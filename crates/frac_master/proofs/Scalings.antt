@@ -1,0 +1,149 @@
+-- How often numbers are halved, and what is small then.
+use Rattle.std.proofs.Common.{◌≡◌, ℕ, zero, suc, ◌/◌, ◌^◌, ◌<◌, ◌≤◌, false, List, [], ◌∷◌, ◌++◌, map, get_or, max, not, All, ℤ, Vec, Global, refl, sym, ap, ◌∙◌, ⊎_elim, arith}
+use Rattle.std.specs.Prelude.{fold, nat_le, slice_index}
+use Rattle.std.specs.List.{flat_map, range_with_len, position_or_len}
+use Rattle.std.proofs.Math.Nat.{le-max_left, le-max_right, le-div_iff_mul-le, div-eq_of_lt, pow-suc}
+use Rattle.std.proofs.lemmas.Nat.{pow_pos}
+use Rattle.std.proofs.lemmas.Bool.{leb-true, cases_lt}
+use Rattle.std.proofs.lemmas.Bool.Decides.{nat_tests}
+use Rattle.std.proofs.lemmas.List.{map-append}
+use Rattle.std.proofs.lemmas.List.Elements.{All-nil, All-cons, All-weaker}
+use Rattle.std.proofs.lemmas.List.Sums.{fold-append, position_or_len_is, fails_before_first, passes_at_first, prefix_len-le-length}
+use Rattle.std.proofs.lemmas.List.FromFn.{length-range_with_len, get_or-range_with_len}
+use Rattle.hub_spec.specs.Problem.{greatest}
+use Rattle.hub_spec.specs.Trees.{Branching}
+use Rattle.hub_model.specs.Amounts.{natural}
+use Rattle.frac_master.specs.Masters.{MasterNumbers, master_of, candidates_of, at_nodes, greatest_number, most_scaled, halved, halvings}
+use Rattle.frac_master.specs.Theorems.{AreHalvings, LeastHalvings}
+use Rattle.frac_master.specs.Scaled.{AreSmallAt, AreScaled}
+use Rattle.frac_master.proofs.Parts.{all_left, all_right, all_mapped, all_parts}
+
+-- ---- the greatest
+
+fold_max : (a : ℕ) (xs : List ℕ) → (a ≤ fold max a xs) × All (λ x. x ≤ fold max a xs) xs
+fold_max a [] = (omega arith, All-nil (λ x. x ≤ a))
+fold_max a (x ∷ xs) =
+    let rest = fold_max (max a x) xs in
+    let low = rest.0 in (
+      omega (arith, le-max_left a x),
+      All-cons (λ y. y ≤ fold max (max a x) xs) x xs (omega (arith, le-max_right a x)) rest.1,
+    )
+
+all_below : (m : MasterNumbers) (b : Branching)
+    → All (λ x. x ≤ greatest_number m b) (m.totals ++ (flat_map (at_nodes (candidates_of b)) m.loads ++ at_nodes (candidates_of b) m.fixed))
+unfolding greatest_number greatest
+all_below m b = (fold_max 0 (m.totals ++ (flat_map (at_nodes (candidates_of b)) m.loads ++ at_nodes (candidates_of b) m.fixed))).1
+
+-- node by node, as the code goes
+pub fold_candidates : (most : ℕ) (b : Branching) (row : List ℕ)
+    → fold max most (at_nodes (candidates_of b) row)
+    ≡ fold max (fold max (fold max most (at_nodes b.inside row)) (at_nodes b.outside row)) (at_nodes b.free row)
+fold_candidates most b row =
+    let f = slice_index row in
+    ap (fold max most) (map-append f b.inside (b.outside ++ b.free) ∙ ap (λ ys. map f b.inside ++ ys) (map-append f b.outside b.free))
+    ∙ fold-append max most (map f b.inside) (map f b.outside ++ map f b.free)
+    ∙ fold-append max (fold max most (map f b.inside)) (map f b.outside) (map f b.free)
+
+parts_of_rows : (f : List ℕ → List ℕ) (loads : List (Vec ℤ Global))
+    → flat_map f (map (map natural) (map (λ (v : Vec ℤ Global). v.items) loads)) ≡ flat_map (λ (v : Vec ℤ Global). f (map natural v.items)) loads
+parts_of_rows f [] = refl
+parts_of_rows f (v ∷ loads) = ap (λ ys. f (map natural v.items) ++ ys) (parts_of_rows f loads)
+
+pub greatest_by : (totals fixed : List ℤ) (loads : List (Vec ℤ Global)) (b : Branching) (most result : ℕ)
+    → most ≡ fold max 0 (map natural totals ++ flat_map (λ (v : Vec ℤ Global). at_nodes (candidates_of b) (map natural v.items)) loads)
+    → result ≡ fold max most (at_nodes (candidates_of b) (map natural fixed))
+    → result ≡ greatest_number (master_of totals (map (λ (v : Vec ℤ Global). v.items) loads) fixed) b
+unfolding greatest_number greatest
+greatest_by totals fixed loads b most result most_is result_is =
+    let nodes = candidates_of b in
+    let m = master_of totals (map (λ (v : Vec ℤ Global). v.items) loads) fixed in
+    let of_fixed = at_nodes nodes m.fixed in
+    let of_loads = flat_map (at_nodes nodes) m.loads in
+    result_is
+    ∙ ap (λ n. fold max n of_fixed)
+    (most_is ∙ ap (λ ys. fold max 0 (m.totals ++ ys)) (sym (parts_of_rows (at_nodes nodes) loads)) ∙ fold-append max 0 m.totals of_loads)
+    ∙ sym (fold-append max (fold max 0 m.totals) of_loads of_fixed) ∙ sym (fold-append max 0 m.totals (of_loads ++ of_fixed))
+
+halved_le : (h x y : ℕ) → x ≤ y → halved h x ≤ halved h y
+halved_le h x y le =
+    let pos = pow_pos h in
+    (le-div_iff_mul-le {k = 2 ^ h} {x = x / 2 ^ h} {y = y} pos).1 (omega (arith, (le-div_iff_mul-le {k = 2 ^ h} {x = x / 2 ^ h} {y = x} pos).0 (omega arith)))
+
+small_under : (h g x : ℕ) → halved h g ≤ most_scaled → x ≤ g → halved h x ≤ most_scaled
+small_under h g x enough le = omega (arith, halved_le h x g le)
+
+pub scaled_by : (h : ℕ) (m : MasterNumbers) (b : Branching) → halved h (greatest_number m b) ≤ most_scaled → AreScaled h m b
+scaled_by h m b enough =
+    let nodes = candidates_of b in
+    let of_loads = flat_map (at_nodes nodes) m.loads in
+    let of_fixed = at_nodes nodes m.fixed in
+    let g = greatest_number m b in
+    let below : All (λ x. x ≤ g) (m.totals ++ (of_loads ++ of_fixed)) = all_below m b in
+    let small = λ (x : ℕ) (le : x ≤ g). small_under h g x enough le in
+    let behind : All (λ x. x ≤ g) (of_loads ++ of_fixed) = all_right (λ x. x ≤ g) m.totals (of_loads ++ of_fixed) below in
+    let row = λ (row : List ℕ) (all : All (λ x. x ≤ g) (at_nodes nodes row)).
+    All-weaker (λ k. slice_index row k ≤ g) (λ k. halved h (slice_index row k) ≤ most_scaled) (λ k le. small (slice_index row k) le) nodes
+    (all_mapped (λ x. x ≤ g) (slice_index row) nodes all) in
+    record {
+      totals = All-weaker (λ x. x ≤ g) (λ x. halved h x ≤ most_scaled) small m.totals (all_left (λ x. x ≤ g) m.totals (of_loads ++ of_fixed) below);
+      loads =
+          All-weaker (λ row. All (λ x. x ≤ g) (at_nodes nodes row)) (AreSmallAt h nodes) row m.loads
+          (all_parts (λ x. x ≤ g) (at_nodes nodes) m.loads (all_left (λ x. x ≤ g) of_loads of_fixed behind));
+      fixed = row m.fixed (all_right (λ x. x ≤ g) of_loads of_fixed behind);
+    }
+
+-- ---- halvings
+
+lt_pow : (n : ℕ) → n < 2 ^ n
+lt_pow zero = omega arith
+lt_pow (suc n) = omega (arith, lt_pow n, pow-suc 2 n)
+
+-- there are no more halvings than the number itself
+few_halvings : (g h : ℕ) → AreHalvings g h → h ≤ g
+few_halvings g zero are = omega arith
+few_halvings g (suc e) are =
+    let more = are.least e (omega arith) in
+    let whole = (le-div_iff_mul-le {k = 2 ^ e} {x = 1} {y = g} (pow_pos e)).0 (omega (arith, more)) in
+    omega (arith, whole, lt_pow e)
+
+pub halvings_are : (g h : ℕ) → AreHalvings g h → halvings g ≡ h
+unfolding halvings
+halvings_are g h are =
+    position_or_len_is (λ e. nat_le (halved e g) most_scaled) (range_with_len 0 g) h 0
+    (omega (arith, length-range_with_len 0 g, few_halvings g h are))
+    (λ k low.
+    let within : k < g = omega (arith, few_halvings g h are) in
+    let more = are.least k low in
+    rw (get_or-range_with_len 0 g k 0 within) (grind (arith, nat_tests)))
+    (λ low.
+    let within : h < g = omega (arith, length-range_with_len 0 g) in
+    let enough = are.enough in
+    rw (get_or-range_with_len 0 g h 0 within) (grind (arith, nat_tests)))
+
+-- the number of the list 0, 1, 2 and so on at the place i
+range_at : (n i : ℕ) → i < n → get_or (range_with_len 0 n) i 0 ≡ i
+range_at n i low = get_or-range_with_len 0 n i 0 low ∙ omega arith
+
+pub least_halvings : LeastHalvings
+unfolding halvings
+least_halvings g =
+    let p = λ (e : ℕ). nat_le (halved e g) most_scaled in
+    let h = position_or_len p (range_with_len 0 g) in
+    let most : h ≤ g = omega (arith, prefix_len-le-length (λ x. not (p x)) (range_with_len 0 g), length-range_with_len 0 g) in
+    record {
+      enough =
+          ⊎_elim
+          (λ (less : h < g).
+          let passes = passes_at_first p (range_with_len 0 g) 0 (omega (arith, length-range_with_len 0 g)) in
+          leb-true (halved h g) most_scaled (ap p (sym (range_at g h less)) ∙ passes))
+          (λ (all : g ≤ h).
+          let same : h ≡ g = omega arith in
+          let none : halved g g ≡ 0 = div-eq_of_lt (lt_pow g) in
+          rw same (omega (arith, none)))
+          (cases_lt h g);
+      least =
+          λ e low.
+          let fails = fails_before_first p (range_with_len 0 g) e 0 low in
+          let at : p e ≡ false = ap p (sym (range_at g e (omega arith))) ∙ fails in
+          grind (arith, nat_tests);
+    }

@@ -1,0 +1,55 @@
+//! What a master advises.
+
+ghost use Rattle.std.specs.Prelude.{◌≡◌, ◌<◌, length, map, All, IfOk};
+ghost use Rattle.frac_master.specs.Masters.{AreMasterNumbers, master_of, candidates_of};
+ghost use Rattle.frac_master.specs.Advice.{advice, advice_of_code, AreMixWeights};
+
+use crate::reading::{point_of, scale_of, weights_of};
+use crate::{Ended, rows_of};
+use hub_model::Branch;
+use std::alloc::{AllocError, Global};
+
+/// What the last table of a master's run advises.
+#[derive(Clone, Debug, Drop)]
+pub struct Advice {
+    /// The weight of each cut, in 10^-6 and rounded down; they are not below 0, and at most 10^6 together.
+    pub weights: Vec<i128>,
+    /// For each node how much of it the mixture would open, where `scale` stands for the whole of it.
+    pub point: Vec<i128>,
+    /// The number of the point that stands for 1.
+    pub scale: i128,
+    /// How the run ended.
+    pub ended: Ended,
+    /// How many pivots were made.
+    pub pivots: u32,
+}
+
+/// What the branch's master advises, once its rows are run. For the arguments see `rows_of`.
+///
+/// Where memory runs out, and where the master is beyond what `Rows` can hold, the answer is `AllocError`.
+pub fn advise(
+    alloc: Global,
+    totals: &[i128],
+    loads: &[Vec<i128>],
+    fixed: &[i128],
+    branch: &Branch,
+) -> Result<Advice, AllocError>
+    requires numbers { AreMasterNumbers totals.now (map (λ v. v.items) loads.now) fixed.now }
+    requires nodes { All (λ k. k < length fixed.now) (candidates_of branch.now) }
+    ensures advice { IfOk result
+        (λ a. advice_of_code a ≡ advice (master_of totals.now (map (λ v. v.items) loads.now) fixed.now) branch.now) }
+    ensures weights { IfOk result (λ a. AreMixWeights (length totals.now) a.weights.items) }
+{
+    let mut rows = rows_of(alloc, totals, loads, fixed, branch)?;
+    // Behind the variables stand the slacks, v and the right side.
+    let variables = rows.columns() - rows.constraints() - 2;
+    let (ended, pivots) = rows.run();
+    let scale = scale_of(&rows);
+    Ok(Advice {
+        weights: weights_of(alloc, &rows, totals.len())?,
+        point: point_of(alloc, &rows, fixed.len(), variables, scale, branch)?,
+        scale,
+        ended,
+        pivots,
+    })
+}

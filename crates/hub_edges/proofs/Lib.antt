@@ -1,0 +1,5 @@
+pub mod EntryOrder
+pub mod WrittenPairs
+pub mod SortedRows
+pub mod InsideEntries
+pub mod OneRow

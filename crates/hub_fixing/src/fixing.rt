@@ -1,0 +1,42 @@
+//! The free candidates of which a side stays.
+
+ghost use Rattle.std.specs.Prelude.{◌≡◌, ◌^◌, false, pos, ◌≤ℤ◌, length, map, IfOk};
+ghost use Rattle.hub_model.specs.Amounts.{natural};
+ghost use Rattle.leaf_bound.specs.Numbers.{AreWeightingNumbers, IsBranchBelow, weighting_of};
+ghost use Rattle.hub_fixing.specs.Fixing.{closes_by, fixings};
+
+use crate::sides::{Side, side_by};
+use hub_model::Branch;
+use leaf_bound::{bound, gain, threshold};
+use std::alloc::{AllocError, Global};
+
+/// The free candidates of the branch, ascending, of which a side stays under these weights, each with that side.
+///
+/// The target is in 10^-12. The branch itself does not close it; where it does, both children of each free candidate do.
+pub fn fix(
+    alloc: Global,
+    totals: &[i128],
+    loads: &[Vec<i128>],
+    fixed: &[i128],
+    weights: &[i128],
+    denom: i128,
+    branch: &Branch,
+    target: i128,
+) -> Result<Vec<(u32, Side)>, AllocError>
+    requires numbers { AreWeightingNumbers totals.now (map (λ v. v.items) loads.now) fixed.now weights.now denom }
+    requires nodes { IsBranchBelow (length fixed.now) branch.now }
+    requires target { (pos 0 ≤ℤ target) × (target ≤ℤ pos (10 ^ 30)) }
+    requires not_closed { closes_by (weighting_of totals.now (map (λ v. v.items) loads.now) fixed.now weights.now denom) (natural target) branch.now ≡ false }
+    ensures { IfOk result (λ sides. sides.items ≡ fixings (weighting_of totals.now (map (λ v. v.items) loads.now) fixed.now weights.now denom) (natural target) branch.now) }
+{
+    let whole = bound(totals, loads, fixed, weights, denom, branch);
+    let threshold = threshold(denom, target);
+    let mut sides = Vec::new(alloc);
+    for k in branch.free() {
+        let gain = gain(totals, loads, fixed, weights, denom, *k);
+        if let Some(side) = side_by(whole, gain, threshold) {
+            sides.push((*k, side))?;
+        }
+    }
+    Ok(sides)
+}

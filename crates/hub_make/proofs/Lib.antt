@@ -1,0 +1,7 @@
+mod Joining
+pub mod Decimals
+pub mod TokenTexts
+mod WordPlaces
+mod Tokens
+mod Legal
+mod Reading

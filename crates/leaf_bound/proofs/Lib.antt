@@ -1,0 +1,3 @@
+pub mod WeightedSums
+pub mod LentNumbers
+pub mod LeafWeights

@@ -1,0 +1,4 @@
+pub mod Bounds
+pub mod Numbers
+pub mod Weighing
+pub mod Theorems

@@ -1,0 +1,44 @@
+-- The weighted sums and the gains that a bound is made of, over the numbers as they come in.
+use Rattle.std.specs.Prelude.{ℕ, ◌+◌, ◌*◌, ◌<◌, ◌≤◌, ℤ, pos, ◌-ℤ◌, ◌≤ℤ◌, List, length, map, sum, slice_index, All}
+use Rattle.std.specs.List.{slice_index_or}
+use Rattle.hub_spec.specs.Limits.{most_nodes, most_cost, most_denominator}
+use Rattle.hub_spec.specs.Trees.{gain}
+use Rattle.hub_model.specs.Amounts.{IsNatural}
+use Rattle.leaf_bound.specs.Bounds.{weighted_by, loads_of}
+use Rattle.leaf_bound.specs.Numbers.{naturals, IsCost}
+
+-- what a weighted sum is at most, and so a gain in size
+abbrev pub most_gain : ℕ
+most_gain = most_denominator * most_cost
+
+-- what a bound is at most in size: a weighted sum, and a gain for each node inside and for each free one
+abbrev pub most_bound : ℕ
+most_bound = (1 + most_nodes + most_nodes) * most_gain
+
+-- weights on numbers
+pub record AreWeighed (weights numbers : List ℤ) : Type 0 where
+  pub few : length weights ≤ length numbers
+  pub are_weights : All IsNatural weights
+  pub weights_limit : sum (naturals weights) ≤ most_denominator
+  pub are_numbers : All IsCost numbers
+
+-- the numbers of the node, one of each row
+abbrev pub column : List (List ℤ) → ℕ → List ℤ
+column rows k = map (λ row. slice_index_or row k (pos 0)) rows
+
+-- what the gains of nodes are made of
+pub record AreGainNumbers (loads : List (List ℤ)) (fixed weights : List ℤ) (denom : ℕ) : Type 0 where
+  pub wide : All (λ row. length fixed ≤ length row) loads
+  pub weighed : (k : ℕ) → k < length fixed → AreWeighed weights (column loads k)
+  pub are_fixed_costs : All IsCost fixed
+  pub denom_most : denom ≤ most_denominator
+
+-- the gain of the node
+abbrev pub gain_by : List (List ℤ) → List ℤ → List ℤ → ℕ → ℕ → ℤ
+gain_by loads fixed weights denom k =
+    gain denom (slice_index (naturals fixed)) (λ n. weighted_by (naturals weights) (loads_of (map naturals loads) n)) k
+
+-- the number is at most the limit in size
+pub record IsWithin (limit : ℕ) (z : ℤ) : Type 0 where
+  pub least : (pos 0 -ℤ pos limit) ≤ℤ z
+  pub most : z ≤ℤ pos limit

@@ -1,0 +1,3 @@
+pub mod StopLegs
+pub mod LegParts
+pub mod Theorems

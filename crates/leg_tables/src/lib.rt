@@ -1,0 +1,22 @@
+//! The legs of an instance's routes by unit of flow, as tables for `unit_duals`.
+//!
+//! A stop is a place of an order or a hub, and stands for that node. `set_legs` has the legs between the stops and from
+//! them to the destinations, `first_legs` those from one origin to the stops; `filling` works them out of the
+//! instance's distances. A leg is a factor times a distance, in 10^-6.
+//!
+//! `laws` says what the lengths of ways are in the instance: times the flow, the cost of the route by the same nodes.
+#![tactic(auto)]
+
+mod filling;
+mod first_legs;
+mod laws;
+mod set_legs;
+#[cfg(test)]
+mod tests;
+
+pub use first_legs::FirstLegs;
+pub use laws::{
+    alone_costs_route, first_hub_serves_no_flow, first_route_is_least, hub_stops_are_hubs,
+    price_is_least_cost, ways_cost_routes,
+};
+pub use set_legs::SetLegs;

@@ -1,0 +1,6 @@
+pub mod Separations
+pub mod SeparationParts
+pub mod UnitCosts
+pub mod AddedRows
+pub mod Buffers
+pub mod Scratches

@@ -1,0 +1,31 @@
+//! The duals of a hub set's cut, over an order of the candidates outside it.
+//!
+//! All commodities of an origin are worked out together, by unit of flow (`unit_duals`): what hangs on the set and the
+//! order alone is worked out once (`set_tables`), a `Separation` is all that an origin's duals hang on, and
+//! `OriginScratch` is what they are worked out in, one for each worker. `sums` adds them up, and `DualBuffer` lends one
+//! of them as a certificate's line has it. `Scratch` has one of each, for a single thread: it serves one commodity
+//! (`strong_dual_in`), or all commodities of one origin after another. `orders` has the order of the candidates outside
+//! a set by a point. Costs are in 10^-12, lengths by unit of flow in 10^-6. Nodes are `u32`, counted from 0.
+#![tactic(auto)]
+
+mod buffers;
+mod flows;
+mod orders;
+mod origins;
+mod scratches;
+mod separations;
+mod set_cuts;
+mod set_tables;
+mod strong_duals;
+mod sums;
+#[cfg(test)]
+mod tests;
+
+pub use buffers::DualBuffer;
+pub use orders::order_of;
+pub use origins::OriginScratch;
+pub use scratches::Scratch;
+pub use separations::Separation;
+pub use set_cuts::{cut_of, cut_sums};
+pub use set_tables::SetTables;
+pub use strong_duals::{strong_dual, strong_dual_in};

@@ -1,0 +1,94 @@
+//! What is worked out once for a hub set and an order.
+
+ghost use Rattle.std.specs.Prelude.{◌≡◌, ◌+◌, ◌<◌, ◌≤◌, IfOk, IfSome, IsNone};
+ghost use Rattle.hub_spec.specs.Problem.{IsProblem};
+ghost use Rattle.hub_spec.specs.Plans.{IsHubSet};
+ghost use Rattle.hub_spec.specs.Separation.{IsOrder};
+ghost use Rattle.unit_duals.specs.Limits.{most_room};
+ghost use Rattle.unit_duals.specs.Lengths.{no_legs};
+ghost use Rattle.pareto_cuts.specs.Separations.{AreTablesOf};
+
+use hub_model::{HubSet, Instance};
+use leg_tables::SetLegs;
+use std::alloc::{AllocError, Global};
+use std::marker::Model;
+use unit_duals::Tables;
+
+/// The tables of a hub set and an order, with the room that was taken for them: so many destinations, and so many hubs
+/// and candidates of the order, there may be.
+///
+/// They are only read while the duals of origins are worked out, so several workers may share them.
+#[derive(Debug, Drop)]
+pub struct SetTables {
+    legs: SetLegs,
+    tables: Tables,
+}
+
+impl Model for SetTables {
+    ghost use Rattle.std.specs.Prelude.{◌≡◌};
+    ghost use Rattle.unit_duals.specs.Lengths.{RoomedLegs};
+
+    ghost Value = { RoomedLegs };
+
+    ghost view = { λ s. s.tables };
+
+    ghost invariant = { λ s. s.legs.room ≡ s.tables.room };
+}
+
+impl SetTables {
+    /// Tables with this room, as yet of no set.
+    pub fn new(alloc: Global, room: usize) -> Result<SetTables, AllocError>
+        requires { room ≤ most_room }
+        ensures { IfOk result (λ t. t ≡ record { room = room; legs = no_legs }) }
+    {
+        Ok(SetTables {
+            legs: SetLegs::new(alloc, room)?,
+            tables: Tables::new(alloc, room)?,
+        })
+    }
+
+    /// Makes these the tables of the hub set and the order: for one destination, or for all nodes. It takes no memory.
+    pub fn fill(
+        &mut self,
+        instance: &Instance,
+        set: &HubSet,
+        order: &[u32],
+        destination: Option<u32>,
+    )
+        requires room { instance.now.size ≤ self.old.room }
+        requires set { IsHubSet instance.now set.now }
+        requires order { IsOrder instance.now set.now order.now }
+        requires destination { IfSome destination (λ j. j < instance.now.size) }
+        ensures problem { IsProblem instance.now }
+        ensures room { self.new.room ≡ self.old.room }
+        ensures all { IsNone destination → AreTablesOf instance.now set.now order.now 0 instance.now.size self.new.legs }
+        ensures one { IfSome destination (λ j. AreTablesOf instance.now set.now order.now j 1 self.new.legs) }
+    {
+        let nodes = instance.size();
+        match destination {
+            Some(j) => self.fill_legs(instance, set.members(), order, j, 1),
+            None => self.fill_legs(instance, set.members(), order, 0, nodes),
+        }
+    }
+
+    // The same for `size` destinations from `start` on.
+    fn fill_legs(&mut self, instance: &Instance, hubs: &[u32], order: &[u32], start: u32, size: u32)
+        requires problem { IsProblem instance.now }
+        requires room { instance.now.size ≤ self.old.room }
+        requires set { IsHubSet instance.now hubs.now }
+        requires order { IsOrder instance.now hubs.now order.now }
+        requires destinations { start + size ≤ instance.now.size }
+        ensures room { self.new.room ≡ self.old.room }
+        ensures tables { AreTablesOf instance.now hubs.now order.now start size self.new.legs }
+    {
+        self.legs.fill(instance, hubs, order, start, size);
+        self.tables.fill(&self.legs.legs());
+    }
+
+    /// The tables by unit of flow.
+    pub(crate) fn tables(&self) -> &Tables
+        ensures { result.now ≡ self.now }
+    {
+        &self.tables
+    }
+}

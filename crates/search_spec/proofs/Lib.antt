@@ -1,0 +1,16 @@
+pub mod Keeping
+pub mod Bounds
+pub mod Fixings
+pub mod Invariants
+pub mod Separated
+pub mod Leaves
+pub mod Rounds
+pub mod Parting
+pub mod Nodes
+pub mod FoundProofs
+pub mod WholeSearches
+pub mod Falling
+pub mod SetCosts
+pub mod RuleParts
+pub mod StepCases
+pub mod LeastRoutes

@@ -1,0 +1,6 @@
+pub mod PoolNumbers
+pub mod Weighed
+pub mod MasterNumbers
+pub mod Sides
+pub mod Points
+pub mod LeafPairs

@@ -1,0 +1,112 @@
+-- The master of a pool's cuts, and what it advises a search.
+use Rattle.std.proofs.Common.{◌≡◌, ℕ, ◌<◌, ℤ, pos, List, ◌++◌, length, map, All, sym, ap, ap₂, subst, ◌∙◌, Option, arith}
+use Rattle.std.proofs.lemmas.Int.{ints}
+use Rattle.std.proofs.lemmas.List.{length-map}
+use Rattle.std.proofs.lemmas.List.FromFn.{length-map-range_with_len}
+use Rattle.std.proofs.lemmas.List.Elements.{All-append, All-map, All-weaker}
+use Rattle.hub_spec.specs.Problem.{Problem, IsProblem}
+use Rattle.hub_spec.specs.Cuts.{Cut, total}
+use Rattle.hub_spec.specs.Trees.{Branching, IsBranch}
+use Rattle.hub_model.specs.Amounts.{natural, IsNatural}
+use Rattle.hub_model.proofs.Signs.{pos_least}
+use Rattle.leaf_bound.specs.Numbers.{naturals, IsCost}
+use Rattle.leaf_bound.proofs.LeafWeights.{pairs_mix}
+use Rattle.frac_master.specs.Masters.{MasterNumbers, AreMasterNumbers, master_of, candidates_of}
+use Rattle.frac_master.specs.Advice.{Advised, advice, AreMixWeights}
+use Rattle.frac_master.specs.Theorems.{IsMaster, IsMixed}
+use Rattle.frac_master.proofs.MasterTables.{weights_are_a_mix}
+use Rattle.search_spec.specs.States.{denominator}
+use Rattle.cut_pool.specs.Entries.{Entry}
+use Rattle.search_steps.specs.Pools.{IsSumsOf, IsPoolOf, pool_cuts, state_by}
+use Rattle.search_steps.specs.Advising.{node_loads, master_numbers, told_by, master_advising}
+use Rattle.search_steps.specs.Weights.{AreFixedCosts, AreNodeWeights}
+use Rattle.search_steps.specs.Theorems.{AdvisingIsSound}
+use Rattle.search_steps.proofs.PoolNumbers.{lent_totals, lent_loads, naturals_totals, naturals_loads, loads_least, loads_costs, fixed_naturals, fixed_long}
+use Rattle.search_steps.proofs.Weighed.{below_size, branch_below}
+
+-- the numbers are those that the pool lends, with the fixed costs
+pub record AreMasters (p : Problem) (entries : List Entry) (totals : List ℤ) (loads : List (List ℤ)) (fixed : List ℤ) : Type 0 where
+  pub pool : IsPoolOf p entries
+  pub costs : AreFixedCosts p fixed
+  pub are_totals : totals ≡ lent_totals entries
+  pub are_loads : loads ≡ lent_loads entries
+
+pub many_totals : (p : Problem) (entries : List Entry) (totals : List ℤ) (loads : List (List ℤ)) (fixed : List ℤ)
+    → AreMasters p entries totals loads fixed → length totals ≡ length entries
+many_totals p entries totals loads fixed are = ap length are.are_totals ∙ length-map entries (λ (e : Entry). pos e.total)
+
+pub numbers_serve : (p : Problem) (entries : List Entry) (totals : List ℤ) (loads : List (List ℤ)) (fixed : List ℤ)
+    → AreMasters p entries totals loads fixed → AreMasterNumbers totals loads fixed
+numbers_serve p entries totals loads fixed are = record {
+  one_each = ap length are.are_loads ∙ length-map entries (λ (e : Entry). map pos e.loads) ∙ sym (many_totals p entries totals loads fixed are);
+  as_long = subst (All (λ (row : List ℤ). length row ≡ length fixed)) (sym are.are_loads)
+      (All-weaker (λ (row : List ℤ). (length row ≡ length fixed) × All IsCost row) (λ (row : List ℤ). length row ≡ length fixed) (λ row is. is.0)
+      (lent_loads entries) (loads_costs p entries (length fixed) are.costs.problem are.pool (fixed_long p fixed are.costs)));
+  totals_low = subst (All IsNatural) (sym are.are_totals) (All-map IsNatural (λ (e : Entry). pos e.total) entries
+      (All-weaker (IsSumsOf p) (λ (e : Entry). IsNatural (pos e.total)) (λ e is. omega (arith, ints)) entries are.pool));
+  loads_low = subst (All (λ (row : List ℤ). All IsNatural row)) (sym are.are_loads) (loads_least entries);
+  fixed_low = subst (All IsNatural) (sym are.costs.costs) (pos_least p.fixed_costs);
+}
+
+pub nodes_serve : (p : Problem) (fixed : List ℤ) (b : Branching) → AreFixedCosts p fixed → IsBranch p b
+    → All (λ k. k < length fixed) (candidates_of b)
+nodes_serve p fixed b costs is =
+    let n = length fixed in
+    let below = branch_below p fixed b costs is in
+    All-append (λ k. k < n) b.inside (b.outside ++ b.free) below.inside (All-append (λ k. k < n) b.outside b.free below.outside below.free)
+
+-- the numbers are those of the master of the cuts
+masters_same : (p : Problem) (entries : List Entry) (totals : List ℤ) (loads : List (List ℤ)) (fixed : List ℤ)
+    → AreMasters p entries totals loads fixed → master_of totals loads fixed ≡ master_numbers p (pool_cuts p entries)
+masters_same p entries totals loads fixed are =
+    let of : List ℕ → List (List ℕ) → List ℕ → MasterNumbers = λ t l f. record { totals = t; loads = l; fixed = f } in
+    ap₂ (λ t l. of t l (naturals fixed)) (ap naturals are.are_totals ∙ naturals_totals p entries are.pool)
+    (ap (map naturals) are.are_loads ∙ naturals_loads p entries are.pool)
+    ∙ ap (of (map total (pool_cuts p entries)) (map (node_loads p) (pool_cuts p entries))) (fixed_naturals p fixed are.costs)
+
+pub advice_is : (p : Problem) (entries : List Entry) (totals : List ℤ) (loads : List (List ℤ)) (fixed : List ℤ) (b : Branching) (a : Advised)
+    → AreMasters p entries totals loads fixed → a ≡ advice (master_of totals loads fixed) b
+    → (hubs : List ℕ) (cost made : ℕ) (stop : Option ℕ) → told_by a ≡ master_advising p (state_by p entries hubs cost made stop) b
+unfolding master_advising
+advice_is p entries totals loads fixed b a are is hubs cost made stop =
+    ap told_by (is ∙ ap (λ m. advice m b) (masters_same p entries totals loads fixed are))
+
+pub point_long : (p : Problem) (entries : List Entry) (totals : List ℤ) (loads : List (List ℤ)) (fixed : List ℤ) (b : Branching) (a : Advised)
+    → AreMasters p entries totals loads fixed → a ≡ advice (master_of totals loads fixed) b → length a.point ≡ p.size
+unfolding advice
+point_long p entries totals loads fixed b a are is =
+    ap (λ (x : Advised). length x.point) is ∙ length-map-range_with_len _ 0 (length (naturals fixed)) ∙ length-map fixed natural ∙ fixed_long p fixed are.costs
+
+pub node_weights : (p : Problem) (entries : List Entry) (totals : List ℤ) (loads : List (List ℤ)) (fixed weights : List ℤ)
+    → AreMasters p entries totals loads fixed → AreMixWeights (length totals) weights → AreNodeWeights (length entries) weights
+node_weights p entries totals loads fixed weights are mix = record {
+  few = omega (arith, mix.one_each, many_totals p entries totals loads fixed are);
+  low = mix.low;
+  most = mix.most;
+}
+
+-- ---- the advice is sound
+
+is_master : (p : Problem) (cuts : List Cut) (b : Branching) → IsProblem p → IsBranch p b → IsMaster (master_numbers p cuts) b
+is_master p cuts b ok is =
+    let below = below_size p b ok is in
+    let n = length p.fixed_costs in
+    let same : n ≡ p.size = ok.cost_for_each_node in
+    record {
+      split = is.split;
+      nodes = subst (λ (m : ℕ). All (λ k. k < m) (candidates_of b)) (sym same)
+          (All-append (λ k. k < p.size) b.inside (b.outside ++ b.free) below.inside (All-append (λ k. k < p.size) b.outside b.free below.outside below.free));
+      few = omega (arith, same, ok.size_limit);
+    }
+
+pub advising_sound : AdvisingIsSound
+unfolding master_advising
+advising_sound p ok s b is_state is_branch some =
+    let m = master_numbers p s.cuts in
+    let mixed : IsMixed (length m.totals) (advice m b).weights = weights_are_a_mix m b (is_master p s.cuts b ok is_branch) in
+    let weights = (advice m b).weights in
+    let mix = pairs_mix s.cuts denominator weights (omega (arith, mixed.one_each, length-map s.cuts total)) (omega arith) (omega arith) mixed.most in
+    record {
+      mix = mix.mix;
+      listed = record { values = mix.above; ascend = mix.ascend };
+    }

@@ -1,0 +1,122 @@
+-- The numbers that a pool lends are those of its entries' cuts.
+use Rattle.std.proofs.Common.{◌≡◌, ℕ, ◌+◌, ◌<◌, ◌≤◌, ℤ, pos, List, [], ◌∷◌, ◌++◌, length, take, map, get_or, All, refl, sym, ap, ap₂, ◌∙◌, arith}
+use Rattle.std.specs.List.{AllZip}
+use Rattle.std.proofs.lemmas.Int.{ints}
+use Rattle.std.proofs.lemmas.List.{length-map, map-append, take_more}
+use Rattle.std.proofs.lemmas.Grind.{same_number_lists}
+use Rattle.std.proofs.lemmas.List.FromFn.{get_or-map-range_with_len, length-map-range_with_len}
+use Rattle.std.proofs.lemmas.List.Elements.{All-head, All-tail, All-weaker, All-map, All-from_get_or}
+use Rattle.hub_spec.specs.Limits.{most_cost}
+use Rattle.hub_spec.specs.Problem.{Problem, IsProblem, fixed_cost, commodities}
+use Rattle.hub_spec.specs.Plans.{IsHubSet}
+use Rattle.hub_spec.specs.Cuts.{total, load}
+use Rattle.hub_spec.specs.Separation.{IsOrder, IsSetCut, set_cut}
+use Rattle.hub_spec.proofs.SetCutFunction.{set_cut_is_one_lem}
+use Rattle.hub_spec.proofs.SetCuts.{loads_within, set_cut_is_cut}
+use Rattle.hub_model.specs.Amounts.{IsNatural}
+use Rattle.hub_model.proofs.Signs.{natural-pos, pos_least}
+use Rattle.leaf_bound.specs.Numbers.{naturals, IsCost}
+use Rattle.leaf_bound.specs.Theorems.{AreLoadsOf}
+use Rattle.cut_pool.specs.Entries.{Entry}
+use Rattle.search_steps.specs.Pools.{entry_cut, IsSumsOf, IsPoolOf, pool_cuts}
+use Rattle.search_steps.specs.Advising.{node_loads}
+use Rattle.search_steps.specs.Weights.{AreFixedCosts}
+
+-- the totals and the loads as a pool lends them
+abbrev pub lent_totals : List Entry → List ℤ
+lent_totals entries = map (λ (e : Entry). pos e.total) entries
+
+abbrev pub lent_loads : List Entry → List (List ℤ)
+lent_loads entries = map (λ (e : Entry). map pos e.loads) entries
+
+-- ---- limits
+
+is_minimal : (p : Problem) (set order : List ℕ) → IsProblem p → IsHubSet p set → IsOrder p set order → IsSetCut p set order (set_cut p set order)
+is_minimal p set order ok is_set is_order = (set_cut_is_one_lem p set order (set_cut p set order) ok is_set is_order).1 refl
+
+pub total_limit : (p : Problem) (set order : List ℕ) → IsProblem p → IsHubSet p set → IsOrder p set order
+    → total (set_cut p set order) ≤ most_cost
+total_limit p set order ok is_set is_order =
+    (set_cut_is_cut p set order (set_cut p set order) ok is_set is_order (is_minimal p set order ok is_set is_order)).sums.total_limit
+
+pub load_limit : (p : Problem) (set order : List ℕ) (k : ℕ) → IsProblem p → IsHubSet p set → IsOrder p set order
+    → load (set_cut p set order) k ≤ most_cost
+load_limit p set order k ok is_set is_order =
+    let cut = set_cut p set order in
+    let within : load cut k ≤ total cut = loads_within p set order (commodities p.size) cut.duals k (is_minimal p set order ok is_set is_order) in
+    omega (arith, within, total_limit p set order ok is_set is_order)
+
+entry_total : (p : Problem) (e : Entry) → IsProblem p → IsSumsOf p e → e.total ≤ most_cost
+entry_total p e ok is = omega (arith, is.is_total, total_limit p e.hubs e.order ok is.set is.order)
+
+entry_load : (p : Problem) (e : Entry) (k : ℕ) → IsProblem p → IsSumsOf p e → k < p.size → get_or e.loads k 0 ≤ most_cost
+entry_load p e k ok is node = omega (arith, is.are_loads k node, load_limit p e.hubs e.order k ok is.set is.order)
+
+is_cost : (n : ℕ) → n ≤ most_cost → IsCost (pos n)
+is_cost n low = (omega (arith, ints), omega (arith, ints, low))
+
+pub totals_costs : (p : Problem) (entries : List Entry) → IsProblem p → IsPoolOf p entries → All IsCost (lent_totals entries)
+totals_costs p entries ok are =
+    All-map IsCost (λ (e : Entry). pos e.total) entries
+    (All-weaker (IsSumsOf p) (λ (e : Entry). IsCost (pos e.total)) (λ e is. is_cost e.total (entry_total p e ok is)) entries are)
+
+pub loads_costs : (p : Problem) (entries : List Entry) (n : ℕ) → IsProblem p → IsPoolOf p entries → n ≡ p.size
+    → All (λ (row : List ℤ). (length row ≡ n) × All IsCost row) (lent_loads entries)
+loads_costs p entries n ok are size =
+    All-map (λ (row : List ℤ). (length row ≡ n) × All IsCost row) (λ (e : Entry). map pos e.loads) entries
+    (All-weaker (IsSumsOf p) (λ (e : Entry). (length (map pos e.loads) ≡ n) × All IsCost (map pos e.loads))
+    (λ e is. (
+      length-map e.loads pos ∙ is.one_load_each ∙ sym size,
+      All-map IsCost pos e.loads (All-from_get_or (λ (x : ℕ). IsCost (pos x)) e.loads 0
+          (λ k low. is_cost (get_or e.loads k 0) (entry_load p e k ok is (omega (arith, low, is.one_load_each))))),
+    )) entries are)
+
+-- ---- what they are
+
+pub naturals_totals : (p : Problem) (entries : List Entry) → IsPoolOf p entries → naturals (lent_totals entries) ≡ map total (pool_cuts p entries)
+naturals_totals p [] are = refl
+naturals_totals p (e ∷ entries) are =
+    ap₂ (λ (x : ℕ) (xs : List ℕ). x ∷ xs) (All-head (IsSumsOf p) e entries are).is_total (naturals_totals p entries (All-tail (IsSumsOf p) e entries are))
+
+pub loads_zip : (p : Problem) (entries : List Entry) → IsPoolOf p entries
+    → AllZip (AreLoadsOf p) (pool_cuts p entries) (map naturals (lent_loads entries))
+loads_zip p [] are = tt
+loads_zip p (e ∷ entries) are = (
+  λ k node. ap (λ (row : List ℕ). get_or row k 0) (natural-pos e.loads) ∙ (All-head (IsSumsOf p) e entries are).are_loads k node,
+  loads_zip p entries (All-tail (IsSumsOf p) e entries are),
+)
+
+entry_loads : (p : Problem) (e : Entry) → IsSumsOf p e → e.loads ≡ node_loads p (entry_cut p e)
+entry_loads p e is =
+    let f = load (entry_cut p e) in
+    same_number_lists e.loads (node_loads p (entry_cut p e)) (is.one_load_each ∙ sym (length-map-range_with_len f 0 p.size))
+    (λ k low. let node : k < p.size = omega (arith, low, is.one_load_each) in
+    is.are_loads k node ∙ sym (get_or-map-range_with_len f 0 p.size k k 0 node (omega arith)))
+
+pub naturals_loads : (p : Problem) (entries : List Entry) → IsPoolOf p entries
+    → map naturals (lent_loads entries) ≡ map (node_loads p) (pool_cuts p entries)
+naturals_loads p [] are = refl
+naturals_loads p (e ∷ entries) are =
+    ap₂ (λ (x : List ℕ) (xs : List (List ℕ)). x ∷ xs) (natural-pos e.loads ∙ entry_loads p e (All-head (IsSumsOf p) e entries are))
+    (naturals_loads p entries (All-tail (IsSumsOf p) e entries are))
+
+pub loads_least : (entries : List Entry) → All (λ (row : List ℤ). All IsNatural row) (lent_loads entries)
+loads_least entries =
+    All-map (λ (row : List ℤ). All IsNatural row) (λ (e : Entry). map pos e.loads) entries
+    (All-from_get_or (λ (e : Entry). All IsNatural (map pos e.loads)) entries (record { hubs = []; order = []; total = 0; loads = [] })
+    (λ i low. pos_least (get_or entries i (record { hubs = []; order = []; total = 0; loads = [] })).loads))
+
+-- ---- fixed costs
+
+pub fixed_naturals : (p : Problem) (fixed : List ℤ) → AreFixedCosts p fixed → naturals fixed ≡ p.fixed_costs
+fixed_naturals p fixed are = ap naturals are.costs ∙ natural-pos p.fixed_costs
+
+pub fixed_long : (p : Problem) (fixed : List ℤ) → AreFixedCosts p fixed → length fixed ≡ p.size
+fixed_long p fixed are = ap length are.costs ∙ length-map p.fixed_costs pos ∙ are.problem.cost_for_each_node
+
+pub next_cost : (p : Problem) (k : ℕ) (costs : List ℤ) (z : ℤ) → k < length p.fixed_costs → z ≡ pos (fixed_cost p k)
+    → costs ≡ map pos (take k p.fixed_costs) → costs ++ z ∷ [] ≡ map pos (take (k + 1) p.fixed_costs)
+unfolding fixed_cost
+next_cost p k costs z low is so_far =
+    ap₂ (λ (xs : List ℤ) (x : ℤ). xs ++ x ∷ []) so_far is
+    ∙ sym (ap (map pos) (take_more p.fixed_costs k 0 low) ∙ map-append pos (take k p.fixed_costs) (get_or p.fixed_costs k 0 ∷ []))

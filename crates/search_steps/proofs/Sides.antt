@@ -1,0 +1,60 @@
+-- The sides that bounds give are those of the search's definition.
+use Rattle.std.proofs.Common.{◌≡◌, ℕ, ℤ, List, [], ◌∷◌, Contains, Option, Some, None, Bool, true, false, cond, refl, ap, ap₂, ◌∙◌}
+use Rattle.std.specs.Prelude.{filter_map}
+use Rattle.std.specs.Option.{option_map}
+use Rattle.std.specs.List.{cons_option}
+use Rattle.hub_spec.specs.Problem.{Problem}
+use Rattle.hub_spec.specs.Trees.{Branching, IsBranch, open_child, closed_child}
+use Rattle.hub_spec.proofs.ChildLists.{open_branch, closed_branch}
+use Rattle.hub_spec.proofs.Sets.{Contains-head, Contains-later}
+use Rattle.search_spec.specs.Steps as steps
+use Rattle.search_spec.specs.Steps.{closes_at, fixed_side, fixing, fixings}
+use Rattle.hub_fixing.specs.declared.sides.Side.{Side}
+use Rattle.hub_fixing.specs.declared.sides.Side.TheVariants.{In, Out}
+use Rattle.hub_fixing.specs.Fixing as sides
+use Rattle.hub_fixing.specs.Fixing.{closes_by, side_of}
+use Rattle.cut_pool.specs.Entries.{Entry}
+use Rattle.search_steps.specs.Pools.{state_by}
+use Rattle.search_steps.specs.Weights.{pairs_of, side_as, sides_as}
+use Rattle.search_steps.proofs.Weighed.{AreLent, node_weighting, lent_closes}
+
+-- the node with its side as the search has it
+abbrev node_as : ℕ × Side → ℕ × steps.Side
+node_as e = (e.0, side_as e.1)
+
+put : (x : Option (ℕ × Side)) (y : Option (ℕ × steps.Side)) (xs : List (ℕ × Side)) (ys : List (ℕ × steps.Side))
+    → option_map node_as x ≡ y → sides_as xs ≡ ys → sides_as (cons_option x xs) ≡ cons_option y ys
+put None y xs ys is rest = rest ∙ ap (λ (z : Option (ℕ × steps.Side)). cons_option z ys) is
+put (Some x) y xs ys is rest =
+    ap (λ (zs : List (ℕ × steps.Side)). node_as x ∷ zs) rest ∙ ap (λ (z : Option (ℕ × steps.Side)). cons_option z ys) is
+
+listed_as : (f : ℕ → Option (ℕ × Side)) (g : ℕ → Option (ℕ × steps.Side)) (ks : List ℕ)
+    → ((k : ℕ) → Contains ks k → option_map node_as (f k) ≡ g k) → sides_as (filter_map f ks) ≡ filter_map g ks
+listed_as f g [] same = refl
+listed_as f g (k ∷ ks) same =
+    put (f k) (g k) (filter_map f ks) (filter_map g ks) (same k (Contains-head k ks)) (listed_as f g ks (λ m c. same m (Contains-later k ks m c)))
+
+-- the side by the tests of the two children
+by_tests : (k : ℕ) (closed opened : Bool)
+    → option_map node_as (option_map (λ (side : Side). (k, side)) (cond closed (Some In) (cond opened (Some Out) None)))
+    ≡ option_map (λ (side : steps.Side). (k, side)) (cond closed (Some steps.stays_open) (cond opened (Some steps.stays_closed) None))
+by_tests k true opened = refl
+by_tests k false true = refl
+by_tests k false false = refl
+
+pub sides_are : (p : Problem) (entries : List Entry) (totals : List ℤ) (loads : List (List ℤ)) (fixed weights : List ℤ) (b : Branching)
+    → AreLent p entries totals loads fixed weights → IsBranch p b → (hubs : List ℕ) (cost made : ℕ) (stop : Option ℕ)
+    → sides_as (sides.fixings (node_weighting totals loads fixed weights) cost b)
+    ≡ fixings p (state_by p entries hubs cost made stop) b (pairs_of weights)
+unfolding fixings fixing fixed_side
+sides_are p entries totals loads fixed weights b lent is hubs cost made stop =
+    let m = node_weighting totals loads fixed weights in
+    let s = state_by p entries hubs cost made stop in
+    let w = pairs_of weights in
+    let side : Bool → Bool → ℕ → Option (ℕ × steps.Side) =
+    λ closed opened k. option_map (λ (side : steps.Side). (k, side)) (cond closed (Some steps.stays_open) (cond opened (Some steps.stays_closed) None)) in
+    listed_as (λ k. option_map (λ (side : Side). (k, side)) (side_of m cost b k)) (fixing p s b w) b.free (λ k free.
+    by_tests k (closes_by m cost (closed_child b k)) (closes_by m cost (open_child b k))
+    ∙ ap₂ (λ (x y : Bool). side x y k)
+    (lent_closes p entries totals loads fixed weights (closed_child b k) lent (closed_branch p b k is free) hubs cost made stop)
+    (lent_closes p entries totals loads fixed weights (open_child b k) lent (open_branch p b k is free) hubs cost made stop))

@@ -1,0 +1,26 @@
+-- What the master of a branch advises a search that has these cuts.
+use Rattle.std.specs.Prelude.{ℕ, List, map, slice_index_or, pos}
+use Rattle.std.specs.List.{range_with_len}
+use Rattle.hub_spec.specs.Problem.{Problem}
+use Rattle.hub_spec.specs.Cuts.{Cut, total, load}
+use Rattle.search_spec.specs.States.{Advice}
+use Rattle.search_spec.specs.Choices.{Advising}
+use Rattle.leaf_bound.specs.Theorems.{weight_pairs}
+use Rattle.frac_master.specs.Masters.{MasterNumbers}
+use Rattle.frac_master.specs.Advice.{Advised, advice}
+
+-- the loads of the cut, by node
+abbrev pub node_loads : Problem → Cut → List ℕ
+node_loads p cut = map (load cut) (range_with_len 0 p.size)
+
+-- the numbers of a master of these cuts
+abbrev pub master_numbers : Problem → List Cut → MasterNumbers
+master_numbers p cuts = record { totals = map total cuts; loads = map (node_loads p) cuts; fixed = p.fixed_costs }
+
+-- what a search is told by a master: the weights above 0 by cut number, and a point that is 0 beyond the nodes
+abbrev pub told_by : Advised → Advice
+told_by a = record { weights = weight_pairs a.weights; point = λ k. slice_index_or a.point k (pos 0); scale = a.scale }
+
+-- how the master advises: by the cuts of the state, on the branch
+unfoldable pub master_advising : Problem → Advising
+master_advising p s b = told_by (advice (master_numbers p s.cuts) b)

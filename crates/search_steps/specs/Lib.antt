@@ -1,0 +1,4 @@
+pub mod Pools
+pub mod Advising
+pub mod Weights
+pub mod Theorems

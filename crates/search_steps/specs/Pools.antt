@@ -1,0 +1,51 @@
+-- The pool as a search's state has it: each entry has the sums of the cut of its hub set over its order.
+use Rattle.std.specs.Prelude.{◌≡◌, ℕ, ◌<◌, List, map, length, slice_index, All, Option}
+use Rattle.hub_spec.specs.Problem.{Problem}
+use Rattle.hub_spec.specs.Plans.{IsHubSet}
+use Rattle.hub_spec.specs.Cuts.{Cut, total, load}
+use Rattle.hub_spec.specs.Separation.{IsOrder, set_cut}
+use Rattle.search_spec.specs.States.{State}
+use Rattle.cut_pool.specs.Entries.{Entry}
+
+-- the cut of the entry's hub set over its order
+abbrev pub entry_cut : Problem → Entry → Cut
+entry_cut p e = set_cut p e.hubs e.order
+
+-- the entry has a hub set, an order of the other candidates, and the sums of the cut that these make
+pub record IsSumsOf (p : Problem) (e : Entry) : Type 0 where
+  pub set : IsHubSet p e.hubs
+  pub order : IsOrder p e.hubs e.order
+  pub is_total : e.total ≡ total (entry_cut p e)
+  pub one_load_each : length e.loads ≡ p.size
+  pub are_loads : (k : ℕ) → k < p.size → slice_index e.loads k ≡ load (entry_cut p e) k
+
+-- each entry does
+abbrev pub IsPoolOf : Problem → List Entry → Type 0
+IsPoolOf p entries = All (IsSumsOf p) entries
+
+-- the sets that were separated
+abbrev pub pool_sets : List Entry → List (List ℕ)
+pool_sets entries = map (λ e. e.hubs) entries
+
+-- their cuts
+abbrev pub pool_cuts : Problem → List Entry → List Cut
+pool_cuts p entries = map (entry_cut p) entries
+
+-- the state with these entries, and with this incumbent, its cost, these nodes made and this stop
+abbrev pub state_by : Problem → List Entry → List ℕ → ℕ → ℕ → Option ℕ → State
+state_by p entries hubs cost made stop = record {
+  sets = pool_sets entries;
+  cuts = pool_cuts p entries;
+  hubs = hubs;
+  cost = cost;
+  made = made;
+  stop = stop;
+}
+
+-- so it is in each state with these entries
+abbrev pub InEachState : Problem → List Entry → (State → Type 0) → Type 0
+InEachState p entries P = (hubs : List ℕ) (cost made : ℕ) (stop : Option ℕ) → P (state_by p entries hubs cost made stop)
+
+-- so it is in each state with these entries and an incumbent of this cost
+abbrev pub InEachStateAt : Problem → List Entry → ℕ → (State → Type 0) → Type 0
+InEachStateAt p entries cost P = (hubs : List ℕ) (made : ℕ) (stop : Option ℕ) → P (state_by p entries hubs cost made stop)

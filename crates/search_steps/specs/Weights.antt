@@ -1,0 +1,34 @@
+-- What a node of the search has in code, and what it stands for.
+use Rattle.std.specs.Prelude.{◌≡◌, ℕ, ◌≤◌, ℤ, pos, List, map, length, sum, All}
+use Rattle.hub_spec.specs.Problem.{Problem, IsProblem}
+use Rattle.hub_model.specs.Amounts.{IsNatural}
+use Rattle.leaf_bound.specs.Numbers.{naturals}
+use Rattle.leaf_bound.specs.Theorems.{weight_pairs}
+use Rattle.search_spec.specs.States.{denominator}
+use Rattle.search_spec.specs.Steps as steps
+use Rattle.hub_fixing.specs.declared.sides.Side.{Side}
+use Rattle.hub_fixing.specs.declared.sides.Side.TheVariants.{In, Out}
+
+-- the fixed cost of each node of an instance
+pub record AreFixedCosts (p : Problem) (fixed : List ℤ) : Type 0 where
+  pub problem : IsProblem p
+  pub costs : fixed ≡ map pos p.fixed_costs
+
+-- weights on the first of n cuts: none is below 0, and together they are at most 10^6
+pub record AreNodeWeights (n : ℕ) (weights : List ℤ) : Type 0 where
+  pub few : length weights ≤ n
+  pub low : All IsNatural weights
+  pub most : sum (naturals weights) ≤ denominator
+
+-- the weights above 0, by cut number, as a search has them
+abbrev pub pairs_of : List ℤ → List (ℕ × ℕ)
+pairs_of weights = weight_pairs (naturals weights)
+
+-- the side as the search has it
+abbrev pub side_as : Side → steps.Side
+side_as In = steps.stays_open
+side_as Out = steps.stays_closed
+
+-- the nodes with the sides on which they stay, as the search has them
+abbrev pub sides_as : List (ℕ × Side) → List (ℕ × steps.Side)
+sides_as sides = map (λ e. (e.0, side_as e.1)) sides

@@ -1,0 +1,47 @@
+//! What the master of a node's branch advises.
+
+ghost use Rattle.std.specs.Prelude.{◌≡◌, length, IfOk};
+ghost use Rattle.hub_spec.specs.Trees.{IsBranch};
+ghost use Rattle.frac_master.specs.Advice.{advice_of_code};
+ghost use Rattle.search_steps.specs.Pools.{IsPoolOf, InEachState};
+ghost use Rattle.search_steps.specs.Advising.{told_by, master_advising};
+ghost use Rattle.search_steps.specs.Weights.{AreFixedCosts, AreNodeWeights};
+
+use cut_pool::Pool;
+use frac_master::{Advice, advise};
+use hub_model::{Branch, Instance};
+use std::alloc::{AllocError, Global};
+
+/// The fixed cost of each node, in 10^-12.
+///
+/// The answer is `AllocError` where memory runs out.
+pub fn fixed_costs(alloc: Global, instance: &Instance) -> Result<Vec<i128>, AllocError>
+    ensures { IfOk result (λ costs. AreFixedCosts instance.now costs.items) }
+{
+    let size = instance.size();
+    let mut costs = Vec::with_capacity(alloc, size as usize)?;
+    for k in 0..size {
+        costs.push(instance.fixed(k))?;
+    }
+    Ok(costs)
+}
+
+/// What the master of the branch advises, by the cuts of the pool.
+///
+/// The answer is `AllocError` where memory runs out, and where the master is beyond what its rows can hold.
+pub fn node_advice(
+    alloc: Global,
+    instance: &Instance,
+    pool: &Pool,
+    fixed: &[i128],
+    branch: &Branch,
+) -> Result<Advice, AllocError>
+    requires pool { IsPoolOf instance.now pool.now.entries }
+    requires fixed { AreFixedCosts instance.now fixed.now }
+    requires branch { IsBranch instance.now branch.now }
+    ensures advice { IfOk result (λ a. InEachState instance.now pool.now.entries (λ s. told_by (advice_of_code a) ≡ master_advising instance.now s branch.now)) }
+    ensures weights { IfOk result (λ a. AreNodeWeights (length pool.now.entries) a.weights.items) }
+    ensures point { IfOk result (λ a. length a.point.items ≡ instance.now.size) }
+{
+    advise(alloc, pool.totals(), pool.loads(), fixed, branch)
+}

@@ -1,0 +1,28 @@
+//! What a search does at one node, short of walking the tree.
+//!
+//! At a node a search has a branch, the pool of its cuts, and weights on the first cuts of the pool: one number for each
+//! of them in 10^-6, none below 0, which are at most 10^6 together. `node_advice` asks the master of the branch for
+//! other weights and for a point; `is_better` tells whether their bound is above that of the present ones, and `closes`
+//! whether the bound of weights closes the incumbent's cost. `pick` and `nearest` choose by the point the hub set that is
+//! separated and the node that is branched on, `node_fixings` lists the free nodes that the bounds decide, and
+//! `leaf_line` writes a leaf. Each is proved equal to the step of its name in the search's definition.
+//!
+//! Costs, totals, loads and fixed costs are in 10^-12, bounds in 10^-12 times 10^6. Nodes are `u32`, counted from 0. The
+//! calls that take a pool also take `fixed`, the fixed cost of each node, which `fixed_costs` lists once for a search.
+#![tactic(auto)]
+
+mod advising;
+mod bounding;
+mod deciding;
+mod laws;
+mod leaves;
+mod picking;
+#[cfg(test)]
+mod tests;
+
+pub use advising::{fixed_costs, node_advice};
+pub use bounding::{closes, is_better, weights_bound};
+pub use deciding::node_fixings;
+pub use laws::advising_is_sound;
+pub use leaves::leaf_line;
+pub use picking::{nearest, pick};
