@@ -1,3 +1,5 @@
-pub mod Growing
 pub mod Views
 pub mod Findings
+pub mod Progressing
+pub mod Rounding
+pub mod Walking

@@ -2,31 +2,31 @@
 
 ghost use Rattle.std.specs.Prelude.{◌≡◌};
 
-use dual_cuts::Cut;
+use cut_pool::Pool;
 use hub_model::{Plan, TreeLine};
 
-/// An optimal plan with the cuts and the tree that show it: a certificate of the instance that was searched.
+/// A plan with the cuts and the tree that bound what any plan costs: a certificate of the instance that was searched.
 ///
-/// The cost and the bound are in 10^-12. Cuts are numbered from 1 in their order, and the lines are the tree's in
-/// preorder, the open child first.
+/// Cost and bound are in 10^-12. Cuts are numbered from 1 in the pool's order, and the lines are the tree's in preorder,
+/// the open child first.
 #[derive(Debug, Drop)]
 pub struct Found {
     pub(crate) cost: i128,
     pub(crate) bound: i128,
     pub(crate) plan: Plan,
-    pub(crate) cuts: Vec<Cut>,
+    pub(crate) pool: Pool,
     pub(crate) tree: Vec<TreeLine>,
 }
 
 impl Found {
-    /// The cost of the plan.
+    /// The cost of the plan, in 10^-12.
     pub fn cost(&self) -> i128
         ensures { result ≡ self.now.cost }
     {
         self.cost
     }
 
-    /// What no plan costs less than: the plan's own cost.
+    /// What no plan costs less than, in 10^-12: the plan's own cost, unless the search was stopped.
     pub fn bound(&self) -> i128
         ensures { result ≡ self.now.bound }
     {
@@ -40,11 +40,11 @@ impl Found {
         &self.plan
     }
 
-    /// The cuts.
-    pub fn cuts(&self) -> &[Cut]
-        ensures { result.now ≡ self.now.cuts.items }
+    /// The cuts, of which the duals are not kept: each is that of its hub set over its order.
+    pub fn pool(&self) -> &Pool
+        ensures { result.now ≡ self.now.pool }
     {
-        &self.cuts
+        &self.pool
     }
 
     /// The lines of the tree.
@@ -52,14 +52,5 @@ impl Found {
         ensures { result.now ≡ self.now.tree.items }
     {
         &self.tree
-    }
-
-    /// The plan, the cuts and the lines of the tree.
-    pub fn into_parts(self) -> (Plan, Vec<Cut>, Vec<TreeLine>)
-        ensures plan { result.0 ≡ self.plan }
-        ensures cuts { result.1 ≡ self.cuts }
-        ensures tree { result.2 ≡ self.tree }
-    {
-        (self.plan, self.cuts, self.tree)
     }
 }

@@ -1,17 +1,27 @@
-//! The search for an optimal plan by branching, with the certificate that it is optimal.
+//! The search by rule, with the certificate of what it finds.
 //!
-//! `search` branches on the least free candidate, the open child first, until none is free. Each set of open
-//! candidates gives its Benders cut, and the cut closes the set's leaf. `Found` has the cheapest set's plan, the cuts
-//! and the tree's lines in preorder: what a certificate says of the instance.
+//! `search` walks the tree of branches, the open child first. At a node it takes up to three rounds of the master's
+//! advice, each of which separates a hub set; the bound of the weights then closes the node, decides candidates one by
+//! one, or leaves two children. With a most number of nodes it stops where two more are not allowed, and each node that
+//! is left becomes a leaf. `Found` has the plan with its cost, the bound, the cuts and the tree that show it.
+//!
+//! Each function does what the step of its name in the search's definition says (`search_spec`): it leaves the state that
+//! the step leaves, and adds the lines of its tree in preorder. What holds of the finding is proved of the definition.
+//! Costs are in 10^-12 and weights in 10^-6; nodes are `u32`, counted from 0, and cuts are counted from 1.
 #![tactic(auto)]
 
 mod found;
-mod growing;
-mod pricing;
+mod laws;
+mod leaves;
 mod progress;
+mod rounds;
 mod searching;
+mod separating;
+mod task;
 #[cfg(test)]
 mod tests;
+mod walking;
 
 pub use found::Found;
+pub use laws::search_is_proved;
 pub use searching::search;

@@ -1,29 +1,31 @@
-//! What a search has so far.
+//! What a search has so far, and the lines that it adds.
 
-ghost use Rattle.std.specs.Prelude.{◌≡◌, ◌≤◌, ◌<◌, ◌^◌, length, OnOk, IfOk};
-ghost use Rattle.hub_spec.specs.Limits.{most_denominator, most_tree_lines};
-ghost use Rattle.hub_spec.specs.Trees.{leaf_of};
+ghost use Rattle.std.specs.Prelude.{◌≡◌, ◌+◌, OnOk};
+ghost use Rattle.hub_spec.specs.Trees.{branch_on};
 ghost use Rattle.hub_model.specs.Lines.{tree_line_of};
-ghost use Rattle.branch_tree.specs.Growing.{with_line, all_on};
-ghost use Rattle.branch_tree.specs.Views.{growth_of};
+ghost use Rattle.search_spec.specs.Steps.{may_split};
+ghost use Rattle.branch_tree.specs.Progressing.{state_of, IsGoing, HasLine};
 
-use dual_cuts::Cut;
-use hub_model::{HubSet, MOST_DENOMINATOR, MOST_TREE_LINES, Mix, TreeLine, signed};
-use std::alloc::{AllocError, Global};
+use crate::task::Task;
+use cut_pool::Pool;
+use hub_model::{HubSet, MOST_TREE_LINES, TreeLine};
+use std::alloc::AllocError;
 
-/// The cuts, the lines of the tree, and the incumbent: the cheapest hub set so far with its cost, in 10^-12.
+/// The cuts and the lines of the tree, the incumbent with its cost, the nodes made, and after a stop the least that a
+/// leaf of the stop says of every plan. Costs are in 10^-12.
 #[derive(Debug, Drop)]
 pub(crate) struct Progress {
-    pub(crate) cuts: Vec<Cut>,
+    pub(crate) pool: Pool,
     pub(crate) lines: Vec<TreeLine>,
     pub(crate) hubs: HubSet,
     pub(crate) cost: u128,
+    pub(crate) made: u64,
+    pub(crate) stop: Option<u128>,
 }
 
 /// Adds a line, unless the tree is as long as a certificate's can be.
 pub(crate) fn add_line(progress: &mut Progress, line: TreeLine) -> Result<(), AllocError>
-    ensures added { OnOk result (growth_of progress.new ≡ with_line (growth_of progress.old) (tree_line_of line)) }
-    ensures limit { OnOk result (length (growth_of progress.new).lines ≤ most_tree_lines) }
+    ensures { OnOk result (HasLine progress.old progress.new (tree_line_of line) progress.old.made progress.old.stop) }
 {
     if progress.lines.len() >= MOST_TREE_LINES {
         return Err(AllocError);
@@ -32,13 +34,23 @@ pub(crate) fn add_line(progress: &mut Progress, line: TreeLine) -> Result<(), Al
     Ok(())
 }
 
-/// The leaf that the cut of this number closes alone.
-pub(crate) fn leaf_on(alloc: Global, number: usize) -> Result<TreeLine, AllocError>
-    requires { 1 ≤ number }
-    ensures { IfOk result (λ line. tree_line_of line ≡ leaf_of most_denominator (all_on number)) }
+/// Adds the line of a branch on the node, which makes two nodes more.
+pub(crate) fn split_on(task: &Task, progress: &mut Progress, k: u32) -> Result<(), AllocError>
+    requires { IsGoing task.now progress.old }
+    ensures { OnOk result (HasLine progress.old progress.new (branch_on k) (progress.old.made + 2) progress.old.stop) }
 {
-    let whole = signed(MOST_DENOMINATOR);
-    let mut weights = Vec::new(alloc);
-    weights.push((number as i128, whole))?;
-    Ok(TreeLine::Leaf(Mix::new(whole, weights)))
+    add_line(progress, TreeLine::BranchOn(k))?;
+    progress.made += 2;
+    Ok(())
+}
+
+/// Tells whether two nodes more are allowed.
+pub(crate) fn may_split(task: &Task, progress: &Progress) -> bool
+    requires { IsGoing task.now progress.now }
+    ensures { result ≡ may_split task.now.nodes (state_of task.now.instance.now progress.now) }
+{
+    match task.nodes {
+        None => true,
+        Some(most) => progress.made + 2 <= most,
+    }
 }

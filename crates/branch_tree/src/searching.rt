@@ -1,70 +1,115 @@
 //! The whole search.
 
-ghost use Rattle.std.specs.Prelude.{◌≡◌, [], pos, IfOk};
-ghost use Rattle.hub_spec.specs.Plans.{IsOptimal, plan_cost};
-ghost use Rattle.hub_spec.specs.Trees.{root};
-ghost use Rattle.branch_tree.specs.Growing.{IsGrowth, IsGrown};
-ghost use Rattle.branch_tree.specs.Views.{growth_of};
-ghost use Rattle.branch_tree.specs.Findings.{IsProved};
+ghost use Rattle.std.specs.Prelude.{◌≡◌, ◌≤◌, ◌<◌, ◌+◌, ◌^◌, ◌≤ℤ◌, [], length, pos, IfOk};
+ghost use Rattle.hub_spec.specs.Plans.{plan_cost, NoPlanBelow};
+ghost use Rattle.hub_spec.specs.Trees.{preorder};
+ghost use Rattle.hub_model.specs.Amounts.{natural};
+ghost use Rattle.search_spec.specs.States.{Grown, answer};
+ghost use Rattle.search_spec.specs.Steps.{begun};
+ghost use Rattle.search_spec.specs.Findings.{certificate_of, AreWithin, IsSpent, IsEnough};
+ghost use Rattle.search_steps.specs.Weights.{AreFixedCosts};
+ghost use Rattle.branch_tree.specs.Views.{lines_of};
+ghost use Rattle.branch_tree.specs.Progressing.{state_of, IsGoing};
+ghost use Rattle.branch_tree.specs.Findings.{parts_of, found_by, IsFound, IsProved, proof_of};
 
 use crate::found::Found;
-use crate::growing::grow;
-use crate::pricing::price;
+use crate::leaves::lesser;
 use crate::progress::Progress;
+use crate::task::Task;
+use crate::walking::node;
 use assign_sub::assign;
-use hub_model::{Branch, HubSet, Instance, Plan};
+use cut_pool::Pool;
+use hub_model::{Branch, HubSet, Instance, Plan, signed, unsigned};
+use search_steps::fixed_costs;
+use separators::Separator;
 use std::alloc::{AllocError, Global};
 
-/// An optimal plan of the instance, with the cuts and the tree that show it.
+/// What the rule of the search finds: a plan with its cost, a bound that no plan costs less than, and the cuts and the
+/// tree that show it. `nodes` is the most nodes of the tree, the root among them; with `None` they are not limited.
 ///
-/// A search that would have more cuts or tree lines than a certificate's text can have, 67,108,864 and 268,435,456,
-/// answers want of memory.
-pub fn search(alloc: Global, instance: &Instance) -> Result<Found, AllocError>
-    ensures proved { IfOk result (λ found. IsProved instance.now found) }
-    ensures cost { IfOk result (λ found. found.cost ≡ pos (plan_cost instance.now found.plan)) }
-    ensures no_gap { IfOk result (λ found. found.bound ≡ found.cost) }
-    ensures optimal { IfOk result (λ found. IsOptimal instance.now found.plan) }
+/// Only where two nodes more are not allowed the search stops, and then the bound is below the cost. Else both are equal
+/// and the plan is optimal. The finding is the same whatever the separator is.
+///
+/// The answer is `AllocError` where memory runs out, and for a search that would have more cuts or tree lines than a
+/// certificate's text can have, 67,108,864 and 268,435,456.
+pub fn search<S: Separator>(
+    alloc: Global,
+    instance: &Instance,
+    nodes: Option<u64>,
+    separator: &mut S,
+) -> Result<Found, AllocError>
+    requires ready { S.ready separator.old }
+    ensures ready { S.ready separator.new }
+    ensures found { IfOk result (IsFound instance.now (found_by instance.now nodes)) }
+    ensures certificate { let g = found_by instance.now nodes in IfOk result (λ found. proof_of instance.now found g.tree ≡ certificate_of instance.now g) }
+    ensures proved { IfOk result (IsProved instance.now) }
+    ensures paid { IfOk result (λ found. found.cost ≡ pos (plan_cost instance.now found.plan)) }
+    ensures below { IfOk result (λ found. NoPlanBelow instance.now (natural found.bound)) }
+    ensures within { IfOk result (λ found. found.bound ≤ℤ found.cost) }
+    ensures most { IfOk result (λ found. length found.tree.items + 1 ≤ 2 ^ (length instance.now.candidates + 1)) }
+    ensures allowed { IfOk result (λ found. AreWithin nodes (length found.tree.items)) }
+    ensures spent { IfOk result (λ found. natural found.bound < natural found.cost → IsSpent nodes (length found.tree.items)) }
+    ensures enough { IsEnough (2 ^ (length instance.now.candidates + 1)) nodes → IfOk result (λ found. found.bound ≡ found.cost) }
 {
-    let mut progress = begin(alloc, instance)?;
+    let fixed = fixed_costs(alloc, instance)?;
+    let task = Task {
+        instance,
+        fixed,
+        nodes,
+    };
+    let mut progress = begin(alloc, &task, separator)?;
     let root = Branch::root(alloc, instance)?;
-    grow(alloc, instance, &root, &mut progress)?;
-    finish(alloc, instance, progress)
+    let depth = root.free().len() as u32 + 1;
+    node(depth, alloc, &task, separator, &root, &[], &mut progress)?;
+    finish(alloc, &task, progress)
 }
 
-/// The cut of the set of all candidates, which is the first incumbent.
-fn begin(alloc: Global, instance: &Instance) -> Result<Progress, AllocError>
-    ensures growth { IfOk result (λ progress. IsGrowth instance.now (growth_of progress)) }
-    ensures no_line { IfOk result (λ progress. (growth_of progress).lines ≡ []) }
+// The cut of the set of all candidates, which is the first incumbent.
+fn begin<S: Separator>(
+    alloc: Global,
+    task: &Task,
+    separator: &mut S,
+) -> Result<Progress, AllocError>
+    requires ready { S.ready separator.old }
+    requires costs { AreFixedCosts task.now.instance.now task.now.fixed.items }
+    ensures ready { S.ready separator.new }
+    ensures begun { let p = task.now.instance.now in IfOk result (λ s. state_of p s ≡ begun p (parts_of p)) }
+    ensures no_line { IfOk result (λ s. lines_of s.lines.items ≡ []) }
+    ensures going { IfOk result (IsGoing task.now) }
 {
-    let candidates = instance.candidates();
+    let candidates = task.instance.candidates();
     let hubs = HubSet::of(alloc, candidates)?;
-    let priced = price(alloc, instance, candidates)?;
-    let mut cuts = Vec::new(alloc);
-    cuts.push(priced.cut)?;
+    let set = hubs.copy(alloc)?;
+    let order = Vec::new(alloc);
+    let sums = separator.separate(alloc, task.instance, set, &order)?;
+    let cost = unsigned(sums.total()) + task.instance.opening_cost(candidates);
+    let mut pool = Pool::new(alloc)?;
+    pool.reserve(1)?;
+    // It succeeds, since there is room.
+    let _ = pool.add(sums, order);
     Ok(Progress {
-        cuts,
+        pool,
         lines: Vec::new(alloc),
         hubs,
-        cost: priced.cost,
+        cost,
+        made: 1,
+        stop: None,
     })
 }
 
-/// The incumbent with its least routes, once the tree is whole.
-fn finish(alloc: Global, instance: &Instance, progress: Progress) -> Result<Found, AllocError>
-    requires growth { IsGrowth instance.now (growth_of progress) }
-    requires grown { let g = growth_of progress in IsGrown instance.now g.cuts g.cost (root instance.now) g.lines }
-    ensures proved { IfOk result (λ found. IsProved instance.now found) }
-    ensures cost { IfOk result (λ found. found.cost ≡ pos (plan_cost instance.now found.plan)) }
-    ensures no_gap { IfOk result (λ found. found.bound ≡ found.cost) }
-    ensures optimal { IfOk result (λ found. IsOptimal instance.now found.plan) }
+// The incumbent with its least routes, and what no plan costs less than.
+fn finish(alloc: Global, task: &Task, progress: Progress) -> Result<Found, AllocError>
+    requires going { IsGoing task.now progress }
+    ensures { let p = task.now.instance.now in (g : Grown) → state_of p progress ≡ g.state → lines_of progress.lines.items ≡ preorder g.tree
+        → IfOk result (IsFound p g) }
 {
-    let assignment = assign(alloc, instance, &progress.hubs)?;
+    let assignment = assign(alloc, task.instance, &progress.hubs)?;
     let hubs = progress.hubs.members().to_vec(alloc)?;
     Ok(Found {
-        cost: assignment.cost,
-        bound: assignment.cost,
+        cost: signed(progress.cost),
+        bound: signed(lesser(progress.cost, progress.stop)),
         plan: Plan::new(hubs, assignment.routes),
-        cuts: progress.cuts,
+        pool: progress.pool,
         tree: progress.lines,
     })
 }

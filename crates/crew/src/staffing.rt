@@ -39,11 +39,11 @@ fn staff<R: Threads + Sync, T: Send + Drop, J: Job<T> + Sync, G: Gate>(
     let up = first + rest;
     let (mine, theirs) = board.split(seat);
     let front = move || -> Result<Crop<T>, AllocError>
-        requires { IsSync R.row × IsSync J.row × IsSync G.row × IsSend T.row × IsSeatOf board.now theirs × ((hand_of theirs).drawn ≡ []) × ((hand_of theirs).share ≡ half) × (1 ≤ half) × (up + half ≤ 64) × ((b : ℕ) → b < board.now.blocks → J.accepts job.now b) }
+        requires { IsSync R.row × IsSync J.row × IsSync G.row × IsSend T.row × IsSend J.Scratch.row × IsSeatOf board.now theirs × ((hand_of theirs).drawn ≡ []) × ((hand_of theirs).share ≡ half) × (1 ≤ half) × (up + half ≤ 64) × ((b : ℕ) → b < board.now.blocks → J.accepts job.now b) }
         ensures { IfOk result (IsCropOf (J.answer job.entry.now) board.entry.now half) }
     { staff(rt, alloc, board, theirs, job, up, half, gate) };
     let back = move || -> Result<Crop<T>, AllocError>
-        requires { IsSync R.row × IsSync J.row × IsSync G.row × IsSend T.row × IsSeatOf board.now mine × ((hand_of mine).drawn ≡ []) × ((hand_of mine).share ≡ rest) × (1 ≤ rest) × (first + rest ≤ 64) × ((b : ℕ) → b < board.now.blocks → J.accepts job.now b) }
+        requires { IsSync R.row × IsSync J.row × IsSync G.row × IsSend T.row × IsSend J.Scratch.row × IsSeatOf board.now mine × ((hand_of mine).drawn ≡ []) × ((hand_of mine).share ≡ rest) × (1 ≤ rest) × (first + rest ≤ 64) × ((b : ℕ) → b < board.now.blocks → J.accepts job.now b) }
         ensures { IfOk result (IsCropOf (J.answer job.entry.now) board.entry.now rest) }
     { staff(rt, alloc, board, mine, job, first, rest, gate) };
     let (b, a) = join(rt, front, back);

@@ -13,11 +13,19 @@ use std::thread;
 struct Squares;
 
 impl Job<u64> for Squares {
+    type Scratch = ();
+
     ghost answer = { λ job block value. value ≡ block * block };
 
     ghost accepts = { λ job block. block < 100 };
 
-    fn at(&self, alloc: Global, block: u32) -> Result<u64, AllocError> {
+    ghost serves = { λ job scratch. Unit {0} };
+
+    fn new_scratch(&self, _alloc: Global) -> Result<(), AllocError> {
+        Ok(())
+    }
+
+    fn at(&self, _alloc: Global, _scratch: &mut (), block: u32) -> Result<u64, AllocError> {
         Ok(u64::from(block) * u64::from(block))
     }
 }

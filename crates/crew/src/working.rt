@@ -9,8 +9,8 @@ use claim_board::{Board, Seat};
 use hub_io::Gate;
 use std::alloc::{AllocError, Global};
 
-/// Draws blocks until none is left, and does each of them. The worker passes the gate after each draw that gave it a
-/// block, before it does the block.
+/// Draws blocks until none is left, and does each of them, all in one scratch. The worker passes the gate after each
+/// draw that gave it a block, before it does the block.
 pub fn work<T: Drop, J: Job<T>, G: Gate>(
     alloc: Global,
     board: &Board,
@@ -23,10 +23,11 @@ pub fn work<T: Drop, J: Job<T>, G: Gate>(
     requires accepts { (b : ℕ) → b < board.now.blocks → J.accepts job.now b }
     ensures { IfOk result (IsCropOf (J.answer job.now) board.now (hand_of seat).share) }
 {
+    let mut scratch = job.new_scratch(alloc)?;
     let mut rows = Vec::new(alloc);
     while let Some(block) = board.draw(&mut seat) {
         gate.at(worker, block);
-        let value = Some(job.at(alloc, block)?);
+        let value = Some(job.at(alloc, &mut scratch, block)?);
         rows.push(Row { block, value })?;
     }
     Ok(Crop { seat, rows })

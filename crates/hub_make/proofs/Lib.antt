@@ -4,4 +4,4 @@ pub mod TokenTexts
 mod WordPlaces
 mod Tokens
 mod Legal
-mod Reading
+pub mod Reading

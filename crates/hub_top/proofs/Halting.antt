@@ -13,8 +13,8 @@ use Rattle.hub_top.specs.declared.halts.Halt.{Halt}
 use Rattle.hub_top.specs.declared.halts.Halt.TheVariants as halts
 use Rattle.hub_top.specs.Blames.{blame_of}
 use Rattle.hub_model.specs.Faults.{fault_of}
-use Rattle.hub_top.specs.Commands.{Blame, on_instance, on_costs, HoldsFault, alone, together, HoldsCosts, HoldsContents, HoldsCostFault, HoldsInstance, LacksSource, no_file, no_costs, LacksCertificate}
-use Rattle.hub_top.specs.Outcomes.{WhereTold, FailsFor, StaysShelf}
+use Rattle.hub_top.specs.Commands.{WhereTold, Blame, on_instance, on_costs, HoldsFault, alone, together, HoldsCosts, HoldsContents, HoldsCostFault, HoldsInstance, LacksSource, no_file, no_costs, LacksCertificate}
+use Rattle.hub_top.specs.Outcomes.{FailsFor, StaysShelf}
 use Rattle.hub_top.specs.Building.{IsBuilt}
 use Rattle.hub_top.specs.Halts.{Halts, IsTooLong, IsOfToken, IsOfWhole, IsOfCosts, IsOfCostTokens, HasCostsFault, LacksCosts, IsOfSource}
 

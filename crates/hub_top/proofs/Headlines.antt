@@ -9,34 +9,37 @@ use Rattle.hub_top.specs.declared.status.Status.{Status}
 use Rattle.hub_top.specs.declared.status.Status.TheVariants.{Done, Memory}
 use Rattle.hub_words.specs.Requests.{Source, Solving, Request, solve, check}
 use Rattle.hub_top.specs.Texts.{optimal_line, verdict_text}
-use Rattle.hub_top.specs.Commands.{HoldsInstance, SolvesFile, JudgesFile}
+use Rattle.hub_top.specs.Commands.{HoldsInstance, SolvesInstance, JudgesFile}
 use Rattle.cert_checker.specs.Shows.{ProvesOptimal}
-use Rattle.hub_top.specs.Outcomes.{WhereTold, verdict_status}
-use Rattle.hub_top.specs.Meanings.{Judges, Answers, Answered, Means}
+use Rattle.hub_top.specs.Answers.{verdict_status, Judges, Answers}
+use Rattle.hub_top.specs.Meanings.{Answered, Means}
 use Rattle.hub_top.specs.Headline.{IsSameInstance, Headline}
 use Rattle.hub_top.specs.Completeness.{Completeness}
 use Rattle.hub_top.proofs.OneReading.{held_again}
-use Rattle.hub_top.proofs.SolvedVerdict.{solved_verdict}
+use Rattle.hub_top.proofs.OneTexts.{solved_verdict}
+
+-- the answer to the request that was asked for
+answers_to : (asked : Option Request) (held : Option Files) (old new : Option (List ℕ)) (h : Answered asked held old new Done)
+    → (files : Files) (request : Request) → held ≡ Some files → asked ≡ Some request → Answers request Done (Some files) h.text
+answers_to asked held old new h files request told is =
+    let e : Some request ≡ Some h.request = sym is ∙ h.is_asked in
+    let r : h.request ≡ request = cc in
+    subst (λ (x : Request). Answers x Done (Some files) h.text) r (subst (λ (x : Option Files). Answers h.request Done x h.text) told h.answers)
 
 solved_of : (asked : Option Request) (held : Option Files) (old new : Option (List ℕ)) → Answered asked held old new Done
     → (files : Files) (s : Solving) → held ≡ Some files → asked ≡ Some (solve s)
-    → (text : List ℕ) × Appends old new text × SolvesFile files s.source text
-solved_of asked held old new h files s told is =
-    let e : Some (solve s) ≡ Some h.request = sym is ∙ h.is_asked in
-    let r : solve s ≡ h.request = cc in
-    let P : Option Files → Type 0 = λ x. WhereTold x (λ f. Answers h.request Done f h.text) in
-    let Q : Request → Type 0 = λ x. Answers x Done files h.text in
-    (h.text, h.taken, subst Q (sym r) (subst P told h.answers))
+    → (text : List ℕ) × Appends old new text × SolvesInstance (Some files) s text
+solved_of asked held old new h files s told is = (h.text, h.taken, answers_to asked held old new h files (solve s) told is)
 
 -- what a verdict says whose status is 0
 certifies : (files : Files) (s : Source) (certificate text : List ℕ) (old new : Option (List ℕ)) (v : Verdict) → verdict_status v ≡ Done
-    → text ≡ verdict_text v → JudgesFile files s certificate v → Appends old new text
+    → text ≡ verdict_text v → JudgesFile (Some files) s certificate v → Appends old new text
     → (p : Problem) × HoldsInstance files s p
     × (bytes : List ℕ) × (files certificate ≡ Some bytes)
     × (cost : ℕ) × ProvesOptimal p bytes cost × Appends old new (optimal_line cost)
 certifies files s certificate text old new (optimal cost) e is h taken =
     let P : List ℕ → Type 0 = λ x. Appends old new x in
-    (h.problem, h.instance, h.bytes, h.held, cost, h.proves, subst P is taken)
+    (h.problem, h.instance, h.bytes, h.bytes_held, cost, h.proves, subst P is taken)
 certifies files s certificate text old new (bounds bound cost) e is h taken = cc
 certifies files s certificate text old new (verdicts.fails kind line) e is h taken = cc
 certifies files s certificate text old new (misread fault) e is h taken = cc
@@ -48,23 +51,19 @@ certified_of : (asked : Option Request) (held : Option Files) (old new : Option 
     × (bytes : List ℕ) × (files certificate ≡ Some bytes)
     × (cost : ℕ) × ProvesOptimal p bytes cost × Appends old new (optimal_line cost)
 certified_of asked held old new h files s certificate told is =
-    let e : Some (check s certificate) ≡ Some h.request = sym is ∙ h.is_asked in
-    let r : check s certificate ≡ h.request = cc in
-    let P : Option Files → Type 0 = λ x. WhereTold x (λ f. Answers h.request Done f h.text) in
-    let Q : Request → Type 0 = λ x. Answers x Done files h.text in
-    let judges : Judges files s certificate Done h.text = subst Q (sym r) (subst P told h.answers) in
+    let judges = answers_to asked held old new h files (check s certificate) told is in
     certifies files s certificate h.text old new judges.verdict judges.of_status judges.of_text judges.judges h.taken
 
 -- a check of a text that solves the same instance
 checked_of : (asked : Option Request) (held : Option Files) (quiet : Type 0) (status : Status) → Completeness asked held quiet status
-    → (before files : Files) (s t : Source) (certificate text : List ℕ) → held ≡ Some files → asked ≡ Some (check t certificate)
-    → SolvesFile before s text → length text ≤ certificate_limit
-    → IsSameInstance before s files t → files certificate ≡ Some text → quiet
+    → (before files : Files) (s : Solving) (t : Source) (certificate text : List ℕ) → held ≡ Some files → asked ≡ Some (check t certificate)
+    → SolvesInstance (Some before) s text → length text ≤ certificate_limit
+    → IsSameInstance before s.source files t → files certificate ≡ Some text → quiet
     → (status ≡ Done) ⊎ (status ≡ Memory)
 checked_of asked held quiet status complete before files s t certificate text told asks h short same there calm =
-    complete.judged files t certificate h.problem text (optimal h.solves.cost) told asks
-    (held_again before files s t h.problem h.instance same) there
-    (solved_verdict h.problem text h.solves short).0 calm
+    complete.judged files t certificate h.problem text (optimal h.solves.certificate.cost) told asks
+    (held_again before files s.source t h.problem h.instance same) there
+    (solved_verdict h.problem s.search.nodes text h.solves short).0 calm
 
 pub headline : (asked : Option Request) (held : Option Files) (fails : Request → Type 0) (old new : Option (List ℕ)) (rose quiet : Type 0) (status : Status)
     → Means asked held fails old new rose status → Completeness asked held quiet status

@@ -1,6 +1,9 @@
-pub mod SolvedVerdict
-pub mod FoundCertificates
-pub mod Solutions
+pub mod TooLong
+pub mod Writing
+pub mod RuleCertificates
+pub mod OneTexts
+pub mod Searched
+pub mod Answered
 pub mod StatusMeanings
 pub mod OneReading
 pub mod Completions

@@ -2,46 +2,99 @@
 use Rattle.std.proofs.Common.{◌≡◌, ℕ, List, Option, Some, None, ◌⊎◌, inl, inr, refl, sym, subst}
 use Rattle.std.specs.Io.KnownBytes.{Appends}
 use Rattle.hub_io.specs.Outside.{Files, Rose}
-use Rattle.hub_top.specs.declared.status.Status.{Status}
-use Rattle.hub_words.specs.Requests.{Source, Request, solve, check}
-use Rattle.hub_top.specs.Outcomes.{WhereTold, Outcome, solved, judged, usage, faulty, verdict_status, memory, read, status_of, out_text, MayComeTo, Written, whole, out_cut, err_cut}
-use Rattle.hub_top.specs.Meanings.{Means, Judges}
-use Rattle.hub_top.specs.Texts.{verdict_text}
-use Rattle.hub_top.specs.Commands.{JudgesFile}
 use Rattle.cert_spec.specs.Verdicts.{Verdict, optimal, bounds, misread, too_long}
 use Rattle.cert_spec.specs.Verdicts as verdicts
-use Rattle.hub_top.specs.declared.status.Status.TheVariants.{Done, Stopped, No}
+use Rattle.hub_words.specs.Requests.{Source, Solving, Making, Search, Request, solve, check, report, make, demo}
+use Rattle.hub_top.specs.declared.status.Status.{Status}
+use Rattle.hub_top.specs.declared.status.Status.TheVariants.{Done, Stopped, No, Usage, Instance, Memory, Read, Write}
+use Rattle.hub_top.specs.Answers.{Answers, verdict_status}
+use Rattle.hub_top.specs.Outcomes.{Outcome, answered, usage, faulty, memory, read, status_of, out_text, MayComeTo, Written, whole, out_cut, err_cut}
+use Rattle.hub_top.specs.Meanings.{Means}
 
-judges_where_told : (held : Option Files) (s : Source) (certificate : List ℕ) (verdict : Verdict) (status : Status) → verdict_status verdict ≡ status
-    → WhereTold held (λ files. JudgesFile files s certificate verdict)
-    → WhereTold held (λ files. Judges files s certificate status (verdict_text verdict))
-judges_where_told None s certificate verdict status e h = tt
-judges_where_told (Some files) s certificate verdict status e h = record { verdict = verdict; of_status = e; of_text = refl; judges = h }
+-- a status with which no command answers
+abbrev HasNoAnswer : Status → Type 0
+HasNoAnswer Done = ⊥
+HasNoAnswer Stopped = ⊥
+HasNoAnswer No = ⊥
+HasNoAnswer Usage = Unit {0}
+HasNoAnswer Instance = Unit {0}
+HasNoAnswer Memory = Unit {0}
+HasNoAnswer Read = Unit {0}
+HasNoAnswer Write = Unit {0}
 
-verdict_row : (asked : Option Request) (held : Option Files) (fails : Request → Type 0) (old new : Option (List ℕ)) (rose : Type 0) (verdict : Verdict)
-    → MayComeTo asked held fails (judged verdict) → Appends old new (verdict_text verdict) → Means asked held fails old new rose (verdict_status verdict)
-verdict_row asked held fails old new rose (optimal cost) may taken =
-    record { request = check may.0 may.1; is_asked = may.2; text = verdict_text (optimal cost); answers = judges_where_told held may.0 may.1 (optimal cost) Done refl may.3; taken = taken }
-verdict_row asked held fails old new rose (bounds bound cost) may taken =
-    record { request = check may.0 may.1; is_asked = may.2; text = verdict_text (bounds bound cost); answers = judges_where_told held may.0 may.1 (bounds bound cost) Stopped refl may.3; taken = taken }
-verdict_row asked held failing old new rose (verdicts.fails kind line) may taken =
-    record { request = check may.0 may.1; is_asked = may.2; text = verdict_text (verdicts.fails kind line); answers = judges_where_told held may.0 may.1 (verdicts.fails kind line) No refl may.3; taken = taken }
-verdict_row asked held fails old new rose (misread fault) may taken =
-    record { request = check may.0 may.1; is_asked = may.2; text = verdict_text (misread fault); answers = judges_where_told held may.0 may.1 (misread fault) No refl may.3; taken = taken }
-verdict_row asked held fails old new rose too_long may taken =
-    record { request = check may.0 may.1; is_asked = may.2; text = verdict_text too_long; answers = judges_where_told held may.0 may.1 too_long No refl may.3; taken = taken }
+of_verdict : (v : Verdict) (status : Status) → HasNoAnswer status → verdict_status v ≡ status → ⊥
+of_verdict (optimal cost) status none e = subst HasNoAnswer (sym e) none
+of_verdict (bounds bound cost) status none e = subst HasNoAnswer (sym e) none
+of_verdict (verdicts.fails kind line) status none e = subst HasNoAnswer (sym e) none
+of_verdict (misread fault) status none e = subst HasNoAnswer (sym e) none
+of_verdict too_long status none e = subst HasNoAnswer (sym e) none
+
+of_solve : (s : Solving) (status : Status) (held : Option Files) (text : List ℕ) → HasNoAnswer status → Answers (solve s) status held text → ⊥
+of_solve s Done held text none h = none
+of_solve s Stopped held text none h = none
+of_solve s No held text none h = none
+of_solve s Usage held text none h = h
+of_solve s Instance held text none h = h
+of_solve s Memory held text none h = h
+of_solve s Read held text none h = h
+of_solve s Write held text none h = h
+
+of_report : (s : Source) (file : List ℕ) (status : Status) (held : Option Files) (text : List ℕ) → HasNoAnswer status → Answers (report s file) status held text → ⊥
+of_report s file Done held text none h = none
+of_report s file Stopped held text none h = none
+of_report s file No held text none h = none
+of_report s file Usage held text none h = h
+of_report s file Instance held text none h = h
+of_report s file Memory held text none h = h
+of_report s file Read held text none h = h
+of_report s file Write held text none h = h
+
+of_make : (m : Making) (status : Status) (held : Option Files) (text : List ℕ) → HasNoAnswer status → Answers (make m) status held text → ⊥
+of_make m Done held text none h = none
+of_make m Stopped held text none h = none
+of_make m No held text none h = none
+of_make m Usage held text none h = h
+of_make m Instance held text none h = h
+of_make m Memory held text none h = h
+of_make m Read held text none h = h
+of_make m Write held text none h = h
+
+of_demo : (m : Making) (search : Search) (status : Status) (held : Option Files) (text : List ℕ) → HasNoAnswer status → Answers (demo m search) status held text → ⊥
+of_demo m search Done held text none h = none
+of_demo m search Stopped held text none h = none
+of_demo m search No held text none h = none
+of_demo m search Usage held text none h = h
+of_demo m search Instance held text none h = h
+of_demo m search Memory held text none h = h
+of_demo m search Read held text none h = h
+of_demo m search Write held text none h = h
+
+no_answer : (request : Request) (status : Status) (held : Option Files) (text : List ℕ) → HasNoAnswer status → Answers request status held text → ⊥
+no_answer (solve s) status held text none h = of_solve s status held text none h
+no_answer (check s file) status held text none h = of_verdict h.verdict status none h.of_status
+no_answer (report s file) status held text none h = of_report s file status held text none h
+no_answer (make m) status held text none h = of_make m status held text none h
+no_answer (demo m search) status held text none h = of_demo m search status held text none h
+
+answer_row : (asked : Option Request) (held : Option Files) (fails : Request → Type 0) (old new : Option (List ℕ)) (rose : Type 0) (status : Status) (text : List ℕ)
+    → MayComeTo asked held fails (answered status text) → Appends old new text → Means asked held fails old new rose status
+answer_row asked held failing old new rose Done text may taken = record { request = may.0; is_asked = may.1; text = text; answers = may.2; taken = taken }
+answer_row asked held failing old new rose Stopped text may taken = record { request = may.0; is_asked = may.1; text = text; answers = may.2; taken = taken }
+answer_row asked held failing old new rose No text may taken = record { request = may.0; is_asked = may.1; text = text; answers = may.2; taken = taken }
+answer_row asked held failing old new rose Usage text may taken = absurd (no_answer may.0 Usage held text tt may.2)
+answer_row asked held failing old new rose Instance text may taken = absurd (no_answer may.0 Instance held text tt may.2)
+answer_row asked held failing old new rose Memory text may taken = absurd (no_answer may.0 Memory held text tt may.2)
+answer_row asked held failing old new rose Read text may taken = absurd (no_answer may.0 Read held text tt may.2)
+answer_row asked held failing old new rose Write text may taken = absurd (no_answer may.0 Write held text tt may.2)
 
 row : (asked : Option Request) (held : Option Files) (fails : Request → Type 0) (old new : Option (List ℕ)) (rose : Type 0) (e : Outcome)
     → MayComeTo asked held fails e → Appends old new (out_text e) → Means asked held fails old new rose (status_of e)
-row asked held fails old new rose (solved text) may taken =
-    record { request = solve may.0; is_asked = may.1; text = text; answers = may.2; taken = taken }
-row asked held fails old new rose (judged verdict) may taken =
-    verdict_row asked held fails old new rose verdict may taken
-row asked held fails old new rose usage may taken = (may, taken)
-row asked held fails old new rose (faulty blame fault) may taken =
+row asked held failing old new rose (answered status text) may taken = answer_row asked held failing old new rose status text may taken
+row asked held failing old new rose usage may taken = (may, taken)
+row asked held failing old new rose (faulty blame fault) may taken =
     record { request = may.0; is_asked = may.2; source = may.1; is_named = may.3; blame = blame; fault = fault; holds = may.4; taken = taken }
-row asked held fails old new rose memory may taken = taken
-row asked held fails old new rose read may taken = record { request = may.0; is_asked = may.1; failed = may.2; taken = taken }
+row asked held failing old new rose memory may taken = taken
+row asked held failing old new rose read may taken = record { request = may.0; is_asked = may.1; failed = may.2; taken = taken }
 
 pub meaning : {O E : Type 0} (out_taken : O → Option (List ℕ)) (out_faults : O → ℕ) (err_taken : E → Option (List ℕ)) (err_faults : E → ℕ)
     (out_old out_new : O) (err_old err_new : E) (asked : Option Request) (held : Option Files) (fails : Request → Type 0)

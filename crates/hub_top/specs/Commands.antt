@@ -1,18 +1,27 @@
 -- What each command does with the files that it names.
-use Rattle.std.specs.Prelude.{◌≡◌, ℕ, ◌≤◌, List, length, Option, Some, None, ◌⊎◌}
+use Rattle.std.specs.Prelude.{◌≡◌, ℕ, ◌+◌, ◌^◌, ◌<◌, ◌≤◌, List, length, Option, Some, None, ◌⊎◌}
 use Rattle.hub_io.specs.Outside.{Files}
 use Rattle.hub_spec.specs.Problem.{Problem}
 use Rattle.hub_spec.specs.Plans.{IsOptimal, NoPlanBelow, plan_cost}
+use Rattle.hub_spec.specs.Trees.{line_count}
 use Rattle.hub_spec.specs.Certificates.{Proof, Holds}
+use Rattle.search_spec.specs.Findings.{AreWithin, IsSpent, IsEnough, certificate_of}
 use Rattle.cert_spec.specs.Text.{Spells}
-use Rattle.cert_spec.specs.Verdicts.{Verdict, Why}
+use Rattle.cert_spec.specs.Verdicts.{Verdict, Why, certificate_limit}
 use Rattle.file_spec.specs.Limits.{file_limit}
 use Rattle.file_spec.specs.Faults.{Fault}
 use Rattle.file_spec.specs.Contents.{Contents}
 use Rattle.file_spec.specs.Files.{HasContents}
 use Rattle.file_spec.specs.Instances.{build_fault, GivesInstance, GivesFileFault, GivesCosts, GivesCostFault}
-use Rattle.hub_words.specs.Requests.{Source, Request, solve, check}
+use Rattle.branch_tree.specs.Findings.{found_by}
+use Rattle.network_report.specs.Texts.{report_text}
+use Rattle.hub_words.specs.Requests.{Source, Solving, Request, solve, check, report, make, demo}
 use Rattle.cert_checker.specs.Shows.{Proves}
+
+-- a fact about the files, where they are told
+abbrev pub WhereTold : Option Files → (Files → Type 0) → Type 0
+WhereTold None fact = Unit {0}
+WhereTold (Some files) fact = fact files
 
 -- the fixed costs of n nodes in the costs file, where one is named
 abbrev pub HoldsCosts : Files → Option (List ℕ) → ℕ → Option (List ℕ) → Type 0
@@ -64,37 +73,79 @@ abbrev pub HasBlame : Files → Source → Blame → Fault → Type 0
 HasBlame files s on_instance fault = HoldsFault files s fault
 HasBlame files s on_costs fault = HoldsCostFault files s fault
 
--- the text is that of a certificate which holds for the instance, with this bound and cost: its hubs and routes are a
--- plan that costs exactly the printed cost, and no nonempty set of candidates with any routing costs less than the bound
-pub record Writes (p : Problem) (text : List ℕ) (bound cost : ℕ) : Type 0 where
+-- ---- what `solve` and `demo` come to
+
+-- the certificate that the search rule defines for the instance and the most nodes; it reads no number of workers
+abbrev pub rule_certificate : Problem → Option ℕ → Proof
+rule_certificate p nodes = certificate_of p (found_by p nodes)
+
+-- what is told is the rule's certificate, and it holds for the instance: its hubs and routes are a plan that costs
+-- exactly its cost, and no nonempty set of candidates with any routing costs less than its bound; its tree has no more
+-- nodes than are allowed
+pub record Finds (p : Problem) (nodes : Option ℕ) (tells : Proof → Type 0) (k : Proof) : Type 0 where
+  pub is : k ≡ rule_certificate p nodes
+  pub told : tells k
+  pub holds : Holds p k
+  pub paid : plan_cost p k.plan ≡ k.cost
+  pub below : NoPlanBelow p k.bound
+  pub allowed : AreWithin nodes (line_count k.tree)
+  pub most : line_count k.tree + 1 ≤ 2 ^ (length p.candidates + 1)
+
+-- as many nodes are allowed as a whole tree over the instance's candidates has
+abbrev pub IsEnoughFor : Problem → Option ℕ → Type 0
+IsEnoughFor p nodes = IsEnough (2 ^ (length p.candidates + 1)) nodes
+
+-- its bound is its cost: no nonempty set of candidates with any routing costs less
+pub record Solves (p : Problem) (nodes : Option ℕ) (tells : Proof → Type 0) : Type 0 where
   pub certificate : Proof
-  pub spelled : Spells text certificate
-  pub holds : Holds p certificate
-  pub bound_is : certificate.bound ≡ bound
-  pub cost_is : certificate.cost ≡ cost
-  pub paid : plan_cost p certificate.plan ≡ cost
-  pub below : NoPlanBelow p bound
+  pub finds : Finds p nodes tells certificate
+  pub no_gap : certificate.bound ≡ certificate.cost
+  pub optimal : IsOptimal p certificate.plan
 
--- the text solves the instance: its bound is its cost, so no nonempty set of candidates with any routing costs less
-pub record Solves (p : Problem) (text : List ℕ) : Type 0 where
-  pub cost : ℕ
-  pub writes : Writes p text cost cost
-  pub optimal : IsOptimal p writes.certificate.plan
+-- its bound is below its cost, since two nodes more are not allowed, and fewer than a whole tree has
+pub record Stops (p : Problem) (nodes : Option ℕ) (tells : Proof → Type 0) : Type 0 where
+  pub certificate : Proof
+  pub finds : Finds p nodes tells certificate
+  pub gap : certificate.bound < certificate.cost
+  pub spent : IsSpent nodes (line_count certificate.tree)
+  pub not_enough : IsEnoughFor p nodes → ⊥
 
--- the files hold an instance, which the text solves
-pub record SolvesFile (files : Files) (s : Source) (text : List ℕ) : Type 0 where
+-- the files give an instance, which the text solves
+pub record SolvesInstance (held : Option Files) (s : Solving) (text : List ℕ) : Type 0 where
   pub problem : Problem
-  pub instance : HoldsInstance files s problem
-  pub solves : Solves problem text
+  pub instance : WhereTold held (λ files. HoldsInstance files s.source problem)
+  pub solves : Solves problem s.search.nodes (Spells text)
 
--- the files hold an instance, and a text of which this is the verdict
-pub record JudgesFile (files : Files) (s : Source) (certificate : List ℕ) (verdict : Verdict) : Type 0 where
+-- the files give an instance, for which the text stops
+pub record StopsInstance (held : Option Files) (s : Solving) (text : List ℕ) : Type 0 where
   pub problem : Problem
-  pub instance : HoldsInstance files s problem
+  pub instance : WhereTold held (λ files. HoldsInstance files s.source problem)
+  pub stops : Stops problem s.search.nodes (Spells text)
+
+-- ---- what `check` and `report` come to
+
+-- the files give an instance and bytes, of which this is the verdict
+pub record JudgesFile (held : Option Files) (s : Source) (certificate : List ℕ) (verdict : Verdict) : Type 0 where
+  pub problem : Problem
+  pub instance : WhereTold held (λ files. HoldsInstance files s problem)
   pub bytes : List ℕ
-  pub held : files certificate ≡ Some bytes
+  pub bytes_held : WhereTold held (λ files. files certificate ≡ Some bytes)
   pub why : Why problem bytes verdict
   pub proves : Proves problem bytes verdict
+
+-- the files give an instance and the bytes of a certificate that holds for it, of which the text is the report
+pub record ReportsFile (held : Option Files) (s : Source) (certificate text : List ℕ) : Type 0 where
+  pub problem : Problem
+  pub instance : WhereTold held (λ files. HoldsInstance files s problem)
+  pub bytes : List ℕ
+  pub bytes_held : WhereTold held (λ files. files certificate ≡ Some bytes)
+  pub not_too_long : length bytes ≤ certificate_limit
+  pub proof : Proof
+  pub spelled : Spells bytes proof
+  pub holds : Holds problem proof
+  pub text_is : text ≡ report_text problem proof
+
+-- ---- what is not held
 
 -- a file of the instance is not held, when its turn comes
 pub data LacksSource (files : Files) (s : Source) : Type 0 where
@@ -114,3 +165,6 @@ pub record LacksCertificate (files : Files) (s : Source) (certificate : List ℕ
 abbrev pub Lacks : Files → Request → Type 0
 Lacks files (solve solving) = LacksSource files solving.source
 Lacks files (check s certificate) = LacksSource files s ⊎ LacksCertificate files s certificate
+Lacks files (report s certificate) = LacksSource files s ⊎ LacksCertificate files s certificate
+Lacks files (make making) = ⊥
+Lacks files (demo making search) = ⊥

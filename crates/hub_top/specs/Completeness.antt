@@ -4,23 +4,43 @@ use Rattle.hub_io.specs.Outside.{Files}
 use Rattle.hub_spec.specs.Problem.{Problem}
 use Rattle.cert_spec.specs.Verdicts.{Verdict, Why}
 use Rattle.file_spec.specs.Faults.{Fault}
+use Rattle.hub_make.specs.Contents.{made_problem}
 use Rattle.hub_top.specs.declared.status.Status.{Status}
 use Rattle.hub_top.specs.declared.status.Status.TheVariants.{Done, Usage, Instance, Memory}
-use Rattle.hub_words.specs.Requests.{Source, Solving, Request, solve, check, instance}
-use Rattle.hub_top.specs.Commands.{Blame, HasBlame, HoldsInstance}
-use Rattle.hub_top.specs.Outcomes.{verdict_status}
+use Rattle.hub_words.specs.Requests.{Source, Solving, Making, Search, Request, solve, check, report, make, demo, instance}
+use Rattle.hub_top.specs.Commands.{Blame, HasBlame, HoldsInstance, IsEnoughFor}
+use Rattle.hub_top.specs.Answers.{verdict_status, report_status, rule_status}
+
+-- the run ended with this status, or for want of memory
+abbrev pub EndsWith : Status → Status → Type 0
+EndsWith wanted status = (status ≡ wanted) ⊎ (status ≡ Memory)
 
 -- how a run ends in which no fault rises: as the words and the files say, or for want of memory
 pub record Completeness (asked : Option Request) (held : Option Files) (quiet : Type 0) (status : Status) : Type 0 where
   -- words that are no command
-  pub usage : asked ≡ None → quiet → (status ≡ Usage) ⊎ (status ≡ Memory)
+  pub usage : asked ≡ None → quiet → EndsWith Usage status
   -- any command whose instance has a fault
   pub fault : (files : Files) (request : Request) (s : Source) (blame : Blame) (fault : Fault) → held ≡ Some files → asked ≡ Some request
-      → instance request ≡ Some s → HasBlame files s blame fault → quiet → (status ≡ Instance) ⊎ (status ≡ Memory)
-  -- `solve` with an instance
+      → instance request ≡ Some s → HasBlame files s blame fault → quiet → EndsWith Instance status
+  -- `solve` with an instance: the status of what the search rule finds
   pub solved : (files : Files) (s : Solving) (p : Problem) → held ≡ Some files → asked ≡ Some (solve s)
-      → HoldsInstance files s.source p → quiet → (status ≡ Done) ⊎ (status ≡ Memory)
+      → HoldsInstance files s.source p → quiet → EndsWith (rule_status p s.search.nodes) status
+  -- and with as many nodes as a whole tree has it is solved
+  pub enough : (files : Files) (s : Solving) (p : Problem) → held ≡ Some files → asked ≡ Some (solve s)
+      → HoldsInstance files s.source p → IsEnoughFor p s.search.nodes → quiet → EndsWith Done status
   -- `check` with an instance and a certificate: the status of the verdict on its bytes
   pub judged : (files : Files) (s : Source) (certificate : List ℕ) (p : Problem) (bytes : List ℕ) (verdict : Verdict)
       → held ≡ Some files → asked ≡ Some (check s certificate) → HoldsInstance files s p → files certificate ≡ Some bytes
-      → Why p bytes verdict → quiet → (status ≡ verdict_status verdict) ⊎ (status ≡ Memory)
+      → Why p bytes verdict → quiet → EndsWith (verdict_status verdict) status
+  -- `report` with an instance and a certificate: 0 exactly where its bytes certify
+  pub reported : (files : Files) (s : Source) (certificate : List ℕ) (p : Problem) (bytes : List ℕ) (verdict : Verdict)
+      → held ≡ Some files → asked ≡ Some (report s certificate) → HoldsInstance files s p → files certificate ≡ Some bytes
+      → Why p bytes verdict → quiet → EndsWith (report_status verdict) status
+  -- `make`
+  pub made : (m : Making) → asked ≡ Some (make m) → quiet → EndsWith Done status
+  -- `demo`: the status of what the search rule finds for the made instance
+  pub shown : (m : Making) (search : Search) → asked ≡ Some (demo m search) → quiet
+      → EndsWith (rule_status (made_problem m.seed m.size) search.nodes) status
+  -- and with as many nodes as a whole tree has it is solved
+  pub shown_whole : (m : Making) (search : Search) → asked ≡ Some (demo m search)
+      → IsEnoughFor (made_problem m.seed m.size) search.nodes → quiet → EndsWith Done status

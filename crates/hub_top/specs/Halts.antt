@@ -17,8 +17,7 @@ use Rattle.hub_model.specs.declared.faults.Refusal.{Refusal}
 use Rattle.hub_model.specs.declared.faults.Refusal.TheVariants as refusals
 use Rattle.hub_top.specs.declared.texts.Blamed.{Blamed}
 use Rattle.hub_words.specs.Requests.{Source}
-use Rattle.hub_top.specs.Commands.{Blame, on_instance, on_costs, HasBlame}
-use Rattle.hub_top.specs.Outcomes.{WhereTold}
+use Rattle.hub_top.specs.Commands.{WhereTold, Blame, on_instance, on_costs, HasBlame}
 use Rattle.hub_top.specs.Blames.{blame_of}
 
 -- a fault that is so, or a read that failed so; want of memory says nothing

@@ -8,7 +8,7 @@ use Rattle.hub_top.specs.declared.status.Status.{Status}
 use Rattle.hub_top.specs.declared.status.Status.TheVariants.{Done, Memory}
 use Rattle.hub_words.specs.Requests.{Source, Solving, Request, solve, check}
 use Rattle.hub_top.specs.Texts.{optimal_line}
-use Rattle.hub_top.specs.Commands.{HoldsInstance, SolvesFile}
+use Rattle.hub_top.specs.Commands.{HoldsInstance, SolvesInstance}
 use Rattle.cert_checker.specs.Shows.{ProvesOptimal}
 
 -- the costs files named hold the same bytes, or none is named
@@ -30,12 +30,12 @@ pub record Headline (asked : Option Request) (held : Option Files) (old new : Op
   -- where `solve` ends with status 0, the text it wrote names hubs and routes that cost exactly the printed cost, and
   -- no nonempty set of candidate hubs with any routing costs less
   pub solved : (files : Files) (s : Solving) → held ≡ Some files → asked ≡ Some (solve s) → status ≡ Done
-      → (text : List ℕ) × Appends old new text × SolvesFile files s.source text
+      → (text : List ℕ) × Appends old new text × SolvesInstance (Some files) s text
   -- `check` on the same instance and that text ends with status 0, where no fault rises, memory is not wanting and the
   -- text has at most 2^30 bytes
-  pub checked : (before files : Files) (s t : Source) (certificate text : List ℕ) → held ≡ Some files → asked ≡ Some (check t certificate)
-      → SolvesFile before s text → length text ≤ certificate_limit
-      → IsSameInstance before s files t → files certificate ≡ Some text → quiet
+  pub checked : (before files : Files) (s : Solving) (t : Source) (certificate text : List ℕ) → held ≡ Some files → asked ≡ Some (check t certificate)
+      → SolvesInstance (Some before) s text → length text ≤ certificate_limit
+      → IsSameInstance before s.source files t → files certificate ≡ Some text → quiet
       → (status ≡ Done) ⊎ (status ≡ Memory)
   -- wherever `check` ends with status 0, on any bytes whatever, the named network attains its cost and no plan costs less
   pub certified : (files : Files) (s : Source) (certificate : List ℕ) → held ≡ Some files → asked ≡ Some (check s certificate) → status ≡ Done

@@ -1,6 +1,7 @@
 pub mod Statuses
 pub mod Commands
 pub mod Texts
+pub mod Answers
 pub mod Outcomes
 pub mod Meanings
 pub mod Completeness
@@ -13,3 +14,4 @@ pub mod Halts
 pub mod Solving
 pub mod Judging
 pub mod Told
+pub mod Reporting

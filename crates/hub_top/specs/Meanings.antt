@@ -2,34 +2,19 @@
 use Rattle.std.specs.Prelude.{◌≡◌, ℕ, List, [], Option, Some, None}
 use Rattle.std.specs.Io.KnownBytes.{Appends}
 use Rattle.hub_io.specs.Outside.{Files}
-use Rattle.cert_spec.specs.Verdicts.{Verdict}
 use Rattle.file_spec.specs.Faults.{Fault}
 use Rattle.hub_top.specs.declared.status.Status.{Status}
 use Rattle.hub_top.specs.declared.status.Status.TheVariants.{Done, Stopped, No, Usage, Instance, Memory, Read, Write}
-use Rattle.hub_words.specs.Requests.{Source, Request, solve, check, instance}
-use Rattle.hub_top.specs.Texts.{verdict_text}
-use Rattle.hub_top.specs.Commands.{Blame, HasBlame, SolvesFile, JudgesFile}
-use Rattle.hub_top.specs.Outcomes.{WhereTold, verdict_status}
-
--- the text is the line of a verdict with this status, which is the verdict on the certificate
-pub record Judges (files : Files) (s : Source) (certificate : List ℕ) (status : Status) (text : List ℕ) : Type 0 where
-  pub verdict : Verdict
-  pub of_status : verdict_status verdict ≡ status
-  pub of_text : text ≡ verdict_text verdict
-  pub judges : JudgesFile files s certificate verdict
-
--- what a command says that ends with this status and this text on out
-abbrev pub Answers : Request → Status → Files → List ℕ → Type 0
-Answers (solve s) Done files text = SolvesFile files s.source text
-Answers (solve s) status files text = ⊥
-Answers (check s certificate) status files text = Judges files s certificate status text
+use Rattle.hub_words.specs.Requests.{Source, Request, instance}
+use Rattle.hub_top.specs.Commands.{Blame, HasBlame, WhereTold}
+use Rattle.hub_top.specs.Answers.{Answers}
 
 -- the words are a command, and out took the text of its answer with this status
 pub record Answered (asked : Option Request) (held : Option Files) (old new : Option (List ℕ)) (status : Status) : Type 0 where
   pub request : Request
   pub is_asked : asked ≡ Some request
   pub text : List ℕ
-  pub answers : WhereTold held (λ files. Answers request status files text)
+  pub answers : Answers request status held text
   pub taken : Appends old new text
 
 -- the words are a command, a file of whose instance has a fault, and out took nothing

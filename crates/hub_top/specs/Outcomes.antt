@@ -2,20 +2,18 @@
 use Rattle.std.specs.Prelude.{◌≡◌, ℕ, ◌≤◌, List, [], Option, Some, None, Ok, Err}
 use Rattle.hub_io.specs.Outside.{Files, Rose, Puts}
 use Rattle.hub_io.specs.declared.Failed.{Failed}
-use Rattle.cert_spec.specs.Verdicts.{Verdict, optimal, bounds}
 use Rattle.file_spec.specs.Faults.{Fault}
 use Rattle.hub_top.specs.declared.status.Status.{Status}
-use Rattle.hub_top.specs.declared.status.Status.TheVariants.{Done, Stopped, No, Usage, Instance, Memory, Read, Write}
-use Rattle.hub_words.specs.Requests.{Source, Solving, Request, solve, check, instance}
-use Rattle.hub_top.specs.Texts.{usage_text, fault_text, memory_text, read_text, verdict_text}
-use Rattle.hub_top.specs.Commands.{Blame, HasBlame, SolvesFile, JudgesFile, Lacks}
+use Rattle.hub_top.specs.declared.status.Status.TheVariants.{Usage, Instance, Memory, Read, Write}
+use Rattle.hub_words.specs.Requests.{Source, Request, instance}
+use Rattle.hub_top.specs.Texts.{usage_text, fault_text, memory_text, read_text}
+use Rattle.hub_top.specs.Commands.{Blame, HasBlame, WhereTold, Lacks}
+use Rattle.hub_top.specs.Answers.{Answers}
 
 -- what a run came to, before it was written
 pub data Outcome : Type 0 where
-  -- a certificate's text
-  solved : List ℕ → Outcome
-  -- the verdict on a certificate's bytes
-  judged : Verdict → Outcome
+  -- the command's answer: its status and its text
+  answered : Status → List ℕ → Outcome
   -- the words are no command
   usage : Outcome
   -- a file of the instance has this fault
@@ -23,15 +21,8 @@ pub data Outcome : Type 0 where
   memory : Outcome
   read : Outcome
 
--- the status of a verdict
-abbrev pub verdict_status : Verdict → Status
-verdict_status (optimal cost) = Done
-verdict_status (bounds bound cost) = Stopped
-verdict_status verdict = No
-
 abbrev pub status_of : Outcome → Status
-status_of (solved text) = Done
-status_of (judged verdict) = verdict_status verdict
+status_of (answered status text) = status
 status_of usage = Usage
 status_of (faulty blame fault) = Instance
 status_of memory = Memory
@@ -39,8 +30,7 @@ status_of read = Read
 
 -- what is written to out
 abbrev pub out_text : Outcome → List ℕ
-out_text (solved text) = text
-out_text (judged verdict) = verdict_text verdict
+out_text (answered status text) = text
 out_text outcome = []
 
 -- what is written to err
@@ -50,11 +40,6 @@ err_text (faulty blame fault) = fault_text blame fault
 err_text memory = memory_text
 err_text read = read_text
 err_text outcome = []
-
--- a fact about the files, where they are told
-abbrev pub WhereTold : Option Files → (Files → Type 0) → Type 0
-WhereTold None fact = Unit {0}
-WhereTold (Some files) fact = fact files
 
 -- the shelf failed in this call; and a sound one that tells lacks what is said of its files
 pub record FailsFor {S : Type 0} (held : S → Option Files) (faults : S → ℕ) (sound : S → Type 0) (old new : S) (lacks : Files → Type 0) : Type 0 where
@@ -78,11 +63,7 @@ Quiet faults old new out_faults out_old out_new err_faults err_old err_new =
 
 -- the outcomes that the words, the files and the shelf's faults allow
 abbrev pub MayComeTo : Option Request → Option Files → (Request → Type 0) → Outcome → Type 0
-MayComeTo asked held fails (solved text) =
-    (s : Solving) × (asked ≡ Some (solve s)) × WhereTold held (λ files. SolvesFile files s.source text)
-MayComeTo asked held fails (judged verdict) =
-    (s : Source) × (certificate : List ℕ) × (asked ≡ Some (check s certificate))
-    × WhereTold held (λ files. JudgesFile files s certificate verdict)
+MayComeTo asked held fails (answered status text) = (request : Request) × (asked ≡ Some request) × Answers request status held text
 MayComeTo asked held fails usage = asked ≡ None
 MayComeTo asked held fails (faulty blame fault) =
     (request : Request) × (s : Source) × (asked ≡ Some request) × (instance request ≡ Some s)

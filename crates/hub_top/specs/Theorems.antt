@@ -1,16 +1,34 @@
--- What a text that solves an instance is to a check, and that files have one fault.
-use Rattle.std.specs.Prelude.{◌≡◌, ℕ, ◌≤◌, List, length}
+-- What a text that solves an instance is to a check, that a search has one text, and that files have one fault.
+use Rattle.std.specs.Prelude.{◌≡◌, ℕ, ◌≤◌, List, length, Option, ◌⊎◌}
 use Rattle.hub_spec.specs.Problem.{Problem}
-use Rattle.cert_spec.specs.Verdicts.{Verdict, optimal, Why, certificate_limit}
+use Rattle.cert_spec.specs.Text.{Spells}
+use Rattle.cert_spec.specs.Verdicts.{Verdict, optimal, bounds, Why, certificate_limit}
 use Rattle.file_spec.specs.Faults.{Fault}
 use Rattle.hub_io.specs.Outside.{Files}
 use Rattle.hub_words.specs.Requests.{Source}
-use Rattle.hub_top.specs.Commands.{Solves, Blame, HasBlame}
+use Rattle.hub_top.specs.Commands.{Solves, Stops, Blame, HasBlame}
 
--- the verdict on a text that solves the instance, and is not too long, is optimal, with the printed cost, and no other.
+-- the verdict is the one on the text, and no other
+abbrev pub IsOneVerdict : Problem → List ℕ → Verdict → Type 0
+IsOneVerdict p text verdict = Why p text verdict × ((other : Verdict) → Why p text other → other ≡ verdict)
+
+-- the verdict on a text that solves the instance, and is not too long, is optimal, with the printed cost, and no other
 abbrev pub SolvedIsOptimal : Type 0
-SolvedIsOptimal = (p : Problem) (text : List ℕ) (solved : Solves p text) → length text ≤ certificate_limit
-    → Why p text (optimal solved.cost) × ((other : Verdict) → Why p text other → other ≡ optimal solved.cost)
+SolvedIsOptimal = (p : Problem) (nodes : Option ℕ) (text : List ℕ) (solved : Solves p nodes (Spells text)) → length text ≤ certificate_limit
+    → IsOneVerdict p text (optimal solved.certificate.cost)
+
+-- the verdict on a text that stops, and is not too long, is bounds, with the printed bound and cost, and no other
+abbrev pub StoppedIsBounds : Type 0
+StoppedIsBounds = (p : Problem) (nodes : Option ℕ) (text : List ℕ) (stopped : Stops p nodes (Spells text)) → length text ≤ certificate_limit
+    → IsOneVerdict p text (bounds stopped.certificate.bound stopped.certificate.cost)
+
+-- the text solves the instance with so many nodes at most, or stops
+abbrev pub Ends : Problem → Option ℕ → List ℕ → Type 0
+Ends p nodes text = Solves p nodes (Spells text) ⊎ Stops p nodes (Spells text)
+
+-- an instance and a number of nodes have one text, whatever the workers
+abbrev pub OneText : Type 0
+OneText = (p : Problem) (nodes : Option ℕ) (text other : List ℕ) → Ends p nodes text → Ends p nodes other → other ≡ text
 
 -- two faults that the same files have are one, told of one file
 abbrev pub OneBlame : Type 0

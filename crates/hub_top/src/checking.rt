@@ -4,11 +4,11 @@ ghost use Rattle.std.specs.Prelude.{◌≡◌, ◌⊎◌, IfOk, IfErr};
 ghost use Rattle.cert_checker.specs.Shows.{verdict_of};
 ghost use Rattle.hub_words.specs.Requests.{AreSources};
 ghost use Rattle.hub_words.specs.Views.{source_of};
-ghost use Rattle.hub_top.specs.Commands.{LacksSource, LacksCertificate};
+ghost use Rattle.hub_top.specs.Commands.{JudgesFile, LacksSource, LacksCertificate};
 ghost use Rattle.hub_top.specs.Outcomes.{FailsFor, StaysShelf};
 ghost use Rattle.hub_top.specs.Halts.{Halts, IsOfSource};
-ghost use Rattle.hub_top.specs.Judging.{IsNoFault};
-ghost use Rattle.hub_top.specs.Told.{ToldJudged, ToldVerdict, LacksFile};
+ghost use Rattle.hub_top.specs.Judging.{IsNoFault, IsVerdictOn};
+ghost use Rattle.hub_top.specs.Told.{LacksFile};
 
 use crate::halts::Halt;
 use crate::instances::read_instance;
@@ -19,7 +19,7 @@ use hub_words::Source;
 use std::alloc::Global;
 
 /// A certificate may hold at most this many bytes: 2^30.
-const CERTIFICATE_LIMIT: u64 = 1_073_741_824;
+pub const CERTIFICATE_LIMIT: u64 = 1_073_741_824;
 
 /// The ending of a check of the certificate of this file against the instance that the source names.
 pub fn check<S: Shelf>(
@@ -29,7 +29,7 @@ pub fn check<S: Shelf>(
     shelf: &mut S,
 ) -> Result<Ending, Halt>
     requires { AreSources (source_of source.now) }
-    ensures judged { IfOk result (λ e. ToldJudged (S.held shelf.old) (source_of source.now) certificate.now (verdict_of e)) }
+    ensures judged { IfOk result (λ e. JudgesFile (S.held shelf.old) (source_of source.now) certificate.now (verdict_of e)) }
     ensures halted { IfErr result (Halts (IsOfSource (S.held shelf.old) (source_of source.now))
         (FailsFor S.held S.faults S.sound shelf.old shelf.new
         (λ files. LacksSource files (source_of source.now) ⊎ LacksCertificate files (source_of source.now) certificate.now))) }
@@ -46,7 +46,7 @@ fn check_file<S: Shelf>(
     certificate: &str,
     shelf: &mut S,
 ) -> Result<Ending, Halt>
-    ensures judged { IfOk result (λ e. ToldVerdict instance.now (S.held shelf.old) certificate.now (verdict_of e)) }
+    ensures judged { IfOk result (λ e. IsVerdictOn instance.now (S.held shelf.old) certificate.now (verdict_of e)) }
     ensures halted { IfErr result (Halts IsNoFault
         (FailsFor S.held S.faults S.sound shelf.old shelf.new (LacksFile certificate.now))) }
     ensures stays { StaysShelf S.held S.faults S.sound shelf.old shelf.new }

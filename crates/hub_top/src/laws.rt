@@ -1,10 +1,21 @@
-//! What a text that `solve` writes is to a check, and that files have one fault.
+//! What a text that `solve` writes is to a check, that a search has one text, and that files have one fault.
 
-ghost use Rattle.hub_top.specs.Theorems.{SolvedIsOptimal, OneBlame};
+ghost use Rattle.hub_top.specs.Theorems.{OneBlame, OneText, SolvedIsOptimal, StoppedIsBounds};
 
 /// The verdict on a text that solves an instance, and has at most 2^30 bytes, is optimal with its cost, and no other.
 pub fn solved_is_optimal()
     ensures { SolvedIsOptimal }
+{}
+
+/// The verdict on a text with which a search stops, and that has at most 2^30 bytes, is bounds with its bound and cost,
+/// and no other.
+pub fn stopped_is_bounds()
+    ensures { StoppedIsBounds }
+{}
+
+/// An instance and a number of nodes have one text, whatever the workers.
+pub fn one_text()
+    ensures { OneText }
 {}
 
 /// Two faults that the same files have are one, told of one file.

@@ -1,12 +1,13 @@
 //! The top call of the product: words, files and sinks to a status.
 //!
 //! [`run`] carries the headline as its clauses. `specs/` has their words in the order of reading: `Commands` (what a
-//! command does with its files), `Texts` (what is printed), `Outcomes` (what a run may come to and what is written then),
-//! `Meanings` (what each status says), `Completeness` (how it ends where nothing fails), `Headline`, `Theorems`. What the
-//! words ask for is defined in the crate `hub_words`.
+//! command does with its files), `Texts` (what is printed), `Answers` (what each command says with each status), `Outcomes`
+//! (what a run may come to and what is written then), `Meanings` (what each status says), `Completeness` (how it ends
+//! where nothing fails), `Headline`, `Theorems`. What the words ask for is defined in the crate `hub_words`, and what a
+//! search finds in `search_spec` and `branch_tree`.
 #![tactic(auto)]
 
-mod certificates;
+mod answers;
 mod checking;
 mod costs;
 mod files;
@@ -14,6 +15,7 @@ mod halts;
 mod instances;
 mod laws;
 mod outcomes;
+mod reporting;
 mod solving;
 mod status;
 #[cfg(test)]
@@ -22,6 +24,6 @@ mod texts;
 mod top;
 mod verdict_lines;
 
-pub use laws::{one_blame, solved_is_optimal};
+pub use laws::{one_blame, one_text, solved_is_optimal, stopped_is_bounds};
 pub use status::Status;
 pub use top::run;

@@ -1,45 +1,99 @@
-//! The command `solve`: an instance from its file to its certificate.
+//! The commands `solve` and `demo`: an instance to what the search rule finds for it.
 
-ghost use Rattle.std.specs.Prelude.{◌≡◌, IfOk, IfErr};
-ghost use Rattle.hub_words.specs.Requests.{AreSources};
-ghost use Rattle.hub_words.specs.Views.{source_of};
-ghost use Rattle.cert_spec.specs.Text.{certificate_text};
+ghost use Rattle.std.specs.Prelude.{◌≡◌, ◌≤◌, IfOk, IfErr};
+ghost use denote.Param.Send.{IsSync};
+ghost use Rattle.hub_spec.specs.Plans.{IsHubSet};
+ghost use Rattle.hub_spec.specs.Separation.{IsOrder};
+ghost use Rattle.cut_pool.specs.Entries.{entry_of};
+ghost use Rattle.search_steps.specs.Pools.{IsSumsOf};
+ghost use Rattle.hub_make.specs.Contents.{made_problem};
+ghost use Rattle.hub_words.specs.Requests.{AreSources, IsMaking, IsSearch};
+ghost use Rattle.hub_words.specs.Views.{making_seen, search_seen, source_of};
 ghost use Rattle.hub_top.specs.Commands.{LacksSource};
 ghost use Rattle.hub_top.specs.Outcomes.{FailsFor, StaysShelf};
 ghost use Rattle.hub_top.specs.Halts.{Halts, IsOfSource};
-ghost use Rattle.hub_top.specs.Solving.{IsSolution};
-ghost use Rattle.hub_top.specs.Told.{ToldSolved};
+ghost use Rattle.hub_top.specs.Solving.{IsSearched, IsSolution};
 
-use crate::certificates::certificate_of;
+use crate::answers::Solution;
 use crate::halts::Halt;
 use crate::instances::read_instance;
-use branch_tree::search;
-use cert_format::Certificate;
-use hub_io::Shelf;
-use hub_model::Instance;
-use hub_words::Source;
+use branch_tree::{Found, search};
+use cut_pool::CutSums;
+use hub_demo::made_instance;
+use hub_io::{Gate, Shelf};
+use hub_model::{HubSet, Instance};
+use hub_words::{Making, Search, Source};
+use par_separate::{Crew, separate, workers_for};
+use pareto_cuts::Scratch;
+use separators::Solo;
 use std::alloc::{AllocError, Global};
+use std::thread::Threads;
 
-/// The certificate of an optimal plan of the instance that the source names.
-pub fn solve<S: Shelf>(
+/// What the search rule finds for the instance that the source names.
+pub fn solve<R: Threads + Sync, S: Shelf, G: Gate>(
+    rt: &R,
     alloc: Global,
     source: &Source<'_>,
+    asked: Search,
     shelf: &mut S,
-) -> Result<Certificate, Halt>
-    requires { AreSources (source_of source.now) }
-    ensures solved { IfOk result (λ k. ToldSolved (S.held shelf.old) (source_of source.now) (certificate_text k)) }
+    gate: &G,
+) -> Result<Solution, Halt>
+    requires sources { AreSources (source_of source.now) }
+    requires asked { IsSearch (search_seen asked) }
+    ensures solved { IfOk result (IsSolution (S.held shelf.old) (source_of source.now) asked.nodes) }
     ensures halted { IfErr result (Halts (IsOfSource (S.held shelf.old) (source_of source.now))
         (FailsFor S.held S.faults S.sound shelf.old shelf.new (λ files. LacksSource files (source_of source.now)))) }
     ensures stays { StaysShelf S.held S.faults S.sound shelf.old shelf.new }
 {
     let instance = read_instance(alloc, source, shelf)?;
-    Ok(certified(alloc, &instance)?)
+    let found = find(rt, alloc, &instance, asked, gate)?;
+    let scratch = Scratch::new(alloc, &instance)?;
+    Ok(Solution {
+        instance,
+        found,
+        scratch,
+    })
 }
 
-/// The certificate of an optimal plan.
-fn certified(alloc: Global, instance: &Instance) -> Result<Certificate, AllocError>
-    ensures { IfOk result (IsSolution instance.now) }
+/// What the search rule finds for a made-up instance.
+pub fn demonstrate<R: Threads + Sync, G: Gate>(
+    rt: &R,
+    alloc: Global,
+    making: Making,
+    asked: Search,
+    gate: &G,
+) -> Result<Found, AllocError>
+    requires making { IsMaking (making_seen making) }
+    requires asked { IsSearch (search_seen asked) }
+    ensures { IfOk result (IsSearched (made_problem making.seed making.size) asked.nodes) }
 {
-    let found = search(alloc, instance)?;
-    certificate_of(alloc, instance, found)
+    let instance = made_instance(alloc, making.seed, making.size)?;
+    find(rt, alloc, &instance, asked, gate)
+}
+
+/// What the search rule finds: by workers side by side, where more than one is asked for and the instance is large
+/// enough for them.
+fn find<R: Threads + Sync, G: Gate>(
+    rt: &R,
+    alloc: Global,
+    instance: &Instance,
+    asked: Search,
+    gate: &G,
+) -> Result<Found, AllocError>
+    requires { IsSearch (search_seen asked) }
+    ensures { IfOk result (IsSearched instance.now asked.nodes) }
+{
+    let workers = workers_for(instance.size(), asked.workers);
+    if workers == 1 {
+        let mut solo = Solo::new(alloc, instance)?;
+        return search(alloc, instance, asked.nodes, &mut solo);
+    }
+    let cut = |alloc: Global, i: &Instance, set: HubSet, order: &[u32]| -> Result<
+        CutSums,
+        AllocError,
+    >
+        requires { IsSync R.row × IsSync G.row × IsHubSet i.now set × IsOrder i.now set order.now × (1 ≤ workers) × (workers ≤ 64) }
+        ensures { IfOk result (λ c. (c.hubs ≡ set) × IsSumsOf i.entry.now (entry_of c order.entry.now)) }
+    { separate(rt, alloc, i, set, order, workers, gate) };
+    search(alloc, instance, asked.nodes, &mut Crew { cut })
 }

@@ -6,11 +6,13 @@ ghost use Rattle.hub_top.specs.Statuses.{number_of};
 /// How a run ended; the program ends with its number.
 #[derive(Clone, Copy, Debug, PartialEq, Eq)]
 pub enum Status {
-    /// `solve`: a certificate whose bound is its cost was written. `check`: the bytes certify an optimal plan.
+    /// `solve`, `demo`: the bound is the cost. `check`: the bytes certify an optimal plan. `report`: they certify. `make`:
+    /// the text was written.
     Done,
-    /// `check`: the bytes certify a plan, with a bound below its cost.
+    /// `solve`, `demo`: two nodes more were not allowed, and the bound is below the cost. `check`: the bytes certify a plan,
+    /// with a bound below its cost.
     Stopped,
-    /// `check`: the bytes do not certify.
+    /// `check`, `report`: the bytes do not certify.
     No,
     /// The words are no command.
     Usage,

@@ -7,7 +7,7 @@ use std::process::Abort;
 use std::test::Fail;
 use std::thread::Threads;
 use worked_cases::{
-    ONE_NODE_BOUND, ONE_NODE_BRANCHED, ONE_NODE_FILE, TWO_NODES_BRANCHED, TWO_NODES_CERTIFICATE,
+    ONE_NODE_BOUND, ONE_NODE_CERTIFICATE, ONE_NODE_FILE, TWO_NODES_BRANCHED, TWO_NODES_CERTIFICATE,
     TWO_NODES_FILE,
 };
 
@@ -16,6 +16,37 @@ const SOLVE: &[&str] = &["hub", "solve", "cab-matrix", "f", "--fixed", "5"];
 const CHECK: &[&str] = &["hub", "check", "cab-matrix", "f", "g", "--fixed", "5"];
 
 const OPTIMAL: &str = "optimal 25.000000000000\n";
+
+const REPORT: &str = "status bounds
+hubs 1
+collection 0.000000000000
+trunk 0.000000000000
+delivery 0.000000000000
+fixed 5.000000000000
+total 5.000000000000
+bound 0.000000000000
+listed p none
+hub 1 collected 0.000000 delivered 0.000000
+";
+
+const MADE: &str = "2
+38 62
+78 246
+3 4
+4 6
+1
+3
+0.75
+2
+1200 1300
+";
+
+const SHOWN: &str = "size 2
+cost 3629.782000000000
+bound 3629.782000000000
+hubs 1 2
+nodes 5
+";
 
 // What a run ends with, and puts on out and err.
 type Ended = (Status, &'static str, &'static str);
@@ -48,10 +79,37 @@ fn expect<R: Threads + Sync + Abort>(
 #[test]
 fn worked_instances_are_solved(rt: HostRuntime) -> Result<(), Fail> {
     for (file, text) in [
-        (ONE_NODE_FILE, ONE_NODE_BRANCHED),
-        (TWO_NODES_FILE, TWO_NODES_BRANCHED),
+        (ONE_NODE_FILE, ONE_NODE_CERTIFICATE),
+        (TWO_NODES_FILE, TWO_NODES_CERTIFICATE),
     ] {
         expect(&rt, rt.alloc(), SOLVE, (file, ""), (Status::Done, text, ""))?;
+    }
+    let words: &[&str] = &[
+        "hub",
+        "solve",
+        "cab-matrix",
+        "f",
+        "--fixed=5",
+        "--nodes=2",
+        "--workers=2",
+    ];
+    let wanted = (Status::Stopped, ONE_NODE_BOUND, "");
+    expect(&rt, rt.alloc(), words, (ONE_NODE_FILE, ""), wanted)?;
+    Ok(())
+}
+
+#[test]
+fn reports_and_made_instances(rt: HostRuntime) -> Result<(), Fail> {
+    let report: &[&str] = &["hub", "report", "cab-matrix", "f", "g", "--fixed", "5"];
+    let make: &[&str] = &["hub", "make", "1", "2"];
+    let demo: &[&str] = &["hub", "demo", "1", "2", "--nodes", "5"];
+    for (words, file, text, status, out) in [
+        (report, ONE_NODE_FILE, ONE_NODE_BOUND, Status::Done, REPORT),
+        (report, ONE_NODE_FILE, "", Status::No, "no Ended 1\n"),
+        (make, "", "", Status::Done, MADE),
+        (demo, "", "", Status::Done, SHOWN),
+    ] {
+        expect(&rt, rt.alloc(), words, (file, text), (status, out, ""))?;
     }
     Ok(())
 }
@@ -68,7 +126,7 @@ fn each_layout_gives_the_same_instance(rt: HostRuntime) -> Result<(), Fail> {
         (costs, (TWO_NODES_FILE, "5 5")),
         (post, ("2 0 0 6000 8000 0 1 1 0 1 1 1 1 5 5", "")),
     ] {
-        let wanted = (Status::Done, TWO_NODES_BRANCHED, "");
+        let wanted = (Status::Done, TWO_NODES_CERTIFICATE, "");
         expect(&rt, rt.alloc(), words, files, wanted)?;
     }
     Ok(())

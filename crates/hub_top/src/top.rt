@@ -1,44 +1,50 @@
 //! The top call.
 
-ghost use Rattle.std.specs.Prelude.{◌≡◌, ◌⊎◌};
+ghost use Rattle.std.specs.Prelude.{◌≡◌, ◌⊎◌, IfOk, IfSome, None, Some};
 ghost use Rattle.hub_io.specs.Outside.{Rose};
 ghost use Rattle.hub_words.specs.Words as spec;
-ghost use Rattle.hub_words.specs.Views.{texts};
-ghost use Rattle.hub_top.specs.Views.{outcome};
+ghost use Rattle.hub_words.specs.Requests.{AreSources, IsMaking, IsSearch, Request, instance, making_of, search_of};
+ghost use Rattle.hub_words.specs.Views.{request_of, texts};
+ghost use Rattle.hub_top.specs.Views.{CanBeWritten, IsWritable, ended, outcome};
 ghost use Rattle.hub_top.specs.Outcomes.{Outcome, MayComeTo, ShelfFails, Quiet, Written};
 ghost use Rattle.hub_top.specs.Meanings.{Means};
 ghost use Rattle.hub_top.specs.Completeness.{Completeness};
 ghost use Rattle.hub_top.specs.Headline.{Headline};
 
 use crate::Status;
+use crate::answers::Answer;
 use crate::checking::check;
+use crate::halts::Halt;
 use crate::outcomes::{Intended, write};
-use crate::solving::solve;
+use crate::reporting::report;
+use crate::solving::{demonstrate, solve};
 use hub_io::{Gate, Shelf, Sink};
-use hub_words::{Command, Source, asked};
+use hub_make::instance_text;
+use hub_words::{Command, asked};
 use std::alloc::Global;
 use std::thread::Threads;
 
 /// Runs the command that the words give, of which the first is the program's name.
 ///
-/// It reads and decides first, and then writes: the certificate or the verdict on `out`, and what hinders it on `err`. The
-/// runtime and the gate are not used so far.
+/// It reads and decides first, and then writes: the answer of the command on `out`, or what hinders it on `err`. `make`
+/// and `demo` call nothing on the shelf. The runtime and the gate serve the workers of a search alone: no clause reads
+/// them, nor the number of workers, and out takes the same text whatever they are.
 ///
 /// - `ends`: there is an outcome that the words, the files and the shelf's faults allow, and it was written, with its
 ///   status; where a sink failed, a front of the text that it was to take, and nothing further.
 /// - `means`: what each status says of the words, the files, the faults and what `out` took.
 /// - `complete`: where no fault rose, words that are no command end with status 3, a fault of the instance with 4, `solve`
-///   of an instance with 0, and `check` of an instance and a certificate's bytes with 0, 1 or 2 by the verdict on them; or
-///   it is want of memory.
+///   and `demo` with 0 or 1 as the search rule says, and with 0 where enough nodes are allowed, `check` with 0, 1 or 2 by
+///   the verdict on the certificate's bytes, `report` with 0 or 2 by it, and `make` with 0; or it is want of memory.
 /// - `headline`: the headline, whose three sentences stand with their meaning in `specs/Headline.antt`.
 pub fn run<R: Threads + Sync, S: Shelf, O: Sink, E: Sink, G: Gate>(
-    _rt: &R,
+    rt: &R,
     alloc: Global,
     words: &[String],
     shelf: &mut S,
     out: &mut O,
     err: &mut E,
-    _gate: &G,
+    gate: &G,
 ) -> Status
     ensures ends { (came : Outcome)
         × MayComeTo (spec.asked (texts words.now)) (S.held shelf.old) (ShelfFails S.held S.faults S.sound shelf.old shelf.new) came
@@ -50,29 +56,70 @@ pub fn run<R: Threads + Sync, S: Shelf, O: Sink, E: Sink, G: Gate>(
     ensures headline { Headline (spec.asked (texts words.now)) (S.held shelf.old) (O.taken out.old) (O.taken out.new)
         (Quiet S.faults shelf.old shelf.new O.faults out.old out.new E.faults err.old err.new) result }
     ensures same { S.held shelf.new ≡ S.held shelf.old }
+    ensures untouched { (request : Request) → spec.asked (texts words.now) ≡ Some request → instance request ≡ None → shelf.new ≡ shelf.old }
 {
-    let intended = intend(alloc, words, shelf);
-    write(&intended, out, err)
+    let intended = intend(rt, alloc, words, shelf, gate);
+    write(intended, out, err)
 }
 
 /// What the words and files come to. It writes nothing.
-fn intend<S: Shelf>(alloc: Global, words: &[String], shelf: &mut S) -> Intended
+fn intend<R: Threads + Sync, S: Shelf, G: Gate>(
+    rt: &R,
+    alloc: Global,
+    words: &[String],
+    shelf: &mut S,
+    gate: &G,
+) -> Intended
     ensures may { MayComeTo (spec.asked (texts words.now)) (S.held shelf.old)
         (ShelfFails S.held S.faults S.sound shelf.old shelf.new) (outcome result) }
+    ensures writable { CanBeWritten result }
     ensures same { S.held shelf.new ≡ S.held shelf.old }
+    ensures untouched { (request : Request) → spec.asked (texts words.now) ≡ Some request → instance request ≡ None → shelf.new ≡ shelf.old }
 {
     match asked(alloc, words) {
-        Err(_) => Intended::Memory,
+        Err(_) => Intended::Halted(Halt::Memory),
         Ok(None) => Intended::Usage,
-        Ok(Some(Command::Solve(solving))) => match solve(alloc, &solving.source, shelf) {
-            Ok(certificate) => Intended::Solved(certificate),
+        Ok(Some(command)) => match answer(rt, alloc, &command, shelf, gate) {
+            Ok(answer) => Intended::Answered(answer),
             Err(halt) => Intended::Halted(halt),
         },
-        Ok(Some(Command::Check(source, certificate))) => {
-            match check(alloc, &source, certificate, shelf) {
-                Ok(ending) => Intended::Checked(ending),
-                Err(halt) => Intended::Halted(halt),
-            }
+    }
+}
+
+/// What the command answers, or why it has no answer.
+fn answer<R: Threads + Sync, S: Shelf, G: Gate>(
+    rt: &R,
+    alloc: Global,
+    command: &Command<'_>,
+    shelf: &mut S,
+    gate: &G,
+) -> Result<Answer, Halt>
+    requires sources { IfSome (instance (request_of command.now)) AreSources }
+    requires searches { IfSome (search_of (request_of command.now)) IsSearch }
+    requires makings { IfSome (making_of (request_of command.now)) IsMaking }
+    ensures may { MayComeTo (Some (request_of command.now)) (S.held shelf.old)
+        (ShelfFails S.held S.faults S.sound shelf.old shelf.new) (ended result) }
+    ensures writable { IfOk result IsWritable }
+    ensures same { S.held shelf.new ≡ S.held shelf.old }
+    ensures untouched { instance (request_of command.now) ≡ None → shelf.new ≡ shelf.old }
+{
+    match command {
+        Command::Solve(solving) => Ok(Answer::Solved(solve(
+            rt,
+            alloc,
+            &solving.source,
+            solving.search,
+            shelf,
+            gate,
+        )?)),
+        Command::Check(source, certificate) => {
+            Ok(Answer::Judged(check(alloc, source, certificate, shelf)?))
         }
+        Command::Report(source, certificate) => report(alloc, source, certificate, shelf),
+        Command::Make(making) => Ok(Answer::Made(instance_text(alloc, making.seed, making.size)?)),
+        Command::Demo(making, search) => Ok(Answer::Demonstrated(
+            making.size,
+            demonstrate(rt, alloc, *making, *search, gate)?,
+        )),
     }
 }

@@ -4,7 +4,7 @@ ghost use Rattle.std.specs.Prelude.{◌≡◌};
 ghost use Rattle.hub_io.specs.Outside.{Puts};
 ghost use Rattle.cert_checker.specs.Shows.{verdict_of};
 ghost use Rattle.hub_top.specs.Texts.{verdict_text, optimal_line, bounds_line, no_line, too_long_line};
-ghost use Rattle.hub_top.specs.Outcomes.{verdict_status};
+ghost use Rattle.hub_top.specs.Answers.{verdict_status};
 
 use crate::Status;
 use crate::texts::natural_of;

@@ -37,18 +37,54 @@ option_names = codes "order" ∷ codes "tail" ∷ codes "divide" ∷ codes "coll
 abbrev pub with_instance : App → App
 with_instance a = with_rule (fold with_option (fold with_word a instance_words) option_names) (flag_rule (codes "no-self"))
 
--- `solve LAYOUT FILE`, with the instance options
+-- the options of a search
+abbrev pub search_names : List Text
+search_names = codes "nodes" ∷ codes "workers" ∷ []
+
+-- a command that takes the options of a search too
+abbrev pub with_search : App → App
+with_search a = fold with_option a search_names
+
+-- the words of a subcommand that say which instance is made
+abbrev pub making_words : List Text
+making_words = codes "seed" ∷ codes "size" ∷ []
+
+-- a command that takes a seed and a number of nodes
+abbrev pub with_making : App → App
+with_making a = fold with_word a making_words
+
+-- `solve LAYOUT FILE`, with the instance options and those of a search
 abbrev pub solve_app : App
-solve_app = with_instance (new_app (codes "solve"))
+solve_app = with_search (with_instance (new_app (codes "solve")))
+
+-- a subcommand `NAME LAYOUT FILE CERT`, with the instance options
+abbrev pub certificate_app : Text → App
+certificate_app name = with_word (with_instance (new_app name)) (codes "certificate")
 
 -- `check LAYOUT FILE CERT`, with the instance options
 abbrev pub check_app : App
-check_app = with_word (with_instance (new_app (codes "check"))) (codes "certificate")
+check_app = certificate_app (codes "check")
+
+-- `report LAYOUT FILE CERT`, with the instance options
+abbrev pub report_app : App
+report_app = certificate_app (codes "report")
+
+-- `make SEED SIZE`
+abbrev pub make_app : App
+make_app = with_making (new_app (codes "make"))
+
+-- `demo SEED SIZE`, with the options of a search
+abbrev pub demo_app : App
+demo_app = with_search (with_making (new_app (codes "demo")))
 
 -- no help, no version, and a subcommand must be named
 abbrev pub bare : Shape → Shape
 bare s = record s { disable_help_flag = true; disable_help_subcommand = true; disable_version_flag = true; subcommand_required = true }
 
--- `hub` with its two subcommands
+-- the subcommands of `hub`
+abbrev pub subcommand_apps : List App
+subcommand_apps = solve_app ∷ check_app ∷ report_app ∷ make_app ∷ demo_app ∷ []
+
+-- `hub` with its five subcommands
 unfoldable pub hub : App
-hub = with_subcommand (with_subcommand (on_top bare (new_app (codes "hub"))) solve_app.top) check_app.top
+hub = fold (λ app part. with_subcommand app part.top) (on_top bare (new_app (codes "hub"))) subcommand_apps

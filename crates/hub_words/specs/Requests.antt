@@ -1,6 +1,8 @@
 -- What the words of a command line ask for.
-use Rattle.std.specs.Prelude.{◌≡◌, ℕ, List, Option, Some, None, IsSome}
+use Rattle.std.specs.Prelude.{◌≡◌, ℕ, ◌≤◌, List, Option, Some, None, IfSome, IsSome}
+use Rattle.hub_spec.specs.Limits.{most_nodes}
 use Rattle.file_spec.specs.Options.{Layout, Options, IsOptions, tail_costs}
+use Rattle.hub_words.specs.Limits.{most_search_nodes, most_workers, most_seed}
 
 -- an instance as the words name it: the layout and name of its file, the options, and the name of the costs file
 pub record Source : Type 0 where
@@ -9,19 +11,52 @@ pub record Source : Type 0 where
   pub options : Options
   pub costs : Option (List ℕ)
 
--- what is to be solved
+-- how long and by how many workers a search may run: at most this many nodes, if a number is given
+pub record Search : Type 0 where
+  pub nodes : Option ℕ
+  pub workers : ℕ
+
+-- what is to be solved, and by which search
 pub record Solving : Type 0 where
   pub source : Source
+  pub search : Search
 
--- a command: solve an instance, or check a certificate against it
+-- a made instance: its seed and its number of nodes
+pub record Making : Type 0 where
+  pub seed : ℕ
+  pub size : ℕ
+
+-- a command: solve an instance, check a certificate against it, report on a certificate, make an instance, or make one and solve it
 pub data Request : Type 0 where
   solve : Solving → Request
   check : Source → (certificate : List ℕ) → Request
+  report : Source → (certificate : List ℕ) → Request
+  make : Making → Request
+  demo : Making → Search → Request
 
 -- the instance that a request names, if it names one
 abbrev pub instance : Request → Option Source
 instance (solve solving) = Some solving.source
 instance (check source certificate) = Some source
+instance (report source certificate) = Some source
+instance (make making) = None
+instance (demo making search) = None
+
+-- the search that a request asks for, if it asks for one
+abbrev pub search_of : Request → Option Search
+search_of (solve solving) = Some solving.search
+search_of (check source certificate) = None
+search_of (report source certificate) = None
+search_of (make making) = None
+search_of (demo making search) = Some search
+
+-- the instance that a request asks to be made, if it asks for one
+abbrev pub making_of : Request → Option Making
+making_of (solve solving) = None
+making_of (check source certificate) = None
+making_of (report source certificate) = None
+making_of (make making) = Some making
+making_of (demo making search) = Some making
 
 -- the options are within their limits
 abbrev pub HasOptions : Source → Type 0
@@ -32,3 +67,21 @@ pub record AreSources (s : Source) : Type 0 where
   pub not_fixed : IsSome s.costs → s.options.fixed ≡ None
   pub no_tail : IsSome s.costs → s.options.tail ≡ tail_costs → ⊥
   pub not_fixed_too : s.options.tail ≡ tail_costs → s.options.fixed ≡ None
+
+-- a search within its limits
+pub record IsSearch (s : Search) : Type 0 where
+  pub nodes : IfSome s.nodes (λ n. (1 ≤ n) × (n ≤ most_search_nodes))
+  pub workers : (1 ≤ s.workers) × (s.workers ≤ most_workers)
+
+-- a seed and a number of nodes within their limits
+pub record IsMaking (m : Making) : Type 0 where
+  pub seed : m.seed ≤ most_seed
+  pub least : 1 ≤ m.size
+  pub most : m.size ≤ most_nodes
+
+-- what the request names, asks for and makes is within its limits
+pub record IsLawful (r : Request) : Type 0 where
+  pub limits : IfSome (instance r) HasOptions
+  pub sources : IfSome (instance r) AreSources
+  pub searches : IfSome (search_of r) IsSearch
+  pub makings : IfSome (making_of r) IsMaking

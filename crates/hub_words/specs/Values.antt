@@ -1,10 +1,11 @@
--- The forms of the values that the words give to the options of an instance.
+-- The forms of the values that the words give.
 use Rattle.std.specs.Prelude.{ℕ, ◌+◌, ◌-◌, ◌==◌, Bool, false, List, [], ◌∷◌, codes, bytes_eq, nat_le, ℤ, pos, Option, Some, None, option_map, option_and_then, if◌then◌else◌}
 use Rattle.std.specs.List.{slice_split}
 use Rattle.text_spec.specs.Numbers.{count_value, decimal_value}
 use Rattle.hub_spec.specs.Limits.{most_nodes, most_factor}
 use Rattle.file_spec.specs.Limits.{most_cost_read, most_divisor}
 use Rattle.file_spec.specs.Options.{Layout, cab_matrix, cab_rows, australia_post, Order, flow_first, distance_first, Tail, tail_ignored, tail_costs}
+use Rattle.hub_words.specs.Limits.{most_search_nodes, most_workers, most_seed}
 
 -- the layout of this name
 abbrev pub layout_named : List ℕ → Option Layout
@@ -89,3 +90,20 @@ candidates_asked = optional nodes_listed
 abbrev pub is_set : Option (List ℕ) → Bool
 is_set None = false
 is_set (Some word) = bytes_eq word (codes "true")
+
+-- how many nodes a search may have at most, where a number is given
+abbrev pub nodes_asked : Option (List ℕ) → Option (Option ℕ)
+nodes_asked = optional (count_value 1 most_search_nodes)
+
+-- how many workers a search has, one where no number is given
+abbrev pub workers_asked : Option (List ℕ) → Option ℕ
+workers_asked None = Some 1
+workers_asked (Some word) = count_value 1 most_workers word
+
+-- the seed of a made instance
+abbrev pub seed_asked : Option (List ℕ) → Option ℕ
+seed_asked = option_and_then (count_value 0 most_seed)
+
+-- the number of nodes of a made instance
+abbrev pub size_asked : Option (List ℕ) → Option ℕ
+size_asked = option_and_then (count_value 1 most_nodes)

@@ -10,8 +10,10 @@ use Rattle.hub_words.specs.declared.requests.Layout.{Layout}
 use Rattle.hub_words.specs.declared.requests.Layout.TheVariants.{CabMatrix, CabRows, AustraliaPost}
 use Rattle.hub_words.specs.declared.requests.Source.{Source}
 use Rattle.hub_words.specs.declared.requests.Solving.{Solving}
+use Rattle.hub_words.specs.declared.requests.Search.{Search}
+use Rattle.hub_words.specs.declared.requests.Making.{Making}
 use Rattle.hub_words.specs.declared.requests.Command.{Command}
-use Rattle.hub_words.specs.declared.requests.Command.TheVariants.{Solve, Check}
+use Rattle.hub_words.specs.declared.requests.Command.TheVariants.{Solve, Check, Report, Make, Demo}
 
 -- the bytes of the words
 abbrev pub texts : List (String Global) → List (List ℕ)
@@ -27,9 +29,17 @@ layout_of AustraliaPost = file.australia_post
 abbrev pub source_of : Source → request.Source
 source_of s = record { layout = layout_of s.layout; file = s.file.now; options = s.terms; costs = option_map (λ name. name.now) s.costs }
 
+-- the search that is asked for
+abbrev pub search_seen : Search → request.Search
+search_seen s = record { nodes = s.nodes; workers = s.workers }
+
+-- the instance that is to be made
+abbrev pub making_seen : Making → request.Making
+making_seen m = record { seed = m.seed; size = m.size }
+
 -- what is to be solved
 abbrev pub solving_of : Solving → request.Solving
-solving_of s = record { source = source_of s.source }
+solving_of s = record { source = source_of s.source; search = search_seen s.search }
 
 -- the values that a command was given, in rows
 abbrev pub rows_found : ArgMatches → List Row
@@ -39,6 +49,9 @@ rows_found found = rows_of (found_of found)
 abbrev pub request_of : Command → request.Request
 request_of (Solve solving) = request.solve (solving_of solving)
 request_of (Check source certificate) = request.check (source_of source) certificate.now
+request_of (Report source certificate) = request.report (source_of source) certificate.now
+request_of (Make making) = request.make (making_seen making)
+request_of (Demo making run) = request.demo (making_seen making) (search_seen run)
 
 -- the request, if there is one
 abbrev pub requested : Option Command → Option request.Request

@@ -2,8 +2,8 @@
 use Rattle.std.specs.Prelude.{ℕ, Bool, ◌&&◌, ◌||◌, not, List, codes, bytes_eq, Option, Some, None, option_map, option_and_then, is_some, if◌then◌else◌}
 use Rattle.clap.specs.Words.{Row, Text, first_of}
 use Rattle.file_spec.specs.Options.{Layout, Order, Tail, tail_ignored, tail_costs, Options}
-use Rattle.hub_words.specs.Requests.{Source, Request, solve, check}
-use Rattle.hub_words.specs.Values.{layout_named, order_asked, tail_asked, divide_asked, factor_asked, fixed_asked, candidates_asked, is_set}
+use Rattle.hub_words.specs.Requests.{Source, Search, Making, Request, solve, check, report, make, demo}
+use Rattle.hub_words.specs.Values.{layout_named, order_asked, tail_asked, divide_asked, factor_asked, fixed_asked, candidates_asked, is_set, nodes_asked, workers_asked, seed_asked, size_asked}
 use Rattle.hub_words.specs.Parses.{parsed}
 
 -- the value that the words give to the argument of this name
@@ -80,23 +80,71 @@ source_from rows layout file = None
 unfoldable pub source_asked : List Row → Option Source
 source_asked rows = source_from rows (layout_asked rows) (given rows (codes "file"))
 
+-- a search, where both of its numbers are within their forms
+abbrev pub search_from : Option (Option ℕ) → Option ℕ → Option Search
+search_from (Some nodes) (Some workers) = Some (record { nodes = nodes; workers = workers })
+search_from nodes workers = None
+
+-- the search that the words ask for
+unfoldable pub search_asked : List Row → Option Search
+search_asked rows = search_from (nodes_asked (given rows (codes "nodes"))) (workers_asked (given rows (codes "workers")))
+
+-- a made instance, where both of its numbers are given within their forms
+abbrev pub making_from : Option ℕ → Option ℕ → Option Making
+making_from (Some seed) (Some size) = Some (record { seed = seed; size = size })
+making_from seed size = None
+
+-- the instance that the words ask to be made
+unfoldable pub making_asked : List Row → Option Making
+making_asked rows = making_from (seed_asked (given rows (codes "seed"))) (size_asked (given rows (codes "size")))
+
+-- a call to solve the instance by the search
+abbrev pub solved : Option Source → Option Search → Option Request
+solved (Some source) (Some run) = Some (solve (record { source = source; search = run }))
+solved source run = None
+
 -- a call to solve the instance
 abbrev pub solve_asked : List Row → Option Request
-solve_asked rows = option_map (λ source. solve (record { source = source })) (source_asked rows)
+solve_asked rows = solved (source_asked rows) (search_asked rows)
 
--- a call to check the certificate
-abbrev pub checked : Option Text → Option Source → Option Request
-checked (Some certificate) (Some source) = Some (check source certificate)
-checked certificate source = None
+-- an instance and a certificate, where both are given
+abbrev pub certificate_from : Option Text → Option Source → Option (Source × Text)
+certificate_from (Some certificate) (Some source) = Some (source, certificate)
+certificate_from certificate source = None
+
+-- the instance and the certificate that the words name
+abbrev pub certificate_asked : List Row → Option (Source × Text)
+certificate_asked rows = certificate_from (given rows (codes "certificate")) (source_asked rows)
 
 -- a call to check a certificate against the instance
 abbrev pub check_asked : List Row → Option Request
-check_asked rows = checked (given rows (codes "certificate")) (source_asked rows)
+check_asked rows = option_map (λ p. check p.0 p.1) (certificate_asked rows)
+
+-- a call to report on a certificate of the instance
+abbrev pub report_asked : List Row → Option Request
+report_asked rows = option_map (λ p. report p.0 p.1) (certificate_asked rows)
+
+-- a call to make an instance
+abbrev pub make_asked : List Row → Option Request
+make_asked rows = option_map make (making_asked rows)
+
+-- a call to make an instance and to solve it by the search
+abbrev pub demonstrated : Option Making → Option Search → Option Request
+demonstrated (Some making) (Some run) = Some (demo making run)
+demonstrated making run = None
+
+-- a call to make an instance and to solve it
+abbrev pub demo_asked : List Row → Option Request
+demo_asked rows = demonstrated (making_asked rows) (search_asked rows)
 
 -- what a subcommand asks for with what the words give to it
 abbrev pub request_asked : Text → List Row → Option Request
 request_asked name rows =
-    if bytes_eq name (codes "solve") then solve_asked rows else if bytes_eq name (codes "check") then check_asked rows else None
+    if bytes_eq name (codes "solve") then solve_asked rows
+    else if bytes_eq name (codes "check") then check_asked rows
+    else if bytes_eq name (codes "report") then report_asked rows
+    else if bytes_eq name (codes "make") then make_asked rows
+    else if bytes_eq name (codes "demo") then demo_asked rows else None
 
 -- what the words ask for, if they are a command
 unfoldable pub asked : List Text → Option Request

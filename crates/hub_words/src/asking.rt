@@ -1,12 +1,14 @@
 //! The command that the words give.
 
 ghost use Rattle.std.specs.Prelude.{◌≡◌, IfOk, IfSome, codes, option_map};
-ghost use Rattle.hub_words.specs.Requests.{HasOptions, AreSources, instance};
+ghost use Rattle.hub_words.specs.Requests.{HasOptions, AreSources, IsLawful, IsMaking, IsSearch, instance, making_of, search_of};
 ghost use Rattle.hub_words.specs.Words as spec;
-ghost use Rattle.hub_words.specs.Views.{request_of, requested, rows_found, texts};
+ghost use Rattle.hub_words.specs.Views.{request_of, requested, rows_found, source_of, texts};
 
+use crate::makings::read_making;
 use crate::parsing::parse;
-use crate::requests::{Command, Solving};
+use crate::requests::{Command, Solving, Source};
+use crate::searches::read_search;
 use crate::settings::given;
 use crate::sources::source;
 use clap::ArgMatches;
@@ -17,6 +19,8 @@ pub fn asked<'a>(alloc: Global, words: &'a [String]) -> Result<Option<Command<'a
     ensures command { IfOk result (λ command. requested command ≡ spec.asked (texts words.entry.now)) }
     ensures limits { IfOk result (λ command. IfSome command (λ c. IfSome (instance (request_of c)) HasOptions)) }
     ensures sources { IfOk result (λ command. IfSome command (λ c. IfSome (instance (request_of c)) AreSources)) }
+    ensures searches { IfOk result (λ command. IfSome command (λ c. IfSome (search_of (request_of c)) IsSearch)) }
+    ensures makings { IfOk result (λ command. IfSome command (λ c. IfSome (making_of (request_of c)) IsMaking)) }
 {
     let Some(found) = parse(alloc, words)? else {
         return Ok(None);
@@ -34,13 +38,18 @@ fn request<'a>(
     found: &ArgMatches<'a>,
 ) -> Result<Option<Command<'a>>, AllocError>
     ensures command { IfOk result (λ command. requested command ≡ spec.request_asked name.now (rows_found found.now)) }
-    ensures limits { IfOk result (λ command. IfSome command (λ c. IfSome (instance (request_of c)) HasOptions)) }
-    ensures sources { IfOk result (λ command. IfSome command (λ c. IfSome (instance (request_of c)) AreSources)) }
+    ensures lawful { IfOk result (λ command. IfSome command (λ c. IsLawful (request_of c))) }
 {
     if name == "solve" {
         solve(alloc, found)
     } else if name == "check" {
         check(alloc, found)
+    } else if name == "report" {
+        report(alloc, found)
+    } else if name == "make" {
+        Ok(make(found))
+    } else if name == "demo" {
+        Ok(demo(found))
     } else {
         Ok(None)
     }
@@ -48,25 +57,65 @@ fn request<'a>(
 
 fn solve<'a>(alloc: Global, found: &ArgMatches<'a>) -> Result<Option<Command<'a>>, AllocError>
     ensures command { IfOk result (λ command. requested command ≡ spec.solve_asked (rows_found found.now)) }
-    ensures limits { IfOk result (λ command. IfSome command (λ c. IfSome (instance (request_of c)) HasOptions)) }
-    ensures sources { IfOk result (λ command. IfSome command (λ c. IfSome (instance (request_of c)) AreSources)) }
+    ensures lawful { IfOk result (λ command. IfSome command (λ c. IsLawful (request_of c))) }
 {
+    let Some(search) = read_search(found) else {
+        return Ok(None);
+    };
     match source(alloc, found)? {
-        Some(source) => Ok(Some(Command::Solve(Solving { source }))),
+        Some(source) => Ok(Some(Command::Solve(Solving { source, search }))),
         None => Ok(None),
     }
 }
 
 fn check<'a>(alloc: Global, found: &ArgMatches<'a>) -> Result<Option<Command<'a>>, AllocError>
     ensures command { IfOk result (λ command. requested command ≡ spec.check_asked (rows_found found.now)) }
-    ensures limits { IfOk result (λ command. IfSome command (λ c. IfSome (instance (request_of c)) HasOptions)) }
-    ensures sources { IfOk result (λ command. IfSome command (λ c. IfSome (instance (request_of c)) AreSources)) }
+    ensures lawful { IfOk result (λ command. IfSome command (λ c. IsLawful (request_of c))) }
+{
+    match certificate(alloc, found)? {
+        Some((source, certificate)) => Ok(Some(Command::Check(source, certificate))),
+        None => Ok(None),
+    }
+}
+
+fn report<'a>(alloc: Global, found: &ArgMatches<'a>) -> Result<Option<Command<'a>>, AllocError>
+    ensures command { IfOk result (λ command. requested command ≡ spec.report_asked (rows_found found.now)) }
+    ensures lawful { IfOk result (λ command. IfSome command (λ c. IsLawful (request_of c))) }
+{
+    match certificate(alloc, found)? {
+        Some((source, certificate)) => Ok(Some(Command::Report(source, certificate))),
+        None => Ok(None),
+    }
+}
+
+/// The instance that the words name, and the name of the certificate's file.
+fn certificate<'a>(
+    alloc: Global,
+    found: &ArgMatches<'a>,
+) -> Result<Option<(Source<'a>, &'a str)>, AllocError>
+    ensures named { IfOk result (λ named. option_map (λ p. (source_of p.0, p.1.now)) named ≡ spec.certificate_asked (rows_found found.now)) }
+    ensures limits { IfOk result (λ named. IfSome named (λ p. HasOptions (source_of p.0))) }
+    ensures sources { IfOk result (λ named. IfSome named (λ p. AreSources (source_of p.0))) }
 {
     let Some(certificate) = given(found, "certificate") else {
         return Ok(None);
     };
     match source(alloc, found)? {
-        Some(source) => Ok(Some(Command::Check(source, certificate))),
+        Some(source) => Ok(Some((source, certificate))),
         None => Ok(None),
     }
+}
+
+fn make<'a>(found: &ArgMatches<'a>) -> Option<Command<'a>>
+    ensures command { requested result ≡ spec.make_asked (rows_found found.now) }
+    ensures lawful { IfSome result (λ c. IsLawful (request_of c)) }
+{
+    Some(Command::Make(read_making(found)?))
+}
+
+fn demo<'a>(found: &ArgMatches<'a>) -> Option<Command<'a>>
+    ensures command { requested result ≡ spec.demo_asked (rows_found found.now) }
+    ensures lawful { IfSome result (λ c. IsLawful (request_of c)) }
+{
+    Some(Command::Demo(read_making(found)?, read_search(found)?))
 }

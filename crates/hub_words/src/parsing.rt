@@ -2,7 +2,7 @@
 
 ghost use Rattle.std.specs.Prelude.{◌≡◌, false, fold, IfOk, option_and_then};
 ghost use Rattle.clap.specs.Words.{app_of, new_app, rule_of, subcommand_rows_of};
-ghost use Rattle.hub_words.specs.Hub.{bare, check_app, flag_rule, hub, instance_words, option_rule, solve_app, with_instance, with_option, with_word, word_rule};
+ghost use Rattle.hub_words.specs.Hub.{bare, certificate_app, demo_app, flag_rule, hub, instance_words, make_app, option_rule, solve_app, with_instance, with_making, with_option, with_search, with_word, word_rule};
 ghost use Rattle.hub_words.specs.Parses.{Spells, parsed};
 ghost use Rattle.hub_words.specs.Views.{texts};
 ghost use Rattle.clap.specs.Simple.{on_top};
@@ -24,6 +24,9 @@ static OPTIONS: [&str; 9] = [
     "costs",
     "candidates",
 ];
+
+/// The options of a search.
+static SEARCH_OPTIONS: [&str; 2] = ["nodes", "workers"];
 
 fn word<'a>(alloc: Global, name: &'a str) -> Arg<'a>
     ensures rule { rule_of result ≡ word_rule name.entry.now }
@@ -96,17 +99,49 @@ fn with_options<'a>(
     Ok(command)
 }
 
+/// The command that takes the options of a search as well.
+fn search_command<'a>(alloc: Global, command: Command<'a>) -> Result<Command<'a>, AllocError>
+    requires { (out-Command command).has_globals ≡ false }
+    ensures { IfOk result (Spells (with_search (app_of command.entry))) }
+{
+    with_options(alloc, command, SEARCH_OPTIONS.as_slice())
+}
+
+/// The command that takes a seed and a number of nodes as well.
+fn making_command<'a>(alloc: Global, command: Command<'a>) -> Result<Command<'a>, AllocError>
+    requires { (out-Command command).has_globals ≡ false }
+    ensures { IfOk result (Spells (with_making (app_of command.entry))) }
+{
+    let with_seed = command.arg(word(alloc, "seed"))?;
+    with_seed.arg(word(alloc, "size"))
+}
+
 fn solve_command<'a>(alloc: Global) -> Result<Command<'a>, AllocError>
     ensures { IfOk result (Spells solve_app) }
 {
-    instance_command(alloc, plain(alloc, "solve"))
+    let command = instance_command(alloc, plain(alloc, "solve"))?;
+    search_command(alloc, command)
 }
 
-fn check_command<'a>(alloc: Global) -> Result<Command<'a>, AllocError>
-    ensures { IfOk result (Spells check_app) }
+/// The subcommand of this name, which takes an instance and a certificate.
+fn certificate_command<'a>(alloc: Global, name: &'a str) -> Result<Command<'a>, AllocError>
+    ensures { IfOk result (Spells (certificate_app name.entry.now)) }
 {
-    let command = instance_command(alloc, plain(alloc, "check"))?;
+    let command = instance_command(alloc, plain(alloc, name))?;
     command.arg(word(alloc, "certificate"))
+}
+
+fn make_command<'a>(alloc: Global) -> Result<Command<'a>, AllocError>
+    ensures { IfOk result (Spells make_app) }
+{
+    making_command(alloc, plain(alloc, "make"))
+}
+
+fn demo_command<'a>(alloc: Global) -> Result<Command<'a>, AllocError>
+    ensures { IfOk result (Spells demo_app) }
+{
+    let command = making_command(alloc, plain(alloc, "demo"))?;
+    search_command(alloc, command)
 }
 
 fn hub_command<'a>(alloc: Global) -> Result<Command<'a>, AllocError>
@@ -114,7 +149,10 @@ fn hub_command<'a>(alloc: Global) -> Result<Command<'a>, AllocError>
 {
     let command = without_help(plain(alloc, "hub"));
     let with_solve = command.subcommand(solve_command(alloc)?)?;
-    with_solve.subcommand(check_command(alloc)?)
+    let with_check = with_solve.subcommand(certificate_command(alloc, "check")?)?;
+    let with_report = with_check.subcommand(certificate_command(alloc, "report")?)?;
+    let with_make = with_report.subcommand(make_command(alloc)?)?;
+    with_make.subcommand(demo_command(alloc)?)
 }
 
 /// What clap finds in the words, of which the first is the program's name; none where it refuses them.

@@ -21,10 +21,29 @@ pub struct Source<'a> {
     pub costs: Option<&'a str>,
 }
 
-/// What is to be solved.
+/// How long and by how many workers a search may run.
+#[derive(Clone, Copy, Debug, PartialEq, Eq)]
+pub struct Search {
+    /// At most how many nodes the search makes, if it is held to a number: 1 to 2^63.
+    pub nodes: Option<u64>,
+    /// 1 to 64.
+    pub workers: u32,
+}
+
+/// What is to be solved, and by which search.
 #[derive(Debug, Drop)]
 pub struct Solving<'a> {
     pub source: Source<'a>,
+    pub search: Search,
+}
+
+/// An instance to be made.
+#[derive(Clone, Copy, Debug, PartialEq, Eq)]
+pub struct Making {
+    /// 0 to 1,000,000.
+    pub seed: u32,
+    /// The number of nodes, 1 to 200.
+    pub size: u32,
 }
 
 /// A command that the words give.
@@ -34,4 +53,10 @@ pub enum Command<'a> {
     Solve(Solving<'a>),
     /// Check the certificate in the file of this name against the instance.
     Check(Source<'a>, &'a str),
+    /// Report on the certificate in the file of this name, which is one of the instance.
+    Report(Source<'a>, &'a str),
+    /// Write the text of a made instance.
+    Make(Making),
+    /// Make an instance and solve it.
+    Demo(Making, Search),
 }

@@ -168,9 +168,7 @@ fn refuses_other_words(rt: HostRuntime) -> Result<(), Fail> {
         "hub help solve",
         "hub solve --help",
         "hub solve cab-matrix F --help",
-        "hub make 1 2",
         "hub report",
-        "hub solve cab-matrix F --nodes 3",
         "hub solve cab-matrix F -f 3",
         "hub solve",
         "hub solve cab-matrix",
@@ -188,5 +186,96 @@ fn refuses_other_words(rt: HostRuntime) -> Result<(), Fail> {
     }
     let none = Vec::new(rt.alloc());
     assert!(rt; told(rt.alloc(), &none)?.is_none());
+    Ok(())
+}
+
+#[test]
+fn tells_searches_and_makings(rt: HostRuntime) -> Result<(), Fail> {
+    let lines = [
+        (
+            "hub solve ap F",
+            "search: Search { nodes: None, workers: 1 }",
+        ),
+        ("hub solve ap F --nodes 1", "nodes: Some(1), workers: 1"),
+        (
+            "hub solve --nodes 9223372036854775808 ap F",
+            "nodes: Some(9223372036854775808)",
+        ),
+        (
+            "hub solve ap --workers=64 F --nodes=2",
+            "Search { nodes: Some(2), workers: 64 }",
+        ),
+        (
+            "hub report ap F P",
+            "Report(Source { layout: AustraliaPost, file: \"F\"",
+        ),
+        ("hub report ap F P --tail fixed", "tail: Fixed"),
+        ("hub make 0 1", "Make(Making { seed: 0, size: 1 })"),
+        (
+            "hub make 1000000 200",
+            "Make(Making { seed: 1000000, size: 200 })",
+        ),
+        (
+            "hub demo 7 30",
+            "Demo(Making { seed: 7, size: 30 }, Search { nodes: None, workers: 1 })",
+        ),
+        (
+            "hub demo --workers 8 7 --nodes 99 30",
+            "Demo(Making { seed: 7, size: 30 }, Search { nodes: Some(99), workers: 8 })",
+        ),
+    ];
+    for (line, part) in lines {
+        check_part(&rt, rt.alloc(), line, part)?;
+    }
+    Ok(())
+}
+
+#[test]
+fn refuses_searches_and_makings(rt: HostRuntime) -> Result<(), Fail> {
+    let lines = [
+        "solve ap F --nodes 0",
+        "solve ap F --nodes 01",
+        "solve ap F --nodes 9223372036854775809",
+        "solve ap F --nodes=+1",
+        "solve ap F --nodes=-1",
+        "solve ap F --nodes -1",
+        "solve ap F --nodes=",
+        "solve ap F --nodes",
+        "solve ap F --node 1",
+        "solve ap F --nodes 1 --nodes 1",
+        "solve ap F --workers 0",
+        "solve ap F --workers 01",
+        "solve ap F --workers 65",
+        "solve ap F --workers=+1",
+        "solve ap F --workers 1 --workers 1",
+        "check ap F P --nodes 1",
+        "check ap F P --workers 1",
+        "report ap F P --nodes 1",
+        "report ap F P --workers 1",
+        "report ap F",
+        "report ap F P Q",
+        "make 0",
+        "make 0 1 2",
+        "make 0 0",
+        "make 0 201",
+        "make 0 01",
+        "make 00 1",
+        "make +1 1",
+        "make -1 1",
+        "make 1000001 1",
+        "make 0 1 --nodes 1",
+        "make 0 1 --tail fixed",
+        "demo 0",
+        "demo 0 1 2",
+        "demo 0 201",
+        "demo 1000001 1",
+        "demo 0 1 --nodes 0",
+        "demo 0 1 --workers 65",
+        "demo 0 1 --tail fixed",
+    ];
+    for line in lines {
+        let line = format!(in rt.alloc(); "hub {line}")?;
+        check_refused(&rt, rt.alloc(), &line)?;
+    }
     Ok(())
 }

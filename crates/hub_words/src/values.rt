@@ -1,16 +1,20 @@
-//! The values of single options, by their forms.
+//! The values of single words and options, by their forms.
 
 ghost use Rattle.std.specs.Prelude.{◌≡◌, ◌≤◌, IfSome, option_map};
-ghost use Rattle.hub_spec.specs.Limits.{most_factor};
+ghost use Rattle.hub_spec.specs.Limits.{most_factor, most_nodes};
 ghost use Rattle.file_spec.specs.Limits.{most_cost_read, most_divisor};
 ghost use Rattle.text_spec.specs.Numbers.{count_value};
 ghost use Rattle.hub_model.specs.Asked.{order_of, tail_of};
+ghost use Rattle.hub_words.specs.Limits.{most_search_nodes, most_seed, most_workers};
 ghost use Rattle.hub_words.specs.Values as spec;
 ghost use Rattle.hub_words.specs.Views.{layout_of};
 
+use crate::limits::{MOST_SEARCH_NODES, MOST_SEED, MOST_WORKERS};
 use crate::requests::Layout;
 use dec_text::{read_count, read_decimal};
-use hub_model::{MOST_COST_READ, MOST_DIVISOR, MOST_FACTOR, Order, Tail, unsigned_small};
+use hub_model::{
+    MOST_COST_READ, MOST_DIVISOR, MOST_FACTOR, MOST_NODES, Order, Tail, unsigned_small,
+};
 
 pub(crate) fn layout_named(word: &str) -> Option<Layout>
     ensures { option_map layout_of result ≡ spec.layout_named word.now }
@@ -82,10 +86,61 @@ pub(crate) fn divide(given: Option<&str>) -> Option<u32>
 {
     match given {
         None => Some(1),
-        Some(word) => match count(word, 1, MOST_DIVISOR as u64) {
-            Some(d) => Some(d as u32),
-            None => None,
-        },
+        Some(word) => small_count(word, 1, MOST_DIVISOR),
+    }
+}
+
+/// At most how many nodes a search makes, where a number is given.
+pub(crate) fn nodes(given: Option<&str>) -> Option<Option<u64>>
+    ensures value { result ≡ spec.nodes_asked (option_map (λ word. word.now) given.entry) }
+    ensures limits { IfSome result (λ nodes. IfSome nodes (λ n. (1 ≤ n) × (n ≤ most_search_nodes))) }
+{
+    match given {
+        None => Some(None),
+        Some(word) => count(word, 1, MOST_SEARCH_NODES).map(Some),
+    }
+}
+
+/// How many workers a search has.
+pub(crate) fn workers(given: Option<&str>) -> Option<u32>
+    ensures value { result ≡ spec.workers_asked (option_map (λ word. word.now) given.entry) }
+    ensures limits { IfSome result (λ w. (1 ≤ w) × (w ≤ most_workers)) }
+{
+    match given {
+        None => Some(1),
+        Some(word) => small_count(word, 1, MOST_WORKERS),
+    }
+}
+
+/// The seed of a made instance.
+pub(crate) fn seed(given: Option<&str>) -> Option<u32>
+    ensures value { result ≡ spec.seed_asked (option_map (λ word. word.now) given.entry) }
+    ensures limit { IfSome result (λ seed. seed ≤ most_seed) }
+{
+    match given {
+        None => None,
+        Some(word) => small_count(word, 0, MOST_SEED),
+    }
+}
+
+/// The number of nodes of a made instance.
+pub(crate) fn size(given: Option<&str>) -> Option<u32>
+    ensures value { result ≡ spec.size_asked (option_map (λ word. word.now) given.entry) }
+    ensures limits { IfSome result (λ n. (1 ≤ n) × (n ≤ most_nodes)) }
+{
+    match given {
+        None => None,
+        Some(word) => small_count(word, 1, MOST_NODES),
+    }
+}
+
+fn small_count(word: &str, least: u32, most: u32) -> Option<u32>
+    ensures value { result ≡ count_value least most word.now }
+    ensures limits { IfSome result (λ n. (least ≤ n) × (n ≤ most)) }
+{
+    match count(word, u64::from(least), u64::from(most)) {
+        Some(number) => Some(number as u32),
+        None => None,
     }
 }
 

@@ -6,5 +6,5 @@ use Rattle.crew.proofs.staffing.answers.Goals as goal
 pub gather-requires-clause-each : goal.gather-requires-clause-each
 gather-requires-clause-each g c =
     let crop = c.in_ok-seat.field-0 in
-    each_row crop.rows.items (hand_of crop.seat).drawn c.close.result.taken c.args.blocks c.in_ok-seat.ensures.3.0 c.close.ensures.each
+    λ _ _. each_row crop.rows.items (hand_of crop.seat).drawn c.close.result.taken c.args.blocks c.in_ok-seat.ensures.3.0 c.close.ensures.each
     (c.close.ensures.whole c.in_ok-seat.ensures.1 ∙ c.in_ok-board.ensures.board.0)

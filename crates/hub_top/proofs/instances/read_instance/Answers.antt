@@ -6,8 +6,8 @@ use Rattle.file_spec.specs.Limits.{file_limit}
 use Rattle.hub_model.specs.Building.{costs_of}
 use Rattle.hub_words.specs.Views.{source_of}
 use Rattle.hub_top.specs.declared.halts.Halt.{Halt}
-use Rattle.hub_top.specs.Commands.{HoldsInstance, HoldsCosts, LacksSource}
-use Rattle.hub_top.specs.Outcomes.{WhereTold, FailsFor}
+use Rattle.hub_top.specs.Commands.{WhereTold, HoldsInstance, HoldsCosts, LacksSource}
+use Rattle.hub_top.specs.Outcomes.{FailsFor}
 use Rattle.hub_top.specs.Building.{IsBuilt}
 use Rattle.hub_top.specs.Halts.{Halts, IsOfCosts, IsOfWhole, IsOfSource, LacksCosts}
 use Rattle.hub_top.proofs.Sources.{one_source}

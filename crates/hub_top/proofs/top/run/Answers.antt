@@ -15,4 +15,5 @@ returns g c =
       complete = complete;
       headline = headline _ _ _ _ _ _ _ _ means complete;
       same = c.intend-intended.ensures.same;
+      untouched = c.intend-intended.ensures.untouched;
     }

@@ -1,0 +1,89 @@
+-- One more line: the search goes on, and the line is that of a tree.
+use Rattle.std.proofs.Common.{◌≡◌, ℕ, ◌+◌, ◌*◌, ◌≤◌, List, [], ◌∷◌, ◌++◌, length, Option, refl, ap, sym, subst, ◌∙◌, arith}
+use Rattle.std.proofs.lemmas.List.{length-map, length_push}
+use Rattle.hub_spec.specs.Problem.{Problem}
+use Rattle.hub_spec.specs.Plans.{IsHubSet}
+use Rattle.hub_spec.specs.Trees.{Tree, TreeLine, preorder}
+use Rattle.hub_model.specs.declared.tree_lines.TreeLine as model
+use Rattle.hub_model.specs.Lines.{tree_line_of}
+use Rattle.cut_pool.specs.Entries.{Entry}
+use Rattle.search_spec.specs.States.{State, Grown}
+use Rattle.search_steps.specs.Pools.{IsPoolOf, state_by}
+use Rattle.branch_tree.specs.declared.task.Task.{Task}
+use Rattle.branch_tree.specs.declared.progress.Progress.{Progress}
+use Rattle.branch_tree.specs.Views.{lines_of}
+use Rattle.branch_tree.specs.Progressing.{state_of, IsGoing, HasLine, IsAt, IsDone}
+
+lines_long : (lines : List model.TreeLine) → length (lines_of lines) ≡ length lines
+lines_long lines = length-map lines tree_line_of
+
+-- the state after the line
+pub line_state : (p : Problem) (before after : Progress) (line : TreeLine) (made : ℕ) (stop : Option ℕ) → HasLine before after line made stop
+    → state_of p after ≡ record (state_of p before) { made = made; stop = stop }
+line_state p before after line made stop has =
+    let entries = has.entries in
+    let hubs = has.hubs in
+    let cost = has.cost in
+    let is_made = has.made in
+    let is_stop = has.stop in
+    λ i. state_by p (entries i) (hubs i) (cost i) (is_made i) (is_stop i)
+
+pub line_going : (t : Task) (before after : Progress) (line : TreeLine) (made : ℕ) (stop : Option ℕ) → IsGoing t before
+    → HasLine before after line made stop → made ≤ before.made + 2 → IsGoing t after
+line_going t before after line made stop going has few =
+    let more : length after.lines.items ≡ length before.lines.items + 1 =
+    sym (lines_long after.lines.items) ∙ ap length has.lines ∙ length_push (lines_of before.lines.items) line
+    ∙ ap (λ (n : ℕ). n + 1) (lines_long before.lines.items) in
+    record {
+      costs = going.costs;
+      pool = subst (IsPoolOf t.instance.now) (sym has.entries) going.pool;
+      few_cuts = omega (arith, ap length has.entries, going.few_cuts);
+      few_lines = has.few;
+      hubs = subst (IsHubSet t.instance.now) (sym has.hubs) going.hubs;
+      cost = omega (arith, has.cost, going.cost);
+      made = omega (arith, has.made, few, going.made, more);
+    }
+
+pub line_kept : (before after : Progress) (line : TreeLine) (made : ℕ) (stop : Option ℕ) → HasLine before after line made stop
+    → length before.pool.entries ≤ length after.pool.entries
+line_kept before after line made stop has = omega (arith, ap length has.entries)
+
+-- the line is all of a tree
+pub line_done : (t : Task) (before after : Progress) (tree : Tree) (line : TreeLine) (made : ℕ) (stop : Option ℕ) → IsGoing t before
+    → preorder tree ≡ line ∷ [] → made ≤ before.made + 2 → HasLine before after line made stop
+    → IsDone t before after (record { state = record (state_of t.instance.now before) { made = made; stop = stop }; tree = tree })
+line_done t before after tree line made stop going is few has = record {
+  state = line_state t.instance.now before after line made stop has;
+  lines = has.lines ∙ ap (λ (ls : List TreeLine). lines_of before.lines.items ++ ls) (sym is);
+  going = line_going t before after line made stop going has few;
+  kept = line_kept before after line made stop has;
+}
+
+-- after a step with no line, a line that is all of a tree
+pub line_at : (t : Task) (before middle after : Progress) (s : State) (tree : Tree) (line : TreeLine) → IsAt t before middle s
+    → preorder tree ≡ line ∷ [] → HasLine middle after line middle.made middle.stop
+    → IsDone t before after (record { state = s; tree = tree })
+line_at t before middle after s tree line at is has = record {
+  state = line_state t.instance.now middle after line middle.made middle.stop has ∙ at.state;
+  lines = has.lines ∙ ap (λ (ls : List TreeLine). ls ++ line ∷ []) at.lines
+      ∙ ap (λ (ls : List TreeLine). lines_of before.lines.items ++ ls) (sym is);
+  going = line_going t middle after line middle.made middle.stop at.going has (omega arith);
+  kept = omega (arith, at.kept, line_kept middle after line middle.made middle.stop has);
+}
+
+-- what was done, by another name
+pub done_as : (t : Task) (before after : Progress) (g h : Grown) → g ≡ h → IsDone t before after g → IsDone t before after h
+done_as t before after g h same done = subst (IsDone t before after) same done
+
+-- the stop may have been another before
+pub line_after_stop : (before after : Progress) (line : TreeLine) (made : ℕ) (other stop : Option ℕ) → HasLine (record before { stop = other }) after line made stop
+    → HasLine before after line made stop
+line_after_stop before after line made other stop has = record {
+  entries = has.entries;
+  hubs = has.hubs;
+  cost = has.cost;
+  made = has.made;
+  stop = has.stop;
+  lines = has.lines;
+  few = has.few;
+}

@@ -1,0 +1,139 @@
+-- What the rule finds, with its certificate.
+use Rattle.std.proofs.Common.{◌≡◌, ℕ, ◌+◌, ◌^◌, ◌<◌, ◌≤◌, pos, ◌≤ℤ◌, List, length, Option, IsNone, refl, ap, sym, subst, ◌∙◌, length-append, arith}
+use Rattle.std.proofs.lemmas.Int.{ints}
+use Rattle.std.proofs.lemmas.List.{length-map}
+use Rattle.hub_spec.specs.Limits.{most_cuts}
+use Rattle.hub_spec.specs.Problem.{Problem, IsProblem}
+use Rattle.hub_spec.specs.Plans.{plan_cost, NoPlanBelow}
+use Rattle.hub_spec.specs.Cuts.{Cut}
+use Rattle.hub_spec.specs.Trees.{Tree, branch, leaf, empty, TreeLine, preorder, line_count}
+use Rattle.hub_spec.specs.Certificates.{Proof}
+use Rattle.hub_spec.proofs.SumLemmas.{by_test}
+use Rattle.hub_model.specs.Amounts.{natural}
+use Rattle.hub_model.specs.Lines.{tree_line_of}
+use Rattle.search_spec.specs.States.{Parts, State, Grown, is_stopped, answer}
+use Rattle.search_spec.specs.Steps.{begun}
+use Rattle.search_spec.specs.Laws.{AreSound, IsStart}
+use Rattle.search_spec.specs.Choices.{rule}
+use Rattle.search_spec.specs.Findings.{IsProof, AreWithin, IsSpent, IsEnough, IsCounted, StopsForNodes, IsCertificateOf, certificate_of}
+use Rattle.search_spec.proofs.RuleParts.{rule_sound}
+use Rattle.search_spec.proofs.WholeSearches.{begun_start, search_proof, search_counted, search_stopped, enough_nodes}
+use Rattle.search_spec.proofs.FoundProofs.{certificate_holds_lem, certificate_in_range_lem, answer_bounds_lem}
+use Rattle.search_spec.proofs.LeastRoutes.{certificate_is_one_lem}
+use Rattle.search_steps.specs.Advising.{master_advising}
+use Rattle.search_steps.proofs.MasterNumbers.{advising_sound}
+use Rattle.branch_tree.specs.declared.found.Found.{Found}
+use Rattle.branch_tree.specs.Views.{lines_of}
+use Rattle.branch_tree.specs.Findings.{parts_of, found_by, IsFound, proof_of, IsProved}
+
+-- the state that a search begins with
+abbrev pub start_of : Problem → State
+start_of p = begun p (parts_of p)
+
+pub parts_sound : (p : Problem) → IsProblem p → AreSound p (parts_of p)
+parts_sound p ok = rule_sound p (master_advising p) ok (advising_sound p ok)
+
+pub start_is : (p : Problem) → IsProblem p → IsStart p (start_of p)
+start_is p ok = begun_start p (parts_of p) ok (parts_sound p ok)
+
+pub found_proof : (p : Problem) (n : Option ℕ) → IsProblem p → IsProof p (found_by p n)
+unfolding rule
+found_proof p n ok = search_proof p (parts_of p) n (start_of p) ok (parts_sound p ok) (start_is p ok)
+
+pub found_counted : (p : Problem) (n : Option ℕ) → IsProblem p → IsCounted p n (found_by p n)
+unfolding rule
+found_counted p n ok = search_counted p (parts_of p) n (start_of p) ok (parts_sound p ok) (start_is p ok)
+
+found_enough : (p : Problem) (n : Option ℕ) → IsProblem p → IsEnough (2 ^ (length p.candidates + 1)) n → IsNone (found_by p n).state.stop
+unfolding rule
+found_enough p n ok enough = enough_nodes p (parts_of p) n (start_of p) ok (parts_sound p ok) (start_is p ok) enough
+
+pub found_stopped : (p : Problem) (n : Option ℕ) → IsProblem p → StopsForNodes n (found_by p n)
+unfolding rule
+found_stopped p n ok = search_stopped p (parts_of p) n (start_of p) ok (parts_sound p ok) (start_is p ok)
+
+-- with its tree the finding is a certificate of what was found
+pub found_certificate : (p : Problem) (g : Grown) (found : Found) → IsFound p g found → IsCertificateOf p g (proof_of p found g.tree)
+found_certificate p g found is = record {
+  size = λ i. p.size;
+  candidates = λ i. length p.candidates;
+  cost = ap natural is.cost;
+  bound = ap natural is.bound;
+  hubs = is.hubs;
+  routes = is.routes;
+  cuts = is.cuts;
+  tree = λ i. g.tree;
+}
+
+pub found_is_proved : (p : Problem) (n : Option ℕ) (found : Found) → IsProblem p → IsFound p (found_by p n) found → IsProved p found
+found_is_proved p n found ok is =
+    let g = found_by p n in
+    let k = proof_of p found g.tree in
+    let proof = found_proof p n ok in
+    let certificate = found_certificate p g found is in
+    let few : length k.cuts ≤ most_cuts = subst (λ (cs : List Cut). length cs ≤ most_cuts) (sym is.cuts) is.few_cuts in
+    record {
+      tree = g.tree;
+      lines = is.lines;
+      in_range = certificate_in_range_lem p g k ok proof certificate few is.few_lines;
+      holds = certificate_holds_lem p g k ok proof certificate;
+    }
+
+-- ---- what follows for the finding
+
+pub found_certificate_is : (p : Problem) (n : Option ℕ) (found : Found) → IsProblem p → IsFound p (found_by p n) found
+    → proof_of p found (found_by p n).tree ≡ certificate_of p (found_by p n)
+found_certificate_is p n found ok is =
+    let g = found_by p n in
+    (certificate_is_one_lem p g (proof_of p found g.tree) (found_proof p n ok)).0 (found_certificate p g found is)
+
+pub found_paid : (p : Problem) (n : Option ℕ) (found : Found) → IsProblem p → IsFound p (found_by p n) found → found.cost ≡ pos (plan_cost p found.plan)
+found_paid p n found ok is =
+    let g = found_by p n in
+    let holds = certificate_holds_lem p g (proof_of p found g.tree) ok (found_proof p n ok) (found_certificate p g found is) in
+    is.cost ∙ ap pos (sym (ap natural is.cost) ∙ holds.cost)
+
+pub found_below : (p : Problem) (n : Option ℕ) (found : Found) → IsProblem p → IsFound p (found_by p n) found → NoPlanBelow p (natural found.bound)
+found_below p n found ok is =
+    subst (NoPlanBelow p) (sym (ap natural is.bound)) (answer_bounds_lem p (found_by p n) ok (found_proof p n ok))
+
+pub found_within : (p : Problem) (n : Option ℕ) (found : Found) → IsProblem p → IsFound p (found_by p n) found → found.bound ≤ℤ found.cost
+found_within p n found ok is =
+    let low = (found_proof p n ok).within_cost in omega (arith, ints, is.bound, is.cost, low)
+
+length-preorder : (t : Tree) → length (preorder t) ≡ line_count t
+length-preorder (branch k a b) = omega (arith, length-append (preorder a) (preorder b), length-preorder a, length-preorder b)
+length-preorder (leaf denom weights) = refl
+length-preorder empty = refl
+
+-- as many lines as nodes were made
+lines_made : (p : Problem) (n : Option ℕ) (found : Found) → IsProblem p → IsFound p (found_by p n) found
+    → (found_by p n).state.made ≡ length found.tree.items
+lines_made p n found ok is =
+    let g = found_by p n in
+    sym (sym (length-map found.tree.items tree_line_of) ∙ ap (λ (ls : List TreeLine). length ls) is.lines ∙ length-preorder g.tree
+    ∙ (found_counted p n ok).lines)
+
+pub few_lines_of : (tree : Tree) (lines : List TreeLine) (most : ℕ) → lines ≡ preorder tree → length lines ≤ most → line_count tree ≤ most
+few_lines_of tree lines most are few = omega (arith, sym (ap (λ (ls : List TreeLine). length ls) are ∙ length-preorder tree), few)
+
+pub found_most : (p : Problem) (n : Option ℕ) (found : Found) → IsProblem p → IsFound p (found_by p n) found
+    → length found.tree.items + 1 ≤ 2 ^ (length p.candidates + 1)
+found_most p n found ok is = omega (arith, lines_made p n found ok is, (found_counted p n ok).most)
+
+pub found_allowed : (p : Problem) (n : Option ℕ) (found : Found) → IsProblem p → IsFound p (found_by p n) found → AreWithin n (length found.tree.items)
+found_allowed p n found ok is = subst (AreWithin n) (lines_made p n found ok is) (found_counted p n ok).allowed
+
+pub found_spent : (p : Problem) (n : Option ℕ) (found : Found) → IsProblem p → IsFound p (found_by p n) found
+    → natural found.bound < natural found.cost → IsSpent n (length found.tree.items)
+found_spent p n found ok is less =
+    let g = found_by p n in
+    let stops = found_stopped p n ok in
+    let below : answer g.state < g.state.cost = omega (arith, less, ap natural is.bound, ap natural is.cost) in
+    subst (IsSpent n) (lines_made p n found ok is)
+    (by_test (is_stopped g.state) (λ stopped. stops.spent stopped) (λ going. absurd (omega (arith, below, stops.whole going))))
+
+pub found_enough_is : (p : Problem) (n : Option ℕ) (found : Found) → IsProblem p → IsFound p (found_by p n) found
+    → IsEnough (2 ^ (length p.candidates + 1)) n → found.bound ≡ found.cost
+found_enough_is p n found ok is enough =
+    is.bound ∙ ap pos ((found_stopped p n ok).whole (found_enough p n ok enough)) ∙ sym is.cost

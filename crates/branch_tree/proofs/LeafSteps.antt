@@ -1,0 +1,74 @@
+-- The leaves of the rule, and the order that a full leaf's set is separated over.
+use Rattle.std.proofs.Common.{◌≡◌, ℕ, ◌+◌, ℤ, not, refl, List, length, Contains, Option, Some, None, ⊎_elim, ap, sym, ◌∙◌, true≢false}
+use Rattle.std.specs.List.Sorted.{IsStrictlyIncreasing}
+use Rattle.std.proofs.lemmas.List.{length-map, length_push}
+use Rattle.std.proofs.lemmas.List.Elements.{All-contains}
+use Rattle.hub_spec.specs.Problem.{Problem, IsProblem}
+use Rattle.hub_spec.specs.Separation.{IsOrder}
+use Rattle.hub_spec.specs.Trees.{Branching, leaf}
+use Rattle.hub_spec.proofs.SumLemmas.{by_test}
+use Rattle.hub_spec.proofs.Sets.{is_in, is_in-yes, is_in-no, filter_same, part_is_filter}
+use Rattle.search_spec.specs.States.{denominator, State, whole_on, number_in_pool, lesser, rounded_up}
+use Rattle.search_spec.specs.Steps.{bound_at, separated, full_on, stopped_leaf}
+use Rattle.search_spec.specs.Choices.{rule_parts, others, has_node}
+use Rattle.search_spec.proofs.RuleParts.{has_when, in_when}
+use Rattle.search_spec.proofs.StepCases.{full_found, full_new}
+use Rattle.search_steps.specs.Pools.{entry_cut, pool_cuts}
+use Rattle.branch_tree.specs.declared.task.Task.{Task}
+use Rattle.branch_tree.specs.declared.progress.Progress.{Progress}
+use Rattle.branch_tree.specs.Findings.{parts_of}
+use Rattle.branch_tree.specs.Progressing.{state_of, IsAt}
+
+-- ---- a stop
+
+pub stopped_is : (p : Problem) (b : Branching) (w : List (ℕ × ℕ)) (s : State) (z : ℤ) (low : ℕ) → z ≡ bound_at p s b w → low ≡ lesser (rounded_up z) s.stop
+    → record { state = record s { stop = Some low }; tree = leaf denominator w } ≡ stopped_leaf p b w s
+unfolding stopped_leaf
+stopped_is p b w s z low bound is =
+    let least = is ∙ ap (λ (x : ℤ). lesser (rounded_up x) s.stop) bound in
+    λ i. record { state = record s { stop = Some (least i) }; tree = leaf denominator w }
+
+-- ---- the ascending order
+
+pub parts_ascending : (p : Problem) (set : List ℕ) → (parts_of p).ascending set ≡ others p set
+unfolding rule_parts
+parts_ascending p set = refl
+
+in_order : (p : Problem) (set order : List ℕ) (k : ℕ) → IsOrder p set order → Contains p.candidates k → is_in order k ≡ not (has_node set k)
+in_order p set order k is candidate =
+    by_test (has_node set k)
+    (λ inside. is_in-no order k (λ found. All-contains (λ m. Contains set m → ⊥) order k is.outside found (in_when set k inside)) ∙ sym (ap not inside))
+    (λ outside. ⊎_elim (λ there. absurd (true≢false (sym (has_when set k there) ∙ outside))) (λ there. is_in-yes order k there) (is.all k candidate)
+    ∙ sym (ap not outside))
+
+pub outside_is : (p : Problem) (set order : List ℕ) → IsProblem p → IsOrder p set order → IsStrictlyIncreasing order → order ≡ others p set
+unfolding others
+outside_is p set order ok is up =
+    sym (part_is_filter p.candidates order ok.candidates_ascend up is.are_candidates)
+    ∙ filter_same (is_in order) (λ k. not (has_node set k)) p.candidates (λ k c. in_order p set order k is c)
+
+-- ---- the one set of a branch
+
+pub found_leaf : (p : Problem) (set hubs : List ℕ) (s : State) (x : ℕ) → set ≡ hubs → number_in_pool s set ≡ Some x
+    → record { state = s; tree = leaf denominator (whole_on x) } ≡ full_on (parts_of p) hubs s
+found_leaf p set hubs s x same is = sym (full_found (parts_of p) set s x is) ∙ ap (λ (hs : List ℕ). full_on (parts_of p) hs s) same
+
+-- as many cuts more as the set that was separated
+pub one_more : (t : Task) (before middle : Progress) (set order : List ℕ)
+    → IsAt t before middle (separated (parts_of t.instance.now) set order (state_of t.instance.now before))
+    → length middle.pool.entries ≡ length (pool_cuts t.instance.now before.pool.entries) + 1
+unfolding separated
+one_more t before middle set order at =
+    let p = t.instance.now in
+    sym (length-map middle.pool.entries (entry_cut p)) ∙ ap (λ (s : State). length s.cuts) at.state
+    ∙ length_push (pool_cuts p before.pool.entries) ((parts_of p).cut set order)
+
+pub new_leaf : (p : Problem) (set hubs order : List ℕ) (s : State) (number : ℕ) → IsProblem p → set ≡ hubs → IsOrder p set order → IsStrictlyIncreasing order
+    → number_in_pool s set ≡ None → number ≡ length s.cuts + 1
+    → record { state = separated (parts_of p) set order s; tree = leaf denominator (whole_on number) } ≡ full_on (parts_of p) hubs s
+new_leaf p set hubs order s number ok same is up none last =
+    let ascending = outside_is p set order ok is up ∙ sym (parts_ascending p set) in
+    let both : record { state = separated (parts_of p) set order s; tree = leaf denominator (whole_on number) }
+    ≡ record { state = separated (parts_of p) set ((parts_of p).ascending set) s; tree = leaf denominator (whole_on (length s.cuts + 1)) }
+    = λ i. record { state = separated (parts_of p) set (ascending i) s; tree = leaf denominator (whole_on (last i)) } in
+    both ∙ sym (full_new (parts_of p) set s none) ∙ ap (λ (hs : List ℕ). full_on (parts_of p) hs s) same

@@ -1,0 +1,94 @@
+-- A round of the code is a round of the rule.
+use Rattle.std.proofs.Common.{◌≡◌, ◌≤◌, ℕ, ℤ, Bool, true, false, ◌||◌, List, is_some, ◌⊎◌, inl, inr, refl, ap, ap₂, sym, ◌∙◌, arith}
+use Rattle.hub_spec.specs.Problem.{Problem}
+use Rattle.hub_spec.specs.Trees.{Branching}
+use Rattle.search_spec.specs.States.{State, Advice, number_in_pool}
+use Rattle.search_spec.specs.Steps as steps
+use Rattle.search_spec.specs.Steps.{better, closes_at, separated, round}
+use Rattle.search_spec.specs.Choices.{rule_parts, picked, order_by_point, by_falling, others}
+use Rattle.search_spec.proofs.StepCases.{round_over, round_new}
+use Rattle.search_steps.specs.Advising.{master_advising}
+use Rattle.search_steps.specs.Weights.{AreNodeWeights}
+use Rattle.branch_tree.specs.Findings.{parts_of}
+
+or_second : (x y : Bool) → y ≡ true → (x || y) ≡ true
+or_second true y is = refl
+or_second false y is = is
+
+or_neither : (x y : Bool) → x ≡ false → y ≡ false → (x || y) ≡ false
+or_neither x y first second = ap (λ (b : Bool). b || y) first ∙ second
+
+-- what the code's round takes: the advice, the better weights, and the set that is picked
+pub record IsTaken (p : Problem) (b : Branching) (w : List (ℕ × ℕ)) (s : State) (advised : Advice) (best : List (ℕ × ℕ)) : Type 0 where
+  pub advice : advised ≡ master_advising p s b
+  pub weights : best ≡ better p s b w advised.weights
+
+advice_is : (p : Problem) (s : State) (b : Branching) → (parts_of p).advice s b ≡ master_advising p s b
+unfolding rule_parts
+advice_is p s b = refl
+
+pick_is : (p : Problem) (a : Advice) (b : Branching) → (parts_of p).pick a b ≡ picked p a b
+unfolding rule_parts
+pick_is p a b = refl
+
+pub falling_is : (p : Problem) (a : Advice) (set : List ℕ) → (parts_of p).falling a set ≡ by_falling a.point (others p set)
+unfolding rule_parts order_by_point
+falling_is p a set = refl
+
+-- the weights close, or the set is known
+pub round_ends : (p : Problem) (b : Branching) (w : List (ℕ × ℕ)) (s : State) (a : Advice) (best : List (ℕ × ℕ)) → IsTaken p b w s a best
+    → (closes_at p s b best ≡ true) ⊎ (is_some (number_in_pool s (picked p a b)) ≡ true)
+    → record { state = s; weights = best; advice = a; again = false } ≡ round p (parts_of p) b w s
+round_ends p b w s a best taken over =
+    let advice : a ≡ (parts_of p).advice s b = taken.advice ∙ sym (advice_is p s b) in
+    let weights : best ≡ better p s b w ((parts_of p).advice s b).weights = taken.weights ∙ ap (λ (x : Advice). better p s b w x.weights) advice in
+    let set : picked p a b ≡ (parts_of p).pick ((parts_of p).advice s b) b = ap (λ (x : Advice). picked p x b) advice ∙ sym (pick_is p ((parts_of p).advice s b) b) in
+    let both : record { state = s; weights = best; advice = a; again = false }
+    ≡ record { state = s; weights = better p s b w ((parts_of p).advice s b).weights; advice = (parts_of p).advice s b; again = false }
+    = λ i. record { state = s; weights = weights i; advice = advice i; again = false } in
+    both ∙ sym (round_over p (parts_of p) b w s (ends over weights set))
+  where
+    ends : (closes_at p s b best ≡ true) ⊎ (is_some (number_in_pool s (picked p a b)) ≡ true)
+        → best ≡ better p s b w ((parts_of p).advice s b).weights → picked p a b ≡ (parts_of p).pick ((parts_of p).advice s b) b
+        → (closes_at p s b (better p s b w ((parts_of p).advice s b).weights)
+        || is_some (number_in_pool s ((parts_of p).pick ((parts_of p).advice s b) b))) ≡ true
+    ends (inl closed) weights set =
+        ap (λ (c : Bool). c || is_some (number_in_pool s ((parts_of p).pick ((parts_of p).advice s b) b)))
+        (sym (ap (closes_at p s b) weights) ∙ closed)
+    ends (inr known) weights set =
+        or_second (closes_at p s b (better p s b w ((parts_of p).advice s b).weights))
+        (is_some (number_in_pool s ((parts_of p).pick ((parts_of p).advice s b) b)))
+        (sym (ap (λ (x : List ℕ). is_some (number_in_pool s x)) set) ∙ known)
+
+-- the set is separated
+pub round_goes : (p : Problem) (b : Branching) (w : List (ℕ × ℕ)) (s : State) (a : Advice) (best : List (ℕ × ℕ)) (set order : List ℕ) (next : State)
+    → IsTaken p b w s a best → closes_at p s b best ≡ false → set ≡ picked p a b → is_some (number_in_pool s set) ≡ false
+    → order ≡ by_falling a.point (others p set) → next ≡ separated (parts_of p) set order s
+    → record { state = next; weights = best; advice = a; again = true } ≡ round p (parts_of p) b w s
+round_goes p b w s a best set order next taken open_still picks unknown falls after =
+    let parts = parts_of p in
+    let advice : a ≡ parts.advice s b = taken.advice ∙ sym (advice_is p s b) in
+    let weights : best ≡ better p s b w (parts.advice s b).weights = taken.weights ∙ ap (λ (x : Advice). better p s b w x.weights) advice in
+    let is_set : set ≡ parts.pick (parts.advice s b) b = picks ∙ ap (λ (x : Advice). picked p x b) advice ∙ sym (pick_is p (parts.advice s b) b) in
+    let is_order : order ≡ parts.falling (parts.advice s b) (parts.pick (parts.advice s b) b) =
+    falls ∙ sym (falling_is p a set) ∙ ap₂ (λ (x : Advice) (y : List ℕ). parts.falling x y) advice is_set in
+    let states : next ≡ separated parts (parts.pick (parts.advice s b) b) (parts.falling (parts.advice s b) (parts.pick (parts.advice s b) b)) s =
+    after ∙ ap₂ (λ (x y : List ℕ). separated parts x y s) is_set is_order in
+    let both : record { state = next; weights = best; advice = a; again = true }
+    ≡ record {
+      state = separated parts (parts.pick (parts.advice s b) b) (parts.falling (parts.advice s b) (parts.pick (parts.advice s b) b)) s;
+      weights = better p s b w (parts.advice s b).weights;
+      advice = parts.advice s b;
+      again = true;
+    }
+    = λ i. record { state = states i; weights = weights i; advice = advice i; again = true } in
+    let test : (closes_at p s b (better p s b w (parts.advice s b).weights) || is_some (number_in_pool s (parts.pick (parts.advice s b) b))) ≡ false =
+    or_neither (closes_at p s b (better p s b w (parts.advice s b).weights)) (is_some (number_in_pool s (parts.pick (parts.advice s b) b)))
+    (sym (ap (closes_at p s b) weights) ∙ open_still) (sym (ap (λ (x : List ℕ). is_some (number_in_pool s x)) is_set) ∙ unknown) in
+    both ∙ sym (round_new p parts b w s test)
+
+-- ---- weights
+
+-- weights serve still where there are more cuts
+pub weights_kept : (n m : ℕ) (weights : List ℤ) → n ≤ m → AreNodeWeights n weights → AreNodeWeights m weights
+weights_kept n m weights more are = record { few = omega (arith, more, are.few); low = are.low; most = are.most }

@@ -1,0 +1,119 @@
+-- The lines of a branch and of its children, and the fixings that are still to be made.
+use Rattle.std.proofs.Common.{◌≡◌, ◌≢◌, ℕ, ◌+◌, ◌-◌, ◌<◌, ◌≤◌, List, [], ◌∷◌, ◌++◌, length, get_or, take, drop, All, Contains, Option, refl, ap, ap₂, sym, subst, ◌∙◌, append_assoc, arith}
+use Rattle.std.specs.List.Sorted.{IsStrictlyIncreasing}
+use Rattle.std.proofs.lemmas.List.{take_all}
+use Rattle.std.proofs.lemmas.List.Elements.{All-head, All-tail}
+use Rattle.hub_spec.specs.Problem.{Problem}
+use Rattle.hub_spec.specs.Cuts.{Cut}
+use Rattle.hub_spec.specs.Trees.{Branching, Tree, branch, leaf, TreeLine, branch_on, preorder}
+use Rattle.hub_fixing.specs.declared.sides.Side as code
+use Rattle.hub_fixing.specs.declared.sides.Side.TheVariants.{In}
+use Rattle.hub_spec.proofs.Ascending.{without_keeps}
+use Rattle.search_spec.specs.States.{denominator, State, Grown}
+use Rattle.search_spec.specs.Steps.{two_more, Side, stays_open, stays_closed, child_on, fixings, with_leaf}
+use Rattle.search_spec.proofs.Fixings.{AreFixings, fixings_are}
+use Rattle.search_steps.specs.Weights.{side_as, sides_as}
+use Rattle.branch_tree.specs.declared.task.Task.{Task}
+use Rattle.branch_tree.specs.declared.progress.Progress.{Progress}
+use Rattle.branch_tree.specs.Views.{lines_of}
+use Rattle.branch_tree.specs.Progressing.{state_of, IsGoing, HasLine, IsDone}
+use Rattle.branch_tree.specs.Walking.{AreOnFree}
+use Rattle.branch_tree.proofs.AddedLines.{line_kept, line_state}
+
+-- ---- lines
+
+three_parts : (lines first second : List TreeLine) (line : TreeLine)
+    → ((lines ++ line ∷ []) ++ first) ++ second ≡ lines ++ line ∷ (first ++ second)
+three_parts lines first second line =
+    append_assoc (lines ++ line ∷ []) first second ∙ append_assoc lines (line ∷ []) (first ++ second)
+
+-- the line of the branch, the tree of its open child, and the tree of its closed child
+pub both_done : (t : Task) (before begun middle after : Progress) (k made : ℕ) (stop : Option ℕ) (opened closed : Grown)
+    → HasLine before begun (branch_on k) made stop → IsDone t begun middle opened → IsDone t middle after closed
+    → IsDone t before after (record { state = closed.state; tree = branch k opened.tree closed.tree })
+both_done t before begun middle after k made stop opened closed has first second = record {
+  state = second.state;
+  lines = second.lines ∙ ap (λ (ls : List TreeLine). ls ++ preorder closed.tree) first.lines
+      ∙ ap (λ (ls : List TreeLine). (ls ++ preorder opened.tree) ++ preorder closed.tree) has.lines
+      ∙ three_parts (lines_of before.lines.items) (preorder opened.tree) (preorder closed.tree) (branch_on k);
+  going = second.going;
+  kept = omega (arith, line_kept before begun (branch_on k) made stop has, first.kept, second.kept);
+}
+
+-- the line of a branch makes two nodes more
+pub begun_state : (p : Problem) (before begun : Progress) (k : ℕ) → HasLine before begun (branch_on k) (before.made + 2) before.stop
+    → state_of p begun ≡ two_more (state_of p before)
+unfolding two_more
+begun_state p before begun k has = line_state p before begun (branch_on k) (before.made + 2) before.stop has
+
+-- the tree of the child in which the node is a hub, and a leaf
+pub open_done : (t : Task) (before begun middle after : Progress) (k made : ℕ) (stop : Option ℕ) (w : List (ℕ × ℕ)) (kept : Grown)
+    → HasLine before begun (branch_on k) made stop → IsDone t begun middle kept
+    → IsDone t middle after (record { state = state_of t.instance.now middle; tree = leaf denominator w })
+    → IsDone t before after (with_leaf (k, stays_open) w kept)
+open_done t before begun middle after k made stop w kept has first second =
+    let both = both_done t before begun middle after k made stop kept (record { state = state_of t.instance.now middle; tree = leaf denominator w }) has first second in
+    record { state = both.state ∙ first.state; lines = both.lines; going = both.going; kept = both.kept }
+
+-- a leaf, and the tree of the child in which the node is closed
+pub closed_done : (t : Task) (before begun middle after : Progress) (k made : ℕ) (stop : Option ℕ) (w : List (ℕ × ℕ)) (kept : Grown)
+    → HasLine before begun (branch_on k) made stop
+    → IsDone t begun middle (record { state = state_of t.instance.now begun; tree = leaf denominator w }) → IsDone t middle after kept
+    → IsDone t before after (with_leaf (k, stays_closed) w kept)
+closed_done t before begun middle after k made stop w kept has first second =
+    both_done t before begun middle after k made stop (record { state = state_of t.instance.now begun; tree = leaf denominator w }) kept has first second
+
+-- what came of the rest, after a step with no line
+pub later_done : (t : Task) (before middle after : Progress) (g : Grown) → lines_of middle.lines.items ≡ lines_of before.lines.items
+    → length before.pool.entries ≤ length middle.pool.entries → IsDone t middle after g → IsDone t before after g
+later_done t before middle after g lines kept done = record {
+  state = done.state;
+  lines = done.lines ∙ ap (λ (ls : List TreeLine). ls ++ preorder g.tree) lines;
+  going = done.going;
+  kept = omega (arith, kept, done.kept);
+}
+
+-- ---- fixings
+
+-- the first of the code's fixings, and the others
+abbrev pub first_of : List (ℕ × code.Side) → ℕ × code.Side
+first_of fixings = get_or fixings 0 (0, In)
+
+abbrev pub others_of : List (ℕ × code.Side) → List (ℕ × code.Side)
+others_of fixings = take (length fixings - 1) (drop 1 fixings)
+
+pub sides_split : (fixings : List (ℕ × code.Side)) → 1 ≤ length fixings
+    → sides_as fixings ≡ ((first_of fixings).0, side_as (first_of fixings).1) ∷ sides_as (others_of fixings)
+sides_split [] some = absurd (omega arith)
+sides_split (f ∷ rest) some =
+    ap (λ (fs : List (ℕ × code.Side)). (f.0, side_as f.1) ∷ sides_as fs) (sym (take_all (length (f ∷ rest) - 1) rest (omega arith)))
+
+pub none_left : (fixings : List (ℕ × code.Side)) → length fixings < 1 → sides_as fixings ≡ []
+none_left [] none = refl
+none_left (f ∷ rest) none = absurd (omega arith)
+
+on_free_from : (p : Problem) (cuts : List Cut) (cost : ℕ) (w : List (ℕ × ℕ)) (b : Branching) (fs : List (ℕ × Side)) → AreFixings p cuts cost w b fs
+    → AreOnFree b fs
+on_free_from p cuts cost w b [] are = tt
+on_free_from p cuts cost w b (f ∷ rest) are = (are.0, are.2, on_free_from p cuts cost w b rest are.3)
+
+pub fixings_on_free : (p : Problem) (s : State) (b : Branching) (w : List (ℕ × ℕ)) → IsStrictlyIncreasing b.free → AreOnFree b (fixings p s b w)
+fixings_on_free p s b w up = on_free_from p s.cuts s.cost w b (fixings p s b w) (fixings_are p s b w up)
+
+still_free : (side : Side) (b : Branching) (k m : ℕ) → k ≢ m → Contains b.free m → Contains (child_on side b k).free m
+still_free stays_open b k m apart free = without_keeps k b.free m free apart
+still_free stays_closed b k m apart free = without_keeps k b.free m free apart
+
+-- the later ones are on free nodes of the child
+pub on_free_in_child : (side : Side) (b : Branching) (k : ℕ) (rest : List (ℕ × Side)) → All (λ (g : ℕ × Side). k ≢ g.0) rest → AreOnFree b rest
+    → AreOnFree (child_on side b k) rest
+on_free_in_child side b k [] apart are = tt
+on_free_in_child side b k (g ∷ rest) apart are = (
+  still_free side b k g.0 (All-head (λ (h : ℕ × Side). k ≢ h.0) g rest apart) are.0,
+  are.1,
+  on_free_in_child side b k rest (All-tail (λ (h : ℕ × Side). k ≢ h.0) g rest apart) are.2,
+)
+
+-- a node is free where one of them is left
+pub some_free_by : (b : Branching) (k : ℕ) → Contains b.free k → 1 ≤ length b.free
+some_free_by b k (i, below, is) = omega (arith, below)

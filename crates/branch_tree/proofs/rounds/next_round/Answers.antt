@@ -1,0 +1,37 @@
+use Rattle.std.proofs.Common.{ℤ, List, refl, sym, ap, ◌∙◌, arith}
+use Rattle.std.proofs.lemmas.Result.{IfOk-weaker}
+use Rattle.search_spec.specs.Steps.{round}
+use Rattle.search_spec.proofs.StepCases.{rounds_over}
+use Rattle.search_steps.specs.Weights.{pairs_of}
+use Rattle.branch_tree.specs.Findings.{parts_of}
+use Rattle.branch_tree.specs.Progressing.{state_of}
+use Rattle.branch_tree.specs.Rounding.{round_as}
+use Rattle.branch_tree.proofs.NodeCases.{one_round}
+use Rattle.branch_tree.proofs.rounds.next_round.Goals as goal
+
+pub returns-then-not-last-clause-round : goal.returns-then-not-last-clause-round
+returns-then-not-last-clause-round g c =
+    let p = c.args.task.now.instance.now in
+    let before = c.args.progress.now in
+    record {
+      is = sym (rounds_over 0 p (parts_of p) c.args.branch.now (round_as p before c.args.last) c.if-not-last.true);
+      lines = refl;
+      going = c.requires.going;
+      kept = omega arith;
+      weights = c.requires.weights;
+    }
+
+pub returns-clause-round : goal.returns-clause-round
+returns-clause-round g c =
+    let p = c.args.task.now.instance.now in
+    let before = c.args.progress.now in
+    let after = c.round.new.progress in
+    IfOk-weaker c.round.result _ _
+    (λ r one. record {
+      is = one.is ∙ ap (λ (ws : List ℤ). round p (parts_of p) c.args.branch.now (pairs_of ws) (state_of p before)) c.deref.ensures.value
+          ∙ sym (one_round p (parts_of p) c.args.branch.now (round_as p before c.args.last) c.if-not-last.false);
+      lines = one.lines;
+      going = one.going;
+      kept = one.kept;
+      weights = one.weights;
+    }) c.round.ensures.round

@@ -1,0 +1,62 @@
+//! The separation of a hub set, whose cut becomes the next of the pool.
+
+ghost use Rattle.std.specs.Prelude.{◌≡◌, ◌≤◌, false, is_some, IfSome, OnOk};
+ghost use Rattle.hub_spec.specs.Problem.{Problem};
+ghost use Rattle.hub_spec.specs.Plans.{IsHubSet};
+ghost use Rattle.hub_spec.specs.Separation.{IsOrder};
+ghost use Rattle.cut_pool.specs.Entries.{Lacks};
+ghost use Rattle.search_spec.specs.States.{number_in_pool};
+ghost use Rattle.search_spec.specs.Steps.{separated};
+ghost use Rattle.branch_tree.specs.Findings.{parts_of};
+ghost use Rattle.branch_tree.specs.Progressing.{state_of, IsGoing, IsAt};
+
+use crate::progress::Progress;
+use crate::task::Task;
+use hub_model::{HubSet, MOST_CUTS, unsigned};
+use separators::Separator;
+use std::alloc::{AllocError, Global};
+
+/// The number of the set's cut in the pool, counted from 1, if it has been separated.
+pub(crate) fn number_of(progress: &Progress, set: &HubSet) -> Option<u64>
+    ensures number { (p : Problem) → result ≡ number_in_pool (state_of p progress.now) set.now }
+    ensures least { IfSome result (λ c. 1 ≤ c) }
+    ensures none { is_some result ≡ false → Lacks progress.now.pool.entries set.now }
+{
+    progress.pool.find(set)
+}
+
+/// Separates the set over this order of the other candidates. It becomes the incumbent if it costs less.
+///
+/// The answer is `AllocError` also where there are as many cuts as a certificate can have.
+pub(crate) fn separate<S: Separator>(
+    alloc: Global,
+    task: &Task,
+    separator: &mut S,
+    set: HubSet,
+    order: Vec<u32>,
+    progress: &mut Progress,
+) -> Result<(), AllocError>
+    requires ready { S.ready separator.old }
+    requires going { IsGoing task.now progress.old }
+    requires set { IsHubSet task.now.instance.now set }
+    requires order { IsOrder task.now.instance.now set order.items }
+    requires first_time { Lacks progress.old.pool.entries set }
+    ensures ready { S.ready separator.new }
+    ensures at { OnOk result (IsAt task.now progress.old progress.new
+        (separated (parts_of task.now.instance.now) set order.items (state_of task.now.instance.now progress.old))) }
+{
+    if progress.pool.len() >= MOST_CUTS as u64 {
+        return Err(AllocError);
+    }
+    progress.pool.reserve(1)?;
+    let hubs = set.copy(alloc)?;
+    let sums = separator.separate(alloc, task.instance, set, &order)?;
+    let cost = unsigned(sums.total()) + task.instance.opening_cost(hubs.members());
+    // It succeeds, since there is room.
+    let _ = progress.pool.add(sums, order);
+    if cost < progress.cost {
+        progress.hubs = hubs;
+        progress.cost = cost;
+    }
+    Ok(())
+}

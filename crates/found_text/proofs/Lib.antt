@@ -1,0 +1,3 @@
+pub mod PoolCuts
+pub mod FoundLines
+pub mod FoundCertificates

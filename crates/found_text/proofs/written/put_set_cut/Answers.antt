@@ -1,0 +1,14 @@
+use Rattle.std.proofs.Common.{ap, is_ok, is_err}
+use Rattle.cert_format.proofs.Following.{as_text, then_put, then_none}
+use Rattle.found_text.proofs.FoundLines.{set_cut_text}
+use Rattle.found_text.proofs.written.put_set_cut.Goals as goal
+
+pub returns-in_err-put_cut-clause-lines : goal.returns-in_err-put_cut-clause-lines
+returns-in_err-put_cut-clause-lines g c =
+    as_text (set_cut_text c.args.instance.now c.args.c c.args.set.now c.args.order.now)
+    (then_none _ c.put_cut.ensures (ap is_err c.in_err-put_cut.was) c.from_residual.ensures.0)
+
+pub returns-clause-lines : goal.returns-clause-lines
+returns-clause-lines g c =
+    as_text (set_cut_text c.args.instance.now c.args.c c.args.set.now c.args.order.now)
+    (then_put c.put_cut.ensures (ap is_ok c.in_ok-put_cut.was) c.put_duals.ensures.lines)

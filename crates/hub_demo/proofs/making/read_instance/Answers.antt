@@ -1,0 +1,15 @@
+use Rattle.std.proofs.Common.{None}
+use Rattle.std.proofs.lemmas.Result.{IfErr-weaker}
+use Rattle.file_spec.specs.Instances.{build_fault}
+use Rattle.hub_model.specs.Building.{IsRefusedFor}
+use Rattle.hub_demo.specs.Refusals.{IsRefusedAlone}
+use Rattle.hub_demo.proofs.Made.{refused_whole}
+use Rattle.hub_demo.proofs.making.read_instance.Goals as goal
+
+pub returns-clause-refused : goal.returns-clause-refused
+returns-clause-refused c =
+    let o = c.args.terms.now in
+    let bytes = c.args.bytes.now in
+    let contents = c.in_ok-parts.parts in
+    IfErr-weaker c.build.result (IsRefusedFor (build_fault o contents None)) (IsRefusedAlone o bytes)
+    (λ refusal is. refused_whole o bytes contents refusal c.requires.not_too_long c.in_ok-parts.ensures.contents is) c.build.ensures.refused

@@ -1,0 +1,189 @@
+-- What an answer says of the instance and of its own status.
+use Rattle.std.proofs.Common.{◌≡◌, ◌≢◌, ℕ, ◌<◌, ◌≤◌, List, Option, Some, None, true, false, refl, sym, subst, ap, ◌∙◌, ◌⊎◌, inl, inr, ⊎_elim, arith, nat_eq}
+use Rattle.std.proofs.lemmas.Bool.{cond-true, cond-false, eq-eqb, ne_eqb, cases_lt}
+use Rattle.hub_io.specs.Outside.{Files}
+use Rattle.hub_spec.specs.Problem.{Problem}
+use Rattle.hub_spec.specs.Certificates.{Proof, Holds}
+use Rattle.cert_spec.specs.Text.{Spells}
+use Rattle.cert_spec.specs.Verdicts.{Verdict, optimal, bounds, fails, misread, too_long, Why}
+use Rattle.hub_make.specs.Contents.{made_problem}
+use Rattle.hub_words.specs.Requests.{Source, Solving, Making, Search, Request, solve, check, report, make, demo, instance}
+use Rattle.hub_top.specs.declared.status.Status.{Status}
+use Rattle.hub_top.specs.declared.status.Status.TheVariants.{Done, Stopped, No, Usage, Instance, Memory, Read, Write}
+use Rattle.hub_top.specs.Commands.{HoldsInstance, IsEnoughFor, rule_certificate, Solves, Stops, JudgesFile, ReportsFile}
+use Rattle.hub_top.specs.Answers.{Answers, Judges, Demonstrates, found_status, rule_status, verdict_status, report_status}
+use Rattle.hub_top.proofs.OneReading.{same_bytes, one_instance}
+use Rattle.hub_top.proofs.OneTexts.{only_verdict}
+
+-- ---- the instance
+
+-- the files give the instance that the request names
+pub record HasInstance (files : Files) (s : Source) : Type 0 where
+  pub problem : Problem
+  pub instance : HoldsInstance files s problem
+
+solve_instance : (files : Files) (x : Solving) (status : Status) (text : List ℕ) → Answers (solve x) status (Some files) text → HasInstance files x.source
+solve_instance files x Done text h = record { problem = h.problem; instance = h.instance }
+solve_instance files x Stopped text h = record { problem = h.problem; instance = h.instance }
+solve_instance files x No text h = absurd h
+solve_instance files x Usage text h = absurd h
+solve_instance files x Instance text h = absurd h
+solve_instance files x Memory text h = absurd h
+solve_instance files x Read text h = absurd h
+solve_instance files x Write text h = absurd h
+
+report_instance : (files : Files) (s : Source) (file : List ℕ) (status : Status) (text : List ℕ) → Answers (report s file) status (Some files) text
+    → HasInstance files s
+report_instance files s file Done text h = record { problem = h.problem; instance = h.instance }
+report_instance files s file No text h = record { problem = h.judges.problem; instance = h.judges.instance }
+report_instance files s file Stopped text h = absurd h
+report_instance files s file Usage text h = absurd h
+report_instance files s file Instance text h = absurd h
+report_instance files s file Memory text h = absurd h
+report_instance files s file Read text h = absurd h
+report_instance files s file Write text h = absurd h
+
+pub answered_instance : (files : Files) (request : Request) (s : Source) (status : Status) (text : List ℕ) → instance request ≡ Some s
+    → Answers request status (Some files) text → HasInstance files s
+answered_instance files (solve x) s status text named h =
+    let e : x.source ≡ s = cc in subst (HasInstance files) e (solve_instance files x status text h)
+answered_instance files (check t file) s status text named h =
+    let e : t ≡ s = cc in subst (HasInstance files) e (record { problem = h.judges.problem; instance = h.judges.instance })
+answered_instance files (report t file) s status text named h =
+    let e : t ≡ s = cc in subst (HasInstance files) e (report_instance files t file status text h)
+answered_instance files (make m) s status text named h = cc
+answered_instance files (demo m search) s status text named h = cc
+
+-- ---- the status of a search
+
+done_status : (k : Proof) → k.bound ≡ k.cost → found_status k ≡ Done
+done_status k e = cond-true (nat_eq k.bound k.cost) Done Stopped (eq-eqb k.bound k.cost e)
+
+stopped_status : (k : Proof) → k.bound < k.cost → found_status k ≡ Stopped
+stopped_status k gap = cond-false (nat_eq k.bound k.cost) Done Stopped (ne_eqb k.bound k.cost (λ e. absurd (omega (arith, gap, e))))
+
+pub solves_status : (p : Problem) (n : Option ℕ) (tells : Proof → Type 0) → Solves p n tells → Done ≡ rule_status p n
+unfolding rule_status
+solves_status p n tells h = sym (ap found_status (sym h.finds.is) ∙ done_status h.certificate h.no_gap)
+
+pub stops_status : (p : Problem) (n : Option ℕ) (tells : Proof → Type 0) → Stops p n tells → Stopped ≡ rule_status p n
+unfolding rule_status
+stops_status p n tells h = sym (ap found_status (sym h.finds.is) ∙ stopped_status h.certificate h.gap)
+
+pub solve_status : (files : Files) (x : Solving) (p : Problem) (status : Status) (text : List ℕ) → HoldsInstance files x.source p
+    → Answers (solve x) status (Some files) text → status ≡ rule_status p x.search.nodes
+solve_status files x p Done text instance h =
+    solves_status h.problem x.search.nodes (Spells text) h.solves ∙ ap (λ q. rule_status q x.search.nodes) (one_instance files x.source h.problem p h.instance instance)
+solve_status files x p Stopped text instance h =
+    stops_status h.problem x.search.nodes (Spells text) h.stops ∙ ap (λ q. rule_status q x.search.nodes) (one_instance files x.source h.problem p h.instance instance)
+solve_status files x p No text instance h = absurd h
+solve_status files x p Usage text instance h = absurd h
+solve_status files x p Instance text instance h = absurd h
+solve_status files x p Memory text instance h = absurd h
+solve_status files x p Read text instance h = absurd h
+solve_status files x p Write text instance h = absurd h
+
+pub solve_enough : (files : Files) (x : Solving) (p : Problem) (status : Status) (text : List ℕ) → HoldsInstance files x.source p
+    → IsEnoughFor p x.search.nodes → Answers (solve x) status (Some files) text → status ≡ Done
+solve_enough files x p Done text instance enough h = refl
+solve_enough files x p Stopped text instance enough h =
+    let same : p ≡ h.problem = one_instance files x.source p h.problem instance h.instance in
+    absurd (h.stops.not_enough (subst (λ (q : Problem). IsEnoughFor q x.search.nodes) same enough))
+solve_enough files x p No text instance enough h = absurd h
+solve_enough files x p Usage text instance enough h = absurd h
+solve_enough files x p Instance text instance enough h = absurd h
+solve_enough files x p Memory text instance enough h = absurd h
+solve_enough files x p Read text instance enough h = absurd h
+solve_enough files x p Write text instance enough h = absurd h
+
+pub demo_status : (held : Option Files) (m : Making) (search : Search) (status : Status) (text : List ℕ)
+    → Answers (demo m search) status held text → status ≡ rule_status (made_problem m.seed m.size) search.nodes
+demo_status held m search Done text h = solves_status (made_problem m.seed m.size) search.nodes (Demonstrates text) h
+demo_status held m search Stopped text h = stops_status (made_problem m.seed m.size) search.nodes (Demonstrates text) h
+demo_status held m search No text h = absurd h
+demo_status held m search Usage text h = absurd h
+demo_status held m search Instance text h = absurd h
+demo_status held m search Memory text h = absurd h
+demo_status held m search Read text h = absurd h
+demo_status held m search Write text h = absurd h
+
+pub demo_enough : (held : Option Files) (m : Making) (search : Search) (status : Status) (text : List ℕ)
+    → IsEnoughFor (made_problem m.seed m.size) search.nodes → Answers (demo m search) status held text → status ≡ Done
+demo_enough held m search Done text enough h = refl
+demo_enough held m search Stopped text enough h = absurd (h.not_enough enough)
+demo_enough held m search No text enough h = absurd h
+demo_enough held m search Usage text enough h = absurd h
+demo_enough held m search Instance text enough h = absurd h
+demo_enough held m search Memory text enough h = absurd h
+demo_enough held m search Read text enough h = absurd h
+demo_enough held m search Write text enough h = absurd h
+
+pub make_status : (held : Option Files) (m : Making) (status : Status) (text : List ℕ) → Answers (make m) status held text → status ≡ Done
+make_status held m Done text h = refl
+make_status held m Stopped text h = absurd h
+make_status held m No text h = absurd h
+make_status held m Usage text h = absurd h
+make_status held m Instance text h = absurd h
+make_status held m Memory text h = absurd h
+make_status held m Read text h = absurd h
+make_status held m Write text h = absurd h
+
+-- ---- the status of a verdict
+
+-- the verdict on the file of a certificate
+pub file_verdict : (files : Files) (s : Source) (file : List ℕ) (p : Problem) (bytes : List ℕ) (v : Verdict) → HoldsInstance files s p
+    → files file ≡ Some bytes → Why p bytes v → (other : Verdict) → JudgesFile (Some files) s file other → other ≡ v
+file_verdict files s file p bytes v h held why other k =
+    let problem : k.problem ≡ p = one_instance files s k.problem p k.instance h in
+    let there : k.bytes ≡ bytes = same_bytes files file k.bytes bytes k.bytes_held held in
+    let P : Problem → Type 0 = λ x. Why x k.bytes other in
+    let Q : List ℕ → Type 0 = λ x. Why p x other in
+    only_verdict p bytes v other why (subst Q there (subst P problem k.why))
+
+pub check_status : (files : Files) (s : Source) (file : List ℕ) (p : Problem) (bytes : List ℕ) (v : Verdict) (status : Status) (text : List ℕ)
+    → HoldsInstance files s p → files file ≡ Some bytes → Why p bytes v → Answers (check s file) status (Some files) text → status ≡ verdict_status v
+check_status files s file p bytes v status text h held why k =
+    sym k.of_status ∙ ap verdict_status (file_verdict files s file p bytes v h held why k.verdict k.judges)
+
+-- the status of a report, where a check says no
+refused_status : (v : Verdict) → verdict_status v ≡ No → No ≡ report_status v
+refused_status (optimal cost) e = cc
+refused_status (bounds bound cost) e = cc
+refused_status (fails kind line) e = refl
+refused_status (misread fault) e = refl
+refused_status too_long e = refl
+
+below_or_same : (a b : ℕ) → a ≤ b → (a < b) ⊎ (a ≡ b)
+below_or_same a b h = ⊎_elim (λ less. inl less) (λ not. inr (omega (arith, h, not))) (cases_lt a b)
+
+-- the verdict on bytes that certify
+pub certified_verdict : (files : Files) (s : Source) (file text : List ℕ) (h : ReportsFile (Some files) s file text)
+    → (v : Verdict) × Why h.problem h.bytes v × (report_status v ≡ Done)
+certified_verdict files s file text h =
+    let k = h.proof in
+    ⊎_elim
+    (λ (gap : k.bound < k.cost). (
+      bounds k.bound k.cost,
+      (gap, record { not_too_long = h.not_too_long; certificate = (k, h.spelled, h.holds, refl, refl) }),
+      refl,
+    ))
+    (λ (e : k.bound ≡ k.cost). (optimal k.cost, record { not_too_long = h.not_too_long; certificate = (k, h.spelled, h.holds, e, refl) }, refl))
+    (below_or_same k.bound k.cost h.holds.bound)
+
+pub report_status_is : (files : Files) (s : Source) (file : List ℕ) (p : Problem) (bytes : List ℕ) (v : Verdict) (status : Status) (text : List ℕ)
+    → HoldsInstance files s p → files file ≡ Some bytes → Why p bytes v → Answers (report s file) status (Some files) text → status ≡ report_status v
+report_status_is files s file p bytes v Done text h held why k =
+    let w = certified_verdict files s file text k in
+    let problem : p ≡ k.problem = one_instance files s p k.problem h k.instance in
+    let there : bytes ≡ k.bytes = same_bytes files file bytes k.bytes held k.bytes_held in
+    let P : Problem → Type 0 = λ x. Why x bytes v in
+    let Q : List ℕ → Type 0 = λ x. Why k.problem x v in
+    sym w.2 ∙ sym (ap report_status (only_verdict k.problem k.bytes w.0 v w.1 (subst Q there (subst P problem why))))
+report_status_is files s file p bytes v No text h held why k =
+    refused_status k.verdict k.of_status ∙ ap report_status (file_verdict files s file p bytes v h held why k.verdict k.judges)
+report_status_is files s file p bytes v Stopped text h held why k = absurd k
+report_status_is files s file p bytes v Usage text h held why k = absurd k
+report_status_is files s file p bytes v Instance text h held why k = absurd k
+report_status_is files s file p bytes v Memory text h held why k = absurd k
+report_status_is files s file p bytes v Read text h held why k = absurd k
+report_status_is files s file p bytes v Write text h held why k = absurd k

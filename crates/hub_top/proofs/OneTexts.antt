@@ -1,0 +1,45 @@
+-- The verdict on a text that a search made, and that it has one.
+use Rattle.std.proofs.Common.{◌≡◌, ℕ, ◌≤◌, List, length, Option, sym, subst, ap, ◌∙◌, ◌⊎◌, inl, inr, refl}
+use Rattle.hub_spec.specs.Problem.{Problem}
+use Rattle.hub_spec.specs.Certificates.{Proof}
+use Rattle.cert_spec.specs.Text.{Spells, certificate_text}
+use Rattle.cert_spec.specs.Verdicts.{Verdict, optimal, bounds, Why, certificate_limit}
+use Rattle.cert_spec.proofs.OneText.{one_certificate_lem}
+use Rattle.cert_spec.proofs.TextOrFault.{each_is_text_or_fault_lem}
+use Rattle.cert_spec.proofs.VerdictLemmas.{one_verdict_from}
+use Rattle.hub_top.specs.Commands.{rule_certificate, Solves, Stops}
+use Rattle.hub_top.specs.Theorems.{IsOneVerdict, Ends}
+
+-- the verdict on any bytes is the only one
+pub only_verdict : (p : Problem) (bytes : List ℕ) (v w : Verdict) → Why p bytes v → Why p bytes w → w ≡ v
+only_verdict p bytes v w why also =
+    let one = one_verdict_from one_certificate_lem each_is_text_or_fault_lem p bytes in
+    one.2 w also ∙ sym (one.2 v why)
+
+pub solved_verdict : (p : Problem) (n : Option ℕ) (text : List ℕ) (h : Solves p n (Spells text)) → length text ≤ certificate_limit
+    → IsOneVerdict p text (optimal h.certificate.cost)
+solved_verdict p n text h short =
+    let why : Why p text (optimal h.certificate.cost) = record {
+      not_too_long = short;
+      certificate = (h.certificate, h.finds.told, h.finds.holds, h.no_gap, refl);
+    } in (why, λ other also. only_verdict p text (optimal h.certificate.cost) other why also)
+
+pub stopped_verdict : (p : Problem) (n : Option ℕ) (text : List ℕ) (h : Stops p n (Spells text)) → length text ≤ certificate_limit
+    → IsOneVerdict p text (bounds h.certificate.bound h.certificate.cost)
+stopped_verdict p n text h short =
+    let v = bounds h.certificate.bound h.certificate.cost in
+    let why : Why p text v = (
+      h.gap,
+      record {
+        not_too_long = short;
+        certificate = (h.certificate, h.finds.told, h.finds.holds, refl, refl);
+      },
+    ) in (why, λ other also. only_verdict p text v other why also)
+
+-- the text of a search is that of the rule's certificate
+rule_text : (p : Problem) (n : Option ℕ) (text : List ℕ) → Ends p n text → text ≡ certificate_text (rule_certificate p n)
+rule_text p n text (inl h) = h.finds.told.text ∙ ap certificate_text h.finds.is
+rule_text p n text (inr h) = h.finds.told.text ∙ ap certificate_text h.finds.is
+
+pub one_text_of : (p : Problem) (n : Option ℕ) (text other : List ℕ) → Ends p n text → Ends p n other → other ≡ text
+one_text_of p n text other h k = rule_text p n other k ∙ sym (rule_text p n text h)

@@ -1,0 +1,5 @@
+use Rattle.hub_top.proofs.OneTexts.{one_text_of}
+use Rattle.hub_top.proofs.laws.one_text.Goals as goal
+
+pub returns : goal.returns
+returns c = one_text_of

@@ -1,0 +1,69 @@
+-- What each command says with each status.
+use Rattle.std.specs.Prelude.{◌≡◌, ℕ, List, Option, nat_eq, if◌then◌else◌}
+use Rattle.hub_io.specs.Outside.{Files}
+use Rattle.hub_spec.specs.Problem.{Problem}
+use Rattle.hub_spec.specs.Trees.{line_count}
+use Rattle.hub_spec.specs.Certificates.{Proof}
+use Rattle.cert_spec.specs.Verdicts.{Verdict, optimal, bounds}
+use Rattle.hub_make.specs.Texts.{made_text}
+use Rattle.hub_make.specs.Contents.{made_problem}
+use Rattle.hub_demo.specs.Texts as lines
+use Rattle.hub_words.specs.Requests.{Source, Making, Search, Request, solve, check, report, make, demo}
+use Rattle.hub_top.specs.declared.status.Status.{Status}
+use Rattle.hub_top.specs.declared.status.Status.TheVariants.{Done, Stopped, No}
+use Rattle.hub_top.specs.Texts.{verdict_text}
+use Rattle.hub_top.specs.Commands.{rule_certificate, Solves, Stops, SolvesInstance, StopsInstance, JudgesFile, ReportsFile}
+
+-- ---- statuses
+
+-- of a verdict, where `check` tells it
+abbrev pub verdict_status : Verdict → Status
+verdict_status (optimal cost) = Done
+verdict_status (bounds bound cost) = Stopped
+verdict_status verdict = No
+
+-- of a verdict, where `report` tells of the network: it is told where the bytes certify
+abbrev pub report_status : Verdict → Status
+report_status (optimal cost) = Done
+report_status (bounds bound cost) = Done
+report_status verdict = No
+
+-- of a certificate that a search made
+abbrev pub found_status : Proof → Status
+found_status k = if nat_eq k.bound k.cost then Done else Stopped
+
+-- of the search of an instance with so many nodes at most
+unfoldable pub rule_status : Problem → Option ℕ → Status
+rule_status p nodes = found_status (rule_certificate p nodes)
+
+-- ---- answers
+
+-- the text is the line of a verdict with this status, which is the verdict on the certificate
+pub record Judges (held : Option Files) (s : Source) (certificate : List ℕ) (status : Status) (text : List ℕ) : Type 0 where
+  pub verdict : Verdict
+  pub of_status : verdict_status verdict ≡ status
+  pub of_text : text ≡ verdict_text verdict
+  pub judges : JudgesFile held s certificate verdict
+
+-- the five lines that tell of a certificate: its nodes, cost, bound, hubs, and the nodes of its tree
+abbrev pub demo_text : Proof → List ℕ
+demo_text k = lines.demo_text k.size k.cost k.bound k.plan.hubs (line_count k.tree)
+
+-- the text is these lines of the certificate
+abbrev pub Demonstrates : List ℕ → Proof → Type 0
+Demonstrates text k = text ≡ demo_text k
+
+-- what a command says that ends with this status and this text on out
+abbrev pub Answers : Request → Status → Option Files → List ℕ → Type 0
+Answers (solve s) Done held text = SolvesInstance held s text
+Answers (solve s) Stopped held text = StopsInstance held s text
+Answers (solve s) status held text = ⊥
+Answers (check s certificate) status held text = Judges held s certificate status text
+Answers (report s certificate) Done held text = ReportsFile held s certificate text
+Answers (report s certificate) No held text = Judges held s certificate No text
+Answers (report s certificate) status held text = ⊥
+Answers (make m) Done held text = text ≡ made_text m.seed m.size
+Answers (make m) status held text = ⊥
+Answers (demo m search) Done held text = Solves (made_problem m.seed m.size) search.nodes (Demonstrates text)
+Answers (demo m search) Stopped held text = Stops (made_problem m.seed m.size) search.nodes (Demonstrates text)
+Answers (demo m search) status held text = ⊥

@@ -1,0 +1,10 @@
+//! The limits of the numbers that the words give beside the options of an instance.
+
+/// Of the nodes that a search is held to: 2^63.
+pub(crate) const MOST_SEARCH_NODES: u64 = 9_223_372_036_854_775_808;
+
+/// Of the workers of a search.
+pub(crate) const MOST_WORKERS: u32 = 64;
+
+/// Of the seed of a made instance.
+pub(crate) const MOST_SEED: u32 = 1_000_000;

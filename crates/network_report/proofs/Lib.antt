@@ -1,0 +1,2 @@
+mod PlanParts
+mod Handled

@@ -1,0 +1,2 @@
+pub mod OriginZips
+pub mod AddedOrigins

@@ -1,0 +1,65 @@
+//! A separator on one thread.
+
+ghost use Rattle.std.specs.Prelude.{◌≡◌, IfOk};
+
+use crate::{Separator, kept_sums};
+use cut_pool::CutSums;
+use hub_model::{HubSet, Instance};
+use pareto_cuts::{Scratch, cut_sums};
+use std::alloc::{AllocError, Global};
+use std::marker::Model;
+
+/// Separates on the thread that asks.
+///
+/// It is seen as the number of nodes that it has room for, and takes more room where a larger instance comes. Otherwise
+/// a call takes memory for the loads of its result alone.
+#[derive(Debug, Drop)]
+pub struct Solo {
+    room: u32,
+    scratch: Scratch,
+    loads: Vec<u128>,
+}
+
+impl Model for Solo {
+    ghost use Rattle.std.specs.Prelude.{◌≡◌, ℕ};
+
+    ghost Value = { ℕ };
+
+    ghost view = { λ s. s.room };
+
+    ghost invariant = { λ s. s.scratch.room ≡ s.room };
+}
+
+impl Solo {
+    /// A separator with room for the instance's nodes.
+    pub fn new(alloc: Global, instance: &Instance) -> Result<Solo, AllocError>
+        ensures { IfOk result (λ room. room ≡ instance.now.size) }
+    {
+        let room = instance.size();
+        Ok(Solo {
+            room,
+            scratch: Scratch::new(alloc, instance)?,
+            loads: Vec::with_capacity(alloc, room as usize)?,
+        })
+    }
+}
+
+impl Separator for Solo {
+    ghost ready = { λ s. Unit {0} };
+
+    fn separate(
+        &mut self,
+        alloc: Global,
+        instance: &Instance,
+        set: HubSet,
+        order: &[u32],
+    ) -> Result<CutSums, AllocError> {
+        let nodes = instance.size();
+        if self.room < nodes {
+            *self = Solo::new(alloc, instance)?;
+        }
+        self.loads.resize(nodes as usize, 0)?;
+        let total = cut_sums(&mut self.scratch, instance, &set, order, &mut self.loads);
+        kept_sums(alloc, set, total, &self.loads)
+    }
+}

@@ -1,0 +1,89 @@
+"""The rows of a sweep: a table of options, tested before anything is run."""
+
+import hashlib
+import json
+import re
+from dataclasses import dataclass
+from functools import cache
+from pathlib import Path
+
+from .csv_tables import Row, read_table
+from .faults import Fault, at
+from .options import Options
+from .quantities import FACTOR, FIXED_COST, Quantity
+
+WORKERS = Quantity("a number of workers", 0, 1, 64)
+NODES = Quantity("a number of nodes of the tree", 0, 1, 10**18)
+NUMBERS = {
+    "collect": FACTOR,
+    "trunk": FACTOR,
+    "deliver": FACTOR,
+    "fixed": FIXED_COST,
+    "workers": WORKERS,
+    "nodes": NODES,
+}
+COLUMNS = [*NUMBERS, "costs", "candidates"]
+"""What a table may change."""
+OF_SOLVE = ("nodes", "workers")
+"""Options of `hub solve` that are none of the instance."""
+
+
+@dataclass(frozen=True)
+class Scenario:
+    """One row of a sweep."""
+
+    number: int
+    """Counted from 1."""
+    cells: dict[str, str]
+    """What the table says, by column."""
+    options: Options
+    """The instance."""
+    solve_words: list[str]
+
+    def key(self) -> str:
+        """What tells whether two rows ask the same: the words and the bytes of the files."""
+        costs = self.options.values.get("costs")
+        files = [digest(self.options.file), digest(Path(costs)) if costs else ""]
+        words = [word for word in self.options.words() if not word.startswith("--costs=")]
+        text = json.dumps([self.options.layout, files, sorted(words), self.solve_words])
+        return hashlib.sha256(text.encode()).hexdigest()
+
+
+@cache
+def digest(path: Path) -> str:
+    """A digest of a file's bytes."""
+    return hashlib.sha256(path.read_bytes()).hexdigest()
+
+
+def tested(row: Row, column: str) -> str:
+    """A cell that `hub` would take as the value of the option of this name."""
+    text = row.cells[column]
+    if column in NUMBERS:
+        whole = column in OF_SOLVE and not re.fullmatch("[1-9][0-9]*", text)
+        if whole or NUMBERS[column].read(text) is None:
+            raise row.fault(column, NUMBERS[column].wanted())
+    elif column == "candidates":
+        text = re.sub(r"[\s,]+", ",", text)
+        nodes = [int(word) for word in text.split(",") if re.fullmatch("[1-9][0-9]{0,2}", word)]
+        if len(nodes) != text.count(",") + 1 or nodes != sorted(set(nodes)):
+            raise row.fault(column, "ascending numbers of nodes with spaces or commas between")
+    elif not Path(text).is_file():
+        raise row.fault(column, "a file")
+    return text
+
+
+def read_scenarios(path: Path, base: Options) -> list[Scenario]:
+    """The rows of a table of scenarios of an instance."""
+    scenarios: list[Scenario] = []
+    for row in read_table(path, []):
+        unknown = [column for column in row.cells if column not in (*COLUMNS, "name")]
+        if unknown:
+            raise at(path, 1, f"the columns name, {', '.join(COLUMNS)}", f"'{unknown[0]}'")
+        values = {column: tested(row, column) for column in COLUMNS if row.cells.get(column)}
+        if "fixed" in values and "costs" in values:
+            raise row.fault("costs", "no file beside a number in the column 'fixed'")
+        solve_words = [f"--{name}={values.pop(name)}" for name in OF_SOLVE if name in values]
+        scenarios.append(Scenario(len(scenarios) + 1, row.cells, base.changed(values), solve_words))
+    if not scenarios:
+        raise Fault(f"{path}: wanted at least one row")
+    return scenarios

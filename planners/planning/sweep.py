@@ -1,0 +1,193 @@
+"""The script `sweep`: many scenarios of one instance, each solved and checked by a process of its own."""
+
+import argparse
+import shlex
+import shutil
+import signal
+import subprocess
+import sys
+import time
+from concurrent.futures import ThreadPoolExecutor
+from pathlib import Path
+from threading import Event
+
+from .faults import Fault, Parser
+from .options import add_options, options_of
+from .program import program
+from .results import Result, Sweep
+from .scenarios import COLUMNS, Scenario, read_scenarios
+
+NUMBER = "%ROW%"
+"""What GNU parallel puts the number of a scenario for."""
+LENGTH = 30
+"""Of the bar."""
+PAUSE = 0.1
+"""Seconds between two looks at what is done."""
+
+
+class Bar:
+    """How far a sweep is, on standard error."""
+
+    def __init__(self, total: int) -> None:
+        """Starts with nothing shown."""
+        self.total = total
+        self.shown = -1
+
+    def show(self, done: int) -> None:
+        """Shows how many scenarios are done, where that has changed."""
+        if done == self.shown:
+            return
+        self.shown = done
+        full = LENGTH * done // self.total
+        text = f"[{'#' * full}{'.' * (LENGTH - full)}] {done}/{self.total}"
+        if sys.stderr.isatty():
+            print(f"\r{text}", end="\n" if done == self.total else "", file=sys.stderr, flush=True)
+        else:
+            print(text, file=sys.stderr, flush=True)
+
+
+def parser() -> Parser:
+    """The command line."""
+    words = Parser(prog="sweep", description=__doc__.split(": ")[1], epilog=EPILOG)
+    add_options(words)
+    words.add_argument(
+        "table", type=Path, help="a CSV table: a row for each scenario, a column for each option that it changes"
+    )
+    words.add_argument(
+        "--out", type=Path, required=True, metavar="FOLDER", help="the folder for results.csv and what is done so far"
+    )
+    words.add_argument("--jobs", type=int, default=1, metavar="N", help="scenarios side by side (default: 1)")
+    words.add_argument("--time-limit", type=float, metavar="S", help="seconds for each process of hub")
+    words.add_argument("--keep", action="store_true", help="keep the certificates, as FOLDER/rows/ROW.cert")
+    words.add_argument("--plain", action="store_true", help="do without GNU parallel, even where it is there")
+    words.add_argument(
+        "--sshlogin", metavar="LIST", help="machines for GNU parallel, which see this folder under the same name"
+    )
+    words.add_argument(
+        "--row", type=int, metavar="ROW", help="do this one scenario only, say as a task of a Slurm array"
+    )
+    return words
+
+
+class Threads:
+    """Scenarios side by side by threads of this process, each of which waits for a process of `hub`."""
+
+    def __init__(self, sweep: Sweep, pending: list[Scenario], jobs: int) -> None:
+        """Begins."""
+        self.stopped = Event()
+        self.pool = ThreadPoolExecutor(jobs)
+        self.tasks = [self.pool.submit(sweep.do, scenario, self.stopped) for scenario in pending]
+
+    def is_over(self) -> bool:
+        """Whether all have ended."""
+        return all(task.done() for task in self.tasks)
+
+    def stop(self) -> None:
+        """Ends what runs."""
+        self.stopped.set()
+        self.pool.shutdown(cancel_futures=True)
+
+    def fault(self) -> str:
+        """What went wrong."""
+        ended = [task for task in self.tasks if task.done() and not task.cancelled()]
+        return next((str(task.exception()) for task in ended if task.exception()), "")
+
+
+class Parallel:
+    """Scenarios side by side by GNU parallel, which runs this script with `--row` for each."""
+
+    def __init__(self, sweep: Sweep, pending: list[Scenario], args: argparse.Namespace, words: list[str]) -> None:
+        """Begins."""
+        script = str(Path(__file__).resolve().parents[1] / "sweep")
+        python, machines = [sys.executable], []
+        if args.sshlogin:
+            python, machines = [], ["--sshlogin", args.sshlogin, "--workdir", str(Path.cwd())]
+        row = shlex.join(["env", f"HUB={program()}", *python, script, *words, "--row", NUMBER])
+        numbers = [str(scenario.number) for scenario in pending]
+        self.log = sweep.folder / "parallel.log"
+        with self.log.open("wb") as log:
+            self.process = subprocess.Popen(
+                ["parallel", "--jobs", str(args.jobs), *machines, "-I", NUMBER, row, ":::", *numbers],
+                stdin=subprocess.DEVNULL,
+                stdout=log,
+                stderr=log,
+                start_new_session=True,
+            )
+
+    def is_over(self) -> bool:
+        """Whether all have ended."""
+        return self.process.poll() is not None
+
+    def stop(self) -> None:
+        """Ends what runs: of two signals the first lets it start no more, the second ends what it has started."""
+        while not self.is_over():
+            self.process.terminate()
+            time.sleep(PAUSE)
+
+    def fault(self) -> str:
+        """What went wrong."""
+        lines = self.log.read_text(errors="replace").split("\n")
+        return next((line for line in reversed(lines) if line.startswith("sweep: ")), f"see {self.log}").removeprefix(
+            "sweep: "
+        )
+
+
+def do_all(sweep: Sweep, args: argparse.Namespace, words: list[str]) -> None:
+    """Does all scenarios that are not done, and shows how far it is."""
+    left = [scenario for scenario in sweep.scenarios if not sweep.result(scenario)]
+    bar = Bar(len(sweep.scenarios))
+    bar.show(bar.total - len(left))
+    if not left:
+        return
+    with_parallel = args.sshlogin or (not args.plain and shutil.which("parallel"))
+    engine = Parallel(sweep, left, args, words) if with_parallel else Threads(sweep, left, args.jobs)
+    try:
+        while left:
+            over = engine.is_over()
+            left = [scenario for scenario in left if not sweep.result(scenario)]
+            bar.show(bar.total - len(left))
+            if over:
+                break
+            time.sleep(PAUSE)
+    finally:
+        engine.stop()
+    if left:
+        raise Fault(engine.fault() or f"{len(left)} scenarios were not done")
+
+
+def tell(sweep: Sweep, results: list[Result]) -> int:
+    """Says which scenarios have no accepted certificate; the status is 0 where all have one."""
+    missing = [(scenario, result) for scenario, result in zip(sweep.scenarios, results) if result.outcome != "accepted"]
+    for scenario, result in missing:
+        reason = f"hub check did not accept: {result.verdict}" if result.outcome == "not accepted" else result.outcome
+        print(f"sweep: row {scenario.number}: {reason}", file=sys.stderr)
+    return 1 if missing else 0
+
+
+def stop_as_by_hand(*_: object) -> None:
+    """Ends the script as Ctrl-C does, so that what it started is ended too."""
+    raise KeyboardInterrupt
+
+
+def main(words: list[str]) -> int:
+    """Does a sweep, or one row of it."""
+    args = parser().parse_args(words)
+    if args.jobs < 1 or (args.time_limit is not None and args.time_limit <= 0):
+        raise Fault("--jobs and --time-limit want numbers above 0")
+    scenarios = read_scenarios(args.table, options_of(args))
+    if args.row is not None and not 1 <= args.row <= len(scenarios):
+        raise Fault(f"--row wants 1 to {len(scenarios)}, found {args.row}")
+    program()
+    signal.signal(signal.SIGTERM, stop_as_by_hand)
+    sweep = Sweep(scenarios, args.out, args.time_limit, args.keep)
+    (args.out / "rows").mkdir(parents=True, exist_ok=True)
+    if args.row is not None:
+        sweep.do(scenarios[args.row - 1], Event())
+        return 0
+    do_all(sweep, args, words)
+    return tell(sweep, sweep.write_results())
+
+
+EPILOG = f"""The table may have the columns {", ".join(COLUMNS)}, each as the option of hub of that name (an empty cell
+leaves it out), and name. What was stopped goes on with the same words: scenarios that are done are not done again.
+FOLDER/results.csv has what was asked and found; costs only where hub check accepted the certificate."""

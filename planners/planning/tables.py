@@ -1,0 +1,145 @@
+"""The tables of a network, and the script `network`: certificate and instance into CSV or JSON."""
+
+import json
+from dataclasses import dataclass
+from pathlib import Path
+
+from .certificate import read_plan
+from .csv_tables import read_nodes, table_text
+from .faults import Fault, Parser
+from .instance import read_instance
+from .loads import FIXED_UNITS, Links, Network, network_of
+from .options import Options, add_options, options_of
+from .program import Verdict, check
+from .quantities import COST_PLACES, FLOW_PLACES, decimal
+from .sources import numbered
+
+
+@dataclass(frozen=True)
+class Named:
+    """An accepted network and the names of its nodes."""
+
+    network: Network
+    verdict: Verdict
+    names: list[str]
+
+
+def read_named(options: Options, certificate: Path, names: Path | None) -> Named:
+    """The network of a certificate that `hub check` accepts."""
+    verdict = check(options, certificate)
+    network = network_of(read_instance(options), read_plan(certificate))
+    size = network.instance.size()
+    if verdict.cost != network.plan.cost:
+        raise Fault(f"{certificate}: the file was changed while it was read")
+    found = read_nodes(names).names if names else numbered(size)
+    if len(found) != size:
+        raise Fault(f"{names}: wanted {size} nodes, found {len(found)}")
+    return Named(network, verdict, found)
+
+
+Table = list[list[str]]
+"""Rows of cells, the header first."""
+
+
+def cost_text(cost: int) -> str:
+    """A cost as `hub report` prints it."""
+    return decimal(cost, COST_PLACES)
+
+
+def flow_text(flow: int) -> str:
+    """A flow as `hub report` prints it."""
+    return decimal(flow, FLOW_PLACES)
+
+
+def summary(named: Named) -> Table:
+    """The cost and its parts."""
+    status = "optimal" if named.verdict.is_optimal() else "bounds"
+    parts = [[part, cost_text(cost)] for part, cost in named.network.costs().items()]
+    ends = [["total", cost_text(named.verdict.cost)], ["bound", cost_text(named.verdict.bound)]]
+    return [["item", "value"], ["status", status], *parts, *ends]
+
+
+def hubs(named: Named) -> Table:
+    """Each hub with the flow that it takes in first and gives out last."""
+    network = named.network
+    rows = [
+        [
+            str(hub + 1),
+            named.names[hub],
+            cost_text(network.instance.fixed[hub] * FIXED_UNITS),
+            flow_text(network.collected[hub]),
+            flow_text(network.delivered[hub]),
+        ]
+        for hub in network.plan.hubs
+    ]
+    return [["node", "name", "fixed_cost", "collected_flow", "delivered_flow"], *rows]
+
+
+def routes(named: Named) -> Table:
+    """Each pair of nodes with the hubs by which its flow goes."""
+    network, names = named.network, named.names
+    header = ["origin", "origin_name", "destination", "destination_name", "first_hub", "first_hub_name"]
+    table = [[*header, "last_hub", "last_hub_name", "flow", "cost"]]
+    for i, row in enumerate(network.plan.routes):
+        for j, (first, last) in enumerate(row):
+            nodes = [text for node in (i, j, first, last) for text in (str(node + 1), names[node])]
+            table.append([*nodes, flow_text(network.instance.flows[i][j]), cost_text(network.route_costs[i][j])])
+    return table
+
+
+def links(named: Named, loads: Links) -> Table:
+    """Each link that carries flow, by the nodes that it joins."""
+    names = named.names
+    rows = [
+        [str(start + 1), names[start], str(stop + 1), names[stop], flow_text(load.flow), cost_text(load.cost)]
+        for (start, stop), load in sorted(loads.items())
+    ]
+    return [["from", "from_name", "to", "to_name", "flow", "cost"], *rows]
+
+
+def all_tables(named: Named) -> dict[str, Table]:
+    """All tables by their names."""
+    network = named.network
+    return {
+        "summary": summary(named),
+        "hubs": hubs(named),
+        "routes": routes(named),
+        "trunks": links(named, network.trunks),
+        "collection": links(named, network.collection),
+        "delivery": links(named, network.delivery),
+    }
+
+
+def as_json(tables: dict[str, Table]) -> str:
+    """The tables as lists of objects, the summary as one. Numbers are texts, so that no digit is lost."""
+    objects: dict[str, object] = {
+        name: [dict(zip(table[0], row)) for row in table[1:]] for name, table in tables.items()
+    }
+    objects["summary"] = dict(tables["summary"][1:])
+    return json.dumps(objects, indent=1, ensure_ascii=False) + "\n"
+
+
+def main(words: list[str]) -> int:
+    """Writes the tables of a network."""
+    parser = Parser(prog="network", description=__doc__.split(": ")[1].strip(), epilog=EPILOG)
+    add_options(parser)
+    parser.add_argument("certificate", type=Path, help="what hub solve wrote for this instance with these options")
+    parser.add_argument(
+        "--names", type=Path, metavar="FILE", help="a CSV table of the nodes in order, with the column name"
+    )
+    parser.add_argument("--format", choices=["csv", "json"], default="csv", help="default: csv")
+    parser.add_argument("--out", type=Path, required=True, help="the folder for the CSV files, or the JSON file")
+    args = parser.parse_args(words)
+    tables = all_tables(read_named(options_of(args), args.certificate, args.names))
+    if args.format == "json":
+        args.out.write_text(as_json(tables), encoding="utf-8")
+        return 0
+    args.out.mkdir(parents=True, exist_ok=True)
+    for name, table in tables.items():
+        (args.out / f"{name}.csv").write_text(table_text(table), encoding="utf-8", newline="")
+    return 0
+
+
+EPILOG = """The tables: summary (the cost and its parts), hubs, routes, and the links with their flow and cost: trunks,
+collection, delivery. Sums are exact, as those of hub report. Without a certificate that hub check accepts there are
+none."""

@@ -1,0 +1,1 @@
+"""Tests of the planners' scripts; `run` runs them all."""

@@ -1,0 +1,69 @@
+"""What the tests share: a folder of their own, and runs of the scripts and of `hub`."""
+
+import csv
+import os
+import subprocess
+import sys
+import tempfile
+import unittest
+from pathlib import Path
+
+PLANNERS = Path(__file__).resolve().parents[1]
+INSTANCES = PLANNERS / "instances"
+sys.path.insert(0, str(PLANNERS))
+
+from planning.program import program  # noqa: E402
+
+
+class InFolder(unittest.TestCase):
+    """A test with an empty folder, in which files are written and scripts run."""
+
+    def setUp(self) -> None:
+        """Makes the folder."""
+        held = tempfile.TemporaryDirectory()
+        self.addCleanup(held.cleanup)
+        self.folder = Path(held.name)
+
+    def write(self, name: str, text: str) -> Path:
+        """Writes a file into the folder."""
+        path = self.folder / name
+        path.write_text(text, encoding="utf-8")
+        return path
+
+    def read(self, name: str) -> str:
+        """A file of the folder."""
+        return (self.folder / name).read_text(encoding="utf-8")
+
+    def table(self, name: str) -> list[dict[str, str]]:
+        """The rows of a table in the folder."""
+        with (self.folder / name).open(encoding="utf-8", newline="") as file:
+            return list(csv.DictReader(file))
+
+    def script(self, name: str, *words: str, hub: str = "") -> subprocess.CompletedProcess[str]:
+        """Runs a script in the folder."""
+        return subprocess.run(
+            [sys.executable, str(PLANNERS / name), *words],
+            cwd=self.folder,
+            env=environment(hub),
+            capture_output=True,
+            text=True,
+        )
+
+    def hub(self, *words: str) -> subprocess.CompletedProcess[str]:
+        """Runs `hub` in the folder."""
+        return subprocess.run([program(), *words], cwd=self.folder, capture_output=True, text=True)
+
+    def solve(self, name: str, *words: str) -> None:
+        """Solves an instance into a certificate of this name; the words are layout, file and options."""
+        ended = self.hub("solve", *words)
+        self.assertEqual((ended.returncode, ended.stderr), (0, ""))
+        self.write(name, ended.stdout)
+
+    def assert_fault(self, ended: subprocess.CompletedProcess[str], line: str) -> None:
+        """The script ended with just this line, and told nothing else."""
+        self.assertEqual((ended.returncode, ended.stdout, ended.stderr), (2, "", line + "\n"))
+
+
+def environment(hub: str = "") -> dict[str, str]:
+    """The environment of a script, with another program in place of `hub` where one is named."""
+    return os.environ | {"HUB": hub or program()}

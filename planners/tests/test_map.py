@@ -1,0 +1,76 @@
+"""`map`: what can be read in a picture at three sizes, and that the same network gives the same bytes."""
+
+import random
+
+import numpy as np
+from matplotlib import pyplot
+
+from .helper import INSTANCES, InFolder
+from planning.certificate import Plan
+from planning.drawing import MOST_TRUNKS, picture
+from planning.instance import Instance
+from planning.loads import network_of
+from planning.places import from_distances
+from planning.program import Verdict
+from planning.tables import Named
+
+
+def made(size: int, hubs: int) -> tuple[Named, np.ndarray]:
+    """A network of invented nodes, the first of which are hubs, with routes by the nearest ones; and its places."""
+    chance = random.Random(size)
+    places = [(chance.uniform(0, 900), chance.uniform(0, 900)) for _ in range(size)]
+    lengths = [[round(1000 * abs(complex(a - c, b - d))) for c, d in places] for a, b in places]
+    flows = [[chance.randint(0, 10**7) for _ in range(size)] for _ in range(size)]
+    nearest = [min(range(hubs), key=lambda hub: lengths[node][hub]) for node in range(size)]
+    routes = [[(nearest[i], nearest[j]) for j in range(size)] for i in range(size)]
+    instance = Instance(flows, lengths, (1000, 500, 1000), [0] * size, None)
+    cost = sum(
+        flows[i][j] * (1000 * lengths[i][k] + 500 * lengths[k][m] + 1000 * lengths[m][j])
+        for i in range(size)
+        for j in range(size)
+        for k, m in [routes[i][j]]
+    )
+    network = network_of(instance, Plan(cost, cost, list(range(hubs)), routes))
+    return Named(network, Verdict(cost, cost), [f"Place {node}" for node in range(size)]), np.array(places)
+
+
+class Pictures(InFolder):
+    """Pictures of networks of 10, 25 and 200 nodes, and of as many hubs as nodes."""
+
+    def names(self, size: int, hubs: int) -> list[str]:
+        """The names that are drawn, of which no two lie on each other."""
+        named, places = made(size, hubs)
+        figure = picture(named, places, "", "")
+        self.addCleanup(pyplot.close, figure)
+        texts = [text for text in figure.axes[0].texts if text.get_text()]
+        boxes = [text.get_window_extent() for text in texts]
+        self.assertEqual([box.count_overlaps(boxes) for box in boxes], [1] * len(boxes))
+        legend = [text.get_text() for text in figure.axes[0].get_legend().get_texts()]
+        self.assertEqual(any("strongest" in text for text in legend), hubs * (hubs - 1) // 2 > MOST_TRUNKS)
+        return [text.get_text() for text in texts]
+
+    def test_names_at_three_sizes(self) -> None:
+        self.assertEqual(len(self.names(10, 3)), 10)
+        self.assertEqual(len(self.names(25, 4)), 25)
+        names = self.names(200, 12)
+        self.assertTrue({f"Place {hub}" for hub in range(12)} <= set(names))
+        self.assertGreater(len(names), 50)
+        self.assertGreater(len(self.names(40, 40)), 20)
+
+    def test_places_from_distances(self) -> None:
+        _, places = made(12, 2)
+        lengths = np.hypot(*(places[:, None] - places).transpose(2, 0, 1))
+        drawn = from_distances(lengths)
+        self.assertTrue(np.allclose(np.hypot(*(drawn[:, None] - drawn).transpose(2, 0, 1)), lengths))
+        self.assertEqual(from_distances(np.zeros((1, 1))).tolist(), [[0, 0]])
+
+    def test_a_whole_run(self) -> None:
+        words = ["ap", "districts.txt", "--divide", "1000", "--tail", "fixed", "--candidates", "3,4,5"]
+        self.write("districts.txt", (INSTANCES / "districts.txt").read_text())
+        self.solve("districts.cert", *words)
+        for out in ("map.svg", "again.svg", "map.png"):
+            ended = self.script("map", *words[:2], "districts.cert", *words[2:], "--title", "Ten", "--out", out)
+            self.assertEqual((ended.returncode, ended.stdout, ended.stderr), (0, "", ""))
+        self.assertEqual(self.read("map.svg"), self.read("again.svg"))
+        ended = self.script("map", *words[:2], "districts.cert", *words[2:], "--out", "map.gif")
+        self.assert_fault(ended, "map: --out wants a name that ends in one of .png, .svg, .pdf, found 'map.gif'")

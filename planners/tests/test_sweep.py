@@ -1,0 +1,175 @@
+"""`sweep` and `plot-sweep`: twenty scenarios stopped in the middle and taken up again, limits, and what is refused."""
+
+import shutil
+import signal
+import stat
+import subprocess
+import sys
+import time
+import unittest
+from pathlib import Path
+
+from .helper import INSTANCES, PLANNERS, InFolder, environment
+from planning.program import program
+
+MEASURED = ("seconds", "check_seconds", "peak_mib")
+TABLE = "name,trunk,fixed,candidates\n" + "".join(
+    f"row {trunk} {fixed},{trunk},{fixed},{'1 2 4 5 8' if fixed == 90_000_000 else ''}\n"
+    for trunk in ("0.2", "0.4", "0.6", "0.8", "1")
+    for fixed in (20_000_000, 40_000_000, 60_000_000, 90_000_000)
+)
+
+
+class Sweeps(InFolder):
+    """Sweeps over eight towns."""
+
+    def setUp(self) -> None:
+        """Writes the instance and a table of twenty scenarios."""
+        super().setUp()
+        ended = self.script(
+            "convert",
+            "csv",
+            str(INSTANCES / "towns-nodes.csv"),
+            str(INSTANCES / "towns-flows.csv"),
+            "--first",
+            "8",
+            "--out",
+            "towns",
+        )
+        self.assertEqual(ended.returncode, 0)
+        self.write("table.csv", TABLE)
+
+    def program(self, before: str) -> str:
+        """A program that does something before it is `hub`."""
+        path = self.write("slow-hub", f'#!/bin/sh\n{before}\nexec {program()} "$@"\n')
+        path.chmod(path.stat().st_mode | stat.S_IXUSR)
+        return str(path)
+
+    def words(self, out: str, *more: str) -> list[str]:
+        """The words of a sweep into a folder."""
+        return ["cab-matrix", "towns.txt", "table.csv", "--out", out, *more]
+
+    def unmeasured(self, out: str) -> list[dict[str, str]]:
+        """The results in a folder without what differs from run to run."""
+        return [
+            {key: cell for key, cell in row.items() if key not in MEASURED} for row in self.table(f"{out}/results.csv")
+        ]
+
+    def stop(self, words: list[str], hub: str) -> None:
+        """Begins a sweep, and stops it as Ctrl-C does once four scenarios are done."""
+        rows = self.folder / words[words.index("--out") + 1] / "rows"
+        command = [sys.executable, str(PLANNERS / "sweep"), *words]
+        with subprocess.Popen(
+            command, cwd=self.folder, env=environment(hub), stderr=subprocess.PIPE, text=True
+        ) as process:
+            until = time.monotonic() + 30
+            while len(list(rows.glob("*.json"))) < 4 and time.monotonic() < until:
+                time.sleep(0.02)
+            process.send_signal(signal.SIGINT)
+            error = process.communicate()[1]
+        self.assertEqual((process.returncode, error.splitlines()[-1]), (130, "sweep: stopped"))
+        self.assertLess(len(list(rows.glob("*.json"))), len(self.read("table.csv").splitlines()) - 1)
+        self.assertEqual(list(rows.glob("*.cert")), [])
+
+    def stopped_and_resumed(self, *more: str) -> None:
+        """A sweep that was stopped gives the table of one that was not, and does again nothing that was done."""
+        total = len(self.read("table.csv").splitlines()) - 1
+        hub = self.program('[ "$1" = solve ] && sleep 0.1')
+        self.stop(self.words("broken", *more), hub)
+        done = {path: path.read_text() for path in (self.folder / "broken/rows").glob("*.json")}
+        for out in ("broken", "whole"):
+            ended = self.script("sweep", *self.words(out, *more), "--jobs", "4")
+            self.assertEqual((ended.returncode, ended.stdout), (0, ""))
+            self.assertTrue(ended.stderr.endswith(f"{total}/{total}\n"))
+        self.assertEqual(self.unmeasured("broken"), self.unmeasured("whole"))
+        self.assertEqual({row["outcome"] for row in self.table("whole/results.csv")}, {"accepted"})
+        self.assertEqual(done, {path: path.read_text() for path in done})
+
+    def test_stopped_and_resumed_by_threads(self) -> None:
+        self.stopped_and_resumed("--plain")
+
+    @unittest.skipUnless(shutil.which("parallel"), "GNU parallel is not there")
+    def test_stopped_and_resumed_by_parallel(self) -> None:
+        self.write("table.csv", "\n".join(TABLE.splitlines()[:9]) + "\n")
+        self.stopped_and_resumed("--jobs", "2")
+
+    def test_rows_one_by_one_and_a_plot(self) -> None:
+        self.write("table.csv", "trunk,fixed\n0.5,40000000\n0.25,40000000\n")
+        for row in ("1", "2"):
+            ended = self.script("sweep", *self.words("out"), "--keep", "--row", row)
+            self.assertEqual((ended.returncode, ended.stdout, ended.stderr), (0, "", ""))
+        ended = self.script("sweep", *self.words("out"))
+        self.assertEqual((ended.returncode, ended.stderr), (0, f"[{30 * '#'}] 2/2\n"))
+        for row in self.table("out/results.csv"):
+            words = [
+                "cab-matrix",
+                "towns.txt",
+                f"out/rows/{row['row']}.cert",
+                f"--trunk={row['trunk']}",
+                f"--fixed={row['fixed']}",
+            ]
+            self.assertEqual(self.hub("check", *words).stdout, f"optimal {row['cost']}\n")
+            text = self.read(words[2])
+            self.assertIn(f"\nhubs {row['hubs']}\n", text)
+            self.assertIn(f"\nnodes {row['tree_nodes']}\n", text)
+            self.assertEqual((row["bound"], row["gap"], row["verdict"]), (row["cost"], "0.000000", "optimal"))
+        for out in ("plot.svg", "again.svg"):
+            ended = self.script("plot-sweep", "out/results.csv", "--against", "trunk", "--by", "fixed", "--out", out)
+            self.assertEqual((ended.returncode, ended.stderr), (0, ""))
+        self.assertEqual(self.read("plot.svg"), self.read("again.svg"))
+        ended = self.script("plot-sweep", "out/results.csv", "--against", "fixed", "--out", "plot.png")
+        self.assert_fault(
+            ended, "plot-sweep: out/results.csv: two scenarios have the same fixed; name what differs with --by"
+        )
+
+    def test_what_has_no_accepted_certificate(self) -> None:
+        self.write("table.csv", "name,trunk,candidates\nslow,0.5,\nfalse,0.6,\nfaulty,0.7,9\ngood,0.8,\n")
+        hub = self.program(
+            'case "$*" in *trunk=0.5*) exec sleep 60;; "solve "*trunk=0.6*) echo HUBCERT 1; exit 0;; esac'
+        )
+        ended = self.script(
+            "sweep", *self.words("out", "--time-limit", "3", "--plain", "--jobs", "4"), "--fixed", "5", hub=hub
+        )
+        wanted = [
+            "sweep: row 1: time limit",
+            "sweep: row 2: hub check did not accept: no Ended 2",
+            "sweep: row 3: failed with status 4: hub: instance fault 10 NoCandidate 9",
+        ]
+        self.assertEqual((ended.returncode, ended.stderr.splitlines()[-3:]), (1, wanted))
+        rows = self.table("out/results.csv")
+        self.assertEqual([bool(row["cost"]) for row in rows], [False, False, False, True])
+        self.assertEqual(rows[1]["outcome"], "not accepted")
+        # Only what a longer time can change is done again.
+        ended = self.script("sweep", *self.words("out", "--time-limit", "30", "--plain"), "--fixed", "5")
+        self.assertEqual((ended.returncode, ended.stderr.splitlines()[-2:]), (1, wanted[1:]))
+        ended = self.script("plot-sweep", "out/results.csv", "--against", "trunk", "--out", "plot.png")
+        self.assertEqual((ended.returncode, ended.stderr), (0, ""))
+
+    def test_faults_of_the_table(self) -> None:
+        for text, line in (
+            ("trunk\nx\n", "table.csv:2: wanted in the column 'trunk' a factor, a number from 0 to 1000, found 'x'"),
+            (
+                "workers\n0\n",
+                "table.csv:2: wanted in the column 'workers' a number of workers, a number from 1 to 64, found '0'",
+            ),
+            (
+                "candidates\n3 1\n",
+                "table.csv:2: wanted in the column 'candidates' ascending numbers of nodes with spaces or commas between,"
+                " found '3 1'",
+            ),
+            ("costs\nnowhere\n", "table.csv:2: wanted in the column 'costs' a file, found 'nowhere'"),
+            (
+                "fixed,costs\n1,towns.txt\n",
+                "table.csv:2: wanted in the column 'costs' no file beside a number in the column 'fixed',"
+                " found 'towns.txt'",
+            ),
+            (
+                "trunks\n1\n",
+                "table.csv:1: wanted the columns name, collect, trunk, deliver, fixed, workers, nodes, costs, candidates,"
+                " found 'trunks'",
+            ),
+            ("trunk\n", "table.csv: wanted at least one row"),
+        ):
+            self.write("table.csv", text)
+            self.assert_fault(self.script("sweep", *self.words("out")), "sweep: " + line)
+        self.assertFalse(Path(self.folder / "out").exists())
