@@ -29,6 +29,8 @@ ALL_NAMED = 30
 """So many nodes, or so many hubs, are all named."""
 MOST_TRUNKS = 150
 """So many trunks are drawn, the strongest."""
+STRONG = 0.25
+"""Names keep off trunks with at least this part of the strongest one's flow."""
 MOST_SIDE, LEAST_SIDE, LEGEND, TITLE = 7.5, 4.5, 2.3, 0.7
 """In inches: the longer side of the map, the least of each side, and the room beside and above it."""
 PICTURES = (".png", ".svg", ".pdf")
@@ -136,7 +138,9 @@ class Map:
         nodes = [
             Node(tuple(self.places[node]), self.radius(self.flow[node]), node in self.hubs) for node in range(self.size)
         ]
-        labels = Labels(axes, nodes)
+        most = max(self.trunks.values(), default=0)
+        strong = [self.places[list(pair)] for pair, flow in self.trunks.items() if flow >= STRONG * most]
+        labels = Labels(axes, nodes, strong)
         for node in sorted(range(self.size), key=lambda node: (node not in self.hubs, -self.flow[node], node)):
             is_hub = nodes[node].is_hub
             forced = self.size <= ALL_NAMED or (is_hub and len(self.hubs) <= ALL_NAMED)

@@ -10,6 +10,10 @@ REACH = (1.5, 12, 24)
 """How far from its mark a name may stand, in points; only the first where it may be left out."""
 OUTSIDE = 1000
 """What a name that leaves the picture counts as, in names that it hides."""
+ON_A_TRUNK = 0.5
+"""What a name on a strong trunk counts as: it can be read, but worse."""
+STEPS = np.linspace(0, 1, 200)[:, None]
+"""Where along a trunk it is looked whether a name lies on it."""
 
 
 @dataclass(frozen=True)
@@ -41,8 +45,8 @@ class Node:
 class Labels:
     """The names that are placed so far, over the marks that they must not hide."""
 
-    def __init__(self, axes: Axes, nodes: list[Node]) -> None:
-        """Starts with the marks alone."""
+    def __init__(self, axes: Axes, nodes: list[Node], trunks: list[np.ndarray]) -> None:
+        """Starts with the marks alone, and with the strong trunks, each by its two ends."""
         self.axes = axes
         self.renderer = axes.figure.canvas.get_renderer()
         self.frame = axes.get_window_extent(self.renderer)
@@ -51,6 +55,9 @@ class Labels:
         radii = np.array([[node.radius * self.scale] for node in nodes])
         self.taken = np.hstack([centres - radii, centres + radii])
         """A row x, y, x, y of the corners of each box, in pixels."""
+        ends = [axes.transData.transform(ends) for ends in trunks]
+        self.on_trunks = np.vstack([np.empty((0, 2)), *(first + STEPS * (last - first) for first, last in ends)])
+        """Places on the strong trunks, in pixels."""
 
     def place(self, name: str, node: Node, size: float, forced: bool) -> None:
         """Writes a node's name, if there is room; a forced one in any case, farther away or where it hides least."""
@@ -71,7 +78,7 @@ class Labels:
         boxes = [self.box(node, away, side, extent.width, extent.height) for away, side in choices]
         hidden = [self.hidden_by(box) for box in boxes]
         best = hidden.index(min(hidden))
-        if hidden[best] and not forced:
+        if hidden[best] >= 1 and not forced:
             text.remove()
             return
         away, side = choices[best]
@@ -90,10 +97,11 @@ class Labels:
         left, bottom = x - width * (1 - side.across) / 2, y - height * (1 - side.up) / 2
         return np.array([left, bottom, left + width, bottom + height])
 
-    def hidden_by(self, box: np.ndarray) -> int:
-        """How many marks and names a box would lie on."""
+    def hidden_by(self, box: np.ndarray) -> float:
+        """How many marks and names a box would lie on, and somewhat more if it lies on a strong trunk."""
         apart = (self.taken[:, :2] > box[2:]).any(axis=1) | (self.taken[:, 2:] < box[:2]).any(axis=1)
         inside = (
             self.frame.x0 <= box[0] and box[2] <= self.frame.x1 and self.frame.y0 <= box[1] and box[3] <= self.frame.y1
         )
-        return int((~apart).sum()) + (0 if inside else OUTSIDE)
+        crossed = ((box[:2] <= self.on_trunks) & (self.on_trunks <= box[2:])).all(axis=1).any()
+        return int((~apart).sum()) + (ON_A_TRUNK if crossed else 0) + (0 if inside else OUTSIDE)

@@ -3,11 +3,14 @@
 import os
 import re
 import resource
+import signal
 import subprocess
 import time
 from dataclasses import dataclass
 from pathlib import Path
 from threading import Event
+
+from .faults import Fault
 
 PEAK = re.compile(r"^VmHWM:\s*([0-9]+) kB$", re.MULTILINE)
 SHORTEST_WAIT, LONGEST_WAIT = 0.001, 0.02
@@ -16,6 +19,8 @@ SHORTEST_SEEN = 0.05
 """A process that ends sooner, in seconds, may end before its peak is seen."""
 OWN_ERROR = 4096
 """By how many KiB the system may count this script's own memory wrong."""
+STOPPING = (-signal.SIGHUP, -signal.SIGINT, -signal.SIGTERM)
+"""A process that ends so was stopped, and tells nothing of its scenario: Ctrl-C goes to it as to this script."""
 
 
 @dataclass(frozen=True)
@@ -31,7 +36,7 @@ class Ended:
     """The first line that it wrote to standard error."""
 
 
-class Stopped(Exception):
+class Stopped(Fault):
     """The process was ended because the sweep was stopped."""
 
 
@@ -55,13 +60,15 @@ def run(words: list[str], out: Path, limit: float | None, stop: Event) -> Ended:
             while (usage := reap(process)) is None:
                 seen = max(seen, peak_so_far(process.pid))
                 if stop.is_set():
-                    raise Stopped
+                    raise Stopped("stopped")
                 if limit is not None and time.monotonic() - start > limit:
                     process.kill()
                     process.wait()
                     return Ended(None, time.monotonic() - start, seen, "")
                 time.sleep(pause)
                 pause = min(2 * pause, LONGEST_WAIT)
+            if process.returncode in STOPPING:
+                raise Stopped("a process of hub was stopped")
             seconds = time.monotonic() - start
             error = process.stderr.read().decode(errors="replace") if process.stderr else ""
             most = peak(usage, seen if seconds > SHORTEST_SEEN else 0)

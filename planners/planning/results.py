@@ -2,8 +2,10 @@
 
 import json
 import mmap
+import shutil
 from dataclasses import asdict, dataclass
 from pathlib import Path
+from tempfile import TemporaryDirectory
 from threading import Event
 
 from .certificate import read_hubs
@@ -54,6 +56,8 @@ SHOWN = [
     "verdict",
 ]
 """The columns of a result in the table of results, after those of the scenario."""
+AT_WORK = ".at-work-"
+"""Stands in the names of the folders of scenarios that are being done, after their numbers."""
 
 
 @dataclass(frozen=True)
@@ -81,20 +85,20 @@ class Sweep:
         """Solves and checks a scenario, unless it is done, and keeps the result."""
         if self.result(scenario):
             return
-        certificate = self.file(scenario, "cert")
-        try:
-            result = self.solve(scenario, certificate, stop)
-            part = self.file(scenario, "part")
+        # Files in a folder of their own: what a killed sweep has left running may be at the same scenario.
+        with TemporaryDirectory(prefix=f"{scenario.number}{AT_WORK}", dir=self.folder / "rows") as held:
+            folder = Path(held)
+            result = self.solve(scenario, folder, stop)
+            if self.keep:
+                (folder / "cert").replace(self.file(scenario, "cert"))
+            part = folder / "json"
             part.write_text(json.dumps(asdict(result), indent=1) + "\n", encoding="utf-8")
             part.replace(self.file(scenario, "json"))
-        finally:
-            if not self.keep:
-                certificate.unlink(missing_ok=True)
-            self.file(scenario, "verdict").unlink(missing_ok=True)
 
-    def solve(self, scenario: Scenario, certificate: Path, stop: Event) -> Result:
-        """Runs `hub solve`, and `hub check` on what it wrote."""
+    def solve(self, scenario: Scenario, folder: Path, stop: Event) -> Result:
+        """Runs `hub solve`, and `hub check` on what it wrote into this folder."""
         key = scenario.key()
+        certificate, told = folder / "cert", folder / "verdict"
         solved = run(command("solve", scenario.options, extra=scenario.solve_words), certificate, self.limit, stop)
         used = {
             "limit": self.limit,
@@ -105,7 +109,6 @@ class Sweep:
             return Result(key, "time limit", **used)
         if solved.status not in (0, 1):
             return Result(key, f"failed with status {solved.status}: {solved.error}", **used)
-        told = self.file(scenario, "verdict")
         checked = run(command("check", scenario.options, certificate), told, self.limit, stop)
         used["check_seconds"] = f"{checked.seconds:.3f}"
         if checked.status is None:
@@ -129,7 +132,9 @@ class Sweep:
         )
 
     def write_results(self) -> list[Result]:
-        """Writes the table of results once all scenarios are done."""
+        """Writes the table of results once all scenarios are done, and removes what killed processes have left."""
+        for left in (self.folder / "rows").glob(f"*{AT_WORK}*"):
+            shutil.rmtree(left, ignore_errors=True)
         results = [result for scenario in self.scenarios if (result := self.result(scenario))]
         columns = list(self.scenarios[0].cells)
         rows = [

@@ -23,6 +23,8 @@ LENGTH = 30
 """Of the bar."""
 PAUSE = 0.1
 """Seconds between two looks at what is done."""
+TRIES = 3
+"""On so many machines a scenario is tried, for one that cannot be reached does none."""
 
 
 class Bar:
@@ -101,7 +103,8 @@ class Parallel:
         script = str(Path(__file__).resolve().parents[1] / "sweep")
         python, machines = [sys.executable], []
         if args.sshlogin:
-            python, machines = [], ["--sshlogin", args.sshlogin, "--workdir", str(Path.cwd())]
+            python = []
+            machines = ["--sshlogin", args.sshlogin, "--workdir", str(Path.cwd()), "--retries", str(TRIES)]
         row = shlex.join(["env", f"HUB={program()}", *python, script, *words, "--row", NUMBER])
         numbers = [str(scenario.number) for scenario in pending]
         self.log = sweep.folder / "parallel.log"
@@ -126,10 +129,9 @@ class Parallel:
 
     def fault(self) -> str:
         """What went wrong."""
-        lines = self.log.read_text(errors="replace").split("\n")
-        return next((line for line in reversed(lines) if line.startswith("sweep: ")), f"see {self.log}").removeprefix(
-            "sweep: "
-        )
+        lines = self.log.read_text(errors="replace").strip().split("\n")
+        own = [line.removeprefix("sweep: ") for line in lines if line.startswith("sweep: ")]
+        return (own or lines)[-1]
 
 
 def do_all(sweep: Sweep, args: argparse.Namespace, words: list[str]) -> None:
@@ -152,7 +154,8 @@ def do_all(sweep: Sweep, args: argparse.Namespace, words: list[str]) -> None:
     finally:
         engine.stop()
     if left:
-        raise Fault(engine.fault() or f"{len(left)} scenarios were not done")
+        said = engine.fault()
+        raise Fault(f"{len(left)} of {bar.total} scenarios were not done" + (said and f": {said}"))
 
 
 def tell(sweep: Sweep, results: list[Result]) -> int:

@@ -39,6 +39,20 @@ class Kinds(InFolder):
         self.convert("ap", "ap", "--ignore-tail")
         self.assertEqual(self.read("made.txt"), AP)
 
+    def test_ap_with_its_rows_over_several_lines(self) -> None:
+        # As published files have it: numbers in columns with an exponent, a row over several lines, one factor a line.
+        flows = ["3.0000000e+00", "4.0000000e+00", "5.0000000e+00"]
+        rows = "".join(f"  {flows[i]}   {flows[i - 1]} \r\n  {flows[i - 2]} \r\n" for i in range(3))
+        places = "".join(f"  {place}.0000000e+00   0.0000000e+00\r\n" for place in range(3))
+        tail = "    2\r\n  3.000000\r\n  0.750000\r\n  2.000000\r\n"
+        self.write("ap", "    3\r\n" + places + rows + tail)
+        self.write("costs", "   7.1250\r\n   8.0000\r\n   9.0000\r\n")
+        self.assertEqual(self.convert("ap", "ap", "--costs", "costs"), "hub solve ap made.txt --costs made.costs.txt")
+        words = self.read("made.txt").split()
+        self.assertEqual(words[7:16], [flows[i] for i in (0, 2, 1, 1, 0, 2, 2, 1, 0)])
+        self.assertEqual(words[16:], ["2", "3.000000", "0.750000", "2.000000"])
+        self.assertEqual(self.read("made.costs.txt"), "7.1250 8.0000 9.0000\n")
+
     def test_matrices_in_one_file_and_in_two(self) -> None:
         whole = "2\n" + FLOWS + DISTANCES
         self.write("one", whole)

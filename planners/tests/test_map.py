@@ -1,6 +1,7 @@
 """`map`: what can be read in a picture at three sizes, and that the same network gives the same bytes."""
 
 import random
+from itertools import combinations
 
 import numpy as np
 from matplotlib import pyplot
@@ -47,6 +48,11 @@ class Pictures(InFolder):
         self.assertEqual([box.count_overlaps(boxes) for box in boxes], [1] * len(boxes))
         legend = [text.get_text() for text in figure.axes[0].get_legend().get_texts()]
         self.assertEqual(any("strongest" in text for text in legend), hubs * (hubs - 1) // 2 > MOST_TRUNKS)
+        if size <= 25:
+            # All trunks are strong here, and there is room beside them.
+            for start, stop in combinations(places[:hubs], 2):
+                on_trunk = figure.axes[0].transData.transform(np.linspace(start, stop, 100))
+                self.assertFalse(any(box.contains(x, y) for x, y in on_trunk for box in boxes))
         return [text.get_text() for text in texts]
 
     def test_names_at_three_sizes(self) -> None:

@@ -1,5 +1,6 @@
 """`sweep` and `plot-sweep`: twenty scenarios stopped in the middle and taken up again, limits, and what is refused."""
 
+import os
 import shutil
 import signal
 import stat
@@ -56,20 +57,19 @@ class Sweeps(InFolder):
         ]
 
     def stop(self, words: list[str], hub: str) -> None:
-        """Begins a sweep, and stops it as Ctrl-C does once four scenarios are done."""
+        """Begins a sweep, and stops it as Ctrl-C does once four scenarios are done: with all that it has started."""
         rows = self.folder / words[words.index("--out") + 1] / "rows"
         command = [sys.executable, str(PLANNERS / "sweep"), *words]
         with subprocess.Popen(
-            command, cwd=self.folder, env=environment(hub), stderr=subprocess.PIPE, text=True
+            command, cwd=self.folder, env=environment(hub), stderr=subprocess.PIPE, text=True, start_new_session=True
         ) as process:
             until = time.monotonic() + 30
             while len(list(rows.glob("*.json"))) < 4 and time.monotonic() < until:
                 time.sleep(0.02)
-            process.send_signal(signal.SIGINT)
+            os.killpg(process.pid, signal.SIGINT)
             error = process.communicate()[1]
         self.assertEqual((process.returncode, error.splitlines()[-1]), (130, "sweep: stopped"))
         self.assertLess(len(list(rows.glob("*.json"))), len(self.read("table.csv").splitlines()) - 1)
-        self.assertEqual(list(rows.glob("*.cert")), [])
 
     def stopped_and_resumed(self, *more: str) -> None:
         """A sweep that was stopped gives the table of one that was not, and does again nothing that was done."""
@@ -84,6 +84,7 @@ class Sweeps(InFolder):
         self.assertEqual(self.unmeasured("broken"), self.unmeasured("whole"))
         self.assertEqual({row["outcome"] for row in self.table("whole/results.csv")}, {"accepted"})
         self.assertEqual(done, {path: path.read_text() for path in done})
+        self.assertEqual({path.suffix for path in (self.folder / "broken/rows").iterdir()}, {".json"})
 
     def test_stopped_and_resumed_by_threads(self) -> None:
         self.stopped_and_resumed("--plain")
@@ -121,6 +122,19 @@ class Sweeps(InFolder):
         self.assert_fault(
             ended, "plot-sweep: out/results.csv: two scenarios have the same fixed; name what differs with --by"
         )
+
+    def test_a_process_stopped_from_outside_tells_nothing(self) -> None:
+        self.write("table.csv", "trunk\n0.5\n0.6\n")
+        hub = self.program('case "$*" in "solve "*trunk=0.6*) kill -TERM $$;; esac')
+        for more in (["--plain"], ["--row", "2"]):
+            ended = self.script("sweep", *self.words("out", *more), hub=hub)
+            self.assertEqual(ended.returncode, 2)
+            self.assertTrue(ended.stderr.endswith(": a process of hub was stopped\n"), ended.stderr)
+        # What a killed sweep has left is no result, and is removed at the end.
+        (self.folder / "out/rows/2.at-work-left").mkdir()
+        ended = self.script("sweep", *self.words("out", "--plain"))
+        self.assertEqual((ended.returncode, ended.stderr.splitlines()[-1][-4:]), (0, " 2/2"))
+        self.assertEqual(sorted(path.name for path in (self.folder / "out/rows").iterdir()), ["1.json", "2.json"])
 
     def test_what_has_no_accepted_certificate(self) -> None:
         self.write("table.csv", "name,trunk,candidates\nslow,0.5,\nfalse,0.6,\nfaulty,0.7,9\ngood,0.8,\n")

@@ -9,8 +9,6 @@
 mod assignments;
 mod pairs;
 mod set_costs;
-#[cfg(test)]
-mod tests;
 
 pub use assignments::{Assignment, assign};
 pub use set_costs::set_cost;

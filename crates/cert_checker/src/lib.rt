@@ -26,8 +26,6 @@ mod walks;
 // All of it.
 mod checks;
 mod lines;
-#[cfg(test)]
-mod tests;
 mod texts;
 
 pub use checks::check;

@@ -32,6 +32,3 @@ pub use certificate::Certificate;
 pub use lines::{put_cut, put_dual};
 pub use reader::{CertFault, read_cert};
 pub use writer::{put_top, put_tree, write_cert};
-
-#[cfg(test)]
-mod tests;

@@ -23,6 +23,3 @@ pub use hands::{Hand, Size, Told};
 pub use laws::draws_are_sound;
 pub use seats::Seat;
 pub use steps::Drawn;
-
-#[cfg(test)]
-mod tests;

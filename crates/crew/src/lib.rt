@@ -19,6 +19,3 @@ pub use crops::{Crop, Row};
 pub use jobs::Job;
 pub use staffing::answers;
 pub use working::work;
-
-#[cfg(test)]
-mod tests;

@@ -8,8 +8,6 @@
 mod cut_sums;
 mod places;
 mod pool;
-#[cfg(test)]
-mod tests;
 
 pub use cut_sums::CutSums;
 pub use pool::{Pool, Refused};

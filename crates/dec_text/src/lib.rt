@@ -19,8 +19,6 @@ mod tokens;
 // Writing.
 mod numbers;
 mod pieces;
-#[cfg(test)]
-mod tests;
 
 pub use counts::read_count;
 pub use decimals::{BadNumber, read_decimal};

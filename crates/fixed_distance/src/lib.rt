@@ -5,7 +5,5 @@
 #![tactic(auto)]
 
 mod planes;
-#[cfg(test)]
-mod tests;
 
 pub use planes::{distance, root};

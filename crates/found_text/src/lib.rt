@@ -8,8 +8,6 @@
 
 mod certificates;
 mod laws;
-#[cfg(test)]
-mod tests;
 mod written;
 
 pub use certificates::certificate_of;

@@ -1,5 +1,5 @@
 -- The greatest common divisor, of two numbers and of a row.
-use Rattle.std.proofs.Common.{◌≡◌, ℕ, zero, suc, ◌*◌, ◌/◌, ◌%◌, ◌<◌, ◌≤◌, length, get_or, All, List, [], ◌∷◌, ◌++◌, map, ℤ, pos, ◌*ℤ◌, unsigned_abs, refl, sym, ap, ap₂, subst, ◌∙◌, arith}
+use Rattle.std.proofs.Common.{Option, Some, None, IfSome, IsTrue, is_some, ◌≡◌, ℕ, zero, suc, ◌*◌, ◌/◌, ◌%◌, ◌<◌, ◌≤◌, length, get_or, All, List, [], ◌∷◌, ◌++◌, map, ℤ, pos, ◌*ℤ◌, unsigned_abs, refl, sym, ap, ap₂, subst, ◌∙◌, arith}
 use Rattle.std.specs.Int.{IsGcd, ◌∣◌}
 use Rattle.std.proofs.Math.Nat.{mul-dvd-mul_left, dvd_of_mul-dvd-mul_left, dvd-mul_right, eq-one_of_dvd-one, mod-lt, mul-div_cancel'}
 use Rattle.std.proofs.lemmas.Nat.Gcd.{dvd_refl, dvd-zero, dvd_trans, dvd_antisymm, IsGcd-from_zero, IsGcd-from_mod, same_from_IsGcd}
@@ -34,6 +34,14 @@ gcd-mod a b = sym (gcd_is a b (gcd b (a % b)) (IsGcd-from_mod a b (gcd b (a % b)
 -- a number that the second one divides adds nothing
 pub gcd_of_multiple : (a b : ℕ) → b ∣ a → gcd a b ≡ b
 gcd_of_multiple a b h = gcd_is a b b (h, dvd_refl b, λ d _ q. q)
+
+-- where a number that gives the first one was found, the second one divides it
+pub gcd_found : (r : Option ℤ) (d n : ℕ) (z : ℤ) → d ≡ n → IfSome r (λ q. pos d *ℤ q ≡ z) → IsTrue (is_some r) → gcd (unsigned_abs z) n ≡ n
+gcd_found None d n z e h some = absurd cc
+gcd_found (Some q) d n z e h some =
+    let product : d * unsigned_abs q ≡ unsigned_abs z = sym (unsigned_abs-mul (pos d) q) ∙ ap unsigned_abs h in
+    let divides : d ∣ unsigned_abs z = subst (λ (x : ℕ). d ∣ x) product (dvd-mul_right d (unsigned_abs q)) in
+    gcd_of_multiple (unsigned_abs z) n (subst (λ (x : ℕ). x ∣ unsigned_abs z) e divides)
 
 -- a common factor comes out
 pub gcd-times : (m a b : ℕ) → 1 ≤ m → gcd (m * a) (m * b) ≡ m * gcd a b

@@ -6,6 +6,7 @@ pub mod Refined
 pub mod Divided
 pub mod SumsOfProducts
 pub mod WholeRows
+pub mod RoughRows
 pub mod Pieces
 pub mod Ratios
 pub mod Pivots

@@ -1,5 +1,5 @@
 -- Numbers and rows divided by a divisor of theirs.
-use Rattle.std.proofs.Common.{◌≡◌, ℕ, zero, suc, ◌*◌, ◌/◌, ◌≤◌, max, All, List, [], ◌∷◌, map, length, ℤ, pos, negsuc, ◌*ℤ◌, neg_ℤ, unsigned_abs, int_div, refl, sym, ap, ap₂, ◌∙◌, arith}
+use Rattle.std.proofs.Common.{Option, Some, None, IfSome, ◌≡◌, ℕ, zero, suc, ◌*◌, ◌/◌, ◌≤◌, max, All, List, [], ◌∷◌, map, length, ℤ, pos, negsuc, ◌*ℤ◌, neg_ℤ, unsigned_abs, int_div, refl, sym, ap, ap₂, ◌∙◌, arith}
 use Rattle.std.specs.Int.{◌∣◌}
 use Rattle.std.proofs.Math.Nat.{mul-div_right, mul-div-mul_left, mul-div_cancel', div-le_self, div-zero, zero-div, eq-zero_of_zero-dvd}
 use Rattle.std.proofs.lemmas.Int.{ints}
@@ -50,6 +50,11 @@ pub none_by_zero : (z : ℤ) → quotient z 0 ≡ pos 0
 unfolding quotient
 none_by_zero (pos a) = ap pos (div-zero a)
 none_by_zero (negsuc a) = ap (λ (n : ℕ). neg_ℤ (pos n)) (div-zero (suc a))
+
+-- a number that gives another times a divisor is the quotient
+pub quotient_found : (r : Option ℤ) (d n : ℕ) (z : ℤ) → 1 ≤ d → d ≡ n → IfSome r (λ q. pos d *ℤ q ≡ z) → IfSome r (λ q. q ≡ quotient z n)
+quotient_found None d n z low e h = tt
+quotient_found (Some q) d n z low e h = sym (quotient_of_product d q low) ∙ ap₂ quotient h e
 
 -- ---- rows
 

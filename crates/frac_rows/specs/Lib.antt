@@ -4,4 +4,5 @@ pub mod Runs
 pub mod Starts
 pub mod Stored
 pub mod Steps
+pub mod Sketches
 pub mod Theorems

@@ -4,10 +4,13 @@ ghost use Rattle.std.specs.Prelude.{◌≡◌, ℕ, ◌+◌, ◌-◌, ◌*◌, �
 ghost use Rattle.std.specs.List.{position};
 ghost use Rattle.frac_rows.specs.Rows.{number, first_negative, is_wide_row, AreNarrow};
 ghost use Rattle.frac_rows.specs.Stored.{dot, extended, piece, pieces, AreColumns, Matrix, IsMatrix};
+ghost use Rattle.frac_rows.specs.Sketches.{AreSketched};
 
 use crate::limits::WIDEST;
 use crate::parts::part;
+use crate::pricing::first_negative_of;
 use crate::products::{dot_64, dot_128, reach};
+use crate::sketches::Sketch;
 use std::marker::Model;
 
 /// The columns of the variables, one after the other, and for each row the greatest size of their numbers there.
@@ -15,29 +18,39 @@ use std::marker::Model;
 pub(crate) struct Columns {
     numbers: Vec<i64>,
     tops: Vec<u64>,
+    sketch: Sketch,
     variables: usize,
     height: usize,
 }
 
 impl Model for Columns {
-    ghost use Rattle.frac_rows.specs.Stored.{Matrix, AreColumns, pieces};
+    ghost use Rattle.frac_rows.specs.Stored.{Matrix, pieces};
+    ghost use Rattle.frac_rows.specs.Sketches.{AreSketched};
 
     ghost Value = { Matrix };
 
     ghost view = { λ s. record { height = s.height; columns = pieces s.height s.variables s.numbers.items } };
 
-    ghost invariant = { λ s. AreColumns s.height s.variables s.numbers.items s.tops.items };
+    ghost invariant = { λ s.
+        AreSketched s.height s.variables s.numbers.items s.tops.items s.sketch.rows.items s.sketch.margin };
 }
 
 impl Columns {
     /// These columns, which are taken as they are.
-    pub(crate) fn new(numbers: Vec<i64>, tops: Vec<u64>, variables: usize, height: usize) -> Columns
-        requires { AreColumns height variables numbers.items tops.items }
+    pub(crate) fn new(
+        numbers: Vec<i64>,
+        tops: Vec<u64>,
+        sketch: Sketch,
+        variables: usize,
+        height: usize,
+    ) -> Columns
+        requires { AreSketched height variables numbers.items tops.items sketch.rows.items sketch.margin }
         ensures { result ≡ record { height = height; columns = pieces height variables numbers.items } }
     {
         Columns {
             numbers,
             tops,
+            sketch,
             variables,
             height,
         }
@@ -73,7 +86,7 @@ impl Columns {
         requires narrow { AreNarrow (extended self.now.columns row.now) }
         ensures { result ≡ first_negative (extended self.now.columns row.now) }
     {
-        first_negative_of(&self.numbers, self.variables, row)
+        first_negative_of(&self.numbers, &self.tops, &self.sketch, self.variables, row)
     }
 
     /// Whether a number of the whole row before those that are kept is too great.
@@ -86,8 +99,8 @@ impl Columns {
     }
 }
 
-// The number in the column: a sum of products for a variable, and else one of the row's own.
-fn entry_of(numbers: &[i64], variables: usize, row: &[i64], column: usize) -> i64
+/// The number in the column: a sum of products for a variable, and else one of the row's own.
+pub(crate) fn entry_of(numbers: &[i64], variables: usize, row: &[i64], column: usize) -> i64
     requires some { 1 ≤ length row.now }
     requires long { length numbers.now ≡ variables * (length row.now - 1) }
     requires narrow { AreNarrow (extended (pieces (length row.now - 1) variables numbers.now) row.now) }
@@ -99,21 +112,6 @@ fn entry_of(numbers: &[i64], variables: usize, row: &[i64], column: usize) -> i6
         return dot_64(row, part(numbers, height, column));
     }
     row[column - variables]
-}
-
-fn first_negative_of(numbers: &[i64], variables: usize, row: &[i64]) -> Option<usize>
-    requires some { 2 ≤ length row.now }
-    requires long { length numbers.now ≡ variables * (length row.now - 1) }
-    requires few { variables + length row.now ≤ 2 ^ 33 }
-    requires narrow { AreNarrow (extended (pieces (length row.now - 1) variables numbers.now) row.now) }
-    ensures { result ≡ first_negative (extended (pieces (length row.now - 1) variables numbers.now) row.now) }
-{
-    for j in 0..variables + row.len() - 2 {
-        if entry_of(numbers, variables, row, j) < 0 {
-            return Some(j);
-        }
-    }
-    None
 }
 
 // Where even the greatest sizes stay within the limit together, no column is looked at.

@@ -8,6 +8,7 @@ ghost use Rattle.frac_rows.specs.Stored.{pieces};
 
 use crate::columns::Columns;
 use crate::limits::MOST_PIVOTS;
+use crate::sketches::sketch_of;
 use crate::starts::{first_rows, slacks, tops_of};
 use crate::{Ended, Wide, entries, moves};
 use std::alloc::{AllocError, Global};
@@ -51,11 +52,12 @@ impl Rows {
     {
         let height = rights.len() + 1;
         let tops = tops_of(alloc, &columns, variables, height)?;
+        let sketch = sketch_of(alloc, &columns, &tops, variables)?;
         let numbers = first_rows(alloc, rights)?;
         let spare = numbers.to_vec(alloc)?;
         let basis = slacks(alloc, variables, rights.len())?;
         Ok(Rows {
-            columns: Columns::new(columns, tops, variables, height),
+            columns: Columns::new(columns, tops, sketch, variables, height),
             numbers,
             spare,
             basis,

@@ -53,7 +53,7 @@ pub(crate) fn reach(row: &[i64], tops: &[u64]) -> u128
     sum
 }
 
-fn size_product(x: i64, top: u64) -> u128
+pub(crate) fn size_product(x: i64, top: u64) -> u128
     ensures { result ≡ unsigned_abs x * top }
 {
     u128::from(x.unsigned_abs()) * u128::from(top)

@@ -1,7 +1,7 @@
 //! What a pivot makes of one row, divided by a number that is known beforehand or by the greatest common divisor.
 
 ghost use Rattle.std.specs.Prelude.{◌≡◌, ◌≤◌, ◌^◌, ◌*ℤ◌, ◌-ℤ◌, length, pos, not, unsigned_abs, IsTrue, IfSome};
-ghost use Rattle.frac_rows.specs.Divisors.{divisor_of, quotient, reduced};
+ghost use Rattle.frac_rows.specs.Divisors.{gcd, divisor_of, quotient, reduced};
 ghost use Rattle.frac_rows.specs.Rows.{widest, eliminated, is_wide_row, AreNarrow};
 ghost use Rattle.frac_rows.specs.Steps.{IsDivided};
 
@@ -56,9 +56,9 @@ pub(crate) fn reduce(turn: Multipliers, row: &[i64], base: &[i64], out: &mut [i6
     ensures row { IsTrue result → out.new ≡ reduced (eliminated turn.own row.now turn.base base.now) }
     ensures within { result ≡ not (is_wide_row (reduced (eliminated turn.own row.now turn.base base.now))) }
 {
-    let divisor = common_divisor(turn, row, base);
+    let common = common_divisor(turn, row, base);
     for k in 0..row.len() {
-        let number = quotient(turn.cross(row[k], base[k]), divisor);
+        let number = quotient_by(common, turn.cross(row[k], base[k]));
         if number.unsigned_abs() > u128::from(WIDEST) {
             return false;
         }
@@ -67,22 +67,99 @@ pub(crate) fn reduce(turn: Multipliers, row: &[i64], base: &[i64], out: &mut [i6
     true
 }
 
+// A common divisor, and the same as one to divide by, where it is known as such.
+#[derive(Clone, Copy)]
+struct Common {
+    number: u128,
+    by: Option<Divisor>,
+}
+
 // The greatest common divisor of what the row becomes.
-fn common_divisor(turn: Multipliers, row: &[i64], base: &[i64]) -> u128
+fn common_divisor(turn: Multipliers, row: &[i64], base: &[i64]) -> Common
     requires as_long { length base.now ≡ length row.now }
     requires narrow { AreNarrow row.now }
     requires narrow_base { AreNarrow base.now }
-    ensures value { result ≡ divisor_of (eliminated turn.own row.now turn.base base.now) }
-    ensures size { result ≤ 2 ^ 125 }
+    ensures value { result.number ≡ divisor_of (eliminated turn.own row.now turn.base base.now) }
+    ensures size { result.number ≤ 2 ^ 125 }
+    ensures by { IfSome result.by (λ by. by.number ≡ result.number) }
 {
-    let mut divisor = 0;
+    let mut common = Common {
+        number: 0,
+        by: None,
+    };
     for k in (0..row.len()).rev() {
-        if divisor == 1 {
-            return 1;
+        if common.number == 1 {
+            return common;
         }
-        divisor = gcd_128(turn.cross(row[k], base[k]).unsigned_abs(), divisor);
+        common = joined(common, turn.cross(row[k], base[k]));
     }
-    divisor
+    common
+}
+
+// The greatest common divisor of this one and a number, which mostly is a multiple of it.
+fn joined(common: Common, z: i128) -> Common
+    requires { IfSome common.by (λ by. by.number ≡ common.number) }
+    ensures value { result.number ≡ gcd (unsigned_abs z) common.number }
+    ensures by { IfSome result.by (λ by. by.number ≡ result.number) }
+{
+    if is_multiple(common, z) {
+        return common;
+    }
+    common_of(gcd_128(z.unsigned_abs(), common.number))
+}
+
+// Tells that the number is a multiple of the common divisor; where it is not told, it may be one.
+fn is_multiple(common: Common, z: i128) -> bool
+    requires { IfSome common.by (λ by. by.number ≡ common.number) }
+    ensures { IsTrue result → gcd (unsigned_abs z) common.number ≡ common.number }
+{
+    match common.by {
+        Some(by) => by.exact(z).is_some(),
+        None => false,
+    }
+}
+
+fn common_of(number: u128) -> Common
+    ensures value { result.number ≡ number }
+    ensures by { IfSome result.by (λ by. by.number ≡ result.number) }
+{
+    Common {
+        number,
+        by: divisor_by(number),
+    }
+}
+
+// The number as one to divide by, unless it is 0 or too great.
+fn divisor_by(number: u128) -> Option<Divisor>
+    ensures { IfSome result (λ by. by.number ≡ number) }
+{
+    if number > u128::from(WIDEST) {
+        return None;
+    }
+    Divisor::new(number as u64)
+}
+
+// The number divided by the common divisor of it and others.
+fn quotient_by(common: Common, z: i128) -> i128
+    requires by { IfSome common.by (λ by. by.number ≡ common.number) }
+    requires z_limit { unsigned_abs z ≤ 2 ^ 125 }
+    requires divisor_limit { common.number ≤ 2 ^ 125 }
+    ensures value { result ≡ quotient z common.number }
+    ensures size { unsigned_abs result ≤ unsigned_abs z }
+{
+    match exact(common, z) {
+        Some(quotient) => i128::from(quotient),
+        None => quotient(z, common.number),
+    }
+}
+
+// The quotient, where the inverse of the divisor gives it.
+fn exact(common: Common, z: i128) -> Option<i64>
+    requires { IfSome common.by (λ by. by.number ≡ common.number) }
+    ensures { IfSome result (λ q. q ≡ quotient z common.number) }
+{
+    let by = common.by?;
+    by.exact(z)
 }
 
 /// The number divided by a divisor of it, which may be 0.

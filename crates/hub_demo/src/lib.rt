@@ -8,8 +8,6 @@
 
 mod lines;
 mod making;
-#[cfg(test)]
-mod tests;
 
 pub use lines::put_demo;
 pub use making::made_instance;

@@ -11,7 +11,5 @@
 mod entries;
 mod picking;
 mod rows;
-#[cfg(test)]
-mod tests;
 
 pub use rows::{EdgeRow, row_is_one};

@@ -27,8 +27,6 @@ mod gate;
 // In memory.
 mod mem_shelf;
 mod mem_sink;
-#[cfg(test)]
-mod tests;
 
 pub use buffer::Buffer;
 pub use gate::{Gate, OpenGate};

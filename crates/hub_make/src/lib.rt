@@ -13,8 +13,6 @@ ghost use Rattle.hub_make.specs.Theorems.{MadeIsRead};
 mod lines;
 mod numbers;
 mod rows;
-#[cfg(test)]
-mod tests;
 
 use lines::{push_coordinates, push_flows, push_line};
 use rows::fixed_costs;

@@ -18,8 +18,6 @@ mod outcomes;
 mod reporting;
 mod solving;
 mod status;
-#[cfg(test)]
-mod tests;
 mod texts;
 mod top;
 mod verdict_lines;

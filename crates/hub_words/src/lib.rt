@@ -19,8 +19,6 @@ mod parsing;
 mod searches;
 mod settings;
 mod sources;
-#[cfg(test)]
-mod tests;
 mod values;
 
 pub use asking::asked;

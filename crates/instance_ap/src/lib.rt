@@ -15,7 +15,5 @@ mod reading;
 // Where the nodes lie, and how far apart.
 mod distances;
 mod points;
-#[cfg(test)]
-mod tests;
 
 pub use layout::read_ap;

@@ -23,8 +23,6 @@ mod rows;
 
 // What a file gives.
 mod contents;
-#[cfg(test)]
-mod tests;
 
 pub use costs::read_costs;
 pub use matrix_layout::read_matrix;

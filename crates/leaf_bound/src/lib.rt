@@ -12,8 +12,6 @@
 mod bounds;
 mod gains;
 mod laws;
-#[cfg(test)]
-mod tests;
 mod weighing;
 
 pub use bounds::{bound, closes, threshold};

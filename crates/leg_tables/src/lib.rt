@@ -11,8 +11,6 @@ mod filling;
 mod first_legs;
 mod laws;
 mod set_legs;
-#[cfg(test)]
-mod tests;
 
 pub use first_legs::FirstLegs;
 pub use laws::{

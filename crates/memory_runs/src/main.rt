@@ -1,7 +1,8 @@
 //! Whole runs over memory, for the cases: the program `hub` with the files of this folder on a shelf in memory.
 //!
 //! It ends as `hub` does with the same words, once it has seen that short reads change nothing, that each call of the shelf
-//! which fails is told with out left empty, and that a put which fails ends the run. Else it ends with 99.
+//! which fails is the last one and is told with out left empty, and that each put which fails ends the run, with a front of
+//! the text taken, however many bytes it still took. Else it ends with 99.
 #![tactic(auto)]
 
 mod folder;
@@ -42,8 +43,14 @@ impl From<AllocError> for Wrong {
 // More calls of the shelf than any case makes.
 const CALLS: u64 = 40;
 
-// The bytes that a failing put takes.
-const TAKEN: usize = 3;
+// More puts on a stream than any case makes.
+const PUTS: u64 = 40;
+
+// Where a text has at most so many bytes, a failing put takes each number of bytes in turn.
+const SHORT: usize = 700;
+
+// Else it takes these.
+const SOME_TAKEN: [usize; 4] = [0, 1, 3, 8191];
 
 fn main(rt: HostRuntime) -> ExitCode {
     let mut out = rt.stdout();
@@ -118,17 +125,25 @@ fn see_failing_reads<R: Threads + Sync>(
 ) -> Result<(), Wrong> {
     for call in 1..CALLS {
         let mut faults = Faults::none(alloc);
-        faults.reads = [call].to_vec(alloc)?;
+        // A call behind the failing one would fail too, and be counted.
+        faults.reads = [call, call + 1].to_vec(alloc)?;
         let ran = run_over(rt, alloc, words, folder, faults)?;
         if ran == *wanted {
             return Ok(());
         }
-        let told = ran.err.as_slice() == b"hub: read failed\n".as_slice();
-        if ran.status != Status::Read || !ran.out.is_empty() || !told {
+        if !tells_read(&ran) {
             return Err(Wrong::Untold(call));
         }
     }
     Err(Wrong::Untold(CALLS))
+}
+
+// Whether one call of the shelf failed, and that is all that is told.
+fn tells_read(ran: &Ran) -> bool {
+    ran.status == Status::Read
+        && ran.failed_reads == 1
+        && ran.out.is_empty()
+        && ran.err.as_slice() == b"hub: read failed\n".as_slice()
 }
 
 fn see_failing_puts<R: Threads + Sync>(
@@ -138,19 +153,94 @@ fn see_failing_puts<R: Threads + Sync>(
     folder: &Folder,
     wanted: &Ran,
 ) -> Result<(), Wrong> {
-    let failing = Partial {
-        call: 1,
-        taken: TAKEN,
-    };
-    let mut faults = Faults::none(alloc);
-    faults.puts_on_out = [failing].to_vec(alloc)?;
-    faults.puts_on_err = [failing].to_vec(alloc)?;
-    let ran = run_over(rt, alloc, words, folder, faults)?;
-    let out = wanted.out.get(..TAKEN).unwrap_or(&[]);
-    let err = wanted.err.get(..TAKEN).unwrap_or(&[]);
-    if ran.status == Status::Write && ran.out.as_slice() == out && ran.err.as_slice() == err {
-        Ok(())
-    } else {
-        Err(Wrong::Put)
+    see_puts(rt, alloc, words, folder, wanted, Stream::Out)?;
+    see_puts(rt, alloc, words, folder, wanted, Stream::Err)
+}
+
+/// One of a run's two streams.
+#[derive(Clone, Copy, Debug, PartialEq, Eq)]
+enum Stream {
+    Out,
+    Err,
+}
+
+impl Stream {
+    fn text<'a>(&self, ran: &'a Ran) -> &'a [u8] {
+        match self {
+            Stream::Out => &ran.out,
+            Stream::Err => &ran.err,
+        }
     }
+}
+
+// Each put on the stream fails in turn, until one is not made any more.
+fn see_puts<R: Threads + Sync>(
+    rt: &R,
+    alloc: Global,
+    words: &[String],
+    folder: &Folder,
+    wanted: &Ran,
+    stream: Stream,
+) -> Result<(), Wrong> {
+    for call in 1..PUTS {
+        if !see_put(rt, alloc, words, folder, wanted, stream, call)? {
+            return Ok(());
+        }
+    }
+    Err(Wrong::Put)
+}
+
+// The put of this number fails, each time with more of its bytes taken. Tells whether it is made at all.
+fn see_put<R: Threads + Sync>(
+    rt: &R,
+    alloc: Global,
+    words: &[String],
+    folder: &Folder,
+    wanted: &Ran,
+    stream: Stream,
+    call: u64,
+) -> Result<bool, Wrong> {
+    for taken in takings(alloc, stream.text(wanted).len())? {
+        let faults = failing_put(alloc, stream, call, taken)?;
+        let ran = run_over(rt, alloc, words, folder, faults)?;
+        if ran == *wanted {
+            return Ok(false);
+        }
+        if ran.status != Status::Write || !stream.text(wanted).starts_with(stream.text(&ran)) {
+            return Err(Wrong::Put);
+        }
+    }
+    Ok(true)
+}
+
+// How many bytes a failing put takes, one after the other, where the whole text has so many.
+fn takings(alloc: Global, bytes: usize) -> Result<Vec<usize>, AllocError> {
+    if bytes > SHORT {
+        return SOME_TAKEN.to_vec(alloc);
+    }
+    let mut takings = Vec::new(alloc);
+    for taken in 0..bytes + 1 {
+        takings.push(taken)?;
+    }
+    Ok(takings)
+}
+
+// The put of this number fails with so many bytes taken, and so does the next one.
+fn failing_put(
+    alloc: Global,
+    stream: Stream,
+    call: u64,
+    taken: usize,
+) -> Result<Faults, AllocError> {
+    let next = Partial {
+        call: call.saturating_add(1),
+        taken: 1,
+    };
+    let puts = [Partial { call, taken }, next].to_vec(alloc)?;
+    let mut faults = Faults::none(alloc);
+    match stream {
+        Stream::Out => faults.puts_on_out = puts,
+        Stream::Err => faults.puts_on_err = puts,
+    }
+    Ok(faults)
 }

@@ -9,12 +9,13 @@ use std::thread::Threads;
 // More bytes than any case puts on a stream.
 const ROOM: usize = 100_000;
 
-/// What a run ended with, and what its two streams took.
+/// What a run ended with, what its two streams took, and how many calls of the shelf failed.
 #[derive(Debug, Drop, PartialEq, Eq)]
 pub struct Ran {
     pub status: Status,
     pub out: Vec<u8>,
     pub err: Vec<u8>,
+    pub failed_reads: u64,
 }
 
 /// What is to go wrong beside a run: which calls of the shelf fail, how few bytes its reads give, and which puts fail.
@@ -55,5 +56,6 @@ pub(crate) fn run_over<R: Threads + Sync>(
         status,
         out: out.taken().to_vec(alloc)?,
         err: err.taken().to_vec(alloc)?,
+        failed_reads: shelf.faults(),
     })
 }

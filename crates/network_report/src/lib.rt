@@ -17,8 +17,6 @@ mod hub_flows;
 mod legs;
 mod lines;
 mod pairs;
-#[cfg(test)]
-mod tests;
 
 use cert_format::Certificate;
 use hub_io::{Buffer, Failed, Sink};

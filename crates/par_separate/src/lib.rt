@@ -13,8 +13,6 @@ mod adding;
 mod crews;
 mod origins;
 mod separating;
-#[cfg(test)]
-mod tests;
 mod workers;
 
 pub use crews::Crew;

@@ -18,8 +18,6 @@ mod set_cuts;
 mod set_tables;
 mod strong_duals;
 mod sums;
-#[cfg(test)]
-mod tests;
 
 pub use buffers::DualBuffer;
 pub use orders::order_of;

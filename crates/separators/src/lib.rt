@@ -8,8 +8,6 @@
 mod asking;
 mod keeping;
 mod solos;
-#[cfg(test)]
-mod tests;
 
 pub use asking::Separator;
 pub use keeping::kept_sums;

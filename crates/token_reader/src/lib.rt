@@ -10,7 +10,5 @@ mod reading;
 
 // What a token writes.
 mod numbers;
-#[cfg(test)]
-mod tests;
 
 pub use reading::Reader;

@@ -27,6 +27,3 @@ pub use duals::UnitDuals;
 pub use hops::{Hops, HubRoute};
 pub use legs::Legs;
 pub use tables::Tables;
-
-#[cfg(test)]
-mod tests;

@@ -1,4 +1,4 @@
-use Rattle.std.proofs.Common.{◌≡◌, ◌^◌, ◌-◌, ◌∙◌, ◌*ℤ◌, ◌-ℤ◌, unsigned_abs, FitsSigned, ap, arith, rules}
+use Rattle.std.proofs.Common.{◌≡◌, ◌^◌, ◌-◌, ◌∙◌, ◌*ℤ◌, ◌-ℤ◌, unsigned_abs, FitsSigned, arith, rules}
 use Rattle.std.specs.Int.{w64, w128}
 use Rattle.std.proofs.lemmas.Int.{to_z-of_z}
 use Rattle.frac_rows.specs.Divisors.{gcd}
@@ -10,10 +10,12 @@ pub loop-k-init : goal.loop-k-init
 loop-k-init c = record {
   value = divisor_of_start c.args.turn.own c.args.row.now c.args.turn.base c.args.base.now c.requires.as_long;
   size = omega arith;
+  by = tt;
 }
 
-pub returns-then-divisor-eq1-clause-value : goal.returns-then-divisor-eq1-clause-value
-returns-then-divisor-eq1-clause-value c = divisor_of_front _ c.loop-k.k c.loop-k.divisor c.if-divisor-eq1.true c.loop-k.invariant.value
+pub returns-then-common-eq1-clause-value : goal.returns-then-common-eq1-clause-value
+returns-then-common-eq1-clause-value c =
+    c.if-common-eq1.true ∙ divisor_of_front _ c.loop-k.k c.loop-k.common.number c.if-common-eq1.true c.loop-k.invariant.value
 
 pub loop-k-preserved : goal.loop-k-preserved
 loop-k-preserved c =
@@ -23,12 +25,12 @@ loop-k-preserved c =
     let value : c.cross.result ≡ c.args.turn.own *ℤ number c.args.row.now k -ℤ c.args.turn.base *ℤ number c.args.base.now k =
     simp to_z-of_z at c.cross.ensures.value in
     let fits : FitsSigned w128 c.cross.result = search rules in
-    let size : c.unsigned_abs.result ≡ unsigned_abs c.cross.result = simp to_z-of_z at c.unsigned_abs.ensures.value in
-    let is : c.gcd_128-divisor.result ≡ gcd (unsigned_abs c.cross.result) c.loop-k.divisor =
-    c.gcd_128-divisor.ensures ∙ ap (λ n. gcd n c.loop-k.divisor) size in
+    let is : c.joined-common.result.number ≡ gcd (unsigned_abs c.cross.result) c.loop-k.common.number =
+    simp to_z-of_z at c.joined-common.ensures.value in
     record {
       value =
-          divisor_of_more c.args.turn.own c.args.row.now c.args.turn.base c.args.base.now k c.loop-k.k c.loop-k.divisor c.cross.result _
+          divisor_of_more c.args.turn.own c.args.row.now c.args.turn.base c.args.base.now k c.loop-k.k c.loop-k.common.number c.cross.result _
           c.requires.as_long (omega arith) (omega arith) c.loop-k.invariant.value value is;
-      size = rw is (gcd_le (unsigned_abs c.cross.result) c.loop-k.divisor (2 ^ 125) c.cross.ensures.size c.loop-k.invariant.size);
+      size = rw is (gcd_le (unsigned_abs c.cross.result) c.loop-k.common.number (2 ^ 125) c.cross.ensures.size c.loop-k.invariant.size);
+      by = c.joined-common.ensures.by;
     }

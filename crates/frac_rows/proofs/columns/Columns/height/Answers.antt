@@ -6,6 +6,6 @@ pub returns-clause-limits : goal.returns-clause-limits
 returns-clause-limits c =
     rw (← c.self.view_is)
     (record {
-      some_row = c.self.invariant.some_row;
-      few = omega (arith, length-pieces c.self.inside.height c.self.inside.variables c.self.inside.numbers.items, c.self.invariant.few);
+      some_row = c.self.invariant.columns.some_row;
+      few = omega (arith, length-pieces c.self.inside.height c.self.inside.variables c.self.inside.numbers.items, c.self.invariant.columns.few);
     })

@@ -1,0 +1,7 @@
+//! Tests: passes of a search without a rule.
+//!
+//! - `passes`: of `price_passes`
+#![tactic(auto)]
+
+#[cfg(test)]
+mod passes;

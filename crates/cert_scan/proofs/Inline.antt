@@ -1,0 +1,96 @@
+-- Where a number leaves a scan: in the line behind a space, and at its end behind a line feed.
+use Rattle.std.proofs.Common.{◌≡◌, ℕ, ◌<◌, Bool, true, false, List, [], ◌∷◌, length, get_or, Option, None, nat_lt, refl, arith, zero, suc}
+use Rattle.std.specs.List.{list_all}
+use Rattle.std.proofs.lemmas.Bool.{cond_both, and_parts, ltb-true}
+use Rattle.cert_scan.specs.Moves.{taken_by, refusal, more_by, whole_by, open_by, allowed, keyword_of}
+use Rattle.cert_scan.specs.declared.items.Item.{Item}
+use Rattle.cert_scan.specs.declared.bytes.Move.{Move}
+use Rattle.cert_scan.specs.declared.bytes.Position.{Position}
+use Rattle.cert_scan.specs.declared.bytes.Position.TheVariants.{Start, Number, Spoiled, Failed}
+use Rattle.cert_scan.specs.declared.heads.Head.{Head}
+use Rattle.cert_scan.specs.declared.heads.Head.TheVariants.{VersionLine, SizeLine, CostLine, BoundLine, HubsLine, RouteLine, CutsLine, CutLine, DualLine, NodesLine, BranchLine, LeafLine, EmptyLine, EndLine}
+use Rattle.cert_scan.specs.declared.places.Place.{Place}
+use Rattle.cert_scan.specs.declared.places.Place.TheVariants.{VersionNumber, NodeCount, CandidateCount, CostAmount, BoundAmount, HubNode, RouteFrom, RouteTo, RouteFirst, RouteLast, CutCount, CutNumber, DualFrom, DualTo, DualPrice, ValueNode, ValueAmount, LineCount, BranchNode, Denominator, WeightCut, WeightAmount}
+use Rattle.cert_scan.specs.declared.stages.Stage.{Stage}
+
+-- behind the last number of a line a line begins or was bad, and behind another one a number begins or the line is spoiled
+abbrev pub Leaves : Bool → Position → Type 0
+Leaves true (Start stage) = Unit {0}
+Leaves true Failed = Unit {0}
+Leaves false (Number place None) = Unit {0}
+Leaves false Spoiled = Unit {0}
+Leaves last position = ⊥
+
+abbrev Turns : Bool → Move → Type 0
+Turns last next = Leaves last next.position
+
+turns_refused : (last : Bool) → Turns last (refusal last)
+turns_refused true = tt
+turns_refused false = tt
+
+turns_more : (last : Bool) (place : Place) → Turns last (more_by last place)
+turns_more true place = tt
+turns_more false place = tt
+
+turns_whole : (last : Bool) (item : Option Item) (stage : Stage) → Turns last (whole_by last item stage)
+turns_whole true item stage = tt
+turns_whole false item stage = tt
+
+turns_open : (last : Bool) (item : Item) (place : Place) (stage : Stage) → Turns last (open_by last item place stage)
+turns_open true item place stage = tt
+turns_open false item place stage = tt
+
+turns_allowed : (test last : Bool) (next : Move) → Turns last next → Turns last (allowed test last next)
+turns_allowed test last next h = cond_both test next (refusal last) (Turns last) (λ e. h) (λ e. turns_refused last)
+
+pub taken_leaves : (n : ℕ) (place : Place) (v : ℕ) (last : Bool) → Leaves last (taken_by n place v last).position
+taken_leaves n VersionNumber v last = turns_allowed _ last _ (turns_whole last _ _)
+taken_leaves n NodeCount v last = turns_allowed _ last _ (turns_more last _)
+taken_leaves n (CandidateCount nodes) v last = turns_allowed _ last _ (turns_whole last _ _)
+taken_leaves n CostAmount v last = turns_whole last _ _
+taken_leaves n BoundAmount v last = turns_whole last _ _
+taken_leaves n (HubNode before) v last = turns_allowed _ last _ (turns_open last _ _ _)
+taken_leaves n (RouteFrom c) v last = turns_allowed _ last _ (turns_more last _)
+taken_leaves n (RouteTo c) v last = turns_allowed _ last _ (turns_more last _)
+taken_leaves n (RouteFirst c) v last = turns_allowed _ last _ (turns_more last _)
+taken_leaves n (RouteLast c k) v last = turns_allowed _ last _ (turns_whole last _ _)
+taken_leaves n CutCount v last = turns_allowed _ last _ (turns_whole last _ _)
+taken_leaves n (CutNumber all before) v last = turns_allowed _ last _ (turns_whole last _ _)
+taken_leaves n (DualFrom d) v last = turns_allowed _ last _ (turns_more last _)
+taken_leaves n (DualTo d) v last = turns_allowed _ last _ (turns_more last _)
+taken_leaves n (DualPrice d) v last = turns_open last _ _ _
+taken_leaves n (ValueNode d before) v last = turns_allowed _ last _ (turns_more last _)
+taken_leaves n (ValueAmount d number) v last = turns_allowed _ last _ (turns_open last _ _ _)
+taken_leaves n LineCount v last = turns_allowed _ last _ (turns_whole last _ _)
+taken_leaves n (BranchNode t) v last = turns_allowed _ last _ (turns_whole last _ _)
+taken_leaves n (Denominator t) v last = turns_allowed _ last _ (turns_open last _ _ _)
+taken_leaves n (WeightCut t before) v last = turns_allowed _ last _ (turns_more last _)
+taken_leaves n (WeightAmount t number) v last = turns_allowed _ last _ (turns_open last _ _ _)
+
+-- the bytes of a keyword are letters
+abbrev is_letter : ℕ → Bool
+is_letter b = nat_lt 47 b
+
+letters : (head : Head) → list_all is_letter (keyword_of head) ≡ true
+letters VersionLine = refl
+letters SizeLine = refl
+letters CostLine = refl
+letters BoundLine = refl
+letters HubsLine = refl
+letters (RouteLine c) = refl
+letters CutsLine = refl
+letters (CutLine all before) = refl
+letters (DualLine d) = refl
+letters NodesLine = refl
+letters (BranchLine t) = refl
+letters (LeafLine t) = refl
+letters (EmptyLine t) = refl
+letters EndLine = refl
+
+letter_at : (word : List ℕ) → list_all is_letter word ≡ true → (k : ℕ) → k < length word → 47 < get_or word k 0
+letter_at [] h k l = absurd (omega arith)
+letter_at (b ∷ word) h zero l = ltb-true 47 b (and_parts (is_letter b) (list_all is_letter word) h).0
+letter_at (b ∷ word) h (suc k) l = letter_at word (and_parts (is_letter b) (list_all is_letter word) h).1 k (omega arith)
+
+pub keyword_letter : (head : Head) (k : ℕ) → k < length (keyword_of head) → 47 < get_or (keyword_of head) k 0
+keyword_letter head k l = letter_at (keyword_of head) (letters head) k l

@@ -1,0 +1,12 @@
+pub mod Goes
+pub mod Climbs
+pub mod StagesAt
+pub mod Accepts
+pub mod Described
+pub mod Outcomes
+pub mod Inline
+pub mod Here
+pub mod OneByte
+pub mod Tracks
+pub mod Finishing
+pub mod Stepping

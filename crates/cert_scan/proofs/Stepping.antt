@@ -1,0 +1,207 @@
+-- The clauses of a scan's calls.
+use Rattle.std.proofs.Common.{◌≡◌, ℕ, ◌+◌, ◌-◌, ◌<◌, ◌≤◌, Bool, true, false, ◌&&◌, List, [], ◌∷◌, ◌++◌, length, take, drop, get_or, Option, Some, None, nat_le, ◌⊎◌, inl, inr, refl, sym, ap, ◌∙◌, subst, append-nil, arith, zero, suc}
+use Rattle.std.specs.Prelude.{option_to_list, is_some}
+use Rattle.std.proofs.lemmas.List.{take_more, take_all, length-drop}
+use Rattle.std.proofs.lemmas.Bool.{cond-true, and_from, le-leb}
+use Rattle.cert_scan.specs.Moves.{moved_by, with_digit_of, refusal, spelled_by}
+use Rattle.cert_scan.specs.Scans.{new_scan, given_by, stepped, scanned, given_all}
+use Rattle.cert_scan.specs.Given.{IsGiven}
+use Rattle.cert_scan.specs.Scanned.{HasScanned, IsLost}
+use Rattle.cert_scan.specs.Runs.{SpellsOn, Runs}
+use Rattle.cert_scan.proofs.Goes.{scanned-append, given_all-append, state, moved}
+use Rattle.cert_scan.proofs.Tracks.{scanned_given}
+use Rattle.cert_scan.specs.declared.items.Item.{Item}
+use Rattle.cert_scan.specs.declared.bytes.Move.{Move}
+use Rattle.cert_scan.specs.declared.bytes.Position.{Position}
+use Rattle.cert_scan.specs.declared.bytes.Position.TheVariants.{Number, Spoiled, Failed}
+use Rattle.cert_scan.specs.declared.places.Place.{Place}
+use Rattle.cert_scan.specs.declared.scanner.Scan.{Scan}
+
+-- more bytes are scanned
+pub scanned_more : (bytes more : List ℕ) (given items : List Item) (old new : Scan) → scanned old more ≡ new → given_all old more ≡ items → HasScanned bytes given old
+    → HasScanned (bytes ++ more) (given ++ items) new
+scanned_more bytes more given items old new reached gives h = record {
+  reached = scanned-append new_scan bytes more ∙ ap (λ s. scanned s more) h.reached ∙ reached;
+  gives = given_all-append new_scan bytes more ∙ (λ i. h.gives i ++ given_all (h.reached i) more) ∙ ap (λ l. given ++ l) gives;
+}
+
+pub scanned_step : (old new : Scan) (byte : ℕ) (item : Option Item) → item ≡ given_by old byte → new ≡ stepped old byte
+    → (bytes : List ℕ) (given : List Item) → HasScanned bytes given old → HasScanned (bytes ++ byte ∷ []) (given ++ option_to_list item) new
+scanned_step old new byte item gives after bytes given h =
+    scanned_more bytes (byte ∷ []) given (option_to_list item) old new (sym after) (append-nil (option_to_list (given_by old byte)) ∙ ap option_to_list (sym gives)) h
+
+pub step_given : (old new : Scan) (byte : ℕ) (item : Option Item) → item ≡ given_by old byte → new ≡ stepped old byte
+    → (bytes : List ℕ) (given : List Item) → HasScanned bytes given old → IsGiven (given ++ option_to_list item)
+step_given old new byte item gives after bytes given h =
+    scanned_given (bytes ++ byte ∷ []) (given ++ option_to_list item) new (scanned_step old new byte item gives after bytes given h)
+
+-- nothing comes where a line was lost
+LostBy : Move → Type 0
+LostBy next = (next.item ≡ None) × ((next.position ≡ Spoiled) ⊎ (next.position ≡ Failed))
+
+refusal_lost : (last : Bool) → LostBy (refusal last)
+unfolding LostBy
+refusal_lost true = (refl, inr refl)
+refusal_lost false = (refl, inl refl)
+
+lost_by : (n byte : ℕ) (position : Position) → (position ≡ Spoiled) ⊎ (position ≡ Failed) → LostBy (moved_by n position byte)
+lost_by n byte position (inl e) = subst (λ p. LostBy (moved_by n p byte)) (sym e) (refusal_lost _)
+lost_by n byte position (inr e) = subst (λ p. LostBy (moved_by n p byte)) (sym e) (refusal_lost true)
+
+pub step_lost : (old new : Scan) (byte : ℕ) (item : Option Item) → item ≡ given_by old byte → new ≡ stepped old byte → IsLost old → (item ≡ None) × IsLost new
+unfolding LostBy
+step_lost old new byte item gives after lost =
+    let h = lost_by old.n byte old.position lost in
+    (gives ∙ h.0, subst IsLost (sym after) h.1)
+
+-- ---- digits
+
+pub spells_more : (first : Option ℕ) (bytes : List ℕ) (byte : ℕ) (value last : Option ℕ) → SpellsOn first bytes value → SpellsOn value (byte ∷ []) last → SpellsOn first (bytes ++ byte ∷ []) last
+spells_more first [] byte value last h k = subst (λ v. SpellsOn v (byte ∷ []) last) (sym h) k
+spells_more first (b ∷ bytes) byte value last h k = (h.0, h.1, h.2, h.3, spells_more (Some h.0) bytes byte value last h.4 k)
+
+digit_moves : (n : ℕ) (place : Place) (value : Option ℕ) (byte more : ℕ) → 48 ≤ byte → byte ≤ 57 → with_digit_of value (byte - 48) ≡ Some more
+    → moved_by n (Number place value) byte ≡ spelled_by place (Some more)
+digit_moves n place value byte more low high e =
+    cond-true (nat_le 48 byte && nat_le byte 57) _ _ (and_from (nat_le 48 byte) (nat_le byte 57) (le-leb 48 byte low) (le-leb byte 57 high)) ∙ ap (spelled_by place) e
+
+pub digits_scanned : (n line : ℕ) (place : Place) (value : Option ℕ) (bytes : List ℕ) (last : Option ℕ) → SpellsOn value bytes last
+    → scanned (state n line (Number place value)) bytes ≡ state n line (Number place last)
+digits_scanned n line place value [] last h = ap (λ v. state n line (Number place v)) h
+digits_scanned n line place value (byte ∷ bytes) last h =
+    ap (λ m. scanned (moved n line m) bytes) (digit_moves n place value byte h.0 h.1 h.2 h.3) ∙ digits_scanned n line place (Some h.0) bytes last h.4
+
+pub digits_give : (n line : ℕ) (place : Place) (value : Option ℕ) (bytes : List ℕ) (last : Option ℕ) → SpellsOn value bytes last → given_all (state n line (Number place value)) bytes ≡ []
+digits_give n line place value [] last h = refl
+digits_give n line place value (byte ∷ bytes) last h =
+    ap (λ (m : Move). option_to_list m.item ++ given_all (moved n line m) bytes) (digit_moves n place value byte h.0 h.1 h.2 h.3) ∙ digits_give n line place (Some h.0) bytes last h.4
+
+-- ---- runs
+
+-- so many of the bytes were taken, and gave nothing
+pub record HasRun (old : Scan) (bytes : List ℕ) (taken : ℕ) (new : Scan) : Type 0 where
+  pub within : taken ≤ length bytes
+  pub after : new ≡ scanned old (take taken bytes)
+  pub nothing : given_all old (take taken bytes) ≡ []
+
+take_nothing : (k : ℕ) → take {A = ℕ} k [] ≡ []
+take_nothing zero = refl
+take_nothing (suc k) = refl
+
+nil_front : (xs ys : List Item) → xs ++ ys ≡ [] → xs ≡ []
+nil_front [] ys e = refl
+nil_front (x ∷ xs) ys e = cc
+
+take-add : (k m : ℕ) (bytes : List ℕ) → take (k + m) bytes ≡ take k bytes ++ take m (drop k bytes)
+take-add zero m bytes = let none : 0 + m ≡ m = omega arith in ap (λ x. take x bytes) none
+take-add (suc k) m [] = let some : suc k + m ≡ suc (k + m) = omega arith in ap (λ x. take x []) some ∙ sym (take_nothing m)
+take-add (suc k) m (b ∷ bytes) = let some : suc k + m ≡ suc (k + m) = omega arith in ap (λ x. take x (b ∷ bytes)) some ∙ ap (λ l. b ∷ l) (take-add k m bytes)
+
+-- the digits behind those bytes gave nothing either
+pub run_digits : (old mid new : Scan) (bytes : List ℕ) (taken count : ℕ) → HasRun old bytes taken mid → count ≤ length (take (length bytes - taken) (drop taken bytes))
+    → new ≡ scanned mid (take count (take (length bytes - taken) (drop taken bytes))) → given_all mid (take count (take (length bytes - taken) (drop taken bytes))) ≡ []
+    → HasRun old bytes (taken + count) new
+run_digits old mid new bytes taken count h fits after nothing =
+    let within = h.within in
+    let long : length (drop taken bytes) ≤ length bytes - taken = omega (arith, length-drop taken bytes) in
+    let whole : take (length bytes - taken) (drop taken bytes) ≡ drop taken bytes = take_all (length bytes - taken) (drop taken bytes) long in
+    let front : take (taken + count) bytes ≡ take taken bytes ++ take count (take (length bytes - taken) (drop taken bytes)) =
+    take-add taken count bytes ∙ ap (λ l. take taken bytes ++ take count l) (sym whole) in
+    let part = take count (take (length bytes - taken) (drop taken bytes)) in
+    record {
+      within = omega (arith, fits, ap length whole, length-drop taken bytes);
+      after = after ∙ ap (λ s. scanned s part) h.after ∙ sym (scanned-append old (take taken bytes) part) ∙ ap (scanned old) (sym front);
+      nothing = ap (given_all old) front ∙ given_all-append old (take taken bytes) part
+          ∙ (λ i. h.nothing i ++ given_all (sym h.after i) part) ∙ nothing;
+    }
+
+-- one byte more
+byte_after : (old mid new : Scan) (bytes : List ℕ) (taken byte : ℕ) → HasRun old bytes taken mid → taken < length bytes → byte ≡ get_or bytes taken 0 → new ≡ stepped mid byte
+    → new ≡ scanned old (take (taken + 1) bytes)
+byte_after old mid new bytes taken byte h low is after =
+    after ∙ (λ i. stepped (h.after i) (is i)) ∙ sym (scanned-append old (take taken bytes) (get_or bytes taken 0 ∷ [])) ∙ ap (scanned old) (sym (take_more bytes taken 0 low))
+
+byte_given : (old mid : Scan) (bytes : List ℕ) (taken byte : ℕ) (item : Option Item) → HasRun old bytes taken mid → taken < length bytes → byte ≡ get_or bytes taken 0 → item ≡ given_by mid byte
+    → given_all old (take (taken + 1) bytes) ≡ option_to_list item
+byte_given old mid bytes taken byte item h low is gives =
+    let last = get_or bytes taken 0 in
+    ap (given_all old) (take_more bytes taken 0 low) ∙ given_all-append old (take taken bytes) (last ∷ [])
+    ∙ ap (λ g. g ++ given_all (scanned old (take taken bytes)) (last ∷ [])) h.nothing
+    ∙ append-nil (option_to_list (given_by (scanned old (take taken bytes)) last))
+    ∙ (λ i. option_to_list (given_by (sym h.after i) (sym is i))) ∙ ap option_to_list (sym gives)
+
+pub run_byte : (old mid new : Scan) (bytes : List ℕ) (taken byte : ℕ) (item : Option Item) → HasRun old bytes taken mid → taken < length bytes → byte ≡ get_or bytes taken 0
+    → item ≡ given_by mid byte → new ≡ stepped mid byte → item ≡ None → HasRun old bytes (taken + 1) new
+run_byte old mid new bytes taken byte item h low is gives after none = record {
+  within = omega arith;
+  after = byte_after old mid new bytes taken byte h low is after;
+  nothing = byte_given old mid bytes taken byte item h low is gives ∙ ap option_to_list none;
+}
+
+pub run_item : (old mid new : Scan) (bytes : List ℕ) (taken byte : ℕ) (item : Option Item) → HasRun old bytes taken mid → taken < length bytes → byte ≡ get_or bytes taken 0
+    → item ≡ given_by mid byte → new ≡ stepped mid byte → (item ≡ None → ⊥) → Runs old bytes (taken + 1) item new
+run_item old mid new bytes taken byte item h low is gives after some =
+    let back : taken + 1 - 1 ≡ taken = omega arith in
+    record {
+      within = omega arith;
+      after = sym (byte_after old mid new bytes taken byte h low is after);
+      given = byte_given old mid bytes taken byte item h low is gives;
+      nothing_before = ap (λ k. given_all old (take k bytes)) back ∙ h.nothing;
+      all = λ none. absurd (some none);
+    }
+
+pub run_end : (old new : Scan) (bytes : List ℕ) (taken : ℕ) → HasRun old bytes taken new → length bytes ≤ taken → Runs old bytes taken None new
+run_end old new bytes taken h all =
+    let within = h.within in
+    let front : take taken bytes ≡ take (taken - 1) bytes ++ take (taken - (taken - 1)) (drop (taken - 1) bytes) =
+    (let split : taken ≡ taken - 1 + (taken - (taken - 1)) = omega arith in ap (λ k. take k bytes) split ∙ take-add (taken - 1) (taken - (taken - 1)) bytes) in
+    record {
+      within = within;
+      after = sym h.after;
+      given = h.nothing;
+      nothing_before = nil_front (given_all old (take (taken - 1) bytes)) _ (sym (given_all-append old (take (taken - 1) bytes) (take (taken - (taken - 1)) (drop (taken - 1) bytes))) ∙ ap (given_all old) (sym front) ∙ h.nothing);
+      all = λ none. omega arith;
+    }
+
+-- what a run scans
+pub run_scanned : (old new : Scan) (bytes : List ℕ) (taken : ℕ) (item : Option Item) → Runs old bytes taken item new
+    → (front : List ℕ) (given : List Item) → HasScanned front given old → HasScanned (front ++ take taken bytes) (given ++ option_to_list item) new
+run_scanned old new bytes taken item r front given h = scanned_more front (take taken bytes) given (option_to_list item) old new r.after r.given h
+
+pub run_given : (old new : Scan) (bytes : List ℕ) (taken : ℕ) (item : Option Item) → Runs old bytes taken item new
+    → (front : List ℕ) (given : List Item) → HasScanned front given old → IsGiven (given ++ option_to_list item)
+run_given old new bytes taken item r front given h =
+    scanned_given (front ++ take taken bytes) (given ++ option_to_list item) new (run_scanned old new bytes taken item r front given h)
+
+-- digits that go on with a number
+pub digits_after : (scan : Scan) (place : Place) (value last : Option ℕ) (bytes : List ℕ) → scan.position ≡ Number place value → SpellsOn value bytes last
+    → state scan.n scan.line (Number place last) ≡ scanned scan bytes
+digits_after scan place value last bytes e h =
+    sym (digits_scanned scan.n scan.line place value bytes last h) ∙ ap (λ p. scanned (state scan.n scan.line p) bytes) (sym e)
+
+pub digits_nothing : (scan : Scan) (place : Place) (value last : Option ℕ) (bytes : List ℕ) → scan.position ≡ Number place value → SpellsOn value bytes last
+    → given_all scan bytes ≡ []
+digits_nothing scan place value last bytes e h =
+    ap (λ p. given_all (state scan.n scan.line p) bytes) e ∙ digits_give scan.n scan.line place value bytes last h
+
+-- what the test of an item says
+pub none_of : {X : Type 0} (item : Option X) → is_some item ≡ false → item ≡ None
+none_of None e = refl
+none_of (Some x) e = cc
+
+pub some_of : (item : Option Item) → is_some item ≡ true → item ≡ None → ⊥
+some_of None e none = cc
+some_of (Some x) e none = cc
+
+-- digits behind digits, the first ones of what is left
+spells_append : (first : Option ℕ) (front back : List ℕ) (mid last : Option ℕ) → SpellsOn first front mid → SpellsOn mid back last → SpellsOn first (front ++ back) last
+spells_append first [] back mid last h k = subst (λ v. SpellsOn v back last) (sym h) k
+spells_append first (b ∷ front) back mid last h k = (h.0, h.1, h.2, h.3, spells_append (Some h.0) front back mid last h.4 k)
+
+pub spells_both : (first : Option ℕ) (bytes : List ℕ) (front back : ℕ) (mid last : Option ℕ) → SpellsOn first (take front bytes) mid
+    → SpellsOn mid (take back (take (length bytes - front) (drop front bytes))) last → SpellsOn first (take (front + back) bytes) last
+spells_both first bytes front back mid last h k =
+    let long : length (drop front bytes) ≤ length bytes - front = omega (arith, length-drop front bytes) in
+    let whole : take (length bytes - front) (drop front bytes) ≡ drop front bytes = take_all (length bytes - front) (drop front bytes) long in
+    subst (λ l. SpellsOn first l last) (sym (take-add front back bytes))
+    (spells_append first (take front bytes) (take back (drop front bytes)) mid last h (subst (λ l. SpellsOn mid (take back l) last) whole k))

@@ -1,0 +1,48 @@
+-- What the items that a scan gives say, at any time.
+use Rattle.std.specs.Prelude.{◌≡◌, ℕ, ◌<◌, false, List, [], ◌∷◌, ◌++◌, flat_map, All, ◌⊎◌}
+use Rattle.std.specs.List.Sorted.{IsStrictlyIncreasing}
+use Rattle.hub_spec.specs.Problem.{commodity_at}
+use Rattle.hub_spec.specs.Cuts.{Prices}
+use Rattle.hub_spec.specs.Trees.{leaf_of}
+use Rattle.hub_spec.specs.Ranges.{IsDualInRange, IsLineInRange}
+use Rattle.cert_spec.specs.Lines.{Item as Line}
+use Rattle.cert_spec.specs.Grammar.{Stage, want_version, want_hubs, want_dual, want_tree, Leads}
+use Rattle.cert_scan.specs.Parts.{parts_of, open_hubs, open_values, open_weights}
+use Rattle.cert_scan.specs.declared.items.Item.{Item}
+use Rattle.cert_scan.specs.declared.items.Item.TheVariants.{Dual, Leaf}
+
+-- some hubs, ascending, of n nodes
+pub record BegunHubs (n : ℕ) (given : List Item) : Type 0 where
+  pub hubs : List ℕ
+  pub are : given ≡ open_hubs hubs
+  pub ascend : IsStrictlyIncreasing hubs
+  pub nodes : All (λ k. k < n) hubs
+
+-- the price of a commodity, and some values, in range
+pub record BegunDual (n : ℕ) (commodity : ℕ × ℕ) (given : List Item) : Type 0 where
+  pub dual : Prices
+  pub are : given ≡ Dual commodity.0 commodity.1 dual.a false ∷ open_values dual.u
+  pub in_range : IsDualInRange n dual
+
+-- the denominator of a leaf, and some weights, in range
+pub record BegunLeaf (n : ℕ) (given : List Item) : Type 0 where
+  pub denom : ℕ
+  pub weights : List (ℕ × ℕ)
+  pub are : given ≡ Leaf denom false ∷ open_weights weights
+  pub in_range : IsLineInRange n (leaf_of denom weights)
+
+-- what may be given of a line at this stage whose end was not given
+abbrev pub IsBegun : Stage → List Item → Type 0
+IsBegun (want_hubs s) given = BegunHubs s.size given
+IsBegun (want_dual s all x t) given = (given ≡ []) ⊎ BegunDual s.size (commodity_at s.size t) given
+IsBegun (want_tree s places left) given = (given ≡ []) ⊎ BegunLeaf s.size given
+IsBegun stage given = given ≡ []
+
+-- the items are those of lines that may stand so from the first on, and the first ones of one more line
+pub record IsGiven (given : List Item) : Type 0 where
+  pub lines : List Line
+  pub stage : Stage
+  pub more : List Item
+  pub lead : Leads want_version lines stage
+  pub are : given ≡ flat_map parts_of lines ++ more
+  pub begun : IsBegun stage more

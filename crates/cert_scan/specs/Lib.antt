@@ -1,0 +1,6 @@
+pub mod Moves
+pub mod Scans
+pub mod Parts
+pub mod Given
+pub mod Scanned
+pub mod Runs

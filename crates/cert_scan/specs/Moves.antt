@@ -1,0 +1,270 @@
+-- What a scan makes of one byte, by the line that is wanted and the place in it.
+use Rattle.std.specs.Prelude.{ℕ, ◌+◌, ◌-◌, ◌*◌, ◌^◌, Bool, true, false, not, ◌&&◌, ◌||◌, List, length, codes, Option, Some, None, slice_index, nat_eq, nat_lt, nat_le, if◌then◌else◌}
+use Rattle.hub_spec.specs.Limits.{most_nodes, most_denominator, most_cuts, most_tree_lines}
+use Rattle.cert_scan.specs.declared.items.Item.{Item}
+use Rattle.cert_scan.specs.declared.items.Item.TheVariants.{Size as size_item, Cost as cost_item, Bound as bound_item, Hub as hub_item, Route as route_item, Cuts as cuts_item, Cut as cut_item, Dual as dual_item, DualPair as pair_item, Nodes as nodes_item, Branch as branch_item, Leaf as leaf_item, LeafPair as weight_item, Empty as empty_item, End as end_item}
+use Rattle.cert_scan.specs.declared.stages.Commodity.{Commodity}
+use Rattle.cert_scan.specs.declared.stages.DualAt.{DualAt}
+use Rattle.cert_scan.specs.declared.stages.TreeAt.{TreeAt}
+use Rattle.cert_scan.specs.declared.stages.Stage.{Stage}
+use Rattle.cert_scan.specs.declared.stages.Stage.TheVariants.{Version, Size, Cost, Bound, Hubs, Route, Cuts, Cut, Dual, Nodes, Tree, End, Nothing}
+use Rattle.cert_scan.specs.declared.heads.Head.{Head}
+use Rattle.cert_scan.specs.declared.heads.Head.TheVariants.{VersionLine, SizeLine, CostLine, BoundLine, HubsLine, RouteLine, CutsLine, CutLine, DualLine, NodesLine, BranchLine, LeafLine, EmptyLine, EndLine}
+use Rattle.cert_scan.specs.declared.places.Place.{Place}
+use Rattle.cert_scan.specs.declared.places.Place.TheVariants.{VersionNumber, NodeCount, CandidateCount, CostAmount, BoundAmount, HubNode, RouteFrom, RouteTo, RouteFirst, RouteLast, CutCount, CutNumber, DualFrom, DualTo, DualPrice, ValueNode, ValueAmount, LineCount, BranchNode, Denominator, WeightCut, WeightAmount}
+use Rattle.cert_scan.specs.declared.bytes.Position.{Position}
+use Rattle.cert_scan.specs.declared.bytes.Position.TheVariants.{Start, Keyword, Number, Spoiled, Failed}
+use Rattle.cert_scan.specs.declared.bytes.Move.{Move}
+
+-- ---- from line to line
+
+-- the commodity of these nodes
+abbrev pub commodity_by : ℕ → ℕ → Commodity
+commodity_by i j = record { from = i; to = j }
+
+-- the commodity after this one, between n nodes
+abbrev pub next_commodity_of : ℕ → Commodity → Option Commodity
+next_commodity_of n c =
+    if nat_lt c.to (n - 1) then Some (commodity_by c.from (c.to + 1))
+    else (if nat_lt c.from (n - 1) then Some (commodity_by (c.from + 1) 0) else None)
+
+-- a route of this commodity is wanted, or the number of cuts
+abbrev pub route_or_cuts : Option Commodity → Stage
+route_or_cuts (Some c) = Route c
+route_or_cuts None = Cuts
+
+abbrev pub stage_after_route : ℕ → Commodity → Stage
+stage_after_route n c = route_or_cuts (next_commodity_of n c)
+
+abbrev pub stage_after_cuts : ℕ → Stage
+stage_after_cuts all = if nat_lt 0 all then Cut all 0 else Nodes
+
+abbrev pub stage_after_cut : ℕ → ℕ → Stage
+stage_after_cut all before = if nat_lt before (all - 1) then Cut all (before + 1) else Nodes
+
+-- a dual of this commodity is wanted in the same cut, or the cut is done
+abbrev pub dual_or_cut : DualAt → Option Commodity → Stage
+dual_or_cut at (Some c) = Dual (record { all = at.all; before = at.before; commodity = c })
+dual_or_cut at None = stage_after_cut at.all at.before
+
+abbrev pub stage_after_dual : ℕ → DualAt → Stage
+stage_after_dual n at = dual_or_cut at (next_commodity_of n at.commodity)
+
+abbrev pub stage_after_tree : ℕ → ℕ → Stage
+stage_after_tree places left = if nat_eq left 0 then End else Tree (record { places = places; left = left })
+
+-- a line that is no branch fills a place
+abbrev pub stage_after_filled : TreeAt → Stage
+stage_after_filled at = stage_after_tree (at.places - 1) (at.left - 1)
+
+-- and leaves no more places than lines, and a place where a line is left
+abbrev pub may_fill : TreeAt → Bool
+may_fill at = nat_le (at.places - 1) (at.left - 1) && (not (nat_eq (at.places - 1) 0) || nat_eq (at.left - 1) 0)
+
+-- ---- the first word of a line
+
+-- what the line of a tree is to be that begins with this byte
+abbrev pub tree_head_at : TreeAt → ℕ → Option Head
+tree_head_at at byte =
+    if nat_eq byte 98 then Some (BranchLine at)
+    else (if nat_eq byte 108 then Some (LeafLine at) else (if nat_eq byte 101 then Some (EmptyLine at) else None))
+
+-- what the line is to be that begins with this byte
+abbrev pub head_at : Stage → ℕ → Option Head
+head_at Version byte = Some VersionLine
+head_at Size byte = Some SizeLine
+head_at Cost byte = Some CostLine
+head_at Bound byte = Some BoundLine
+head_at Hubs byte = Some HubsLine
+head_at (Route c) byte = Some (RouteLine c)
+head_at Cuts byte = Some CutsLine
+head_at (Cut all before) byte = Some (CutLine all before)
+head_at (Dual at) byte = Some (DualLine at)
+head_at Nodes byte = Some NodesLine
+head_at (Tree at) byte = tree_head_at at byte
+head_at End byte = Some EndLine
+head_at Nothing byte = None
+
+abbrev pub keyword_of : Head → List ℕ
+keyword_of VersionLine = codes "HUBCERT"
+keyword_of SizeLine = codes "size"
+keyword_of CostLine = codes "cost"
+keyword_of BoundLine = codes "bound"
+keyword_of HubsLine = codes "hubs"
+keyword_of (RouteLine c) = codes "route"
+keyword_of CutsLine = codes "cuts"
+keyword_of (CutLine all before) = codes "cut"
+keyword_of (DualLine at) = codes "dual"
+keyword_of NodesLine = codes "nodes"
+keyword_of (BranchLine at) = codes "branch"
+keyword_of (LeafLine at) = codes "leaf"
+keyword_of (EmptyLine at) = codes "empty"
+keyword_of EndLine = codes "end"
+
+-- where the first number of the line stands
+abbrev pub first_place_of : Head → Option Place
+first_place_of VersionLine = Some VersionNumber
+first_place_of SizeLine = Some NodeCount
+first_place_of CostLine = Some CostAmount
+first_place_of BoundLine = Some BoundAmount
+first_place_of HubsLine = Some (HubNode 0)
+first_place_of (RouteLine c) = Some (RouteFrom c)
+first_place_of CutsLine = Some CutCount
+first_place_of (CutLine all before) = Some (CutNumber all before)
+first_place_of (DualLine at) = Some (DualFrom at)
+first_place_of NodesLine = Some LineCount
+first_place_of (BranchLine at) = Some (BranchNode at)
+first_place_of (LeafLine at) = Some (Denominator at)
+first_place_of (EmptyLine at) = None
+first_place_of EndLine = None
+
+-- ---- moves
+
+abbrev pub move : Position → Option Item → Move
+move position item = record { position = position; item = item }
+
+-- the line is not as wanted, and ends here or not
+abbrev pub refusal : Bool → Move
+refusal last = if last then move Failed None else move Spoiled None
+
+-- another number must stand behind
+abbrev pub more_by : Bool → Place → Move
+more_by last place = if last then move Failed None else move (Number place None) None
+
+-- the line must end here, and gives this
+abbrev pub whole_by : Bool → Option Item → Stage → Move
+whole_by last item stage = if last then move (Start stage) item else move Spoiled None
+
+-- this is given; the line may end here, or go on
+abbrev pub open_by : Bool → Item → Place → Stage → Move
+open_by last item place stage = if last then move (Start stage) (Some item) else move (Number place None) (Some item)
+
+-- the move, if the test holds
+abbrev pub allowed : Bool → Bool → Move → Move
+allowed test last move = if test then move else refusal last
+
+-- a number from 1 to the most
+abbrev pub within : ℕ → ℕ → Bool
+within value most = nat_le 1 value && nat_le value most
+
+-- a node's number after the one before it
+abbrev pub follows : ℕ → ℕ → ℕ → Bool
+follows n before value = nat_lt before value && nat_le value n
+
+-- the number at a place, between n nodes, and behind it the line's end or a space
+abbrev pub taken_by : ℕ → Place → ℕ → Bool → Move
+taken_by n VersionNumber value last = allowed (nat_eq value 1) last (whole_by last None Size)
+taken_by n NodeCount value last = allowed (within value most_nodes) last (more_by last (CandidateCount value))
+taken_by n (CandidateCount nodes) value last =
+    allowed (within value nodes) last (whole_by last (Some (size_item nodes value)) Cost)
+taken_by n CostAmount value last = whole_by last (Some (cost_item value)) Bound
+taken_by n BoundAmount value last = whole_by last (Some (bound_item value)) Hubs
+taken_by n (HubNode before) value last =
+    allowed (follows n before value) last
+    (open_by last (hub_item (value - 1) last) (HubNode value) (Route (commodity_by 0 0)))
+taken_by n (RouteFrom c) value last = allowed (nat_eq value (c.from + 1)) last (more_by last (RouteTo c))
+taken_by n (RouteTo c) value last = allowed (nat_eq value (c.to + 1)) last (more_by last (RouteFirst c))
+taken_by n (RouteFirst c) value last = allowed (within value n) last (more_by last (RouteLast c (value - 1)))
+taken_by n (RouteLast c k) value last =
+    allowed (within value n) last
+    (whole_by last (Some (route_item c.from c.to k (value - 1))) (stage_after_route n c))
+taken_by n CutCount value last =
+    allowed (nat_le value most_cuts) last (whole_by last (Some (cuts_item value)) (stage_after_cuts value))
+taken_by n (CutNumber all before) value last =
+    allowed (nat_eq value (before + 1) && nat_le value most_cuts) last
+    (whole_by last (Some (cut_item value)) (Dual (record { all = all; before = before; commodity = commodity_by 0 0 })))
+taken_by n (DualFrom at) value last = allowed (nat_eq value (at.commodity.from + 1)) last (more_by last (DualTo at))
+taken_by n (DualTo at) value last = allowed (nat_eq value (at.commodity.to + 1)) last (more_by last (DualPrice at))
+taken_by n (DualPrice at) value last =
+    open_by last (dual_item at.commodity.from at.commodity.to value last) (ValueNode at 0) (stage_after_dual n at)
+taken_by n (ValueNode at before) value last =
+    allowed (follows n before value) last (more_by last (ValueAmount at value))
+taken_by n (ValueAmount at number) value last =
+    allowed (nat_le 1 value) last
+    (open_by last (pair_item (number - 1) value last) (ValueNode at number) (stage_after_dual n at))
+taken_by n LineCount value last =
+    allowed (within value most_tree_lines) last
+    (whole_by last (Some (nodes_item value)) (Tree (record { places = 1; left = value })))
+taken_by n (BranchNode at) value last =
+    allowed (within value n && nat_lt at.places (at.left - 1)) last
+    (whole_by last (Some (branch_item (value - 1))) (stage_after_tree (at.places + 1) (at.left - 1)))
+taken_by n (Denominator at) value last =
+    allowed (within value most_denominator && may_fill at) last
+    (open_by last (leaf_item value last) (WeightCut at 0) (stage_after_filled at))
+taken_by n (WeightCut at before) value last = allowed (nat_lt before value) last (more_by last (WeightAmount at value))
+taken_by n (WeightAmount at number) value last =
+    allowed (nat_le 1 value) last (open_by last (weight_item number value last) (WeightCut at number) (stage_after_filled at))
+
+-- ---- bytes
+
+-- a byte that is not as wanted
+abbrev pub spoiled_by : ℕ → Move
+spoiled_by byte = refusal (nat_eq byte 10)
+
+-- the line's first number begins, if it has one
+abbrev pub first_number_by : Option Place → Move
+first_number_by (Some place) = move (Number place None) None
+first_number_by None = move Spoiled None
+
+-- a line with no number ends behind its keyword
+abbrev pub bare_by : Head → Move
+bare_by (EmptyLine at) = allowed (may_fill at) true (move (Start (stage_after_filled at)) (Some empty_item))
+bare_by EndLine = move (Start Nothing) (Some end_item)
+bare_by head = refusal true
+
+-- a byte behind the whole keyword
+abbrev pub behind_keyword_by : Head → ℕ → Move
+behind_keyword_by head byte =
+    if nat_eq byte 32 then first_number_by (first_place_of head)
+    else (if nat_eq byte 10 then bare_by head else move Spoiled None)
+
+-- a byte where so many of the keyword have come
+abbrev pub keyword_by : Head → ℕ → ℕ → Move
+keyword_by head matched byte =
+    if nat_lt matched (length (keyword_of head))
+    then (if nat_eq byte (slice_index (keyword_of head) matched) then move (Keyword head (matched + 1)) None else spoiled_by byte)
+    else behind_keyword_by head byte
+
+-- the first byte of a line that is to be this
+abbrev pub begun_as : Option Head → ℕ → Move
+begun_as (Some head) byte = keyword_by head 0 byte
+begun_as None byte = spoiled_by byte
+
+-- the first byte of a line
+abbrev pub begun_by : Stage → ℕ → Move
+begun_by Nothing byte = refusal true
+begun_by stage byte = begun_as (head_at stage byte) byte
+
+-- a number of less than 30 digits
+abbrev pub nearly_longest : ℕ
+nearly_longest = 10 ^ 29
+
+-- the number that is spelled with a digit behind: none stands behind a zero, and no more than 30 in all
+abbrev pub with_digit_of : Option ℕ → ℕ → Option ℕ
+with_digit_of None digit = Some digit
+with_digit_of (Some value) digit = if nat_le 1 value && nat_lt value nearly_longest then Some (value * 10 + digit) else None
+
+-- the line goes on with the number that is spelled
+abbrev pub spelled_by : Place → Option ℕ → Move
+spelled_by place (Some value) = move (Number place (Some value)) None
+spelled_by place None = move Spoiled None
+
+-- a byte behind the whole number at a place
+abbrev pub behind_number_by : ℕ → Place → Option ℕ → ℕ → Move
+behind_number_by n place None byte = spoiled_by byte
+behind_number_by n place (Some value) byte =
+    if nat_eq byte 10 then taken_by n place value true
+    else (if nat_eq byte 32 then taken_by n place value false else move Spoiled None)
+
+-- a byte of a number, or behind it
+abbrev pub number_by : ℕ → Place → Option ℕ → ℕ → Move
+number_by n place value byte =
+    if nat_le 48 byte && nat_le byte 57 then spelled_by place (with_digit_of value (byte - 48)) else behind_number_by n place value byte
+
+-- a byte of a text between n nodes
+abbrev pub moved_by : ℕ → Position → ℕ → Move
+moved_by n (Start stage) byte = begun_by stage byte
+moved_by n (Keyword head matched) byte = keyword_by head matched byte
+moved_by n (Number place value) byte = number_by n place value byte
+moved_by n Spoiled byte = spoiled_by byte
+moved_by n Failed byte = refusal true

@@ -1,0 +1,67 @@
+-- The items that the lines of a certificate give.
+use Rattle.std.specs.Prelude.{ℕ, Bool, true, false, List, [], ◌∷◌, map, flat_map}
+use Rattle.hub_spec.specs.Trees.{TreeLine, branch_on, leaf_of, no_hub}
+use Rattle.hub_spec.specs.Certificates.{Proof}
+use Rattle.cert_spec.specs.Lines.{Item as Line, says_version, says_size, says_cost, says_bound, says_hubs, says_route, says_cuts, says_cut, says_dual, says_nodes, says_tree, says_end}
+use Rattle.cert_spec.specs.Text.{certificate_items}
+use Rattle.cert_scan.specs.declared.items.Item.{Item}
+use Rattle.cert_scan.specs.declared.items.Item.TheVariants.{Size, Cost, Bound, Hub, Route, Cuts, Cut, Dual, DualPair, Nodes, Branch, Leaf, LeafPair, Empty, End}
+
+-- nothing is left of a list
+abbrev pub none_left : {X : Type 0} → List X → Bool
+none_left [] = true
+none_left (x ∷ rest) = false
+
+-- the hubs of a plan, the last of which ends the line
+abbrev pub hub_parts : List ℕ → List Item
+hub_parts [] = []
+hub_parts (k ∷ rest) = Hub k (none_left rest) ∷ hub_parts rest
+
+-- the values of a dual, each with its node
+abbrev pub value_parts : List (ℕ × ℕ) → List Item
+value_parts [] = []
+value_parts (e ∷ rest) = DualPair e.0 e.1 (none_left rest) ∷ value_parts rest
+
+-- the weights of a leaf, each with its cut
+abbrev pub weight_parts : List (ℕ × ℕ) → List Item
+weight_parts [] = []
+weight_parts (e ∷ rest) = LeafPair e.0 e.1 (none_left rest) ∷ weight_parts rest
+
+-- what a line of the tree gives
+abbrev pub tree_parts : TreeLine → List Item
+tree_parts (branch_on k) = Branch k ∷ []
+tree_parts (leaf_of denom weights) = Leaf denom (none_left weights) ∷ weight_parts weights
+tree_parts no_hub = Empty ∷ []
+
+-- what a line gives
+abbrev pub parts_of : Line → List Item
+parts_of says_version = []
+parts_of (says_size n q) = Size n q ∷ []
+parts_of (says_cost c) = Cost c ∷ []
+parts_of (says_bound b) = Bound b ∷ []
+parts_of (says_hubs hubs) = hub_parts hubs
+parts_of (says_route commodity route) = Route commodity.0 commodity.1 route.0 route.1 ∷ []
+parts_of (says_cuts all) = Cuts all ∷ []
+parts_of (says_cut number) = Cut number ∷ []
+parts_of (says_dual commodity dual) = Dual commodity.0 commodity.1 dual.a (none_left dual.u) ∷ value_parts dual.u
+parts_of (says_nodes all) = Nodes all ∷ []
+parts_of (says_tree line) = tree_parts line
+parts_of says_end = End ∷ []
+
+-- what the text of a certificate gives
+abbrev pub items_of : Proof → List Item
+items_of k = flat_map parts_of (certificate_items k)
+
+-- ---- the items of a line whose end has not come
+
+-- some hubs
+abbrev pub open_hubs : List ℕ → List Item
+open_hubs hubs = map (λ k. Hub k false) hubs
+
+-- some values of a dual
+abbrev pub open_values : List (ℕ × ℕ) → List Item
+open_values u = map (λ e. DualPair e.0 e.1 false) u
+
+-- some weights of a leaf
+abbrev pub open_weights : List (ℕ × ℕ) → List Item
+open_weights weights = map (λ e. LeafPair e.0 e.1 false) weights

@@ -1,0 +1,20 @@
+-- The bytes that a run takes.
+use Rattle.std.specs.Prelude.{◌≡◌, ℕ, ◌-◌, ◌≤◌, List, [], ◌∷◌, length, take, Option, Some, None, option_to_list}
+use Rattle.cert_scan.specs.Moves.{with_digit_of}
+use Rattle.cert_scan.specs.Scans.{scanned, given_all}
+use Rattle.cert_scan.specs.declared.items.Item.{Item}
+use Rattle.cert_scan.specs.declared.scanner.Scan.{Scan}
+
+-- digits, behind those of the first value, spell the last one
+abbrev pub SpellsOn : Option ℕ → List ℕ → Option ℕ → Type 0
+SpellsOn value [] last = value ≡ last
+SpellsOn value (byte ∷ bytes) last =
+    (more : ℕ) × (48 ≤ byte) × (byte ≤ 57) × (with_digit_of value (byte - 48) ≡ Some more) × SpellsOn (Some more) bytes last
+
+-- so many of the bytes were taken one after another, and the last one gave the item; all were taken where there is none
+pub record Runs (old : Scan) (bytes : List ℕ) (taken : ℕ) (item : Option Item) (new : Scan) : Type 0 where
+  pub within : taken ≤ length bytes
+  pub after : scanned old (take taken bytes) ≡ new
+  pub given : given_all old (take taken bytes) ≡ option_to_list item
+  pub nothing_before : given_all old (take (taken - 1) bytes) ≡ []
+  pub all : item ≡ None → taken ≡ length bytes

@@ -1,0 +1,23 @@
+//! The text of a certificate scanned byte by byte: its items one after another, with no memory taken.
+//!
+//! - [`Scan`] takes the bytes of a text, one at a time by `step` or many by `run`, and gives an [`Item`] as soon as one
+//!   is told. It holds a few numbers, however long the text is.
+//! - `finish` tells the [`Fault`] of the bytes so far, or that they are the whole text of a certificate.
+//!
+//! An item is given before its line has ended. Where something further on in the line is not as wanted, the text has a
+//! fault in this line, and who took the item forgets it. The items that were given are, at any time, those of lines
+//! that may stand so from the first on, and the first items of one more line, of which all that they say is in range.
+//!
+//! The text is defined in the crate `cert_spec`. A line begins at a stage of the text (`stages`), has a keyword
+//! (`heads`) and numbers at places (`places`); what one byte makes of it all is in `bytes`.
+#![tactic(auto)]
+
+mod bytes;
+mod heads;
+mod items;
+mod places;
+mod scanner;
+mod stages;
+
+pub use items::{Fault, Item};
+pub use scanner::Scan;

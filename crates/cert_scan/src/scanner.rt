@@ -1,0 +1,245 @@
+//! A scan of the bytes of a text.
+ghost use Rattle.std.specs.Prelude.{◌≡◌, ℕ, ◌++◌, ◌≤◌, List, [], ◌∷◌, length, take, Some, None, IfSome, option_to_list};
+ghost use Rattle.hub_spec.specs.Certificates.{Proof};
+ghost use Rattle.cert_spec.specs.Text.{Spells};
+ghost use Rattle.cert_scan.specs.Scans.{
+  new_scan,
+  stepped,
+  scanned,
+  given_all,
+  given_by,
+  nodes_by,
+  line_by,
+  fault_at,
+  fault_by,
+};
+ghost use Rattle.cert_scan.specs.Parts.{items_of};
+ghost use Rattle.cert_scan.specs.Given.{IsGiven};
+ghost use Rattle.cert_scan.specs.Scanned.{HasScanned, IsLost, AreCountable, Tells};
+ghost use Rattle.cert_scan.specs.Runs.{SpellsOn, Runs};
+ghost use Rattle.cert_scan.specs.declared.items.Item.{Item as ItemOf};
+
+use crate::bytes::{Position, after_byte, with_digit};
+use crate::items::{Fault, Item};
+use crate::stages::Stage;
+
+// A number below this takes a digit more in 64 bits.
+const SHORT: u64 = 1_000_000_000_000_000_000;
+
+/// The scan of a text, of which some bytes have come. It takes no memory.
+#[derive(Clone, Copy)]
+pub struct Scan {
+    // The number of nodes, once the text has told it.
+    n: u32,
+    line: u64,
+    position: Position,
+}
+
+impl Scan {
+    /// The scan of which no byte has come.
+    pub fn new() -> Scan
+        ensures { HasScanned [] [] result }
+    {
+        Scan {
+            n: 0,
+            line: 1,
+            position: Position::Start(Stage::Version),
+        }
+    }
+
+    /// Takes the next byte, and gives the item that is told with it, if one is.
+    ///
+    /// The items given so far are those of whole lines and the first ones of the line that stands. Once a line is not
+    /// as wanted, no item comes.
+    pub fn step(&mut self, byte: u8) -> Option<Item>
+        ensures given { result ≡ given_by self.old byte }
+        ensures after { self.new ≡ stepped self.old byte }
+        ensures scanned { (bytes : List ℕ) (given : List ItemOf) → HasScanned bytes given self.old
+            → HasScanned (bytes ++ byte ∷ []) (given ++ option_to_list result) self.new }
+        ensures in_order { (bytes : List ℕ) (given : List ItemOf) → HasScanned bytes given self.old
+            → IsGiven (given ++ option_to_list result) }
+        ensures lost { IsLost self.old → (result ≡ None) × IsLost self.new }
+    {
+        self.advance(byte)
+    }
+
+    /// Takes bytes up to the one that gives an item, and with it, or all where none does: how many, and the item.
+    ///
+    /// It does what `step` does with each of them.
+    pub fn run(&mut self, bytes: &[u8]) -> (usize, Option<Item>)
+        ensures runs { Runs self.old bytes.now result.0 result.1 self.new }
+        ensures scanned { (front : List ℕ) (given : List ItemOf) → HasScanned front given self.old
+            → HasScanned (front ++ take result.0 bytes.now) (given ++ option_to_list result.1) self.new }
+        ensures in_order { (front : List ℕ) (given : List ItemOf) → HasScanned front given self.old
+            → IsGiven (given ++ option_to_list result.1) }
+    {
+        self.advance_all(bytes)
+    }
+
+    fn advance_all(&mut self, bytes: &[u8]) -> (usize, Option<Item>)
+        ensures { Runs self.old bytes.now result.0 result.1 self.new }
+    {
+        let mut at = 0;
+        while at < bytes.len() {
+            at += self.take_digits(&bytes[at..]);
+            if at == bytes.len() {
+                break;
+            }
+            let item = self.advance(bytes[at]);
+            at += 1;
+            if item.is_some() {
+                return (at, item);
+            }
+        }
+        (at, None)
+    }
+
+    // Takes digits that go on with the number that stands, and tells how many.
+    fn take_digits(&mut self, bytes: &[u8]) -> usize
+        ensures within { result ≤ length bytes.now }
+        ensures after { self.new ≡ scanned self.old (take result bytes.now) }
+        ensures nothing { given_all self.old (take result bytes.now) ≡ [] }
+    {
+        let Position::Number(place, value) = self.position else {
+            return 0;
+        };
+        let (count, more) = more_digits(value, bytes);
+        self.position = Position::Number(place, more);
+        count
+    }
+
+    /// The number of the line in which the next byte stands, counted from 1; once a line was bad, that of the bad line.
+    pub fn line(&self) -> u64
+        ensures { result ≡ self.now.line }
+    {
+        self.line
+    }
+
+    /// The fault of the bytes that have come, if they are not the whole text of a certificate.
+    pub fn finish(&self) -> Option<Fault>
+        ensures value { result ≡ fault_by self.now }
+        ensures tells { (bytes : List ℕ) (given : List ItemOf) → HasScanned bytes given self.now → AreCountable bytes
+            → Tells bytes result }
+        ensures items { (bytes : List ℕ) (given : List ItemOf) (k : Proof) → HasScanned bytes given self.now
+            → Spells bytes k → given ≡ items_of k }
+    {
+        fault_of(self.line, self.position)
+    }
+
+    fn advance(&mut self, byte: u8) -> Option<Item>
+        ensures given { result ≡ given_by self.old byte }
+        ensures after { self.new ≡ stepped self.old byte }
+    {
+        let next = after_byte(self.n, self.position, byte);
+        self.n = nodes_after(self.n, next.item);
+        self.line = line_after(self.line, next.position);
+        self.position = next.position;
+        next.item
+    }
+}
+
+// How many of the bytes are digits that go on with a number, and the number with them.
+fn more_digits(first: Option<u128>, bytes: &[u8]) -> (usize, Option<u128>)
+    ensures within { result.0 ≤ length bytes.now }
+    ensures spelled { SpellsOn first (take result.0 bytes.now) result.1 }
+{
+    if first.is_some() {
+        return long_digits(first, bytes);
+    }
+    let (front, short) = short_digits(bytes);
+    let (back, value) = long_digits(widened(short), &bytes[front..]);
+    (front + back, value)
+}
+
+fn widened(value: Option<u64>) -> Option<u128>
+    ensures { result ≡ value }
+{
+    match value {
+        Some(number) => Some(number as u128),
+        None => None,
+    }
+}
+
+fn long_digits(first: Option<u128>, bytes: &[u8]) -> (usize, Option<u128>)
+    ensures within { result.0 ≤ length bytes.now }
+    ensures spelled { SpellsOn first (take result.0 bytes.now) result.1 }
+{
+    let mut value = first;
+    for (i, byte) in bytes.iter().enumerate() {
+        let Some(more) = digit_behind(value, *byte) else {
+            return (i, value);
+        };
+        value = Some(more);
+    }
+    (bytes.len(), value)
+}
+
+// The number with this byte behind it, if it is a digit that may stand there.
+fn digit_behind(value: Option<u128>, byte: u8) -> Option<u128>
+    ensures { IfSome result (λ more. SpellsOn value (byte ∷ []) (Some more)) }
+{
+    if byte < b'0' || byte > b'9' {
+        return None;
+    }
+    with_digit(value, byte)
+}
+
+// The first digits of a number, while 64 bits hold it.
+fn short_digits(bytes: &[u8]) -> (usize, Option<u64>)
+    ensures within { result.0 ≤ length bytes.now }
+    ensures spelled { SpellsOn None (take result.0 bytes.now) result.1 }
+{
+    let mut value = None;
+    for (i, byte) in bytes.iter().enumerate() {
+        let Some(more) = short_digit_behind(value, *byte) else {
+            return (i, value);
+        };
+        value = Some(more);
+    }
+    (bytes.len(), value)
+}
+
+// The number with this byte behind it, if it is a digit that may stand there and the number is short.
+fn short_digit_behind(value: Option<u64>, byte: u8) -> Option<u64>
+    ensures { IfSome result (λ more. SpellsOn value (byte ∷ []) (Some more)) }
+{
+    if byte < b'0' || byte > b'9' {
+        return None;
+    }
+    let digit = (byte - b'0') as u64;
+    let Some(front) = value else {
+        return Some(digit);
+    };
+    if front < 1 || front >= SHORT {
+        return None;
+    }
+    Some(front * 10 + digit)
+}
+
+fn fault_of(line: u64, position: Position) -> Option<Fault>
+    ensures { result ≡ fault_at line position }
+{
+    match position {
+        Position::Start(Stage::Nothing) => None,
+        Position::Failed => Some(Fault::BadLine { line }),
+        _ => Some(Fault::Ended { line }),
+    }
+}
+
+fn nodes_after(n: u32, item: Option<Item>) -> u32
+    ensures { result ≡ nodes_by n item }
+{
+    match item {
+        Some(Item::Size { n: nodes, .. }) => nodes,
+        _ => n,
+    }
+}
+
+fn line_after(line: u64, position: Position) -> u64
+    ensures { result ≡ line_by line position }
+{
+    match position {
+        Position::Start(_) => line.saturating_add(1),
+        _ => line,
+    }
+}

@@ -1,0 +1,182 @@
+-- Rough rows and short copies of columns: what their sums tell of the numbers of the variables.
+use Rattle.std.proofs.Common.{◌≡◌, ℕ, zero, suc, ◌+◌, ◌-◌, ◌*◌, ◌^◌, ◌<◌, ◌≤◌, false, List, [], ◌∷◌, length, get_or, set, take, sum, ℤ, pos, ◌+ℤ◌, ◌-ℤ◌, ◌*ℤ◌, ◌≤ℤ◌, int_lt, unsigned_abs, sym, ap, subst, ◌∙◌, arith}
+use Rattle.std.specs.Int.{w32, int_wrap, is_negative}
+use borrow.Author.Count.{below_more}
+use borrow.Rule.Slice.PartMut.{put_mid}
+use Rattle.std.proofs.Math.Nat.{mul-le-mul}
+use Rattle.std.proofs.lemmas.Int.{ints, unsigned_abs-mul, int_wrap_fits, fits_signed_from_abs}
+use Rattle.std.proofs.lemmas.List.{ext_get_or, get_or-set_same, get_or-set_other}
+use Rattle.std.proofs.lemmas.List.Sums.{sum_by-cons}
+use Rattle.std.proofs.lemmas.List.FromFn.{length-map-range_with_len, get_or-map-range_with_len}
+use Rattle.frac_rows.specs.Rows.{number}
+use Rattle.frac_rows.specs.Stored.{dot, reach, piece, IsUnder, AreColumns}
+use Rattle.frac_rows.specs.Sketches.{standing, IsRowOf, IsSketch, IsRough, is_below, NoneBelow, AreTelling}
+use Rattle.frac_rows.proofs.Integers.{*ℤ-+ℤ, -ℤ-*ℤ, *ℤ_assoc, unsigned_abs-+ℤ-le, times-le}
+use Rattle.frac_rows.proofs.SumsOfProducts.{dot_le_reach, wrapped_more, dot_all}
+use Rattle.frac_rows.proofs.WholeRows.{piece_within, length-piece}
+use Rattle.frac_rows.proofs.Pieces.{piece_put, piece_kept}
+
+-- ---- the short copy
+
+pub top_le_sum : (tops : List ℕ) (k : ℕ) → get_or tops k 0 ≤ sum tops
+top_le_sum [] k = omega arith
+top_le_sum (t ∷ tops) zero = omega (arith, sum_by-cons (λ n. n) t tops)
+top_le_sum (t ∷ tops) (suc k) = omega (arith, sum_by-cons (λ n. n) t tops, top_le_sum tops k)
+
+pub rows_more : (height variables : ℕ) (numbers flat part : List ℤ) (i s : ℕ) → i * variables ≤ length flat → length part ≡ variables
+    → ((k : ℕ) → k < i → IsRowOf height numbers k (piece variables flat k)) → IsRowOf height numbers i part
+    → (k : ℕ) → k < i + 1 → IsRowOf height numbers k (piece variables (put_mid (i * variables) s flat part) k)
+rows_more height variables numbers flat part i s within long before here =
+    below_more (λ k. IsRowOf height numbers k (piece variables (put_mid (i * variables) s flat part) k)) i
+    (λ k low. subst (IsRowOf height numbers k) (sym (piece_kept variables i k s flat part within low)) (before k low))
+    (subst (IsRowOf height numbers i) (sym (piece_put variables i s flat part within long)) here)
+
+standing_at : (rows : List ℤ) (variables height j k : ℕ) → k < height → number (standing rows variables height j) k ≡ number (piece variables rows k) j
+standing_at rows variables height j k low = get_or-map-range_with_len (λ k. number (piece variables rows k) j) 0 height k k (pos 0) low (omega arith)
+
+length-standing : (rows : List ℤ) (variables height j : ℕ) → length (standing rows variables height j) ≡ height
+length-standing rows variables height j = length-map-range_with_len (λ k. number (piece variables rows k) j) 0 height
+
+-- ---- sums
+
+pub summed_more : (rows : List ℤ) (variables first : ℕ) (rough sums new row : List ℤ) (k : ℕ) → k < length rough → row ≡ piece variables rows k
+    → length new ≡ length sums
+    → ((l : ℕ) → l < length sums → number sums l ≡ int_wrap w32 (dot (take k rough) (take k (standing rows variables (length rough) (first + l)))))
+    → ((l : ℕ) → l < length sums → number new l ≡ int_wrap w32 (number sums l +ℤ number rough k *ℤ number row (first + l)))
+    → (l : ℕ) → l < length new → number new l ≡ int_wrap w32 (dot (take (k + 1) rough) (take (k + 1) (standing rows variables (length rough) (first + l))))
+summed_more rows variables first rough sums new row k low is long so_far added l within =
+    let column = standing rows variables (length rough) (first + l) in
+    let at : number column k ≡ number row (first + l) =
+    standing_at rows variables (length rough) (first + l) k low ∙ ap (λ r. number r (first + l)) (sym is) in
+    wrapped_more w32 rough column k (number sums l) (number new l) low (omega (arith, low, length-standing rows variables (length rough) (first + l)))
+    (so_far l (omega arith)) (added l (omega arith) ∙ ap (λ z. int_wrap w32 (number sums l +ℤ number rough k *ℤ z)) (sym at))
+
+pub summed_all : (rows : List ℤ) (variables j : ℕ) (rough : List ℤ) (k : ℕ) → length rough ≤ k
+    → dot (take k rough) (take k (standing rows variables (length rough) j)) ≡ dot rough (standing rows variables (length rough) j)
+summed_all rows variables j rough k all =
+    dot_all rough (standing rows variables (length rough) j) k (omega (arith, all, length-standing rows variables (length rough) j))
+
+-- ---- what a sum tells
+
+apart : (d x r y a b : ℤ) → (x *ℤ y +ℤ a) -ℤ d *ℤ (r *ℤ y +ℤ b) ≡ (x -ℤ d *ℤ r) *ℤ y +ℤ (a -ℤ d *ℤ b)
+apart d x r y a b = omega (arith, ints, -ℤ-*ℤ x (d *ℤ r) y, *ℤ_assoc d r y, *ℤ-+ℤ d (r *ℤ y) b)
+
+-- the sum of the products is about d times the rough one
+pub dot_near : (d : ℕ) (row rough column : List ℤ) (tops : List ℕ) → length rough ≤ length row → length rough ≡ length tops → length column ≡ length tops
+    → IsUnder column tops → ((k : ℕ) → k < length rough → unsigned_abs (number row k -ℤ pos d *ℤ number rough k) ≤ d)
+    → unsigned_abs (dot row column -ℤ pos d *ℤ dot rough column) ≤ d * sum tops
+dot_near d [] [] column tops more one_each long under near = omega (arith, ints)
+dot_near d [] (r ∷ rough) column tops more one_each long under near = absurd (omega arith)
+dot_near d (x ∷ row) [] [] tops more one_each long under near = omega (arith, ints)
+dot_near d (x ∷ row) [] (y ∷ column) tops more one_each long under near = absurd (omega arith)
+dot_near d (x ∷ row) (r ∷ rough) [] tops more one_each long under near = absurd (omega arith)
+dot_near d (x ∷ row) (r ∷ rough) (y ∷ column) [] more one_each long under near = absurd (omega arith)
+dot_near d (x ∷ row) (r ∷ rough) (y ∷ column) (t ∷ tops) more one_each long under near =
+    let rest = dot_near d row rough column tops (omega arith) (omega arith) (omega arith) (λ k low. under (suc k) (omega arith))
+    (λ k low. near (suc k) (omega arith)) in
+    let first : unsigned_abs (x -ℤ pos d *ℤ r) * unsigned_abs y ≤ d * t = mul-le-mul (near 0 (omega arith)) (under 0 (omega arith)) in
+    rw (apart (pos d) x r y (dot row column) (dot rough column))
+    (omega (
+      arith,
+      unsigned_abs-+ℤ-le ((x -ℤ pos d *ℤ r) *ℤ y) (dot row column -ℤ pos d *ℤ dot rough column),
+      unsigned_abs-mul (x -ℤ pos d *ℤ r) y,
+      first,
+      rest,
+      ap (λ n. d * n) (sum_by-cons (λ n. n) t tops),
+    ))
+
+not_negative : (z : ℤ) → pos 0 ≤ℤ z → is_negative z ≡ false
+not_negative z low = grind (arith, ints)
+
+not_below : (d margin : ℕ) (exact rough : ℤ) → unsigned_abs (exact -ℤ pos d *ℤ rough) ≤ d * margin → pos margin ≤ℤ rough → is_negative exact ≡ false
+not_below d margin exact rough near above =
+    let more : (pos d *ℤ pos margin) ≤ℤ (pos d *ℤ rough) = times-le d (pos margin) rough above in
+    not_negative exact (omega (arith, ints, more, near))
+
+-- the column of the short copy is the variable's
+standing_is : (height variables : ℕ) (numbers : List ℤ) (tops : List ℕ) (rows : List ℤ) (margin : ℤ) (j : ℕ)
+    → AreColumns height variables numbers tops → IsSketch height variables numbers tops rows margin → j < variables
+    → standing rows variables height j ≡ piece height numbers j
+standing_is height variables numbers tops rows margin j are sketch low =
+    let long = length-piece height numbers j (piece_within height variables j numbers are.long low) in
+    ext_get_or (pos 0) (standing rows variables height j) (piece height numbers j) (length-standing rows variables height j ∙ sym long)
+    (λ k less.
+    let within : k < height = omega (arith, less, length-standing rows variables height j) in
+    standing_at rows variables height j k within
+    ∙ (sketch.same k within).each j
+    (omega (arith, low, length-piece variables rows k (piece_within variables height k rows sketch.long within))))
+
+pub sums_tell : (height variables : ℕ) (numbers : List ℤ) (tops : List ℕ) (rows : List ℤ) (margin : ℤ) (row rough : List ℤ) (first : ℕ) (sums : List ℤ) (d : ℕ)
+    → height ≡ length row - 1
+    → AreColumns height variables numbers tops → IsSketch height variables numbers tops rows margin → length rough ≡ length tops → IsRough d row rough
+    → reach rough tops < 2 ^ 31 → first + length sums ≤ variables
+    → ((l : ℕ) → l < length sums → number sums l ≡ int_wrap w32 (dot rough (standing rows variables (length rough) (first + l))))
+    → AreTelling numbers row margin first sums
+sums_tell height variables numbers tops rows margin row rough first sums d high are sketch long is small within summed = record {
+  each = λ l low above.
+      let j = first + l in
+      let less : j < variables = omega arith in
+      let column = piece height numbers j in
+      let tall : length rough ≡ height = long ∙ are.topped.one_top_each in
+      let column_long : length column ≡ length tops = length-piece height numbers j (piece_within height variables j numbers are.long less) ∙ sym are.topped.one_top_each in
+      let under = are.topped.under j less in
+      let same : dot rough (standing rows variables (length rough) j) ≡ dot rough column =
+      ap (λ h. dot rough (standing rows variables h j)) tall ∙ ap (dot rough) (standing_is height variables numbers tops rows margin j are sketch less) in
+      let size = dot_le_reach rough column tops column_long under in
+      let whole : number sums l ≡ dot rough column =
+      summed l low ∙ ap (int_wrap w32) same ∙ int_wrap_fits w32 (dot rough column) (fits_signed_from_abs w32 (dot rough column) (omega (arith, size, small))) in
+      let near = dot_near d row rough column tops (omega (arith, tall, high)) long column_long under is.near in
+      let above_margin : pos (sum tops) ≤ℤ dot rough column = subst (λ z. z ≤ℤ dot rough column) sketch.is_margin (subst (λ z. margin ≤ℤ z) whole above) in
+      ap (λ h. is_negative (dot row (piece h numbers j))) (sym high) ∙ not_below d (sum tops) (dot row column) (dot rough column) near above_margin;
+}
+
+-- ---- the first number below 0
+
+pub telling_at : (numbers row : List ℤ) (margin : ℤ) (first : ℕ) (sums : List ℤ) (j : ℕ) → AreTelling numbers row margin first sums → first ≤ j
+    → j - first < length sums → margin ≤ℤ number sums (j - first) → is_below numbers row j ≡ false
+telling_at numbers row margin first sums j telling low high above =
+    let same : first + (j - first) ≡ j = omega arith in
+    subst (λ n. is_below numbers row n ≡ false) same (telling.each (j - first) high above)
+
+pub none_told : (numbers row : List ℤ) (margin : ℤ) (first last : ℕ) (sums : List ℤ) → AreTelling numbers row margin first sums → first + length sums ≡ last
+    → ((l : ℕ) → l < length sums → margin ≤ℤ number sums l) → NoneBelow numbers row first last
+none_told numbers row margin first last sums telling whole above = record {
+  each = λ j low high. telling_at numbers row margin first sums j telling low (omega arith) (above (j - first) (omega arith));
+}
+
+pub none_more : (numbers row : List ℤ) (first j : ℕ) → NoneBelow numbers row first j → is_below numbers row j ≡ false → NoneBelow numbers row first (j + 1)
+none_more numbers row first j none here = record {
+  each = λ k low high. below_more (λ i. first ≤ i → is_below numbers row i ≡ false) j (λ i less among. none.each i among less) (λ among. here) k high low;
+}
+
+-- a rough row, number by number
+pub rough_more : (d : ℕ) (row rough : List ℤ) (i : ℕ) (r : ℤ) → i < length rough
+    → ((k : ℕ) → k < i → unsigned_abs (number row k -ℤ pos d *ℤ number rough k) ≤ d) → unsigned_abs (number row i -ℤ pos d *ℤ r) ≤ d
+    → (k : ℕ) → k < i + 1 → unsigned_abs (number row k -ℤ pos d *ℤ number (set rough i r) k) ≤ d
+rough_more d row rough i r low before here =
+    below_more (λ k. unsigned_abs (number row k -ℤ pos d *ℤ number (set rough i r) k) ≤ d) i
+    (λ k less. subst (λ z. unsigned_abs (number row k -ℤ pos d *ℤ z) ≤ d) (sym (get_or-set_other rough i k r (pos 0) (omega arith))) (before k less))
+    (subst (λ z. unsigned_abs (number row i -ℤ pos d *ℤ z) ≤ d) (sym (get_or-set_same rough i r (pos 0) low)) here)
+
+pub at_least : (a b : ℤ) → int_lt a b ≡ false → b ≤ℤ a
+at_least a b h = grind (arith, ints)
+
+pub rough_within : (x p r z : ℤ) (d n : ℕ) → p ≡ pos d *ℤ r → z ≡ x -ℤ p → n ≡ unsigned_abs z → n ≤ d → unsigned_abs (x -ℤ pos d *ℤ r) ≤ d
+rough_within x p r z d n product rest size most =
+    let same : unsigned_abs (x -ℤ pos d *ℤ r) ≡ n = ap unsigned_abs (ap (λ y. x -ℤ y) (sym product) ∙ sym rest) ∙ sym size in
+    omega (arith, same, most)
+
+-- ---- products that are added
+
+pub products_done : (old sums row : List ℤ) (first i : ℕ) (factor z : ℤ) → i < length sums
+    → ((l : ℕ) → l < i → number sums l ≡ int_wrap w32 (number old l +ℤ factor *ℤ number row (first + l)))
+    → number sums i ≡ number old i → z ≡ int_wrap w32 (number sums i +ℤ factor *ℤ number row (first + i))
+    → (l : ℕ) → l < i + 1 → number (set sums i z) l ≡ int_wrap w32 (number old l +ℤ factor *ℤ number row (first + l))
+products_done old sums row first i factor z low done same is =
+    below_more (λ l. number (set sums i z) l ≡ int_wrap w32 (number old l +ℤ factor *ℤ number row (first + l))) i
+    (λ l less. get_or-set_other sums i l z (pos 0) (omega arith) ∙ done l less)
+    (get_or-set_same sums i z (pos 0) low ∙ is ∙ ap (λ x. int_wrap w32 (x +ℤ factor *ℤ number row (first + i))) same)
+
+pub products_rest : (old sums : List ℤ) (i : ℕ) (z : ℤ) → ((l : ℕ) → i ≤ l → number sums l ≡ number old l)
+    → (l : ℕ) → i + 1 ≤ l → number (set sums i z) l ≡ number old l
+products_rest old sums i z rest l low = get_or-set_other sums i l z (pos 0) (omega arith) ∙ rest l (omega arith)

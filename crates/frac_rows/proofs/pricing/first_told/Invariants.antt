@@ -1,0 +1,5 @@
+use Rattle.frac_rows.specs.Sketches.{NoneBelow}
+use Rattle.frac_rows.proofs.pricing.first_told.Given as goal
+
+abbrev pub invariant-loop-j : goal.invariant-loop-j
+invariant-loop-j l = NoneBelow l.numbers l.row l.first l.j

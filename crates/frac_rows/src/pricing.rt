@@ -1,0 +1,203 @@
+//! The least column before v with a number below 0 in a row.
+
+ghost use Rattle.std.specs.Prelude.{◌≡◌, ℕ, ◌+◌, ◌-◌, ◌*◌, ◌^◌, ◌<◌, ◌≤◌, ◌≤ℤ◌, false, length, IfSome, IsNone};
+ghost use Rattle.frac_rows.specs.Rows.{first_negative, AreNarrow};
+ghost use Rattle.frac_rows.specs.Stored.{extended, pieces, reach, AreColumns};
+ghost use Rattle.frac_rows.specs.Sketches.{IsSketch, IsRough, is_below, NoneBelow, IsFirstBelow, AreTelling};
+
+use crate::columns::entry_of;
+use crate::sketches::{MOST_ROWS, Sketch, least, rough_sums, roughen};
+
+// How many columns are summed side by side.
+const LANES: usize = 32;
+
+/// The least column before v with a number below 0 in the whole row.
+pub(crate) fn first_negative_of(
+    numbers: &[i64],
+    tops: &[u64],
+    sketch: &Sketch,
+    variables: usize,
+    row: &[i64],
+) -> Option<usize>
+    requires some { 2 ≤ length row.now }
+    requires columns { AreColumns (length row.now - 1) variables numbers.now tops.now }
+    requires sketch { 1 ≤ length sketch.now.rows.items
+        → IsSketch (length row.now - 1) variables numbers.now tops.now sketch.now.rows.items sketch.now.margin }
+    requires narrow { AreNarrow (extended (pieces (length row.now - 1) variables numbers.now) row.now) }
+    ensures { result ≡ first_negative (extended (pieces (length row.now - 1) variables numbers.now) row.now) }
+{
+    if let Some(j) = first_below(numbers, tops, sketch, variables, row) {
+        return Some(j);
+    }
+    for j in variables..variables + row.len() - 2 {
+        if entry_of(numbers, variables, row, j) < 0 {
+            return Some(j);
+        }
+    }
+    None
+}
+
+// The first variable with a number below 0.
+fn first_below(
+    numbers: &[i64],
+    tops: &[u64],
+    sketch: &Sketch,
+    variables: usize,
+    row: &[i64],
+) -> Option<usize>
+    requires some { 2 ≤ length row.now }
+    requires columns { AreColumns (length row.now - 1) variables numbers.now tops.now }
+    requires sketch { 1 ≤ length sketch.now.rows.items
+        → IsSketch (length row.now - 1) variables numbers.now tops.now sketch.now.rows.items sketch.now.margin }
+    requires narrow { AreNarrow (extended (pieces (length row.now - 1) variables numbers.now) row.now) }
+    ensures none { IsNone result → NoneBelow numbers.now row.now 0 variables }
+    ensures some { IfSome result (IsFirstBelow numbers.now row.now 0 variables) }
+{
+    if sketch.rows.is_empty() {
+        return first_between(numbers, variables, row);
+    }
+    let mut room = [0i32; MOST_ROWS];
+    let rough = &mut room[..tops.len()];
+    if !roughen(row, tops, rough) {
+        return first_between(numbers, variables, row);
+    }
+    first_by_blocks(numbers, tops, sketch, variables, row, rough)
+}
+
+// The same by looking at one after the other.
+fn first_between(numbers: &[i64], variables: usize, row: &[i64]) -> Option<usize>
+    requires some { 1 ≤ length row.now }
+    requires long { length numbers.now ≡ variables * (length row.now - 1) }
+    requires narrow { AreNarrow (extended (pieces (length row.now - 1) variables numbers.now) row.now) }
+    ensures none { IsNone result → NoneBelow numbers.now row.now 0 variables }
+    ensures some { IfSome result (IsFirstBelow numbers.now row.now 0 variables) }
+{
+    for j in 0..variables {
+        if is_below(numbers, variables, row, j) {
+            return Some(j);
+        }
+    }
+    None
+}
+
+// Whether the variable's number is below 0.
+fn is_below(numbers: &[i64], variables: usize, row: &[i64], j: usize) -> bool
+    requires some { 1 ≤ length row.now }
+    requires long { length numbers.now ≡ variables * (length row.now - 1) }
+    requires narrow { AreNarrow (extended (pieces (length row.now - 1) variables numbers.now) row.now) }
+    requires within { j < variables }
+    ensures { result ≡ is_below numbers.now row.now j }
+{
+    entry_of(numbers, variables, row, j) < 0
+}
+
+// The same by the rough row, block by block.
+fn first_by_blocks(
+    numbers: &[i64],
+    tops: &[u64],
+    sketch: &Sketch,
+    variables: usize,
+    row: &[i64],
+    rough: &[i32],
+) -> Option<usize>
+    requires some { 2 ≤ length row.now }
+    requires columns { AreColumns (length row.now - 1) variables numbers.now tops.now }
+    requires sketch { IsSketch (length row.now - 1) variables numbers.now tops.now sketch.now.rows.items sketch.now.margin }
+    requires narrow { AreNarrow (extended (pieces (length row.now - 1) variables numbers.now) row.now) }
+    requires long { length rough.now ≡ length tops.now }
+    requires rough { (d : ℕ) × IsRough d row.now rough.now }
+    requires reach { reach rough.now tops.now < 2 ^ 31 }
+    ensures none { IsNone result → NoneBelow numbers.now row.now 0 variables }
+    ensures some { IfSome result (IsFirstBelow numbers.now row.now 0 variables) }
+{
+    for block in 0..variables.div_ceil(LANES) {
+        let first = block * LANES;
+        let last = variables.min(first + LANES);
+        if let Some(j) = first_in_block(numbers, tops, sketch, variables, row, rough, first, last) {
+            return Some(j);
+        }
+    }
+    None
+}
+
+// The first of these variables with a number below 0.
+fn first_in_block(
+    numbers: &[i64],
+    tops: &[u64],
+    sketch: &Sketch,
+    variables: usize,
+    row: &[i64],
+    rough: &[i32],
+    first: usize,
+    last: usize,
+) -> Option<usize>
+    requires some { 2 ≤ length row.now }
+    requires columns { AreColumns (length row.now - 1) variables numbers.now tops.now }
+    requires sketch { IsSketch (length row.now - 1) variables numbers.now tops.now sketch.now.rows.items sketch.now.margin }
+    requires narrow { AreNarrow (extended (pieces (length row.now - 1) variables numbers.now) row.now) }
+    requires long { length rough.now ≡ length tops.now }
+    requires rough { (d : ℕ) × IsRough d row.now rough.now }
+    requires reach { reach rough.now tops.now < 2 ^ 31 }
+    requires first { first ≤ last }
+    requires few { last ≤ first + 32 }
+    requires last { last ≤ variables }
+    ensures none { IsNone result → NoneBelow numbers.now row.now first last }
+    ensures some { IfSome result (IsFirstBelow numbers.now row.now first last) }
+{
+    let mut room = [0i32; LANES];
+    let sums = &mut room[..last - first];
+    rough_sums(&sketch.rows, variables, first, rough, sums);
+    first_told(numbers, variables, row, sketch.margin, first, last, sums)
+}
+
+// The same, where sums tell of most that their number is not below 0.
+fn first_told(
+    numbers: &[i64],
+    variables: usize,
+    row: &[i64],
+    margin: i32,
+    first: usize,
+    last: usize,
+    sums: &[i32],
+) -> Option<usize>
+    requires some { 1 ≤ length row.now }
+    requires long { length numbers.now ≡ variables * (length row.now - 1) }
+    requires narrow { AreNarrow (extended (pieces (length row.now - 1) variables numbers.now) row.now) }
+    requires one_each { first + length sums.now ≡ last }
+    requires last { last ≤ variables }
+    requires telling { AreTelling numbers.now row.now margin first sums.now }
+    ensures none { IsNone result → NoneBelow numbers.now row.now first last }
+    ensures some { IfSome result (IsFirstBelow numbers.now row.now first last) }
+{
+    if !(least(sums) < margin) {
+        return None;
+    }
+    for j in first..last {
+        if is_below_by(numbers, variables, row, j, margin, sums[j - first]) {
+            return Some(j);
+        }
+    }
+    None
+}
+
+// Whether the variable's number is below 0, which a sum that is at least the margin rules out.
+fn is_below_by(
+    numbers: &[i64],
+    variables: usize,
+    row: &[i64],
+    j: usize,
+    margin: i32,
+    sum: i32,
+) -> bool
+    requires some { 1 ≤ length row.now }
+    requires long { length numbers.now ≡ variables * (length row.now - 1) }
+    requires narrow { AreNarrow (extended (pieces (length row.now - 1) variables numbers.now) row.now) }
+    requires within { j < variables }
+    requires telling { margin ≤ℤ sum → is_below numbers.now row.now j ≡ false }
+    ensures { result ≡ is_below numbers.now row.now j }
+{
+    if sum < margin {
+        return is_below(numbers, variables, row, j);
+    }
+    false
+}

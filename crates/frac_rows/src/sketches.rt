@@ -1,0 +1,211 @@
+//! Short copies of the columns of the variables, side by side, by which sums of products are told about.
+
+ghost use Rattle.std.specs.Prelude.{◌≡◌, ℕ, ◌+◌, ◌-◌, ◌*◌, ◌^◌, ◌<◌, ◌≤◌, ◌+ℤ◌, ◌-ℤ◌, ◌*ℤ◌, ◌≤ℤ◌, pos, length, min, sum, unsigned_abs, FitsSigned, IsTrue, IfOk, IfSome};
+ghost use Rattle.std.specs.Int.{w32, int_wrap};
+ghost use Rattle.frac_rows.specs.Rows.{widest, number};
+ghost use Rattle.frac_rows.specs.Stored.{dot, reach, piece, AreColumns};
+ghost use Rattle.frac_rows.specs.Sketches.{standing, IsRowOf, IsSketch, IsRough};
+
+use crate::limits::WIDEST;
+use crate::multipliers::product;
+use crate::parts::part;
+use crate::products::{reach, size_product};
+use std::alloc::{AllocError, Global};
+
+/// The most rows of a short copy.
+pub(crate) const MOST_ROWS: usize = 256;
+
+// The most that the sizes of a column of a short copy may be together.
+const MOST_MARGIN: u64 = 1 << 30;
+
+/// The numbers of the columns in 32 bits, row by row, and what the sizes of a column's numbers are at most together.
+#[derive(Drop)]
+pub(crate) struct Sketch {
+    pub(crate) rows: Vec<i32>,
+    pub(crate) margin: i32,
+}
+
+/// The short copy of the columns; it has no rows where they have too many rows or too great numbers.
+pub(crate) fn sketch_of(
+    alloc: Global,
+    columns: &[i64],
+    tops: &[u64],
+    variables: usize,
+) -> Result<Sketch, AllocError>
+    requires { AreColumns (length tops.now) variables columns.now tops.now }
+    ensures { IfOk result (λ s. 1 ≤ length s.rows.items
+        → IsSketch (length tops.now) variables columns.now tops.now s.rows.items s.margin) }
+{
+    let margin = sum_of(tops);
+    if tops.len() > MOST_ROWS || margin > MOST_MARGIN {
+        return Ok(Sketch {
+            rows: Vec::new(alloc),
+            margin: 0,
+        });
+    }
+    let mut rows = vec![in alloc; 0; tops.len() * variables]?;
+    write_rows(&mut rows, columns, tops, variables);
+    Ok(Sketch {
+        rows,
+        margin: margin as i32,
+    })
+}
+
+fn sum_of(tops: &[u64]) -> u64
+    requires { sum tops.now ≤ 2 ^ 64 }
+    ensures { result ≡ min (2 ^ 64 - 1) (sum tops.now) }
+{
+    let mut total = 0u64;
+    for top in tops {
+        total = total.saturating_add(*top);
+    }
+    total
+}
+
+// Writes the numbers of all columns, row by row.
+fn write_rows(rows: &mut [i32], columns: &[i64], tops: &[u64], variables: usize)
+    requires columns { AreColumns (length tops.now) variables columns.now tops.now }
+    requires small { sum tops.now ≤ 2 ^ 30 }
+    requires long { length rows.old ≡ length tops.now * variables }
+    ensures { (k : ℕ) → k < length tops.now
+        → IsRowOf (length tops.now) columns.now k (piece variables rows.new k) }
+{
+    for k in 0..tops.len() {
+        let out = &mut rows[k * variables..k * variables + variables];
+        write_row(out, columns, tops, k);
+    }
+}
+
+fn write_row(out: &mut [i32], columns: &[i64], tops: &[u64], k: usize)
+    requires columns { AreColumns (length tops.now) (length out.old) columns.now tops.now }
+    requires small { sum tops.now ≤ 2 ^ 30 }
+    requires row { k < length tops.now }
+    ensures { IsRowOf (length tops.now) columns.now k out.new }
+{
+    for j in 0..out.len() {
+        out[j] = part(columns, tops.len(), j)[k] as i32;
+    }
+}
+
+/// Writes for each number of the row about how often some step goes into it, and tells whether all of them, and all sums
+/// of products of them with a column, fit 32 bits.
+pub(crate) fn roughen(row: &[i64], tops: &[u64], rough: &mut [i32]) -> bool
+    requires long { length tops.now ≤ length row.now }
+    requires room { length rough.old ≡ length tops.now }
+    ensures rough { IsTrue result → (d : ℕ) × IsRough d row.now rough.new }
+    ensures reach { IsTrue result → reach rough.new tops.now < 2 ^ 31 }
+{
+    let shift = shift_for(reach(row, tops));
+    if shift > 61 {
+        return false;
+    }
+    let step = 1u64 << shift;
+    if step > WIDEST {
+        return false;
+    }
+    for k in 0..rough.len() {
+        let Some(number) = rough_number(row[k], shift, step) else {
+            return false;
+        };
+        rough[k] = number;
+    }
+    reach_32(rough, tops) < 1 << 31
+}
+
+// How often a row of this reach is halved.
+fn shift_for(reach: u128) -> u32 {
+    98u32.saturating_sub(reach.leading_zeros())
+}
+
+// About how often the step goes into the number, unless that does not fit.
+fn rough_number(x: i64, shift: u32, step: u64) -> Option<i32>
+    requires shift { shift < 64 }
+    requires step { step ≤ widest }
+    ensures { IfSome result (λ r. unsigned_abs (x -ℤ pos step *ℤ r) ≤ step) }
+{
+    let number = i32::try_from(x >> shift).ok()?;
+    let rest = i128::from(x) - product(step as i64, i64::from(number));
+    if rest.unsigned_abs() > u128::from(step) {
+        return None;
+    }
+    Some(number)
+}
+
+// What the sum of the products of the rough row and a column is at most in size.
+fn reach_32(rough: &[i32], tops: &[u64]) -> u128
+    requires { length tops.now ≤ length rough.now }
+    ensures { result ≡ min (2 ^ 128 - 1) (reach rough.now tops.now) }
+{
+    let mut sum = 0u128;
+    for k in 0..tops.len() {
+        sum = sum.saturating_add(size_product(i64::from(rough[k]), tops[k]));
+    }
+    sum
+}
+
+/// Writes the sums of the products of the rough row with the columns from `first` on, as far as they fit.
+pub(crate) fn rough_sums(
+    rows: &[i32],
+    variables: usize,
+    first: usize,
+    rough: &[i32],
+    sums: &mut [i32],
+)
+    requires long { length rows.now ≡ length rough.now * variables }
+    requires within { first + length sums.old ≤ variables }
+    ensures { (l : ℕ) → l < length sums.new → number sums.new l
+        ≡ int_wrap w32 (dot rough.now (standing rows.now variables (length rough.now) (first + l))) }
+{
+    clear(sums);
+    for k in 0..rough.len() {
+        add_products(sums, rough[k], short_row(rows, variables, k), first);
+    }
+}
+
+fn clear(sums: &mut [i32])
+    ensures { (l : ℕ) → l < length sums.new → number sums.new l ≡ pos 0 }
+{
+    for sum in sums.iter_mut() {
+        *sum = 0;
+    }
+}
+
+fn short_row(rows: &[i32], variables: usize, k: usize) -> &[i32]
+    requires { k * variables + variables ≤ length rows.now }
+    ensures value { result.now ≡ piece variables rows.now k }
+    ensures long { length result.now ≡ variables }
+{
+    &rows[k * variables..k * variables + variables]
+}
+
+// Adds the products of the factor and the row's numbers from `first` on.
+fn add_products(sums: &mut [i32], factor: i32, row: &[i32], first: usize)
+    requires within { first + length sums.old ≤ length row.now }
+    requires fit { (l : ℕ) → l < length sums.old → FitsSigned w32 (number sums.old l) }
+    ensures { (l : ℕ) → l < length sums.old → number sums.new l
+        ≡ int_wrap w32 (number sums.old l +ℤ factor *ℤ number row.now (first + l)) }
+{
+    if factor == 0 {
+        return;
+    }
+    for l in 0..sums.len() {
+        sums[l] = wrapped_32(sums[l], factor, row[first + l]);
+    }
+}
+
+fn wrapped_32(sum: i32, a: i32, b: i32) -> i32
+    ensures { result ≡ int_wrap w32 (sum +ℤ a *ℤ b) }
+{
+    sum.wrapping_add(a.wrapping_mul(b))
+}
+
+/// The least of the sums.
+pub(crate) fn least(sums: &[i32]) -> i32
+    ensures { (l : ℕ) → l < length sums.now → result ≤ℤ number sums.now l }
+{
+    let mut least = i32::MAX;
+    for sum in sums {
+        least = least.min(*sum);
+    }
+    least
+}

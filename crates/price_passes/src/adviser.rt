@@ -1,0 +1,247 @@
+//! The adviser of a search: it betters duals from node to node, and guesses at hub sets.
+
+ghost use Rattle.std.specs.Prelude.{◌≡◌, ◌<◌, ◌≤◌, length, IfOk, IfSome};
+ghost use Rattle.price_passes.specs.Shapes.{cells, shape_of};
+
+use crate::guess::Guess;
+use crate::lengths::Lengths;
+use crate::memory::Memory;
+use crate::moves::LocalSearch;
+use crate::node::Node;
+use crate::passes::Bench;
+use crate::progress::Progress;
+use crate::ramps::Side;
+use crate::rows::{copy, fill};
+use crate::state::State;
+use crate::tightening::Tightening;
+use hub_model::Instance;
+use std::alloc::{AllocError, Global};
+use std::marker::Model;
+
+/// In so many first passes at a node the start set sets caps and least prices.
+const EARLY_PASSES: usize = 3;
+
+/// Gives advice at the nodes of a search, one after another. It is seen as the shape of its instance.
+///
+/// A search enters a node, and betters the duals there as long as that goes on. Where the bound comes near what is
+/// wanted, it tests the values itself, by their exact cut; where passes end before, it branches. Duals and prices go on
+/// from node to node, so that a child starts from its parent's; a [`Memory`] leads back to those of an earlier node.
+#[derive(Debug, Drop)]
+pub struct Adviser {
+    lengths: Lengths,
+    state: State,
+    node: Node,
+    guess: Guess,
+    progress: Progress,
+    bench: Bench,
+    search: LocalSearch,
+    tightening: Tightening,
+}
+
+impl Model for Adviser {
+    ghost use Rattle.price_passes.specs.Shapes.{Shape};
+
+    ghost Value = { Shape };
+
+    ghost view = { λ s. s.state };
+}
+
+impl Adviser {
+    /// An adviser for the instance, with all duals 0.
+    #[tactic(auto, using(crate::proofs::SmallShapes::few_places))]
+    pub fn new(alloc: Global, instance: &Instance) -> Result<Adviser, AllocError>
+        ensures { IfOk result (λ a. a ≡ shape_of instance.now) }
+    {
+        let size = instance.size() as usize;
+        let places = instance.candidates().len();
+        Ok(Adviser {
+            lengths: Lengths::new(alloc, instance)?,
+            state: State::new(alloc, size, places)?,
+            node: Node::new(alloc, size, places)?,
+            guess: Guess::new(alloc, places)?,
+            progress: Progress::new(alloc)?,
+            bench: Bench::new(alloc, places)?,
+            search: LocalSearch::new(alloc, size, places)?,
+            tightening: Tightening::new(alloc, size, places)?,
+        })
+    }
+
+    /// Goes to the node of a search with these sides. A guess is made from the hubs that are marked.
+    pub fn enter(&mut self, sides: &[Side], hubs: &[bool])
+        ensures { self.new ≡ self.old }
+    {
+        copy(sides, &mut self.node.sides);
+        self.progress.begin(self.node.is_root());
+        self.guess.clear();
+        self.node.mark_start(hubs, &mut self.guess.start);
+        self.node
+            .mark_movable(&self.guess.start, &mut self.guess.movable);
+        let cost = self
+            .search
+            .improve(&self.lengths, &self.guess.start, &self.guess.movable);
+        self.guess.offer(self.search.marks(), cost);
+        copy(self.search.marks(), &mut self.guess.start);
+        let limit = self.lengths.longest().wrapping_add(1);
+        self.search
+            .set_caps(&self.lengths, limit, &mut self.node.caps);
+    }
+
+    /// Betters the duals by one pass, and the guess, where the bound is to come to this, in 10^-12.
+    pub fn better(&mut self, wanted: i128)
+        ensures { self.new ≡ self.old }
+    {
+        if self.node.is_full() {
+            self.better_full();
+            return;
+        }
+        self.prepare();
+        self.state
+            .pass(&self.lengths, self.node.terms(), &mut self.bench);
+        self.node.follow(self.state.loads());
+        let bound = self.state.bound(&self.lengths, &self.node.sides);
+        let bound = self.round(wanted, bound);
+        self.progress.note(bound);
+    }
+
+    /// The values, commodity by commodity: a number for each place, in the unit.
+    pub fn values(&self) -> &[u32]
+        ensures { length result.now ≡ cells self.now }
+    {
+        self.state.values()
+    }
+
+    /// The unit of the values, in 10^-6 by unit of flow.
+    pub fn unit(&self) -> u64
+        ensures { 1 ≤ result }
+    {
+        self.lengths.unit()
+    }
+
+    /// The hubs of the best set that was found at the node, marked by place; none if none was found.
+    pub fn guess(&self) -> &[bool] {
+        &self.guess.best
+    }
+
+    /// What the guess costs, about, in 10^-12.
+    pub fn cost_hint(&self) -> i128 {
+        self.guess.cost
+    }
+
+    /// The bound of the node by the cut of the values, about, in 10^-12.
+    pub fn bound_hint(&self) -> i128 {
+        self.progress.bound()
+    }
+
+    /// Tells whether another pass is worth its time, where the bound is to come to this, in 10^-12.
+    pub fn goes_on(&self, wanted: i128) -> bool {
+        self.progress.goes_on(wanted.min(self.guess.cost))
+    }
+
+    /// The free place to branch on, if any is free.
+    pub fn branch_place(&self) -> Option<usize>
+        ensures { IfSome result (λ k. k < self.now.places) }
+    {
+        let place = self.node.branch_place()?;
+        if place < self.state.places() {
+            Some(place)
+        } else {
+            None
+        }
+    }
+
+    /// Puts the duals and the prices into a memory, to go back to them.
+    pub fn remember(&self, memory: &mut Memory)
+        ensures { memory.new ≡ memory.old }
+    {
+        memory.take(&self.state, &self.node.prices);
+    }
+
+    /// Goes back to the duals and the prices of a memory.
+    pub fn recall(&mut self, memory: &Memory)
+        ensures { self.new ≡ self.old }
+    {
+        self.state.copy_from(memory.state());
+        copy(memory.prices(), &mut self.node.prices);
+    }
+
+    /// Sets ramps and caps for the next pass.
+    fn prepare(&mut self)
+        ensures { self.new ≡ self.old }
+    {
+        let passes = self.progress.passes();
+        let early = passes < EARLY_PASSES;
+        if early && self.node.is_root() {
+            self.node.set_ramps(&self.lengths, Some(&self.guess.start));
+        } else {
+            self.node.set_ramps(&self.lengths, None);
+        }
+        if passes == EARLY_PASSES {
+            fill(&mut self.node.caps, self.lengths.longest().wrapping_add(1));
+        }
+    }
+
+    /// Makes the duals tight at the hubs of a node where no place is free.
+    fn better_full(&mut self)
+        ensures { self.new ≡ self.old }
+    {
+        self.begin_tightening();
+        self.state
+            .tighten(&self.lengths, &mut self.tightening, true);
+        let bound = self.state.bound(&self.lengths, &self.node.sides);
+        self.progress.note(bound);
+    }
+
+    /// Rounds the prices to a set, betters the guess from it, and makes the duals tight at the best set, where the
+    /// bound then comes to what is wanted. It gives the bound.
+    fn round(&mut self, wanted: i128, bound: i128) -> i128
+        ensures { self.new ≡ self.old }
+    {
+        if !self.node.mark_rounded(&mut self.guess.marks) {
+            return bound;
+        }
+        if !self.guess.is_rounded() {
+            self.better_guess();
+        }
+        let wanted = wanted.min(self.guess.cost);
+        if bound >= wanted || !self.guess.is_close(bound, wanted) {
+            return bound;
+        }
+        self.begin_tightening();
+        self.state
+            .tighten(&self.lengths, &mut self.tightening, false);
+        let tight = self
+            .tightening
+            .sums()
+            .bound(&self.lengths, &self.node.sides);
+        if tight < wanted {
+            return bound;
+        }
+        self.state
+            .tighten(&self.lengths, &mut self.tightening, true);
+        tight
+    }
+
+    /// Betters the guess from the marked set.
+    fn better_guess(&mut self)
+        ensures { self.new ≡ self.old }
+    {
+        copy(&self.guess.marks, &mut self.guess.rounded);
+        self.node.mark_near(&mut self.guess.movable);
+        let cost = self
+            .search
+            .improve(&self.lengths, &self.guess.rounded, &self.guess.movable);
+        self.guess.offer(self.search.marks(), cost);
+    }
+
+    /// Begins to make duals tight at the best set.
+    fn begin_tightening(&mut self)
+        ensures { self.new ≡ self.old }
+    {
+        self.tightening.begin(
+            &self.lengths,
+            &self.guess.best,
+            self.node.terms(),
+            self.state.loads(),
+        );
+    }
+}

@@ -1,0 +1,211 @@
+//! The shortest routes over a hub set, and those that leave one or two of its hubs out.
+
+use crate::lengths::Lengths;
+use crate::rows::{FAR, at, fill, gather, row, row_mut, short};
+use std::alloc::{AllocError, Global};
+
+/// A shortest route: its first and its last hub, by place, and its length.
+#[derive(Clone, Copy, Debug)]
+pub(crate) struct Route {
+    pub(crate) first: usize,
+    pub(crate) last: usize,
+    pub(crate) length: u32,
+}
+
+impl Route {
+    /// Tells whether the route goes by the place.
+    pub(crate) fn uses(&self, k: usize) -> bool {
+        self.first == k || self.last == k
+    }
+}
+
+/// A route to fill lists with.
+pub(crate) const NO_ROUTE: Route = Route {
+    first: usize::MAX,
+    last: usize::MAX,
+    length: FAR,
+};
+
+/// A way from a hub by a last hub, which is told by place, to a destination.
+#[derive(Clone, Copy, Debug)]
+struct Hop {
+    last: u32,
+    length: u32,
+}
+
+/// A hop to fill lists with.
+const NO_HOP: Hop = Hop {
+    last: u32::MAX,
+    length: FAR,
+};
+
+/// The three shortest hops by different last hubs.
+#[derive(Clone, Copy, Debug)]
+struct Hops {
+    first: Hop,
+    second: Hop,
+    third: Hop,
+}
+
+/// Hops to fill lists with.
+const NO_HOPS: Hops = Hops {
+    first: NO_HOP,
+    second: NO_HOP,
+    third: NO_HOP,
+};
+
+impl Hops {
+    /// The hops with one more to choose from.
+    fn with(self, hop: Hop) -> Hops {
+        if hop.length < self.first.length {
+            Hops {
+                first: hop,
+                second: self.first,
+                third: self.second,
+            }
+        } else if hop.length < self.second.length {
+            Hops {
+                first: self.first,
+                second: hop,
+                third: self.second,
+            }
+        } else if hop.length < self.third.length {
+            Hops {
+                first: self.first,
+                second: self.second,
+                third: hop,
+            }
+        } else {
+            self
+        }
+    }
+
+    /// The length of the shortest hop by neither place.
+    fn without(&self, some: u32, other: u32) -> u32 {
+        if self.first.last != some && self.first.last != other {
+            self.first.length
+        } else if self.second.last != some && self.second.last != other {
+            self.second.length
+        } else {
+            self.third.length
+        }
+    }
+}
+
+/// The legs over the hubs of a set, in rows by origin or destination, and the shortest hops from each hub.
+#[derive(Debug, Drop)]
+pub(crate) struct SetRoutes {
+    hubs: Vec<usize>,
+    width: usize,
+    collect: Vec<u32>,
+    deliver: Vec<u32>,
+    hops: Vec<Hops>,
+}
+
+impl SetRoutes {
+    /// Routes with room for so many nodes and places, as yet of no hubs.
+    pub(crate) fn new(alloc: Global, size: usize, places: usize) -> Result<SetRoutes, AllocError> {
+        let cells = size.wrapping_mul(places.div_ceil(8).wrapping_mul(8));
+        Ok(SetRoutes {
+            hubs: Vec::with_capacity(alloc, places)?,
+            width: 0,
+            collect: vec![in alloc; FAR; cells]?,
+            deliver: vec![in alloc; FAR; cells]?,
+            hops: vec![in alloc; NO_HOPS; cells]?,
+        })
+    }
+
+    /// The hubs, by place.
+    pub(crate) fn hubs(&self) -> &[usize] {
+        &self.hubs
+    }
+
+    /// The legs of collection from the origin to the hubs.
+    pub(crate) fn collect(&self, i: usize) -> &[u32] {
+        row(&self.collect, i, self.width)
+    }
+
+    /// The legs of delivery from the hubs to the destination.
+    pub(crate) fn deliver(&self, j: usize) -> &[u32] {
+        row(&self.deliver, j, self.width)
+    }
+
+    /// Makes these the routes over the marked places.
+    pub(crate) fn take(&mut self, lengths: &Lengths, marks: &[bool]) {
+        self.hubs.clear();
+        for (k, mark) in marks.iter().enumerate() {
+            if *mark {
+                // It succeeds, since there is room for all places.
+                let _ = self.hubs.push(k);
+            }
+        }
+        self.width = self.hubs.len().div_ceil(8).wrapping_mul(8);
+        fill(&mut self.collect, FAR);
+        fill(&mut self.deliver, FAR);
+        for i in 0..lengths.size() {
+            gather(
+                lengths.collect(i),
+                &self.hubs,
+                row_mut(&mut self.collect, i, self.width),
+            );
+            gather(
+                lengths.deliver(i),
+                &self.hubs,
+                row_mut(&mut self.deliver, i, self.width),
+            );
+            self.take_hops(lengths, i);
+        }
+    }
+
+    /// Finds the shortest hops to the destination.
+    fn take_hops(&mut self, lengths: &Lengths, j: usize) {
+        let deliver = lengths.deliver(j);
+        let hops = row_mut(&mut self.hops, j, self.width);
+        for (hops, k) in hops.iter_mut().zip(&self.hubs) {
+            *hops = shortest_hops(lengths.trunk(*k), deliver, &self.hubs);
+        }
+    }
+
+    /// The shortest route, the first in the order of the first hubs.
+    pub(crate) fn shortest(&self, i: usize, j: usize) -> Route {
+        let collect = row(&self.collect, i, self.width);
+        let hops = row(&self.hops, j, self.width);
+        let mut found = NO_ROUTE;
+        for (k, (leg, hops)) in self.hubs.iter().zip(collect.iter().zip(hops)) {
+            let length = leg.wrapping_add(hops.first.length);
+            if length < found.length {
+                found = Route {
+                    first: *k,
+                    last: hops.first.last as usize,
+                    length,
+                };
+            }
+        }
+        found
+    }
+
+    /// The length of the shortest route by neither place.
+    pub(crate) fn without(&self, i: usize, j: usize, some: usize, other: usize) -> u32 {
+        let collect = row(&self.collect, i, self.width);
+        let hops = row(&self.hops, j, self.width);
+        let mut least = FAR;
+        for (k, (leg, hops)) in self.hubs.iter().zip(collect.iter().zip(hops)) {
+            if *k != some && *k != other {
+                least = least.min(leg.wrapping_add(hops.without(short(some), short(other))));
+            }
+        }
+        least
+    }
+}
+
+/// The shortest hops over the hubs from the place with these trunk legs.
+fn shortest_hops(trunk: &[u32], deliver: &[u32], hubs: &[usize]) -> Hops {
+    let mut hops = NO_HOPS;
+    for m in hubs {
+        hops = hops.with(Hop {
+            last: short(*m),
+            length: at(trunk, *m).wrapping_add(at(deliver, *m)),
+        });
+    }
+    hops
+}

@@ -1,0 +1,126 @@
+//! Lists of numbers, rows of flat tables, and the few loops over them that take most of the time.
+//!
+//! A place outside a list reads as 0 and is not written, and a row outside a table is empty: this is advice, and no
+//! number of it is relied on.
+
+/// A length that stands for none. The sum of three of them does not wrap.
+pub(crate) const FAR: u32 = 1 << 30;
+
+/// The number in 32 bits, or the greatest of these.
+pub(crate) fn short(number: usize) -> u32 {
+    number.min(u32::MAX as usize) as u32
+}
+
+/// The row of this number in a flat table with so many columns.
+pub(crate) fn row<T>(table: &[T], index: usize, width: usize) -> &[T] {
+    let start = index.wrapping_mul(width);
+    table.get(start..start.wrapping_add(width)).unwrap_or(&[])
+}
+
+/// The row of this number in a flat table with so many columns, to be written.
+pub(crate) fn row_mut<T>(table: &mut [T], index: usize, width: usize) -> &mut [T] {
+    let start = index.wrapping_mul(width);
+    table
+        .get_mut(start..start.wrapping_add(width))
+        .unwrap_or(&mut [])
+}
+
+/// The number at this place.
+pub(crate) fn at(items: &[u32], index: usize) -> u32 {
+    items.get(index).copied().unwrap_or(0)
+}
+
+/// The amount at this place.
+pub(crate) fn amount_at(items: &[i64], index: usize) -> i64 {
+    items.get(index).copied().unwrap_or(0)
+}
+
+/// Tells whether the place is marked.
+pub(crate) fn is_marked(marks: &[bool], index: usize) -> bool {
+    marks.get(index).copied().unwrap_or(false)
+}
+
+/// Sets the item at this place.
+pub(crate) fn put<T: Copy + Drop>(items: &mut [T], index: usize, item: T) {
+    if index < items.len() {
+        items[index] = item;
+    }
+}
+
+/// Sets all items.
+pub(crate) fn fill<T: Copy + Drop>(items: &mut [T], item: T) {
+    for place in items.iter_mut() {
+        *place = item;
+    }
+}
+
+/// Copies the items one by one, as far as both lists go.
+pub(crate) fn copy<T: Copy + Drop>(from: &[T], into: &mut [T]) {
+    for (place, item) in into.iter_mut().zip(from) {
+        *place = *item;
+    }
+}
+
+/// Gathers the numbers at these places.
+pub(crate) fn gather(numbers: &[u32], places: &[usize], into: &mut [u32]) {
+    for (number, place) in into.iter_mut().zip(places) {
+        *number = at(numbers, *place);
+    }
+}
+
+/// The least sum of two numbers that stand at one place, or `FAR` where none is less.
+pub(crate) fn least_sum(some: &[u32], others: &[u32]) -> u32 {
+    let mut least = FAR;
+    for (some, other) in some.iter().zip(others) {
+        least = least.min(some.wrapping_add(*other));
+    }
+    least
+}
+
+/// Lowers each number to the base and a length, where that is less.
+pub(crate) fn lower(items: &mut [u32], base: u32, lengths: &[u32]) {
+    for (item, length) in items.iter_mut().zip(lengths) {
+        *item = (*item).min(base.wrapping_add(*length));
+    }
+}
+
+/// Lowers each number to the base and a length less a potential, where that is less.
+pub(crate) fn lower_reduced(items: &mut [u32], base: u32, lengths: &[u32], potentials: &[u32]) {
+    let count = items.len().min(lengths.len()).min(potentials.len());
+    for place in 0..count {
+        let reduced = base
+            .wrapping_add(lengths[place])
+            .wrapping_sub(potentials[place]);
+        items[place] = items[place].min(reduced);
+    }
+}
+
+/// The sum of the flows times the least of three lengths each: the one of now, and two by a place, `straight` and
+/// `turned` from the origin to it.
+pub(crate) fn weighed_by(
+    flows: &[u32],
+    now: &[u32],
+    straight: u32,
+    onward: &[u32],
+    turned: u32,
+    last: &[u32],
+) -> u64 {
+    let count = flows.len().min(now.len()).min(onward.len()).min(last.len());
+    let mut sum = 0u64;
+    for place in 0..count {
+        let forth = straight.wrapping_add(onward[place]);
+        let back = turned.wrapping_add(last[place]);
+        let length = now[place].min(forth).min(back);
+        sum = sum.wrapping_add((length as u64).wrapping_mul(flows[place] as u64));
+    }
+    sum
+}
+
+/// The sum of the flows times their lengths.
+pub(crate) fn weighed(flows: &[u32], lengths: &[u32]) -> u64 {
+    let mut sum = 0u64;
+    for (flow, length) in flows.iter().zip(lengths) {
+        sum = sum.wrapping_add((*length as u64).wrapping_mul(*flow as u64));
+    }
+    sum
+}

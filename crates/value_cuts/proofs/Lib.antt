@@ -1,0 +1,10 @@
+pub mod NodeValues
+pub mod ValueDuals
+pub mod ValueSums
+pub mod CandidateTables
+pub mod Ends
+pub mod LeastLengths
+pub mod AddedValues
+pub mod ListedEntries
+pub mod MadeDuals
+pub mod PriceRows

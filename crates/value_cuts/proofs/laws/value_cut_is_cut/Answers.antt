@@ -1,0 +1,5 @@
+use Rattle.value_cuts.proofs.ValueSums.{cut_is}
+use Rattle.value_cuts.proofs.laws.value_cut_is_cut.Goals as goal
+
+pub returns : goal.returns
+returns c = cut_is

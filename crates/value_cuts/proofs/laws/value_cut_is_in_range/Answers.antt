@@ -1,0 +1,5 @@
+use Rattle.value_cuts.proofs.ValueSums.{cut_in_range}
+use Rattle.value_cuts.proofs.laws.value_cut_is_in_range.Goals as goal
+
+pub returns : goal.returns
+returns c = cut_in_range

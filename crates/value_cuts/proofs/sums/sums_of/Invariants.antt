@@ -1,0 +1,11 @@
+use Rattle.std.proofs.Common.{◌≡◌, ℕ, ◌<◌, take, sum_by, slice_index}
+use Rattle.hub_spec.specs.Problem.{commodities}
+use Rattle.value_cuts.proofs.ValueSums.{price_of, value_of}
+use Rattle.value_cuts.proofs.sums.sums_of.Given as goal
+
+abbrev pub invariant-loop-t : goal.invariant-loop-t
+invariant-loop-t l = record {
+  total : l.total ≡ sum_by (price_of l.tables l.values) (take l.t (commodities l.tables.size));
+  loads : (k : ℕ) → k < l.tables.size
+      → slice_index l.loads k ≡ sum_by (value_of l.tables l.values k) (take l.t (commodities l.tables.size));
+}

@@ -1,0 +1,25 @@
+-- What is proved of the duals and the cuts of any values.
+use Rattle.std.specs.Prelude.{◌≡◌, ℕ, ◌*◌, ◌≤◌, List, Contains}
+use Rattle.hub_spec.specs.Problem.{Problem, IsProblem, flow}
+use Rattle.hub_spec.specs.Cuts.{Prices, value_at, IsDual, IsCut}
+use Rattle.hub_spec.specs.Ranges.{IsCutInRange}
+use Rattle.value_cuts.specs.Values.{length_ceiling, value_dual, ValueRows, value_cut}
+
+-- whatever the row lists, its dual is feasible
+abbrev pub ValueDualIsDual : Type 0
+ValueDualIsDual = (p : Problem) (unit : ℕ) (row : List ℕ) (c : ℕ × ℕ) → IsDual p c (value_dual p unit row c)
+
+-- whatever the values are, their cut is a cut of the problem: its duals are feasible, and its sums within their limit
+abbrev pub ValueCutIsCut : Type 0
+ValueCutIsCut = (p : Problem) (w : ValueRows) → IsProblem p → IsCut p (value_cut p w)
+
+-- and a certificate may list it
+abbrev pub ValueCutIsInRange : Type 0
+ValueCutIsInRange = (p : Problem) (w : ValueRows) → IsProblem p → IsCutInRange p.size (value_cut p w)
+
+-- no feasible dual that gives the candidates these values has a greater price, up to the ceiling
+abbrev pub NoGreaterPrice : Type 0
+NoGreaterPrice = (p : Problem) (unit : ℕ) (row : List ℕ) (c : ℕ × ℕ) (d : Prices) → IsProblem p → IsDual p c d
+    → ((k : ℕ) → Contains p.candidates k → value_at d.u k ≡ value_at (value_dual p unit row c).u k)
+    → d.a ≤ flow p c.0 c.1 * length_ceiling p
+    → d.a ≤ (value_dual p unit row c).a

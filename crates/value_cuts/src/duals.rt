@@ -1,0 +1,113 @@
+//! The duals of any values, lent one by one.
+
+ghost use Rattle.std.specs.Prelude.{◌≡◌, ◌+◌, ◌*◌, ◌<◌, ◌≤◌, [], pos, length, IfOk, vec_capacity};
+ghost use Rattle.hub_spec.specs.Limits.{most_flow};
+ghost use Rattle.hub_spec.specs.Problem.{IsProblem, flow};
+ghost use Rattle.hub_spec.specs.Separation.{values_listed, AreListedValues};
+ghost use Rattle.hub_model.specs.Prices.{signed_values, AreSignedPrices};
+ghost use Rattle.value_cuts.specs.Values.{node_value, allowed_price, value_dual};
+
+use crate::CandidateLegs;
+use crate::pricing::value_of;
+use hub_model::signed;
+use std::alloc::{AllocError, Global};
+use std::marker::Model;
+
+/// The dual that was made last, as a certificate lists it, in room for so many values.
+#[derive(Debug, Drop)]
+pub struct DualScratch {
+    room: usize,
+    a: i128,
+    u: Vec<(u32, i128)>,
+}
+
+impl Model for DualScratch {
+    ghost use Rattle.value_cuts.specs.HeldDuals.{RoomyDual, kept_dual, IsKeptDual};
+
+    ghost Value = { RoomyDual };
+
+    ghost view = { λ s. record { room = s.room; dual = kept_dual s } };
+
+    ghost invariant = { IsKeptDual };
+}
+
+impl DualScratch {
+    /// A scratch for the instance of these tables, whose dual is as yet 0 without values.
+    pub fn new(alloc: Global, tables: &CandidateLegs) -> Result<DualScratch, AllocError>
+        ensures { IfOk result (λ s.
+            s ≡ record { room = length tables.now.candidates; dual = record { a = 0; u = [] } }) }
+    {
+        let room = tables.places();
+        Ok(DualScratch {
+            room,
+            a: 0,
+            u: Vec::with_capacity(alloc, room)?,
+        })
+    }
+
+    /// Makes the dual of the commodity from `i` to `j` by its row of values in the unit and its price by unit of flow.
+    /// It takes no memory.
+    pub fn make(
+        &mut self,
+        tables: &CandidateLegs,
+        i: u32,
+        j: u32,
+        unit: u32,
+        row: &[u32],
+        price: u64,
+    )
+        requires origin { i < tables.now.size }
+        requires destination { j < tables.now.size }
+        requires row { length row.now ≡ length tables.now.candidates }
+        requires price { price ≡ allowed_price tables.now (i, j) (node_value tables.now unit row.now) }
+        requires room { length tables.now.candidates ≤ self.old.room }
+        ensures dual { self.new.dual ≡ value_dual tables.now unit row.now (i, j) }
+        ensures room { self.new.room ≡ self.old.room }
+    {
+        let flow = flow_between(tables, i, j);
+        self.a = signed(flow as u128 * price as u128);
+        list_values(tables, flow, unit, row, &mut self.u);
+    }
+
+    /// The price of the dual that was made last, and its nodes with their values, ascending, each value above 0.
+    pub fn dual(&self) -> (i128, &[(u32, i128)])
+        ensures price { result.0 ≡ pos self.now.dual.a }
+        ensures values { result.1.now ≡ signed_values self.now.dual.u }
+        ensures listed { AreListedValues self.now.dual.u }
+    {
+        (self.a, &self.u)
+    }
+}
+
+/// The flow from `i` to `j`.
+#[tactic(auto, using(crate::proofs::CandidateTables::flow_limit), unfolding(hub_spec::specs::Problem::flow))]
+fn flow_between(tables: &CandidateLegs, i: u32, j: u32) -> u64
+    requires origin { i < tables.now.size }
+    requires destination { j < tables.now.size }
+    ensures value { result ≡ flow tables.now i j }
+    ensures limit { result ≤ most_flow }
+{
+    let instance = tables.instance();
+    instance.flows()[i as usize * instance.size() as usize + j as usize]
+}
+
+/// Lists the candidates whose value times the flow is above 0.
+fn list_values(tables: &CandidateLegs, flow: u64, unit: u32, row: &[u32], u: &mut Vec<(u32, i128)>)
+    requires flow { flow ≤ most_flow }
+    requires row { length row.now ≡ length tables.now.candidates }
+    requires room { length tables.now.candidates ≤ vec_capacity u.old }
+    ensures room { vec_capacity u.old ≤ vec_capacity u.new }
+    ensures are { u.new.items
+        ≡ signed_values (values_listed (λ k. flow * node_value tables.now unit row.now k) tables.now.candidates) }
+    ensures problem { IsProblem tables.now }
+{
+    let ceiling = tables.ceiling();
+    let candidates = tables.instance().candidates();
+    u.clear();
+    for x in 0..candidates.len() {
+        let value = flow as u128 * value_of(ceiling, unit, row[x]) as u128;
+        if value > 0 {
+            u.push_reserved((candidates[x], signed(value)));
+        }
+    }
+}

@@ -1,0 +1,221 @@
+//! The price of a commodity, lowered to what its values allow.
+//!
+//! A route by way of two candidates is a first end, a leg of trunk and a last end, where an end is a leg with the value
+//! of its candidate. So a price is found over the first ends, each time with the least of the trunk legs and the last
+//! ends together, where the first end leaves room below the least so far.
+
+ghost use Rattle.std.specs.Prelude.{◌≡◌, ℕ, ◌+◌, ◌*◌, ◌<◌, ◌≤◌, min, length, slice_index, All, IfOk};
+ghost use Rattle.hub_spec.specs.Problem.{IsProblem};
+ghost use Rattle.unit_duals.specs.Limits.{most_leg, most_length};
+ghost use Rattle.unit_duals.specs.Leasts.{least_of};
+ghost use Rattle.unit_duals.specs.Lengths.{IsLegRow};
+ghost use Rattle.value_cuts.specs.Values.{length_ceiling, node_value, allowed_price, AreValuesFor};
+ghost use Rattle.value_cuts.specs.Legs.{collection_length, delivery_length, most_end, AreEnds};
+ghost use Rattle.value_cuts.specs.Prices.{AreRowPrices, ArePricesFrom};
+
+use crate::{CandidateLegs, Values};
+use std::alloc::{AllocError, Global};
+use std::marker::Model;
+
+/// What a price is found in: the first and the last ends of routes, with room for so many candidates. A worker has its
+/// own.
+#[derive(Debug, Drop)]
+pub struct PriceScratch {
+    first: Vec<u64>,
+    last: Vec<u64>,
+}
+
+impl Model for PriceScratch {
+    ghost use Rattle.std.specs.Prelude.{◌≡◌, ℕ, vec_len};
+
+    ghost Value = { ℕ };
+
+    ghost view = { λ s. vec_len s.first };
+
+    ghost invariant = { λ s. vec_len s.last ≡ vec_len s.first };
+}
+
+impl PriceScratch {
+    /// A scratch for the instance of these tables.
+    pub fn new(alloc: Global, tables: &CandidateLegs) -> Result<PriceScratch, AllocError>
+        ensures { IfOk result (λ s. s ≡ length tables.now.candidates) }
+    {
+        let places = tables.places();
+        Ok(PriceScratch {
+            first: vec![in alloc; 0; places]?,
+            last: vec![in alloc; 0; places]?,
+        })
+    }
+}
+
+/// The price of the commodity from `i` to `j` by unit of flow that the values of the row allow, in 10^-6: the least of
+/// the ceiling, of each single hub and of each ordered pair of hubs, with their values. It takes no memory.
+///
+/// The row lists a value for each place, in the unit.
+pub fn price(
+    tables: &CandidateLegs,
+    i: u32,
+    j: u32,
+    unit: u32,
+    row: &[u32],
+    scratch: &mut PriceScratch,
+) -> u64
+    requires origin { i < tables.now.size }
+    requires destination { j < tables.now.size }
+    requires row { length row.now ≡ length tables.now.candidates }
+    requires room { scratch.old ≡ length tables.now.candidates }
+    ensures price { result ≡ allowed_price tables.now (i, j) (node_value tables.now unit row.now) }
+    ensures room { scratch.new ≡ scratch.old }
+{
+    price_in(
+        tables,
+        i,
+        j,
+        unit,
+        row,
+        &mut scratch.first,
+        &mut scratch.last,
+    )
+}
+
+/// Sets the prices of all commodities, row by row, an origin's in each. It takes no memory.
+pub fn set_prices(
+    tables: &CandidateLegs,
+    values: &Values,
+    scratch: &mut PriceScratch,
+    prices: &mut [u64],
+)
+    requires values { AreValuesFor tables.now values.now }
+    requires room { scratch.old ≡ length tables.now.candidates }
+    requires long { length prices.old ≡ tables.now.size * tables.now.size }
+    ensures prices { AreRowPrices tables.now values.now prices.new }
+    ensures room { scratch.new ≡ scratch.old }
+{
+    let size = tables.instance().size();
+    for i in 0..size {
+        let start = i as usize * size as usize;
+        let row = &mut prices[start..start + size as usize];
+        set_origin_prices(tables, values, i, scratch, row);
+    }
+}
+
+/// Sets the prices of all commodities from `i`, one for each destination, as a worker does for its origins. It takes no
+/// memory.
+pub fn set_origin_prices(
+    tables: &CandidateLegs,
+    values: &Values,
+    i: u32,
+    scratch: &mut PriceScratch,
+    prices: &mut [u64],
+)
+    requires values { AreValuesFor tables.now values.now }
+    requires origin { i < tables.now.size }
+    requires room { scratch.old ≡ length tables.now.candidates }
+    requires long { length prices.old ≡ tables.now.size }
+    ensures prices { ArePricesFrom tables.now values.now i prices.new tables.now.size }
+    ensures long { length prices.new ≡ tables.now.size }
+    ensures room { scratch.new ≡ scratch.old }
+{
+    let unit = values.unit();
+    for j in 0..tables.instance().size() {
+        prices[j as usize] = price(tables, i, j, unit, values.row(i, j), scratch);
+    }
+}
+
+/// The price, found in these two slices.
+fn price_in(
+    tables: &CandidateLegs,
+    i: u32,
+    j: u32,
+    unit: u32,
+    row: &[u32],
+    first: &mut [u64],
+    last: &mut [u64],
+) -> u64
+    requires origin { i < tables.now.size }
+    requires destination { j < tables.now.size }
+    requires row { length row.now ≡ length tables.now.candidates }
+    requires first { length first.old ≡ length tables.now.candidates }
+    requires last { length last.old ≡ length tables.now.candidates }
+    ensures { result ≡ allowed_price tables.now (i, j) (node_value tables.now unit row.now) }
+{
+    let delivery = tables.delivery_legs(j);
+    set_ends(tables, tables.collection_legs(i), unit, row, first);
+    set_ends(tables, delivery, unit, row, last);
+    least_length(tables, i, j, delivery, first, last)
+}
+
+/// Sets each end: the leg of the place with the value of its candidate.
+fn set_ends(tables: &CandidateLegs, legs: &[u64], unit: u32, row: &[u32], ends: &mut [u64])
+    requires row { length row.now ≡ length tables.now.candidates }
+    requires legs { length legs.now ≡ length tables.now.candidates }
+    requires limit { All (λ d. d ≤ most_leg) legs.now }
+    requires ends { length ends.old ≡ length tables.now.candidates }
+    ensures { AreEnds tables.now (slice_index legs.now) (node_value tables.now unit row.now) ends.new }
+{
+    let ceiling = tables.ceiling();
+    for x in 0..legs.len() {
+        ends[x] = legs[x] + value_of(ceiling, unit, row[x]);
+    }
+}
+
+/// The value by unit of flow that is listed so in this unit.
+pub(crate) fn value_of(ceiling: u64, unit: u32, listed: u32) -> u64
+    ensures { result ≡ min ceiling (unit * listed) }
+{
+    ceiling.min(unit as u64 * listed as u64)
+}
+
+/// The least of the ceiling and of the valued lengths of the commodity from `i` to `j`, with these ends.
+fn least_length(
+    tables: &CandidateLegs,
+    i: u32,
+    j: u32,
+    delivery: &[u64],
+    first: &[u64],
+    last: &[u64],
+) -> u64
+    requires delivery { IsLegRow (length tables.now.candidates) (delivery_length tables.now j) delivery.now }
+    requires first { length first.now ≡ length tables.now.candidates }
+    requires last { length last.now ≡ length tables.now.candidates }
+    requires first_limit { All (λ d. d ≤ most_end) first.now }
+    requires last_limit { All (λ d. d ≤ most_end) last.now }
+    ensures { (values : ℕ → ℕ) → AreEnds tables.now (collection_length tables.now i) values first.now
+        → AreEnds tables.now (delivery_length tables.now j) values last.now
+        → result ≡ allowed_price tables.now (i, j) values }
+{
+    let nearest = least_end(tables.ceiling(), last);
+    let mut least = least_sum(tables.ceiling(), first, delivery);
+    for x in 0..first.len() {
+        let end = first[x];
+        if end + nearest < least {
+            least = end + least_sum(least - end, tables.trunk_legs(x), last);
+        }
+    }
+    least
+}
+
+/// The least of the number and of all ends.
+fn least_end(most: u64, ends: &[u64]) -> u64
+    ensures { result ≡ least_of most (slice_index ends.now) (length ends.now) }
+{
+    let mut least = most;
+    for x in 0..ends.len() {
+        least = least.min(ends[x]);
+    }
+    least
+}
+
+/// The least of the number and of the sums of a leg and an end at one place.
+fn least_sum(most: u64, legs: &[u64], ends: &[u64]) -> u64
+    requires long { length ends.now ≡ length legs.now }
+    requires legs { All (λ d. d ≤ most_end) legs.now }
+    requires ends { All (λ d. d ≤ most_end) ends.now }
+    ensures { result ≡ least_of most (λ x. slice_index legs.now x + slice_index ends.now x) (length legs.now) }
+{
+    let mut least = most;
+    for x in 0..legs.len() {
+        least = least.min(legs[x] + ends[x]);
+    }
+    least
+}

@@ -1,0 +1,67 @@
+//! The sums of the cut of any values.
+
+ghost use Rattle.std.specs.Prelude.{◌≡◌, ℕ, ◌+◌, ◌*◌, ◌^◌, ◌<◌, ◌≤◌, length, slice_index, All};
+ghost use Rattle.hub_spec.specs.Limits.{most_flow};
+ghost use Rattle.hub_spec.specs.Cuts.{total, load};
+ghost use Rattle.value_cuts.specs.Values.{AreValuesFor, node_value, value_cut};
+ghost use Rattle.value_cuts.specs.Prices.{AreRowPrices};
+
+use crate::pricing::value_of;
+use crate::{CandidateLegs, PriceScratch, Values, set_prices};
+
+/// The total of the cut of the values, in 10^-12. The prices by unit of flow are put into `prices`, one for each
+/// commodity, and the loads into `loads`, one for each node: 0 for a node that is no candidate. It takes no memory.
+pub fn cut_sums(
+    tables: &CandidateLegs,
+    values: &Values,
+    scratch: &mut PriceScratch,
+    prices: &mut [u64],
+    loads: &mut [u128],
+) -> u128
+    requires values { AreValuesFor tables.now values.now }
+    requires room { scratch.old ≡ length tables.now.candidates }
+    requires prices { length prices.old ≡ tables.now.size * tables.now.size }
+    requires long { length loads.old ≡ tables.now.size }
+    ensures total { result ≡ total (value_cut tables.now values.now) }
+    ensures loads { (k : ℕ) → k < tables.now.size → slice_index loads.new k ≡ load (value_cut tables.now values.now) k }
+    ensures prices { AreRowPrices tables.now values.now prices.new }
+    ensures room { scratch.new ≡ scratch.old }
+{
+    set_prices(tables, values, scratch, prices);
+    sums_of(tables, values, prices, loads)
+}
+
+/// The total of the cut of the values, whose prices are known; the loads are put into `loads`.
+pub fn sums_of(tables: &CandidateLegs, values: &Values, prices: &[u64], loads: &mut [u128]) -> u128
+    requires values { AreValuesFor tables.now values.now }
+    requires prices { AreRowPrices tables.now values.now prices.now }
+    requires long { length loads.old ≡ tables.now.size }
+    ensures total { result ≡ total (value_cut tables.now values.now) }
+    ensures loads { (k : ℕ) → k < tables.now.size → slice_index loads.new k ≡ load (value_cut tables.now values.now) k }
+{
+    loads.fill(0);
+    let mut total = 0;
+    for t in 0..prices.len() {
+        let flow = tables.instance().flows()[t];
+        total += flow as u128 * prices[t] as u128;
+        add_values(tables, flow, values.unit(), values.row_at(t), loads);
+    }
+    total
+}
+
+/// Adds the flow times its value to the load of each candidate.
+fn add_values(tables: &CandidateLegs, flow: u64, unit: u32, row: &[u32], loads: &mut [u128])
+    requires flow { flow ≤ most_flow }
+    requires row { length row.now ≡ length tables.now.candidates }
+    requires long { length loads.old ≡ tables.now.size }
+    requires limit { All (λ v. v ≤ 2 ^ 120) loads.old }
+    ensures { (k : ℕ) → k < tables.now.size
+        → slice_index loads.new k ≡ slice_index loads.old k + flow * node_value tables.now unit row.now k }
+{
+    let ceiling = tables.ceiling();
+    let candidates = tables.instance().candidates();
+    for x in 0..candidates.len() {
+        let value = value_of(ceiling, unit, row[x]);
+        loads[candidates[x] as usize] += flow as u128 * value as u128;
+    }
+}

@@ -1,0 +1,240 @@
+"""What `hub check` is to say of a text, worked out anew from docs/FORMATS.md, for small instances.
+
+Written apart from the program, as plainly as may be: the whole text is read, then each condition is tried in the order
+of the lines.
+"""
+
+import re
+from dataclasses import dataclass, field
+
+NUMBER = re.compile(rb"0|[1-9][0-9]{0,29}")
+MOST_CUTS, MOST_TREE_LINES, MOST_PARTS = 67_108_864, 268_435_456, 1_000_000
+MOST_NODES, MOST_SUM = 200, 10**29
+Dual = tuple[int, int, int, int, list[tuple[int, int]]]
+"""Line, i, j, price, values."""
+
+
+@dataclass(frozen=True)
+class Problem:
+    """An instance in the units that are held: flows 10^-6, lengths and factors 10^-3, fixed costs 10^-12."""
+
+    flows: list[list[int]]
+    lengths: list[list[int]]
+    factors: tuple[int, int, int]
+    fixed: list[int]
+    candidates: list[int]
+    """Nodes from 1."""
+
+    def route(self, i: int, j: int, k: int, m: int) -> int:
+        """What the flow from i to j costs by k first and m last; nodes from 1."""
+        collect, trunk, deliver = self.factors
+        d = self.lengths
+        length = collect * d[i - 1][k - 1] + trunk * d[k - 1][m - 1] + deliver * d[m - 1][j - 1]
+        return self.flows[i - 1][j - 1] * length
+
+
+class Bad(Exception):
+    """The text breaks the format: `BadLine` or `Ended`, and the line."""
+
+
+class Fails(Exception):
+    """A condition fails: its kind, and the line."""
+
+
+@dataclass
+class Lines:
+    """The lines of a text from first to last."""
+
+    text: bytes
+    at: int = 0
+    number: int = 0
+
+    def next(self) -> list[bytes]:
+        """The words of the next line."""
+        self.number += 1
+        stop = self.text.find(b"\n", self.at)
+        if stop < 0:
+            raise Bad("Ended", self.number)
+        words = self.text[self.at : stop].split(b" ")
+        self.at = stop + 1
+        return words
+
+    def want(self, holds: bool) -> None:
+        """The line at hand is bad unless this holds."""
+        if not holds:
+            raise Bad("BadLine", self.number)
+
+    def numbers(self, word: bytes) -> list[int]:
+        """The numbers of the next line, behind this word."""
+        first, *rest = self.next()
+        self.want(first == word and all(map(NUMBER.fullmatch, rest)))
+        return [int(number) for number in rest]
+
+    def one(self, word: bytes, least: int, most: int) -> int:
+        """The one number of the next line."""
+        found = self.numbers(word)
+        self.want(len(found) == 1 and least <= found[0] <= most)
+        return found[0]
+
+    def pairs(self, found: list[int], most: int) -> list[tuple[int, int]]:
+        """What stands in pairs at a line's end: firsts ascending, from 1 to a limit, seconds at least 1."""
+        self.want(len(found) % 2 == 0)
+        pairs = list(zip(found[::2], found[1::2]))
+        self.want(ascends([first for first, _ in pairs], most) and all(second for _, second in pairs))
+        return pairs
+
+
+def ascends(numbers: list[int], most: int) -> bool:
+    """Whether these go up from 1 at least to a limit at most."""
+    return all(low < high for low, high in zip([0, *numbers], numbers)) and max(numbers, default=1) <= most
+
+
+@dataclass
+class Certificate:
+    """What a text spells; each part with the line where it stands."""
+
+    size: tuple[int, int]
+    cost: int
+    bound: int
+    hubs: list[int]
+    routes: list[tuple[int, int, int, int, int]] = field(default_factory=list)
+    """Line, i, j, k, m."""
+    cuts: list[list[Dual]] = field(default_factory=list)
+    """Of each cut its duals."""
+    tree: list[tuple[int, bytes, list[int]]] = field(default_factory=list)
+    """Line, word, numbers."""
+
+
+def spelled(text: bytes) -> Certificate:
+    """The certificate that a text spells."""
+    lines = Lines(text)
+    lines.want(lines.next() == [b"HUBCERT", b"1"])
+    size = lines.numbers(b"size")
+    lines.want(len(size) == 2 and 1 <= size[0] <= MOST_NODES and 1 <= size[1] <= size[0])
+    n = size[0]
+    cost, bound = (lines.one(word, 0, 10**30) for word in (b"cost", b"bound"))
+    hubs = lines.numbers(b"hubs")
+    lines.want(hubs != [] and ascends(hubs, n))
+    found = Certificate((n, size[1]), cost, bound, hubs)
+    pairs = [(i, j) for i in range(1, n + 1) for j in range(1, n + 1)]
+    for i, j in pairs:
+        route = lines.numbers(b"route")
+        lines.want(len(route) == 4 and route[:2] == [i, j] and all(1 <= hub <= n for hub in route[2:]))
+        found.routes.append((lines.number, i, j, *route[2:]))
+    for cut in range(1, lines.one(b"cuts", 0, MOST_CUTS) + 1):
+        lines.one(b"cut", cut, cut)
+        duals = []
+        for i, j in pairs:
+            dual = lines.numbers(b"dual")
+            lines.want(len(dual) >= 3 and dual[:2] == [i, j])
+            duals.append((lines.number, i, j, dual[2], lines.pairs(dual[3:], n)))
+        found.cuts.append(duals)
+    read_tree(lines, found, n)
+    lines.want(lines.next() == [b"end"])
+    if lines.at < len(text):
+        raise Bad("BadLine", lines.number + 1)
+    return found
+
+
+def read_tree(lines: Lines, found: Certificate, n: int) -> None:
+    """The lines of the tree."""
+    left, places = lines.one(b"nodes", 1, MOST_TREE_LINES), 1
+    while left:
+        word, *rest = lines.next()
+        lines.want(word in (b"branch", b"leaf", b"empty") and all(map(NUMBER.fullmatch, rest)))
+        numbers = [int(number) for number in rest]
+        if word == b"branch":
+            lines.want(len(numbers) == 1 and 1 <= numbers[0] <= n)
+        elif word == b"leaf":
+            lines.want(numbers != [] and 1 <= numbers[0] <= MOST_PARTS)
+            lines.pairs(numbers[1:], 10**30)
+        else:
+            lines.want(numbers == [])
+        left -= 1
+        places += 1 if word == b"branch" else -1
+        lines.want(places <= left and (places > 0 or left == 0))
+        found.tree.append((lines.number, word, numbers))
+
+
+def fail_unless(holds: bool, kind: str, line: int) -> None:
+    """A condition at a line."""
+    if not holds:
+        raise Fails(kind, line)
+
+
+def holds(problem: Problem, found: Certificate) -> None:
+    """Tries each condition."""
+    n, candidates = len(problem.flows), problem.candidates
+    fail_unless(found.size == (n, len(candidates)), "Size", 2)
+    fail_unless(found.bound <= found.cost, "BoundOverCost", 4)
+    fail_unless(set(found.hubs) <= set(candidates), "Hubs", 5)
+    for line, _, _, k, m in found.routes:
+        fail_unless(k in found.hubs and m in found.hubs, "Route", line)
+    cost = sum(problem.fixed[k - 1] for k in found.hubs) + sum(problem.route(*route[1:]) for route in found.routes)
+    fail_unless(found.cost == cost, "Cost", found.routes[-1][0])
+    sums = [sums_of(problem, cut) for cut in found.cuts]
+    closed_or_open: list[dict[int, bool]] = [{}]
+    for line, word, numbers in found.tree:
+        path = closed_or_open.pop()
+        if word == b"branch":
+            k = numbers[0]
+            fail_unless(k in candidates and k not in path, "Branch", line)
+            closed_or_open += [path | {k: False}, path | {k: True}]
+        elif word == b"empty":
+            fail_unless(all(path.get(k) is False for k in candidates), "Empty", line)
+        else:
+            try_leaf(problem, found.bound, sums, path, line, numbers)
+
+
+def sums_of(problem: Problem, cut: list[Dual]) -> tuple[int, dict[int, int]]:
+    """The prices of a cut together, and each candidate's values together."""
+    loads = dict.fromkeys(problem.candidates, 0)
+    for line, i, j, price, pairs in cut:
+        values = dict.fromkeys(problem.candidates, 0)
+        fail_unless(all(k in values for k, _ in pairs), "Dual", line)
+        values.update(pairs)
+        for k in values:
+            for m in values:
+                by_both = values[k] + (values[m] if m != k else 0)
+                fail_unless(price <= problem.route(i, j, k, m) + by_both, "Dual", line)
+            loads[k] += values[k]
+    total = sum(dual[3] for dual in cut)
+    fail_unless(max(total, *loads.values()) <= MOST_SUM, "Sum", cut[-1][0])
+    return total, loads
+
+
+def try_leaf(
+    problem: Problem,
+    target: int,
+    sums: list[tuple[int, dict[int, int]]],
+    path: dict[int, bool],
+    line: int,
+    numbers: list[int],
+) -> None:
+    """The three conditions of a leaf."""
+    parts, weights = numbers[0], list(zip(numbers[1::2], numbers[2::2]))
+    fail_unless(all(cut <= len(sums) for cut, _ in weights), "CutNumber", line)
+    fail_unless(sum(weight for _, weight in weights) <= parts, "Weight", line)
+    bound = sum(weight * sums[cut - 1][0] for cut, weight in weights)
+    for k in problem.candidates:
+        gain = parts * problem.fixed[k - 1] - sum(weight * sums[cut - 1][1][k] for cut, weight in weights)
+        bound += gain if path.get(k) else min(0, gain) if k not in path else 0
+    fail_unless(bound > parts * (target - 1), "Leaf", line)
+
+
+def line_for(problem: Problem, text: bytes) -> tuple[int, str]:
+    """The status of `hub check` and the line that it is to write."""
+    try:
+        found = spelled(text)
+        holds(problem, found)
+    except (Bad, Fails) as no:
+        kind, line = no.args
+        return 2, f"no {kind} {line}"
+    if found.bound == found.cost:
+        return 0, f"optimal {printed(found.cost)}"
+    return 1, f"bounds {printed(found.bound)} {printed(found.cost)}"
+
+
+def printed(cost: int) -> str:
+    """A cost with 12 decimals."""
+    return f"{cost // 10**12}.{cost % 10**12:012}"
