@@ -3,11 +3,13 @@ use Rattle.std.proofs.Common.{◌≡◌, ◌≢◌, ℕ, ◌<◌, ◌≤◌, Lis
 use Rattle.std.proofs.lemmas.Bool.{cond-true, cond-false, eq-eqb, ne_eqb, cases_lt}
 use Rattle.hub_io.specs.Outside.{Files}
 use Rattle.hub_spec.specs.Problem.{Problem}
+use Rattle.hub_spec.specs.Trees.{line_count}
 use Rattle.hub_spec.specs.Certificates.{Proof, Holds}
+use Rattle.search_spec.specs.Findings.{IsSpent}
 use Rattle.cert_spec.specs.Text.{Spells}
 use Rattle.cert_spec.specs.Verdicts.{Verdict, optimal, bounds, fails, misread, too_long, Why}
 use Rattle.hub_make.specs.Contents.{made_problem}
-use Rattle.hub_words.specs.Requests.{Source, Solving, Making, Search, Request, solve, check, report, make, demo, instance}
+use Rattle.hub_words.specs.Requests.{Source, Solving, Making, Search, Request, solve, optimize, check, report, make, demo, instance}
 use Rattle.hub_top.specs.declared.status.Status.{Status}
 use Rattle.hub_top.specs.declared.status.Status.TheVariants.{Done, Stopped, No, Usage, Instance, Memory, Read, Write}
 use Rattle.hub_top.specs.Commands.{HoldsInstance, IsEnoughFor, rule_certificate, Solves, Stops, JudgesFile, ReportsFile}
@@ -32,6 +34,17 @@ solve_instance files x Memory text h = absurd h
 solve_instance files x Read text h = absurd h
 solve_instance files x Write text h = absurd h
 
+optimize_instance : (files : Files) (x : Solving) (status : Status) (text : List ℕ) → Answers (optimize x) status (Some files) text
+    → HasInstance files x.source
+optimize_instance files x Done text h = record { problem = h.problem; instance = h.instance }
+optimize_instance files x Stopped text h = record { problem = h.problem; instance = h.instance }
+optimize_instance files x No text h = absurd h
+optimize_instance files x Usage text h = absurd h
+optimize_instance files x Instance text h = absurd h
+optimize_instance files x Memory text h = absurd h
+optimize_instance files x Read text h = absurd h
+optimize_instance files x Write text h = absurd h
+
 report_instance : (files : Files) (s : Source) (file : List ℕ) (status : Status) (text : List ℕ) → Answers (report s file) status (Some files) text
     → HasInstance files s
 report_instance files s file Done text h = record { problem = h.problem; instance = h.instance }
@@ -47,6 +60,8 @@ pub answered_instance : (files : Files) (request : Request) (s : Source) (status
     → Answers request status (Some files) text → HasInstance files s
 answered_instance files (solve x) s status text named h =
     let e : x.source ≡ s = cc in subst (HasInstance files) e (solve_instance files x status text h)
+answered_instance files (optimize x) s status text named h =
+    let e : x.source ≡ s = cc in subst (HasInstance files) e (optimize_instance files x status text h)
 answered_instance files (check t file) s status text named h =
     let e : t ≡ s = cc in subst (HasInstance files) e (record { problem = h.judges.problem; instance = h.judges.instance })
 answered_instance files (report t file) s status text named h =
@@ -64,11 +79,11 @@ stopped_status k gap = cond-false (nat_eq k.bound k.cost) Done Stopped (ne_eqb k
 
 pub solves_status : (p : Problem) (n : Option ℕ) (tells : Proof → Type 0) → Solves p n tells → Done ≡ rule_status p n
 unfolding rule_status
-solves_status p n tells h = sym (ap found_status (sym h.finds.is) ∙ done_status h.certificate h.no_gap)
+solves_status p n tells h = sym (ap found_status (sym h.by_rule.is) ∙ done_status h.certificate h.no_gap)
 
 pub stops_status : (p : Problem) (n : Option ℕ) (tells : Proof → Type 0) → Stops p n tells → Stopped ≡ rule_status p n
 unfolding rule_status
-stops_status p n tells h = sym (ap found_status (sym h.finds.is) ∙ stopped_status h.certificate h.gap)
+stops_status p n tells h = sym (ap found_status (sym h.by_rule.is) ∙ stopped_status h.certificate h.gap)
 
 pub solve_status : (files : Files) (x : Solving) (p : Problem) (status : Status) (text : List ℕ) → HoldsInstance files x.source p
     → Answers (solve x) status (Some files) text → status ≡ rule_status p x.search.nodes
@@ -95,6 +110,30 @@ solve_enough files x p Instance text instance enough h = absurd h
 solve_enough files x p Memory text instance enough h = absurd h
 solve_enough files x p Read text instance enough h = absurd h
 solve_enough files x p Write text instance enough h = absurd h
+
+-- `optimize` has one of two statuses
+pub optimize_status : (held : Option Files) (x : Solving) (status : Status) (text : List ℕ) → Answers (optimize x) status held text
+    → (status ≡ Done) ⊎ (status ≡ Stopped)
+optimize_status held x Done text h = inl refl
+optimize_status held x Stopped text h = inr refl
+optimize_status held x No text h = absurd h
+optimize_status held x Usage text h = absurd h
+optimize_status held x Instance text h = absurd h
+optimize_status held x Memory text h = absurd h
+optimize_status held x Read text h = absurd h
+optimize_status held x Write text h = absurd h
+
+-- and one alone where no number of nodes is given
+pub optimize_whole : (held : Option Files) (x : Solving) (status : Status) (text : List ℕ) → x.search.nodes ≡ None
+    → Answers (optimize x) status held text → status ≡ Done
+optimize_whole held x Done text none h = refl
+optimize_whole held x Stopped text none h = absurd (subst (λ (n : Option ℕ). IsSpent n (line_count h.bounds.certificate.tree)) none h.bounds.spent)
+optimize_whole held x No text none h = absurd h
+optimize_whole held x Usage text none h = absurd h
+optimize_whole held x Instance text none h = absurd h
+optimize_whole held x Memory text none h = absurd h
+optimize_whole held x Read text none h = absurd h
+optimize_whole held x Write text none h = absurd h
 
 pub demo_status : (held : Option Files) (m : Making) (search : Search) (status : Status) (text : List ℕ)
     → Answers (demo m search) status held text → status ≡ rule_status (made_problem m.seed m.size) search.nodes

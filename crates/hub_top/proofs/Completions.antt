@@ -6,14 +6,14 @@ use Rattle.cert_spec.specs.Verdicts.{Verdict, Why}
 use Rattle.file_spec.specs.Faults.{Fault}
 use Rattle.hub_make.specs.Contents.{made_problem}
 use Rattle.hub_top.specs.declared.status.Status.{Status}
-use Rattle.hub_top.specs.declared.status.Status.TheVariants.{Done, Usage, Instance, Memory}
-use Rattle.hub_words.specs.Requests.{Source, Solving, Making, Search, Request, solve, check, report, make, demo, instance}
+use Rattle.hub_top.specs.declared.status.Status.TheVariants.{Done, Stopped, Usage, Instance, Memory}
+use Rattle.hub_words.specs.Requests.{Source, Solving, Making, Search, Request, solve, optimize, check, report, make, demo, instance}
 use Rattle.hub_top.specs.Commands.{WhereTold, Blame, HasBlame, HoldsInstance}
 use Rattle.hub_top.specs.Answers.{Answers, verdict_status, report_status, rule_status}
 use Rattle.hub_top.specs.Outcomes.{Outcome, answered, usage, faulty, memory, read, status_of, ShelfFails, Quiet, MayComeTo, Written, whole, out_cut, err_cut}
-use Rattle.hub_top.specs.Completeness.{Completeness, EndsWith}
+use Rattle.hub_top.specs.Completeness.{Completeness, EndsAs, EndsWith}
 use Rattle.hub_top.proofs.OneReading.{no_blame}
-use Rattle.hub_top.proofs.Answered.{answered_instance, solve_status, solve_enough, check_status, report_status_is, make_status, demo_status, demo_enough}
+use Rattle.hub_top.proofs.Answered.{answered_instance, solve_status, solve_enough, optimize_status, optimize_whole, check_status, report_status_is, make_status, demo_status, demo_enough}
 
 -- an ending that is written whole has its status, and a sink that fails counts it
 written_status : {O E : Type 0} (out_taken : O → Option (List ℕ)) (out_faults : O → ℕ) (err_taken : E → Option (List ℕ)) (err_faults : E → ℕ)
@@ -70,11 +70,11 @@ blameless_of files request s p named h blame fault t also has =
 blameless_without : (held : Option Files) (request : Request) → instance request ≡ None → IsBlameless held request
 blameless_without held request none blame fault t also has = cc
 
--- how a request ends without a fault, where its answers have this status
-ends_by : (request : Request) (held : Option Files) (wanted : Status) → IsBlameless held request
-    → ((status : Status) (text : List ℕ) → Answers request status held text → status ≡ wanted)
+-- how a request ends without a fault, where its answers have such a status
+ends_by : (request : Request) (held : Option Files) (wanted : Status → Type 0) → IsBlameless held request
+    → ((status : Status) (text : List ℕ) → Answers request status held text → wanted status)
     → (fails : Request → Type 0) → ((other : Request) → fails other → ⊥)
-    → (e : Outcome) → MayComeTo (Some request) held fails e → EndsWith wanted (status_of e)
+    → (e : Outcome) → MayComeTo (Some request) held fails e → EndsAs wanted (status_of e)
 ends_by request held wanted blameless answers fails quiet (answered status text) may =
     let r : may.0 ≡ request = sym (asked_request request may.0 may.1) in
     inl (answers status text (subst (λ (x : Request). Answers x status held text) r may.2))
@@ -86,48 +86,51 @@ ends_by request held wanted blameless answers fails quiet memory may = inr refl
 ends_by request held wanted blameless answers fails quiet read may = absurd (quiet may.0 may.2)
 
 -- the status that was ended with is that of the ending
-status_by : (status : Status) (e : Outcome) (wanted : Status) → status ≡ status_of e → EndsWith wanted (status_of e) → EndsWith wanted status
-status_by status e wanted is (inl h) = inl (is ∙ h)
-status_by status e wanted is (inr h) = inr (is ∙ h)
+status_by : (status : Status) (e : Outcome) (wanted : Status → Type 0) → status ≡ status_of e → EndsAs wanted (status_of e) → EndsAs wanted status
+status_by status e wanted is h = subst (λ (x : Status). EndsAs wanted x) (sym is) h
 
 module _ (asked : Option Request) (held : Option Files) (fails : Request → Type 0) (quiet : Type 0) (e : Outcome) (status : Status)
     (may : MayComeTo asked held fails e) (no_fault : quiet → (request : Request) → fails request → ⊥) (written : quiet → status ≡ status_of e) where
-  -- what a command whose answers have this status ends with
-  command_ends : (request : Request) (wanted : Status) → asked ≡ Some request → IsBlameless held request
-      → ((other : Status) (text : List ℕ) → Answers request other held text → other ≡ wanted) → quiet → EndsWith wanted status
+  -- what a command whose answers have such a status ends with
+  command_ends : (request : Request) (wanted : Status → Type 0) → asked ≡ Some request → IsBlameless held request
+      → ((other : Status) (text : List ℕ) → Answers request other held text → wanted other) → quiet → EndsAs wanted status
   command_ends request wanted is blameless answers calm =
       let P : Option Request → Type 0 = λ x. MayComeTo x held fails e in
       status_by status e wanted (written calm) (ends_by request held wanted blameless answers fails (no_fault calm) e (subst P is may))
 
   -- and where the files are told, and give the instance
-  told_ends : (files : Files) (request : Request) (s : Source) (p : Problem) (wanted : Status) → held ≡ Some files → asked ≡ Some request
+  told_ends : (files : Files) (request : Request) (s : Source) (p : Problem) (wanted : Status → Type 0) → held ≡ Some files → asked ≡ Some request
       → instance request ≡ Some s → HoldsInstance files s p
-      → ((other : Status) (text : List ℕ) → Answers request other (Some files) text → other ≡ wanted) → quiet → EndsWith wanted status
+      → ((other : Status) (text : List ℕ) → Answers request other (Some files) text → wanted other) → quiet → EndsAs wanted status
   told_ends files request s p wanted told is named h answers calm =
       let back : Some files ≡ held = sym told in
       command_ends request wanted is (subst (λ (x : Option Files). IsBlameless x request) back (blameless_of files request s p named h))
-      (subst (λ (x : Option Files). (other : Status) (text : List ℕ) → Answers request other x text → other ≡ wanted) back answers) calm
+      (subst (λ (x : Option Files). (other : Status) (text : List ℕ) → Answers request other x text → wanted other) back answers) calm
 
   -- the endings of a run in which no read failed
   completeness_of : Completeness asked held quiet status
   completeness_of = record {
-    usage = λ none calm. status_by status e Usage (written calm) (ends_usage held fails e (subst (λ (x : Option Request). MayComeTo x held fails e) none may));
+    usage = λ none calm. status_by status e (λ (x : Status). x ≡ Usage) (written calm) (ends_usage held fails e (subst (λ (x : Option Request). MayComeTo x held fails e) none may));
     fault = λ files request s blame fault told is named has calm.
         let P : Option Request → Type 0 = λ x. MayComeTo x held fails e in
         let Q : Option Files → Type 0 = λ x. MayComeTo (Some request) x fails e in
-        status_by status e Instance (written calm) (ends_faulty files request s blame fault named has fails (no_fault calm) e (subst Q told (subst P is may)));
-    solved = λ files s p told is h. told_ends files (solve s) s.source p (rule_status p s.search.nodes) told is refl h
+        status_by status e (λ (x : Status). x ≡ Instance) (written calm) (ends_faulty files request s blame fault named has fails (no_fault calm) e (subst Q told (subst P is may)));
+    solved = λ files s p told is h. told_ends files (solve s) s.source p (λ (x : Status). x ≡ rule_status p s.search.nodes) told is refl h
         (λ other text answers. solve_status files s p other text h answers);
-    enough = λ files s p told is h many. told_ends files (solve s) s.source p Done told is refl h
+    enough = λ files s p told is h many. told_ends files (solve s) s.source p (λ (x : Status). x ≡ Done) told is refl h
         (λ other text answers. solve_enough files s p other text h many answers);
-    judged = λ files s certificate p bytes verdict told is h there why. told_ends files (check s certificate) s p (verdict_status verdict) told is refl h
+    optimized = λ files s p told is h none. told_ends files (optimize s) s.source p (λ (x : Status). x ≡ Done) told is refl h
+        (λ other text answers. optimize_whole (Some files) s other text none answers);
+    bounded = λ files s p told is h. told_ends files (optimize s) s.source p (λ (x : Status). (x ≡ Done) ⊎ (x ≡ Stopped)) told is refl h
+        (λ other text answers. optimize_status (Some files) s other text answers);
+    judged = λ files s certificate p bytes verdict told is h there why. told_ends files (check s certificate) s p (λ (x : Status). x ≡ verdict_status verdict) told is refl h
         (λ other text answers. check_status files s certificate p bytes verdict other text h there why answers);
-    reported = λ files s certificate p bytes verdict told is h there why. told_ends files (report s certificate) s p (report_status verdict) told is refl h
+    reported = λ files s certificate p bytes verdict told is h there why. told_ends files (report s certificate) s p (λ (x : Status). x ≡ report_status verdict) told is refl h
         (λ other text answers. report_status_is files s certificate p bytes verdict other text h there why answers);
-    made = λ m is. command_ends (make m) Done is (blameless_without held (make m) refl) (λ other text answers. make_status held m other text answers);
-    shown = λ m search is. command_ends (demo m search) (rule_status (made_problem m.seed m.size) search.nodes) is
+    made = λ m is. command_ends (make m) (λ (x : Status). x ≡ Done) is (blameless_without held (make m) refl) (λ other text answers. make_status held m other text answers);
+    shown = λ m search is. command_ends (demo m search) (λ (x : Status). x ≡ rule_status (made_problem m.seed m.size) search.nodes) is
         (blameless_without held (demo m search) refl) (λ other text answers. demo_status held m search other text answers);
-    shown_whole = λ m search is many. command_ends (demo m search) Done is
+    shown_whole = λ m search is many. command_ends (demo m search) (λ (x : Status). x ≡ Done) is
         (blameless_without held (demo m search) refl) (λ other text answers. demo_enough held m search other text many answers);
   }
 

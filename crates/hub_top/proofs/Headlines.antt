@@ -7,16 +7,16 @@ use Rattle.cert_spec.specs.Verdicts.{Verdict, optimal, bounds, misread, too_long
 use Rattle.cert_spec.specs.Verdicts as verdicts
 use Rattle.hub_top.specs.declared.status.Status.{Status}
 use Rattle.hub_top.specs.declared.status.Status.TheVariants.{Done, Memory}
-use Rattle.hub_words.specs.Requests.{Source, Solving, Request, solve, check}
+use Rattle.hub_words.specs.Requests.{Source, Solving, Request, solve, optimize, check}
 use Rattle.hub_top.specs.Texts.{optimal_line, verdict_text}
-use Rattle.hub_top.specs.Commands.{HoldsInstance, SolvesInstance, JudgesFile}
+use Rattle.hub_top.specs.Commands.{HoldsInstance, SolvesInstance, OptimizesInstance, JudgesFile}
 use Rattle.cert_checker.specs.Shows.{ProvesOptimal}
 use Rattle.hub_top.specs.Answers.{verdict_status, Judges, Answers}
 use Rattle.hub_top.specs.Meanings.{Answered, Means}
 use Rattle.hub_top.specs.Headline.{IsSameInstance, Headline}
 use Rattle.hub_top.specs.Completeness.{Completeness}
 use Rattle.hub_top.proofs.OneReading.{held_again}
-use Rattle.hub_top.proofs.OneTexts.{solved_verdict}
+use Rattle.hub_top.proofs.OneTexts.{solved_verdict, optimized_verdict}
 
 -- the answer to the request that was asked for
 answers_to : (asked : Option Request) (held : Option Files) (old new : Option (List ℕ)) (h : Answered asked held old new Done)
@@ -30,6 +30,11 @@ solved_of : (asked : Option Request) (held : Option Files) (old new : Option (Li
     → (files : Files) (s : Solving) → held ≡ Some files → asked ≡ Some (solve s)
     → (text : List ℕ) × Appends old new text × SolvesInstance (Some files) s text
 solved_of asked held old new h files s told is = (h.text, h.taken, answers_to asked held old new h files (solve s) told is)
+
+optimized_of : (asked : Option Request) (held : Option Files) (old new : Option (List ℕ)) → Answered asked held old new Done
+    → (files : Files) (s : Solving) → held ≡ Some files → asked ≡ Some (optimize s)
+    → (text : List ℕ) × Appends old new text × OptimizesInstance (Some files) s text
+optimized_of asked held old new h files s told is = (h.text, h.taken, answers_to asked held old new h files (optimize s) told is)
 
 -- what a verdict says whose status is 0
 certifies : (files : Files) (s : Source) (certificate text : List ℕ) (old new : Option (List ℕ)) (v : Verdict) → verdict_status v ≡ Done
@@ -65,6 +70,17 @@ checked_of asked held quiet status complete before files s t certificate text to
     (held_again before files s.source t h.problem h.instance same) there
     (solved_verdict h.problem s.search.nodes text h.solves short).0 calm
 
+-- a check of a text that optimizes the same instance
+optimum_checked : (asked : Option Request) (held : Option Files) (quiet : Type 0) (status : Status) → Completeness asked held quiet status
+    → (before files : Files) (s : Solving) (t : Source) (certificate text : List ℕ) → held ≡ Some files → asked ≡ Some (check t certificate)
+    → OptimizesInstance (Some before) s text → length text ≤ certificate_limit
+    → IsSameInstance before s.source files t → files certificate ≡ Some text → quiet
+    → (status ≡ Done) ⊎ (status ≡ Memory)
+optimum_checked asked held quiet status complete before files s t certificate text told asks h short same there calm =
+    complete.judged files t certificate h.problem text (optimal h.optimizes.certificate.cost) told asks
+    (held_again before files s.source t h.problem h.instance same) there
+    (optimized_verdict h.problem s.search.nodes text h.optimizes short).0 calm
+
 pub headline : (asked : Option Request) (held : Option Files) (fails : Request → Type 0) (old new : Option (List ℕ)) (rose quiet : Type 0) (status : Status)
     → Means asked held fails old new rose status → Completeness asked held quiet status
     → Headline asked held old new quiet status
@@ -74,5 +90,8 @@ headline asked held fails old new rose quiet status means complete =
       solved = λ files s told is done. solved_of asked held old new (subst P done means) files s told is;
       checked = λ before files s t certificate text told is h short same there calm.
           checked_of asked held quiet status complete before files s t certificate text told is h short same there calm;
+      optimized = λ files s told is done. optimized_of asked held old new (subst P done means) files s told is;
+      optimized_checked = λ before files s t certificate text told is h short same there calm.
+          optimum_checked asked held quiet status complete before files s t certificate text told is h short same there calm;
       certified = λ files s certificate told is done. certified_of asked held old new (subst P done means) files s certificate told is;
     }

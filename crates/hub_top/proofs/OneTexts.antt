@@ -7,7 +7,7 @@ use Rattle.cert_spec.specs.Verdicts.{Verdict, optimal, bounds, Why, certificate_
 use Rattle.cert_spec.proofs.OneText.{one_certificate_lem}
 use Rattle.cert_spec.proofs.TextOrFault.{each_is_text_or_fault_lem}
 use Rattle.cert_spec.proofs.VerdictLemmas.{one_verdict_from}
-use Rattle.hub_top.specs.Commands.{rule_certificate, Solves, Stops}
+use Rattle.hub_top.specs.Commands.{rule_certificate, Finds, Solves, Stops, Optimizes}
 use Rattle.hub_top.specs.Theorems.{IsOneVerdict, Ends}
 
 -- the verdict on any bytes is the only one
@@ -16,13 +16,22 @@ only_verdict p bytes v w why also =
     let one = one_verdict_from one_certificate_lem each_is_text_or_fault_lem p bytes in
     one.2 w also ∙ sym (one.2 v why)
 
+-- of a certificate whose bound is its cost
+found_verdict : (p : Problem) (n : Option ℕ) (text : List ℕ) (k : Proof) → Finds p n (Spells text) k → k.bound ≡ k.cost
+    → length text ≤ certificate_limit → IsOneVerdict p text (optimal k.cost)
+found_verdict p n text k finds no_gap short =
+    let why : Why p text (optimal k.cost) = record {
+      not_too_long = short;
+      certificate = (k, finds.told, finds.holds, no_gap, refl);
+    } in (why, λ other also. only_verdict p text (optimal k.cost) other why also)
+
 pub solved_verdict : (p : Problem) (n : Option ℕ) (text : List ℕ) (h : Solves p n (Spells text)) → length text ≤ certificate_limit
     → IsOneVerdict p text (optimal h.certificate.cost)
-solved_verdict p n text h short =
-    let why : Why p text (optimal h.certificate.cost) = record {
-      not_too_long = short;
-      certificate = (h.certificate, h.finds.told, h.finds.holds, h.no_gap, refl);
-    } in (why, λ other also. only_verdict p text (optimal h.certificate.cost) other why also)
+solved_verdict p n text h short = found_verdict p n text h.certificate h.finds h.no_gap short
+
+pub optimized_verdict : (p : Problem) (n : Option ℕ) (text : List ℕ) (h : Optimizes p n text) → length text ≤ certificate_limit
+    → IsOneVerdict p text (optimal h.certificate.cost)
+optimized_verdict p n text h short = found_verdict p n text h.certificate h.finds h.no_gap short
 
 pub stopped_verdict : (p : Problem) (n : Option ℕ) (text : List ℕ) (h : Stops p n (Spells text)) → length text ≤ certificate_limit
     → IsOneVerdict p text (bounds h.certificate.bound h.certificate.cost)
@@ -38,8 +47,8 @@ stopped_verdict p n text h short =
 
 -- the text of a search is that of the rule's certificate
 rule_text : (p : Problem) (n : Option ℕ) (text : List ℕ) → Ends p n text → text ≡ certificate_text (rule_certificate p n)
-rule_text p n text (inl h) = h.finds.told.text ∙ ap certificate_text h.finds.is
-rule_text p n text (inr h) = h.finds.told.text ∙ ap certificate_text h.finds.is
+rule_text p n text (inl h) = h.finds.told.text ∙ ap certificate_text h.by_rule.is
+rule_text p n text (inr h) = h.finds.told.text ∙ ap certificate_text h.by_rule.is
 
 pub one_text_of : (p : Problem) (n : Option ℕ) (text other : List ℕ) → Ends p n text → Ends p n other → other ≡ text
 one_text_of p n text other h k = rule_text p n other k ∙ sym (rule_text p n text h)

@@ -4,7 +4,7 @@ use Rattle.std.specs.Io.KnownBytes.{Appends}
 use Rattle.hub_io.specs.Outside.{Files, Rose}
 use Rattle.cert_spec.specs.Verdicts.{Verdict, optimal, bounds, misread, too_long}
 use Rattle.cert_spec.specs.Verdicts as verdicts
-use Rattle.hub_words.specs.Requests.{Source, Solving, Making, Search, Request, solve, check, report, make, demo}
+use Rattle.hub_words.specs.Requests.{Source, Solving, Making, Search, Request, solve, optimize, check, report, make, demo}
 use Rattle.hub_top.specs.declared.status.Status.{Status}
 use Rattle.hub_top.specs.declared.status.Status.TheVariants.{Done, Stopped, No, Usage, Instance, Memory, Read, Write}
 use Rattle.hub_top.specs.Answers.{Answers, verdict_status}
@@ -39,6 +39,16 @@ of_solve s Memory held text none h = h
 of_solve s Read held text none h = h
 of_solve s Write held text none h = h
 
+of_optimize : (s : Solving) (status : Status) (held : Option Files) (text : List ℕ) → HasNoAnswer status → Answers (optimize s) status held text → ⊥
+of_optimize s Done held text none h = none
+of_optimize s Stopped held text none h = none
+of_optimize s No held text none h = none
+of_optimize s Usage held text none h = h
+of_optimize s Instance held text none h = h
+of_optimize s Memory held text none h = h
+of_optimize s Read held text none h = h
+of_optimize s Write held text none h = h
+
 of_report : (s : Source) (file : List ℕ) (status : Status) (held : Option Files) (text : List ℕ) → HasNoAnswer status → Answers (report s file) status held text → ⊥
 of_report s file Done held text none h = none
 of_report s file Stopped held text none h = none
@@ -71,6 +81,7 @@ of_demo m search Write held text none h = h
 
 no_answer : (request : Request) (status : Status) (held : Option Files) (text : List ℕ) → HasNoAnswer status → Answers request status held text → ⊥
 no_answer (solve s) status held text none h = of_solve s status held text none h
+no_answer (optimize s) status held text none h = of_optimize s status held text none h
 no_answer (check s file) status held text none h = of_verdict h.verdict status none h.of_status
 no_answer (report s file) status held text none h = of_report s file status held text none h
 no_answer (make m) status held text none h = of_make m status held text none h

@@ -8,11 +8,11 @@ use Rattle.cert_spec.specs.Verdicts.{Verdict, optimal, bounds}
 use Rattle.hub_make.specs.Texts.{made_text}
 use Rattle.hub_make.specs.Contents.{made_problem}
 use Rattle.hub_demo.specs.Texts as lines
-use Rattle.hub_words.specs.Requests.{Source, Making, Search, Request, solve, check, report, make, demo}
+use Rattle.hub_words.specs.Requests.{Source, Making, Search, Request, solve, optimize, check, report, make, demo}
 use Rattle.hub_top.specs.declared.status.Status.{Status}
 use Rattle.hub_top.specs.declared.status.Status.TheVariants.{Done, Stopped, No}
 use Rattle.hub_top.specs.Texts.{verdict_text}
-use Rattle.hub_top.specs.Commands.{rule_certificate, Solves, Stops, SolvesInstance, StopsInstance, JudgesFile, ReportsFile}
+use Rattle.hub_top.specs.Commands.{rule_certificate, Solves, Stops, SolvesInstance, StopsInstance, OptimizesInstance, BoundsInstance, JudgesFile, ReportsFile}
 
 -- ---- statuses
 
@@ -58,6 +58,9 @@ abbrev pub Answers : Request → Status → Option Files → List ℕ → Type 0
 Answers (solve s) Done held text = SolvesInstance held s text
 Answers (solve s) Stopped held text = StopsInstance held s text
 Answers (solve s) status held text = ⊥
+Answers (optimize s) Done held text = OptimizesInstance held s text
+Answers (optimize s) Stopped held text = BoundsInstance held s text
+Answers (optimize s) status held text = ⊥
 Answers (check s certificate) status held text = Judges held s certificate status text
 Answers (report s certificate) Done held text = ReportsFile held s certificate text
 Answers (report s certificate) No held text = Judges held s certificate No text

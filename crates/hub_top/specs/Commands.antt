@@ -15,7 +15,7 @@ use Rattle.file_spec.specs.Files.{HasContents}
 use Rattle.file_spec.specs.Instances.{build_fault, GivesInstance, GivesFileFault, GivesCosts, GivesCostFault}
 use Rattle.branch_tree.specs.Findings.{found_by}
 use Rattle.network_report.specs.Texts.{report_text}
-use Rattle.hub_words.specs.Requests.{Source, Solving, Request, solve, check, report, make, demo}
+use Rattle.hub_words.specs.Requests.{Source, Solving, Request, solve, optimize, check, report, make, demo}
 use Rattle.cert_checker.specs.Shows.{Proves}
 
 -- a fact about the files, where they are told
@@ -73,22 +73,27 @@ abbrev pub HasBlame : Files → Source → Blame → Fault → Type 0
 HasBlame files s on_instance fault = HoldsFault files s fault
 HasBlame files s on_costs fault = HoldsCostFault files s fault
 
+-- ---- what a search comes to
+
+-- what is told is a certificate that holds for the instance: its hubs and routes are a plan that costs exactly its cost,
+-- and no nonempty set of candidates with any routing costs less than its bound; its tree has no more nodes than are
+-- allowed
+pub record Finds (p : Problem) (nodes : Option ℕ) (tells : Proof → Type 0) (k : Proof) : Type 0 where
+  pub told : tells k
+  pub holds : Holds p k
+  pub paid : plan_cost p k.plan ≡ k.cost
+  pub below : NoPlanBelow p k.bound
+  pub allowed : AreWithin nodes (line_count k.tree)
+
 -- ---- what `solve` and `demo` come to
 
 -- the certificate that the search rule defines for the instance and the most nodes; it reads no number of workers
 abbrev pub rule_certificate : Problem → Option ℕ → Proof
 rule_certificate p nodes = certificate_of p (found_by p nodes)
 
--- what is told is the rule's certificate, and it holds for the instance: its hubs and routes are a plan that costs
--- exactly its cost, and no nonempty set of candidates with any routing costs less than its bound; its tree has no more
--- nodes than are allowed
-pub record Finds (p : Problem) (nodes : Option ℕ) (tells : Proof → Type 0) (k : Proof) : Type 0 where
+-- it is the rule's, and its tree has no more nodes than a whole tree has
+pub record IsByRule (p : Problem) (nodes : Option ℕ) (k : Proof) : Type 0 where
   pub is : k ≡ rule_certificate p nodes
-  pub told : tells k
-  pub holds : Holds p k
-  pub paid : plan_cost p k.plan ≡ k.cost
-  pub below : NoPlanBelow p k.bound
-  pub allowed : AreWithin nodes (line_count k.tree)
   pub most : line_count k.tree + 1 ≤ 2 ^ (length p.candidates + 1)
 
 -- as many nodes are allowed as a whole tree over the instance's candidates has
@@ -98,6 +103,7 @@ IsEnoughFor p nodes = IsEnough (2 ^ (length p.candidates + 1)) nodes
 -- its bound is its cost: no nonempty set of candidates with any routing costs less
 pub record Solves (p : Problem) (nodes : Option ℕ) (tells : Proof → Type 0) : Type 0 where
   pub certificate : Proof
+  pub by_rule : IsByRule p nodes certificate
   pub finds : Finds p nodes tells certificate
   pub no_gap : certificate.bound ≡ certificate.cost
   pub optimal : IsOptimal p certificate.plan
@@ -105,6 +111,7 @@ pub record Solves (p : Problem) (nodes : Option ℕ) (tells : Proof → Type 0) 
 -- its bound is below its cost, since two nodes more are not allowed, and fewer than a whole tree has
 pub record Stops (p : Problem) (nodes : Option ℕ) (tells : Proof → Type 0) : Type 0 where
   pub certificate : Proof
+  pub by_rule : IsByRule p nodes certificate
   pub finds : Finds p nodes tells certificate
   pub gap : certificate.bound < certificate.cost
   pub spent : IsSpent nodes (line_count certificate.tree)
@@ -121,6 +128,34 @@ pub record StopsInstance (held : Option Files) (s : Solving) (text : List ℕ) :
   pub problem : Problem
   pub instance : WhereTold held (λ files. HoldsInstance files s.source problem)
   pub stops : Stops problem s.search.nodes (Spells text)
+
+-- ---- what `optimize` comes to
+
+-- the text is a certificate's whose bound is its cost: no nonempty set of candidates with any routing costs less
+pub record Optimizes (p : Problem) (nodes : Option ℕ) (text : List ℕ) : Type 0 where
+  pub certificate : Proof
+  pub finds : Finds p nodes (Spells text) certificate
+  pub no_gap : certificate.bound ≡ certificate.cost
+  pub optimal : IsOptimal p certificate.plan
+
+-- its bound is below its cost, since two nodes more are not allowed
+pub record Bounds (p : Problem) (nodes : Option ℕ) (text : List ℕ) : Type 0 where
+  pub certificate : Proof
+  pub finds : Finds p nodes (Spells text) certificate
+  pub gap : certificate.bound < certificate.cost
+  pub spent : IsSpent nodes (line_count certificate.tree)
+
+-- the files give an instance, which the text optimizes
+pub record OptimizesInstance (held : Option Files) (s : Solving) (text : List ℕ) : Type 0 where
+  pub problem : Problem
+  pub instance : WhereTold held (λ files. HoldsInstance files s.source problem)
+  pub optimizes : Optimizes problem s.search.nodes text
+
+-- the files give an instance, which the text bounds
+pub record BoundsInstance (held : Option Files) (s : Solving) (text : List ℕ) : Type 0 where
+  pub problem : Problem
+  pub instance : WhereTold held (λ files. HoldsInstance files s.source problem)
+  pub bounds : Bounds problem s.search.nodes text
 
 -- ---- what `check` and `report` come to
 
@@ -164,6 +199,7 @@ pub record LacksCertificate (files : Files) (s : Source) (certificate : List ℕ
 -- a file that the request names is not held, when its turn comes
 abbrev pub Lacks : Files → Request → Type 0
 Lacks files (solve solving) = LacksSource files solving.source
+Lacks files (optimize solving) = LacksSource files solving.source
 Lacks files (check s certificate) = LacksSource files s ⊎ LacksCertificate files s certificate
 Lacks files (report s certificate) = LacksSource files s ⊎ LacksCertificate files s certificate
 Lacks files (make making) = ⊥

@@ -6,14 +6,18 @@ use Rattle.cert_spec.specs.Verdicts.{Verdict, Why}
 use Rattle.file_spec.specs.Faults.{Fault}
 use Rattle.hub_make.specs.Contents.{made_problem}
 use Rattle.hub_top.specs.declared.status.Status.{Status}
-use Rattle.hub_top.specs.declared.status.Status.TheVariants.{Done, Usage, Instance, Memory}
-use Rattle.hub_words.specs.Requests.{Source, Solving, Making, Search, Request, solve, check, report, make, demo, instance}
+use Rattle.hub_top.specs.declared.status.Status.TheVariants.{Done, Stopped, Usage, Instance, Memory}
+use Rattle.hub_words.specs.Requests.{Source, Solving, Making, Search, Request, solve, optimize, check, report, make, demo, instance}
 use Rattle.hub_top.specs.Commands.{Blame, HasBlame, HoldsInstance, IsEnoughFor}
 use Rattle.hub_top.specs.Answers.{verdict_status, report_status, rule_status}
 
--- the run ended with this status, or for want of memory
+-- the run ended with a status of which this holds, or for want of memory
+abbrev pub EndsAs : (Status → Type 0) → Status → Type 0
+EndsAs wanted status = wanted status ⊎ (status ≡ Memory)
+
+-- with this status, or for want of memory
 abbrev pub EndsWith : Status → Status → Type 0
-EndsWith wanted status = (status ≡ wanted) ⊎ (status ≡ Memory)
+EndsWith wanted status = EndsAs (λ x. x ≡ wanted) status
 
 -- how a run ends in which no fault rises: as the words and the files say, or for want of memory
 pub record Completeness (asked : Option Request) (held : Option Files) (quiet : Type 0) (status : Status) : Type 0 where
@@ -28,6 +32,12 @@ pub record Completeness (asked : Option Request) (held : Option Files) (quiet : 
   -- and with as many nodes as a whole tree has it is solved
   pub enough : (files : Files) (s : Solving) (p : Problem) → held ≡ Some files → asked ≡ Some (solve s)
       → HoldsInstance files s.source p → IsEnoughFor p s.search.nodes → quiet → EndsWith Done status
+  -- `optimize` with an instance and no limit on the nodes
+  pub optimized : (files : Files) (s : Solving) (p : Problem) → held ≡ Some files → asked ≡ Some (optimize s)
+      → HoldsInstance files s.source p → s.search.nodes ≡ None → quiet → EndsWith Done status
+  -- and with any limit: the bound is the cost, or it is below
+  pub bounded : (files : Files) (s : Solving) (p : Problem) → held ≡ Some files → asked ≡ Some (optimize s)
+      → HoldsInstance files s.source p → quiet → EndsAs (λ x. (x ≡ Done) ⊎ (x ≡ Stopped)) status
   -- `check` with an instance and a certificate: the status of the verdict on its bytes
   pub judged : (files : Files) (s : Source) (certificate : List ℕ) (p : Problem) (bytes : List ℕ) (verdict : Verdict)
       → held ≡ Some files → asked ≡ Some (check s certificate) → HoldsInstance files s p → files certificate ≡ Some bytes

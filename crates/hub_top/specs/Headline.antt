@@ -6,9 +6,9 @@ use Rattle.hub_spec.specs.Problem.{Problem}
 use Rattle.cert_spec.specs.Verdicts.{certificate_limit}
 use Rattle.hub_top.specs.declared.status.Status.{Status}
 use Rattle.hub_top.specs.declared.status.Status.TheVariants.{Done, Memory}
-use Rattle.hub_words.specs.Requests.{Source, Solving, Request, solve, check}
+use Rattle.hub_words.specs.Requests.{Source, Solving, Request, solve, optimize, check}
 use Rattle.hub_top.specs.Texts.{optimal_line}
-use Rattle.hub_top.specs.Commands.{HoldsInstance, SolvesInstance}
+use Rattle.hub_top.specs.Commands.{HoldsInstance, SolvesInstance, OptimizesInstance}
 use Rattle.cert_checker.specs.Shows.{ProvesOptimal}
 
 -- the costs files named hold the same bytes, or none is named
@@ -35,6 +35,13 @@ pub record Headline (asked : Option Request) (held : Option Files) (old new : Op
   -- text has at most 2^30 bytes
   pub checked : (before files : Files) (s : Solving) (t : Source) (certificate text : List ℕ) → held ≡ Some files → asked ≡ Some (check t certificate)
       → SolvesInstance (Some before) s text → length text ≤ certificate_limit
+      → IsSameInstance before s.source files t → files certificate ≡ Some text → quiet
+      → (status ≡ Done) ⊎ (status ≡ Memory)
+  -- both hold with `optimize` for `solve`
+  pub optimized : (files : Files) (s : Solving) → held ≡ Some files → asked ≡ Some (optimize s) → status ≡ Done
+      → (text : List ℕ) × Appends old new text × OptimizesInstance (Some files) s text
+  pub optimized_checked : (before files : Files) (s : Solving) (t : Source) (certificate text : List ℕ) → held ≡ Some files → asked ≡ Some (check t certificate)
+      → OptimizesInstance (Some before) s text → length text ≤ certificate_limit
       → IsSameInstance before s.source files t → files certificate ≡ Some text → quiet
       → (status ≡ Done) ⊎ (status ≡ Memory)
   -- wherever `check` ends with status 0, on any bytes whatever, the named network attains its cost and no plan costs less

@@ -7,6 +7,9 @@ use Rattle.search_steps.specs.Pools.{IsPoolOf}
 use Rattle.branch_tree.specs.declared.found.Found.{Found}
 use Rattle.branch_tree.specs.Findings.{IsProved}
 use Rattle.found_text.specs.Texts.{found_text}
+use Rattle.kept_cuts.specs.declared.network.Network.{Network}
+use Rattle.kept_cuts.specs.Networks as networks
+use Rattle.closed_text.specs.Texts.{network_text}
 use Rattle.network_report.specs.Texts.{report_text}
 use Rattle.hub_demo.specs.Texts.{demo_text}
 use Rattle.cert_checker.specs.Shows.{verdict_of}
@@ -15,7 +18,7 @@ use Rattle.hub_top.specs.declared.status.Status.TheVariants.{Done, Stopped}
 use Rattle.hub_top.specs.declared.halts.Halt.{Halt}
 use Rattle.hub_top.specs.declared.halts.Halt.TheVariants as halts
 use Rattle.hub_top.specs.declared.answers.Answer.{Answer}
-use Rattle.hub_top.specs.declared.answers.Answer.TheVariants.{Solved, Judged, Reported, Made, Demonstrated}
+use Rattle.hub_top.specs.declared.answers.Answer.TheVariants.{Solved, Optimized, Judged, Reported, Made, Demonstrated}
 use Rattle.hub_top.specs.declared.outcomes.Intended.{Intended}
 use Rattle.hub_top.specs.declared.outcomes.Intended.TheVariants.{Answered, Usage, Halted}
 use Rattle.hub_top.specs.Texts.{verdict_text}
@@ -33,9 +36,14 @@ halted halts.Read = read
 abbrev pub finding_status : Found → Status
 finding_status found = if nat_eq (natural found.bound) (natural found.cost) then Done else Stopped
 
+-- the same of a search that follows no rule
+abbrev pub network_status : Network → Status
+network_status found = if nat_eq found.bound found.cost then Done else Stopped
+
 -- the status of an answer
 abbrev pub answer_status : Answer → Status
 answer_status (Solved solution) = finding_status solution.found
+answer_status (Optimized instance found) = network_status found
 answer_status (Judged ending) = verdict_status (verdict_of ending)
 answer_status (Reported instance certificate) = Done
 answer_status (Made text) = Done
@@ -44,6 +52,7 @@ answer_status (Demonstrated size found) = finding_status found
 -- its text
 abbrev pub answer_text : Answer → List ℕ
 answer_text (Solved solution) = found_text solution.instance solution.found
+answer_text (Optimized instance found) = network_text instance found
 answer_text (Judged ending) = verdict_text (verdict_of ending)
 answer_text (Reported instance certificate) = report_text instance certificate
 answer_text (Made text) = text.items
@@ -60,6 +69,7 @@ abbrev pub IsWritable : Answer → Type 0
 IsWritable (Solved solution) =
     (solution.instance.size ≤ solution.scratch.room) × IsProved solution.instance solution.found
     × IsPoolOf solution.instance solution.found.pool.entries × HasAmounts solution.found
+IsWritable (Optimized instance found) = networks.IsProved instance found
 IsWritable (Judged ending) = Unit {0}
 IsWritable (Reported instance certificate) = Holds instance certificate
 IsWritable (Made text) = Unit {0}

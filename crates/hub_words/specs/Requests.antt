@@ -26,9 +26,11 @@ pub record Making : Type 0 where
   pub seed : ℕ
   pub size : ℕ
 
--- a command: solve an instance, check a certificate against it, report on a certificate, make an instance, or make one and solve it
+-- a command: solve an instance by the rule or by a search that follows none, check a certificate against it, report on
+-- a certificate, make an instance, or make one and solve it
 pub data Request : Type 0 where
   solve : Solving → Request
+  optimize : Solving → Request
   check : Source → (certificate : List ℕ) → Request
   report : Source → (certificate : List ℕ) → Request
   make : Making → Request
@@ -37,6 +39,7 @@ pub data Request : Type 0 where
 -- the instance that a request names, if it names one
 abbrev pub instance : Request → Option Source
 instance (solve solving) = Some solving.source
+instance (optimize solving) = Some solving.source
 instance (check source certificate) = Some source
 instance (report source certificate) = Some source
 instance (make making) = None
@@ -45,6 +48,7 @@ instance (demo making search) = None
 -- the search that a request asks for, if it asks for one
 abbrev pub search_of : Request → Option Search
 search_of (solve solving) = Some solving.search
+search_of (optimize solving) = Some solving.search
 search_of (check source certificate) = None
 search_of (report source certificate) = None
 search_of (make making) = None
@@ -53,6 +57,7 @@ search_of (demo making search) = Some search
 -- the instance that a request asks to be made, if it asks for one
 abbrev pub making_of : Request → Option Making
 making_of (solve solving) = None
+making_of (optimize solving) = None
 making_of (check source certificate) = None
 making_of (report source certificate) = None
 making_of (make making) = Some making

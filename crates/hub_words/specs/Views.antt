@@ -13,7 +13,7 @@ use Rattle.hub_words.specs.declared.requests.Solving.{Solving}
 use Rattle.hub_words.specs.declared.requests.Search.{Search}
 use Rattle.hub_words.specs.declared.requests.Making.{Making}
 use Rattle.hub_words.specs.declared.requests.Command.{Command}
-use Rattle.hub_words.specs.declared.requests.Command.TheVariants.{Solve, Check, Report, Make, Demo}
+use Rattle.hub_words.specs.declared.requests.Command.TheVariants.{Solve, Optimize, Check, Report, Make, Demo}
 
 -- the bytes of the words
 abbrev pub texts : List (String Global) → List (List ℕ)
@@ -48,6 +48,7 @@ rows_found found = rows_of (found_of found)
 -- the request
 abbrev pub request_of : Command → request.Request
 request_of (Solve solving) = request.solve (solving_of solving)
+request_of (Optimize solving) = request.optimize (solving_of solving)
 request_of (Check source certificate) = request.check (source_of source) certificate.now
 request_of (Report source certificate) = request.report (source_of source) certificate.now
 request_of (Make making) = request.make (making_seen making)

@@ -1,8 +1,8 @@
 //! The command as it is told to clap, and the parse of the words.
 
-ghost use Rattle.std.specs.Prelude.{◌≡◌, false, fold, IfOk, option_and_then};
+ghost use Rattle.std.specs.Prelude.{◌≡◌, codes, false, fold, IfOk, option_and_then};
 ghost use Rattle.clap.specs.Words.{app_of, new_app, rule_of, subcommand_rows_of};
-ghost use Rattle.hub_words.specs.Hub.{bare, certificate_app, demo_app, flag_rule, hub, instance_words, make_app, option_rule, solve_app, with_instance, with_making, with_option, with_search, with_word, word_rule};
+ghost use Rattle.hub_words.specs.Hub.{bare, certificate_app, demo_app, flag_rule, hub, instance_words, make_app, optimize_app, option_rule, solve_app, with_instance, with_making, with_option, with_search, with_word, word_rule};
 ghost use Rattle.hub_words.specs.Parses.{Spells, parsed};
 ghost use Rattle.hub_words.specs.Views.{texts};
 ghost use Rattle.clap.specs.Simple.{on_top};
@@ -123,6 +123,13 @@ fn solve_command<'a>(alloc: Global) -> Result<Command<'a>, AllocError>
     search_command(alloc, command)
 }
 
+fn optimize_command<'a>(alloc: Global) -> Result<Command<'a>, AllocError>
+    ensures { IfOk result (Spells optimize_app) }
+{
+    let command = instance_command(alloc, plain(alloc, "optimize"))?;
+    search_command(alloc, command)
+}
+
 /// The subcommand of this name, which takes an instance and a certificate.
 fn certificate_command<'a>(alloc: Global, name: &'a str) -> Result<Command<'a>, AllocError>
     ensures { IfOk result (Spells (certificate_app name.entry.now)) }
@@ -144,12 +151,19 @@ fn demo_command<'a>(alloc: Global) -> Result<Command<'a>, AllocError>
     search_command(alloc, command)
 }
 
+/// `hub`, as yet without subcommands.
+fn bare_command<'a>(alloc: Global) -> Command<'a>
+    ensures { Spells (on_top bare (new_app (codes "hub"))) result }
+{
+    without_help(plain(alloc, "hub"))
+}
+
 fn hub_command<'a>(alloc: Global) -> Result<Command<'a>, AllocError>
     ensures { IfOk result (Spells hub) }
 {
-    let command = without_help(plain(alloc, "hub"));
-    let with_solve = command.subcommand(solve_command(alloc)?)?;
-    let with_check = with_solve.subcommand(certificate_command(alloc, "check")?)?;
+    let with_solve = bare_command(alloc).subcommand(solve_command(alloc)?)?;
+    let with_optimize = with_solve.subcommand(optimize_command(alloc)?)?;
+    let with_check = with_optimize.subcommand(certificate_command(alloc, "check")?)?;
     let with_report = with_check.subcommand(certificate_command(alloc, "report")?)?;
     let with_make = with_report.subcommand(make_command(alloc)?)?;
     with_make.subcommand(demo_command(alloc)?)

@@ -49,8 +49,10 @@ pub struct Making {
 /// A command that the words give.
 #[derive(Debug, Drop)]
 pub enum Command<'a> {
-    /// Solve the instance.
+    /// Solve the instance by the rule of the search.
     Solve(Solving<'a>),
+    /// Solve the instance by a search that follows no rule, with one worker.
+    Optimize(Solving<'a>),
     /// Check the certificate in the file of this name against the instance.
     Check(Source<'a>, &'a str),
     /// Report on the certificate in the file of this name, which is one of the instance.
