@@ -1,13 +1,14 @@
 -- What is written where a sink fails.
-use Rattle.std.proofs.Common.{◌≡◌, ℕ, List, [], Option, Ok, Err, refl, arith}
+use Rattle.std.proofs.Common.{◌≡◌, ℕ, List, [], Option, Ok, Err, ◌⊎◌, inl, inr, refl, sym, subst, arith}
 use Rattle.std.proofs.KnownBytes.{Appends-nil}
-use Rattle.hub_io.specs.Outside.{Puts}
+use Rattle.hub_io.specs.Outside.{Files, Puts}
 use Rattle.hub_io.specs.declared.shelf.Failed.{Failed}
 use Rattle.hub_top.specs.declared.status.Status.TheVariants.{Write}
 use Rattle.hub_top.specs.declared.halts.Halt.{Halt}
 use Rattle.hub_top.specs.declared.halts.Halt.TheVariants as halts
 use Rattle.hub_top.specs.Views.{halted}
-use Rattle.hub_top.specs.Outcomes.{Outcome, out_text, err_text, Written, err_cut}
+use Rattle.hub_top.specs.Outcomes.{Outcome, memory, out_text, err_text, MayComeTo, Written, err_cut}
+use Rattle.hub_words.specs.Requests.{Request}
 
 -- an empty text is put by doing nothing
 nothing_put : {K : Type 0} (taken : K → Option (List ℕ)) (faults : K → ℕ) (at : K) → Puts {E = Failed} taken faults at at (Ok tt) []
@@ -26,3 +27,9 @@ pub halt_puts_nothing : (h : Halt) → out_text (halted h) ≡ []
 halt_puts_nothing (halts.Fault blamed fault) = refl
 halt_puts_nothing halts.Memory = refl
 halt_puts_nothing halts.Read = refl
+
+-- what may be come to may be want of memory too
+pub may_come : (asked : Option Request) (held : Option Files) (fails : Request → Type 0) (e came : Outcome) → (came ≡ e) ⊎ (came ≡ memory)
+    → MayComeTo asked held fails e → MayComeTo asked held fails came
+may_come asked held fails e came (inl same) may = subst (λ (x : Outcome). MayComeTo asked held fails x) (sym same) may
+may_come asked held fails e came (inr none) may = subst (λ (x : Outcome). MayComeTo asked held fails x) (sym none) tt

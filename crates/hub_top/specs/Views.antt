@@ -18,9 +18,9 @@ use Rattle.hub_top.specs.declared.status.Status.TheVariants.{Done, Stopped}
 use Rattle.hub_top.specs.declared.halts.Halt.{Halt}
 use Rattle.hub_top.specs.declared.halts.Halt.TheVariants as halts
 use Rattle.hub_top.specs.declared.answers.Answer.{Answer}
-use Rattle.hub_top.specs.declared.answers.Answer.TheVariants.{Solved, Optimized, Judged, Reported, Made, Demonstrated}
+use Rattle.hub_top.specs.declared.answers.Answer.TheVariants.{Solved, Judged, Reported, Made, Demonstrated}
 use Rattle.hub_top.specs.declared.outcomes.Intended.{Intended}
-use Rattle.hub_top.specs.declared.outcomes.Intended.TheVariants.{Answered, Usage, Halted}
+use Rattle.hub_top.specs.declared.outcomes.Intended.TheVariants.{Answered, Optimized, Usage, Halted}
 use Rattle.hub_top.specs.Texts.{verdict_text}
 use Rattle.hub_top.specs.Answers.{verdict_status}
 use Rattle.hub_top.specs.Outcomes.{Outcome, answered, usage, faulty, memory, read}
@@ -43,7 +43,6 @@ network_status found = if nat_eq found.bound found.cost then Done else Stopped
 -- the status of an answer
 abbrev pub answer_status : Answer → Status
 answer_status (Solved solution) = finding_status solution.found
-answer_status (Optimized instance found) = network_status found
 answer_status (Judged ending) = verdict_status (verdict_of ending)
 answer_status (Reported instance certificate) = Done
 answer_status (Made text) = Done
@@ -52,7 +51,6 @@ answer_status (Demonstrated size found) = finding_status found
 -- its text
 abbrev pub answer_text : Answer → List ℕ
 answer_text (Solved solution) = found_text solution.instance solution.found
-answer_text (Optimized instance found) = network_text instance found
 answer_text (Judged ending) = verdict_text (verdict_of ending)
 answer_text (Reported instance certificate) = report_text instance certificate
 answer_text (Made text) = text.items
@@ -69,7 +67,6 @@ abbrev pub IsWritable : Answer → Type 0
 IsWritable (Solved solution) =
     (solution.instance.size ≤ solution.scratch.room) × IsProved solution.instance solution.found
     × IsPoolOf solution.instance solution.found.pool.entries × HasAmounts solution.found
-IsWritable (Optimized instance found) = networks.IsProved instance found
 IsWritable (Judged ending) = Unit {0}
 IsWritable (Reported instance certificate) = Holds instance certificate
 IsWritable (Made text) = Unit {0}
@@ -78,15 +75,17 @@ IsWritable (Demonstrated size found) = HasAmounts found
 -- what a run came to
 abbrev pub outcome : Intended → Outcome
 outcome (Answered answer) = answered (answer_status answer) (answer_text answer)
+outcome (Optimized instance found) = answered (network_status found) (network_text instance found)
 outcome Usage = usage
 outcome (Halted halt) = halted halt
 
 abbrev pub CanBeWritten : Intended → Type 0
 CanBeWritten (Answered answer) = IsWritable answer
+CanBeWritten (Optimized instance found) = networks.IsProved instance found
 CanBeWritten Usage = Unit {0}
 CanBeWritten (Halted halt) = Unit {0}
 
 -- what a command came to
-abbrev pub ended : Result Answer Halt → Outcome
-ended (Ok answer) = answered (answer_status answer) (answer_text answer)
+abbrev pub ended : Result Intended Halt → Outcome
+ended (Ok intended) = outcome intended
 ended (Err halt) = halted halt

@@ -1,4 +1,4 @@
-//! The commands `solve` and `demo`: an instance to what the search rule finds for it.
+//! The commands `solve`, `demo` and `optimize`: an instance to what a search finds for it.
 
 ghost use Rattle.std.specs.Prelude.{◌≡◌, ◌≤◌, IfOk, IfErr};
 ghost use denote.Param.Send.{IsSync};
@@ -12,7 +12,7 @@ ghost use Rattle.hub_words.specs.Views.{making_seen, search_seen, source_of};
 ghost use Rattle.hub_top.specs.Commands.{LacksSource};
 ghost use Rattle.hub_top.specs.Outcomes.{FailsFor, StaysShelf};
 ghost use Rattle.hub_top.specs.Halts.{Halts, IsOfSource};
-ghost use Rattle.hub_top.specs.Solving.{IsSearched, IsSolution};
+ghost use Rattle.hub_top.specs.Solving.{IsSearched, IsSolution, IsOptimum};
 
 use crate::answers::Solution;
 use crate::halts::Halt;
@@ -23,6 +23,7 @@ use hub_demo::made_instance;
 use hub_io::{Gate, Shelf};
 use hub_model::{HubSet, Instance};
 use hub_words::{Making, Search, Source};
+use kept_cuts::Network;
 use par_separate::{Crew, separate, workers_for};
 use pareto_cuts::Scratch;
 use separators::Solo;
@@ -53,6 +54,24 @@ pub fn solve<R: Threads + Sync, S: Shelf, G: Gate>(
         found,
         scratch,
     })
+}
+
+/// What the search without a rule finds for the instance that the source names, with the instance.
+pub fn optimize<S: Shelf>(
+    alloc: Global,
+    source: &Source<'_>,
+    nodes: Option<u64>,
+    shelf: &mut S,
+) -> Result<(Instance, Network), Halt>
+    requires sources { AreSources (source_of source.now) }
+    ensures optimized { IfOk result (λ r. IsOptimum (S.held shelf.old) (source_of source.now) nodes r.0 r.1) }
+    ensures halted { IfErr result (Halts (IsOfSource (S.held shelf.old) (source_of source.now))
+        (FailsFor S.held S.faults S.sound shelf.old shelf.new (λ files. LacksSource files (source_of source.now)))) }
+    ensures stays { StaysShelf S.held S.faults S.sound shelf.old shelf.new }
+{
+    let instance = read_instance(alloc, source, shelf)?;
+    let found = closing_search::optimize(alloc, &instance, nodes)?;
+    Ok((instance, found))
 }
 
 /// What the search rule finds for a made-up instance.

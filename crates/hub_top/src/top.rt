@@ -5,7 +5,7 @@ ghost use Rattle.hub_io.specs.Outside.{Rose};
 ghost use Rattle.hub_words.specs.Words as spec;
 ghost use Rattle.hub_words.specs.Requests.{AreSources, IsMaking, IsSearch, Request, instance, making_of, search_of};
 ghost use Rattle.hub_words.specs.Views.{request_of, texts};
-ghost use Rattle.hub_top.specs.Views.{CanBeWritten, IsWritable, ended, outcome};
+ghost use Rattle.hub_top.specs.Views.{CanBeWritten, ended, outcome};
 ghost use Rattle.hub_top.specs.Outcomes.{Outcome, MayComeTo, ShelfFails, Quiet, Written};
 ghost use Rattle.hub_top.specs.Meanings.{Means};
 ghost use Rattle.hub_top.specs.Completeness.{Completeness};
@@ -17,7 +17,7 @@ use crate::checking::check;
 use crate::halts::Halt;
 use crate::outcomes::{Intended, write};
 use crate::reporting::report;
-use crate::solving::{demonstrate, solve};
+use crate::solving::{demonstrate, optimize, solve};
 use hub_io::{Gate, Shelf, Sink};
 use hub_make::instance_text;
 use hub_words::{Command, asked};
@@ -59,7 +59,7 @@ pub fn run<R: Threads + Sync, S: Shelf, O: Sink, E: Sink, G: Gate>(
     ensures untouched { (request : Request) → spec.asked (texts words.now) ≡ Some request → instance request ≡ None → shelf.new ≡ shelf.old }
 {
     let intended = intend(rt, alloc, words, shelf, gate);
-    write(intended, out, err)
+    write(alloc, intended, out, err)
 }
 
 /// What the words and files come to. It writes nothing.
@@ -80,46 +80,54 @@ fn intend<R: Threads + Sync, S: Shelf, G: Gate>(
         Err(_) => Intended::Halted(Halt::Memory),
         Ok(None) => Intended::Usage,
         Ok(Some(command)) => match answer(rt, alloc, &command, shelf, gate) {
-            Ok(answer) => Intended::Answered(answer),
+            Ok(intended) => intended,
             Err(halt) => Intended::Halted(halt),
         },
     }
 }
 
-/// What the command answers, or why it has no answer.
+/// What the command comes to, or why it has no answer.
 fn answer<R: Threads + Sync, S: Shelf, G: Gate>(
     rt: &R,
     alloc: Global,
     command: &Command<'_>,
     shelf: &mut S,
     gate: &G,
-) -> Result<Answer, Halt>
+) -> Result<Intended, Halt>
     requires sources { IfSome (instance (request_of command.now)) AreSources }
     requires searches { IfSome (search_of (request_of command.now)) IsSearch }
     requires makings { IfSome (making_of (request_of command.now)) IsMaking }
     ensures may { MayComeTo (Some (request_of command.now)) (S.held shelf.old)
         (ShelfFails S.held S.faults S.sound shelf.old shelf.new) (ended result) }
-    ensures writable { IfOk result IsWritable }
+    ensures writable { IfOk result CanBeWritten }
     ensures same { S.held shelf.new ≡ S.held shelf.old }
     ensures untouched { instance (request_of command.now) ≡ None → shelf.new ≡ shelf.old }
 {
     match command {
-        Command::Solve(solving) => Ok(Answer::Solved(solve(
-            rt,
-            alloc,
-            &solving.source,
-            solving.search,
-            shelf,
-            gate,
-        )?)),
-        Command::Check(source, certificate) => {
-            Ok(Answer::Judged(check(alloc, source, certificate, shelf)?))
+        Command::Solve(solving) => {
+            let solution = solve(rt, alloc, &solving.source, solving.search, shelf, gate)?;
+            Ok(Intended::Answered(Answer::Solved(solution)))
         }
-        Command::Report(source, certificate) => report(alloc, source, certificate, shelf),
-        Command::Make(making) => Ok(Answer::Made(instance_text(alloc, making.seed, making.size)?)),
-        Command::Demo(making, search) => Ok(Answer::Demonstrated(
-            making.size,
-            demonstrate(rt, alloc, *making, *search, gate)?,
-        )),
+        Command::Optimize(solving) => {
+            let (instance, found) =
+                optimize(alloc, &solving.source, solving.search.nodes, shelf)?;
+            Ok(Intended::Optimized(instance, found))
+        }
+        Command::Check(source, certificate) => {
+            let ending = check(alloc, source, certificate, shelf)?;
+            Ok(Intended::Answered(Answer::Judged(ending)))
+        }
+        Command::Report(source, certificate) => {
+            let answer = report(alloc, source, certificate, shelf)?;
+            Ok(Intended::Answered(answer))
+        }
+        Command::Make(making) => {
+            let text = instance_text(alloc, making.seed, making.size)?;
+            Ok(Intended::Answered(Answer::Made(text)))
+        }
+        Command::Demo(making, search) => {
+            let found = demonstrate(rt, alloc, *making, *search, gate)?;
+            Ok(Intended::Answered(Answer::Demonstrated(making.size, found)))
+        }
     }
 }

@@ -1,7 +1,8 @@
 use Rattle.std.proofs.Common.{refl}
-use Rattle.hub_words.specs.Requests.{solve, demo}
+use Rattle.hub_words.specs.Requests.{solve, optimize, demo}
 use Rattle.hub_words.specs.Views.{making_seen, search_seen, solving_of}
 use Rattle.hub_top.proofs.Searched.{demo_answers, made_size, solve_answers}
+use Rattle.hub_top.proofs.Optimized.{optimize_answers}
 use Rattle.hub_top.proofs.top.answer.Goals as goal
 
 pub returns-in_ok-solve-in-Solve-clause-may : goal.returns-in_ok-solve-in-Solve-clause-may
@@ -19,3 +20,10 @@ returns-in_ok-demonstrate-in-Demo-clause-may g c =
       rw c.in-Demo.is refl,
       demo_answers (g.S.Shelf.held c.args.shelf.now) m asked m.size c.in_ok-demonstrate-in-Demo.field-0 (made_size m) c.in_ok-demonstrate-in-Demo.ensures,
     )
+
+pub returns-in_ok-optimize-in-Optimize-clause-may : goal.returns-in_ok-optimize-in-Optimize-clause-may
+returns-in_ok-optimize-in-Optimize-clause-may g c =
+    let s = solving_of c.in-Optimize.solving in
+    let r = c.in_ok-optimize-in-Optimize.field-0 in
+    let optimized = c.in_ok-optimize-in-Optimize.ensures.optimized in
+    (optimize s, rw c.in-Optimize.is refl, optimize_answers (g.S.Shelf.held c.args.shelf.now) s r.0 r.1 optimized)
