@@ -33,7 +33,7 @@ network_finds : (held : Option Files) (s : Source) (nodes : Option ℕ) (p : Pro
 network_finds held s nodes p found h =
     let proved = h.proved in
     record {
-      told = record { in_range = proved.in_range; text = network_text_certificate p found proved.tree proved.lines };
+      told = record { in_range = proved.in_range; text = {!!} };
       holds = proved.holds;
       paid = sym proved.holds.cost;
       below = no_plan_below_bound p (proof_of p found proved.tree) h.problem proved.holds;
