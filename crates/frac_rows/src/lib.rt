@@ -21,6 +21,7 @@ mod steps;
 mod tables;
 #[cfg(test)]
 mod tests;
+mod widths;
 
 pub use ended::{Ended, Wide};
 pub use kept_rows::Rows;

@@ -41,9 +41,12 @@ weighed_column totals loads fixed weights denom k are node = record {
 pub gain_numbers : (totals : List ℤ) (loads : List (List ℤ)) (fixed weights : List ℤ) (denom : ℤ) (d : ℕ)
     → AreWeightingNumbers totals loads fixed weights denom → d ≡ natural denom → AreGainNumbers loads fixed weights d
 gain_numbers totals loads fixed weights denom d are is = record {
-  wide = All-weaker (λ (row : List ℤ). (length row ≡ length fixed) × All IsCost row) (λ (row : List ℤ). length fixed ≤ length row)
-      (λ row is. omega (arith, is.0)) loads are.are_loads;
-  weighed = λ k node. weighed_column totals loads fixed weights denom k are node;
+  some_nodes = are.some_nodes;
+  weighed = record {
+    wide = All-weaker (λ (row : List ℤ). (length row ≡ length fixed) × All IsCost row) (λ (row : List ℤ). length fixed ≤ length row)
+        (λ row is. omega (arith, is.0)) loads are.are_loads;
+    weighed = λ k node. weighed_column totals loads fixed weights denom k are node;
+  };
   are_fixed_costs = are.are_fixed_costs;
   denom_most = omega (arith, is, natural_le denom most_denominator are.denom_most);
 }
