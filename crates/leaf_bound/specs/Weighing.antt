@@ -28,6 +28,8 @@ column rows k = map (λ row. slice_index_or row k (pos 0)) rows
 
 -- weights on the cuts' loads of the first n nodes
 pub record AreWeighedLoads (weights : List ℤ) (loads : List (List ℤ)) (n : ℕ) : Type 0 where
+  pub few : length weights ≤ length loads
+  pub are_weights : All IsNatural weights
   pub wide : All (λ row. n ≤ length row) loads
   pub weighed : (k : ℕ) → k < n → AreWeighed weights (column loads k)
 
