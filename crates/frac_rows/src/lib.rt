@@ -19,8 +19,6 @@ mod sketches;
 mod starts;
 mod steps;
 mod tables;
-#[cfg(test)]
-mod tests;
 mod widths;
 
 pub use ended::{Ended, Wide};

@@ -34,13 +34,7 @@ pub(crate) fn is_wide_of(
 }
 
 // The same by looking at the columns.
-fn some_wide(
-    numbers: &[i64],
-    tops: &[u64],
-    sketch: &Sketch,
-    variables: usize,
-    row: &[i64],
-) -> bool
+fn some_wide(numbers: &[i64], tops: &[u64], sketch: &Sketch, variables: usize, row: &[i64]) -> bool
     requires columns { AreColumns (length row.now - 1) variables numbers.now tops.now }
     requires sketch { 1 ≤ length sketch.now.rows.items
         → IsSketch (length row.now - 1) variables numbers.now tops.now sketch.now.rows.items sketch.now.margin }
@@ -108,7 +102,9 @@ fn wide_by_blocks(
     for block in 0..variables.div_ceil(LANES) {
         let first = block * LANES;
         let last = variables.min(first + LANES);
-        if wide_in_block(numbers, tops, sketch, variables, row, rough, step, most, first, last) {
+        if wide_in_block(
+            numbers, tops, sketch, variables, row, rough, step, most, first, last,
+        ) {
             return true;
         }
     }
@@ -145,7 +141,9 @@ fn wide_in_block(
     let sums = &mut room[..last - first];
     rough_sums(&sketch.rows, variables, first, rough, sums);
     let margin = sketch.margin.unsigned_abs();
-    wide_told(numbers, tops, variables, row, margin, most, first, last, sums)
+    wide_told(
+        numbers, tops, variables, row, margin, most, first, last, sums,
+    )
 }
 
 // The same, where sums tell of most that their number is not too great.
@@ -172,7 +170,16 @@ fn wide_told(
         return false;
     }
     for j in first..last {
-        if is_wide_by(numbers, tops, variables, row, j, margin, most, sums[j - first]) {
+        if is_wide_by(
+            numbers,
+            tops,
+            variables,
+            row,
+            j,
+            margin,
+            most,
+            sums[j - first],
+        ) {
             return true;
         }
     }

@@ -4,8 +4,7 @@ ghost use Rattle.hub_model.specs.Amounts.{IsNatural};
 ghost use Rattle.frac_master.specs.Masters.{AreMasterNumbers, candidates_of};
 
 use crate::literal::{Master, Read, advice};
-use crate::scaling::halvings;
-use crate::{Advice, Ended, Rows, advise, rows_of};
+use frac_master::{Advice, Ended, Rows, advise, rows_of};
 use hub_model::{Branch, Factors};
 use std::alloc::{AllocError, Global};
 use std::test::Fail;
@@ -121,19 +120,32 @@ fn is_read(
         && found.pivots == pivots
 }
 
+// The number of the objective row in the first column, where there is one.
+fn number_of_objective(rows: &Rows) -> Option<i64> {
+    if rows.columns() == 0 {
+        return None;
+    }
+    Some(rows.entry(rows.constraints(), 0))
+}
+
 #[test]
 fn halvings_of_numbers(rt: HostRuntime) -> Result<(), Fail> {
-    for (greatest, made) in [
-        (0u128, 0u32),
-        (4095, 0),
-        (4096, 1),
-        (8191, 1),
-        (8192, 2),
-        (20_000_000_000_000, 33),
-        (9_414_850_000_000_000, 42),
-        (u128::MAX, 116),
+    // The first column's number in the objective row is what is left of the total, the greatest number, below 0.
+    let alloc = rt.alloc();
+    let root = Branch::root(alloc, &instance(alloc, &ONE_NODE)?)?;
+    for (greatest, left) in [
+        (0i128, 0i64),
+        (4095, 4095),
+        (4096, 2048),
+        (8191, 4095),
+        (8192, 2048),
+        (20_000_000_000_000, 2328),
+        (9_414_850_000_000_000, 2140),
+        (i128::MAX, 4095),
     ] {
-        assert_eq!(rt; halvings(greatest), made);
+        let one = master(alloc, &[greatest], &[0], &[0])?;
+        let rows = started(alloc, &one, &root)?;
+        assert_eq!(rt; number_of_objective(&rows), Some(left.saturating_neg()));
     }
     Ok(())
 }

@@ -1,5 +1,5 @@
 // The master of a branch and its run, as they are done on paper: whole rows, made anew at each pivot.
-use crate::Ended;
+use frac_master::Ended;
 use hub_model::Branch;
 use std::alloc::{AllocError, Global};
 

@@ -1,5 +1,5 @@
 // Worked tables: what each pivot makes was reckoned by hand, or outside by a plain program over whole rows.
-use crate::{Ended, Rows, WIDEST, Wide};
+use frac_rows::{Ended, Rows, WIDEST, Wide};
 use std::alloc::Global;
 use std::test::Fail;
 

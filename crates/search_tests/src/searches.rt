@@ -1,5 +1,5 @@
 // Worked cases, with the trees that their searches make.
-use crate::{Found, search};
+use branch_tree::{Found, search};
 use separators::Solo;
 use std::alloc::{AllocError, Global};
 use std::test::Fail;

@@ -1,6 +1,6 @@
 //! The calls that need no pool.
 
-use crate::{fixed_costs, leaf_line};
+use search_steps::{fixed_costs, leaf_line};
 use std::test::Fail;
 use worked_cases::{THREE_COSTS, instance};
 

@@ -1,6 +1,6 @@
 use Rattle.std.proofs.Common.{◌≡◌, ℤ, All, Vec, Global, length, take}
 use Rattle.hub_model.specs.Amounts.{IsNatural}
-use Rattle.frac_master.proofs.tests.are_rows.Given as goal
+use Rattle.master_tests.proofs.masters.are_rows.Given as goal
 
 abbrev pub invariant-loop-row : goal.invariant-loop-row
 invariant-loop-row l = record {

@@ -2,7 +2,7 @@ use Rattle.std.proofs.Common.{◌≡◌, ℤ, List, All, Vec, Global, length, ge
 use Rattle.std.proofs.lemmas.List.{take_all}
 use Rattle.std.proofs.lemmas.List.Elements.{All-more, All-map}
 use Rattle.hub_model.specs.Amounts.{IsNatural}
-use Rattle.frac_master.proofs.tests.are_rows.Goals as goal
+use Rattle.master_tests.proofs.masters.are_rows.Goals as goal
 
 pub loop-row-preserved : goal.loop-row-preserved
 loop-row-preserved c =
