@@ -1,0 +1,5 @@
+pub mod Marks
+pub mod Trails
+pub mod Paths
+pub mod Tallies
+pub mod Theorems
