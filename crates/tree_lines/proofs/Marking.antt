@@ -1,5 +1,5 @@
 -- Marks as lists of nodes: which nodes are marked, and what a mark set or taken away makes of the list.
-use Rattle.std.proofs.Common.{◌≡◌, ℕ, zero, suc, ◌+◌, ◌*◌, ◌<◌, ◌≤◌, Bool, true, false, cond, List, [], ◌∷◌, ◌++◌, length, take, get_or, set, sum_by, replicate, Contains, IsTrue, ◌↔◌, nat_eq, nat_lt, refl, sym, ap, subst, ◌∙◌, ⊎_elim, add-one, add-zero, ne_eqb, ltb-true, arith}
+use Rattle.std.proofs.Common.{◌≡◌, ℕ, zero, suc, ◌+◌, ◌<◌, ◌≤◌, Bool, true, false, cond, List, [], ◌∷◌, ◌++◌, length, take, get_or, set, sum_by, replicate, Contains, IsTrue, ◌↔◌, nat_eq, nat_lt, refl, sym, ap, subst, ◌∙◌, ⊎_elim, add-one, add-zero, ne_eqb, ltb-true, arith}
 use Rattle.std.proofs.lemmas.Bool.{eq-eqb, eqb-false, ltb-false, false_from_ne_true}
 use Rattle.std.specs.List.Sorted.{IsStrictlyIncreasing}
 use Rattle.std.proofs.lemmas.List.{get_or_default, take_more}
@@ -203,20 +203,18 @@ next_is_last nodes i up within =
 
 -- ---- sums over marked nodes
 
-pub sum_marked : (f : ℕ → ℕ) (marks : List Bool) (i sum : ℕ) (mark : Bool) → i < length marks → mark ≡ get_or marks i mark → mark ≡ true
+pub sum_marked : (f : ℕ → ℕ) (marks : List Bool) (i sum : ℕ) → i < length marks → get_or marks i false ≡ true
     → sum ≡ sum_by f (marked (take i marks)) → sum + f i ≡ sum_by f (marked (take (i + 1) marks))
-sum_marked f marks i sum mark within is yes so_far =
-    let here : get_or marks i false ≡ true = sym (is ∙ get_or_default marks i mark false within) ∙ yes in
+sum_marked f marks i sum within here so_far =
     let first : 0 + i ≡ i = omega arith in
     let more : sum_by f (marked (take (i + 1) marks)) ≡ sum_by f (marked (take i marks)) + f i =
     marked-more f 0 marks i within ∙ ap (λ (b : Bool). sum_by f (marked (take i marks)) + cond b (f (0 + i)) 0) here
     ∙ ap (λ (x : ℕ). sum_by f (marked (take i marks)) + f x) first in
     omega (arith, more, so_far)
 
-pub sum_unmarked : (f : ℕ → ℕ) (marks : List Bool) (i sum : ℕ) (mark : Bool) → i < length marks → mark ≡ get_or marks i mark → mark ≡ false
+pub sum_unmarked : (f : ℕ → ℕ) (marks : List Bool) (i sum : ℕ) → i < length marks → get_or marks i false ≡ false
     → sum ≡ sum_by f (marked (take i marks)) → sum ≡ sum_by f (marked (take (i + 1) marks))
-sum_unmarked f marks i sum mark within is no so_far =
-    let here : get_or marks i false ≡ false = sym (is ∙ get_or_default marks i mark false within) ∙ no in
+sum_unmarked f marks i sum within here so_far =
     let more : sum_by f (marked (take (i + 1) marks)) ≡ sum_by f (marked (take i marks)) + 0 =
     marked-more f 0 marks i within ∙ ap (λ (b : Bool). sum_by f (marked (take i marks)) + cond b (f (0 + i)) 0) here in
     omega (arith, more, so_far)

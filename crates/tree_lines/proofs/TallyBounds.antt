@@ -1,12 +1,13 @@
 -- The bound of a branch by a leaf's sums.
-use Rattle.std.proofs.Common.{◌≡◌, ℕ, ◌+◌, ◌-◌, ◌*◌, ◌<◌, ◌≤◌, ℤ, pos, ◌+ℤ◌, ◌-ℤ◌, List, [], ◌∷◌, length, get_or, slice_index, sum_by, All, Contains, ap, ap₂, refl, ◌∙◌, arith}
+use Rattle.std.proofs.Common.{◌≡◌, ℕ, ◌+◌, ◌-◌, ◌*◌, ◌<◌, ℤ, pos, ◌+ℤ◌, ◌-ℤ◌, List, [], ◌∷◌, slice_index, sum_by, Contains, ap, ap₂, refl, ◌∙◌, subst, IsTrue, ◌↔◌, ◌<ℤ◌, nat_lt, ltb-true, arith}
+use Rattle.std.proofs.lemmas.Bool.{lt-ltb}
 use Rattle.std.specs.Int.{int_min}
-use Rattle.std.proofs.lemmas.Int.{ints, clamps}
+use Rattle.std.proofs.lemmas.Int.{ints}
 use Rattle.std.proofs.lemmas.List.Elements.{All-contains}
 use Rattle.hub_spec.specs.Sums.{sum_ints}
 use Rattle.hub_spec.specs.Problem.{Problem, IsProblem, fixed_cost}
 use Rattle.hub_spec.specs.Cuts.{Cut}
-use Rattle.hub_spec.specs.Trees.{Branching, IsBranch, gain, branch_bound, mixed_total, mixed_gain, leaf_bound}
+use Rattle.hub_spec.specs.Trees.{Branching, IsBranch, gain, mixed_total, mixed_gain, leaf_bound, Closes}
 use Rattle.hub_spec.proofs.Sets.{Contains-head, Contains-later}
 use Rattle.hub_spec.proofs.Mixes.{candidate_is_node, sum_ints-gains, sum_ints-losses}
 use Rattle.tree_lines.specs.Tallies.{Tally, AreSumsOf, tally_bound}
@@ -39,3 +40,20 @@ tally_bound_is p tally b =
     let inside = sum_ints-gains tally.denom (fixed_cost p) (slice_index tally.loads) b.inside in
     let free = sum_ints-losses tally.denom (fixed_cost p) (slice_index tally.loads) b.free in
     omega (arith, ints, inside, free)
+
+-- the test that compares numbers that are not below 0
+pub closes_by : (p : Problem) (tally : Tally) (b : Branching) (target costs gone losses : ℕ)
+    → costs ≡ sum_by (λ k. tally.denom * fixed_cost p k) b.inside
+    → gone ≡ sum_by (slice_index tally.loads) b.inside
+    → losses ≡ sum_by (λ k. slice_index tally.loads k - tally.denom * fixed_cost p k) b.free
+    → IsTrue (nat_lt (tally.denom * target + gone + losses) (tally.base + costs + tally.denom))
+    ↔ Closes tally.denom target (tally_bound p tally b)
+closes_by p tally b target costs gone losses costs_are gone_are losses_are =
+    let bound : pos (tally.base + costs) -ℤ pos (gone + losses) ≡ tally_bound p tally b =
+    rw (costs_are, gone_are, losses_are) (tally_bound_is p tally b) in
+    let to : tally.denom * target + gone + losses < tally.base + costs + tally.denom
+    → (pos (tally.denom * target) -ℤ pos tally.denom) <ℤ (pos (tally.base + costs) -ℤ pos (gone + losses)) = λ less. omega (arith, ints, less) in
+    let from : (pos (tally.denom * target) -ℤ pos tally.denom) <ℤ (pos (tally.base + costs) -ℤ pos (gone + losses))
+    → tally.denom * target + gone + losses < tally.base + costs + tally.denom = λ less. omega (arith, ints, less) in
+    subst (λ (z : ℤ). IsTrue (nat_lt (tally.denom * target + gone + losses) (tally.base + costs + tally.denom)) ↔ Closes tally.denom target z) bound
+    (λ holds. to (ltb-true _ _ holds), λ less. lt-ltb _ _ (from less))

@@ -1,9 +1,9 @@
 -- Steps down a tree: the branches that they lead to, and a step taken and taken back.
-use Rattle.std.proofs.Common.{◌≡◌, ℕ, suc, ◌+◌, ◌<◌, ◌≤◌, Bool, true, false, cond, List, [], ◌∷◌, ◌++◌, length, reverse, All, Contains, nat_eq, nat_lt, refl, sym, ap, subst, ◌∙◌, ⊎_elim, eqb-true, ltb-true, arith}
+use Rattle.std.proofs.Common.{◌≡◌, ℕ, ◌+◌, ◌<◌, Bool, true, false, cond, List, [], ◌∷◌, ◌++◌, length, reverse, Contains, nat_eq, nat_lt, refl, sym, ap, subst, ◌∙◌, ⊎_elim, eqb-true, arith}
 use Rattle.std.specs.List.Sorted.{IsStrictlyIncreasing}
-use Rattle.std.proofs.lemmas.Bool.{eqb-false, ltb-false}
+use Rattle.std.proofs.lemmas.Bool.{eqb-false}
 use Rattle.hub_spec.specs.Sums.{with_node, without}
-use Rattle.hub_spec.specs.Trees.{Branching, open_child, closed_child, IsSplit}
+use Rattle.hub_spec.specs.Trees.{Branching, IsSplit}
 use Rattle.hub_spec.proofs.SumLemmas.{by_test, Contains-cons_cases, nil_contains_none}
 use Rattle.hub_spec.proofs.Sets.{Contains-head, Contains-later, ascend_tail, ascend_head}
 use Rattle.hub_spec.proofs.Ascending.{ascend_nil, in_without, with_node_has, without_lacks}
@@ -12,7 +12,7 @@ use Rattle.tree_lines.specs.declared.trails.Step.{Step}
 use Rattle.std.proofs.lemmas.List.{reverse-append, length-reverse}
 use Rattle.std.proofs.lemmas.List.Elements.{All-contains}
 use Rattle.tree_lines.specs.Marks.{marked}
-use Rattle.tree_lines.specs.Trails.{undecided, child, branch_at, left_behind, AreSteps, trail_of, trail_end, IsKept}
+use Rattle.tree_lines.specs.Trails.{undecided, child, branch_at, AreSteps, trail_of, trail_end, IsKept}
 use Rattle.tree_lines.proofs.Marking.{with_node-front, with_node-behind, without-head, without-behind, length-without}
 
 -- ---- a node put in again, and taken out again

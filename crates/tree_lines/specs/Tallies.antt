@@ -2,8 +2,8 @@
 use Rattle.std.specs.Prelude.{◌≡◌, ℕ, ◌+◌, ◌*◌, ◌<◌, ◌≤◌, ℤ, List, length, slice_index, All}
 use Rattle.hub_spec.specs.Limits.{most_cost, most_denominator}
 use Rattle.hub_spec.specs.Problem.{Problem, fixed_cost}
-use Rattle.hub_spec.specs.Cuts.{Cut, total, load}
-use Rattle.hub_spec.specs.Trees.{Branching, weight_sum, cut_at, mixed_total, mixed_load, gain, branch_bound}
+use Rattle.hub_spec.specs.Cuts.{Cut}
+use Rattle.hub_spec.specs.Trees.{Branching, weight_sum, mixed_total, mixed_load, gain, branch_bound}
 
 -- the denominator, and so far: the sum of the weights, that of the totals times them, and by node that of the loads times them
 pub record Tally : Type 0 where

@@ -1,5 +1,5 @@
 -- What is proved of the sums of a leaf; each statement is the contract of the public function of its name.
-use Rattle.std.specs.Prelude.{◌≡◌, ℕ, ◌<◌, List, [], ◌∷◌, ◌++◌, length, slice_index}
+use Rattle.std.specs.Prelude.{◌≡◌, ℕ, ◌<◌, List, [], ◌∷◌, ◌++◌, slice_index}
 use Rattle.hub_spec.specs.Problem.{Problem, IsProblem}
 use Rattle.hub_spec.specs.Cuts.{Cut, total, load}
 use Rattle.hub_spec.specs.Trees.{Branching, IsBranch, cut_at, leaf_bound}

@@ -34,9 +34,10 @@ impl TreePath {
     /// candidate, and for the marks of all nodes.
     pub fn new(alloc: Global, instance: &Instance) -> Result<TreePath, AllocError>
         ensures { IfOk result (λ path. path ≡ record {
-            size = instance.now.size;
-            candidates = instance.now.candidates;
-            pending = root instance.now ∷ [] }) }
+          size = instance.now.size;
+          candidates = instance.now.candidates;
+          pending = root instance.now ∷ [];
+        }) }
     {
         Ok(TreePath {
             trail: Trail::new(alloc, instance)?,
@@ -80,7 +81,8 @@ impl TreePath {
         requires some { self.old.pending ≢ [] }
         requires free { Contains (next self.old.pending).free k }
         ensures { self.new ≡ record self.old {
-            pending = open_child (next self.old.pending) k ∷ closed_child (next self.old.pending) k ∷ behind_next self.old.pending } }
+          pending = open_child (next self.old.pending) k ∷ closed_child (next self.old.pending) k ∷ behind_next self.old.pending;
+        } }
     {
         self.trail.enter(Step {
             node: k,

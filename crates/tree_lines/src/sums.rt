@@ -87,7 +87,7 @@ impl LeafSums {
     {
         let inside = path.inside();
         let costs = weighted_costs(instance, self.denom, inside);
-        let gone = loads_of(&self.loads, inside);
+        let gone = loads_of(instance, &self.loads, inside);
         let losses = losses(instance, self.denom, &self.loads, path.free());
         self.denom * target + gone + losses < self.base + costs + self.denom
     }
@@ -124,17 +124,18 @@ fn weighted_costs(instance: &Instance, denom: u128, marks: &[bool]) -> u128
 }
 
 /// The sum of the marked nodes' loads.
-fn loads_of(loads: &[u128], marks: &[bool]) -> u128
-    requires few { length marks.now ≤ most_nodes }
-    requires nodes { length loads.now ≡ length marks.now }
+fn loads_of(instance: &Instance, loads: &[u128], marks: &[bool]) -> u128
+    requires nodes { length marks.now ≡ instance.now.size }
+    requires count { length loads.now ≡ instance.now.size }
     requires loads { All (λ (load : ℕ). load ≤ most_denominator * most_cost) loads.now }
     ensures value { result ≡ sum_by (slice_index loads.now) (marked marks.now) }
     ensures limit { result ≤ most_nodes * (most_denominator * most_cost) }
 {
     let mut sum = 0;
-    for k in 0..marks.len() {
-        if marks[k] {
-            sum += loads[k];
+    for k in 0..instance.size() {
+        let at = k as usize;
+        if marks[at] {
+            sum += loads[at];
         }
     }
     sum

@@ -1,4 +1,4 @@
-use Rattle.std.proofs.Common.{ap, ◌∙◌, sym, length, List, ℕ, arith, rules}
+use Rattle.std.proofs.Common.{ap, length, List, ℕ, arith, rules}
 use Rattle.tree_lines.specs.Marks.{marked}
 use Rattle.tree_lines.proofs.Marking.{marked_after_set, length-with_node, few_marked}
 use Rattle.tree_lines.proofs.marks.NodeMarks.add.Goals as goal

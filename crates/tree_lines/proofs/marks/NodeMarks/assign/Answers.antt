@@ -1,4 +1,4 @@
-use Rattle.std.proofs.Common.{ℕ, List, Contains, ap, subst, sym, ◌∙◌, arith}
+use Rattle.std.proofs.Common.{ℕ, List, Contains, ap, subst, ◌∙◌, arith}
 use Rattle.std.proofs.Common.{get_or}
 use Rattle.hub_spec.specs.Sums.{with_node}
 use Rattle.tree_lines.proofs.Marking.{next_is_new, next_is_last}

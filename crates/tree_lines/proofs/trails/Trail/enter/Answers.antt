@@ -1,6 +1,6 @@
-use Rattle.std.proofs.Common.{◌≡◌, ◌<◌, ℕ, length, List, Contains, ap, subst, sym, ◌∙◌, arith}
+use Rattle.std.proofs.Common.{Contains, subst, sym, arith}
 use Rattle.tree_lines.specs.Trails.{Trail, trail_of, trail_end}
-use Rattle.tree_lines.proofs.Walking.{room_for_step, step_is_node, none_inside_twice, kept_enter}
+use Rattle.tree_lines.proofs.Walking.{room_for_step, step_is_node, none_inside_twice}
 use Rattle.tree_lines.proofs.trails.Trail.enter.Goals as goal
 
 pub push_reserved-requires : goal.push_reserved-requires

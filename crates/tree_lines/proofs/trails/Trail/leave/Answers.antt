@@ -1,4 +1,4 @@
-use Rattle.std.proofs.Common.{◌≡◌, ◌<◌, ℕ, length, List, Contains, ap, subst, sym, ◌∙◌, refl, arith}
+use Rattle.std.proofs.Common.{refl, arith}
 use Rattle.tree_lines.proofs.Walking.{has_last, kept_leave, not_free_now, is_inside_now}
 use Rattle.tree_lines.proofs.trails.Trail.leave.Goals as goal
 
@@ -23,13 +23,17 @@ remove-requires c =
 pub invariant_of-self-then-step : goal.invariant_of-self-then-step
 invariant_of-self-then-step c =
     let s = c.self.inside in
-    let last = has_last s.size s.candidates.items c.pop.new.self.items s.steps.items c.in_ok-step.step s.inside s.free c.in_ok-step.ensures.items c.self.invariant.0 in
-    (kept_leave s.size s.candidates.items c.pop.new.self.items c.in_ok-step.step s.inside s.free c.remove.new.self c.add.new.self last
-    c.add.ensures.size c.add.ensures.nodes c.remove.ensures.size (rw c.if-step.true c.remove.ensures.nodes), omega (arith, c.pop.ensures.capacity, c.self.invariant.1))
+    let last = has_last s.size s.candidates.items c.pop.new.self.items s.steps.items c.in_ok-step.step s.inside s.free c.in_ok-step.ensures.items c.self.invariant.0 in (
+      kept_leave s.size s.candidates.items c.pop.new.self.items c.in_ok-step.step s.inside s.free c.remove.new.self c.add.new.self last
+          c.add.ensures.size c.add.ensures.nodes c.remove.ensures.size (rw c.if-step.true c.remove.ensures.nodes),
+      omega (arith, c.pop.ensures.capacity, c.self.invariant.1),
+    )
 
 pub invariant_of-self-else-step : goal.invariant_of-self-else-step
 invariant_of-self-else-step c =
     let s = c.self.inside in
-    let last = has_last s.size s.candidates.items c.pop.new.self.items s.steps.items c.in_ok-step.step s.inside s.free c.in_ok-step.ensures.items c.self.invariant.0 in
-    (kept_leave s.size s.candidates.items c.pop.new.self.items c.in_ok-step.step s.inside s.free s.inside c.add.new.self last
-    c.add.ensures.size c.add.ensures.nodes refl (rw c.if-step.false refl), omega (arith, c.pop.ensures.capacity, c.self.invariant.1))
+    let last = has_last s.size s.candidates.items c.pop.new.self.items s.steps.items c.in_ok-step.step s.inside s.free c.in_ok-step.ensures.items c.self.invariant.0 in (
+      kept_leave s.size s.candidates.items c.pop.new.self.items c.in_ok-step.step s.inside s.free s.inside c.add.new.self last
+          c.add.ensures.size c.add.ensures.nodes refl (rw c.if-step.false refl),
+      omega (arith, c.pop.ensures.capacity, c.self.invariant.1),
+    )
