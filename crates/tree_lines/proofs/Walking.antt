@@ -11,9 +11,9 @@ use Rattle.hub_spec.proofs.ChildLists.{open_split, closed_split}
 use Rattle.tree_lines.specs.declared.trails.Step.{Step}
 use Rattle.std.proofs.lemmas.List.{reverse-append, length-reverse}
 use Rattle.std.proofs.lemmas.List.Elements.{All-contains}
-use Rattle.tree_lines.specs.Marks.{marked}
+use Rattle.node_marks.specs.Marks.{marked}
 use Rattle.tree_lines.specs.Trails.{undecided, child, branch_at, AreSteps, trail_of, trail_end, IsKept}
-use Rattle.tree_lines.proofs.Marking.{with_node-front, with_node-behind, without-head, without-behind, length-without}
+use Rattle.node_marks.proofs.Marking.{with_node-front, with_node-behind, without-head, without-behind, length-without}
 
 -- ---- a node put in again, and taken out again
 

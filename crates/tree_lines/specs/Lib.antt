@@ -1,4 +1,3 @@
-pub mod Marks
 pub mod Trails
 pub mod Paths
 pub mod Tallies

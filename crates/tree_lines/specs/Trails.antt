@@ -3,7 +3,7 @@ use Rattle.std.specs.Prelude.{◌≡◌, ℕ, ◌<◌, Bool, List, [], ◌∷◌
 use Rattle.std.specs.List.Sorted.{IsStrictlyIncreasing}
 use Rattle.hub_spec.specs.Trees.{Branching, open_child, closed_child}
 use Rattle.tree_lines.specs.declared.trails.Step.{Step}
-use Rattle.tree_lines.specs.Marks.{marked}
+use Rattle.node_marks.specs.Marks.{marked}
 
 -- the branch where none of these candidates is decided
 abbrev pub undecided : List ℕ → Branching

@@ -9,7 +9,6 @@
 #![tactic(auto)]
 
 mod laws;
-mod marks;
 mod paths;
 mod sums;
 mod trails;

@@ -2,7 +2,7 @@
 
 ghost use Rattle.std.specs.Prelude.{◌≡◌, ◌≢◌, ◌↔◌, [], ◌∷◌, length, IsTrue, IfOk, Contains};
 ghost use Rattle.hub_spec.specs.Trees.{root, open_child, closed_child, IsClosed};
-ghost use Rattle.tree_lines.specs.Marks.{marked};
+ghost use Rattle.node_marks.specs.Marks.{marked};
 ghost use Rattle.tree_lines.specs.Trails.{undecided};
 ghost use Rattle.tree_lines.specs.Paths.{next, behind_next};
 

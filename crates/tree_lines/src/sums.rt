@@ -5,7 +5,7 @@ ghost use Rattle.hub_spec.specs.Limits.{most_nodes, most_cost, most_denominator,
 ghost use Rattle.hub_spec.specs.Problem.{fixed_cost};
 ghost use Rattle.hub_spec.specs.Trees.{Closes};
 ghost use Rattle.hub_spec.specs.Ranges.{IsShort};
-ghost use Rattle.tree_lines.specs.Marks.{marked};
+ghost use Rattle.node_marks.specs.Marks.{marked};
 ghost use Rattle.tree_lines.specs.Paths.{next};
 ghost use Rattle.tree_lines.specs.Tallies.{IsBegun, IsAdded, tally_bound};
 

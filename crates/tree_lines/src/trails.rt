@@ -2,11 +2,11 @@
 
 ghost use Rattle.std.specs.Prelude.{◌≡◌, ◌↔◌, [], ◌∷◌, length, IsTrue, IfOk, MatchOption, Contains};
 ghost use Rattle.hub_spec.specs.Trees.{IsClosed};
-ghost use Rattle.tree_lines.specs.Marks.{marked};
+ghost use Rattle.node_marks.specs.Marks.{marked};
 ghost use Rattle.tree_lines.specs.Trails.{trail_end};
 
-use crate::marks::NodeMarks;
 use hub_model::Instance;
+use node_marks::NodeMarks;
 use std::alloc::{AllocError, Global};
 use std::marker::Model;
 

@@ -1,7 +1,7 @@
 use Rattle.std.proofs.Common.{ℕ, ◌*◌, ◌≤◌, slice_index, arith}
 use Rattle.std.proofs.lemmas.List.Elements.{All-get_or}
 use Rattle.hub_spec.specs.Limits.{most_cost, most_denominator}
-use Rattle.tree_lines.proofs.Marking.{sum_marked, sum_unmarked}
+use Rattle.node_marks.proofs.Marking.{sum_marked, sum_unmarked}
 use Rattle.tree_lines.proofs.sums.loads_of.Goals as goal
 use Rattle.tree_lines.proofs.sums.loads_of.Goals.{then-marks-at, else-marks-at}
 

@@ -1,6 +1,6 @@
 use Rattle.std.proofs.Common.{◌≡◌, ◌*◌, ◌≤◌, sum_by, take, slice_index}
 use Rattle.hub_spec.specs.Limits.{most_denominator, most_cost}
-use Rattle.tree_lines.specs.Marks.{marked}
+use Rattle.node_marks.specs.Marks.{marked}
 use Rattle.tree_lines.proofs.sums.loads_of.Given as goal
 
 abbrev pub invariant-loop-k : goal.invariant-loop-k

@@ -2,7 +2,7 @@ use Rattle.std.proofs.Common.{◌≡◌, ℕ, ◌+◌, ◌-◌, ◌*◌, ◌≤�
 use Rattle.std.proofs.lemmas.List.Elements.{All-get_or}
 use Rattle.hub_spec.specs.Limits.{most_cost, most_denominator}
 use Rattle.hub_spec.specs.Problem.{fixed_cost}
-use Rattle.tree_lines.proofs.Marking.{sum_marked, sum_unmarked}
+use Rattle.node_marks.proofs.Marking.{sum_marked, sum_unmarked}
 use Rattle.tree_lines.proofs.sums.losses.Goals as goal
 use Rattle.tree_lines.proofs.sums.losses.Goals.{then-marks-at, else-marks-at}
 

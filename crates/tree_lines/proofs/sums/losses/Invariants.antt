@@ -1,7 +1,7 @@
 use Rattle.std.proofs.Common.{◌≡◌, ◌-◌, ◌*◌, ◌≤◌, sum_by, take, slice_index}
 use Rattle.hub_spec.specs.Limits.{most_denominator, most_cost}
 use Rattle.hub_spec.specs.Problem.{fixed_cost}
-use Rattle.tree_lines.specs.Marks.{marked}
+use Rattle.node_marks.specs.Marks.{marked}
 use Rattle.tree_lines.proofs.sums.losses.Given as goal
 
 abbrev pub invariant-loop-k : goal.invariant-loop-k

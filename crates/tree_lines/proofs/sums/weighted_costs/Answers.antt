@@ -2,7 +2,7 @@ use Rattle.std.proofs.Common.{ℕ, ◌+◌, ◌*◌, ap, ◌∙◌, arith}
 use Rattle.std.proofs.lemmas.Nat.{mul-le}
 use Rattle.hub_spec.specs.Limits.{most_denominator, most_fixed_cost}
 use Rattle.hub_spec.specs.Problem.{fixed_cost}
-use Rattle.tree_lines.proofs.Marking.{sum_marked, sum_unmarked}
+use Rattle.node_marks.proofs.Marking.{sum_marked, sum_unmarked}
 use Rattle.tree_lines.proofs.sums.weighted_costs.Goals as goal
 use Rattle.tree_lines.proofs.sums.weighted_costs.Goals.{then-marks-k, else-marks-k}
 

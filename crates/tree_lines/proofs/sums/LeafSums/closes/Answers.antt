@@ -1,7 +1,7 @@
 use Rattle.std.proofs.Common.{◌≡◌, ℕ, ◌+◌, ◌-◌, ◌*◌, ◌↔◌, IsTrue, nat_lt, List, slice_index, sum_by, ap, subst, ◌∙◌}
 use Rattle.hub_spec.specs.Problem.{fixed_cost}
 use Rattle.hub_spec.specs.Trees.{Closes}
-use Rattle.tree_lines.specs.Marks.{marked}
+use Rattle.node_marks.specs.Marks.{marked}
 use Rattle.tree_lines.specs.Paths.{next}
 use Rattle.tree_lines.specs.Tallies.{Tally, tally_bound}
 use Rattle.tree_lines.proofs.TallyBounds.{closes_by}

@@ -1,7 +1,7 @@
 use Rattle.std.proofs.Common.{◌≡◌, ◌∙◌, [], List, ℕ, Bool, ap, sym, length, vec_len}
-use Rattle.tree_lines.specs.Marks.{marked}
-use Rattle.tree_lines.proofs.Marking.{marked-none}
-use Rattle.tree_lines.proofs.marks.NodeMarks.clear.Goals as goal
+use Rattle.node_marks.specs.Marks.{marked}
+use Rattle.node_marks.proofs.Marking.{marked-none}
+use Rattle.node_marks.proofs.marks.NodeMarks.clear.Goals as goal
 
 pub returns-clause-none : goal.returns-clause-none
 returns-clause-none c = ap (λ (ms : List Bool). marked ms) (c.fill.ensures.items (λ y h. h)) ∙ marked-none 0 (vec_len c.self.inside.marks)

@@ -1,7 +1,7 @@
 use Rattle.std.proofs.Common.{ap, length, List, ℕ, Contains, arith}
-use Rattle.tree_lines.specs.Marks.{marked}
-use Rattle.tree_lines.proofs.Marking.{marked_after_unset, marked_within, length-without}
-use Rattle.tree_lines.proofs.marks.NodeMarks.remove.Goals as goal
+use Rattle.node_marks.specs.Marks.{marked}
+use Rattle.node_marks.proofs.Marking.{marked_after_unset, marked_within, length-without}
+use Rattle.node_marks.proofs.marks.NodeMarks.remove.Goals as goal
 
 pub index_mut-requires : goal.index_mut-requires
 index_mut-requires c =

@@ -1,6 +1,6 @@
 use Rattle.std.proofs.Common.{◌≡◌, length, take}
-use Rattle.tree_lines.specs.Marks.{marked}
-use Rattle.tree_lines.proofs.marks.NodeMarks.assign.Given as goal
+use Rattle.node_marks.specs.Marks.{marked}
+use Rattle.node_marks.proofs.marks.NodeMarks.assign.Given as goal
 
 abbrev pub invariant-loop-i : goal.invariant-loop-i
 invariant-loop-i l = record {

@@ -1,7 +1,7 @@
 use Rattle.std.proofs.Common.{ap, length, List, ℕ, arith, rules}
-use Rattle.tree_lines.specs.Marks.{marked}
-use Rattle.tree_lines.proofs.Marking.{marked_after_set, length-with_node, few_marked}
-use Rattle.tree_lines.proofs.marks.NodeMarks.add.Goals as goal
+use Rattle.node_marks.specs.Marks.{marked}
+use Rattle.node_marks.proofs.Marking.{marked_after_set, length-with_node, few_marked}
+use Rattle.node_marks.proofs.marks.NodeMarks.add.Goals as goal
 
 pub overflow_add-self : goal.overflow_add-self
 overflow_add-self c = search (rules, few_marked 0 c.self.inside.marks.items, length-with_node)

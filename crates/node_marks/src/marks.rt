@@ -3,21 +3,21 @@
 ghost use Rattle.std.specs.Prelude.{◌≡◌, ℕ, ◌<◌, ◌↔◌, [], length, IsTrue, IfOk, All, Contains};
 ghost use Rattle.std.specs.List.Sorted.{IsStrictlyIncreasing};
 ghost use Rattle.hub_spec.specs.Sums.{with_node, without};
-ghost use Rattle.tree_lines.specs.Marks.{marked};
+ghost use Rattle.node_marks.specs.Marks.{marked};
 
 use std::alloc::{AllocError, Global};
 use std::marker::Model;
 
 /// A set of nodes below a size, seen as the marks of all nodes: whether each is in the set.
 #[derive(Debug, Drop)]
-pub(crate) struct NodeMarks {
+pub struct NodeMarks {
     marks: Vec<bool>,
     count: usize,
 }
 
 impl Model for NodeMarks {
     ghost use Rattle.std.specs.Prelude.{◌≡◌, Bool, List, length};
-    ghost use Rattle.tree_lines.specs.Marks.{marked};
+    ghost use Rattle.node_marks.specs.Marks.{marked};
 
     ghost Value = { List Bool };
 
@@ -28,7 +28,7 @@ impl Model for NodeMarks {
 
 impl NodeMarks {
     /// The empty set of nodes below this size.
-    pub(crate) fn new(alloc: Global, size: u32) -> Result<NodeMarks, AllocError>
+    pub fn new(alloc: Global, size: u32) -> Result<NodeMarks, AllocError>
         ensures size { IfOk result (λ set. length set ≡ size) }
         ensures none { IfOk result (λ set. marked set ≡ []) }
     {
@@ -39,14 +39,14 @@ impl NodeMarks {
     }
 
     /// The mark of each node.
-    pub(crate) fn marks(&self) -> &[bool]
+    pub fn marks(&self) -> &[bool]
         ensures { result.now ≡ self.now }
     {
         &self.marks
     }
 
     /// Tells whether the node is in the set.
-    pub(crate) fn has(&self, k: u32) -> bool
+    pub fn has(&self, k: u32) -> bool
         ensures { IsTrue result ↔ Contains (marked self.now) k }
     {
         let at = k as usize;
@@ -54,14 +54,14 @@ impl NodeMarks {
     }
 
     /// Tells whether no node is in the set.
-    pub(crate) fn is_empty(&self) -> bool
+    pub fn is_empty(&self) -> bool
         ensures { IsTrue result ↔ marked self.now ≡ [] }
     {
         self.count == 0
     }
 
     /// Puts in a node that is not in the set.
-    pub(crate) fn add(&mut self, k: u32)
+    pub fn add(&mut self, k: u32)
         requires room { k < length self.old }
         requires new { Contains (marked self.old) k → ⊥ }
         ensures size { length self.new ≡ length self.old }
@@ -72,7 +72,7 @@ impl NodeMarks {
     }
 
     /// Takes out a node of the set.
-    pub(crate) fn remove(&mut self, k: u32)
+    pub fn remove(&mut self, k: u32)
         requires { Contains (marked self.old) k }
         ensures size { length self.new ≡ length self.old }
         ensures nodes { marked self.new ≡ without k (marked self.old) }
@@ -82,7 +82,7 @@ impl NodeMarks {
     }
 
     /// Takes out all nodes.
-    pub(crate) fn clear(&mut self)
+    pub fn clear(&mut self)
         ensures size { length self.new ≡ length self.old }
         ensures none { marked self.new ≡ [] }
     {
@@ -91,7 +91,7 @@ impl NodeMarks {
     }
 
     /// Makes the set that of these ascending nodes.
-    pub(crate) fn assign(&mut self, nodes: &[u32])
+    pub fn assign(&mut self, nodes: &[u32])
         requires ascend { IsStrictlyIncreasing nodes.now }
         requires room { All (λ (k : ℕ). k < length self.old) nodes.now }
         ensures size { length self.new ≡ length self.old }

@@ -1,7 +1,7 @@
 use Rattle.std.proofs.Common.{◌<◌, ◌≤◌, length, arith}
 use Rattle.std.proofs.lemmas.Bool.{le-ltb}
-use Rattle.tree_lines.proofs.Marking.{has_within, has_past}
-use Rattle.tree_lines.proofs.marks.NodeMarks.has.Goals as goal
+use Rattle.node_marks.proofs.Marking.{has_within, has_past}
+use Rattle.node_marks.proofs.marks.NodeMarks.has.Goals as goal
 
 pub returns-then-at-len : goal.returns-then-at-len
 returns-then-at-len c =

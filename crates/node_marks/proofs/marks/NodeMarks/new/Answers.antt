@@ -1,7 +1,7 @@
 use Rattle.std.proofs.Common.{◌≡◌, ◌∙◌, [], List, ℕ, Bool, ap, sym, length}
-use Rattle.tree_lines.specs.Marks.{marked}
-use Rattle.tree_lines.proofs.Marking.{marked-none}
-use Rattle.tree_lines.proofs.marks.NodeMarks.new.Goals as goal
+use Rattle.node_marks.specs.Marks.{marked}
+use Rattle.node_marks.proofs.Marking.{marked-none}
+use Rattle.node_marks.proofs.marks.NodeMarks.new.Goals as goal
 
 pub returns-clause-none : goal.returns-clause-none
 returns-clause-none c = ap (λ (ms : List Bool). marked ms) (c.in_ok-vec.ensures.items_if_clones_equal (λ y h. h)) ∙ marked-none 0 c.args.size

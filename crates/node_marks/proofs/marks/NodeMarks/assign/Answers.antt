@@ -1,8 +1,8 @@
 use Rattle.std.proofs.Common.{ℕ, List, Contains, ap, subst, ◌∙◌, arith}
 use Rattle.std.proofs.Common.{get_or}
 use Rattle.hub_spec.specs.Sums.{with_node}
-use Rattle.tree_lines.proofs.Marking.{next_is_new, next_is_last}
-use Rattle.tree_lines.proofs.marks.NodeMarks.assign.Goals as goal
+use Rattle.node_marks.proofs.Marking.{next_is_new, next_is_last}
+use Rattle.node_marks.proofs.marks.NodeMarks.assign.Goals as goal
 
 pub add-requires-clause-new : goal.add-requires-clause-new
 add-requires-clause-new c there =

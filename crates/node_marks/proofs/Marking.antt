@@ -8,7 +8,7 @@ use Rattle.std.proofs.lemmas.List.Sums.{sum_by-cons}
 use Rattle.hub_spec.specs.Sums.{with_node, without}
 use Rattle.hub_spec.proofs.SumLemmas.{by_test, Contains-cons_cases, nil_contains_none}
 use Rattle.hub_spec.proofs.Sets.{Contains-head, Contains-later, ascend_tail, ascend_head}
-use Rattle.tree_lines.specs.Marks.{marked_from, marked}
+use Rattle.node_marks.specs.Marks.{marked_from, marked}
 
 -- where a marked node's mark stands
 pub record IsMarkedAt (first : ℕ) (marks : List Bool) (k i : ℕ) : Type 0 where
