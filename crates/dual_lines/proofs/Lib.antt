@@ -1,1 +1,2 @@
 pub mod CandidateTables
+pub mod UnitCovers

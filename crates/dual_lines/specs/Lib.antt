@@ -1,3 +1,4 @@
 pub mod Legs
 pub mod LegParts
 pub mod Covers
+pub mod Units

@@ -4,3 +4,4 @@
 mod amounts;
 mod filling;
 mod tables;
+mod units;
