@@ -25,4 +25,4 @@ pub record IsCoveredInUnits (p : Problem) (c : ℕ × ℕ) (price : ℕ) (units 
   pub alone : price ≤ collection_length p c.0 x + slice_index units x + delivery_length p c.1 x
   pub by_two : (y : ℕ) → y < length p.candidates
       → price ≤ collection_length p c.0 x + slice_index units x
-          + (trunk_length p x y + delivery_length p c.1 y + slice_index units y)
+      + (trunk_length p x y + delivery_length p c.1 y + slice_index units y)

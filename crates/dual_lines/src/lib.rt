@@ -3,5 +3,9 @@
 
 mod amounts;
 mod filling;
+mod lines;
+mod places;
 mod tables;
 mod units;
+
+pub use lines::DualLine;

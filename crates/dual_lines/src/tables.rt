@@ -35,7 +35,10 @@ impl<'a> Model for CandidateLegs<'a> {
 
 impl<'a> CandidateLegs<'a> {
     /// The tables of the instance.
-    pub(crate) fn new(alloc: Global, instance: &'a Instance) -> Result<CandidateLegs<'a>, AllocError>
+    pub(crate) fn new(
+        alloc: Global,
+        instance: &'a Instance,
+    ) -> Result<CandidateLegs<'a>, AllocError>
         ensures { IfOk result (λ t. t ≡ instance.now) }
     {
         let nodes = instance.size() as usize;

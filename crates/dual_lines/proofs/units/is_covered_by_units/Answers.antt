@@ -1,5 +1,5 @@
 use Rattle.std.proofs.Common.{arith}
-use Rattle.hub_spec.proofs.AllLoops.{all_ended, all_broken, all_goes_on}
+use Rattle.hub_spec.proofs.AllLoops.{all_ended, all_goes_on}
 use Rattle.dual_lines.specs.Covers.{IsCoveredFirst}
 use Rattle.dual_lines.proofs.units.is_covered_by_units.Goals as goal
 
