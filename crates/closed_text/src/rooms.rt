@@ -57,13 +57,7 @@ impl<'a> ValueRoom<'a> {
         ensures problem { self.new.problem ≡ self.old.problem }
         ensures prices { HasPricesFrom self.old.problem values.now i self.new }
     {
-        set_origin_prices(
-            &self.tables,
-            values,
-            i,
-            &mut self.scratch,
-            &mut self.prices,
-        );
+        set_origin_prices(&self.tables, values, i, &mut self.scratch, &mut self.prices);
     }
 
     /// Makes the dual of the commodity from `i` to `j`, where the prices from `i` were worked out. It takes no memory.
@@ -78,7 +72,8 @@ impl<'a> ValueRoom<'a> {
     {
         let price = self.prices[j as usize];
         let row = values.row(i, j);
-        self.made.make(&self.tables, i, j, values.unit(), row, price);
+        self.made
+            .make(&self.tables, i, j, values.unit(), row, price);
     }
 
     /// The price of the dual that was made last, and its nodes with their values, ascending, each value above 0.

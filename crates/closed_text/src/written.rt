@@ -69,7 +69,16 @@ fn put_network_top<K: Sink>(
     let cost = signed(found.cost);
     let bound = signed(found.bound);
     let cuts = found.cuts.len();
-    put_top(size, candidates, cost, bound, &found.plan, cuts, buffer, sink)
+    put_top(
+        size,
+        candidates,
+        cost,
+        bound,
+        &found.plan,
+        cuts,
+        buffer,
+        sink,
+    )
 }
 
 // Puts the lines of the cuts.

@@ -1,5 +1,4 @@
-use Rattle.std.proofs.Common.{ℕ, ◌≡◌, ap, is_ok, is_err, ◌∙◌, rules, arith}
-use Rattle.hub_spec.specs.Cuts.{Prices}
+use Rattle.std.proofs.Common.{ap, is_ok, is_err, ◌∙◌, rules, arith}
 use Rattle.hub_spec.specs.Separation.{minimal_dual}
 use Rattle.cert_spec.specs.Lines.{says_version}
 use Rattle.hub_model.specs.Amounts.{natural}

@@ -1,4 +1,4 @@
-use Rattle.std.proofs.Common.{ℕ, ◌≡◌, ◌<◌, ap, is_ok, is_err, sym, subst, ◌∙◌, rules, arith}
+use Rattle.std.proofs.Common.{◌<◌, ap, is_ok, is_err, sym, subst, ◌∙◌, rules, arith}
 use Rattle.hub_spec.specs.Problem.{Problem}
 use Rattle.cert_spec.specs.Lines.{says_version}
 use Rattle.hub_model.specs.Amounts.{natural}
