@@ -1,0 +1,4 @@
+pub mod Kept
+pub mod KeptParts
+pub mod Networks
+pub mod Theorems

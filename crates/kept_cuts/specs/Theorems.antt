@@ -1,0 +1,13 @@
+-- What is proved of kept cuts; each statement is the contract of the public function of its name.
+use Rattle.hub_spec.specs.Problem.{Problem, IsProblem}
+use Rattle.hub_spec.specs.Cuts.{IsCut}
+use Rattle.hub_spec.specs.Ranges.{IsCutInRange}
+use Rattle.kept_cuts.specs.Kept.{Kept, kept_cut, IsKeptFor}
+
+-- a kept cut is a cut of the problem
+abbrev pub KeptCutIsCut : Type 0
+KeptCutIsCut = (p : Problem) (kept : Kept) → IsProblem p → IsKeptFor p kept → IsCut p (kept_cut p kept)
+
+-- and a certificate may list it
+abbrev pub KeptCutIsInRange : Type 0
+KeptCutIsInRange = (p : Problem) (kept : Kept) → IsProblem p → IsKeptFor p kept → IsCutInRange p.size (kept_cut p kept)

@@ -1,0 +1,124 @@
+//! Cuts under their numbers.
+
+ghost use Rattle.std.specs.Prelude.{◌≡◌, ◌+◌, ◌-◌, ◌<◌, ◌≤◌, [], ◌∷◌, ◌++◌, length, map, pos, slice_index, All, IfOk, OnOk, OnErr};
+ghost use Rattle.hub_spec.specs.Limits.{most_cost};
+ghost use Rattle.kept_cuts.specs.Kept.{kept_of, kept_at};
+
+use hub_model::{HubSet, signed};
+use std::alloc::{AllocError, Global};
+use std::marker::Model;
+use value_cuts::Values;
+
+/// What the duals of a cut can be made from anew.
+#[derive(Debug, Drop)]
+pub enum KeptCut {
+    /// Values of the candidates for each commodity.
+    Values(Values),
+    /// A hub set and an order of the other candidates.
+    Set(HubSet, Vec<u32>),
+}
+
+/// The cuts of a search, numbered from 1 in the order in which they were kept, each with its total and its load of each
+/// node.
+#[derive(Debug, Drop)]
+pub struct KeptCuts {
+    cuts: Vec<KeptCut>,
+    totals: Vec<i128>,
+    loads: Vec<Vec<i128>>,
+}
+
+impl Model for KeptCuts {
+    ghost use Rattle.kept_cuts.specs.Kept.{KeptList};
+    ghost use Rattle.kept_cuts.specs.KeptParts.{list_of, AreColumns};
+
+    ghost Value = { KeptList };
+
+    ghost view = { list_of };
+
+    ghost invariant = { AreColumns };
+}
+
+impl KeptCuts {
+    /// No cuts. It takes no memory.
+    pub fn new(alloc: Global) -> KeptCuts
+        ensures { result ≡ record { cuts = []; totals = []; loads = [] } }
+    {
+        KeptCuts {
+            cuts: Vec::new(alloc),
+            totals: Vec::new(alloc),
+            loads: Vec::new(alloc),
+        }
+    }
+
+    /// Keeps the cut with these sums, under the next number. Where memory runs out nothing is kept.
+    pub fn keep(
+        &mut self,
+        alloc: Global,
+        cut: KeptCut,
+        total: u128,
+        loads: &[u128],
+    ) -> Result<u64, AllocError>
+        requires total { total ≤ most_cost }
+        requires loads { All (λ l. l ≤ most_cost) loads.now }
+        ensures number { IfOk result (λ c. c ≡ length self.old.cuts + 1) }
+        ensures kept { OnOk result (self.new ≡ record {
+          cuts = self.old.cuts ++ kept_of cut ∷ [];
+          totals = self.old.totals ++ total ∷ [];
+          loads = self.old.loads ++ loads.now ∷ [];
+        }) }
+        ensures refused { OnErr result (self.new ≡ self.old) }
+    {
+        let row = signed_row(alloc, loads)?;
+        self.cuts.reserve(1)?;
+        self.totals.reserve(1)?;
+        self.loads.reserve(1)?;
+        self.cuts.push_reserved(cut);
+        self.totals.push_reserved(signed(total));
+        self.loads.push_reserved(row);
+        Ok(self.cuts.len() as u64)
+    }
+
+    /// How many there are.
+    pub fn len(&self) -> u64
+        ensures { result ≡ length self.now.cuts }
+    {
+        self.cuts.len() as u64
+    }
+
+    /// The cut of this number, counted from 1.
+    pub fn cut(&self, c: u64) -> &KeptCut
+        requires least { 1 ≤ c }
+        requires most { c ≤ length self.now.cuts }
+        ensures { kept_of result.now ≡ kept_at self.now.cuts c }
+    {
+        &self.cuts[(c - 1) as usize]
+    }
+
+    /// The total of each, in 10^-12, in the order of their numbers.
+    pub fn totals(&self) -> &[i128]
+        ensures value { result.now ≡ map pos self.now.totals }
+        ensures long { length result.now ≡ length self.now.cuts }
+    {
+        &self.totals
+    }
+
+    /// The load of each node in each, in 10^-12, in the order of their numbers.
+    pub fn loads(&self) -> &[Vec<i128>]
+        ensures value { map (λ v. v.items) result.now ≡ map (map pos) self.now.loads }
+        ensures long { length result.now ≡ length self.now.cuts }
+    {
+        &self.loads
+    }
+}
+
+// The same amounts, signed.
+fn signed_row(alloc: Global, amounts: &[u128]) -> Result<Vec<i128>, AllocError>
+    requires { All (λ l. l ≤ most_cost) amounts.now }
+    ensures { IfOk result (λ row. row.items ≡ map pos amounts.now) }
+{
+    let mut row = Vec::with_capacity(alloc, amounts.len())?;
+    for amount in amounts {
+        row.push(signed(*amount))?;
+    }
+    Ok(row)
+}
