@@ -18,8 +18,6 @@ mod rounds;
 mod searching;
 mod separating;
 mod task;
-#[cfg(test)]
-mod tests;
 mod walking;
 
 pub use found::Found;

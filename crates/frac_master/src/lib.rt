@@ -14,13 +14,9 @@
 mod advice;
 mod columns;
 mod laws;
-#[cfg(test)]
-mod literal;
 mod masters;
 mod reading;
 mod scaling;
-#[cfg(test)]
-mod tests;
 
 pub use advice::{Advice, advise};
 pub use frac_rows::{Ended, Rows, Wide};

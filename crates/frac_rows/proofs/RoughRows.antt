@@ -3,14 +3,14 @@ use Rattle.std.proofs.Common.{◌≡◌, ℕ, zero, suc, ◌+◌, ◌-◌, ◌*�
 use Rattle.std.specs.Int.{w32, int_wrap, is_negative}
 use borrow.Author.Count.{below_more}
 use borrow.Rule.Slice.PartMut.{put_mid}
-use Rattle.std.proofs.Math.Nat.{mul-le-mul}
+use Rattle.std.proofs.Math.Nat.{mul-le-mul, mul-le-mul_left}
 use Rattle.std.proofs.lemmas.Int.{ints, unsigned_abs-mul, int_wrap_fits, fits_signed_from_abs}
 use Rattle.std.proofs.lemmas.List.{ext_get_or, get_or-set_same, get_or-set_other}
 use Rattle.std.proofs.lemmas.List.Sums.{sum_by-cons}
 use Rattle.std.proofs.lemmas.List.FromFn.{length-map-range_with_len, get_or-map-range_with_len}
-use Rattle.frac_rows.specs.Rows.{number}
+use Rattle.frac_rows.specs.Rows.{widest, number}
 use Rattle.frac_rows.specs.Stored.{dot, reach, piece, IsUnder, AreColumns}
-use Rattle.frac_rows.specs.Sketches.{standing, IsRowOf, IsSketch, IsRough, is_below, NoneBelow, AreTelling}
+use Rattle.frac_rows.specs.Sketches.{standing, IsRowOf, IsSketch, IsRough, number_of, is_below, NoneBelow, AreTelling, NoneWide, AreTellingSizes}
 use Rattle.frac_rows.proofs.Integers.{*ℤ-+ℤ, -ℤ-*ℤ, *ℤ_assoc, unsigned_abs-+ℤ-le, times-le}
 use Rattle.frac_rows.proofs.SumsOfProducts.{dot_le_reach, wrapped_more, dot_all}
 use Rattle.frac_rows.proofs.WholeRows.{piece_within, length-piece}
@@ -106,6 +106,29 @@ standing_is height variables numbers tops rows margin j are sketch low =
     ∙ (sketch.same k within).each j
     (omega (arith, low, length-piece variables rows k (piece_within variables height k rows sketch.long within))))
 
+-- each sum times the step is about the variable's number
+sums_near : (height variables : ℕ) (numbers : List ℤ) (tops : List ℕ) (rows : List ℤ) (margin : ℤ) (row rough : List ℤ) (first : ℕ) (sums : List ℤ) (d : ℕ)
+    → height ≡ length row - 1
+    → AreColumns height variables numbers tops → IsSketch height variables numbers tops rows margin → length rough ≡ length tops → IsRough d row rough
+    → reach rough tops < 2 ^ 31 → first + length sums ≤ variables
+    → ((l : ℕ) → l < length sums → number sums l ≡ int_wrap w32 (dot rough (standing rows variables (length rough) (first + l))))
+    → (l : ℕ) → l < length sums → unsigned_abs (number_of numbers row (first + l) -ℤ pos d *ℤ number sums l) ≤ d * sum tops
+sums_near height variables numbers tops rows margin row rough first sums d high are sketch long is small within summed l low =
+    let j = first + l in
+    let less : j < variables = omega arith in
+    let column = piece height numbers j in
+    let tall : length rough ≡ height = long ∙ are.topped.one_top_each in
+    let column_long : length column ≡ length tops = length-piece height numbers j (piece_within height variables j numbers are.long less) ∙ sym are.topped.one_top_each in
+    let under = are.topped.under j less in
+    let same : dot rough (standing rows variables (length rough) j) ≡ dot rough column =
+    ap (λ h. dot rough (standing rows variables h j)) tall ∙ ap (dot rough) (standing_is height variables numbers tops rows margin j are sketch less) in
+    let size = dot_le_reach rough column tops column_long under in
+    let whole : number sums l ≡ dot rough column =
+    summed l low ∙ ap (int_wrap w32) same ∙ int_wrap_fits w32 (dot rough column) (fits_signed_from_abs w32 (dot rough column) (omega (arith, size, small))) in
+    let near = dot_near d row rough column tops (omega (arith, tall, high)) long column_long under is.near in
+    subst (λ h. unsigned_abs (dot row (piece h numbers j) -ℤ pos d *ℤ number sums l) ≤ d * sum tops) high
+    (subst (λ z. unsigned_abs (dot row column -ℤ pos d *ℤ z) ≤ d * sum tops) (sym whole) near)
+
 pub sums_tell : (height variables : ℕ) (numbers : List ℤ) (tops : List ℕ) (rows : List ℤ) (margin : ℤ) (row rough : List ℤ) (first : ℕ) (sums : List ℤ) (d : ℕ)
     → height ≡ length row - 1
     → AreColumns height variables numbers tops → IsSketch height variables numbers tops rows margin → length rough ≡ length tops → IsRough d row rough
@@ -114,20 +137,53 @@ pub sums_tell : (height variables : ℕ) (numbers : List ℤ) (tops : List ℕ) 
     → AreTelling numbers row margin first sums
 sums_tell height variables numbers tops rows margin row rough first sums d high are sketch long is small within summed = record {
   each = λ l low above.
-      let j = first + l in
-      let less : j < variables = omega arith in
-      let column = piece height numbers j in
-      let tall : length rough ≡ height = long ∙ are.topped.one_top_each in
-      let column_long : length column ≡ length tops = length-piece height numbers j (piece_within height variables j numbers are.long less) ∙ sym are.topped.one_top_each in
-      let under = are.topped.under j less in
-      let same : dot rough (standing rows variables (length rough) j) ≡ dot rough column =
-      ap (λ h. dot rough (standing rows variables h j)) tall ∙ ap (dot rough) (standing_is height variables numbers tops rows margin j are sketch less) in
-      let size = dot_le_reach rough column tops column_long under in
-      let whole : number sums l ≡ dot rough column =
-      summed l low ∙ ap (int_wrap w32) same ∙ int_wrap_fits w32 (dot rough column) (fits_signed_from_abs w32 (dot rough column) (omega (arith, size, small))) in
-      let near = dot_near d row rough column tops (omega (arith, tall, high)) long column_long under is.near in
-      let above_margin : pos (sum tops) ≤ℤ dot rough column = subst (λ z. z ≤ℤ dot rough column) sketch.is_margin (subst (λ z. margin ≤ℤ z) whole above) in
-      ap (λ h. is_negative (dot row (piece h numbers j))) (sym high) ∙ not_below d (sum tops) (dot row column) (dot rough column) near above_margin;
+      not_below d (sum tops) (number_of numbers row (first + l)) (number sums l)
+      (sums_near height variables numbers tops rows margin row rough first sums d high are sketch long is small within summed l low)
+      (subst (λ z. z ≤ℤ number sums l) sketch.is_margin above);
+}
+
+-- a number that is about so many times the step
+not_wide_near : (d margin most : ℕ) (exact rough : ℤ) → unsigned_abs (exact -ℤ pos d *ℤ rough) ≤ d * margin → unsigned_abs rough + margin ≤ most
+    → d * most ≤ widest → unsigned_abs exact ≤ widest
+not_wide_near d margin most exact rough near few limit =
+    let part = pos d *ℤ rough in
+    let parts : exact ≡ (exact -ℤ part) +ℤ part = omega (arith, ints) in
+    let size = unsigned_abs-+ℤ-le (exact -ℤ part) part in
+    let times : unsigned_abs part ≡ d * unsigned_abs rough = unsigned_abs-mul (pos d) rough in
+    let all : d * (unsigned_abs rough + margin) ≤ d * most = mul-le-mul_left d few in
+    omega (arith, ap unsigned_abs parts, size, times, all, near, limit)
+
+pub sums_tell_sizes : (height variables : ℕ) (numbers : List ℤ) (tops : List ℕ) (rows : List ℤ) (margin : ℤ) (row rough : List ℤ) (first : ℕ) (sums : List ℤ) (d most n : ℕ)
+    → height ≡ length row - 1
+    → AreColumns height variables numbers tops → IsSketch height variables numbers tops rows margin → length rough ≡ length tops → IsRough d row rough
+    → reach rough tops < 2 ^ 31 → first + length sums ≤ variables
+    → ((l : ℕ) → l < length sums → number sums l ≡ int_wrap w32 (dot rough (standing rows variables (length rough) (first + l))))
+    → d * most ≤ widest → n ≡ unsigned_abs margin → AreTellingSizes numbers row n most first sums
+sums_tell_sizes height variables numbers tops rows margin row rough first sums d most n high are sketch long is small within summed limit size = record {
+  each = λ l low few.
+      let sized : n ≡ sum tops = size ∙ ap unsigned_abs sketch.is_margin in
+      not_wide_near d (sum tops) most (number_of numbers row (first + l)) (number sums l)
+      (sums_near height variables numbers tops rows margin row rough first sums d high are sketch long is small within summed l low)
+      (omega (arith, few, sized)) limit;
+}
+
+-- ---- no number that is too great
+
+pub sizes_at : (numbers row : List ℤ) (margin most first : ℕ) (sums : List ℤ) (j : ℕ) → AreTellingSizes numbers row margin most first sums → first ≤ j
+    → j - first < length sums → unsigned_abs (number sums (j - first)) + margin ≤ most → unsigned_abs (number_of numbers row j) ≤ widest
+sizes_at numbers row margin most first sums j telling low high few =
+    let same : first + (j - first) ≡ j = omega arith in
+    subst (λ n. unsigned_abs (number_of numbers row n) ≤ widest) same (telling.each (j - first) high few)
+
+pub none_wide_told : (numbers row : List ℤ) (margin most first last : ℕ) (sums : List ℤ) → AreTellingSizes numbers row margin most first sums → first + length sums ≡ last
+    → ((l : ℕ) → l < length sums → unsigned_abs (number sums l) + margin ≤ most) → NoneWide numbers row first last
+none_wide_told numbers row margin most first last sums telling whole few = record {
+  each = λ j low high. sizes_at numbers row margin most first sums j telling low (omega arith) (few (j - first) (omega arith));
+}
+
+pub none_wide_more : (numbers row : List ℤ) (first j : ℕ) → NoneWide numbers row first j → unsigned_abs (number_of numbers row j) ≤ widest → NoneWide numbers row first (j + 1)
+none_wide_more numbers row first j none here = record {
+  each = λ k low high. below_more (λ i. first ≤ i → unsigned_abs (number_of numbers row i) ≤ widest) j (λ i less among. none.each i among less) (λ among. here) k high low;
 }
 
 -- ---- the first number below 0

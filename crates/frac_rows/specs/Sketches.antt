@@ -2,7 +2,7 @@
 use Rattle.std.specs.Prelude.{◌≡◌, ℕ, ◌+◌, ◌-◌, ◌*◌, ◌^◌, ◌<◌, ◌≤◌, Bool, true, false, length, sum, List, map, ℤ, pos, ◌-ℤ◌, ◌*ℤ◌, ◌≤ℤ◌, unsigned_abs}
 use Rattle.std.specs.Int.{is_negative}
 use Rattle.std.specs.List.{range_with_len}
-use Rattle.frac_rows.specs.Rows.{number}
+use Rattle.frac_rows.specs.Rows.{widest, number}
 use Rattle.frac_rows.specs.Stored.{dot, piece, AreColumns}
 
 -- the column j of so many columns whose numbers stand row by row
@@ -30,9 +30,13 @@ pub record AreSketched (height variables : ℕ) (numbers : List ℤ) (tops : Lis
 pub record IsRough (d : ℕ) (row rough : List ℤ) : Type 0 where
   pub near : (k : ℕ) → k < length rough → unsigned_abs (number row k -ℤ pos d *ℤ number rough k) ≤ d
 
--- whether the row's number for the variable j is below 0
+-- the row's number for the variable j
+abbrev pub number_of : List ℤ → List ℤ → ℕ → ℤ
+number_of numbers row j = dot row (piece (length row - 1) numbers j)
+
+-- whether it is below 0
 abbrev pub is_below : List ℤ → List ℤ → ℕ → Bool
-is_below numbers row j = is_negative (dot row (piece (length row - 1) numbers j))
+is_below numbers row j = is_negative (number_of numbers row j)
 
 -- none of these variables has a number below 0
 pub record NoneBelow (numbers row : List ℤ) (first last : ℕ) : Type 0 where
@@ -48,3 +52,18 @@ pub record IsFirstBelow (numbers row : List ℤ) (first last j : ℕ) : Type 0 w
 -- a sum that is at least the margin rules out that its variable's number is below 0
 pub record AreTelling (numbers row : List ℤ) (margin : ℤ) (first : ℕ) (sums : List ℤ) : Type 0 where
   pub each : (l : ℕ) → l < length sums → margin ≤ℤ number sums l → is_below numbers row (first + l) ≡ false
+
+-- none of these variables has a number that is too great
+pub record NoneWide (numbers row : List ℤ) (first last : ℕ) : Type 0 where
+  pub each : (j : ℕ) → first ≤ j → j < last → unsigned_abs (number_of numbers row j) ≤ widest
+
+-- one of the first variables has one
+pub record SomeWide (numbers row : List ℤ) (last : ℕ) : Type 0 where
+  pub j : ℕ
+  pub within : j < last
+  pub wide : widest < unsigned_abs (number_of numbers row j)
+
+-- a sum that is with the margin at most so great rules out that its variable's number is too great
+pub record AreTellingSizes (numbers row : List ℤ) (margin most first : ℕ) (sums : List ℤ) : Type 0 where
+  pub each : (l : ℕ) → l < length sums → unsigned_abs (number sums l) + margin ≤ most
+      → unsigned_abs (number_of numbers row (first + l)) ≤ widest

@@ -6,11 +6,11 @@ ghost use Rattle.frac_rows.specs.Rows.{number, first_negative, is_wide_row, AreN
 ghost use Rattle.frac_rows.specs.Stored.{dot, extended, piece, pieces, AreColumns, Matrix, IsMatrix};
 ghost use Rattle.frac_rows.specs.Sketches.{AreSketched};
 
-use crate::limits::WIDEST;
 use crate::parts::part;
 use crate::pricing::first_negative_of;
-use crate::products::{dot_64, dot_128, reach};
+use crate::products::dot_64;
 use crate::sketches::Sketch;
+use crate::widths::is_wide_of;
 use std::marker::Model;
 
 /// The columns of the variables, one after the other, and for each row the greatest size of their numbers there.
@@ -95,7 +95,7 @@ impl Columns {
         requires narrow { AreNarrow row.now }
         ensures { result ≡ is_wide_row (map (dot row.now) self.now.columns) }
     {
-        is_wide_of(&self.numbers, &self.tops, self.variables, row)
+        is_wide_of(&self.numbers, &self.tops, &self.sketch, self.variables, row)
     }
 }
 
@@ -112,22 +112,4 @@ pub(crate) fn entry_of(numbers: &[i64], variables: usize, row: &[i64], column: u
         return dot_64(row, part(numbers, height, column));
     }
     row[column - variables]
-}
-
-// Where even the greatest sizes stay within the limit together, no column is looked at.
-fn is_wide_of(numbers: &[i64], tops: &[u64], variables: usize, row: &[i64]) -> bool
-    requires columns { AreColumns (length row.now - 1) variables numbers.now tops.now }
-    requires narrow { AreNarrow row.now }
-    ensures { result ≡ is_wide_row (map (dot row.now) (pieces (length row.now - 1) variables numbers.now)) }
-{
-    if reach(row, tops) <= u128::from(WIDEST) {
-        return false;
-    }
-    let height = row.len() - 1;
-    for j in 0..variables {
-        if dot_128(row, part(numbers, height, j)).unsigned_abs() > u128::from(WIDEST) {
-            return true;
-        }
-    }
-    false
 }

@@ -19,8 +19,7 @@ mod sketches;
 mod starts;
 mod steps;
 mod tables;
-#[cfg(test)]
-mod tests;
+mod widths;
 
 pub use ended::{Ended, Wide};
 pub use kept_rows::Rows;

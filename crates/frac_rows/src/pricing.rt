@@ -8,8 +8,8 @@ ghost use Rattle.frac_rows.specs.Sketches.{IsSketch, IsRough, is_below, NoneBelo
 use crate::columns::entry_of;
 use crate::sketches::{MOST_ROWS, Sketch, least, rough_sums, roughen};
 
-// How many columns are summed side by side.
-const LANES: usize = 32;
+/// How many columns are summed side by side.
+pub(crate) const LANES: usize = 32;
 
 /// The least column before v with a number below 0 in the whole row.
 pub(crate) fn first_negative_of(
@@ -58,7 +58,7 @@ fn first_below(
     }
     let mut room = [0i32; MOST_ROWS];
     let rough = &mut room[..tops.len()];
-    if !roughen(row, tops, rough) {
+    if roughen(row, tops, rough).is_none() {
         return first_between(numbers, variables, row);
     }
     first_by_blocks(numbers, tops, sketch, variables, row, rough)

@@ -87,29 +87,33 @@ fn write_row(out: &mut [i32], columns: &[i64], tops: &[u64], k: usize)
     }
 }
 
-/// Writes for each number of the row about how often some step goes into it, and tells whether all of them, and all sums
-/// of products of them with a column, fit 32 bits.
-pub(crate) fn roughen(row: &[i64], tops: &[u64], rough: &mut [i32]) -> bool
+/// Writes for each number of the row about how often some step goes into it, and gives the step, unless one of them, or
+/// a sum of products of them with a column, might not fit 32 bits.
+pub(crate) fn roughen(row: &[i64], tops: &[u64], rough: &mut [i32]) -> Option<u64>
     requires long { length tops.now ≤ length row.now }
     requires room { length rough.old ≡ length tops.now }
-    ensures rough { IsTrue result → (d : ℕ) × IsRough d row.now rough.new }
-    ensures reach { IsTrue result → reach rough.new tops.now < 2 ^ 31 }
+    ensures rough { IfSome result (λ d. IsRough d row.now rough.new) }
+    ensures reach { IfSome result (λ _. reach rough.new tops.now < 2 ^ 31) }
+    ensures step { IfSome result (λ d. 1 ≤ d) }
 {
     let shift = shift_for(reach(row, tops));
     if shift > 61 {
-        return false;
+        return None;
     }
     let step = 1u64 << shift;
-    if step > WIDEST {
-        return false;
+    if step < 1 || step > WIDEST {
+        return None;
     }
     for k in 0..rough.len() {
         let Some(number) = rough_number(row[k], shift, step) else {
-            return false;
+            return None;
         };
         rough[k] = number;
     }
-    reach_32(rough, tops) < 1 << 31
+    if reach_32(rough, tops) >= 1 << 31 {
+        return None;
+    }
+    Some(step)
 }
 
 // How often a row of this reach is halved.
@@ -208,4 +212,15 @@ pub(crate) fn least(sums: &[i32]) -> i32
         least = least.min(*sum);
     }
     least
+}
+
+/// The greatest size of the sums.
+pub(crate) fn greatest_size(sums: &[i32]) -> u32
+    ensures { (l : ℕ) → l < length sums.now → unsigned_abs (number sums.now l) ≤ result }
+{
+    let mut greatest = 0;
+    for sum in sums {
+        greatest = greatest.max(sum.unsigned_abs());
+    }
+    greatest
 }

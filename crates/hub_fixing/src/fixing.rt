@@ -6,9 +6,12 @@ ghost use Rattle.leaf_bound.specs.Numbers.{AreWeightingNumbers, IsBranchBelow, w
 ghost use Rattle.hub_fixing.specs.Fixing.{closes_by, fixings};
 
 use crate::sides::{Side, side_by};
-use hub_model::Branch;
-use leaf_bound::{bound, gain, threshold};
+use hub_model::{Branch, MOST_NODES};
+use leaf_bound::{bound, threshold, write_gains};
 use std::alloc::{AllocError, Global};
+
+// Room for a number of each node.
+const ROOM: usize = MOST_NODES as usize;
 
 /// The free candidates of the branch, ascending, of which a side stays under these weights, each with that side.
 ///
@@ -31,10 +34,12 @@ pub fn fix(
 {
     let whole = bound(totals, loads, fixed, weights, denom, branch);
     let threshold = threshold(denom, target);
+    let mut room = [0; ROOM];
+    let gains = &mut room[..fixed.len()];
+    write_gains(totals, loads, fixed, weights, denom, gains);
     let mut sides = Vec::new(alloc);
     for k in branch.free() {
-        let gain = gain(totals, loads, fixed, weights, denom, *k);
-        if let Some(side) = side_by(whole, gain, threshold) {
+        if let Some(side) = side_by(whole, gains[*k as usize], threshold) {
             sides.push((*k, side))?;
         }
     }

@@ -1,10 +1,10 @@
 -- What the limits of the lent numbers keep: weighted sums, gains and bounds.
-use Rattle.std.proofs.Common.{◌≡◌, ℕ, ℤ, pos, negsuc, zero, suc, ◌+◌, ◌*◌, ◌<◌, ◌≤◌, ◌+ℤ◌, ◌-ℤ◌, ◌≤ℤ◌, ◌*ℤ◌, ◌^◌, FitsSigned, to_z, of_z, List, [], ◌∷◌, length, get_or, take, map, All, refl, sym, ap, ap₂, ◌∙◌, arith}
+use Rattle.std.proofs.Common.{◌≡◌, ℕ, ℤ, pos, negsuc, zero, suc, ◌+◌, ◌*◌, ◌<◌, ◌≤◌, ◌+ℤ◌, ◌-ℤ◌, ◌≤ℤ◌, ◌*ℤ◌, ◌^◌, FitsSigned, to_z, of_z, List, [], ◌∷◌, length, get_or, take, map, All, refl, sym, subst, ap, ap₂, ◌∙◌, arith}
 use Rattle.std.specs.Int.{w128, int_min}
 use Rattle.std.proofs.lemmas.Int.{ints, clamps, to_z-of_z}
 use Rattle.std.proofs.lemmas.List.{length-map, get_or-map, take_more}
 use Rattle.std.proofs.lemmas.List.Elements.{All-get_or, All-map, All-weaker}
-use Rattle.hub_spec.specs.Limits.{most_nodes, most_denominator}
+use Rattle.hub_spec.specs.Limits.{most_nodes, most_cost, most_denominator}
 use Rattle.hub_spec.specs.Sums.{sum_ints}
 use Rattle.hub_spec.proofs.SumLemmas.{sum_ints-append}
 use Rattle.std.proofs.Math.Nat.{mul-le-mul}
@@ -12,7 +12,8 @@ use Rattle.hub_model.specs.Amounts.{natural}
 use Rattle.hub_model.proofs.Signs.{pos-natural}
 use Rattle.leaf_bound.specs.Bounds.{loads_of}
 use Rattle.leaf_bound.specs.Numbers.{naturals, IsCost, AreWeightingNumbers}
-use Rattle.leaf_bound.specs.Weighing.{most_gain, most_bound, AreWeighed, column, AreGainNumbers, IsWithin}
+use Rattle.leaf_bound.specs.Weighing.{most_gain, most_bound, AreWeighed, AreWeighedLoads, IsWeighedTo, AreLoadsTo, column, AreGainNumbers, IsWithin}
+use Rattle.leaf_bound.proofs.WeightedSums.{weighed_next, weighed_limit}
 
 natural_le : (z : ℤ) (most : ℕ) → z ≤ℤ pos most → natural z ≤ most
 natural_le (pos n) most le = omega (arith, ints, le)
@@ -41,9 +42,14 @@ weighed_column totals loads fixed weights denom k are node = record {
 pub gain_numbers : (totals : List ℤ) (loads : List (List ℤ)) (fixed weights : List ℤ) (denom : ℤ) (d : ℕ)
     → AreWeightingNumbers totals loads fixed weights denom → d ≡ natural denom → AreGainNumbers loads fixed weights d
 gain_numbers totals loads fixed weights denom d are is = record {
-  wide = All-weaker (λ (row : List ℤ). (length row ≡ length fixed) × All IsCost row) (λ (row : List ℤ). length fixed ≤ length row)
-      (λ row is. omega (arith, is.0)) loads are.are_loads;
-  weighed = λ k node. weighed_column totals loads fixed weights denom k are node;
+  some_nodes = are.some_nodes;
+  weighed = record {
+    few = omega (arith, are.few_weights, are.one_load_each);
+    are_weights = are.are_weights;
+    wide = All-weaker (λ (row : List ℤ). (length row ≡ length fixed) × All IsCost row) (λ (row : List ℤ). length fixed ≤ length row)
+        (λ row is. omega (arith, is.0)) loads are.are_loads;
+    weighed = λ k node. weighed_column totals loads fixed weights denom k are node;
+  };
   are_fixed_costs = are.are_fixed_costs;
   denom_most = omega (arith, is, natural_le denom most_denominator are.denom_most);
 }
@@ -55,6 +61,11 @@ pub sum_ints_more : (g : ℕ → ℤ) (ks : List ℕ) (i : ℕ) → i < length k
 sum_ints_more g ks i low =
     let last = ap (sum_ints g) (take_more ks i 0 low) in
     omega (arith, ints, last, sum_ints-append g (take i ks) (get_or ks i 0 ∷ []))
+
+pub sum_ints_same : (g h : ℕ → ℤ) (ks : List ℕ) → All (λ k. g k ≡ h k) ks → sum_ints g ks ≡ sum_ints h ks
+sum_ints_same g h [] same = refl
+sum_ints_same g h (k ∷ ks) same =
+    ap₂ (λ (x y : ℤ). x +ℤ y) (same 0 0 (omega arith)) (sum_ints_same g h ks (λ i d low. same (suc i) d (omega arith)))
 
 -- so many gains are within so many times the limit
 pub record IsSumTo (g : ℕ → ℤ) (ks : List ℕ) (i : ℕ) (so_far : ℤ) : Type 0 where
@@ -145,10 +156,10 @@ threshold_passed d t within target fits_d fits_t =
 row_at : {V : Type 0} (f : V → List ℤ) (vs : List V) (c : ℕ) (v : V) → c < length vs → v ≡ get_or vs c v → get_or (map f vs) c [] ≡ f v
 row_at f vs c v low is = get_or-map f vs c v [] low ∙ ap f (sym is)
 
-pub row_wide : {V : Type 0} (f : V → List ℤ) (vs : List V) (c k : ℕ) (v : V) → c < length vs → v ≡ get_or vs c v
-    → All (λ row. k < length row) (map f vs) → k < length (f v)
-row_wide f vs c k v low is wide =
-    let here = All-get_or (λ (row : List ℤ). k < length row) (map f vs) c [] (omega (arith, length-map vs f, low)) wide in
+pub row_long : {V : Type 0} (f : V → List ℤ) (vs : List V) (c n : ℕ) (v : V) → c < length vs → v ≡ get_or vs c v
+    → All (λ row. n ≤ length row) (map f vs) → n ≤ length (f v)
+row_long f vs c n v low is wide =
+    let here = All-get_or (λ (row : List ℤ). n ≤ length row) (map f vs) c [] (omega (arith, length-map vs f, low)) wide in
     omega (arith, here, ap length (row_at f vs c v low is))
 
 pub load_at : {V : Type 0} (f : V → List ℤ) (vs : List V) (c k : ℕ) (v : V) → c < length vs → v ≡ get_or vs c v
@@ -168,3 +179,47 @@ natural_index (z ∷ row) (suc k) = natural_index row k
 pub loads_of-naturals : (rows : List (List ℤ)) (k : ℕ) → naturals (column rows k) ≡ loads_of (map naturals rows) k
 loads_of-naturals [] k = refl
 loads_of-naturals (row ∷ rows) k = ap₂ (λ (x : ℕ) xs. x ∷ xs) (sym (natural_index row k)) (loads_of-naturals rows k)
+
+-- a gain, by its parts
+pub gain_within : (d s : ℕ) (x z : ℤ) → d ≤ most_denominator → IsCost x → s ≤ most_gain → z ≡ pos (d * natural x) -ℤ pos s → IsWithin most_gain z
+gain_within d s x z denom cost sum is =
+    let most : d * natural x ≤ most_gain = mul-le-mul denom (natural_le x most_cost cost.1) in
+    record { least = omega (arith, ints, is, sum); most = omega (arith, ints, is, most) }
+
+-- ---- the loads of a cut
+
+pub loads_kept : (ws : List ℤ) (rows : List (List ℤ)) (i : ℕ) (sums : List ℕ) → i < length ws → AreWeighedLoads ws rows (length sums)
+    → get_or ws i (pos 0) ≡ pos 0 → AreLoadsTo ws rows i sums → AreLoadsTo ws rows (i + 1) sums
+loads_kept ws rows i sums low are none before = record {
+  each = λ k less.
+      let x = natural (get_or (column rows k) i (pos 0)) in
+      let same : get_or sums k 0 + 0 * x ≡ get_or sums k 0 = omega arith in
+      subst (IsWeighedTo ws (column rows k) (i + 1)) same
+      (weighed_next ws (column rows k) i (get_or sums k 0) 0 x low (are.weighed k less) (ap natural (sym none)) refl (before.each k less));
+}
+
+next : (ws : List ℤ) (rows : List (List ℤ)) (i : ℕ) (sums : List ℕ) (w : ℕ) (row : List ℤ) (k : ℕ) → i < length ws → AreWeighedLoads ws rows (length sums)
+    → w ≡ natural (get_or ws i (pos 0)) → get_or (column rows k) i (pos 0) ≡ get_or row k (pos 0) → AreLoadsTo ws rows i sums → k < length sums
+    → IsWeighedTo ws (column rows k) (i + 1) (get_or sums k 0 + w * natural (get_or row k (pos 0)))
+next ws rows i sums w row k low are weight at before less =
+    weighed_next ws (column rows k) i (get_or sums k 0) w (natural (get_or row k (pos 0))) low (are.weighed k less) weight (ap natural (sym at)) (before.each k less)
+
+pub loads_fit : (ws : List ℤ) (rows : List (List ℤ)) (i : ℕ) (sums : List ℕ) (w : ℕ) (row : List ℤ) (k : ℕ) → i < length ws → AreWeighedLoads ws rows (length sums)
+    → w ≡ natural (get_or ws i (pos 0)) → get_or (column rows k) i (pos 0) ≡ get_or row k (pos 0) → AreLoadsTo ws rows i sums → k < length sums
+    → get_or sums k 0 + w * natural (get_or row k (pos 0)) < 2 ^ 128
+loads_fit ws rows i sums w row k low are weight at before less =
+    omega (
+      arith,
+      weighed_limit ws (column rows k) (i + 1) (get_or sums k 0 + w * natural (get_or row k (pos 0))) (are.weighed k less)
+          (next ws rows i sums w row k low are weight at before less),
+    )
+
+pub loads_added : (ws : List ℤ) (rows : List (List ℤ)) (i : ℕ) (sums new : List ℕ) (w : ℕ) (row : List ℤ) → i < length ws → AreWeighedLoads ws rows (length sums)
+    → w ≡ natural (get_or ws i (pos 0)) → ((k : ℕ) → k < length sums → get_or (column rows k) i (pos 0) ≡ get_or row k (pos 0)) → AreLoadsTo ws rows i sums
+    → length new ≡ length sums → ((k : ℕ) → k < length sums → get_or new k 0 ≡ get_or sums k 0 + w * natural (get_or row k (pos 0)))
+    → AreLoadsTo ws rows (i + 1) new
+loads_added ws rows i sums new w row low are weight at before long added = record {
+  each = λ k below.
+      let less : k < length sums = omega (arith, below, long) in
+      subst (IsWeighedTo ws (column rows k) (i + 1)) (sym (added k less)) (next ws rows i sums w row k low are weight (at k less) before less);
+}

@@ -10,7 +10,7 @@ use Rattle.hub_spec.specs.Limits.{most_cost, most_denominator}
 use Rattle.hub_model.specs.Amounts.{natural}
 use Rattle.leaf_bound.specs.Bounds.{weighted_by}
 use Rattle.leaf_bound.specs.Numbers.{naturals, IsCost}
-use Rattle.leaf_bound.specs.Weighing.{most_gain, AreWeighed}
+use Rattle.leaf_bound.specs.Weighing.{most_gain, AreWeighed, IsWeighedTo}
 
 -- ---- over natural numbers
 
@@ -26,11 +26,6 @@ pub weighted_more : (ws xs : List ℕ) (i : ℕ) → i < length ws → length ws
 weighted_more ws xs i low long = rw (add-one i) (weighted_suc ws xs i low long)
 
 -- ---- over the numbers as they come in
-
--- the weighted sum of the first i numbers, and what it is at most
-pub record IsWeighedTo (weights numbers : List ℤ) (i so_far : ℕ) : Type 0 where
-  pub value : so_far ≡ weighted_by (take i (naturals weights)) (naturals numbers)
-  pub limit : so_far ≤ sum (take i (naturals weights)) * most_cost
 
 -- a number that is passed by value is the same
 pub passed : (z : ℤ) (r : ℕ) → FitsSigned w128 z → r ≡ natural (to_z w128 (of_z w128 z)) → r ≡ natural z

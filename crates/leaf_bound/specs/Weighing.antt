@@ -1,5 +1,5 @@
 -- The weighted sums and the gains that a bound is made of, over the numbers as they come in.
-use Rattle.std.specs.Prelude.{ℕ, ◌+◌, ◌*◌, ◌<◌, ◌≤◌, ℤ, pos, ◌-ℤ◌, ◌≤ℤ◌, List, length, map, sum, slice_index, All}
+use Rattle.std.specs.Prelude.{◌≡◌, ℕ, take, ◌+◌, ◌*◌, ◌<◌, ◌≤◌, ℤ, pos, ◌-ℤ◌, ◌≤ℤ◌, List, length, map, sum, slice_index, All}
 use Rattle.std.specs.List.{slice_index_or}
 use Rattle.hub_spec.specs.Limits.{most_nodes, most_cost, most_denominator}
 use Rattle.hub_spec.specs.Trees.{gain}
@@ -26,10 +26,26 @@ pub record AreWeighed (weights numbers : List ℤ) : Type 0 where
 abbrev pub column : List (List ℤ) → ℕ → List ℤ
 column rows k = map (λ row. slice_index_or row k (pos 0)) rows
 
+-- weights on the cuts' loads of the first n nodes
+pub record AreWeighedLoads (weights : List ℤ) (loads : List (List ℤ)) (n : ℕ) : Type 0 where
+  pub few : length weights ≤ length loads
+  pub are_weights : All IsNatural weights
+  pub wide : All (λ row. n ≤ length row) loads
+  pub weighed : (k : ℕ) → k < n → AreWeighed weights (column loads k)
+
+-- the weighted sum of the first i numbers, and what it is at most
+pub record IsWeighedTo (weights numbers : List ℤ) (i so_far : ℕ) : Type 0 where
+  pub value : so_far ≡ weighted_by (take i (naturals weights)) (naturals numbers)
+  pub limit : so_far ≤ sum (take i (naturals weights)) * most_cost
+
+-- for each node that has a sum, that of the first i cuts' loads
+pub record AreLoadsTo (weights : List ℤ) (loads : List (List ℤ)) (i : ℕ) (sums : List ℕ) : Type 0 where
+  pub each : (k : ℕ) → k < length sums → IsWeighedTo weights (column loads k) i (slice_index_or sums k 0)
+
 -- what the gains of nodes are made of
 pub record AreGainNumbers (loads : List (List ℤ)) (fixed weights : List ℤ) (denom : ℕ) : Type 0 where
-  pub wide : All (λ row. length fixed ≤ length row) loads
-  pub weighed : (k : ℕ) → k < length fixed → AreWeighed weights (column loads k)
+  pub some_nodes : length fixed ≤ most_nodes
+  pub weighed : AreWeighedLoads weights loads (length fixed)
   pub are_fixed_costs : All IsCost fixed
   pub denom_most : denom ≤ most_denominator
 

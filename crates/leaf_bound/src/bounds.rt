@@ -8,7 +8,7 @@ ghost use Rattle.leaf_bound.specs.Bounds.{bound_of};
 ghost use Rattle.leaf_bound.specs.Numbers.{AreWeightingNumbers, IsBranchBelow, weighting_of};
 ghost use Rattle.leaf_bound.specs.Weighing.{most_bound, IsWithin};
 
-use crate::gains::{sum_of_gains, sum_of_losses};
+use crate::gains::{ROOM, sum_of_gains, sum_of_losses, write_gains_by};
 use crate::weighing::weighted_total;
 use hub_model::{Branch, signed, unsigned};
 
@@ -33,8 +33,11 @@ pub fn bound(
     // most 200 nodes each, so that the bound stays within 5 * 10^37, and an `i128` holds 10^38.
     let denom = unsigned(denom);
     let base = signed(weighted_total(totals, weights));
-    let inside = sum_of_gains(loads, fixed, weights, denom, branch.inside());
-    let free = sum_of_losses(loads, fixed, weights, denom, branch.free());
+    let mut room = [0; ROOM];
+    let gains = &mut room[..fixed.len()];
+    write_gains_by(loads, fixed, weights, denom, gains);
+    let inside = sum_of_gains(gains, branch.inside());
+    let free = sum_of_losses(gains, branch.free());
     base + inside + free
 }
 

@@ -1,16 +1,19 @@
 //! The gains of nodes.
 
-ghost use Rattle.std.specs.Prelude.{◌≡◌, ◌*◌, ◌<◌, ◌≤◌, pos, ◌-ℤ◌, length, map, All};
+ghost use Rattle.std.specs.Prelude.{◌≡◌, ℕ, ◌*◌, ◌<◌, ◌≤◌, pos, ◌-ℤ◌, length, map, slice_index_or, All};
 ghost use Rattle.std.specs.Int.{int_min};
-ghost use Rattle.hub_spec.specs.Limits.{most_nodes};
+ghost use Rattle.hub_spec.specs.Limits.{most_nodes, most_denominator};
 ghost use Rattle.hub_spec.specs.Sums.{sum_ints};
 ghost use Rattle.hub_model.specs.Amounts.{natural, IsNatural};
 ghost use Rattle.leaf_bound.specs.Bounds.{gain_of};
-ghost use Rattle.leaf_bound.specs.Numbers.{AreWeightingNumbers, weighting_of};
+ghost use Rattle.leaf_bound.specs.Numbers.{AreWeightingNumbers, IsCost, weighting_of};
 ghost use Rattle.leaf_bound.specs.Weighing.{most_gain, AreGainNumbers, IsWithin, gain_by};
 
-use crate::weighing::weighted_load;
-use hub_model::unsigned;
+use crate::weighing::weigh_loads;
+use hub_model::{MOST_NODES, unsigned};
+
+/// Room for a number of each node.
+pub(crate) const ROOM: usize = MOST_NODES as usize;
 
 /// The gain of the node `k` under these weights: what the bound of a branch rises by where the node, so far closed, is
 /// a hub, in 10^-12, times the denominator.
@@ -27,24 +30,63 @@ pub fn gain(
     ensures value { result ≡ gain_of (weighting_of totals.now (map (λ v. v.items) loads.now) fixed.now weights.now denom) k }
     ensures limit { IsWithin most_gain result }
 {
-    gain_by(loads, fixed, weights, unsigned(denom), k)
+    let mut room = [0; ROOM];
+    let gains = &mut room[..fixed.len()];
+    write_gains(totals, loads, fixed, weights, denom, gains);
+    gains[k as usize]
+}
+
+/// Writes the gain of each node, all of them by one pass over the cuts.
+pub fn write_gains(
+    totals: &[i128],
+    loads: &[Vec<i128>],
+    fixed: &[i128],
+    weights: &[i128],
+    denom: i128,
+    gains: &mut [i128],
+)
+    requires numbers { AreWeightingNumbers totals.now (map (λ v. v.items) loads.now) fixed.now weights.now denom }
+    requires room { length gains.old ≡ length fixed.now }
+    ensures value { (k : ℕ) → k < length gains.new → slice_index_or gains.new k (pos 0)
+        ≡ gain_of (weighting_of totals.now (map (λ v. v.items) loads.now) fixed.now weights.now denom) k }
+    ensures limit { (k : ℕ) → k < length gains.new → IsWithin most_gain (slice_index_or gains.new k (pos 0)) }
+{
+    write_gains_by(loads, fixed, weights, unsigned(denom), gains);
 }
 
 /// The same, with the denominator as a number that can't be below 0.
-pub(crate) fn gain_by(
+pub(crate) fn write_gains_by(
     loads: &[Vec<i128>],
     fixed: &[i128],
     weights: &[i128],
     denom: u128,
-    k: u32,
-) -> i128
+    gains: &mut [i128],
+)
     requires numbers { AreGainNumbers (map (λ v. v.items) loads.now) fixed.now weights.now denom }
-    requires node { k < length fixed.now }
-    ensures value { result ≡ gain_by (map (λ v. v.items) loads.now) fixed.now weights.now denom k }
-    ensures limit { IsWithin most_gain result }
+    requires room { length gains.old ≡ length fixed.now }
+    ensures value { (k : ℕ) → k < length gains.new → slice_index_or gains.new k (pos 0)
+        ≡ gain_by (map (λ v. v.items) loads.now) fixed.now weights.now denom k }
+    ensures limit { (k : ℕ) → k < length gains.new → IsWithin most_gain (slice_index_or gains.new k (pos 0)) }
 {
-    let cost = denom * unsigned(fixed[k as usize]);
-    difference(cost, weighted_load(loads, weights, k))
+    let mut room = [0; ROOM];
+    let sums = &mut room[..fixed.len()];
+    weigh_loads(loads, weights, sums);
+    write_differences(fixed, denom, sums, gains);
+}
+
+// Writes for each node its fixed cost times the denominator, less its sum.
+fn write_differences(fixed: &[i128], denom: u128, sums: &[u128], gains: &mut [i128])
+    requires fixed { All IsCost fixed.now }
+    requires denom { denom ≤ most_denominator }
+    requires sums { (k : ℕ) → k < length sums.now → slice_index_or sums.now k 0 ≤ most_gain }
+    requires as_many { length sums.now ≡ length fixed.now }
+    requires room { length gains.old ≡ length fixed.now }
+    ensures { (k : ℕ) → k < length gains.new → slice_index_or gains.new k (pos 0)
+        ≡ pos (denom * natural (slice_index_or fixed.now k (pos 0))) -ℤ pos (slice_index_or sums.now k 0) }
+{
+    for k in 0..gains.len() {
+        gains[k] = difference(denom * unsigned(fixed[k]), sums[k]);
+    }
 }
 
 fn difference(more: u128, less: u128) -> i128
@@ -57,43 +99,31 @@ fn difference(more: u128, less: u128) -> i128
 }
 
 /// The sum of the gains of these nodes.
-pub(crate) fn sum_of_gains(
-    loads: &[Vec<i128>],
-    fixed: &[i128],
-    weights: &[i128],
-    denom: u128,
-    nodes: &[u32],
-) -> i128
-    requires numbers { AreGainNumbers (map (λ v. v.items) loads.now) fixed.now weights.now denom }
-    requires nodes { All (λ k. k < length fixed.now) nodes.now }
+pub(crate) fn sum_of_gains(gains: &[i128], nodes: &[u32]) -> i128
+    requires gains { (k : ℕ) → k < length gains.now → IsWithin most_gain (slice_index_or gains.now k (pos 0)) }
+    requires nodes { All (λ k. k < length gains.now) nodes.now }
     requires few { length nodes.now ≤ most_nodes }
-    ensures value { result ≡ sum_ints (gain_by (map (λ v. v.items) loads.now) fixed.now weights.now denom) nodes.now }
+    ensures value { result ≡ sum_ints (λ k. slice_index_or gains.now k (pos 0)) nodes.now }
     ensures limit { IsWithin (most_nodes * most_gain) result }
 {
     let mut sum = 0;
     for k in nodes {
-        sum += gain_by(loads, fixed, weights, denom, *k);
+        sum += gains[*k as usize];
     }
     sum
 }
 
 /// The sum of those gains of these nodes that are below 0.
-pub(crate) fn sum_of_losses(
-    loads: &[Vec<i128>],
-    fixed: &[i128],
-    weights: &[i128],
-    denom: u128,
-    nodes: &[u32],
-) -> i128
-    requires numbers { AreGainNumbers (map (λ v. v.items) loads.now) fixed.now weights.now denom }
-    requires nodes { All (λ k. k < length fixed.now) nodes.now }
+pub(crate) fn sum_of_losses(gains: &[i128], nodes: &[u32]) -> i128
+    requires gains { (k : ℕ) → k < length gains.now → IsWithin most_gain (slice_index_or gains.now k (pos 0)) }
+    requires nodes { All (λ k. k < length gains.now) nodes.now }
     requires few { length nodes.now ≤ most_nodes }
-    ensures value { result ≡ sum_ints (λ k. int_min (pos 0) (gain_by (map (λ v. v.items) loads.now) fixed.now weights.now denom k)) nodes.now }
+    ensures value { result ≡ sum_ints (λ k. int_min (pos 0) (slice_index_or gains.now k (pos 0))) nodes.now }
     ensures limit { IsWithin (most_nodes * most_gain) result }
 {
     let mut sum = 0;
     for k in nodes {
-        sum += gain_by(loads, fixed, weights, denom, *k).min(0);
+        sum += gains[*k as usize].min(0);
     }
     sum
 }

@@ -15,5 +15,5 @@ mod laws;
 mod weighing;
 
 pub use bounds::{bound, closes, threshold};
-pub use gains::gain;
+pub use gains::{gain, write_gains};
 pub use laws::{leaf_has_this_bound, pairs_are_a_mix};

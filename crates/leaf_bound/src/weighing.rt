@@ -1,9 +1,10 @@
-//! Weighted sums over the cuts.
+//! Weighted sums over the cuts. Most weights of a large pool are 0: a cut that has none is not looked at.
 
-ghost use Rattle.std.specs.Prelude.{◌≡◌, ◌<◌, ◌≤◌, length, map, All};
+ghost use Rattle.std.specs.Prelude.{◌≡◌, ℕ, ◌+◌, ◌*◌, ◌<◌, ◌≤◌, ◌^◌, length, map, slice_index_or, pos, All};
+ghost use Rattle.hub_model.specs.Amounts.{natural, IsNatural};
 ghost use Rattle.leaf_bound.specs.Bounds.{weighted_by, loads_of};
 ghost use Rattle.leaf_bound.specs.Numbers.{naturals};
-ghost use Rattle.leaf_bound.specs.Weighing.{most_gain, AreWeighed, column};
+ghost use Rattle.leaf_bound.specs.Weighing.{most_gain, AreWeighed, AreWeighedLoads, AreLoadsTo};
 
 use hub_model::unsigned;
 
@@ -15,21 +16,67 @@ pub(crate) fn weighted_total(totals: &[i128], weights: &[i128]) -> u128
 {
     let mut sum = 0;
     for c in 0..weights.len() {
-        sum += unsigned(weights[c]) * unsigned(totals[c]);
+        sum += weighted(weights, totals, c);
     }
     sum
 }
 
-/// The weighted sum of the cuts' loads of the node.
-pub(crate) fn weighted_load(loads: &[Vec<i128>], weights: &[i128], k: u32) -> u128
-    requires wide { All (λ row. k < length row) (map (λ v. v.items) loads.now) }
-    requires weighed { AreWeighed weights.now (column (map (λ v. v.items) loads.now) k) }
-    ensures value { result ≡ weighted_by (naturals weights.now) (loads_of (map naturals (map (λ v. v.items) loads.now)) k) }
-    ensures limit { result ≤ most_gain }
+// The number of the cut, times its weight.
+fn weighted(weights: &[i128], numbers: &[i128], c: usize) -> u128
+    requires weighed { AreWeighed weights.now numbers.now }
+    requires within { c < length weights.now }
+    ensures { result ≡ natural (slice_index_or weights.now c (pos 0)) * natural (slice_index_or numbers.now c (pos 0)) }
 {
-    let mut sum = 0;
-    for c in 0..weights.len() {
-        sum += unsigned(weights[c]) * unsigned(loads[c][k as usize]);
+    if weights[c] == 0 {
+        return 0;
     }
-    sum
+    unsigned(weights[c]) * unsigned(numbers[c])
+}
+
+/// Writes for each node the weighted sum of the cuts' loads of it.
+pub(crate) fn weigh_loads(loads: &[Vec<i128>], weights: &[i128], sums: &mut [u128])
+    requires { AreWeighedLoads weights.now (map (λ v. v.items) loads.now) (length sums.old) }
+    ensures value { (k : ℕ) → k < length sums.new → slice_index_or sums.new k 0
+        ≡ weighted_by (naturals weights.now) (loads_of (map naturals (map (λ v. v.items) loads.now)) k) }
+    ensures limit { (k : ℕ) → k < length sums.new → slice_index_or sums.new k 0 ≤ most_gain }
+{
+    clear(sums);
+    for c in 0..weights.len() {
+        add_cut(sums, loads, weights, c);
+    }
+}
+
+fn clear(sums: &mut [u128])
+    ensures { (k : ℕ) → k < length sums.new → slice_index_or sums.new k 0 ≡ 0 }
+{
+    for sum in sums.iter_mut() {
+        *sum = 0;
+    }
+}
+
+// Adds the loads of the cut, times its weight.
+fn add_cut(sums: &mut [u128], loads: &[Vec<i128>], weights: &[i128], c: usize)
+    requires weighed { AreWeighedLoads weights.now (map (λ v. v.items) loads.now) (length sums.old) }
+    requires within { c < length weights.now }
+    requires before { AreLoadsTo weights.now (map (λ v. v.items) loads.now) c sums.old }
+    ensures { AreLoadsTo weights.now (map (λ v. v.items) loads.now) (c + 1) sums.new }
+{
+    if weights[c] == 0 {
+        return;
+    }
+    add_products(sums, unsigned(weights[c]), &loads[c]);
+}
+
+// Adds the products of the weight and the row's numbers.
+fn add_products(sums: &mut [u128], weight: u128, row: &[i128])
+    requires long { length sums.old ≤ length row.now }
+    requires numbers { (k : ℕ) → k < length sums.old → IsNatural (slice_index_or row.now k (pos 0)) }
+    requires fit { (k : ℕ) → k < length sums.old
+        → slice_index_or sums.old k 0 + weight * natural (slice_index_or row.now k (pos 0)) < 2 ^ 128 }
+    ensures { (k : ℕ) → k < length sums.old → slice_index_or sums.new k 0
+        ≡ slice_index_or sums.old k 0 + weight * natural (slice_index_or row.now k (pos 0)) }
+{
+    for k in 0..sums.len() {
+        sums[k] += weight * unsigned(row[k]);
+    }
 }

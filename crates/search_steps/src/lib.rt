@@ -17,8 +17,6 @@ mod deciding;
 mod laws;
 mod leaves;
 mod picking;
-#[cfg(test)]
-mod tests;
 
 pub use advising::{fixed_costs, node_advice};
 pub use bounding::{closes, is_better, weights_bound};

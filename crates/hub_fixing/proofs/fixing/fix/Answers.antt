@@ -1,4 +1,4 @@
-use Rattle.std.proofs.Common.{◌≡◌, ℕ, take, get_or, map, ℤ, FitsSigned, to_z, of_z, Contains, sym, ap, ◌∙◌, rules, Vec, Global}
+use Rattle.std.proofs.Common.{◌≡◌, ℕ, List, ◌<◌, pos, length, take, get_or, map, All, subst, arith, ℤ, FitsSigned, to_z, of_z, Contains, sym, ap, ◌∙◌, rules, Vec, Global}
 use Rattle.std.specs.Int.{w128}
 use Rattle.std.proofs.lemmas.Int.{to_z-of_z}
 use Rattle.std.specs.Prelude.{filter_map}
@@ -6,11 +6,29 @@ use Rattle.std.proofs.lemmas.List.{take_all}
 use Rattle.std.proofs.lemmas.List.Elements.{Contains-get_or}
 use Rattle.hub_model.specs.Amounts.{natural}
 use Rattle.leaf_bound.specs.Numbers.{weighting_of}
+use Rattle.leaf_bound.specs.Weighing.{most_gain}
+use Rattle.leaf_bound.proofs.LentNumbers.{within_fits}
 use Rattle.hub_fixing.specs.declared.sides.Side.{Side}
 use Rattle.hub_fixing.specs.Fixing.{side_of}
 use Rattle.hub_fixing.proofs.ChildBounds.{with_side, side_found, side_pushed, side_passed}
 use Rattle.hub_fixing.proofs.fixing.fix.Goals as goal
 use Rattle.hub_fixing.proofs.fixing.fix.Goals.{After-side_by, in-Some+in_ok-push, in_default}
+
+-- the candidate that is read is a node
+below : (gains : List ℤ) (items free : List ℕ) (n i : ℕ) → length gains ≡ n → items ≡ free → All (λ k. k < n) free → i < length items
+    → get_or items i 0 < length gains
+below gains items free n i long same nodes low =
+    let here : All (λ k. k < n) items = subst (All (λ k. k < n)) (sym same) nodes in
+    omega (arith, long, here i 0 low)
+
+pub side_by-requires-clause-gain : goal.side_by-requires-clause-gain
+side_by-requires-clause-gain c =
+    let k = get_or c.free-k-items.result.now c.loop-k.k-index 0 in
+    let long : length c.write_gains.new.gains ≡ length c.args.fixed.now = search rules in
+    let node = below c.write_gains.new.gains c.free-k-items.result.now c.args.branch.now.free (length c.args.fixed.now) c.loop-k.k-index long
+    c.free-k-items.ensures.value c.requires.nodes.free c.loop-k-test.true in
+    let within = c.write_gains.ensures.limit k node in
+    rw (to_z-of_z w128 (get_or c.write_gains.new.gains k (pos 0)) (within_fits most_gain (get_or c.write_gains.new.gains k (pos 0)) (omega arith) within)) within
 
 -- the side that is found is the candidate's
 side : (c : After-side_by) → c.side_by.result
@@ -24,11 +42,15 @@ side c =
     let free : Contains c.args.branch.now.free k = rw (← c.free-k-items.ensures.value)
     (Contains-get_or c.free-k-items.result.now c.loop-k.k-index 0 c.loop-k-test.true) in
     let fits_whole : FitsSigned w128 c.bound-whole.result = search rules in
-    let fits_gain : FitsSigned w128 c.gain-gain.result = search rules in
+    let gain = get_or c.write_gains.new.gains k (pos 0) in
+    let long : length c.write_gains.new.gains ≡ length c.args.fixed.now = search rules in
+    let node = below c.write_gains.new.gains c.free-k-items.result.now c.args.branch.now.free (length c.args.fixed.now) c.loop-k.k-index long
+    c.free-k-items.ensures.value c.requires.nodes.free c.loop-k-test.true in
+    let fits_gain : FitsSigned w128 gain = within_fits most_gain gain (omega arith) (c.write_gains.ensures.limit k node) in
     let fits_threshold : FitsSigned w128 c.threshold-threshold.result = search rules in
     side_found m (natural (to_z w128 (of_z w128 c.args.target))) c.args.branch.now k
-    c.bound-whole.result c.gain-gain.result c.threshold-threshold.result c.side_by.result free
-    c.bound-whole.ensures.value c.gain-gain.ensures.value c.threshold-threshold.ensures fits_whole fits_gain fits_threshold c.side_by.ensures
+    c.bound-whole.result gain c.threshold-threshold.result c.side_by.result free
+    c.bound-whole.ensures.value (c.write_gains.ensures.value k node) c.threshold-threshold.ensures fits_whole fits_gain fits_threshold c.side_by.ensures
 
 pub loop-k-preserved : goal.loop-k-preserved
 loop-k-preserved c =

@@ -1,4 +1,4 @@
-use Rattle.std.proofs.Common.{◌≡◌, ℕ, ℤ, ◌<◌, ◌≤◌, pos, ◌+ℤ◌, List, length, map, Vec, Global, All, ap, ap₂, ◌∙◌, arith}
+use Rattle.std.proofs.Common.{◌≡◌, ℕ, ℤ, ◌<◌, ◌≤◌, pos, ◌+ℤ◌, List, length, map, Vec, Global, get_or, All, sym, subst, ap, ap₂, ◌∙◌, arith, rules}
 use Rattle.std.specs.Int.{int_min}
 use Rattle.std.specs.List.Sorted.{IsStrictlyIncreasing}
 use Rattle.std.proofs.lemmas.Int.{ints}
@@ -7,15 +7,15 @@ use Rattle.hub_spec.specs.Sums.{sum_ints}
 use Rattle.hub_spec.proofs.Limits.{few_candidates}
 use Rattle.leaf_bound.specs.Weighing.{most_gain, IsWithin, gain_by}
 use Rattle.leaf_bound.proofs.WeightedSums.{passed}
-use Rattle.leaf_bound.proofs.LentNumbers.{gain_numbers, parts_within, parts_passed}
+use Rattle.leaf_bound.proofs.LentNumbers.{gain_numbers, sum_ints_same, parts_within, parts_passed}
 use Rattle.leaf_bound.proofs.bounds.bound.Goals as goal
 
 few : (nodes listed : List ℕ) (n : ℕ) → nodes ≡ listed → IsStrictlyIncreasing listed → All (λ k. k < n) listed → n ≤ most_nodes
     → length nodes ≤ most_nodes
 few nodes listed n same up below most = omega (arith, ap length same, few_candidates listed n up below)
 
-pub sum_of_gains-inside-requires-clause-numbers : goal.sum_of_gains-inside-requires-clause-numbers
-sum_of_gains-inside-requires-clause-numbers c =
+pub write_gains_by-requires-clause-numbers : goal.write_gains_by-requires-clause-numbers
+write_gains_by-requires-clause-numbers c =
     gain_numbers c.args.totals.now (map (λ (v : Vec ℤ Global). v.items) c.args.loads.now) c.args.fixed.now c.args.weights.now c.args.denom
     c.unsigned-denom.result c.requires.numbers (passed c.args.denom c.unsigned-denom.result c.ranges.denom c.unsigned-denom.ensures.value)
 
@@ -23,11 +23,6 @@ pub sum_of_gains-inside-requires-clause-few : goal.sum_of_gains-inside-requires-
 sum_of_gains-inside-requires-clause-few c =
     few c.inside.result.now c.args.branch.now.inside (length c.args.fixed.now) c.inside.ensures.value c.inside.ensures.split.inside_ascends
     c.requires.nodes.inside c.requires.numbers.some_nodes
-
-pub sum_of_losses-free-requires-clause-numbers : goal.sum_of_losses-free-requires-clause-numbers
-sum_of_losses-free-requires-clause-numbers c =
-    gain_numbers c.args.totals.now (map (λ (v : Vec ℤ Global). v.items) c.args.loads.now) c.args.fixed.now c.args.weights.now c.args.denom
-    c.unsigned-denom.result c.requires.numbers (passed c.args.denom c.unsigned-denom.result c.ranges.denom c.unsigned-denom.ensures.value)
 
 pub sum_of_losses-free-requires-clause-few : goal.sum_of_losses-free-requires-clause-few
 sum_of_losses-free-requires-clause-few c =
@@ -37,14 +32,31 @@ sum_of_losses-free-requires-clause-few c =
 base_within : (base : ℤ) (n : ℕ) → base ≡ pos n → n ≤ most_gain → IsWithin most_gain base
 base_within base n is most = record { least = omega (arith, ints, is); most = omega (arith, ints, is, most) }
 
+-- the gains that are read are the nodes' own
+read : (g : ℕ → ℤ) (gains : List ℤ) (nodes listed : List ℕ) (n : ℕ) → nodes ≡ listed → length gains ≡ n → All (λ k. k < n) listed
+    → ((k : ℕ) → k < length gains → get_or gains k (pos 0) ≡ g k) → All (λ k. get_or gains k (pos 0) ≡ g k) nodes
+read g gains nodes listed n same long below is =
+    subst (All (λ k. get_or gains k (pos 0) ≡ g k)) (sym same) (λ i d low. is (get_or listed i d) (omega (arith, long, below i d low)))
+
 pub returns-clause-value : goal.returns-clause-value
 returns-clause-value c =
     let g = gain_by (map (λ (v : Vec ℤ Global). v.items) c.args.loads.now) c.args.fixed.now c.args.weights.now in
+    let d = c.unsigned-denom.result in
+    let gains = c.write_gains_by.new.gains in
+    let by : ℕ → ℤ = λ k. get_or gains k (pos 0) in
+    let long : length gains ≡ length c.args.fixed.now = search rules in
     let denom = passed c.args.denom c.unsigned-denom.result c.ranges.denom c.unsigned-denom.ensures.value in
     let base_is = c.signed-base.ensures ∙ ap pos c.weighted_total.ensures.value in
+    let own = read (g d) gains c.inside.result.now c.args.branch.now.inside (length c.args.fixed.now) c.inside.ensures.value long
+    c.requires.nodes.inside c.write_gains_by.ensures.value in
+    let opened = read (g d) gains c.free.result.now c.args.branch.now.free (length c.args.fixed.now) c.free.ensures.value long
+    c.requires.nodes.free c.write_gains_by.ensures.value in
     let inside = c.sum_of_gains-inside.ensures.value
+    ∙ sum_ints_same by (g d) c.inside.result.now own
     ∙ ap₂ (λ (d : ℕ) (ks : List ℕ). sum_ints (g d) ks) denom c.inside.ensures.value in
     let free = c.sum_of_losses-free.ensures.value
+    ∙ sum_ints_same (λ k. int_min (pos 0) (by k)) (λ k. int_min (pos 0) (g d k)) c.free.result.now
+    (λ i e low. ap (int_min (pos 0)) (opened i e low))
     ∙ ap₂ (λ (d : ℕ) (ks : List ℕ). sum_ints (λ k. int_min (pos 0) (g d k)) ks) denom c.free.ensures.value in
     parts_passed c.signed-base.result c.sum_of_gains-inside.result c.sum_of_losses-free.result
     (base_within c.signed-base.result c.weighted_total.result c.signed-base.ensures c.weighted_total.ensures.limit)

@@ -1,4 +1,4 @@
-use Rattle.leaf_bound.proofs.WeightedSums.{IsWeighedTo}
+use Rattle.leaf_bound.specs.Weighing.{IsWeighedTo}
 use Rattle.leaf_bound.proofs.weighing.weighted_total.Given as goal
 
 abbrev pub invariant-loop-c : goal.invariant-loop-c

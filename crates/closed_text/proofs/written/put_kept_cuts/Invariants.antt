@@ -1,0 +1,11 @@
+use Rattle.std.proofs.Common.{◌≡◌}
+use Rattle.cert_format.proofs.Following.{HasPut}
+use Rattle.closed_text.proofs.CutLines.{cut_text}
+use Rattle.closed_text.proofs.KeptLines.{numbered}
+use Rattle.closed_text.proofs.written.put_kept_cuts.Given as goal
+
+abbrev pub invariant-loop-place : goal.invariant-loop-place
+invariant-loop-place g l = record {
+  room : l.room ≡ l.instance;
+  put : (let s = g.K.Sink in HasPut s.taken s.faults l.initial.sink l.sink l.initial.buffer l.buffer (cut_text l.instance.size) (numbered l.instance l.cuts.cuts) l.place);
+}

@@ -1,0 +1,4 @@
+pub mod DualItems
+pub mod Rooms
+pub mod RoomParts
+pub mod Texts

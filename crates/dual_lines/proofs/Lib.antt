@@ -1,0 +1,5 @@
+pub mod CandidateTables
+pub mod UnitCovers
+pub mod SetPlaces
+pub mod HeldLines
+pub mod DualByAmounts

@@ -1,0 +1,30 @@
+-- What is covered by unit of flow is covered in costs.
+use Rattle.std.proofs.Common.{ℕ, ◌+◌, ◌*◌, ◌<◌, ◌≤◌, List, length, slice_index, inr, mul-le-mul_left, arith}
+use Rattle.std.proofs.lemmas.List.Elements.{All-from_get_or}
+use Rattle.hub_spec.specs.Problem.{Problem, flow, route_cost}
+use Rattle.dual_lines.specs.Legs.{candidate_at, collection_length, trunk_length, delivery_length}
+use Rattle.dual_lines.specs.Covers.{IsCoveredBy, IsCoveredFirst}
+use Rattle.dual_lines.specs.Units.{AreUnits, IsCoveredInUnits}
+
+alone_by_unit : (w a price first trunk last u v : ℕ) → a ≤ w * price → price ≤ first + u + last → w * u ≤ v
+    → a ≤ w * (first + trunk + last) + v
+alone_by_unit w a price first trunk last u v low covered value = omega (arith, low, value, mul-le-mul_left w covered)
+
+by_two_by_unit : (w a price first trunk last u t v s : ℕ) → a ≤ w * price → price ≤ first + u + (trunk + last + t) → w * u ≤ v → w * t ≤ s
+    → a ≤ w * (first + trunk + last) + (v + s)
+by_two_by_unit w a price first trunk last u t v s low covered value other = omega (arith, low, value, other, mul-le-mul_left w covered)
+
+pub covered_by_unit : (p : Problem) (c : ℕ × ℕ) (a price : ℕ) (amounts units : List ℕ) (x : ℕ) → a ≤ flow p c.0 c.1 * price
+    → AreUnits p (flow p c.0 c.1) (slice_index amounts) units → x < length p.candidates → IsCoveredInUnits p c price units x
+    → IsCoveredFirst p c a amounts (candidate_at p x)
+unfolding route_cost
+covered_by_unit p c a price amounts units x low are place covered =
+    let w = flow p c.0 c.1 in
+    let k = candidate_at p x in (
+      alone_by_unit w a price (collection_length p c.0 x) (trunk_length p x x) (delivery_length p c.1 x) (slice_index units x) (slice_index amounts k)
+          low covered.alone (are.all x place),
+      All-from_get_or (IsCoveredBy p c a amounts k) p.candidates 0 (λ y below.
+          inr (by_two_by_unit w a price (collection_length p c.0 x) (trunk_length p x y) (delivery_length p c.1 y) (slice_index units x)
+          (slice_index units y) (slice_index amounts k) (slice_index amounts (candidate_at p y)) low (covered.by_two y below) (are.all x place)
+          (are.all y below))),
+    )

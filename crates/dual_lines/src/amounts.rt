@@ -1,0 +1,89 @@
+//! The exact test: a price against the costs of routes and the values as they are listed.
+
+ghost use Rattle.std.specs.Prelude.{◌≡◌, ◌<◌, ◌↔◌, length, IsTrue, All};
+ghost use Rattle.hub_spec.specs.Ranges.{IsAmount};
+ghost use Rattle.dual_lines.specs.Covers.{IsCoveredAlone, IsCoveredBy, IsCoveredFrom, IsCoveredFirst};
+
+use hub_model::Instance;
+
+/// A commodity and its price, in 10^-12.
+#[derive(Clone, Copy, Debug)]
+pub(crate) struct Priced {
+    pub from: u32,
+    pub to: u32,
+    pub price: u128,
+}
+
+/// Tells whether the price is covered with each candidate as the first hub. `amounts` has a value for each node.
+pub(crate) fn is_covered_by_amounts(instance: &Instance, line: Priced, amounts: &[u128]) -> bool
+    requires from { line.from < instance.now.size }
+    requires to { line.to < instance.now.size }
+    requires long { length amounts.now ≡ instance.now.size }
+    requires short { All IsAmount amounts.now }
+    ensures { IsTrue result
+        ↔ All (IsCoveredFirst instance.now (line.from, line.to) line.price amounts.now) instance.now.candidates }
+{
+    let candidates = instance.candidates();
+    for k in candidates {
+        if !is_covered_first(instance, line, amounts, *k) {
+            return false;
+        }
+    }
+    true
+}
+
+/// Tells whether the price is covered with `k` as the only hub, and as the first with each candidate as the last.
+pub(crate) fn is_covered_first(instance: &Instance, line: Priced, amounts: &[u128], k: u32) -> bool
+    requires from { line.from < instance.now.size }
+    requires to { line.to < instance.now.size }
+    requires long { length amounts.now ≡ instance.now.size }
+    requires short { All IsAmount amounts.now }
+    requires hub { k < instance.now.size }
+    ensures { IsTrue result ↔ IsCoveredFirst instance.now (line.from, line.to) line.price amounts.now k }
+{
+    is_covered_alone(instance, line, amounts, k) && is_covered_from(instance, line, amounts, k)
+}
+
+fn is_covered_alone(instance: &Instance, line: Priced, amounts: &[u128], k: u32) -> bool
+    requires from { line.from < instance.now.size }
+    requires to { line.to < instance.now.size }
+    requires long { length amounts.now ≡ instance.now.size }
+    requires short { All IsAmount amounts.now }
+    requires hub { k < instance.now.size }
+    ensures { IsTrue result ↔ IsCoveredAlone instance.now (line.from, line.to) line.price amounts.now k }
+{
+    line.price <= instance.cost_of_route(line.from, line.to, k, k) + amounts[k as usize]
+}
+
+fn is_covered_from(instance: &Instance, line: Priced, amounts: &[u128], k: u32) -> bool
+    requires from { line.from < instance.now.size }
+    requires to { line.to < instance.now.size }
+    requires long { length amounts.now ≡ instance.now.size }
+    requires short { All IsAmount amounts.now }
+    requires hub { k < instance.now.size }
+    ensures { IsTrue result ↔ IsCoveredFrom instance.now (line.from, line.to) line.price amounts.now k }
+{
+    let candidates = instance.candidates();
+    for m in candidates {
+        if !is_covered_by(instance, line, amounts, k, *m) {
+            return false;
+        }
+    }
+    true
+}
+
+fn is_covered_by(instance: &Instance, line: Priced, amounts: &[u128], k: u32, m: u32) -> bool
+    requires from { line.from < instance.now.size }
+    requires to { line.to < instance.now.size }
+    requires long { length amounts.now ≡ instance.now.size }
+    requires short { All IsAmount amounts.now }
+    requires first { k < instance.now.size }
+    requires last { m < instance.now.size }
+    ensures { IsTrue result ↔ IsCoveredBy instance.now (line.from, line.to) line.price amounts.now k m }
+{
+    if k == m {
+        return true;
+    }
+    let values = amounts[k as usize] + amounts[m as usize];
+    line.price <= instance.cost_of_route(line.from, line.to, k, m) + values
+}

@@ -1,0 +1,154 @@
+//! The dual of a commodity, listed value by value and then tested.
+
+ghost use Rattle.std.specs.Prelude.{◌≡◌, ℕ, ◌+◌, ◌<◌, ◌≤◌, ◌↔◌, [], ◌∷◌, ◌++◌, pos, ◌≤ℤ◌, IsTrue, IfOk, All};
+ghost use Rattle.hub_spec.specs.Limits.{most_flow};
+ghost use Rattle.hub_spec.specs.Problem.{flow};
+ghost use Rattle.hub_spec.specs.Cuts.{IsDual};
+ghost use Rattle.hub_spec.specs.Ranges.{IsAmount, IsDualInRange};
+ghost use Rattle.hub_model.specs.Amounts.{natural, IsNatural};
+
+use crate::amounts::Priced;
+use crate::places::{clear, put_unit, set_places};
+use crate::tables::CandidateLegs;
+use crate::units::{is_covered, unit_value};
+use hub_model::{Instance, unsigned};
+use std::alloc::{AllocError, Global};
+use std::marker::Model;
+
+/// A commodity of an instance with a dual that is listed for it: its price and its values, in 10^-12.
+///
+/// One after another may stand here. What the last one listed is taken back in time of its values alone.
+#[derive(Debug, Drop)]
+pub struct DualLine<'a> {
+    legs: CandidateLegs<'a>,
+    places: Vec<u32>,
+    line: Priced,
+    carried: u64,
+    listed: Vec<(u32, u128)>,
+    are_candidates: bool,
+    amounts: Vec<u128>,
+    units: Vec<u64>,
+}
+
+impl<'a> Model for DualLine<'a> {
+    ghost use Rattle.dual_lines.specs.Lines.{ListedDual};
+    ghost use Rattle.dual_lines.specs.LineParts.{held_dual, IsLineHeld};
+
+    ghost Value = { ListedDual };
+
+    ghost view = { λ s. record { problem = s.legs; commodity = (s.line.from, s.line.to); dual = held_dual s } };
+
+    ghost invariant = { IsLineHeld };
+}
+
+impl<'a> DualLine<'a> {
+    /// The first commodity of the instance, with the price 0 and no values. The only call that takes memory.
+    pub fn new(alloc: Global, instance: &'a Instance) -> Result<DualLine<'a>, AllocError>
+        ensures { IfOk result (λ d. d
+            ≡ record { problem = instance.now; commodity = (0, 0); dual = record { a = 0; u = [] } }) }
+    {
+        let legs = CandidateLegs::new(alloc, instance)?;
+        let nodes = instance.size() as usize;
+        let count = legs.places();
+        let mut places = vec![in alloc; count as u32; nodes]?;
+        set_places(instance, &mut places);
+        Ok(DualLine {
+            legs,
+            places,
+            line: Priced {
+                from: 0,
+                to: 0,
+                price: 0,
+            },
+            carried: flow_between(instance, 0, 0),
+            listed: Vec::with_capacity(alloc, nodes)?,
+            are_candidates: true,
+            amounts: vec![in alloc; 0; nodes]?,
+            units: vec![in alloc; 0; count]?,
+        })
+    }
+
+    /// Begins the dual of the commodity from `i` to `j` with this price, as yet without values.
+    pub fn begin(&mut self, i: u32, j: u32, a: i128)
+        requires from { i < self.old.problem.size }
+        requires to { j < self.old.problem.size }
+        requires least { IsNatural a }
+        requires most { IsAmount (natural a) }
+        ensures { self.new ≡ record self.old { commodity = (i, j); dual = record { a = natural a; u = [] } } }
+    {
+        clear(
+            &self.listed,
+            &self.places,
+            &mut self.amounts,
+            &mut self.units,
+        );
+        self.listed.clear();
+        self.line = Priced {
+            from: i,
+            to: j,
+            price: unsigned(a),
+        };
+        self.carried = flow_between(self.legs.instance(), i, j);
+        self.are_candidates = true;
+    }
+
+    /// Lists the value of a node after those of lower nodes.
+    pub fn list(&mut self, k: u32, u: i128)
+        requires node { k < self.old.problem.size }
+        requires above { All (λ e. e.0 < k) self.old.dual.u }
+        requires least { pos 1 ≤ℤ u }
+        requires most { IsAmount (natural u) }
+        ensures { self.new ≡ record self.old {
+          dual = record { a = self.old.dual.a; u = self.old.dual.u ++ (k, natural u) ∷ [] };
+        } }
+    {
+        let amount = unsigned(u);
+        let unit = unit_value(amount, self.carried);
+        self.listed.push_reserved((k, amount));
+        self.amounts[k as usize] = amount;
+        let placed = put_unit(&self.places, k, unit, &mut self.units);
+        self.are_candidates = self.are_candidates && placed;
+    }
+
+    /// Tells whether it is a feasible dual of the commodity: with the values of its hubs added, no route by way of
+    /// candidates costs less than the price, and only candidates are listed.
+    pub fn holds(&self) -> bool
+        ensures { IsTrue result ↔ IsDual self.now.problem self.now.commodity self.now.dual }
+    {
+        self.are_candidates
+            && is_covered(
+                &self.legs,
+                self.line,
+                self.carried,
+                &self.amounts,
+                &self.units,
+            )
+    }
+
+    /// The price.
+    pub fn price(&self) -> u128
+        ensures value { result ≡ self.now.dual.a }
+        ensures limit { IsAmount result }
+    {
+        self.line.price
+    }
+
+    /// The nodes with their values, as they were listed.
+    pub fn values(&self) -> &[(u32, u128)]
+        ensures values { result.now ≡ self.now.dual.u }
+        ensures in_range { IsDualInRange self.now.problem.size self.now.dual }
+    {
+        &self.listed
+    }
+}
+
+/// The flow from `i` to `j`.
+#[tactic(auto, using(crate::proofs::CandidateTables::flow_limit), unfolding(hub_spec::specs::Problem::flow))]
+fn flow_between(instance: &Instance, i: u32, j: u32) -> u64
+    requires from { i < instance.now.size }
+    requires to { j < instance.now.size }
+    ensures value { result ≡ flow instance.now i j }
+    ensures limit { result ≤ most_flow }
+{
+    instance.flows()[i as usize * instance.size() as usize + j as usize]
+}

@@ -1,0 +1,217 @@
+//! Whether a row has a number for a variable that is too great.
+
+ghost use Rattle.std.specs.Prelude.{◌≡◌, ℕ, ◌+◌, ◌-◌, ◌*◌, ◌^◌, ◌<◌, ◌≤◌, length, map, unsigned_abs, nat_lt, IsTrue, IsFalse};
+ghost use Rattle.frac_rows.specs.Rows.{widest, number, is_wide_row, AreNarrow};
+ghost use Rattle.frac_rows.specs.Stored.{dot, piece, pieces, reach, AreColumns};
+ghost use Rattle.frac_rows.specs.Sketches.{IsSketch, IsRough, number_of, NoneWide, SomeWide, AreTellingSizes};
+
+use crate::limits::WIDEST;
+use crate::parts::part;
+use crate::pricing::LANES;
+use crate::products::{dot_128, reach};
+use crate::sketches::{MOST_ROWS, Sketch, greatest_size, rough_sums, roughen};
+
+/// Whether a number of the whole row before those that are kept is too great.
+///
+/// Where even the greatest sizes stay within the limit together, no column is looked at.
+pub(crate) fn is_wide_of(
+    numbers: &[i64],
+    tops: &[u64],
+    sketch: &Sketch,
+    variables: usize,
+    row: &[i64],
+) -> bool
+    requires columns { AreColumns (length row.now - 1) variables numbers.now tops.now }
+    requires sketch { 1 ≤ length sketch.now.rows.items
+        → IsSketch (length row.now - 1) variables numbers.now tops.now sketch.now.rows.items sketch.now.margin }
+    requires narrow { AreNarrow row.now }
+    ensures { result ≡ is_wide_row (map (dot row.now) (pieces (length row.now - 1) variables numbers.now)) }
+{
+    if reach(row, tops) <= u128::from(WIDEST) {
+        return false;
+    }
+    some_wide(numbers, tops, sketch, variables, row)
+}
+
+// The same by looking at the columns.
+fn some_wide(numbers: &[i64], tops: &[u64], sketch: &Sketch, variables: usize, row: &[i64]) -> bool
+    requires columns { AreColumns (length row.now - 1) variables numbers.now tops.now }
+    requires sketch { 1 ≤ length sketch.now.rows.items
+        → IsSketch (length row.now - 1) variables numbers.now tops.now sketch.now.rows.items sketch.now.margin }
+    requires narrow { AreNarrow row.now }
+    ensures none { IsFalse result → NoneWide numbers.now row.now 0 variables }
+    ensures some { IsTrue result → SomeWide numbers.now row.now variables }
+{
+    if sketch.rows.is_empty() {
+        return wide_between(numbers, tops, variables, row);
+    }
+    let mut room = [0i32; MOST_ROWS];
+    let rough = &mut room[..tops.len()];
+    let Some(step) = roughen(row, tops, rough) else {
+        return wide_between(numbers, tops, variables, row);
+    };
+    wide_by_blocks(numbers, tops, sketch, variables, row, rough, step)
+}
+
+// The same by looking at one after the other.
+fn wide_between(numbers: &[i64], tops: &[u64], variables: usize, row: &[i64]) -> bool
+    requires columns { AreColumns (length row.now - 1) variables numbers.now tops.now }
+    requires narrow { AreNarrow row.now }
+    ensures none { IsFalse result → NoneWide numbers.now row.now 0 variables }
+    ensures some { IsTrue result → SomeWide numbers.now row.now variables }
+{
+    for j in 0..variables {
+        if is_wide_at(numbers, tops, variables, row, j) {
+            return true;
+        }
+    }
+    false
+}
+
+// Whether the variable's number is too great.
+fn is_wide_at(numbers: &[i64], tops: &[u64], variables: usize, row: &[i64], j: usize) -> bool
+    requires columns { AreColumns (length row.now - 1) variables numbers.now tops.now }
+    requires narrow { AreNarrow row.now }
+    requires within { j < variables }
+    ensures { result ≡ nat_lt widest (unsigned_abs (number_of numbers.now row.now j)) }
+{
+    dot_128(row, part(numbers, row.len() - 1, j)).unsigned_abs() > u128::from(WIDEST)
+}
+
+// The same by the rough row, block by block.
+fn wide_by_blocks(
+    numbers: &[i64],
+    tops: &[u64],
+    sketch: &Sketch,
+    variables: usize,
+    row: &[i64],
+    rough: &[i32],
+    step: u64,
+) -> bool
+    requires columns { AreColumns (length row.now - 1) variables numbers.now tops.now }
+    requires sketch { IsSketch (length row.now - 1) variables numbers.now tops.now sketch.now.rows.items sketch.now.margin }
+    requires narrow { AreNarrow row.now }
+    requires long { length rough.now ≡ length tops.now }
+    requires rough { IsRough step row.now rough.now }
+    requires reach { reach rough.now tops.now < 2 ^ 31 }
+    requires step { 1 ≤ step }
+    ensures none { IsFalse result → NoneWide numbers.now row.now 0 variables }
+    ensures some { IsTrue result → SomeWide numbers.now row.now variables }
+{
+    let most = WIDEST / step;
+    for block in 0..variables.div_ceil(LANES) {
+        let first = block * LANES;
+        let last = variables.min(first + LANES);
+        if wide_in_block(
+            numbers, tops, sketch, variables, row, rough, step, most, first, last,
+        ) {
+            return true;
+        }
+    }
+    false
+}
+
+// Whether one of these variables has a number that is too great, where so many steps are not.
+fn wide_in_block(
+    numbers: &[i64],
+    tops: &[u64],
+    sketch: &Sketch,
+    variables: usize,
+    row: &[i64],
+    rough: &[i32],
+    step: u64,
+    most: u64,
+    first: usize,
+    last: usize,
+) -> bool
+    requires columns { AreColumns (length row.now - 1) variables numbers.now tops.now }
+    requires sketch { IsSketch (length row.now - 1) variables numbers.now tops.now sketch.now.rows.items sketch.now.margin }
+    requires narrow { AreNarrow row.now }
+    requires long { length rough.now ≡ length tops.now }
+    requires rough { IsRough step row.now rough.now }
+    requires reach { reach rough.now tops.now < 2 ^ 31 }
+    requires most { step * most ≤ widest }
+    requires first { first ≤ last }
+    requires few { last ≤ first + 32 }
+    requires last { last ≤ variables }
+    ensures none { IsFalse result → NoneWide numbers.now row.now first last }
+    ensures some { IsTrue result → SomeWide numbers.now row.now variables }
+{
+    let mut room = [0i32; LANES];
+    let sums = &mut room[..last - first];
+    rough_sums(&sketch.rows, variables, first, rough, sums);
+    let margin = sketch.margin.unsigned_abs();
+    wide_told(
+        numbers, tops, variables, row, margin, most, first, last, sums,
+    )
+}
+
+// The same, where sums tell of most that their number is not too great.
+fn wide_told(
+    numbers: &[i64],
+    tops: &[u64],
+    variables: usize,
+    row: &[i64],
+    margin: u32,
+    most: u64,
+    first: usize,
+    last: usize,
+    sums: &[i32],
+) -> bool
+    requires columns { AreColumns (length row.now - 1) variables numbers.now tops.now }
+    requires narrow { AreNarrow row.now }
+    requires one_each { first + length sums.now ≡ last }
+    requires last { last ≤ variables }
+    requires telling { AreTellingSizes numbers.now row.now margin most first sums.now }
+    ensures none { IsFalse result → NoneWide numbers.now row.now first last }
+    ensures some { IsTrue result → SomeWide numbers.now row.now variables }
+{
+    if is_told(greatest_size(sums), margin, most) {
+        return false;
+    }
+    for j in first..last {
+        if is_wide_by(
+            numbers,
+            tops,
+            variables,
+            row,
+            j,
+            margin,
+            most,
+            sums[j - first],
+        ) {
+            return true;
+        }
+    }
+    false
+}
+
+// Whether a sum of this size tells that its number is not too great.
+fn is_told(size: u32, margin: u32, most: u64) -> bool
+    ensures { IsTrue result → size + margin ≤ most }
+{
+    u64::from(size) + u64::from(margin) <= most
+}
+
+// Whether the variable's number is too great, which a sum may rule out.
+fn is_wide_by(
+    numbers: &[i64],
+    tops: &[u64],
+    variables: usize,
+    row: &[i64],
+    j: usize,
+    margin: u32,
+    most: u64,
+    sum: i32,
+) -> bool
+    requires columns { AreColumns (length row.now - 1) variables numbers.now tops.now }
+    requires narrow { AreNarrow row.now }
+    requires within { j < variables }
+    requires telling { unsigned_abs sum + margin ≤ most → unsigned_abs (number_of numbers.now row.now j) ≤ widest }
+    ensures { result ≡ nat_lt widest (unsigned_abs (number_of numbers.now row.now j)) }
+{
+    if is_told(sum.unsigned_abs(), margin, most) {
+        return false;
+    }
+    is_wide_at(numbers, tops, variables, row, j)
+}

@@ -1,0 +1,9 @@
+//! Sets of nodes that tell in constant time whether a node is in them.
+//!
+//! [`NodeMarks`] holds a mark for each node. Its clauses speak of `marked`, the ascending list of the nodes that are
+//! marked. Once it is made, no call takes memory.
+#![tactic(auto)]
+
+mod marks;
+
+pub use marks::NodeMarks;

@@ -1,0 +1,11 @@
+//! The plan of a certificate taken line by line, with no route of it kept.
+//!
+//! [`PlanSums`] takes the hubs, then the routes in the order of commodities. It tells whether a node is among the hubs,
+//! and adds up what the plan costs. Once it is made, no call takes memory. Costs are in 10^-12.
+#![tactic(auto)]
+
+mod laws;
+mod sums;
+
+pub use laws::{plan_begins, plan_costs, plan_has_hub, plan_has_route};
+pub use sums::{PlanSums, is_candidate};

@@ -1,0 +1,4 @@
+pub mod Trails
+pub mod Paths
+pub mod Tallies
+pub mod Theorems

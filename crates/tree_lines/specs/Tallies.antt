@@ -1,0 +1,49 @@
+-- The sums of a leaf while its pairs come.
+use Rattle.std.specs.Prelude.{◌≡◌, ℕ, ◌+◌, ◌*◌, ◌<◌, ◌≤◌, ℤ, List, length, slice_index, All}
+use Rattle.hub_spec.specs.Limits.{most_cost, most_denominator}
+use Rattle.hub_spec.specs.Problem.{Problem, fixed_cost}
+use Rattle.hub_spec.specs.Cuts.{Cut}
+use Rattle.hub_spec.specs.Trees.{Branching, weight_sum, mixed_total, mixed_load, gain, branch_bound}
+
+-- the denominator, and so far: the sum of the weights, that of the totals times them, and by node that of the loads times them
+pub record Tally : Type 0 where
+  pub denom : ℕ
+  pub weight : ℕ
+  pub base : ℕ
+  pub loads : List ℕ
+
+-- nothing is added up yet
+pub record IsBegun (denom n : ℕ) (tally : Tally) : Type 0 where
+  pub denom_is : tally.denom ≡ denom
+  pub weight_is : tally.weight ≡ 0
+  pub base_is : tally.base ≡ 0
+  pub count : length tally.loads ≡ n
+  pub loads_are : (k : ℕ) → k < n → slice_index tally.loads k ≡ 0
+
+-- the later sums have a cut of this total and these loads more, with this weight
+pub record IsAdded (tally : Tally) (weight total : ℕ) (loads : List ℕ) (later : Tally) : Type 0 where
+  pub denom_is : later.denom ≡ tally.denom
+  pub weight_is : later.weight ≡ tally.weight + weight
+  pub base_is : later.base ≡ tally.base + weight * total
+  pub count : length later.loads ≡ length tally.loads
+  pub loads_are : (k : ℕ) → k < length tally.loads
+      → slice_index later.loads k ≡ slice_index tally.loads k + weight * slice_index loads k
+
+-- the weights are at most the denominator, and the other sums at most the limit times the weights
+pub record IsWithin (tally : Tally) : Type 0 where
+  pub denom_limit : tally.denom ≤ most_denominator
+  pub weight_limit : tally.weight ≤ tally.denom
+  pub base_limit : tally.base ≤ tally.weight * most_cost
+  pub load_limit : All (λ load. load ≤ tally.weight * most_cost) tally.loads
+
+-- the bound of the branch by these sums
+abbrev pub tally_bound : Problem → Tally → Branching → ℤ
+tally_bound p tally b = branch_bound tally.base (gain tally.denom (fixed_cost p) (slice_index tally.loads)) b
+
+-- the sums over n nodes are those of a leaf's pairs on these cuts
+pub record AreSumsOf (n : ℕ) (cuts : List Cut) (denom : ℕ) (weights : List (ℕ × ℕ)) (tally : Tally) : Type 0 where
+  pub denom_is : tally.denom ≡ denom
+  pub weight_is : tally.weight ≡ weight_sum weights
+  pub base_is : tally.base ≡ mixed_total cuts weights
+  pub count : length tally.loads ≡ n
+  pub loads_are : (k : ℕ) → k < n → slice_index tally.loads k ≡ mixed_load cuts weights k

@@ -1,0 +1,127 @@
+//! The branches of a tree that are still to be filled.
+
+ghost use Rattle.std.specs.Prelude.{◌≡◌, ◌≢◌, ◌↔◌, [], ◌∷◌, length, IsTrue, IfOk, Contains};
+ghost use Rattle.hub_spec.specs.Trees.{root, open_child, closed_child, IsClosed};
+ghost use Rattle.node_marks.specs.Marks.{marked};
+ghost use Rattle.tree_lines.specs.Trails.{undecided};
+ghost use Rattle.tree_lines.specs.Paths.{next, behind_next};
+
+use crate::trails::{Step, Trail};
+use hub_model::Instance;
+use std::alloc::{AllocError, Global};
+use std::marker::Model;
+
+/// The branches of a tree that are still to be filled, the next one first; kept as the one way from the root to it.
+///
+/// The lines of a tree come in preorder, the open child first. So each branch that waits is the closed child of a step
+/// on the way, which goes into the open one.
+#[derive(Debug, Drop)]
+pub struct TreePath {
+    trail: Trail,
+    is_filled: bool,
+}
+
+impl Model for TreePath {
+    ghost use Rattle.tree_lines.specs.Paths.{Pending, path_of};
+
+    ghost Value = { Pending };
+
+    ghost view = { λ s. path_of s.is_filled s.trail };
+}
+
+impl TreePath {
+    /// The path of a tree of which nothing is filled. The only call that takes memory: room for a step for each
+    /// candidate, and for the marks of all nodes.
+    pub fn new(alloc: Global, instance: &Instance) -> Result<TreePath, AllocError>
+        ensures { IfOk result (λ path. path ≡ record {
+          size = instance.now.size;
+          candidates = instance.now.candidates;
+          pending = root instance.now ∷ [];
+        }) }
+    {
+        Ok(TreePath {
+            trail: Trail::new(alloc, instance)?,
+            is_filled: false,
+        })
+    }
+
+    /// Begins a tree anew, of which nothing is filled.
+    pub fn restart(&mut self)
+        ensures { self.new ≡ record self.old { pending = undecided self.old.candidates ∷ [] } }
+    {
+        self.trail.restart();
+        self.is_filled = false;
+    }
+
+    /// Tells whether no branch is left to be filled.
+    pub fn is_filled(&self) -> bool
+        ensures { IsTrue result ↔ self.now.pending ≡ [] }
+    {
+        self.is_filled
+    }
+
+    /// Tells whether the node is free in the next branch, in constant time.
+    pub fn is_free(&self, k: u32) -> bool
+        requires { self.now.pending ≢ [] }
+        ensures { IsTrue result ↔ Contains (next self.now.pending).free k }
+    {
+        self.trail.is_free(k)
+    }
+
+    /// Tells whether every candidate is closed in the next branch, in constant time.
+    pub fn is_closed(&self) -> bool
+        requires { self.now.pending ≢ [] }
+        ensures { IsTrue result ↔ IsClosed (next self.now.pending) }
+    {
+        self.trail.is_closed()
+    }
+
+    /// Branches on a free node: the open child of the next branch comes next, then the closed one.
+    pub fn branch(&mut self, k: u32)
+        requires some { self.old.pending ≢ [] }
+        requires free { Contains (next self.old.pending).free k }
+        ensures { self.new ≡ record self.old {
+          pending = open_child (next self.old.pending) k ∷ closed_child (next self.old.pending) k ∷ behind_next self.old.pending;
+        } }
+    {
+        self.trail.enter(Step {
+            node: k,
+            opened: true,
+        });
+    }
+
+    /// Fills the next branch. The way goes back to its last step into an open child, and from there into the closed one.
+    pub fn fill(&mut self)
+        requires { self.old.pending ≢ [] }
+        ensures { self.new ≡ record self.old { pending = behind_next self.old.pending } }
+    {
+        while let Some(step) = self.trail.leave() {
+            if step.opened {
+                self.trail.enter(Step {
+                    node: step.node,
+                    opened: false,
+                });
+                return;
+            }
+        }
+        self.is_filled = true;
+    }
+
+    /// The marks of the hubs of the next branch.
+    pub(crate) fn inside(&self) -> &[bool]
+        requires { self.now.pending ≢ [] }
+        ensures size { length result.now ≡ self.now.size }
+        ensures nodes { marked result.now ≡ (next self.now.pending).inside }
+    {
+        self.trail.inside()
+    }
+
+    /// The marks of the free nodes of the next branch.
+    pub(crate) fn free(&self) -> &[bool]
+        requires { self.now.pending ≢ [] }
+        ensures size { length result.now ≡ self.now.size }
+        ensures nodes { marked result.now ≡ (next self.now.pending).free }
+    {
+        self.trail.free()
+    }
+}
