@@ -9,5 +9,6 @@ pub mod StatusMeanings
 pub mod OneReading
 pub mod Completions
 pub mod Headlines
+pub mod Runs
 pub mod Halting
 pub mod Sources

@@ -15,6 +15,7 @@ use Rattle.cert_spec.specs.Text.{Spells}
 use Rattle.kept_cuts.specs.declared.network.Network.{Network}
 use Rattle.kept_cuts.specs.Networks.{IsProved, proof_of, lines_of}
 use Rattle.closed_text.specs.Texts.{network_text}
+use Rattle.closed_text.proofs.KeptLines.{network_text_certificate}
 use Rattle.hub_words.specs.Requests.{Source, Solving, optimize}
 use Rattle.hub_top.specs.declared.status.Status.{Status}
 use Rattle.hub_top.specs.declared.status.Status.TheVariants.{Done, Stopped}
@@ -33,7 +34,7 @@ network_finds : (held : Option Files) (s : Source) (nodes : Option ℕ) (p : Pro
 network_finds held s nodes p found h =
     let proved = h.proved in
     record {
-      told = record { in_range = proved.in_range; text = {!!} };
+      told = record { in_range = proved.in_range; text = network_text_certificate p found proved.tree proved.lines };
       holds = proved.holds;
       paid = sym proved.holds.cost;
       below = no_plan_below_bound p (proof_of p found proved.tree) h.problem proved.holds;

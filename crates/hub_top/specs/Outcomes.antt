@@ -1,5 +1,5 @@
 -- What a run may come to before anything is written, and what is written then.
-use Rattle.std.specs.Prelude.{◌≡◌, ℕ, ◌≤◌, List, [], Option, Some, None, Ok, Err}
+use Rattle.std.specs.Prelude.{◌≡◌, ℕ, ◌≤◌, List, [], Option, Some, None, Ok, Err, ◌⊎◌}
 use Rattle.hub_io.specs.Outside.{Files, Rose, Puts}
 use Rattle.hub_io.specs.declared.Failed.{Failed}
 use Rattle.file_spec.specs.Faults.{Fault}
@@ -70,6 +70,12 @@ MayComeTo asked held fails (faulty blame fault) =
     × WhereTold held (λ files. HasBlame files s blame fault)
 MayComeTo asked held fails memory = Unit {0}
 MayComeTo asked held fails read = (request : Request) × (asked ≡ Some request) × fails request
+
+-- a text was put whole, with the outcome's status, or a front of it was
+abbrev pub IsTold : {K : Type 0} → (K → Option (List ℕ)) → (K → ℕ) → K → K → Status → Status → List ℕ → Type 0
+IsTold taken faults old new status wanted text =
+    (Puts {E = Failed} taken faults old new (Ok tt) text × (status ≡ wanted))
+    ⊎ ((failed : Failed) × Puts taken faults old new (Err failed) text × (status ≡ Write))
 
 -- an outcome was written: both texts, or a front of the first that failed and nothing further
 pub data Written {O E : Type 0} (out_taken : O → Option (List ℕ)) (out_faults : O → ℕ) (err_taken : E → Option (List ℕ)) (err_faults : E → ℕ) (out_old out_new : O) (err_old err_new : E) (status : Status) (outcome : Outcome) : Type 0 where

@@ -2,8 +2,12 @@
 
 ghost use Rattle.std.specs.Prelude.{◌≡◌, ◌⊎◌};
 ghost use Rattle.hub_io.specs.Outside.{Puts};
-ghost use Rattle.hub_top.specs.Outcomes.{Outcome, Written, err_text, memory, status_of};
-ghost use Rattle.hub_top.specs.Views.{CanBeWritten, halted, network_status, outcome};
+ghost use Rattle.kept_cuts.specs.Networks.{IsProved};
+ghost use Rattle.closed_text.specs.Texts.{network_text};
+ghost use Rattle.hub_top.specs.Texts.{usage_text};
+ghost use Rattle.hub_top.specs.Outcomes.{IsTold, Written, err_text, memory, status_of};
+ghost use Rattle.hub_top.specs.Views.{CanBeWritten, IsWritable, answer_status, answer_text, halted, network_status, outcome};
+ghost use Rattle.hub_top.specs.declared.status.Status.TheVariants.{Usage};
 
 use crate::Status;
 use crate::answers::{Answer, put_answer, status_of_answer};
@@ -37,38 +41,63 @@ pub fn write<O: Sink, E: Sink>(
     err: &mut E,
 ) -> Status
     requires { CanBeWritten intended }
-    ensures { (came : Outcome) × (came ≡ outcome intended ⊎ came ≡ memory)
-        × Written O.taken O.faults E.taken E.faults out.old out.new err.old err.new result came }
+    ensures { Written O.taken O.faults E.taken E.faults out.old out.new err.old err.new result (outcome intended)
+        ⊎ Written O.taken O.faults E.taken E.faults out.old out.new err.old err.new result memory }
 {
     match intended {
-        Intended::Answered(answer) => {
-            let status = status_of_answer(&answer);
-            match put_answer(answer, out) {
-                Ok(()) => status,
-                Err(_) => Status::Write,
-            }
-        }
+        Intended::Answered(answer) => write_answer(answer, out),
         Intended::Optimized(instance, found) => match DualRoom::new(alloc, &instance) {
-            Ok(mut room) => {
-                let status = status_of_network(&found);
-                match write_network(&instance, &found, &mut room, out) {
-                    Ok(()) => status,
-                    Err(_) => Status::Write,
-                }
-            }
-            Err(_) => match put_memory(err) {
-                Ok(()) => Status::Memory,
-                Err(_) => Status::Write,
-            },
+            Ok(mut room) => write_certificate(&instance, &found, &mut room, out),
+            Err(_) => write_halt(&Halt::Memory, err),
         },
-        Intended::Usage => match put_usage(err) {
-            Ok(()) => Status::Usage,
-            Err(_) => Status::Write,
-        },
-        Intended::Halted(halt) => match put_halt(&halt, err) {
-            Ok(()) => status_of_halt(&halt),
-            Err(_) => Status::Write,
-        },
+        Intended::Usage => write_usage(err),
+        Intended::Halted(halt) => write_halt(&halt, err),
+    }
+}
+
+fn write_answer<O: Sink>(answer: Answer, out: &mut O) -> Status
+    requires { IsWritable answer }
+    ensures { IsTold O.taken O.faults out.old out.new result (answer_status answer) (answer_text answer) }
+{
+    let status = status_of_answer(&answer);
+    match put_answer(answer, out) {
+        Ok(()) => status,
+        Err(_) => Status::Write,
+    }
+}
+
+/// Writes the certificate of what `optimize` found.
+fn write_certificate<O: Sink>(
+    instance: &Instance,
+    found: &Network,
+    room: &mut DualRoom,
+    out: &mut O,
+) -> Status
+    requires room { room.old ≡ instance.now }
+    requires proved { IsProved instance.now found.now }
+    ensures { IsTold O.taken O.faults out.old out.new result (network_status found.now) (network_text instance.now found.now) }
+{
+    match write_network(instance, found, room, out) {
+        Ok(()) => status_of_network(found),
+        Err(_) => Status::Write,
+    }
+}
+
+fn write_usage<E: Sink>(err: &mut E) -> Status
+    ensures { IsTold E.taken E.faults err.old err.new result Usage usage_text }
+{
+    match put_usage(err) {
+        Ok(()) => Status::Usage,
+        Err(_) => Status::Write,
+    }
+}
+
+fn write_halt<E: Sink>(halt: &Halt, err: &mut E) -> Status
+    ensures { IsTold E.taken E.faults err.old err.new result (status_of (halted halt.now)) (err_text (halted halt.now)) }
+{
+    match put_halt(halt, err) {
+        Ok(()) => status_of_halt(halt),
+        Err(_) => Status::Write,
     }
 }
 

@@ -1,15 +1,30 @@
-use Rattle.std.proofs.Common.{refl}
-use Rattle.hub_top.specs.Outcomes.{usage, out_cut}
-use Rattle.hub_top.specs.Views.{halted}
-use Rattle.hub_top.proofs.Writing.{err_failed, halt_puts_nothing}
+use Rattle.std.proofs.Common.{refl, inl, inr}
+use Rattle.hub_top.specs.Outcomes.{answered, usage, memory}
+use Rattle.hub_top.specs.Views.{answer_status, answer_text, network_status, halted}
+use Rattle.closed_text.specs.Texts.{network_text}
+use Rattle.hub_top.proofs.Writing.{written_out, written_err, halt_puts_nothing}
 use Rattle.hub_top.proofs.outcomes.write.Goals as goal
 
-pub returns-in-Err : goal.returns-in-Err
-returns-in-Err g c = rw c.in-Answered.is (out_cut c.in-Err.field-0 c.in-Err.ensures refl refl)
+pub returns-in-Answered : goal.returns-in-Answered
+returns-in-Answered g c =
+    let a = c.in-Answered.answer in
+    rw c.in-Answered.is (inl (written_out _ _ _ _ _ _ _ _ (answered (answer_status a) (answer_text a)) refl c.write_answer.ensures))
 
-pub returns-in-Err-put_usage : goal.returns-in-Err-put_usage
-returns-in-Err-put_usage g c = rw c.in-Usage.is (err_failed _ _ _ _ _ _ _ usage c.in-Err-put_usage.field-0 refl c.in-Err-put_usage.ensures)
+pub returns-in-Ok : goal.returns-in-Ok
+returns-in-Ok g c =
+    let p = c.in-Optimized.instance in
+    let found = c.in-Optimized.found in
+    rw c.in-Optimized.is
+    (inl (written_out _ _ _ _ _ _ _ _ (answered (network_status found) (network_text p found)) refl c.write_certificate.ensures))
 
-pub returns-in-Err-put_halt : goal.returns-in-Err-put_halt
-returns-in-Err-put_halt g c =
-    rw c.in-Halted.is (err_failed _ _ _ _ _ _ _ (halted c.in-Halted.halt) c.in-Err-put_halt.field-0 (halt_puts_nothing c.in-Halted.halt) c.in-Err-put_halt.ensures)
+pub returns-in-Optimized : goal.returns-in-Optimized
+returns-in-Optimized g c = inr (written_err _ _ _ _ _ _ _ _ memory refl c.write_halt.ensures)
+
+pub returns-in-Usage : goal.returns-in-Usage
+returns-in-Usage g c = rw c.in-Usage.is (inl (written_err _ _ _ _ _ _ _ _ usage refl c.write_usage.ensures))
+
+pub returns : goal.returns
+returns g c =
+    let halt = c.in-Halted.halt in
+    rw c.in-Halted.is
+    (inl (written_err _ _ _ _ _ _ _ _ (halted halt) (halt_puts_nothing halt) c.write_halt-in-Halted.ensures))

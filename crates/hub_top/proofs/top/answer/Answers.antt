@@ -5,25 +5,25 @@ use Rattle.hub_top.proofs.Searched.{demo_answers, made_size, solve_answers}
 use Rattle.hub_top.proofs.Optimized.{optimize_answers}
 use Rattle.hub_top.proofs.top.answer.Goals as goal
 
-pub returns-in_ok-solve-in-Solve-clause-may : goal.returns-in_ok-solve-in-Solve-clause-may
-returns-in_ok-solve-in-Solve-clause-may g c =
+pub returns-in_ok-solution-in-Solve-clause-may : goal.returns-in_ok-solution-in-Solve-clause-may
+returns-in_ok-solution-in-Solve-clause-may g c =
     let s = solving_of c.in-Solve.solving in
-    let solution = c.in_ok-solve-in-Solve.field-0 in
-    let solved = c.in_ok-solve-in-Solve.ensures.solved in
+    let solution = c.in_ok-solution-in-Solve.solution in
+    let solved = c.in_ok-solution-in-Solve.ensures.solved in
     (solve s, rw c.in-Solve.is refl, solve_answers (g.S.Shelf.held c.args.shelf.now) s solution.instance solution.found solved.instance solved.searched)
 
-pub returns-in_ok-demonstrate-in-Demo-clause-may : goal.returns-in_ok-demonstrate-in-Demo-clause-may
-returns-in_ok-demonstrate-in-Demo-clause-may g c =
+pub returns-in_ok-found-in-Demo-clause-may : goal.returns-in_ok-found-in-Demo-clause-may
+returns-in_ok-found-in-Demo-clause-may g c =
     let m = making_seen c.in-Demo.making in
     let asked = search_seen c.in-Demo.search in (
       demo m asked,
       rw c.in-Demo.is refl,
-      demo_answers (g.S.Shelf.held c.args.shelf.now) m asked m.size c.in_ok-demonstrate-in-Demo.field-0 (made_size m) c.in_ok-demonstrate-in-Demo.ensures,
+      demo_answers (g.S.Shelf.held c.args.shelf.now) m asked m.size c.in_ok-found-in-Demo.found (made_size m) c.in_ok-found-in-Demo.ensures,
     )
 
-pub returns-in_ok-optimize-in-Optimize-clause-may : goal.returns-in_ok-optimize-in-Optimize-clause-may
-returns-in_ok-optimize-in-Optimize-clause-may g c =
+pub returns-in_ok-instance-in-Optimize-clause-may : goal.returns-in_ok-instance-in-Optimize-clause-may
+returns-in_ok-instance-in-Optimize-clause-may g c =
     let s = solving_of c.in-Optimize.solving in
-    let r = c.in_ok-optimize-in-Optimize.field-0 in
-    let optimized = c.in_ok-optimize-in-Optimize.ensures.optimized in
-    (optimize s, rw c.in-Optimize.is refl, optimize_answers (g.S.Shelf.held c.args.shelf.now) s r.0 r.1 optimized)
+    let r = c.in_ok-instance-in-Optimize in
+    let optimized = c.in_ok-instance-in-Optimize.ensures.optimized in
+    (optimize s, rw c.in-Optimize.is refl, optimize_answers (g.S.Shelf.held c.args.shelf.now) s r.instance r.found optimized)
