@@ -99,6 +99,38 @@ fn worked_instances_are_solved(rt: HostRuntime) -> Result<(), Fail> {
     Ok(())
 }
 
+// What a run over memory, with the files f and g, puts on out where it ends with status 0.
+fn out_of<R: Threads + Sync + Abort>(
+    rt: &R,
+    alloc: Global,
+    words: &[&str],
+    files: (&[u8], &[u8]),
+) -> Result<Vec<u8>, AllocError> {
+    let mut given = Vec::new(alloc);
+    for word in words {
+        given.push(String::from_str(alloc, word)?)?;
+    }
+    let mut held = Vec::new(alloc);
+    held.push(MemFile::new(alloc, "f", files.0)?)?;
+    held.push(MemFile::new(alloc, "g", files.1)?)?;
+    let mut shelf = MemShelf::new(alloc, held);
+    let mut out = MemSink::new(alloc, 2000)?;
+    let mut err = MemSink::new(alloc, 2000)?;
+    let ended = run(rt, alloc, &given, &mut shelf, &mut out, &mut err, &OpenGate);
+    assert_eq!(rt; ended, Status::Done);
+    out.taken().to_vec(alloc)
+}
+
+#[test]
+fn an_optimized_network_is_checked(rt: HostRuntime) -> Result<(), Fail> {
+    let words: &[&str] = &["hub", "optimize", "cab-matrix", "f", "--fixed", "5"];
+    let file = TWO_NODES_FILE.as_bytes();
+    let text = out_of(&rt, rt.alloc(), words, (file, &[]))?;
+    let line = out_of(&rt, rt.alloc(), CHECK, (file, &text))?;
+    assert_eq!(rt; line.as_slice(), OPTIMAL.as_bytes());
+    Ok(())
+}
+
 #[test]
 fn reports_and_made_instances(rt: HostRuntime) -> Result<(), Fail> {
     let report: &[&str] = &["hub", "report", "cab-matrix", "f", "g", "--fixed", "5"];

@@ -206,6 +206,14 @@ fn tells_searches_and_makings(rt: HostRuntime) -> Result<(), Fail> {
             "Search { nodes: Some(2), workers: 64 }",
         ),
         (
+            "hub optimize ap F",
+            "Optimize(Solving { source: Source { layout: AustraliaPost, file: \"F\"",
+        ),
+        (
+            "hub optimize cab-matrix F --nodes 5 --workers 1",
+            "search: Search { nodes: Some(5), workers: 1 }",
+        ),
+        (
             "hub report ap F P",
             "Report(Source { layout: AustraliaPost, file: \"F\"",
         ),
@@ -248,6 +256,10 @@ fn refuses_searches_and_makings(rt: HostRuntime) -> Result<(), Fail> {
         "solve ap F --workers 65",
         "solve ap F --workers=+1",
         "solve ap F --workers 1 --workers 1",
+        "optimize ap F --workers 2",
+        "optimize ap F --nodes 0",
+        "optimize ap",
+        "optimize ap F P",
         "check ap F P --nodes 1",
         "check ap F P --workers 1",
         "report ap F P --nodes 1",
