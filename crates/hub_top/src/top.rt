@@ -109,8 +109,7 @@ fn answer<R: Threads + Sync, S: Shelf, G: Gate>(
             Ok(Intended::Answered(Answer::Solved(solution)))
         }
         Command::Optimize(solving) => {
-            let (instance, found) =
-                optimize(alloc, &solving.source, solving.search.nodes, shelf)?;
+            let (instance, found) = optimize(alloc, &solving.source, solving.search.nodes, shelf)?;
             Ok(Intended::Optimized(instance, found))
         }
         Command::Check(source, certificate) => {
