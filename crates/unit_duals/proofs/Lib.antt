@@ -1,5 +1,6 @@
 pub mod LaterValues
 pub mod LeastNumbers
+pub mod LoweredRows
 pub mod TableCells
 pub mod Listing
 pub mod LegRows

@@ -17,6 +17,7 @@ mod filling;
 mod hops;
 mod legs;
 mod lengths;
+mod lowering;
 mod nearby;
 mod raising;
 mod stretches;
