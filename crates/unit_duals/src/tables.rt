@@ -2,6 +2,7 @@
 
 ghost use Rattle.std.specs.Prelude.{◌≡◌, ℕ, ◌+◌, ◌*◌, ◌<◌, ◌≤◌, length, slice_index, IfOk, vec_len, vec_capacity};
 ghost use Rattle.unit_duals.specs.Limits.{most_room};
+ghost use Rattle.unit_duals.specs.Cells.{IsTable};
 ghost use Rattle.unit_duals.specs.Lengths.{AreLegs, IsLegRow, stops, no_legs, trunk_leg, last_leg};
 ghost use Rattle.unit_duals.specs.Values.{back_leg};
 ghost use Rattle.unit_duals.specs.Nearness.{HoldsNear, IsNoShorterForth, IsNoShorterHome};
@@ -121,6 +122,23 @@ impl Tables {
         ensures { result ≡ self.now.legs.count + x }
     {
         self.count + x
+    }
+
+    /// The legs from stop to stop, row by row.
+    pub(crate) fn trunk(&self) -> &[u64]
+        ensures value { result.now ≡ self.now.legs.trunk }
+        ensures legs { AreLegs self.now.legs }
+    {
+        &self.trunk
+    }
+
+    /// The least lengths from stop to destination, straight or by a hub, row by row.
+    pub(crate) fn back(&self) -> &[u64]
+        ensures long { length result.now ≡ stops self.now.legs * self.now.legs.size }
+        ensures back { let l = self.now.legs in IsTable l.size (λ k j v. v ≡ back_leg l k j) result.now (length result.now) }
+        ensures legs { AreLegs self.now.legs }
+    {
+        &self.back
     }
 
     /// The legs from the stop to each stop.
