@@ -2,6 +2,7 @@ pub mod LaterValues
 pub mod LeastNumbers
 pub mod LoweredRows
 pub mod TableCells
+pub mod TableColumns
 pub mod Listing
 pub mod LegRows
 pub mod FilledTables

@@ -28,6 +28,8 @@ pub struct Tables {
     turned: Vec<u64>,
     last: Vec<u64>,
     back: Vec<u64>,
+    straight: Vec<u64>,
+    column: Vec<u64>,
     forth: NearLists,
     home: NearLists,
 }
@@ -59,6 +61,8 @@ impl Tables {
             turned: Vec::with_capacity(alloc, room * room)?,
             last: Vec::with_capacity(alloc, room * room)?,
             back: Vec::with_capacity(alloc, room * room)?,
+            straight: Vec::with_capacity(alloc, room)?,
+            column: Vec::with_capacity(alloc, room)?,
             forth: NearLists::new(alloc, room)?,
             home: NearLists::new(alloc, room)?,
         })
@@ -78,8 +82,16 @@ impl Tables {
         copy(legs.last(), &mut self.last);
         fit(&mut self.turned, legs.trunk().len(), 0);
         fit(&mut self.back, legs.last().len(), 0);
+        fit(&mut self.straight, legs.stops(), 0);
+        fit(&mut self.column, legs.stops(), 0);
         set_turned(legs, &mut self.turned);
-        set_back(legs, &mut self.back);
+        set_back(
+            legs,
+            &self.turned,
+            &mut self.straight,
+            &mut self.column,
+            &mut self.back,
+        );
         self.forth.set_forth(legs, &self.back);
         self.home.set_home(legs, &self.back);
     }
