@@ -30,13 +30,7 @@ pub(crate) fn lower_by_hubs(
 }
 
 /// Lowers each number to the length from the nearest hub, if there are hubs.
-fn lower_by_nearest(
-    items: &mut [u64],
-    bases: &[u64],
-    table: &[u64],
-    start: usize,
-    hubs: usize,
-)
+fn lower_by_nearest(items: &mut [u64], bases: &[u64], table: &[u64], start: usize, hubs: usize)
     requires hubs { start + hubs ≤ length bases.now }
     requires rows { AreRows (length items.old) bases.now table.now }
     ensures { EndAlike (length items.old) bases.now table.now start hubs items.old items.new }
