@@ -1,12 +1,12 @@
 -- Lengths lowered by one hub after another.
 use Rattle.std.proofs.Common.{◌≡◌, ℕ, ◌+◌, ◌*◌, ◌<◌, ◌≤◌, min, List, length, slice_index, refl, sym, ap, subst, ◌∙◌, ⊎_elim, arith}
 use Rattle.unit_duals.specs.Leasts.{least_of}
-use Rattle.unit_duals.specs.Cells.{cell, IsTable}
-use Rattle.unit_duals.specs.Lengths.{UnitLegs, AreLegs, AreFirstLegs, stops, trunk_leg, last_leg}
+use Rattle.unit_duals.specs.Cells.{IsTable}
+use Rattle.unit_duals.specs.Lengths.{UnitLegs, AreLegs, AreFirstLegs, stops}
 use Rattle.unit_duals.specs.Lowered.{length_from, AreLoweredBy, AreLowered, EndAlike, AreRows}
 use Rattle.unit_duals.specs.Values.{back_leg, reach_leg, price_by}
 use Rattle.unit_duals.proofs.LeastNumbers.{least_of-none, least_of_le_start, least_of_le, least_of_is, least_step, least_same}
-use Rattle.unit_duals.proofs.LegRows.{trunk_leg_limit, last_leg_limit, back_leg_limit}
+use Rattle.unit_duals.proofs.LegRows.{trunk_leg_limit, back_leg_limit}
 use Rattle.unit_duals.proofs.TableCells.{cell_within, row_within}
 
 -- the least is the same where one of the numbers came first

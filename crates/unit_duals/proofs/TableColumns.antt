@@ -1,16 +1,15 @@
 -- A table that is set column by column.
-use Rattle.std.proofs.Common.{◌≡◌, ◌≢◌, ℕ, ◌+◌, ◌*◌, ◌<◌, ◌≤◌, List, length, set, slice_index, refl, sym, subst, ap, ◌∙◌, ⊎_elim, arith}
+use Rattle.std.proofs.Common.{◌≡◌, ℕ, ◌+◌, ◌*◌, ◌<◌, ◌≤◌, List, length, set, slice_index, refl, sym, subst, ◌∙◌, ⊎_elim, arith}
 use Rattle.std.proofs.lemmas.Bool.{cases_lt}
 use Rattle.std.proofs.lemmas.List.{get_or-set_same, get_or-set_other}
 use Rattle.std.proofs.lemmas.Nat.{same_from_place, mul-le}
 use Rattle.unit_duals.specs.Cells.{cell, IsTable}
 use Rattle.unit_duals.specs.Lengths.{UnitLegs, AreLegs, IsLegRow, stops, trunk_leg, last_leg}
-use Rattle.unit_duals.specs.Leasts.{least_of}
 use Rattle.unit_duals.specs.Lowered.{length_from, AreLowered, AreRows}
 use Rattle.unit_duals.specs.Raised.{IsColumnSet}
 use Rattle.unit_duals.specs.Values.{back_leg}
 use Rattle.unit_duals.proofs.LeastNumbers.{least_same}
-use Rattle.unit_duals.proofs.LegRows.{trunk_leg_limit, back_leg_limit, whole_leg_row}
+use Rattle.unit_duals.proofs.LegRows.{trunk_leg_limit}
 use Rattle.unit_duals.proofs.TableCells.{cell_within, row_within}
 
 pub column_none : (n j : ℕ) (value : ℕ → ℕ) (table : List ℕ) → IsColumnSet n 0 j value table table

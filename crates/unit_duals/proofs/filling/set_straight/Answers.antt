@@ -1,4 +1,4 @@
-use Rattle.std.proofs.Common.{◌≡◌, ℕ, ◌+◌, ◌*◌, length, ap, arith}
+use Rattle.std.proofs.Common.{ℕ, ◌+◌, ◌*◌, length, ap, arith}
 use Rattle.unit_duals.specs.Lengths.{stops, last_leg}
 use Rattle.unit_duals.proofs.LegRows.{whole_leg_row, last_leg_limit}
 use Rattle.unit_duals.proofs.TableCells.{cell_within}

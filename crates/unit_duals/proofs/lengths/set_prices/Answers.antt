@@ -1,4 +1,4 @@
-use Rattle.std.proofs.Common.{◌≡◌, ℕ, ◌+◌, ◌<◌, List, length, slice_index, subst, sym, ap, ◌∙◌, arith}
+use Rattle.std.proofs.Common.{◌≡◌, ℕ, ◌+◌, ◌<◌, length, slice_index, sym, ap, ◌∙◌, arith}
 use Rattle.unit_duals.specs.Lowered.{AreLowered}
 use Rattle.unit_duals.specs.Values.{back_leg}
 use Rattle.unit_duals.proofs.LoweredRows.{back_rows, prices_lowered}

@@ -1,4 +1,4 @@
-use Rattle.std.proofs.Common.{◌≡◌, ℕ, List, length, subst, sym, ap, ◌∙◌, arith}
+use Rattle.std.proofs.Common.{◌≡◌, ℕ, List, length, subst, sym, arith}
 use Rattle.unit_duals.specs.Lengths.{stops}
 use Rattle.unit_duals.specs.Lowered.{AreRows, AreLowered}
 use Rattle.unit_duals.specs.Values.{reach_leg}
