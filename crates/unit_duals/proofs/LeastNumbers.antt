@@ -46,3 +46,11 @@ least_step start f x least v next so_far is taken = omega (arith, least_of-more 
 -- .. and at its end has all
 pub least_all : (start : ℕ) (f : ℕ → ℕ) (x k least : ℕ) → least ≡ least_of start f x → x ≡ k → least ≡ least_of start f k
 least_all start f x k least so_far same = subst (λ (n : ℕ). least ≡ least_of start f n) same so_far
+
+-- the same numbers have the same least
+pub least_same : (start other : ℕ) (f g : ℕ → ℕ) (k : ℕ) → start ≡ other → ((x : ℕ) → x < k → f x ≡ g x)
+    → least_of start f k ≡ least_of other g k
+unfolding least_of
+least_same start other f g zero same each = same
+least_same start other f g (suc k) same each =
+    omega (arith, least_same start other f g k same (λ x below. each x (omega (arith, below))), each k (omega arith))

@@ -1,6 +1,8 @@
 pub mod LaterValues
 pub mod LeastNumbers
+pub mod LoweredRows
 pub mod TableCells
+pub mod TableColumns
 pub mod Listing
 pub mod LegRows
 pub mod FilledTables

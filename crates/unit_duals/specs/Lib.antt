@@ -3,6 +3,7 @@ pub mod Cells
 pub mod Lengths
 pub mod LeastValues
 pub mod Leasts
+pub mod Lowered
 pub mod Hops
 pub mod Values
 pub mod Nearness

@@ -52,6 +52,11 @@ pub record IsRowSet (n t upto : ℕ) (value : ℕ → ℕ) (old new : List ℕ) 
   pub here : (j : ℕ) → j < upto → cell n new t j ≡ value j
   pub others : (s j : ℕ) → s ≢ t → j < n → cell n new s j ≡ cell n old s j
 
+-- the column j of the first `rows` rows has these values; no other column changes
+pub record IsColumnSet (n rows j : ℕ) (value : ℕ → ℕ) (old new : List ℕ) : Type 0 where
+  pub here : (k : ℕ) → k < rows → cell n new k j ≡ value k
+  pub others : (k i : ℕ) → i ≢ j → i < n → cell n new k i ≡ cell n old k i
+
 -- n numbers from `at` on have these values; no other number changes
 pub record IsStretchSet (at n : ℕ) (value : ℕ → ℕ) (old new : List ℕ) : Type 0 where
   pub here : (j : ℕ) → j < n → slice_index new (at + j) ≡ value j

@@ -18,6 +18,8 @@ pub record HasRoom (s : Inside) : Type 0 where
   pub turned_room : s.room * s.room ≤ vec_capacity s.turned
   pub last_room : s.room * s.room ≤ vec_capacity s.last
   pub back_room : s.room * s.room ≤ vec_capacity s.back
+  pub straight_room : s.room ≤ vec_capacity s.straight
+  pub column_room : s.room ≤ vec_capacity s.column
   pub forth_starts : vec_len s.forth.starts ≡ s.room * s.room
   pub forth_nodes : s.room * s.room * s.room ≤ 2 * vec_len s.forth.nodes
   pub home_starts : vec_len s.home.starts ≡ s.room * s.room

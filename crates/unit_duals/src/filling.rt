@@ -1,13 +1,13 @@
 //! Tables that are worked out once for a cut.
 
-ghost use Rattle.std.specs.Prelude.{◌≡◌, ◌*◌, ◌<◌, ◌≤◌, length, vec_len, vec_capacity};
+ghost use Rattle.std.specs.Prelude.{◌≡◌, ◌*◌, ◌<◌, ◌≤◌, length, slice_index, vec_len, vec_capacity};
 ghost use Rattle.unit_duals.specs.Cells.{IsTable};
-ghost use Rattle.unit_duals.specs.Lengths.{stops, trunk_leg};
+ghost use Rattle.unit_duals.specs.Lengths.{IsLegRow, stops, trunk_leg, last_leg};
 ghost use Rattle.unit_duals.specs.Values.{back_leg};
-ghost use Rattle.unit_duals.specs.Raised.{IsRowSet};
+ghost use Rattle.unit_duals.specs.Raised.{IsColumnSet};
 
 use crate::Legs;
-use crate::stretches::{lower_stretch, set_stretch};
+use crate::lowering::lower_by_hubs;
 
 /// Gives the vector this length, within its room.
 pub(crate) fn fit<T: Copy + Drop>(items: &mut Vec<T>, len: usize, filler: T)
@@ -43,27 +43,62 @@ pub(crate) fn set_turned(legs: &Legs, turned: &mut [u64])
     }
 }
 
-/// The least length from each stop to each destination, straight or by a hub.
-pub(crate) fn set_back(legs: &Legs, back: &mut [u64])
-    requires { length back.old ≡ stops legs.now * legs.now.size }
+/// The least length from each stop to each destination, straight or by a hub. The lengths to one destination are worked
+/// out in `column`, over the straight ones.
+pub(crate) fn set_back(
+    legs: &Legs,
+    turned: &[u64],
+    straight: &mut [u64],
+    column: &mut [u64],
+    back: &mut [u64],
+)
+    requires turned_long { length turned.now ≡ stops legs.now * stops legs.now }
+    requires turned { IsTable (stops legs.now) (λ k m v. v ≡ trunk_leg legs.now m k) turned.now (length turned.now) }
+    requires straight { length straight.old ≡ stops legs.now }
+    requires column { length column.old ≡ stops legs.now }
+    requires back { length back.old ≡ stops legs.now * legs.now.size }
     ensures { IsTable legs.now.size (λ k j v. v ≡ back_leg legs.now k j) back.new (length back.new) }
 {
-    for k in 0..legs.stops() {
-        set_back_row(legs, back, k);
+    for j in 0..legs.size() {
+        set_straight(legs, j, straight);
+        lower_column(legs, turned, straight, column, j);
+        put_column(column, legs.size(), j, back);
     }
 }
 
-/// The least length from the stop to each destination, straight or by a hub.
-fn set_back_row(legs: &Legs, back: &mut [u64], k: usize)
-    requires stop { k < stops legs.now }
-    requires long { length back.old ≡ stops legs.now * legs.now.size }
-    ensures { IsRowSet legs.now.size k legs.now.size (back_leg legs.now k) back.old back.new }
+/// The lengths from each stop to the destination, straight.
+fn set_straight(legs: &Legs, j: usize, straight: &mut [u64])
+    requires destination { j < legs.now.size }
+    requires long { length straight.old ≡ stops legs.now }
+    ensures { IsLegRow (stops legs.now) (λ k. last_leg legs.now k j) straight.new }
 {
-    let at = k * legs.size();
-    let trunk = legs.trunk_row(k);
-    set_stretch(back, at, 0, legs.last_row(k));
-    for x in 0..legs.hubs() {
-        let m = legs.hub(x);
-        lower_stretch(back, at, trunk[m], legs.last_row(m));
+    let size = legs.size();
+    let last = legs.last();
+    for k in 0..straight.len() {
+        straight[k] = last[k * size + j];
+    }
+}
+
+/// The least lengths from each stop to the destination, by the straight ones.
+fn lower_column(legs: &Legs, turned: &[u64], straight: &[u64], column: &mut [u64], j: usize)
+    requires destination { j < legs.now.size }
+    requires turned_long { length turned.now ≡ stops legs.now * stops legs.now }
+    requires turned { IsTable (stops legs.now) (λ k m v. v ≡ trunk_leg legs.now m k) turned.now (length turned.now) }
+    requires straight { IsLegRow (stops legs.now) (λ k. last_leg legs.now k j) straight.now }
+    requires column { length column.old ≡ stops legs.now }
+    ensures { IsLegRow (stops legs.now) (λ k. back_leg legs.now k j) column.new }
+{
+    column.copy_from_slice(straight);
+    lower_by_hubs(column, straight, turned, legs.count(), legs.hubs());
+}
+
+/// Puts the numbers into the column `j` of a table with `size` columns.
+fn put_column(column: &[u64], size: usize, j: usize, table: &mut [u64])
+    requires column { j < size }
+    requires long { length table.old ≡ length column.now * size }
+    ensures { IsColumnSet size (length column.now) j (slice_index column.now) table.old table.new }
+{
+    for k in 0..column.len() {
+        table[k * size + j] = column[k];
     }
 }

@@ -2,6 +2,7 @@
 
 ghost use Rattle.std.specs.Prelude.{◌≡◌, ℕ, ◌+◌, ◌*◌, ◌<◌, ◌≤◌, length, slice_index, IfOk, vec_len, vec_capacity};
 ghost use Rattle.unit_duals.specs.Limits.{most_room};
+ghost use Rattle.unit_duals.specs.Cells.{IsTable};
 ghost use Rattle.unit_duals.specs.Lengths.{AreLegs, IsLegRow, stops, no_legs, trunk_leg, last_leg};
 ghost use Rattle.unit_duals.specs.Values.{back_leg};
 ghost use Rattle.unit_duals.specs.Nearness.{HoldsNear, IsNoShorterForth, IsNoShorterHome};
@@ -27,6 +28,8 @@ pub struct Tables {
     turned: Vec<u64>,
     last: Vec<u64>,
     back: Vec<u64>,
+    straight: Vec<u64>,
+    column: Vec<u64>,
     forth: NearLists,
     home: NearLists,
 }
@@ -58,6 +61,8 @@ impl Tables {
             turned: Vec::with_capacity(alloc, room * room)?,
             last: Vec::with_capacity(alloc, room * room)?,
             back: Vec::with_capacity(alloc, room * room)?,
+            straight: Vec::with_capacity(alloc, room)?,
+            column: Vec::with_capacity(alloc, room)?,
             forth: NearLists::new(alloc, room)?,
             home: NearLists::new(alloc, room)?,
         })
@@ -77,8 +82,16 @@ impl Tables {
         copy(legs.last(), &mut self.last);
         fit(&mut self.turned, legs.trunk().len(), 0);
         fit(&mut self.back, legs.last().len(), 0);
+        fit(&mut self.straight, legs.stops(), 0);
+        fit(&mut self.column, legs.stops(), 0);
         set_turned(legs, &mut self.turned);
-        set_back(legs, &mut self.back);
+        set_back(
+            legs,
+            &self.turned,
+            &mut self.straight,
+            &mut self.column,
+            &mut self.back,
+        );
         self.forth.set_forth(legs, &self.back);
         self.home.set_home(legs, &self.back);
     }
@@ -121,6 +134,23 @@ impl Tables {
         ensures { result ≡ self.now.legs.count + x }
     {
         self.count + x
+    }
+
+    /// The legs from stop to stop, row by row.
+    pub(crate) fn trunk(&self) -> &[u64]
+        ensures value { result.now ≡ self.now.legs.trunk }
+        ensures legs { AreLegs self.now.legs }
+    {
+        &self.trunk
+    }
+
+    /// The least lengths from stop to destination, straight or by a hub, row by row.
+    pub(crate) fn back(&self) -> &[u64]
+        ensures long { length result.now ≡ stops self.now.legs * self.now.legs.size }
+        ensures back { let l = self.now.legs in IsTable l.size (λ k j v. v ≡ back_leg l k j) result.now (length result.now) }
+        ensures legs { AreLegs self.now.legs }
+    {
+        &self.back
     }
 
     /// The legs from the stop to each stop.

@@ -78,9 +78,8 @@ fn set_row(
     let back = tables.back_row(t);
     let last = tables.last_row(t);
     for j in 0..size {
-        let by_last = prices[j].saturating_sub(first[t] + back[j]);
-        let by_first = prices[j].saturating_sub(reach[t] + last[j]);
-        values[at + j] = by_last.max(by_first);
+        let least = (first[t] + back[j]).min(reach[t] + last[j]);
+        values[at + j] = prices[j].saturating_sub(least);
     }
 }
 

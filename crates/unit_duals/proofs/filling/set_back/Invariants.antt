@@ -1,7 +1,7 @@
-use Rattle.std.proofs.Common.{◌≡◌, ◌*◌}
-use Rattle.unit_duals.specs.Cells.{IsTable}
+use Rattle.unit_duals.specs.Lengths.{stops}
 use Rattle.unit_duals.specs.Values.{back_leg}
+use Rattle.unit_duals.proofs.TableColumns.{AreColumnsSet}
 use Rattle.unit_duals.proofs.filling.set_back.Given as goal
 
-abbrev pub invariant-loop-k : goal.invariant-loop-k
-invariant-loop-k l = IsTable l.legs.size (λ k j v. v ≡ back_leg l.legs k j) l.back (l.k * l.legs.size)
+abbrev pub invariant-loop-j : goal.invariant-loop-j
+invariant-loop-j l = AreColumnsSet l.legs.size (stops l.legs) l.j (back_leg l.legs) l.back

@@ -1,43 +1,35 @@
-use Rattle.std.proofs.Common.{ℕ, ◌+◌, ◌<◌, length, slice_index, sym, ap, ◌∙◌, arith}
-use Rattle.unit_duals.specs.Values.{back_leg, price_by}
-use Rattle.unit_duals.proofs.LeastNumbers.{least_of-none, least_step, least_all}
-use Rattle.unit_duals.proofs.SetStretches.{from_start, lowered_from_start}
+use Rattle.std.proofs.Common.{◌≡◌, ℕ, ◌+◌, ◌<◌, length, slice_index, sym, ap, ◌∙◌, arith}
+use Rattle.unit_duals.specs.Lowered.{AreLowered}
+use Rattle.unit_duals.specs.Values.{back_leg}
+use Rattle.unit_duals.proofs.LoweredRows.{back_rows, prices_lowered}
+use Rattle.unit_duals.proofs.SetStretches.{from_start}
 use Rattle.unit_duals.proofs.lengths.set_prices.Goals as goal
 
-pub loop-x-init : goal.loop-x-init
-loop-x-init c = λ j below.
-    (let l = c.args.tables.now.legs in
-    let first = c.args.first.now in
-    let short : j < length c.back_row.result.now = omega (arith, below, c.back_row.ensures.long) in
-    let on = c.back_row.ensures.each j below in
-    let at_stop = ap (λ (s : ℕ). slice_index first s + back_leg l s j) c.count-count.ensures.value in
-    from_start (length c.back_row.result.now) _ c.args.prices.now c.set_stretch.new.items j short c.set_stretch.ensures
-    ∙ ap (λ (y : ℕ). slice_index first c.count-count.result + y) on ∙ at_stop
-    ∙ sym (least_of-none (slice_index first l.count + back_leg l l.count j)
-    (λ m. slice_index first (l.count + m) + back_leg l (l.count + m) j)))
-
-pub loop-x-preserved : goal.loop-x-preserved
-loop-x-preserved c = λ j below.
-    (let l = c.args.tables.now.legs in
-    let first = c.args.first.now in
-    let m = c.hub-m.result in
-    let row = c.back_row-in-loop-x.result.now in
-    let short : j < length row = omega (arith, below, c.back_row-in-loop-x.ensures.long) in
-    let on = c.back_row-in-loop-x.ensures.each j below in
-    let f : ℕ → ℕ = λ x. slice_index first (l.count + x) + back_leg l (l.count + x) j in
-    let at_stop = ap (λ (s : ℕ). slice_index first s + back_leg l s j) c.hub-m.ensures in
-    let lowered = lowered_from_start (length row) (slice_index first m) row c.loop-x.prices c.lower_stretch.new.items j short c.lower_stretch.ensures in
-    least_step (slice_index first l.count + back_leg l l.count j) f c.loop-x.x (slice_index c.loop-x.prices j)
-    (slice_index first m + slice_index row j) (slice_index c.lower_stretch.new.items j)
-    (c.loop-x.invariant j below) (ap (λ (y : ℕ). slice_index first m + y) on ∙ at_stop) lowered)
+pub lower_by_hubs-requires-clause-rows : goal.lower_by_hubs-requires-clause-rows
+lower_by_hubs-requires-clause-rows c =
+    let l = c.args.tables.now.legs in
+    back_rows l c.args.first.now c.back.result.now (length c.set_stretch.new.items)
+    (omega (arith, c.set_stretch.auto.items, c.requires.long)) c.back.ensures.legs c.requires.first c.back.ensures.long c.back.ensures.back
 
 pub returns : goal.returns
-unfolding price_by
-returns c = record {
-  each = λ j below.
-      (let l = c.args.tables.now.legs in
-      let first = c.args.first.now in
-      least_all (slice_index first l.count + back_leg l l.count j)
-      (λ x. slice_index first (l.count + x) + back_leg l (l.count + x) j) c.loop-x.x l.hubs (slice_index c.loop-x.prices j)
-      (c.loop-x.invariant j below) (omega arith));
-}
+returns c =
+    let l = c.args.tables.now.legs in
+    let first = c.args.first.now in
+    let started = c.set_stretch.new.items in
+    let lowered : AreLowered (length started) first c.back.result.now l.count l.hubs started c.lower_by_hubs.new.items =
+    rw (sym c.count-count.ensures.value, sym c.hubs.ensures.value) c.lower_by_hubs.ensures in
+    record {
+      each = prices_lowered l first c.back.result.now started c.lower_by_hubs.new.items (length started)
+          (omega (arith, c.set_stretch.auto.items, c.requires.long)) c.back.ensures.long c.back.ensures.back start lowered;
+    }
+  where
+    start : (j : ℕ) → j < c.args.tables.now.legs.size
+        → slice_index c.set_stretch.new.items j ≡ slice_index c.args.first.now c.args.tables.now.legs.count + back_leg c.args.tables.now.legs c.args.tables.now.legs.count j
+    start j below =
+        let l = c.args.tables.now.legs in
+        let first = c.args.first.now in
+        let short : j < length c.back_row.result.now = omega (arith, below, c.back_row.ensures.long) in
+        let on = c.back_row.ensures.each j below in
+        let at_stop = ap (λ (s : ℕ). slice_index first s + back_leg l s j) c.count-count.ensures.value in
+        from_start (length c.back_row.result.now) _ c.args.prices.now c.set_stretch.new.items j short c.set_stretch.ensures
+        ∙ ap (λ (y : ℕ). slice_index first c.count-count.result + y) on ∙ at_stop

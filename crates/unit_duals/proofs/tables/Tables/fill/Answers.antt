@@ -60,7 +60,7 @@ invariant_of-self c =
     let turned_long : length turned ≡ stops l * stops l =
     omega (arith, c.set_turned.auto.turned, c.deref_mut.ensures.len, c.fit.ensures.len, trunk_is, c.trunk-2.ensures.legs.trunk_long) in
     let back_long : length back ≡ stops l * l.size =
-    omega (arith, c.set_back.auto.back, c.deref_mut-2.ensures.len, c.fit-2.ensures.len, last_is, c.last-2.ensures.legs.last_long) in
+    omega (arith, c.set_back.auto.back, c.deref_mut-4.ensures.len, c.fit-2.ensures.len, last_is, c.last-2.ensures.legs.last_long) in
     let turned_items = with_items_is c.fit.new.items turned
     (omega (arith, turned_long, c.fit.ensures.len, trunk_is, c.trunk-2.ensures.legs.trunk_long)) in
     let back_items = with_items_is c.fit-2.new.items back
@@ -72,6 +72,8 @@ invariant_of-self c =
       turned_room = omega (arith, old.turned_room, c.fit.ensures.room);
       last_room = omega (arith, old.last_room, c.copy-2.ensures.room);
       back_room = omega (arith, old.back_room, c.fit-2.ensures.room);
+      straight_room = omega (arith, old.straight_room, c.fit-3.ensures.room);
+      column_room = omega (arith, old.column_room, c.fit-4.ensures.room);
       forth_starts = c.set_forth.ensures.starts ∙ old.forth_starts;
       forth_nodes = omega (arith, old.forth_nodes, c.set_forth.ensures.nodes);
       home_starts = c.set_home.ensures.starts ∙ old.home_starts;
@@ -82,6 +84,6 @@ invariant_of-self c =
     (omega (arith, c.requires.size, room)) (omega (arith, c.requires.stops, room)) c.trunk.ensures.legs turned_long back_long
     c.set_turned.ensures c.set_back.ensures
     (subst (λ (xs : List ℕ). AreNearLists l.size l.count (IsFarForth l xs) l.count c.set_forth.new.self.starts.items c.set_forth.new.self.nodes.items)
-    (c.deref.ensures.value ∙ back_items) c.set_forth.ensures.lists)
+    (c.deref-2.ensures.value ∙ back_items) c.set_forth.ensures.lists)
     (subst (λ (xs : List ℕ). AreNearLists l.size l.count (IsFarHome l xs) l.count c.set_home.new.self.starts.items c.set_home.new.self.nodes.items)
-    (c.deref-2.ensures.value ∙ back_items) c.set_home.ensures.lists)
+    (c.deref-3.ensures.value ∙ back_items) c.set_home.ensures.lists)
