@@ -1,16 +1,15 @@
 -- One more cut: the definition's state once the set is separated.
-use Rattle.std.proofs.Common.{◌≡◌, ℕ, ℤ, pos, ◌+◌, ◌<◌, ◌≤◌, List, [], ◌∷◌, ◌++◌, length, map, All, Option, Result, Ok, Err, IsOk, OnOk, true≢false, Vec, Global, refl, ap, ap₂, sym, subst, ◌∙◌, arith}
+use Rattle.std.proofs.Common.{◌≡◌, ℕ, ℤ, pos, ◌+◌, ◌<◌, ◌≤◌, List, [], ◌∷◌, ◌++◌, length, Option, Result, Ok, Err, IsOk, OnOk, true≢false, Vec, Global, refl, ap, ap₂, sym, subst, ◌∙◌, arith}
 use Rattle.std.proofs.lemmas.List.{map-append, length_push}
 use Rattle.std.proofs.lemmas.List.Elements.{All-push}
 use Rattle.hub_spec.specs.Limits.{most_cuts}
 use Rattle.hub_spec.specs.Problem.{Problem, IsProblem, opening_cost}
 use Rattle.hub_spec.specs.Plans.{IsHubSet}
-use Rattle.hub_spec.specs.Cuts.{Cut, total}
-use Rattle.hub_spec.specs.Separation.{IsOrder, set_cut}
+use Rattle.hub_spec.specs.Cuts.{Cut}
+use Rattle.hub_spec.specs.Separation.{set_cut}
 use Rattle.hub_model.specs.Amounts.{natural}
 use Rattle.hub_model.specs.declared.tree_lines.TreeLine.{TreeLine}
 use Rattle.cut_pool.specs.Entries.{Sums, Entry, entry_of}
-use Rattle.search_spec.specs.States.{State}
 use Rattle.search_spec.specs.Steps.{separated}
 use Rattle.search_spec.specs.Choices.{set_cost, rule_parts}
 use Rattle.search_spec.proofs.SetCosts.{set_cost_by_sums}

@@ -7,11 +7,10 @@ use Rattle.hub_spec.specs.Problem.{Problem, IsProblem}
 use Rattle.hub_spec.specs.Plans.{plan_cost, NoPlanBelow}
 use Rattle.hub_spec.specs.Cuts.{Cut}
 use Rattle.hub_spec.specs.Trees.{Tree, branch, leaf, empty, TreeLine, preorder, line_count}
-use Rattle.hub_spec.specs.Certificates.{Proof}
 use Rattle.hub_spec.proofs.SumLemmas.{by_test}
 use Rattle.hub_model.specs.Amounts.{natural}
 use Rattle.hub_model.specs.Lines.{tree_line_of}
-use Rattle.search_spec.specs.States.{Parts, State, Grown, is_stopped, answer}
+use Rattle.search_spec.specs.States.{State, Grown, is_stopped, answer}
 use Rattle.search_spec.specs.Steps.{begun}
 use Rattle.search_spec.specs.Laws.{AreSound, IsStart}
 use Rattle.search_spec.specs.Choices.{rule}
@@ -23,7 +22,6 @@ use Rattle.search_spec.proofs.LeastRoutes.{certificate_is_one_lem}
 use Rattle.search_steps.specs.Advising.{master_advising}
 use Rattle.search_steps.proofs.MasterNumbers.{advising_sound}
 use Rattle.branch_tree.specs.declared.found.Found.{Found}
-use Rattle.branch_tree.specs.Views.{lines_of}
 use Rattle.branch_tree.specs.Findings.{parts_of, found_by, IsFound, proof_of, IsProved}
 
 -- the state that a search begins with

@@ -1,5 +1,5 @@
 -- The leaves of the rule, and the order that a full leaf's set is separated over.
-use Rattle.std.proofs.Common.{◌≡◌, ℕ, ◌+◌, ℤ, not, refl, List, length, Contains, Option, Some, None, ⊎_elim, ap, sym, ◌∙◌, true≢false}
+use Rattle.std.proofs.Common.{◌≡◌, ℕ, ◌+◌, ℤ, not, refl, List, length, Contains, Some, None, ⊎_elim, ap, sym, ◌∙◌, true≢false}
 use Rattle.std.specs.List.Sorted.{IsStrictlyIncreasing}
 use Rattle.std.proofs.lemmas.List.{length-map, length_push}
 use Rattle.std.proofs.lemmas.List.Elements.{All-contains}

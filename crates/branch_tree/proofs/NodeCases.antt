@@ -1,11 +1,11 @@
 -- What the rule does at a branch, by the tests that the code makes.
-use Rattle.std.proofs.Common.{◌≡◌, ℕ, zero, suc, ◌+◌, ◌-◌, ◌<◌, ◌≤◌, Bool, true, false, ◌&&◌, nat_eq, List, [], ◌∷◌, length, Option, Some, None, is_some, if◌then◌else◌, refl, ap, ap₂, sym, ◌∙◌, eq-eqb, true≢false, arith}
+use Rattle.std.proofs.Common.{◌≡◌, ℕ, zero, suc, ◌+◌, ◌-◌, ◌≤◌, Bool, true, false, ◌&&◌, nat_eq, List, [], ◌∷◌, length, Option, Some, None, is_some, refl, ap, ap₂, sym, ◌∙◌, eq-eqb, true≢false, arith}
 use Rattle.std.proofs.lemmas.Bool.{eqb-true, false_from_ne_true}
 use Rattle.hub_spec.specs.Problem.{Problem, IsProblem}
 use Rattle.hub_spec.specs.Plans.{IsHubSet}
 use Rattle.hub_spec.specs.Trees.{Branching, root, open_child, closed_child, IsBranch, branch, empty}
 use Rattle.hub_spec.proofs.SumLemmas.{by_test}
-use Rattle.search_spec.specs.States.{State, Advice, Parts, Grown, Handling, is_stopped}
+use Rattle.search_spec.specs.States.{State, Advice, Parts, Handling, is_stopped}
 use Rattle.search_spec.specs.Steps as steps
 use Rattle.search_spec.specs.Steps.{bound_at, closes_at, may_split, two_more, child_on, with_leaf, stopped_leaf, full_on, ended, halved, fixed, parted, handled, round, rounds, after_rounds, node, searched, begun}
 use Rattle.search_spec.specs.Laws.{GoesOn}

@@ -3,7 +3,6 @@ use Rattle.std.proofs.Common.{◌≡◌, ◌≤◌, ℕ, ℤ, Bool, true, false,
 use Rattle.hub_spec.specs.Problem.{Problem}
 use Rattle.hub_spec.specs.Trees.{Branching}
 use Rattle.search_spec.specs.States.{State, Advice, number_in_pool}
-use Rattle.search_spec.specs.Steps as steps
 use Rattle.search_spec.specs.Steps.{better, closes_at, separated, round}
 use Rattle.search_spec.specs.Choices.{rule_parts, picked, order_by_point, by_falling, others}
 use Rattle.search_spec.proofs.StepCases.{round_over, round_new}

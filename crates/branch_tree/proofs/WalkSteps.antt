@@ -1,11 +1,11 @@
 -- The lines of a branch and of its children, and the fixings that are still to be made.
-use Rattle.std.proofs.Common.{◌≡◌, ◌≢◌, ℕ, ◌+◌, ◌-◌, ◌<◌, ◌≤◌, List, [], ◌∷◌, ◌++◌, length, get_or, take, drop, All, Contains, Option, refl, ap, ap₂, sym, subst, ◌∙◌, append_assoc, arith}
+use Rattle.std.proofs.Common.{◌≡◌, ◌≢◌, ℕ, ◌+◌, ◌-◌, ◌<◌, ◌≤◌, List, [], ◌∷◌, ◌++◌, length, get_or, take, drop, All, Contains, Option, refl, ap, sym, ◌∙◌, append_assoc, arith}
 use Rattle.std.specs.List.Sorted.{IsStrictlyIncreasing}
 use Rattle.std.proofs.lemmas.List.{take_all}
 use Rattle.std.proofs.lemmas.List.Elements.{All-head, All-tail}
 use Rattle.hub_spec.specs.Problem.{Problem}
 use Rattle.hub_spec.specs.Cuts.{Cut}
-use Rattle.hub_spec.specs.Trees.{Branching, Tree, branch, leaf, TreeLine, branch_on, preorder}
+use Rattle.hub_spec.specs.Trees.{Branching, branch, leaf, TreeLine, branch_on, preorder}
 use Rattle.hub_fixing.specs.declared.sides.Side as code
 use Rattle.hub_fixing.specs.declared.sides.Side.TheVariants.{In}
 use Rattle.hub_spec.proofs.Ascending.{without_keeps}
@@ -16,7 +16,7 @@ use Rattle.search_steps.specs.Weights.{side_as, sides_as}
 use Rattle.branch_tree.specs.declared.task.Task.{Task}
 use Rattle.branch_tree.specs.declared.progress.Progress.{Progress}
 use Rattle.branch_tree.specs.Views.{lines_of}
-use Rattle.branch_tree.specs.Progressing.{state_of, IsGoing, HasLine, IsDone}
+use Rattle.branch_tree.specs.Progressing.{state_of, HasLine, IsDone}
 use Rattle.branch_tree.specs.Walking.{AreOnFree}
 use Rattle.branch_tree.proofs.AddedLines.{line_kept, line_state}
 

@@ -1,15 +1,15 @@
 -- The start of a search, and its end.
-use Rattle.std.proofs.Common.{◌≡◌, ℕ, ◌+◌, ◌≤◌, ℤ, pos, SFits, to_z, of_z, to_z-of_z, false, not, List, [], ◌∷◌, length, filter, All, Option, None, Some, Vec, Global, refl, ap, ap₂, sym, subst, ◌∙◌, rules, arith}
+use Rattle.std.proofs.Common.{◌≡◌, ℕ, ◌≤◌, ℤ, pos, SFits, to_z, of_z, to_z-of_z, false, not, List, [], ◌∷◌, length, filter, Option, None, Some, Vec, Global, refl, ap, ap₂, sym, subst, ◌∙◌, rules, arith}
 use mir.Syntax.{w128}
 use Rattle.std.specs.List.{AllZip}
 use Rattle.std.proofs.lemmas.List.{length-map}
 use Rattle.std.proofs.lemmas.List.Elements.{All-nil, All-cons, All-contains_itself}
-use Rattle.hub_spec.specs.Limits.{most_cost, most_cuts, most_tree_lines}
+use Rattle.hub_spec.specs.Limits.{most_cost, most_tree_lines}
 use Rattle.hub_spec.specs.Problem.{Problem, IsProblem, commodities}
 use Rattle.hub_spec.specs.Plans.{Plan, IsHubSet, IsLeastRoute}
 use Rattle.hub_spec.specs.Cuts.{Cut}
 use Rattle.hub_spec.specs.Separation.{IsOrder}
-use Rattle.hub_spec.specs.Trees.{TreeLine, preorder}
+use Rattle.hub_spec.specs.Trees.{preorder}
 use Rattle.hub_spec.proofs.Limits.{plan_cost_limit}
 use Rattle.hub_spec.proofs.Sets.{filter_same}
 use Rattle.hub_model.specs.declared.tree_lines.TreeLine as model

@@ -1,5 +1,5 @@
 -- What the code of a search has at each step, as the definition's state, and what came of a step.
-use Rattle.std.specs.Prelude.{◌≡◌, ℕ, ◌+◌, ◌*◌, ◌≤◌, List, [], ◌∷◌, ◌++◌, length, Option}
+use Rattle.std.specs.Prelude.{◌≡◌, ℕ, ◌+◌, ◌*◌, ◌≤◌, [], ◌∷◌, ◌++◌, length, Option}
 use Rattle.hub_spec.specs.Limits.{most_cost, most_cuts, most_tree_lines}
 use Rattle.hub_spec.specs.Problem.{Problem}
 use Rattle.hub_spec.specs.Plans.{IsHubSet}

@@ -1,11 +1,11 @@
 -- Rough rows and short copies of columns: what their sums tell of the numbers of the variables.
-use Rattle.std.proofs.Common.{◌≡◌, ℕ, zero, suc, ◌+◌, ◌-◌, ◌*◌, ◌^◌, ◌<◌, ◌≤◌, false, List, [], ◌∷◌, length, get_or, set, take, sum, ℤ, pos, ◌+ℤ◌, ◌-ℤ◌, ◌*ℤ◌, ◌≤ℤ◌, int_lt, unsigned_abs, sym, ap, subst, ◌∙◌, arith}
+use Rattle.std.proofs.Common.{◌≡◌, ℕ, zero, suc, ◌+◌, ◌-◌, ◌*◌, ◌^◌, ◌<◌, ◌≤◌, false, List, [], ◌∷◌, length, get_or, set, take, drop, sum, ℤ, pos, ◌+ℤ◌, ◌-ℤ◌, ◌*ℤ◌, ◌≤ℤ◌, int_lt, unsigned_abs, sym, ap, subst, ◌∙◌, arith}
 use Rattle.std.specs.Int.{w32, int_wrap, is_negative}
 use borrow.Author.Count.{below_more}
 use borrow.Rule.Slice.PartMut.{put_mid}
 use Rattle.std.proofs.Math.Nat.{mul-le-mul, mul-le-mul_left}
 use Rattle.std.proofs.lemmas.Int.{ints, unsigned_abs-mul, int_wrap_fits, fits_signed_from_abs}
-use Rattle.std.proofs.lemmas.List.{ext_get_or, get_or-set_same, get_or-set_other}
+use Rattle.std.proofs.lemmas.List.{get_or-take, get_or-drop, ext_get_or, get_or-set_same, get_or-set_other}
 use Rattle.std.proofs.lemmas.List.Sums.{sum_by-cons}
 use Rattle.std.proofs.lemmas.List.FromFn.{length-map-range_with_len, get_or-map-range_with_len}
 use Rattle.frac_rows.specs.Rows.{widest, number}
@@ -223,6 +223,9 @@ rough_within x p r z d n product rest size most =
     omega (arith, same, most)
 
 -- ---- products that are added
+
+pub block_at : (row : List ℤ) (first l : ℕ) → l < 32 → number (take 32 (drop first row)) l ≡ number row (first + l)
+block_at row first l low = get_or-take 32 (drop first row) l (pos 0) low ∙ get_or-drop first row l (pos 0)
 
 pub products_done : (old sums row : List ℤ) (first i : ℕ) (factor z : ℤ) → i < length sums
     → ((l : ℕ) → l < i → number sums l ≡ int_wrap w32 (number old l +ℤ factor *ℤ number row (first + l)))

@@ -6,10 +6,7 @@ ghost use Rattle.frac_rows.specs.Stored.{extended, pieces, reach, AreColumns};
 ghost use Rattle.frac_rows.specs.Sketches.{IsSketch, IsRough, is_below, NoneBelow, IsFirstBelow, AreTelling};
 
 use crate::columns::entry_of;
-use crate::sketches::{MOST_ROWS, Sketch, least, rough_sums, roughen};
-
-/// How many columns are summed side by side.
-pub(crate) const LANES: usize = 32;
+use crate::sketches::{LANES, MOST_ROWS, Sketch, full_sums, least, rough_sums, roughen};
 
 /// The least column before v with a number below 0 in the whole row.
 pub(crate) fn first_negative_of(
@@ -144,6 +141,10 @@ fn first_in_block(
     ensures none { IsNone result → NoneBelow numbers.now row.now first last }
     ensures some { IfSome result (IsFirstBelow numbers.now row.now first last) }
 {
+    if last - first == LANES {
+        let sums = full_sums(&sketch.rows, variables, first, rough);
+        return first_told(numbers, variables, row, sketch.margin, first, last, &sums);
+    }
     let mut room = [0i32; LANES];
     let sums = &mut room[..last - first];
     rough_sums(&sketch.rows, variables, first, rough, sums);

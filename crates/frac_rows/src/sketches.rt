@@ -1,6 +1,6 @@
 //! Short copies of the columns of the variables, side by side, by which sums of products are told about.
 
-ghost use Rattle.std.specs.Prelude.{◌≡◌, ℕ, ◌+◌, ◌-◌, ◌*◌, ◌^◌, ◌<◌, ◌≤◌, ◌+ℤ◌, ◌-ℤ◌, ◌*ℤ◌, ◌≤ℤ◌, pos, length, min, sum, unsigned_abs, FitsSigned, IsTrue, IfOk, IfSome};
+ghost use Rattle.std.specs.Prelude.{◌≡◌, ℕ, ◌+◌, ◌-◌, ◌*◌, ◌^◌, ◌<◌, ◌≤◌, ◌+ℤ◌, ◌-ℤ◌, ◌*ℤ◌, ◌≤ℤ◌, pos, length, take, drop, min, sum, unsigned_abs, FitsSigned, IsTrue, IfOk, IfSome};
 ghost use Rattle.std.specs.Int.{w32, int_wrap};
 ghost use Rattle.frac_rows.specs.Rows.{widest, number};
 ghost use Rattle.frac_rows.specs.Stored.{dot, reach, piece, AreColumns};
@@ -14,6 +14,9 @@ use std::alloc::{AllocError, Global};
 
 /// The most rows of a short copy.
 pub(crate) const MOST_ROWS: usize = 256;
+
+/// How many columns are summed side by side.
+pub(crate) const LANES: usize = 32;
 
 // The most that the sizes of a column of a short copy may be together.
 const MOST_MARGIN: u64 = 1 << 30;
@@ -174,12 +177,57 @@ fn clear(sums: &mut [i32])
     }
 }
 
+#[inline(always)]
 fn short_row(rows: &[i32], variables: usize, k: usize) -> &[i32]
     requires { k * variables + variables ≤ length rows.now }
     ensures value { result.now ≡ piece variables rows.now k }
     ensures long { length result.now ≡ variables }
 {
     &rows[k * variables..k * variables + variables]
+}
+
+/// The same sums for as many columns as are summed side by side. It stays a function of its own in the compiled
+/// program, where the sums then need no memory until they are done.
+#[inline(never)]
+pub(crate) fn full_sums(rows: &[i32], variables: usize, first: usize, rough: &[i32]) -> [i32; LANES]
+    requires long { length rows.now ≡ length rough.now * variables }
+    requires within { first + 32 ≤ variables }
+    ensures long { length result ≡ 32 }
+    ensures sums { (l : ℕ) → l < 32 → number result l
+        ≡ int_wrap w32 (dot rough.now (standing rows.now variables (length rough.now) (first + l))) }
+{
+    let mut sums = [0i32; LANES];
+    clear(&mut sums);
+    for k in 0..rough.len() {
+        add_block(&mut sums, rough[k], short_row(rows, variables, k), first);
+    }
+    sums
+}
+
+// Adds the products of the factor and as many of the row's numbers from `first` on.
+#[inline(always)]
+fn add_block(sums: &mut [i32; LANES], factor: i32, row: &[i32], first: usize)
+    requires within { first + 32 ≤ length row.now }
+    requires fit { (l : ℕ) → l < 32 → FitsSigned w32 (number sums.old l) }
+    ensures { (l : ℕ) → l < 32 → number sums.new l
+        ≡ int_wrap w32 (number sums.old l +ℤ factor *ℤ number row.now (first + l)) }
+{
+    if factor == 0 {
+        return;
+    }
+    let block = block_of(row, first);
+    for l in 0..LANES {
+        sums[l] = wrapped_32(sums[l], factor, block[l]);
+    }
+}
+
+#[inline(always)]
+fn block_of(row: &[i32], first: usize) -> &[i32]
+    requires { first + 32 ≤ length row.now }
+    ensures value { result.now ≡ take 32 (drop first row.now) }
+    ensures long { length result.now ≡ 32 }
+{
+    &row[first..first + LANES]
 }
 
 // Adds the products of the factor and the row's numbers from `first` on.
@@ -197,6 +245,7 @@ fn add_products(sums: &mut [i32], factor: i32, row: &[i32], first: usize)
     }
 }
 
+#[inline(always)]
 fn wrapped_32(sum: i32, a: i32, b: i32) -> i32
     ensures { result ≡ int_wrap w32 (sum +ℤ a *ℤ b) }
 {

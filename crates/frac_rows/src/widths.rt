@@ -7,9 +7,8 @@ ghost use Rattle.frac_rows.specs.Sketches.{IsSketch, IsRough, number_of, NoneWid
 
 use crate::limits::WIDEST;
 use crate::parts::part;
-use crate::pricing::LANES;
 use crate::products::{dot_128, reach};
-use crate::sketches::{MOST_ROWS, Sketch, greatest_size, rough_sums, roughen};
+use crate::sketches::{LANES, MOST_ROWS, Sketch, full_sums, greatest_size, rough_sums, roughen};
 
 /// Whether a number of the whole row before those that are kept is too great.
 ///
@@ -137,10 +136,16 @@ fn wide_in_block(
     ensures none { IsFalse result → NoneWide numbers.now row.now first last }
     ensures some { IsTrue result → SomeWide numbers.now row.now variables }
 {
+    let margin = sketch.margin.unsigned_abs();
+    if last - first == LANES {
+        let sums = full_sums(&sketch.rows, variables, first, rough);
+        return wide_told(
+            numbers, tops, variables, row, margin, most, first, last, &sums,
+        );
+    }
     let mut room = [0i32; LANES];
     let sums = &mut room[..last - first];
     rough_sums(&sketch.rows, variables, first, rough, sums);
-    let margin = sketch.margin.unsigned_abs();
     wide_told(
         numbers, tops, variables, row, margin, most, first, last, sums,
     )

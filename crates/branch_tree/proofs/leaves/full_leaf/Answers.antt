@@ -1,11 +1,9 @@
-use Rattle.std.proofs.Common.{◌≡◌, ℕ, None, ◌+◌, length, List, ◌∷◌, [], refl, ap, sym, ◌∙◌, rules, arith}
+use Rattle.std.proofs.Common.{◌≡◌, None, ◌+◌, length, ◌∷◌, [], ap, sym, ◌∙◌, rules, arith}
 use Rattle.std.proofs.lemmas.Result.{on_ok_weaker}
-use Rattle.std.proofs.lemmas.List.{length-map}
 use Rattle.hub_spec.specs.Trees.{leaf, TreeLine}
 use Rattle.hub_model.specs.Lines.{tree_line_of}
-use Rattle.search_spec.specs.States.{denominator, whole_on, number_in_pool}
+use Rattle.search_spec.specs.States.{denominator, whole_on}
 use Rattle.search_spec.specs.Steps.{separated}
-use Rattle.search_steps.specs.Pools.{entry_cut, pool_cuts}
 use Rattle.branch_tree.specs.Findings.{parts_of}
 use Rattle.branch_tree.specs.Progressing.{state_of}
 use Rattle.branch_tree.proofs.AddedLines.{line_done, line_at, done_as}

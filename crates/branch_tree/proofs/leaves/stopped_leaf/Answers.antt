@@ -1,4 +1,4 @@
-use Rattle.std.proofs.Common.{ℕ, ap, sym, List, [], ◌∷◌, ◌∙◌, Some, FitsSigned, rules, arith}
+use Rattle.std.proofs.Common.{ℕ, ap, sym, [], ◌∷◌, ◌∙◌, Some, FitsSigned, rules, arith}
 use Rattle.std.specs.Int.{w128}
 use Rattle.std.proofs.lemmas.Int.{to_z-of_z}
 use Rattle.std.proofs.lemmas.Result.{on_ok_weaker}

@@ -1,7 +1,7 @@
 use Rattle.std.proofs.Common.{◌≡◌, ℕ, ℤ, pos, true, false, is_some, Option, List, length, get_or, inl, inr, refl, ap, sym, ◌∙◌, arith}
 use Rattle.search_spec.specs.States.{number_in_pool}
 use Rattle.search_spec.specs.Steps.{better, closes_at}
-use Rattle.search_spec.specs.Choices.{picked, others, by_falling}
+use Rattle.search_spec.specs.Choices.{others, by_falling}
 use Rattle.frac_master.specs.Advice.{advice_of_code}
 use Rattle.search_steps.specs.Advising.{told_by}
 use Rattle.search_steps.specs.Weights.{pairs_of}

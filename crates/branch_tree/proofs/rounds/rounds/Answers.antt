@@ -4,7 +4,6 @@ use Rattle.search_spec.specs.Steps.{rounds, round}
 use Rattle.search_steps.specs.Weights.{pairs_of}
 use Rattle.branch_tree.specs.Findings.{parts_of}
 use Rattle.branch_tree.specs.Progressing.{state_of}
-use Rattle.branch_tree.specs.Rounding.{round_as, IsRound}
 use Rattle.branch_tree.proofs.NodeCases.{two_rounds}
 use Rattle.branch_tree.proofs.rounds.rounds.Goals as goal
 

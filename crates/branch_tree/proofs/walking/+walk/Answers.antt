@@ -1,7 +1,7 @@
-use Rattle.std.proofs.Common.{◌≡◌, ◌≤◌, ◌+◌, ◌-◌, ℕ, ℤ, true, false, List, [], ◌∷◌, length, All, Contains, refl, ap, sym, subst, ◌∙◌, rules, arith}
+use Rattle.std.proofs.Common.{◌≡◌, ◌+◌, ◌-◌, ℕ, ℤ, List, ◌∷◌, length, refl, ap, sym, subst, ◌∙◌, rules, arith}
 use Rattle.std.proofs.lemmas.Result.{on_ok_weaker}
 use Rattle.hub_spec.specs.Plans.{IsHubSet}
-use Rattle.hub_spec.specs.Trees.{Branching, open_child, closed_child, IsBranch, branch_on, empty, no_hub, leaf}
+use Rattle.hub_spec.specs.Trees.{Branching, IsBranch, branch_on, empty, no_hub, leaf}
 use Rattle.hub_spec.proofs.ChildLists.{open_branch, closed_branch}
 use Rattle.hub_fixing.specs.declared.sides.Side as code
 use Rattle.frac_master.specs.Advice.{advice_of_code}
