@@ -167,7 +167,7 @@ fn is_covered_in_units(
     if first + legs.delivery_legs(j)[x] < price {
         return false;
     }
-    first + last >= price || first + least_rest(legs.trunk_legs(x), near) >= price
+    first + last >= price || are_beyond(price - first, legs.trunk_legs(x), near)
 }
 
 /// Sets the ends of the last hubs that not every first hub covers, and gives their number: each place, with its leg of
@@ -246,17 +246,17 @@ fn least_end(legs: &[u64], units: &[u64]) -> u64
     least
 }
 
-/// What a leg of trunk and the near end of its place are together at least.
-fn least_rest(trunk: &[u64], near: &[(usize, u64)]) -> u64
+/// Tells whether a leg of trunk and the near end of its place are together never less than the bound.
+fn are_beyond(bound: u64, trunk: &[u64], near: &[(usize, u64)]) -> bool
     requires trunk { All (λ d. d ≤ most_leg) trunk.now }
     requires places { All (λ e. e.0 < length trunk.now) near.now }
     requires ends { All (λ e. e.1 ≤ 2 * most_unit) near.now }
-    ensures least { All (λ e. result ≤ slice_index trunk.now e.0 + e.1) near.now }
-    ensures limit { result ≤ most_unit }
+    ensures { IsTrue result → All (λ e. bound ≤ slice_index trunk.now e.0 + e.1) near.now }
 {
-    let mut least = MOST_UNIT;
     for (y, end) in near {
-        least = least.min(trunk[*y] + *end);
+        if trunk[*y] + *end < bound {
+            return false;
+        }
     }
-    least
+    true
 }
