@@ -3,3 +3,4 @@ pub mod UnitCovers
 pub mod SetPlaces
 pub mod HeldLines
 pub mod DualByAmounts
+pub mod NearEnds

@@ -1,6 +1,7 @@
 //! The tables of an instance, made once.
 
 ghost use Rattle.std.specs.Prelude.{◌≡◌, ℕ, ◌+◌, ◌*◌, ◌<◌, ◌≤◌, length, slice_index, IfOk};
+ghost use Rattle.hub_spec.specs.Limits.{most_nodes};
 ghost use Rattle.hub_spec.specs.Problem.{IsProblem};
 ghost use Rattle.unit_duals.specs.Cells.{cell};
 ghost use Rattle.unit_duals.specs.Lengths.{IsLegRow};
@@ -68,7 +69,8 @@ impl<'a> CandidateLegs<'a> {
 
     /// The number of candidates.
     pub(crate) fn places(&self) -> usize
-        ensures { result ≡ length self.now.candidates }
+        ensures value { result ≡ length self.now.candidates }
+        ensures limit { result ≤ most_nodes }
     {
         self.places
     }

@@ -4,20 +4,23 @@
 //! covered in the costs that are listed, and a hub that is not is left to the exact test. Lengths, prices and values by
 //! unit of flow are in 10^-6.
 
-ghost use Rattle.std.specs.Prelude.{◌≡◌, ℕ, ◌+◌, ◌*◌, ◌^◌, ◌<◌, ◌≤◌, ◌↔◌, length, slice_index, IsTrue, IfSome, All};
+ghost use Rattle.std.specs.Prelude.{◌≡◌, ℕ, ◌+◌, ◌*◌, ◌^◌, ◌<◌, ◌≤◌, ◌↔◌, length, slice_index, IsTrue, IfSome, All, take};
 ghost use Rattle.hub_spec.specs.Limits.{most_flow};
 ghost use Rattle.hub_spec.specs.Problem.{flow};
 ghost use Rattle.hub_spec.specs.Ranges.{IsAmount};
 ghost use Rattle.unit_duals.specs.Limits.{most_leg};
 ghost use Rattle.dual_lines.specs.Legs.{candidate_at};
 ghost use Rattle.dual_lines.specs.Covers.{IsCoveredFirst};
-ghost use Rattle.dual_lines.specs.Units.{most_unit, AreUnits, IsNearest, IsCoveredInUnits};
+ghost use Rattle.dual_lines.specs.Units.{most_unit, AreUnits, IsNearestFirst, IsNearestLast, AreNearEnds, IsCoveredInUnits};
 
 use crate::amounts::{Priced, is_covered_by_amounts, is_covered_first};
 use crate::tables::CandidateLegs;
 
 /// What a price or a value by unit of flow is cut to. No route is as long.
 const MOST_UNIT: u64 = 100_000_000_000_000_000;
+
+/// The most candidates that an instance has.
+const MOST_PLACES: usize = 200;
 
 /// Tells whether the price is covered with each candidate as the first hub. `amounts` has a value for each node,
 /// `units` for each place by unit of flow.
@@ -94,9 +97,13 @@ fn is_covered_by_units(
     ensures { IsTrue result
         ↔ All (IsCoveredFirst legs.now (line.from, line.to) line.price amounts.now) legs.now.candidates }
 {
-    let nearest = nearest_end(legs, line.to, units);
-    for x in 0..legs.places() {
-        if !is_place_covered(legs, line, price, nearest, amounts, units, x) {
+    let places = legs.places();
+    let last = nearest_last(legs, line.to, units);
+    let mut ends = [(0, 0); MOST_PLACES];
+    let count = set_near_ends(legs, line.from, line.to, price, units, &mut ends);
+    let near = &ends[..count];
+    for x in 0..places {
+        if !is_place_covered(legs, line, price, last, near, amounts, units, x) {
             return false;
         }
     }
@@ -108,7 +115,8 @@ fn is_place_covered(
     legs: &CandidateLegs,
     line: Priced,
     price: u64,
-    nearest: u64,
+    last: u64,
+    near: &[(usize, u64)],
     amounts: &[u128],
     units: &[u64],
     x: usize,
@@ -117,14 +125,15 @@ fn is_place_covered(
     requires to { line.to < legs.now.size }
     requires price { line.price ≤ flow legs.now line.from line.to * price }
     requires limit { price ≤ most_unit }
-    requires near { IsNearest legs.now line.to units.now nearest }
+    requires last { IsNearestLast legs.now line.to units.now last }
+    requires near { AreNearEnds legs.now (line.from, line.to) price units.now near.now }
     requires long { length amounts.now ≡ legs.now.size }
     requires short { All IsAmount amounts.now }
     requires units { AreUnits legs.now (flow legs.now line.from line.to) (slice_index amounts.now) units.now }
     requires place { x < length legs.now.candidates }
     ensures { IsTrue result ↔ IsCoveredFirst legs.now (line.from, line.to) line.price amounts.now (candidate_at legs.now x) }
 {
-    if is_covered_in_units(legs, line.from, line.to, price, nearest, units, x) {
+    if is_covered_in_units(legs, line.from, line.to, price, last, near, units, x) {
         return true;
     }
     let instance = legs.instance();
@@ -132,62 +141,122 @@ fn is_place_covered(
 }
 
 /// Tells, by unit of flow, that the price is covered with the candidate at the place as the first hub. It may be, too,
-/// where this says no. Where collection and the nearest end cover the price, no last hub is visited.
+/// where this says no. Where collection and the nearest last end cover the price, no last hub is visited, and else
+/// only those that are near.
 fn is_covered_in_units(
     legs: &CandidateLegs,
     i: u32,
     j: u32,
     price: u64,
-    nearest: u64,
+    last: u64,
+    near: &[(usize, u64)],
     units: &[u64],
     x: usize,
 ) -> bool
     requires from { i < legs.now.size }
     requires to { j < legs.now.size }
     requires limit { price ≤ most_unit }
-    requires near { IsNearest legs.now j units.now nearest }
+    requires last { IsNearestLast legs.now j units.now last }
+    requires near { AreNearEnds legs.now (i, j) price units.now near.now }
     requires long { length units.now ≡ length legs.now.candidates }
     requires short { All (λ v. v ≤ most_unit) units.now }
     requires place { x < length legs.now.candidates }
     ensures { IsTrue result → IsCoveredInUnits legs.now (i, j) price units.now x }
 {
     let first = legs.collection_legs(i)[x] + units[x];
-    let delivery = legs.delivery_legs(j);
-    if first + delivery[x] < price {
+    if first + legs.delivery_legs(j)[x] < price {
         return false;
     }
-    first + nearest >= price || first + least_rest(legs.trunk_legs(x), delivery, units) >= price
+    first + last >= price || are_beyond(price - first, legs.trunk_legs(x), near)
+}
+
+/// Sets the ends of the last hubs that not every first hub covers, and gives their number: each place, with its leg of
+/// delivery and its value together.
+fn set_near_ends(
+    legs: &CandidateLegs,
+    i: u32,
+    j: u32,
+    price: u64,
+    units: &[u64],
+    ends: &mut [(usize, u64)],
+) -> usize
+    requires from { i < legs.now.size }
+    requires to { j < legs.now.size }
+    requires limit { price ≤ most_unit }
+    requires long { length units.now ≡ length legs.now.candidates }
+    requires short { All (λ v. v ≤ most_unit) units.now }
+    requires room { length legs.now.candidates ≤ length ends.old }
+    ensures count { result ≤ length ends.new }
+    ensures near { AreNearEnds legs.now (i, j) price units.now (take result ends.new) }
+{
+    let first = nearest_first(legs, i, units);
+    let delivery = legs.delivery_legs(j);
+    let mut count = 0;
+    for y in 0..delivery.len() {
+        let end = delivery[y] + units[y];
+        ends[count] = (y, end);
+        count += is_near(first, end, price);
+    }
+    count
+}
+
+/// 1 where the ends together do not cover the price, else 0: a number, so that no branch is taken for it.
+fn is_near(first: u64, end: u64, price: u64) -> usize
+    requires first { first ≤ most_unit }
+    requires end { end ≤ 2 * most_unit }
+    ensures one { first + end < price → result ≡ 1 }
+    ensures none { price ≤ first + end → result ≡ 0 }
+    ensures limit { result ≤ 1 }
+{
+    (first + end < price) as usize
 }
 
 /// What a leg of delivery and the value of its place are together at least.
-fn nearest_end(legs: &CandidateLegs, j: u32, units: &[u64]) -> u64
+fn nearest_last(legs: &CandidateLegs, j: u32, units: &[u64]) -> u64
     requires to { j < legs.now.size }
     requires long { length units.now ≡ length legs.now.candidates }
     requires short { All (λ v. v ≤ most_unit) units.now }
-    ensures { IsNearest legs.now j units.now result }
+    ensures { IsNearestLast legs.now j units.now result }
 {
-    let delivery = legs.delivery_legs(j);
+    least_end(legs.delivery_legs(j), units)
+}
+
+/// What a leg of collection and the value of its place are together at least.
+fn nearest_first(legs: &CandidateLegs, i: u32, units: &[u64]) -> u64
+    requires from { i < legs.now.size }
+    requires long { length units.now ≡ length legs.now.candidates }
+    requires short { All (λ v. v ≤ most_unit) units.now }
+    ensures { IsNearestFirst legs.now i units.now result }
+{
+    least_end(legs.collection_legs(i), units)
+}
+
+/// What a leg and the value of its place are together at least.
+fn least_end(legs: &[u64], units: &[u64]) -> u64
+    requires long { length units.now ≡ length legs.now }
+    requires legs { All (λ d. d ≤ most_leg) legs.now }
+    requires short { All (λ v. v ≤ most_unit) units.now }
+    ensures least { (y : ℕ) → y < length legs.now → result ≤ slice_index legs.now y + slice_index units.now y }
+    ensures limit { result ≤ most_unit }
+{
     let mut least = MOST_UNIT;
-    for y in 0..delivery.len() {
-        least = least.min(delivery[y] + units[y]);
+    for y in 0..legs.len() {
+        least = least.min(legs[y] + units[y]);
     }
     least
 }
 
-/// What a leg of trunk, one of delivery and the value of their place are together at least.
-fn least_rest(trunk: &[u64], delivery: &[u64], units: &[u64]) -> u64
-    requires delivery { length delivery.now ≡ length trunk.now }
-    requires units { length units.now ≡ length trunk.now }
-    requires trunk_limit { All (λ d. d ≤ most_leg) trunk.now }
-    requires delivery_limit { All (λ d. d ≤ most_leg) delivery.now }
-    requires short { All (λ v. v ≤ most_unit) units.now }
-    ensures least { (y : ℕ) → y < length trunk.now
-        → result ≤ slice_index trunk.now y + slice_index delivery.now y + slice_index units.now y }
-    ensures limit { result ≤ most_unit }
+/// Tells whether a leg of trunk and the near end of its place are together never less than the bound.
+fn are_beyond(bound: u64, trunk: &[u64], near: &[(usize, u64)]) -> bool
+    requires trunk { All (λ d. d ≤ most_leg) trunk.now }
+    requires places { All (λ e. e.0 < length trunk.now) near.now }
+    requires ends { All (λ e. e.1 ≤ 2 * most_unit) near.now }
+    ensures { IsTrue result → All (λ e. bound ≤ slice_index trunk.now e.0 + e.1) near.now }
 {
-    let mut least = MOST_UNIT;
-    for y in 0..trunk.len() {
-        least = least.min(trunk[y] + delivery[y] + units[y]);
+    for (y, end) in near {
+        if trunk[*y] + *end < bound {
+            return false;
+        }
     }
-    least
+    true
 }

@@ -1,3 +1,4 @@
+<<<<<<< HEAD
 //! Tests: certificates checked line by line.
 //!
 //! - `trees`: of `tree_lines`
@@ -5,3 +6,12 @@
 
 #[cfg(test)]
 mod trees;
+=======
+//! Tests: lines of a certificate, tried one by one.
+//!
+//! - `duals`: of `dual_lines`
+#![tactic(auto)]
+
+#[cfg(test)]
+mod duals;
+>>>>>>> fb36e4fcd9c63a770541e9e9b52c519bc32d47ef

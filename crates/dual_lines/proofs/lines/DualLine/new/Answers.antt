@@ -13,13 +13,13 @@ pub overflow_cast-count : goal.overflow_cast-count
 overflow_cast-count c =
     let p = c.args.instance.now in
     let same = ap (λ (q : Problem). length q.candidates) (c.in_ok-legs.ensures) in
-    fits c.places-count.result (omega (arith, c.places-count.ensures, same, few_places p c.size-nodes.ensures.problem, c.size-nodes.ensures.problem.size_limit))
+    fits c.places-count.result (omega (arith, c.places-count.ensures.value, same, few_places p c.size-nodes.ensures.problem, c.size-nodes.ensures.problem.size_limit))
 
 pub invariant_of-result-2 : goal.invariant_of-result-2
 invariant_of-result-2 c =
     let p = c.args.instance.now in
     let same : c.legs.inside.instance.now ≡ p = c.legs.view_is ∙ c.in_ok-legs.ensures in
-    let count : c.places-count.result ≡ length p.candidates = c.places-count.ensures ∙ ap (λ (q : Problem). length q.candidates) (c.in_ok-legs.ensures) in
+    let count : c.places-count.result ≡ length p.candidates = c.places-count.ensures.value ∙ ap (λ (q : Problem). length q.candidates) (c.in_ok-legs.ensures) in
     let none = c.in_ok-with_capacity.ensures.items in
     let places_are = with_items_is c.in_ok-places.places c.set_places.new.places (omega (arith, c.set_places.auto.places, c.deref_mut.ensures.len)) in
     rw same (record {
