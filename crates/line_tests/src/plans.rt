@@ -78,18 +78,24 @@ fn take_routes(sums: &mut PlanSums, instance: &Instance, routes: &[(u32, u32)]) 
     true
 }
 
+// The sums of the row's plan, once each commodity has a route.
+fn whole(alloc: Global, row: &Row) -> Result<PlanSums, Fail> {
+    let (case, hubs, routes, _) = row;
+    let instance = instance(alloc, case)?;
+    let mut sums = with_hubs(alloc, &instance, hubs)?;
+    if sums.is_whole() || !take_routes(&mut sums, &instance, routes) || !sums.is_whole() {
+        return Err(Fail::new("routes that are no plan's"));
+    }
+    Ok(sums)
+}
+
 #[test]
 fn costs_by_hand(rt: HostRuntime) -> Result<(), Fail> {
-    for (case, hubs, routes, cost) in ROWS {
-        let instance = instance(rt.alloc(), &case)?;
-        let mut sums = with_hubs(rt.alloc(), &instance, hubs)?;
-        assert!(rt; !sums.is_whole());
-        assert!(rt; take_routes(&mut sums, &instance, routes));
-        assert!(rt; sums.is_whole());
-        assert_eq!(rt; sums.cost(), cost * 1_000_000_000_000);
+    for row in &ROWS {
+        let mut sums = whole(rt.alloc(), row)?;
+        assert_eq!(rt; sums.cost(), row.3 * 1_000_000_000_000);
         sums.restart();
-        assert!(rt; !sums.has_hub(1));
-        assert_eq!(rt; sums.cost(), 0);
+        assert_eq!(rt; (sums.cost(), sums.has_hub(1)), (0, false));
     }
     Ok(())
 }
@@ -97,13 +103,10 @@ fn costs_by_hand(rt: HostRuntime) -> Result<(), Fail> {
 #[test]
 fn hubs_and_candidates(rt: HostRuntime) -> Result<(), Fail> {
     let second = instance(rt.alloc(), &SECOND_OF_TWO)?;
-    assert!(rt; !is_candidate(&second, 0));
-    assert!(rt; is_candidate(&second, 1));
-    assert!(rt; !is_candidate(&second, 2));
     let sums = with_hubs(rt.alloc(), &second, &[1])?;
-    assert!(rt; !sums.has_hub(0));
-    assert!(rt; sums.has_hub(1));
-    assert!(rt; !sums.has_hub(4_000_000_000));
-    assert_eq!(rt; sums.cost(), 5_000_000_000_000);
+    for (k, is_one) in [(0, false), (1, true), (2, false), (4_000_000_000, false)] {
+        assert_eq!(rt; is_candidate(&second, k), is_one);
+        assert_eq!(rt; sums.has_hub(k), is_one);
+    }
     Ok(())
 }
