@@ -1,18 +1,19 @@
 -- Steps down a tree: the branches that they lead to, and a step taken and taken back.
-use Rattle.std.proofs.Common.{◌≡◌, ℕ, ◌+◌, ◌<◌, Bool, true, false, cond, List, [], ◌∷◌, ◌++◌, length, reverse, Contains, nat_eq, nat_lt, refl, sym, ap, subst, ◌∙◌, ⊎_elim, eqb-true, arith}
+use Rattle.std.proofs.Common.{◌≡◌, ℕ, ◌+◌, ◌<◌, Bool, true, false, cond, List, [], ◌∷◌, ◌++◌, length, reverse, Contains, nat_eq, nat_lt, refl, sym, ap, subst, ◌∙◌, ⊎_elim, inr, eqb-true, arith}
 use Rattle.std.specs.List.Sorted.{IsStrictlyIncreasing}
 use Rattle.std.proofs.lemmas.Bool.{eqb-false}
 use Rattle.hub_spec.specs.Sums.{with_node, without}
-use Rattle.hub_spec.specs.Trees.{Branching, IsSplit}
+use Rattle.hub_spec.specs.Trees.{Branching, IsSplit, IsBranch}
 use Rattle.hub_spec.proofs.SumLemmas.{by_test, Contains-cons_cases, nil_contains_none}
 use Rattle.hub_spec.proofs.Sets.{Contains-head, Contains-later, ascend_tail, ascend_head}
 use Rattle.hub_spec.proofs.Ascending.{ascend_nil, in_without, with_node_has, without_lacks}
-use Rattle.hub_spec.proofs.ChildLists.{open_split, closed_split}
+use Rattle.hub_spec.proofs.ChildLists.{open_split, closed_split, open_branch, closed_branch}
+use Rattle.hub_spec.specs.Problem.{Problem}
 use Rattle.tree_lines.specs.declared.trails.Step.{Step}
 use Rattle.std.proofs.lemmas.List.{reverse-append, length-reverse}
-use Rattle.std.proofs.lemmas.List.Elements.{All-contains}
+use Rattle.std.proofs.lemmas.List.Elements.{All-contains, All-contains_itself, All-nil}
 use Rattle.node_marks.specs.Marks.{marked}
-use Rattle.tree_lines.specs.Trails.{undecided, child, branch_at, AreSteps, trail_of, trail_end, IsKept}
+use Rattle.tree_lines.specs.Trails.{undecided, child, branch_at, AreSteps, trail_of, trail_end, IsKept, IsReached}
 use Rattle.node_marks.proofs.Marking.{with_node-front, with_node-behind, without-head, without-behind, length-without}
 
 -- ---- a node put in again, and taken out again
@@ -186,3 +187,28 @@ is_inside_now candidates before step size inside free last opened =
     let ks = (branch_at candidates (reverse before)).inside in
     let here : marked inside ≡ with_node step.node ks = last.inside_marks ∙ ap (λ (b : Bool). cond b (with_node step.node ks) ks) opened in
     subst (λ (ms : List ℕ). Contains ms step.node) (sym here) (with_node_has step.node ks)
+
+-- ---- the branches of a problem
+
+undecided_branch : (p : Problem) → IsStrictlyIncreasing p.candidates → IsBranch p (undecided p.candidates)
+undecided_branch p up = record {
+  split = undecided_split p.candidates up;
+  all = λ k c. inr (inr c);
+  inside_are = All-nil (Contains p.candidates);
+  outside_are = All-nil (Contains p.candidates);
+  free_are = All-contains_itself p.candidates;
+}
+
+child_branch : (p : Problem) (b : Branching) (node : ℕ) (opened : Bool) → IsBranch p b → Contains b.free node
+    → IsBranch p (child b (record { node = node; opened = opened }))
+child_branch p b node true ok free = open_branch p b node ok free
+child_branch p b node false ok free = closed_branch p b node ok free
+
+way_branch : (p : Problem) (steps : List Step) → IsStrictlyIncreasing p.candidates → AreSteps p.candidates steps
+    → IsBranch p (branch_at p.candidates steps)
+way_branch p [] up are = undecided_branch p up
+way_branch p (step ∷ before) up are =
+    child_branch p (branch_at p.candidates before) step.node step.opened (way_branch p before up are.1) are.0
+
+pub reached_branch : (p : Problem) (b : Branching) → IsReached p.candidates b → IsBranch p b
+reached_branch p b reached = subst (IsBranch p) (sym reached.is) (way_branch p reached.steps reached.ascend reached.are_steps)

@@ -25,6 +25,7 @@ pending_on true trail = []
 pending_on false trail =
     branch_at trail.candidates trail.steps ∷ left_behind trail.candidates trail.steps
 
+-- a path on this way
 abbrev pub path_of : Bool → Trail → Pending
 path_of is_filled trail =
     record { size = trail.size; candidates = trail.candidates; pending = pending_on is_filled trail }

@@ -54,3 +54,10 @@ pub record IsKept (trail : Trail) (inside free : List Bool) : Type 0 where
   pub are_steps : AreSteps trail.candidates trail.steps
   pub inside_marks : marked inside ≡ (trail_end trail).inside
   pub free_marks : marked free ≡ (trail_end trail).free
+
+-- the branch comes from the one where nothing is decided by these steps
+pub record IsReached (candidates : List ℕ) (b : Branching) : Type 0 where
+  pub ascend : IsStrictlyIncreasing candidates
+  pub steps : List Step
+  pub are_steps : AreSteps candidates steps
+  pub is : b ≡ branch_at candidates steps

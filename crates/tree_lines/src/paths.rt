@@ -3,7 +3,7 @@
 ghost use Rattle.std.specs.Prelude.{◌≡◌, ◌≢◌, ◌↔◌, [], ◌∷◌, length, IsTrue, IfOk, Contains};
 ghost use Rattle.hub_spec.specs.Trees.{root, open_child, closed_child, IsClosed};
 ghost use Rattle.node_marks.specs.Marks.{marked};
-ghost use Rattle.tree_lines.specs.Trails.{undecided};
+ghost use Rattle.tree_lines.specs.Trails.{undecided, IsReached};
 ghost use Rattle.tree_lines.specs.Paths.{next, behind_next};
 
 use crate::trails::{Step, Trail};
@@ -90,7 +90,7 @@ impl TreePath {
         });
     }
 
-    /// Fills the next branch. The way goes back to its last step into an open child, and from there into the closed one.
+    /// Fills the next branch. The way goes back to its last step into an open child, and goes into the closed one.
     pub fn fill(&mut self)
         requires { self.old.pending ≢ [] }
         ensures { self.new ≡ record self.old { pending = behind_next self.old.pending } }
@@ -112,6 +112,7 @@ impl TreePath {
         requires { self.now.pending ≢ [] }
         ensures size { length result.now ≡ self.now.size }
         ensures nodes { marked result.now ≡ (next self.now.pending).inside }
+        ensures reached { IsReached self.now.candidates (next self.now.pending) }
     {
         self.trail.inside()
     }

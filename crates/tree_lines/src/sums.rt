@@ -3,7 +3,7 @@
 ghost use Rattle.std.specs.Prelude.{◌≡◌, ◌≢◌, ℕ, ◌+◌, ◌-◌, ◌*◌, ◌^◌, ◌≤◌, ◌<◌, ◌↔◌, [], length, slice_index, sum_by, IsTrue, IfOk, All};
 ghost use Rattle.hub_spec.specs.Limits.{most_nodes, most_cost, most_denominator, most_fixed_cost};
 ghost use Rattle.hub_spec.specs.Problem.{fixed_cost};
-ghost use Rattle.hub_spec.specs.Trees.{Closes};
+ghost use Rattle.hub_spec.specs.Trees.{Closes, IsBranch};
 ghost use Rattle.hub_spec.specs.Ranges.{IsShort};
 ghost use Rattle.node_marks.specs.Marks.{marked};
 ghost use Rattle.tree_lines.specs.Paths.{next};
@@ -77,13 +77,15 @@ impl LeafSums {
         self.weight += weight;
     }
 
-    /// Tells whether the bound of the path's next branch by these sums closes the target.
+    /// Tells whether the bound of the path's next branch by these sums closes the target. On a path of the instance that
+    /// branch is one of its problem's.
     pub fn closes(&self, path: &TreePath, instance: &Instance, target: u128) -> bool
         requires some { path.now.pending ≢ [] }
         requires nodes { path.now.size ≡ instance.now.size }
         requires loads { length self.now.loads ≡ instance.now.size }
         requires target { IsShort target }
-        ensures { IsTrue result ↔ Closes self.now.denom target (tally_bound instance.now self.now (next path.now.pending)) }
+        ensures closes { IsTrue result ↔ Closes self.now.denom target (tally_bound instance.now self.now (next path.now.pending)) }
+        ensures branch { path.now.candidates ≡ instance.now.candidates → IsBranch instance.now (next path.now.pending) }
     {
         let inside = path.inside();
         let costs = weighted_costs(instance, self.denom, inside);

@@ -3,7 +3,7 @@
 ghost use Rattle.std.specs.Prelude.{◌≡◌, ◌↔◌, [], ◌∷◌, length, IsTrue, IfOk, MatchOption, Contains};
 ghost use Rattle.hub_spec.specs.Trees.{IsClosed};
 ghost use Rattle.node_marks.specs.Marks.{marked};
-ghost use Rattle.tree_lines.specs.Trails.{trail_end};
+ghost use Rattle.tree_lines.specs.Trails.{trail_end, IsReached};
 
 use hub_model::Instance;
 use node_marks::NodeMarks;
@@ -87,6 +87,7 @@ impl Trail {
     pub(crate) fn inside(&self) -> &[bool]
         ensures size { length result.now ≡ self.now.size }
         ensures nodes { marked result.now ≡ (trail_end self.now).inside }
+        ensures reached { IsReached self.now.candidates (trail_end self.now) }
     {
         self.inside.marks()
     }
