@@ -1,9 +1,9 @@
 -- A network with its least routes, cuts that fit, and a leaf without weights is a certificate with the bound 0.
-use Rattle.std.proofs.Common.{◌≡◌, ℕ, ◌<◌, ◌≤◌, List, [], ◌∷◌, length, All, refl, sym, ap, ◌∙◌, arith}
+use Rattle.std.proofs.Common.{◌≡◌, ℕ, ◌≤◌, [], length, All, refl, ◌∙◌, arith}
 use Rattle.std.specs.List.{AllZip}
 use Rattle.std.proofs.lemmas.Int.{ints}
 use Rattle.std.proofs.lemmas.List.{length-map}
-use Rattle.std.proofs.lemmas.List.Elements.{All-nil, All-cons, All-weaker, All-map, AllZip-get_or}
+use Rattle.std.proofs.lemmas.List.Elements.{All-nil, All-cons, All-weaker, All-map, All-contains_itself, AllZip-get_or}
 use Rattle.std.proofs.lemmas.Slice.Zip.{AllZip-long}
 use Rattle.hub_spec.specs.Problem.{Problem, IsProblem, commodities}
 use Rattle.hub_spec.specs.Plans.{IsHubSet, IsLeastRoute, IsPlan, plan_cost}
@@ -23,6 +23,9 @@ use Rattle.closed_tests.specs.Leaves.{unweighed}
 
 abbrev bare : Tree
 bare = leaf 1000000 []
+
+pub all_candidates : (p : Problem) → IsProblem p → IsHubSet p p.candidates
+all_candidates p ok = record { some_hub = ok.some_candidate; ascend = ok.candidates_ascend; are_candidates = All-contains_itself p.candidates }
 
 -- what such a network has
 pub record IsMade (p : Problem) (found : Network) : Type 0 where

@@ -1,8 +1,7 @@
 //! Networks of all candidates with two cuts and the bound 0, as text, and a put that fails.
 
-ghost use Rattle.std.specs.Prelude.{◌≡◌, ◌≤◌, [], ◌∷◌, length, All, IfOk};
-ghost use Rattle.hub_spec.specs.Plans.{IsHubSet};
-ghost use Rattle.hub_model.specs.Lines.{tree_line_of};
+ghost use Rattle.std.specs.Prelude.{◌≡◌, ◌≤◌, length, All, IfOk};
+ghost use Rattle.hub_plain.specs.Assignments.{plan_of};
 ghost use Rattle.kept_cuts.specs.Kept.{IsKeptFor};
 ghost use Rattle.kept_cuts.specs.Networks.{IsProved, lines_of};
 ghost use Rattle.closed_tests.specs.Leaves.{unweighed};
@@ -44,13 +43,6 @@ leaf 1000000
 end
 ";
 
-// The set of all candidates.
-fn candidates(alloc: Global, instance: &Instance) -> Result<HubSet, AllocError>
-    ensures { IfOk result (IsHubSet instance.now) }
-{
-    HubSet::of(alloc, instance.candidates())
-}
-
 // The cut of no values, and that of the first candidate alone. Their sums are left out: no text says them.
 fn kept(alloc: Global, instance: &Instance) -> Result<KeptCuts, AllocError>
     ensures fit { IfOk result (λ k. All (IsKeptFor instance.now) k.cuts) }
@@ -77,18 +69,27 @@ fn leaf(alloc: Global) -> Result<Vec<TreeLine>, AllocError>
     Ok(lines)
 }
 
+// The plan of these hubs and routes.
+fn plan(alloc: Global, hubs: &HubSet, routes: Vec<(u32, u32)>) -> Result<Plan, AllocError>
+    ensures { IfOk result (λ plan. plan ≡ plan_of hubs.now routes.items) }
+{
+    let members = hubs.members().to_vec(alloc)?;
+    Ok(Plan::new(members, routes))
+}
+
 // All candidates as hubs, with the least routes, the two cuts, and a tree that shows the bound 0.
 fn network(alloc: Global, instance: &Instance) -> Result<Network, AllocError>
     ensures { IfOk result (IsProved instance.now) }
 {
-    let hubs = candidates(alloc, instance)?;
+    let hubs = HubSet::of(alloc, instance.candidates())?;
     let assignment = assign(alloc, instance, &hubs)?;
+    let plan = plan(alloc, &hubs, assignment.routes)?;
     let cuts = kept(alloc, instance)?;
     let tree = leaf(alloc)?;
     Ok(Network {
         cost: unsigned(assignment.cost),
         bound: 0,
-        plan: Plan::new(hubs.members().to_vec(alloc)?, assignment.routes),
+        plan,
         cuts,
         tree,
     })
