@@ -7,6 +7,7 @@ ghost use Rattle.hub_spec.specs.Separation.{IsOrder, set_cut};
 ghost use Rattle.value_cuts.specs.Values.{AreValuesFor, value_cut};
 ghost use Rattle.kept_cuts.specs.Kept.{kept_of, by_values};
 ghost use Rattle.closing_search.specs.SingleCuts.{AreLoads};
+ghost use Rattle.closing_search.specs.Benches.{IsPricingFor};
 
 use hub_model::{Branch, HubSet, Instance};
 use kept_cuts::KeptCut;
@@ -18,6 +19,47 @@ use value_cuts::{CandidateLegs, PriceScratch, Values};
 
 /// So many memories of duals there are at most. Each takes four bytes for each commodity and place.
 const MOST_MEMORIES: u32 = 2;
+
+/// The values that the adviser gave last, and the prices and loads of their cut.
+#[derive(Debug, Drop)]
+pub(crate) struct Pricing {
+    pub(crate) values: Values,
+    pub(crate) prices: Vec<u64>,
+    pub(crate) loads: Vec<u128>,
+    pub(crate) scratch: PriceScratch,
+}
+
+impl Pricing {
+    // Values of 0, in the adviser's unit, as far as a small number holds it.
+    fn new(alloc: Global, tables: &CandidateLegs, unit: u64) -> Result<Pricing, AllocError>
+        ensures { IfOk result (IsPricingFor tables.now) }
+    {
+        let size = tables.instance().size() as usize;
+        let unit = u32::try_from(unit).unwrap_or(u32::MAX);
+        Ok(Pricing {
+            values: Values::new(alloc, tables.instance(), unit)?,
+            prices: vec![in alloc; 0; size * size]?,
+            loads: vec![in alloc; 0; size]?,
+            scratch: PriceScratch::new(alloc, tables)?,
+        })
+    }
+}
+
+/// Marks by place, for the adviser: the sides of a branch, and the hubs of a set.
+#[derive(Debug, Drop)]
+struct Places {
+    sides: Vec<Side>,
+    hubs: Vec<bool>,
+}
+
+impl Places {
+    fn new(alloc: Global, places: usize) -> Result<Places, AllocError> {
+        Ok(Places {
+            sides: vec![in alloc; Side::Free; places]?,
+            hubs: vec![in alloc; false; places]?,
+        })
+    }
+}
 
 /// The adviser, the values that it gave last, the loads of the cut that was worked out last, and room to work in.
 #[derive(Debug, Drop)]
@@ -49,7 +91,7 @@ impl<'a> Bench<'a> {
     {
         let tables = CandidateLegs::new(alloc, instance)?;
         let adviser = Adviser::new(alloc, instance)?;
-        let pricing = Pricing::new(alloc, &tables, &adviser)?;
+        let pricing = Pricing::new(alloc, &tables, adviser.unit())?;
         let sets = Scratch::new(alloc, instance)?;
         let places = Places::new(alloc, instance.candidates().len())?;
         Ok(Bench {
@@ -69,13 +111,14 @@ impl<'a> Bench<'a> {
         ensures fit { AreValuesFor self.new.problem self.new.values }
         ensures sums { AreLoads self.new.problem (value_cut self.new.problem self.new.values) result self.new.loads }
     {
-        copy_values(self.adviser.values(), self.values.rows_mut());
+        let pricing = &mut self.pricing;
+        copy_values(self.adviser.values(), pricing.values.rows_mut());
         value_cuts::cut_sums(
             &self.tables,
-            &self.values,
-            &mut self.pricing,
-            &mut self.prices,
-            &mut self.loads,
+            &pricing.values,
+            &mut pricing.scratch,
+            &mut pricing.prices,
+            &mut pricing.loads,
         )
     }
 
@@ -83,7 +126,7 @@ impl<'a> Bench<'a> {
     pub(crate) fn kept_values(&self, alloc: Global) -> Result<KeptCut, AllocError>
         ensures { IfOk result (λ cut. kept_of cut ≡ by_values self.now.values) }
     {
-        Ok(KeptCut::Values(self.values.copy(alloc)?))
+        Ok(KeptCut::Values(self.pricing.values.copy(alloc)?))
     }
 
     /// The total of the cut of the hub set over the order. It takes no memory.
@@ -94,14 +137,14 @@ impl<'a> Bench<'a> {
         ensures sums { AreLoads self.new.problem (set_cut self.new.problem set.now order.now) result self.new.loads }
     {
         let instance = self.tables.instance();
-        pareto_cuts::cut_sums(&mut self.sets, instance, set, order, &mut self.loads)
+        pareto_cuts::cut_sums(&mut self.sets, instance, set, order, &mut self.pricing.loads)
     }
 
     /// The load of each node in the cut that was worked out last, in 10^-12.
     pub(crate) fn loads(&self) -> &[u128]
         ensures { result.now ≡ self.now.loads }
     {
-        &self.loads
+        &self.pricing.loads
     }
 
     /// Goes to the branch. A guess is made from the hubs.
@@ -109,9 +152,9 @@ impl<'a> Bench<'a> {
         ensures { self.new ≡ self.old }
     {
         let candidates = self.tables.instance().candidates();
-        set_sides(candidates, branch, &mut self.sides);
-        set_marks(candidates, hubs.members(), &mut self.marks);
-        self.adviser.enter(&self.sides, &self.marks);
+        set_sides(candidates, branch, &mut self.places.sides);
+        set_marks(candidates, hubs.members(), &mut self.places.hubs);
+        self.adviser.enter(&self.places.sides, &self.places.hubs);
     }
 
     /// Tells whether a pass is worth its time, where the bound is to come to this, in 10^-12.
