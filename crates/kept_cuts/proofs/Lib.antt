@@ -1,1 +1,3 @@
-
+pub mod Amounts
+pub mod KeptCutLaws
+pub mod KeptMore

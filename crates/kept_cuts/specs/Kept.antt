@@ -1,5 +1,5 @@
 -- The cuts that a search keeps, by what their duals are made from.
-use Rattle.std.specs.Prelude.{◌≡◌, ℕ, ◌-◌, ◌≤◌, List, [], map, length, All}
+use Rattle.std.specs.Prelude.{◌≡◌, ℕ, ◌-◌, List, [], map, All}
 use Rattle.std.specs.List.{range_with_len, slice_index_or}
 use Rattle.hub_spec.specs.Problem.{Problem}
 use Rattle.hub_spec.specs.Plans.{IsHubSet}

@@ -1,6 +1,5 @@
 -- What the columns of kept cuts stand for.
-use Rattle.std.specs.Prelude.{◌≡◌, ◌≤◌, length, map, All, pos}
-use Rattle.hub_spec.specs.Limits.{most_cost}
+use Rattle.std.specs.Prelude.{◌≡◌, length, map, All}
 use Rattle.hub_model.specs.Amounts.{natural, IsNatural}
 use Rattle.kept_cuts.specs.Kept.{KeptList, kept_of}
 use Rattle.kept_cuts.specs.declared.kept.KeptCuts.TheInside.{Inside}

@@ -1,5 +1,5 @@
 -- What a search found, as a certificate.
-use Rattle.std.specs.Prelude.{◌≡◌, ℕ, List, length, map, All}
+use Rattle.std.specs.Prelude.{◌≡◌, List, length, map, All}
 use Rattle.hub_spec.specs.Problem.{Problem}
 use Rattle.hub_spec.specs.Trees.{Tree, TreeLine, preorder}
 use Rattle.hub_spec.specs.Certificates.{Proof, Holds}

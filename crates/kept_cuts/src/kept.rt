@@ -62,9 +62,9 @@ impl KeptCuts {
         requires loads { All (λ l. l ≤ most_cost) loads.now }
         ensures number { IfOk result (λ c. c ≡ length self.old.cuts + 1) }
         ensures kept { OnOk result (self.new ≡ record {
-            cuts = self.old.cuts ++ kept_of cut ∷ [];
-            totals = self.old.totals ++ total ∷ [];
-            loads = self.old.loads ++ loads.now ∷ [];
+          cuts = self.old.cuts ++ kept_of cut ∷ [];
+          totals = self.old.totals ++ total ∷ [];
+          loads = self.old.loads ++ loads.now ∷ [];
         }) }
         ensures refused { OnErr result (self.new ≡ self.old) }
     {
