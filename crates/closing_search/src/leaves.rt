@@ -1,6 +1,6 @@
 //! The leaves of the tree.
 
-ghost use Rattle.std.specs.Prelude.{◌≡◌, ◌≤◌, [], ◌∷◌, pos, length, ◌≤ℤ◌, IfOk, IfSome, OnOk, is_some, true};
+ghost use Rattle.std.specs.Prelude.{◌≡◌, ◌≤◌, [], ◌∷◌, pos, length, ◌≤ℤ◌, ◌⊎◌, IfOk, IfSome, OnOk};
 ghost use Rattle.hub_spec.specs.Plans.{IsHubSet};
 ghost use Rattle.hub_spec.specs.Trees.{IsBranch, leaf_of, leaf_bound, cut_at};
 ghost use Rattle.hub_model.specs.Lines.{tree_line_of};
@@ -123,23 +123,20 @@ fn best_choice(task: &Task, branch: &Branch, progress: &Progress) -> Choice
     };
     for before in 0..progress.cuts.len() {
         let number = before + 1;
-        best = better_choice(best, number, kept_bound(task, branch, progress, number));
+        let other = Choice {
+            number: Some(number),
+            bound: kept_bound(task, branch, progress, number),
+        };
+        best = better_of(best, other);
     }
     best
 }
 
-// The choice, or the cut of this number, if its bound is better.
-fn better_choice(best: Choice, number: u64, bound: i128) -> Choice
-    ensures { let other = record { number = Some number; bound = bound } in (result ≡ best) ⊎ ((best.bound ≤ℤ bound) × (result ≡ other)) }
+// The choice with the better bound, the first if they are equal.
+fn better_of(best: Choice, other: Choice) -> Choice
+    ensures { (result ≡ best) ⊎ ((best.bound ≤ℤ other.bound) × (result ≡ other)) }
 {
-    if bound > best.bound {
-        Choice {
-            number: Some(number),
-            bound,
-        }
-    } else {
-        best
-    }
+    if other.bound > best.bound { other } else { best }
 }
 
 /// Ends the branch with the leaf that a stop makes of it.

@@ -1,6 +1,6 @@
 //! What a search has so far, and the lines that it adds.
 
-ghost use Rattle.std.specs.Prelude.{◌≡◌, ◌+◌, ◌≤◌, IsTrue, Contains, OnOk};
+ghost use Rattle.std.specs.Prelude.{◌≡◌, ◌+◌, ◌≤◌, IsTrue, false, Contains, OnOk};
 ghost use Rattle.hub_spec.specs.Plans.{IsHubSet, IsSetCost};
 ghost use Rattle.hub_spec.specs.Trees.{IsBranch};
 ghost use Rattle.hub_spec.specs.Ranges.{IsLineInRange};
