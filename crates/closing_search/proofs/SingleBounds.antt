@@ -1,16 +1,17 @@
 -- The bound of a branch by one cut alone, and by none.
-use Rattle.std.proofs.Common.{◌≡◌, ℕ, ◌<◌, ◌≤◌, ℤ, pos, ◌-ℤ◌, ◌≤ℤ◌, List, [], ◌∷◌, length, map, get_or, All, Contains, refl, sym, ap, subst, ◌∙◌, Bool, true, false, true≢false, arith}
+use Rattle.std.proofs.Common.{◌≡◌, ℕ, ◌+◌, ◌<◌, ◌≤◌, ℤ, pos, ◌≤ℤ◌, List, [], ◌∷◌, ◌++◌, length, map, take, get_or, All, Contains, refl, sym, ap, ap₂, subst, ◌∙◌, Bool, true, false, true≢false, arith}
 use Rattle.std.specs.List.{AllZip}
 use Rattle.std.specs.Int.{int_min}
 use Rattle.std.proofs.lemmas.Int.{ints, clamps}
-use Rattle.std.proofs.lemmas.List.{length-map}
+use Rattle.std.proofs.lemmas.List.{length-map, take_more, map-append}
 use Rattle.std.proofs.lemmas.List.Elements.{All-nil, All-cons, All-weaker, All-map, All-from_get_or, All-contains}
 use Rattle.hub_spec.specs.Limits.{most_cost, most_fixed_cost}
 use Rattle.hub_spec.specs.Sums.{sum_ints}
 use Rattle.hub_spec.specs.Problem.{Problem, IsProblem, fixed_cost, commodities}
 use Rattle.hub_spec.specs.Cuts.{Prices, value_at, IsDual, Cut, total, load, IsCut}
 use Rattle.hub_spec.specs.Trees.{Branching, IsBranch, mixed_gain, leaf_bound}
-use Rattle.hub_spec.proofs.SumLemmas.{by_test, sum_by-cons}
+use Rattle.hub_spec.proofs.SumLemmas.{by_test}
+use Rattle.std.proofs.lemmas.List.Sums.{sum_by-cons}
 use Rattle.hub_spec.proofs.Sets.{is_in, is_in-yes, Contains-from_is_in}
 use Rattle.hub_spec.proofs.SetCuts.{unlisted_value}
 use Rattle.hub_spec.proofs.Mixes.{candidate_is_node}
@@ -22,6 +23,15 @@ use Rattle.leaf_bound.specs.Theorems.{AreLoadsOf, IsWeightingOf}
 use Rattle.leaf_bound.proofs.LeafWeights.{leaf_has_bound}
 use Rattle.search_spec.specs.States.{denominator}
 use Rattle.closing_search.specs.SingleCuts.{AreFixedCosts, AreLoads, AreSumsOf, cut_bound}
+
+-- ---- fixed costs
+
+pub next_cost : (p : Problem) (k : ℕ) (costs : List ℤ) (z : ℤ) → k < length p.fixed_costs → z ≡ pos (fixed_cost p k)
+    → costs ≡ map pos (take k p.fixed_costs) → costs ++ z ∷ [] ≡ map pos (take (k + 1) p.fixed_costs)
+unfolding fixed_cost
+next_cost p k costs z low is so_far =
+    ap₂ (λ (xs : List ℤ) (x : ℤ). xs ++ x ∷ []) so_far is
+    ∙ sym (ap (map pos) (take_more p.fixed_costs k 0 low) ∙ map-append pos (take k p.fixed_costs) (get_or p.fixed_costs k 0 ∷ []))
 
 -- ---- the loads of a cut are within their limit, at each node
 
@@ -38,10 +48,7 @@ pub load_within : (p : Problem) (cut : Cut) (k : ℕ) → IsCut p cut → load c
 load_within p cut k is =
     by_test (is_in p.candidates k)
     (λ e. All-contains (λ m. load cut m ≤ most_cost) p.candidates k is.sums.load_limit (Contains-from_is_in p.candidates k e))
-    (λ e. let none = no_loads p k (commodities p.size) cut.duals (λ c. absurd (yes_no (is_in-yes p.candidates k c) e)) is.duals in omega (arith, none))
-  where
-    yes_no : {b : Bool} → b ≡ true → b ≡ false → ⊥
-    yes_no yes no = true≢false (sym yes ∙ no)
+    (λ e. let none = no_loads p k (commodities p.size) cut.duals (λ c. absurd (true≢false (sym (is_in-yes p.candidates k c) ∙ e))) is.duals in omega (arith, none))
 
 -- ---- numbers
 
@@ -167,3 +174,18 @@ no_losses p (k ∷ ks) = omega (arith, ints, clamps, no_losses p ks)
 
 pub bare_not_below : (p : Problem) (b : Branching) → pos 0 ≤ℤ leaf_bound p [] denominator [] b
 bare_not_below p b = omega (arith, ints, no_gains p b.inside, no_losses p b.free)
+
+-- ---- the sums of one
+
+pub sums_of : (p : Problem) (cut : Cut) (sum : ℕ) (loads : List ℕ) (totals : List ℤ) (rows : List (List ℤ)) → AreLoads p cut sum loads
+    → totals ≡ pos sum ∷ [] → rows ≡ map pos loads ∷ [] → AreSumsOf p cut totals rows
+sums_of p cut sum loads totals rows are totals_are rows_are =
+    record { sum = sum; loads = loads; are = are; totals_are = totals_are; rows_are = rows_are }
+
+pub loads_within : (p : Problem) (cut : Cut) (sum : ℕ) (loads : List ℕ) → AreLoads p cut sum loads → All (λ l. l ≤ most_cost) loads
+loads_within p cut sum loads are =
+    All-from_get_or (λ (l : ℕ). l ≤ most_cost) loads 0
+    (λ k low. let node : k < p.size = omega (arith, low, are.long) in omega (arith, are.are_loads k node, load_within p cut k are.is_cut))
+
+pub total_within : (p : Problem) (cut : Cut) (sum : ℕ) (loads : List ℕ) → AreLoads p cut sum loads → sum ≤ most_cost
+total_within p cut sum loads are = omega (arith, are.is_total, are.is_cut.sums.total_limit)

@@ -1,6 +1,6 @@
 //! The bound of one cut alone.
 
-ghost use Rattle.std.specs.Prelude.{◌≡◌, ◌≤◌, [], map, pos, IsTrue, length, IfOk};
+ghost use Rattle.std.specs.Prelude.{◌≡◌, ◌≤◌, [], map, pos, IsTrue, length, All, IfOk};
 ghost use Rattle.hub_spec.specs.Cuts.{Cut, total};
 ghost use Rattle.hub_spec.specs.Trees.{IsBranch, leaf_bound, cut_at, Closes};
 ghost use Rattle.hub_spec.specs.Limits.{most_cost};
@@ -78,10 +78,7 @@ pub(crate) fn sums_close(
     ensures { IfOk result (λ yes. (cut : Cut) → AreLoads task.now.instance.now cut total loads.now → IsTrue yes
         → ClosesBy task.now.instance.now cut target branch.now) }
 {
-    let mut row = Vec::with_capacity(alloc, loads.len())?;
-    for load in loads {
-        row.push(signed(*load))?;
-    }
+    let row = signed_row(alloc, loads)?;
     let rows = vec![in alloc; row]?;
     let bound = single_bound(task, branch, &[signed(total)], &rows);
     Ok(is_above(bound, target))
@@ -93,4 +90,16 @@ pub(crate) fn is_above(bound: i128, target: u128) -> bool
     ensures { IsTrue result → Closes denominator target bound }
 {
     bound > leaf_bound::threshold(WHOLE, signed(target))
+}
+
+// The same amounts, signed.
+fn signed_row(alloc: Global, amounts: &[u128]) -> Result<Vec<i128>, AllocError>
+    requires { All (λ l. l ≤ most_cost) amounts.now }
+    ensures { IfOk result (λ row. row.items ≡ map pos amounts.now) }
+{
+    let mut row = Vec::with_capacity(alloc, amounts.len())?;
+    for amount in amounts {
+        row.push(signed(*amount))?;
+    }
+    Ok(row)
 }

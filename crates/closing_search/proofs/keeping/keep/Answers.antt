@@ -1,0 +1,14 @@
+use Rattle.std.proofs.Common.{refl, sym, arith}
+use Rattle.kept_cuts.specs.Kept.{kept_of, kept_cut}
+use Rattle.closing_search.proofs.SingleBounds.{loads_within, total_within}
+use Rattle.closing_search.proofs.keeping.keep.Goals as goal
+
+pub keep-requires-clause-total : goal.keep-requires-clause-total
+keep-requires-clause-total c =
+    let p = c.args.task.now.instance.now in
+    total_within p (kept_cut p (kept_of c.args.cut)) c.args.total c.args.loads.now c.requires.sums
+
+pub keep-requires-clause-loads : goal.keep-requires-clause-loads
+keep-requires-clause-loads c =
+    let p = c.args.task.now.instance.now in
+    loads_within p (kept_cut p (kept_of c.args.cut)) c.args.total c.args.loads.now c.requires.sums
