@@ -1,6 +1,7 @@
 -- The choice of a kept cut for a leaf, and the leaves that come of it.
 use Rattle.std.proofs.Common.{◌≡◌, ℕ, ◌^◌, ◌<◌, ◌≤◌, ℤ, pos, ◌≤ℤ◌, List, [], ◌∷◌, length, All, Option, None, Some, IfSome, ◌⊎◌, inl, inr, refl, sym, subst, ◌∙◌, arith}
 use Rattle.std.proofs.lemmas.Int.{ints}
+use Rattle.std.proofs.lemmas.List.{length-map}
 use Rattle.std.proofs.lemmas.List.Elements.{All-nil, All-cons}
 use Rattle.hub_spec.specs.Limits.{most_cuts, most_denominator}
 use Rattle.hub_spec.specs.Problem.{Problem}
@@ -9,6 +10,7 @@ use Rattle.hub_spec.specs.Trees.{Branching, cut_at, leaf_bound, IsMix, Closes, T
 use Rattle.hub_spec.specs.Ranges.{AreWeightsInRange, IsLineInRange}
 use Rattle.search_spec.specs.States.{denominator, whole_on}
 use Rattle.tree_walks.specs.Walks.{IsSoundLine}
+use Rattle.kept_cuts.specs.Kept.{Kept, kept_cut, kept_cuts}
 use Rattle.closing_search.specs.declared.leaves.Choice.{Choice}
 use Rattle.closing_search.specs.SingleCuts.{cut_bound, ClosesBy, weights_on, IsChoice}
 use Rattle.closing_search.proofs.SingleBounds.{bare_not_below}
@@ -51,6 +53,9 @@ next_choice p cuts b best other next c is one least most bound (inr new) =
 pub record IsNumber (cuts : List Cut) (number : Option ℕ) : Type 0 where
   pub least : IfSome number (λ c. 1 ≤ c)
   pub most : IfSome number (λ c. c ≤ length cuts)
+
+pub number_of : (p : Problem) (kept : List Kept) (c : ℕ) → 1 ≤ c → c ≤ length kept → IsNumber (kept_cuts p kept) (Some c)
+number_of p kept c least most = record { least = least; most = omega (arith, length-map kept (kept_cut p), most) }
 
 pub mix_on : (cuts : List Cut) (number : Option ℕ) → IsNumber cuts number → IsMix cuts denominator (weights_on number)
 mix_on cuts None is = record {

@@ -38,7 +38,7 @@ pub(crate) fn cut_leaf(
         ClosesBy p (cut_at (cuts_of p progress.old) number) (target_of progress.old) branch.now }
     ensures { OnOk result (IsDone task.now branch.now progress.old progress.new) }
 {
-    let line = leaf_line(alloc, Some(number))?;
+    let line = whole_line(alloc, number)?;
     end_with(task, branch, line, progress)
 }
 
@@ -47,11 +47,20 @@ fn leaf_line(alloc: Global, number: Option<u64>) -> Result<TreeLine, AllocError>
     requires { IfSome number (λ c. 1 ≤ c) }
     ensures { IfOk result (λ line. tree_line_of line ≡ leaf_of denominator (weights_on number)) }
 {
+    match number {
+        None => Ok(TreeLine::Leaf(Mix::new(DENOMINATOR as i128, Vec::new(alloc)))),
+        Some(number) => whole_line(alloc, number),
+    }
+}
+
+// The leaf with the whole weight on the cut of this number.
+fn whole_line(alloc: Global, number: u64) -> Result<TreeLine, AllocError>
+    requires { 1 ≤ number }
+    ensures { IfOk result (λ line. tree_line_of line ≡ leaf_of denominator (whole_on number)) }
+{
     let whole = DENOMINATOR as i128;
     let mut weights = Vec::new(alloc);
-    if let Some(number) = number {
-        weights.push((number as i128, whole))?;
-    }
+    weights.push((number as i128, whole))?;
     Ok(TreeLine::Leaf(Mix::new(whole, weights)))
 }
 
