@@ -8,12 +8,16 @@ use Rattle.hub_spec.specs.Problem.{Problem}
 use Rattle.hub_spec.specs.Cuts.{Cut}
 use Rattle.hub_spec.specs.Trees.{Branching, cut_at, leaf_bound, IsMix, Closes, TreeLine, leaf_of}
 use Rattle.hub_spec.specs.Ranges.{AreWeightsInRange, IsLineInRange}
-use Rattle.search_spec.specs.States.{denominator, whole_on}
+use Rattle.leaf_bound.specs.Weighing.{most_bound, IsWithin}
+use Rattle.search_spec.specs.States.{denominator, whole_on, lesser, rounded_up}
+use Rattle.search_spec.proofs.Bounds.{rounded_closes}
+use Rattle.search_spec.proofs.Keeping.{closes_less}
 use Rattle.tree_walks.specs.Walks.{IsSoundLine}
 use Rattle.kept_cuts.specs.Kept.{Kept, kept_cut, kept_cuts}
 use Rattle.closing_search.specs.declared.leaves.Choice.{Choice}
 use Rattle.closing_search.specs.SingleCuts.{cut_bound, ClosesBy, weights_on, IsChoice}
 use Rattle.closing_search.proofs.SingleBounds.{bare_not_below}
+use Rattle.closing_search.proofs.Steps.{stop_below}
 
 -- the bound by one cut of a list is the bound by the cut alone
 pub on_one : (p : Problem) (cuts : List Cut) (c : ℕ) (b : Branching) → leaf_bound p cuts denominator (whole_on c) b ≡ cut_bound p (cut_at cuts c) b
@@ -92,3 +96,20 @@ leaf_sound p cuts target b number line is same closes = rw same (mix_on cuts num
 pub leaf_in_range : (n : ℕ) (cuts : List Cut) (number : Option ℕ) (line : TreeLine) → length cuts ≤ most_cuts → IsNumber cuts number
     → line ≡ leaf_of denominator (weights_on number) → IsLineInRange n line
 leaf_in_range n cuts number line few is same = rw same (omega arith, omega arith, weights_in_range cuts number few is)
+
+pub next_within : (best other next : Choice) → IsWithin most_bound best.bound → IsWithin most_bound other.bound
+    → (next ≡ best) ⊎ ((best.bound ≤ℤ other.bound) × (next ≡ other)) → IsWithin most_bound next.bound
+next_within best other next low high (inl same) = subst (λ (x : Choice). IsWithin most_bound x.bound) (sym same) low
+next_within best other next low high (inr new) = subst (λ (x : Choice). IsWithin most_bound x.bound) (sym new.1) high
+
+-- once rounded up, and no more than the incumbent's cost and what an earlier stop left, the bound of the choice closes it
+pub stop_closes : (p : Problem) (cuts : List Cut) (b : Branching) (choice : Choice) (cost r : ℕ) (stop : Option ℕ) → IsChoice p cuts b choice
+    → r ≡ rounded_up choice.bound
+    → Closes denominator (lesser cost (Some (lesser r stop))) (leaf_bound p cuts denominator (weights_on choice.number) b)
+stop_closes p cuts b choice cost r stop is up =
+    subst (λ (z : ℤ). Closes denominator (lesser cost (Some (lesser r stop))) z) is.bound
+    (closes_less denominator r (lesser cost (Some (lesser r stop))) choice.bound (stop_below cost r stop)
+    (subst (λ (n : ℕ). Closes denominator n choice.bound) (sym up) (rounded_closes choice.bound is.low)))
+
+pub number_in : (p : Problem) (cuts : List Cut) (b : Branching) (choice : Choice) → IsChoice p cuts b choice → IsNumber cuts choice.number
+number_in p cuts b choice is = record { least = is.least; most = is.most }
