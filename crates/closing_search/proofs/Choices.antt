@@ -1,0 +1,115 @@
+-- The choice of a kept cut for a leaf, and the leaves that come of it.
+use Rattle.std.proofs.Common.{◌≡◌, ℕ, ◌^◌, ◌<◌, ◌≤◌, ℤ, pos, ◌≤ℤ◌, List, [], ◌∷◌, length, All, Option, None, Some, IfSome, ◌⊎◌, inl, inr, refl, sym, subst, ◌∙◌, arith}
+use Rattle.std.proofs.lemmas.Int.{ints}
+use Rattle.std.proofs.lemmas.List.{length-map}
+use Rattle.std.proofs.lemmas.List.Elements.{All-nil, All-cons}
+use Rattle.hub_spec.specs.Limits.{most_cuts, most_denominator}
+use Rattle.hub_spec.specs.Problem.{Problem}
+use Rattle.hub_spec.specs.Cuts.{Cut}
+use Rattle.hub_spec.specs.Trees.{Branching, cut_at, leaf_bound, IsMix, Closes, TreeLine, leaf_of}
+use Rattle.hub_spec.specs.Ranges.{AreWeightsInRange, IsLineInRange}
+use Rattle.leaf_bound.specs.Weighing.{most_bound, IsWithin}
+use Rattle.search_spec.specs.States.{denominator, whole_on, lesser, rounded_up}
+use Rattle.search_spec.proofs.Bounds.{rounded_closes}
+use Rattle.search_spec.proofs.Keeping.{closes_less}
+use Rattle.tree_walks.specs.Walks.{IsSoundLine}
+use Rattle.kept_cuts.specs.Kept.{Kept, kept_cut, kept_cuts}
+use Rattle.closing_search.specs.declared.leaves.Choice.{Choice}
+use Rattle.closing_search.specs.SingleCuts.{cut_bound, ClosesBy, weights_on, IsChoice}
+use Rattle.closing_search.proofs.SingleBounds.{bare_not_below}
+use Rattle.closing_search.proofs.Steps.{stop_below}
+
+-- the bound by one cut of a list is the bound by the cut alone
+pub on_one : (p : Problem) (cuts : List Cut) (c : ℕ) (b : Branching) → leaf_bound p cuts denominator (whole_on c) b ≡ cut_bound p (cut_at cuts c) b
+on_one p cuts c b = refl
+
+pub on_none : (p : Problem) (cuts : List Cut) (b : Branching) → leaf_bound p cuts denominator [] b ≡ leaf_bound p [] denominator [] b
+on_none p cuts b = refl
+
+pub first_choice : (p : Problem) (cuts : List Cut) (b : Branching) (choice : Choice) → choice.number ≡ None
+    → choice.bound ≡ leaf_bound p [] denominator [] b → IsChoice p cuts b choice
+first_choice p cuts b choice none is = record {
+  least = rw none tt;
+  most = rw none tt;
+  bound = rw none is;
+  low = subst (λ (z : ℤ). pos 0 ≤ℤ z) (sym is) (bare_not_below p b);
+}
+
+one_choice : (p : Problem) (cuts : List Cut) (b : Branching) (choice : Choice) (c : ℕ) → choice.number ≡ Some c → 1 ≤ c → c ≤ length cuts
+    → choice.bound ≡ cut_bound p (cut_at cuts c) b → pos 0 ≤ℤ choice.bound → IsChoice p cuts b choice
+one_choice p cuts b choice c one least most is low = record {
+  least = rw one least;
+  most = rw one most;
+  bound = rw one is;
+  low = low;
+}
+
+pub next_choice : (p : Problem) (cuts : List Cut) (b : Branching) (best other next : Choice) (c : ℕ) → IsChoice p cuts b best
+    → other.number ≡ Some c → 1 ≤ c → c ≤ length cuts → other.bound ≡ cut_bound p (cut_at cuts c) b
+    → (next ≡ best) ⊎ ((best.bound ≤ℤ other.bound) × (next ≡ other)) → IsChoice p cuts b next
+next_choice p cuts b best other next c is one least most bound (inl same) = subst (IsChoice p cuts b) (sym same) is
+next_choice p cuts b best other next c is one least most bound (inr new) =
+    subst (IsChoice p cuts b) (sym new.1) (one_choice p cuts b other c one least most bound (omega (arith, ints, is.low, new.0)))
+
+-- ---- leaves
+
+-- the number is of a cut, if there is one
+pub record IsNumber (cuts : List Cut) (number : Option ℕ) : Type 0 where
+  pub least : IfSome number (λ c. 1 ≤ c)
+  pub most : IfSome number (λ c. c ≤ length cuts)
+
+pub number_of : (p : Problem) (kept : List Kept) (c : ℕ) → 1 ≤ c → c ≤ length kept → IsNumber (kept_cuts p kept) (Some c)
+number_of p kept c least most = record { least = least; most = omega (arith, length-map kept (kept_cut p), most) }
+
+pub mix_on : (cuts : List Cut) (number : Option ℕ) → IsNumber cuts number → IsMix cuts denominator (weights_on number)
+mix_on cuts None is = record {
+  denom_least = omega arith;
+  denom_most = omega arith;
+  numbers = All-nil (λ (e : ℕ × ℕ). (1 ≤ e.0) × (e.0 ≤ length cuts));
+  most = omega arith;
+}
+mix_on cuts (Some c) is = record {
+  denom_least = omega arith;
+  denom_most = omega arith;
+  numbers = All-cons (λ (e : ℕ × ℕ). (1 ≤ e.0) × (e.0 ≤ length cuts)) (c, denominator) [] (is.least, is.most)
+      (All-nil (λ (e : ℕ × ℕ). (1 ≤ e.0) × (e.0 ≤ length cuts)));
+  most = omega arith;
+}
+
+weights_in_range : (cuts : List Cut) (number : Option ℕ) → length cuts ≤ most_cuts → IsNumber cuts number → AreWeightsInRange (weights_on number)
+weights_in_range cuts None few is = record {
+  ascend = λ k l. absurd (omega (arith, l));
+  each = All-nil (λ (e : ℕ × ℕ). (1 ≤ e.0) × (e.0 < 10 ^ 30) × (1 ≤ e.1) × (e.1 < 10 ^ 30));
+}
+weights_in_range cuts (Some c) few is = record {
+  ascend = λ k l. absurd (omega (arith, l));
+  each = All-cons (λ (e : ℕ × ℕ). (1 ≤ e.0) × (e.0 < 10 ^ 30) × (1 ≤ e.1) × (e.1 < 10 ^ 30)) (c, denominator) []
+      (is.least, omega (arith, few, is.most), omega arith, omega arith)
+      (All-nil (λ (e : ℕ × ℕ). (1 ≤ e.0) × (e.0 < 10 ^ 30) × (1 ≤ e.1) × (e.1 < 10 ^ 30)));
+}
+
+pub leaf_sound : (p : Problem) (cuts : List Cut) (target : ℕ) (b : Branching) (number : Option ℕ) (line : TreeLine) → IsNumber cuts number
+    → line ≡ leaf_of denominator (weights_on number) → Closes denominator target (leaf_bound p cuts denominator (weights_on number) b)
+    → IsSoundLine p cuts target b line
+leaf_sound p cuts target b number line is same closes = rw same (mix_on cuts number is, closes)
+
+pub leaf_in_range : (n : ℕ) (cuts : List Cut) (number : Option ℕ) (line : TreeLine) → length cuts ≤ most_cuts → IsNumber cuts number
+    → line ≡ leaf_of denominator (weights_on number) → IsLineInRange n line
+leaf_in_range n cuts number line few is same = rw same (omega arith, omega arith, weights_in_range cuts number few is)
+
+pub next_within : (best other next : Choice) → IsWithin most_bound best.bound → IsWithin most_bound other.bound
+    → (next ≡ best) ⊎ ((best.bound ≤ℤ other.bound) × (next ≡ other)) → IsWithin most_bound next.bound
+next_within best other next low high (inl same) = subst (λ (x : Choice). IsWithin most_bound x.bound) (sym same) low
+next_within best other next low high (inr new) = subst (λ (x : Choice). IsWithin most_bound x.bound) (sym new.1) high
+
+-- once rounded up, and no more than the incumbent's cost and what an earlier stop left, the bound of the choice closes it
+pub stop_closes : (p : Problem) (cuts : List Cut) (b : Branching) (choice : Choice) (cost r : ℕ) (stop : Option ℕ) → IsChoice p cuts b choice
+    → r ≡ rounded_up choice.bound
+    → Closes denominator (lesser cost (Some (lesser r stop))) (leaf_bound p cuts denominator (weights_on choice.number) b)
+stop_closes p cuts b choice cost r stop is up =
+    subst (λ (z : ℤ). Closes denominator (lesser cost (Some (lesser r stop))) z) is.bound
+    (closes_less denominator r (lesser cost (Some (lesser r stop))) choice.bound (stop_below cost r stop)
+    (subst (λ (n : ℕ). Closes denominator n choice.bound) (sym up) (rounded_closes choice.bound is.low)))
+
+pub number_in : (p : Problem) (cuts : List Cut) (b : Branching) (choice : Choice) → IsChoice p cuts b choice → IsNumber cuts choice.number
+number_in p cuts b choice is = record { least = is.least; most = is.most }

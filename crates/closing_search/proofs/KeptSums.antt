@@ -1,0 +1,80 @@
+-- The sums of kept cuts.
+use Rattle.std.proofs.Common.{◌≡◌, ℕ, suc, ◌+◌, ◌-◌, ◌<◌, ◌≤◌, ℤ, pos, List, [], ◌∷◌, ◌++◌, length, map, get_or, take, drop, slice_range, All, refl, sym, ap, ap₂, subst, ◌∙◌, arith}
+use Rattle.std.proofs.Math.Seq.{drop-cons}
+use Rattle.std.specs.List.{range_with_len}
+use Rattle.std.proofs.lemmas.List.{length-map, get_or-map, length_push, map_push, take-map, drop-map}
+use Rattle.std.proofs.lemmas.List.Elements.{All-push, All-get_or}
+use Rattle.std.proofs.lemmas.List.FromFn.{length-map-range_with_len, get_or-map-range_with_len}
+use Rattle.hub_spec.specs.Problem.{Problem, IsProblem}
+use Rattle.hub_spec.specs.Cuts.{Cut, cut_by, total, load, IsCut}
+use Rattle.hub_spec.specs.Trees.{cut_at}
+use Rattle.kept_cuts.specs.Kept.{Kept, by_set, kept_cut, kept_cuts, IsKeptFor, KeptList, node_loads, AreKeptFor}
+use Rattle.kept_cuts.proofs.KeptCutLaws.{kept_is_cut}
+use Rattle.closing_search.specs.SingleCuts.{AreLoads, AreSumsOf}
+
+pub map-slice_range : {X Y : Type 0} (f : X → Y) (xs : List X) (a b : ℕ) → map f (slice_range xs a b) ≡ slice_range (map f xs) a b
+map-slice_range f xs a b = sym (ap (take (b - a)) (drop-map f a xs) ∙ take-map f (b - a) (drop a xs))
+
+pub one_item : {X : Type 0} (xs : List X) (i : ℕ) (d : X) → i < length xs → slice_range xs i (i + 1) ≡ get_or xs i d ∷ []
+one_item xs i d low =
+    let one : i + 1 - i ≡ 1 = omega arith in
+    ap (λ (n : ℕ). take n (drop i xs)) one ∙ ap (take 1) (drop-cons xs i d low)
+
+pub same_lists : (xs ys : List ℕ) → length xs ≡ length ys → ((k : ℕ) → k < length xs → get_or xs k 0 ≡ get_or ys k 0) → xs ≡ ys
+same_lists [] [] long same = refl
+same_lists [] (y ∷ ys) long same = absurd (omega (arith, long))
+same_lists (x ∷ xs) [] long same = absurd (omega (arith, long))
+same_lists (x ∷ xs) (y ∷ ys) long same =
+    ap₂ (λ (z : ℕ) (zs : List ℕ). z ∷ zs) (same 0 (omega arith))
+    (same_lists xs ys (omega (arith, long)) (λ k low. same (suc k) (omega (arith, low))))
+
+pub loads_are : (p : Problem) (cut : Cut) (sum : ℕ) (loads : List ℕ) → AreLoads p cut sum loads → loads ≡ node_loads p.size cut
+loads_are p cut sum loads are =
+    same_lists loads (node_loads p.size cut) (are.long ∙ sym (length-map-range_with_len (load cut) 0 p.size))
+    (λ k low. let node : k < p.size = omega (arith, low, are.long) in
+    are.are_loads k node ∙ sym (get_or-map-range_with_len (load cut) 0 p.size k k 0 node (omega arith)))
+
+pub kept_at_number : (p : Problem) (k : KeptList) (c : ℕ) → IsProblem p → AreKeptFor p k → 1 ≤ c → c ≤ length k.cuts
+    → AreSumsOf p (cut_at (kept_cuts p k.cuts) c) (slice_range (map pos k.totals) (c - 1) (c - 1 + 1))
+    (slice_range (map (λ xs. map pos xs) k.loads) (c - 1) (c - 1 + 1))
+kept_at_number p k c ok are least most =
+    let i = c - 1 in
+    let here : i < length k.cuts = omega (arith, least, most) in
+    let cuts = kept_cuts p k.cuts in
+    let cut = cut_at cuts c in
+    let long : i < length cuts = omega (arith, length-map k.cuts (kept_cut p), here) in
+    let sum_is : get_or k.totals i 0 ≡ total cut =
+    ap (λ (xs : List ℕ). get_or xs i 0) are.are_totals ∙ get_or-map total cuts i (cut_by []) 0 long in
+    let row_is : get_or k.loads i [] ≡ node_loads p.size cut =
+    ap (λ (xs : List (List ℕ)). get_or xs i []) are.are_loads ∙ get_or-map (node_loads p.size) cuts i (cut_by []) [] long in
+    let sums_long : i < length k.totals = omega (arith, ap length are.are_totals, length-map cuts total, long) in
+    let rows_long : i < length k.loads = omega (arith, ap length are.are_loads, length-map cuts (node_loads p.size), long) in
+    record {
+      sum = get_or k.totals i 0;
+      loads = get_or k.loads i [];
+      are = record {
+        is_cut = subst (IsCut p) (sym (get_or-map (kept_cut p) k.cuts i (by_set [] []) (cut_by []) here))
+            (kept_is_cut p (get_or k.cuts i (by_set [] [])) ok (All-get_or (IsKeptFor p) k.cuts i (by_set [] []) here are.fit));
+        is_total = sum_is;
+        long = ap length row_is ∙ length-map-range_with_len (load cut) 0 p.size;
+        are_loads = λ n node. ap (λ (xs : List ℕ). get_or xs n 0) row_is ∙ get_or-map-range_with_len (load cut) 0 p.size n n 0 node (omega arith);
+      };
+      totals_are = one_item (map pos k.totals) i (pos 0) (omega (arith, length-map k.totals pos, sums_long))
+          ∙ ap (λ (z : ℤ). z ∷ []) (get_or-map pos k.totals i 0 (pos 0) sums_long);
+      rows_are = one_item (map (λ xs. map pos xs) k.loads) i [] (omega (arith, length-map k.loads (λ xs. map pos xs), rows_long))
+          ∙ ap (λ (zs : List ℤ). zs ∷ []) (get_or-map (λ xs. map pos xs) k.loads i [] [] rows_long);
+    }
+
+-- ---- one cut more
+
+pub kept_more : (p : Problem) (k l : KeptList) (cut : Kept) (sum : ℕ) (loads : List ℕ) → AreKeptFor p k → IsKeptFor p cut
+    → AreLoads p (kept_cut p cut) sum loads
+    → l ≡ record { cuts = k.cuts ++ cut ∷ []; totals = k.totals ++ sum ∷ []; loads = k.loads ++ loads ∷ [] } → AreKeptFor p l
+kept_more p k l cut sum loads are fits sums is =
+    subst (AreKeptFor p) (sym is) (record {
+      fit = All-push (IsKeptFor p) k.cuts cut are.fit fits;
+      are_totals = ap₂ (λ (xs : List ℕ) (x : ℕ). xs ++ x ∷ []) are.are_totals sums.is_total
+          ∙ sym (ap (map total) (map_push (kept_cut p) k.cuts cut) ∙ map_push total (kept_cuts p k.cuts) (kept_cut p cut));
+      are_loads = ap₂ (λ (xs : List (List ℕ)) (x : List ℕ). xs ++ x ∷ []) are.are_loads (loads_are p (kept_cut p cut) sum loads sums)
+          ∙ sym (ap (map (node_loads p.size)) (map_push (kept_cut p) k.cuts cut) ∙ map_push (node_loads p.size) (kept_cuts p k.cuts) (kept_cut p cut));
+    })

@@ -1,0 +1,6 @@
+pub mod SingleBounds
+pub mod KeptSums
+pub mod Steps
+pub mod Choices
+pub mod SetLeaves
+pub mod Networks

@@ -1,0 +1,163 @@
+-- What a search found, as a certificate that holds.
+use Rattle.std.proofs.Common.{◌≡◌, ℕ, ◌<◌, ◌≤◌, List, [], ◌∷◌, length, All, Option, None, Some, IsSome, refl, sym, ap, subst, ◌∙◌, arith}
+use Rattle.std.specs.List.{AllZip}
+use Rattle.std.proofs.lemmas.List.{length-map}
+use Rattle.std.proofs.lemmas.List.Elements.{All-nil, All-cons, All-weaker, All-map}
+use Rattle.std.proofs.lemmas.Slice.Zip.{AllZip-long}
+use Rattle.hub_spec.specs.Limits.{most_cost, most_cuts, most_tree_lines}
+use Rattle.hub_spec.specs.Problem.{Problem, IsProblem, commodities}
+use Rattle.hub_spec.specs.Plans.{IsHubSet, IsSetCost, IsLeastRoute, IsPlan, plan_cost, NoPlanBelow}
+use Rattle.hub_spec.specs.Cuts.{IsCut}
+use Rattle.hub_spec.specs.Trees.{root, Tree, TreeLine, preorder, line_count, IsSound}
+use Rattle.hub_spec.specs.Certificates.{Holds}
+use Rattle.hub_spec.specs.Ranges.{IsCutInRange, IsLineInRange, IsInRange}
+use Rattle.hub_spec.proofs.Commodities.{length_commodities}
+use Rattle.hub_spec.proofs.Limits.{AreNodes, few_candidates, hubs_are_nodes, least_route_nodes, plan_cost_limit}
+use Rattle.hub_spec.proofs.Preorders.{length-preorder}
+use Rattle.hub_spec.proofs.SetCosts.{plan_of_least, set_cost_is, one_set_cost}
+use Rattle.hub_spec.proofs.WeakDuality.{no_plan_below_bound}
+use Rattle.hub_model.specs.declared.tree_lines.TreeLine as model
+use Rattle.hub_model.specs.Lines.{tree_line_of}
+use Rattle.search_spec.specs.States.{lesser}
+use Rattle.search_spec.specs.Findings.{AreWithin, IsSpent}
+use Rattle.search_spec.proofs.Invariants.{lesser_least}
+use Rattle.tree_walks.specs.Walks.{Walks}
+use Rattle.tree_walks.proofs.Walking.{is_tree}
+use Rattle.kept_cuts.specs.Kept.{Kept, kept_cut, kept_cuts, IsKeptFor, AreKeptFor}
+use Rattle.kept_cuts.specs.declared.network.Network.{Network}
+use Rattle.kept_cuts.specs.Networks.{lines_of, proof_of, IsProved}
+use Rattle.kept_cuts.proofs.KeptCutLaws.{kept_is_cut, kept_in_range}
+use Rattle.closing_search.specs.declared.task.Task.{Task}
+use Rattle.closing_search.specs.declared.progress.Progress.{Progress}
+use Rattle.closing_search.specs.Progressing.{target_of, IsGoing, IsOver}
+
+-- the network is what the search has at its end, with the least routes of the incumbent
+pub record IsFoundOf (t : Task) (s : Progress) (found : Network) : Type 0 where
+  pub cost : found.cost ≡ s.cost
+  pub bound : found.bound ≡ target_of s
+  pub hubs : found.plan.hubs ≡ s.hubs
+  pub routes : AllZip (IsLeastRoute t.instance.now found.plan.hubs) (commodities t.instance.now.size) found.plan.routes
+  pub cuts : found.cuts ≡ s.cuts
+  pub lines : found.tree.items ≡ s.lines.items
+
+-- its tree
+record HasTree (p : Problem) (found : Network) : Type 0 where
+  tree : Tree
+  lines : preorder tree ≡ lines_of found.tree.items
+  sound : IsSound p (kept_cuts p found.cuts.cuts) found.bound (root p) tree
+
+found_tree : (t : Task) (s : Progress) (found : Network) → IsOver t s → IsFoundOf t s found → HasTree t.instance.now found
+found_tree t s found over is =
+    let p = t.instance.now in
+    let walk : Walks p (kept_cuts p found.cuts.cuts) found.bound (root p ∷ []) (lines_of found.tree.items) [] =
+    rw (is.cuts, is.bound, is.lines) over.walks in
+    let tree = is_tree p (kept_cuts p found.cuts.cuts) found.bound (root p) (lines_of found.tree.items) walk in
+    record { tree = tree.0; lines = tree.1; sound = tree.2 }
+
+module _ (t : Task) (s : Progress) (found : Network) (over : IsOver t s) (is : IsFoundOf t s found) where
+  found_set : IsHubSet t.instance.now found.plan.hubs
+  found_set = subst (IsHubSet t.instance.now) (sym is.hubs) over.going.hubs
+
+  found_plan : IsPlan t.instance.now found.plan
+  found_plan = plan_of_least t.instance.now found.plan.hubs found.plan.routes found_set is.routes
+
+  found_cost : found.cost ≡ plan_cost t.instance.now found.plan
+  found_cost =
+      let p = t.instance.now in
+      let is_cost : IsSetCost p found.plan.hubs s.cost = subst (λ (hs : List ℕ). IsSetCost p hs s.cost) (sym is.hubs) over.going.cost in
+      is.cost ∙ one_set_cost p found.plan.hubs s.cost (plan_cost p found.plan) is_cost
+      (set_cost_is p found.plan.hubs found.plan.routes found_set is.routes)
+
+  found_kept : All (IsKeptFor t.instance.now) found.cuts.cuts
+  found_kept = rw is.cuts over.going.kept.fit
+
+  pub found_within : found.bound ≤ found.cost
+  found_within = omega (arith, is.bound, is.cost, lesser_least s.cost s.stop)
+
+  found_holds : (h : HasTree t.instance.now found) → Holds t.instance.now (proof_of t.instance.now found h.tree)
+  found_holds h =
+      let p = t.instance.now in
+      record {
+        size = refl;
+        candidates = refl;
+        bound = found_within;
+        plan = found_plan;
+        wanted = tt;
+        cost = found_cost;
+        cuts = All-map (IsCut p) (kept_cut p) found.cuts.cuts
+            (All-weaker (IsKeptFor p) (λ (k : Kept). IsCut p (kept_cut p k)) (λ k fits. kept_is_cut p k over.going.costs.problem fits)
+            found.cuts.cuts found_kept);
+        tree = h.sound;
+      }
+
+  found_in_range : (h : HasTree t.instance.now found) → IsInRange (proof_of t.instance.now found h.tree)
+  found_in_range h =
+      let p = t.instance.now in
+      let ok = over.going.costs.problem in
+      let cost = plan_cost_limit p found.plan ok found_plan in
+      let nodes = least_route_nodes p found.plan.hubs (commodities p.size) found.plan.routes ok.limits found_set is.routes in
+      let lines : All (IsLineInRange p.size) (lines_of found.tree.items) = rw is.lines over.going.in_range in
+      record {
+        some_node = ok.some_node;
+        size = ok.size_limit;
+        some_candidate = ok.some_candidate;
+        candidates = few_candidates p.candidates p.size ok.candidates_ascend ok.candidates_are_nodes;
+        cost = omega (arith, cost, found_cost);
+        bound = omega (arith, cost, found_cost, found_within);
+        some_hub = found_set.some_hub;
+        hubs_ascend = found_set.ascend;
+        hubs = hubs_are_nodes p found.plan.hubs ok.limits found_set;
+        one_route_each = AllZip-long (IsLeastRoute p found.plan.hubs) (commodities p.size) found.plan.routes is.routes ∙ length_commodities p.size;
+        routes = routes_are_nodes p.size (commodities p.size) found.plan.routes nodes;
+        cut_count = omega (arith, length-map found.cuts.cuts (kept_cut p), ap (λ k. length k.cuts) is.cuts, over.going.few_cuts);
+        cuts = All-map (IsCutInRange p.size) (kept_cut p) found.cuts.cuts
+            (All-weaker (IsKeptFor p) (λ (k : Kept). IsCutInRange p.size (kept_cut p k)) (λ k fits. kept_in_range p k ok fits)
+            found.cuts.cuts found_kept);
+        line_count = omega (arith, length-preorder h.tree, ap length h.lines, length-map found.tree.items tree_line_of, ap length is.lines, over.going.few_lines);
+        tree = subst (All (IsLineInRange p.size)) (sym h.lines) lines;
+      }
+    where
+      routes_are_nodes : (n : ℕ) (cs rs : List (ℕ × ℕ)) → AllZip (AreNodes n) cs rs → All (λ (r : ℕ × ℕ). (r.0 < n) × (r.1 < n)) rs
+      routes_are_nodes n [] [] are = All-nil (λ (r : ℕ × ℕ). (r.0 < n) × (r.1 < n))
+      routes_are_nodes n [] (r ∷ rs) are = absurd are
+      routes_are_nodes n (c ∷ cs) [] are = absurd are
+      routes_are_nodes n (c ∷ cs) (r ∷ rs) are =
+          All-cons (λ (x : ℕ × ℕ). (x.0 < n) × (x.1 < n)) r rs (are.0.first, are.0.last) (routes_are_nodes n cs rs are.1)
+
+  pub found_proved : IsProved t.instance.now found
+  found_proved =
+      let h = found_tree t s found over is in
+      record { fit = found_kept; tree = h.tree; lines = sym h.lines; in_range = found_in_range h; holds = found_holds h }
+
+  pub found_below : NoPlanBelow t.instance.now found.bound
+  found_below =
+      let h = found_tree t s found over is in
+      no_plan_below_bound t.instance.now (proof_of t.instance.now found h.tree) over.going.costs.problem (found_holds h)
+
+  found_made : length found.tree.items ≡ s.made
+  found_made = ap length is.lines ∙ over.lines
+
+  pub found_allowed : AreWithin t.nodes (length found.tree.items)
+  found_allowed = subst (AreWithin t.nodes) (sym found_made) over.going.allowed
+
+  pub found_spent : found.bound < found.cost → IsSpent t.nodes (length found.tree.items)
+  found_spent less =
+      subst (IsSpent t.nodes) (sym found_made)
+      (spent_when t.nodes s.cost s.stop s.made over.going.spent (omega (arith, less, is.bound, is.cost)))
+    where
+      spent_when : (n : Option ℕ) (cost : ℕ) (stop : Option ℕ) (made : ℕ) → (IsSome stop → IsSpent n made) → lesser cost stop < cost → IsSpent n made
+      spent_when n cost None made spent less = absurd (omega (arith, less))
+      spent_when n cost (Some low) made spent less = spent refl
+
+  pub found_whole : t.nodes ≡ None → found.bound ≡ found.cost
+  found_whole none =
+      is.bound ∙ whole_when t.nodes s.cost s.stop s.made none over.going.spent ∙ sym is.cost
+    where
+      whole_when : (n : Option ℕ) (cost : ℕ) (stop : Option ℕ) (made : ℕ) → n ≡ None → (IsSome stop → IsSpent n made) → lesser cost stop ≡ cost
+      whole_when n cost None made none spent = refl
+      whole_when n cost (Some low) made none spent = absurd (subst (λ (o : Option ℕ). IsSpent o made) none (spent refl))
+
+-- the cost of a hub set is within the limit of costs
+pub set_cost_within : (p : Problem) (hubs : List ℕ) (cost : ℕ) → IsProblem p → IsSetCost p hubs cost → cost ≤ most_cost
+set_cost_within p hubs cost ok is =
+    let plan = is.reached in omega (arith, plan.3, plan_cost_limit p plan.0 ok plan.1)

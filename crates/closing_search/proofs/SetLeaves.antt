@@ -1,0 +1,69 @@
+-- The leaf of a branch in which nothing is free: the cut of its hubs closes what they cost.
+use Rattle.std.proofs.Common.{◌≡◌, ℕ, zero, suc, ◌+◌, ◌*◌, ◌<◌, ◌≤◌, List, [], ◌∷◌, ◌++◌, length, take, slice_index, sum_by, refl, sym, ap, subst, ◌∙◌, arith}
+use Rattle.std.proofs.lemmas.Int.{ints}
+use Rattle.hub_spec.specs.Problem.{Problem, IsProblem, opening_cost, fixed_cost}
+use Rattle.hub_spec.specs.Plans.{IsHubSet, IsSetCost}
+use Rattle.hub_spec.specs.Cuts.{Cut, total, load}
+use Rattle.hub_spec.specs.Separation.{IsOrder, set_cut}
+use Rattle.hub_spec.specs.Trees.{Branching, IsBranch, mixed_load}
+use Rattle.hub_spec.proofs.SumLemmas.{sum_by-times, sum_by-same}
+use Rattle.hub_spec.proofs.WeakDuality.{sum_of_gains}
+use Rattle.search_spec.specs.States.{denominator, whole_on}
+use Rattle.search_spec.specs.Laws.{Reaches}
+use Rattle.search_spec.proofs.SetCosts.{set_cut_serves, set_cost_by_sums}
+use Rattle.search_spec.proofs.Separated.{serves_reaches}
+use Rattle.value_cuts.specs.Values.{ValueRows, value_cut}
+use Rattle.value_cuts.proofs.ValueSums.{cut_is}
+use Rattle.closing_search.specs.SingleCuts.{AreLoads, ClosesBy}
+
+pub inside_set : (p : Problem) (b : Branching) → IsBranch p b → 1 ≤ length b.inside → IsHubSet p b.inside
+inside_set p b is some = record { some_hub = some; ascend = is.inside_ascends; are_candidates = is.inside_are }
+
+reached_closes : (p : Problem) (cut : Cut) (hubs outside : List ℕ) (target : ℕ) → Reaches p target hubs cut
+    → ClosesBy p cut target (record { inside = hubs; outside = outside; free = [] })
+reached_closes p cut hubs outside target reaches =
+    let gains = sum_of_gains denominator (fixed_cost p) (mixed_load (cut ∷ []) (whole_on 1)) hubs in
+    let loads = sum_by-same (mixed_load (cut ∷ []) (whole_on 1)) (λ k. denominator * load cut k) hubs (λ k. omega arith) in
+    let scaled = sum_by-times denominator (load cut) hubs in
+    omega (arith, ints, reaches, gains, loads, scaled)
+
+pub set_closes : (p : Problem) (b : Branching) (hubs order : List ℕ) (cost target : ℕ) → IsProblem p → IsHubSet p hubs → IsOrder p hubs order
+    → hubs ≡ b.inside → b.free ≡ [] → IsSetCost p hubs cost → target ≤ cost → ClosesBy p (set_cut p hubs order) target b
+set_closes p b hubs order cost target ok set is_order same none is_cost less =
+    let cut = set_cut p hubs order in
+    let reaches = serves_reaches p hubs cut cost (set_cut_serves p hubs order ok set is_order) is_cost in
+    let lower : Reaches p target hubs cut = omega (arith, less, reaches) in
+    subst (λ (ks : List ℕ). ClosesBy p cut target (record b { free = ks })) (sym none)
+    (subst (λ (ks : List ℕ). ClosesBy p cut target (record { inside = ks; outside = b.outside; free = [] })) same
+    (reached_closes p cut hubs b.outside target lower))
+
+-- the set costs the total of its cut, and what its hubs cost
+pub cost_by_sums : (p : Problem) (hubs order : List ℕ) (sum opening : ℕ) → IsProblem p → IsHubSet p hubs → IsOrder p hubs order
+    → sum ≡ total (set_cut p hubs order) → opening ≡ opening_cost p hubs → IsSetCost p hubs (sum + opening)
+cost_by_sums p hubs order sum opening ok set is_order is_sum is_opening =
+    let by = set_cost_by_sums p hubs order ok set is_order in
+    subst (IsSetCost p hubs) (by.by_sums ∙ omega (arith, is_sum, is_opening)) by.is_cost
+
+-- ---- the sums as they are worked out
+
+pub taken : (n : ℕ) (xs ys : List ℕ) → length xs ≡ n → take n (xs ++ ys) ≡ xs
+taken zero [] ys long = refl
+taken zero (x ∷ xs) ys long = absurd (omega (arith, long))
+taken (suc n) [] ys long = absurd (omega (arith, long))
+taken (suc n) (x ∷ xs) ys long = ap (λ (zs : List ℕ). x ∷ zs) (taken n xs ys (omega (arith, long)))
+
+pub set_loads : (p q : Problem) (hubs order loads : List ℕ) (sum : ℕ) → q ≡ p → IsProblem p → IsHubSet p hubs → IsOrder p hubs order
+    → sum ≡ total (set_cut q hubs order) → length loads ≡ q.size
+    → ((k : ℕ) → k < q.size → slice_index loads k ≡ load (set_cut q hubs order) k) → AreLoads p (set_cut p hubs order) sum loads
+set_loads p q hubs order loads sum same ok set is_order is_total long are = record {
+  is_cut = (set_cut_serves p hubs order ok set is_order).is_cut;
+  is_total = subst (λ (x : Problem). sum ≡ total (set_cut x hubs order)) same is_total;
+  long = long ∙ ap (λ (x : Problem). x.size) same;
+  are_loads = subst (λ (x : Problem). (k : ℕ) → k < x.size → slice_index loads k ≡ load (set_cut x hubs order) k) same are;
+}
+
+pub value_loads : (p : Problem) (w : ValueRows) (loads : List ℕ) (sum : ℕ) → IsProblem p
+    → sum ≡ total (value_cut p w) → length loads ≡ p.size
+    → ((k : ℕ) → k < p.size → slice_index loads k ≡ load (value_cut p w) k) → AreLoads p (value_cut p w) sum loads
+value_loads p w loads sum ok is_total long are =
+    record { is_cut = cut_is p w ok; is_total = is_total; long = long; are_loads = are }

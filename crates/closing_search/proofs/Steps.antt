@@ -1,0 +1,259 @@
+-- How the steps of a search follow one another.
+use Rattle.std.proofs.Common.{◌≡◌, ℕ, ◌+◌, ◌<◌, ◌≤◌, List, [], ◌∷◌, ◌++◌, length, All, Option, None, Some, IsSome, refl, sym, ap, subst, ◌∙◌, append-nil, arith}
+use Rattle.std.proofs.lemmas.List.{length_push, map_push}
+use Rattle.std.proofs.lemmas.List.Elements.{All-push}
+use Rattle.hub_spec.specs.Limits.{most_cuts, most_tree_lines}
+use Rattle.hub_spec.specs.Problem.{Problem}
+use Rattle.hub_spec.specs.Plans.{IsHubSet, IsSetCost}
+use Rattle.hub_spec.specs.Cuts.{Cut}
+use Rattle.hub_spec.specs.Trees.{Branching, root, open_child, closed_child, TreeLine, branch_on}
+use Rattle.hub_spec.specs.Ranges.{IsLineInRange}
+use Rattle.hub_model.specs.declared.tree_lines.TreeLine as model
+use Rattle.hub_model.specs.Lines.{tree_line_of}
+use Rattle.search_spec.specs.States.{lesser}
+use Rattle.search_spec.specs.Findings.{AreWithin, IsSpent}
+use Rattle.search_spec.proofs.Invariants.{lesser_less}
+use Rattle.tree_walks.specs.Walks.{IsSoundLine, filled, Walks}
+use Rattle.tree_walks.proofs.Walking.{goes_on, stays}
+use Rattle.kept_cuts.specs.Kept.{Kept, kept_cut, kept_cuts, IsKeptFor, AreKeptFor}
+use Rattle.kept_cuts.specs.Networks.{lines_of}
+use Rattle.closing_search.specs.declared.task.Task.{Task}
+use Rattle.closing_search.specs.declared.progress.Progress.{Progress}
+use Rattle.closing_search.specs.SingleCuts.{AreLoads}
+use Rattle.closing_search.specs.Progressing.{cuts_of, target_of, WalksTo, IsGoing, IsAt, IsEndLine, IsDone, IsHalved, IsOver}
+use Rattle.closing_search.proofs.KeptSums.{kept_more}
+
+-- what is led to stays so
+abbrev pub StaysTo : Problem → Progress → Progress → Type 0
+StaysTo p before after = (first last : List Branching) → WalksTo p before first last → WalksTo p after first last
+
+-- ---- one line more
+
+-- this line was added, and so many nodes are made
+pub record HasLine (before after : Progress) (line : model.TreeLine) (count : ℕ) : Type 0 where
+  pub cuts : after.cuts ≡ before.cuts
+  pub lines : after.lines.items ≡ before.lines.items ++ line ∷ []
+  pub hubs : after.hubs ≡ before.hubs
+  pub cost : after.cost ≡ before.cost
+  pub made : after.made ≡ count
+  pub stop : after.stop ≡ before.stop
+
+line_more : (before after : Progress) (line : model.TreeLine) (count : ℕ) → HasLine before after line count
+    → length after.lines.items ≡ length before.lines.items + 1
+line_more before after line count has = ap length has.lines ∙ length_push before.lines.items line
+
+line_walks : (p : Problem) (before after : Progress) (line : model.TreeLine) (count : ℕ) (b : Branching) (first pending : List Branching)
+    → HasLine before after line count → IsSoundLine p (cuts_of p before) (target_of before) b (tree_line_of line)
+    → WalksTo p before first (b ∷ pending) → WalksTo p after first (filled b (tree_line_of line) pending)
+line_walks p before after line count b first pending has sound walks =
+    rw (has.cuts, has.cost, has.stop, has.lines, map_push tree_line_of before.lines.items line)
+    (goes_on p (cuts_of p before) (target_of before) first (lines_of before.lines.items) b pending (tree_line_of line) walks sound)
+
+spent_on : (n : Option ℕ) (made more : ℕ) → made ≤ more → IsSpent n made → IsSpent n more
+spent_on None made more less spent = spent
+spent_on (Some most) made more less spent = omega (arith, less, spent)
+
+line_going : (t : Task) (before after : Progress) (line : model.TreeLine) (count : ℕ) → IsGoing t before → HasLine before after line count
+    → length before.lines.items < most_tree_lines → IsLineInRange t.instance.now.size (tree_line_of line) → before.made ≤ count
+    → count ≤ before.made + 2 → AreWithin t.nodes count → IsGoing t after
+line_going t before after line count going has few in_range more less within = record {
+  costs = going.costs;
+  kept = subst (AreKeptFor t.instance.now) (sym has.cuts) going.kept;
+  few_cuts = rw has.cuts going.few_cuts;
+  few_lines = omega (arith, few, line_more before after line count has);
+  in_range = rw (has.lines, map_push tree_line_of before.lines.items line)
+      (All-push (IsLineInRange t.instance.now.size) (lines_of before.lines.items) (tree_line_of line) going.in_range in_range);
+  hubs = rw has.hubs going.hubs;
+  cost = rw (has.hubs, has.cost) going.cost;
+  cost_limit = rw has.cost going.cost_limit;
+  made = omega (arith, has.made, less, going.made, line_more before after line count has);
+  allowed = subst (AreWithin t.nodes) (sym has.made) within;
+  spent = λ stopped. subst (IsSpent t.nodes) (sym has.made)
+      (spent_on t.nodes before.made count more (going.spent (subst (λ (o : Option ℕ). IsSome o) has.stop stopped)));
+}
+
+pub line_done : (t : Task) (b : Branching) (before after : Progress) (line : model.TreeLine) → IsGoing t before → IsEndLine (tree_line_of line)
+    → IsSoundLine t.instance.now (cuts_of t.instance.now before) (target_of before) b (tree_line_of line)
+    → IsLineInRange t.instance.now.size (tree_line_of line) → length before.lines.items < most_tree_lines
+    → HasLine before after line before.made → IsDone t b before after
+line_done t b before after line going end sound in_range few has =
+    let p = t.instance.now in
+    record {
+      going = line_going t before after line before.made going has few in_range (omega arith) (omega arith) going.allowed;
+      walks = λ first pending walks. subst (WalksTo p after first) (end b pending)
+          (line_walks p before after line before.made b first pending has sound walks);
+      lines = omega (arith, line_more before after line before.made has, has.made);
+    }
+
+pub line_halved : (t : Task) (b : Branching) (k : ℕ) (before after : Progress) (line : model.TreeLine) → IsGoing t before
+    → tree_line_of line ≡ branch_on k → IsSoundLine t.instance.now (cuts_of t.instance.now before) (target_of before) b (branch_on k)
+    → k < t.instance.now.size → AreWithin t.nodes (before.made + 2) → length before.lines.items < most_tree_lines
+    → HasLine before after line (before.made + 2) → IsHalved t b k before after
+line_halved t b k before after line going is sound node within few has =
+    let p = t.instance.now in
+    record {
+      going = line_going t before after line (before.made + 2) going has few (subst (IsLineInRange p.size) (sym is) node) (omega arith) (omega arith) within;
+      walks = λ first pending walks. subst (λ (l : TreeLine). WalksTo p after first (filled b l pending)) is
+          (line_walks p before after line (before.made + 2) b first pending has
+          (subst (IsSoundLine p (cuts_of p before) (target_of before) b) (sym is) sound) walks);
+      lines = line_more before after line (before.made + 2) has;
+      made = has.made;
+    }
+
+-- ---- no line more
+
+pub at_same : (t : Task) (s : Progress) → IsGoing t s → IsAt t s s
+at_same t s going = record { going = going; walks = λ first last walks. walks; lines = refl; made = refl; stop = refl }
+
+pub at_twice : (t : Task) (before middle after : Progress) → IsAt t before middle → IsAt t middle after → IsAt t before after
+at_twice t before middle after one two = record {
+  going = two.going;
+  walks = λ first last walks. two.walks first last (one.walks first last walks);
+  lines = two.lines ∙ one.lines;
+  made = two.made ∙ one.made;
+  stop = two.stop ∙ one.stop;
+}
+
+pub at_done : (t : Task) (b : Branching) (before middle after : Progress) → IsAt t before middle → IsDone t b middle after → IsDone t b before after
+at_done t b before middle after at done = record {
+  going = done.going;
+  walks = λ first pending walks. done.walks first pending (at.walks first (b ∷ pending) walks);
+  lines = omega (arith, at.lines, at.made, done.lines);
+}
+
+target_falls : (p : Problem) (before : Progress) (lower : ℕ) → lower ≤ target_of before → (first last : List Branching)
+    → WalksTo p before first last → Walks p (cuts_of p before) lower first (lines_of before.lines.items) last
+target_falls p before lower less first last walks =
+    subst (λ (cs : List Cut). Walks p cs lower first (lines_of before.lines.items) last) (append-nil (cuts_of p before))
+    (stays p (cuts_of p before) [] (target_of before) lower first (lines_of before.lines.items) last less walks)
+
+-- the incumbent was replaced by one that costs no more
+pub record HasOffer (before after : Progress) : Type 0 where
+  pub cuts : after.cuts ≡ before.cuts
+  pub lines : after.lines ≡ before.lines
+  pub made : after.made ≡ before.made
+  pub stop : after.stop ≡ before.stop
+  pub cost : after.cost ≤ before.cost
+
+pub offer_at : (t : Task) (before after : Progress) → IsGoing t before → HasOffer before after → IsHubSet t.instance.now after.hubs
+    → IsSetCost t.instance.now after.hubs after.cost → IsAt t before after
+offer_at t before after going has set is_cost =
+    let p = t.instance.now in
+    let falls : lesser after.cost before.stop ≤ target_of before = lesser_less after.cost before.cost before.stop has.cost in
+    record {
+      going = record {
+        costs = going.costs;
+        kept = subst (AreKeptFor p) (sym has.cuts) going.kept;
+        few_cuts = rw has.cuts going.few_cuts;
+        few_lines = rw has.lines going.few_lines;
+        in_range = rw has.lines going.in_range;
+        hubs = set;
+        cost = is_cost;
+        cost_limit = omega (arith, has.cost, going.cost_limit);
+        made = rw (has.lines, has.made) going.made;
+        allowed = rw has.made going.allowed;
+        spent = rw (has.made, has.stop) going.spent;
+      };
+      walks = λ first last walks. rw (has.cuts, has.stop, has.lines) (target_falls p before (lesser after.cost before.stop) falls first last walks);
+      lines = ap (λ ls. length ls.items) has.lines;
+      made = has.made;
+      stop = has.stop;
+    }
+
+-- the cut was added, and nothing else
+pub record HasCut (before after : Progress) (cut : Kept) (sum : ℕ) (loads : List ℕ) : Type 0 where
+  pub cuts : after.cuts ≡ record {
+    cuts = before.cuts.cuts ++ cut ∷ [];
+    totals = before.cuts.totals ++ sum ∷ [];
+    loads = before.cuts.loads ++ loads ∷ [];
+  }
+  pub lines : after.lines ≡ before.lines
+  pub hubs : after.hubs ≡ before.hubs
+  pub cost : after.cost ≡ before.cost
+  pub made : after.made ≡ before.made
+  pub stop : after.stop ≡ before.stop
+
+pub cut_at_step : (t : Task) (before after : Progress) (cut : Kept) (sum : ℕ) (loads : List ℕ) → IsGoing t before → HasCut before after cut sum loads
+    → IsKeptFor t.instance.now cut → AreLoads t.instance.now (kept_cut t.instance.now cut) sum loads → length before.cuts.cuts < most_cuts
+    → IsAt t before after
+cut_at_step t before after cut sum loads going has fits sums few =
+    let p = t.instance.now in
+    record {
+      going = record {
+        costs = going.costs;
+        kept = kept_more p before.cuts after.cuts cut sum loads going.kept fits sums has.cuts;
+        few_cuts = rw has.cuts (omega (arith, length_push before.cuts.cuts cut, few));
+        few_lines = rw has.lines going.few_lines;
+        in_range = rw has.lines going.in_range;
+        hubs = rw has.hubs going.hubs;
+        cost = rw (has.hubs, has.cost) going.cost;
+        cost_limit = rw has.cost going.cost_limit;
+        made = rw (has.lines, has.made) going.made;
+        allowed = rw has.made going.allowed;
+        spent = rw (has.made, has.stop) going.spent;
+      };
+      walks = λ first last walks. rw (has.cuts, has.cost, has.stop, has.lines, map_push (kept_cut p) before.cuts.cuts cut)
+          (stays p (cuts_of p before) (kept_cut p cut ∷ []) (target_of before) (target_of before) first (lines_of before.lines.items) last (omega arith) walks);
+      lines = ap (λ ls. length ls.items) has.lines;
+      made = has.made;
+      stop = has.stop;
+    }
+
+-- ---- a stop
+
+-- only the stop is another
+pub stop_going : (t : Task) (before : Progress) (low : ℕ) → IsGoing t before → IsSpent t.nodes before.made
+    → IsGoing t (record before { stop = Some low })
+stop_going t before low going spent = record {
+  costs = going.costs;
+  kept = going.kept;
+  few_cuts = going.few_cuts;
+  few_lines = going.few_lines;
+  in_range = going.in_range;
+  hubs = going.hubs;
+  cost = going.cost;
+  cost_limit = going.cost_limit;
+  made = going.made;
+  allowed = going.allowed;
+  spent = λ stopped. spent;
+}
+
+stop_falls : (cost r : ℕ) (o : Option ℕ) → lesser cost (Some (lesser r o)) ≤ lesser cost o
+stop_falls cost r None = omega arith
+stop_falls cost r (Some m) = omega arith
+
+pub stop_below : (cost r : ℕ) (o : Option ℕ) → lesser cost (Some (lesser r o)) ≤ r
+stop_below cost r None = omega arith
+stop_below cost r (Some m) = omega arith
+
+pub stop_done : (t : Task) (b : Branching) (before after : Progress) (r : ℕ) → IsDone t b (record before { stop = Some (lesser r before.stop) }) after
+    → IsDone t b before after
+stop_done t b before after r done =
+    let p = t.instance.now in
+    record {
+      going = done.going;
+      walks = λ first pending walks. done.walks first pending
+          (target_falls p before (lesser before.cost (Some (lesser r before.stop))) (stop_falls before.cost r before.stop) first (b ∷ pending) walks);
+      lines = done.lines;
+    }
+
+-- ---- children
+
+pub halved_done : (t : Task) (b : Branching) (k : ℕ) (before begun middle after : Progress) → IsHalved t b k before begun
+    → IsDone t (open_child b k) begun middle → IsDone t (closed_child b k) middle after → IsDone t b before after
+halved_done t b k before begun middle after halved opened closed = record {
+  going = closed.going;
+  walks = λ first pending walks. closed.walks first pending (opened.walks first (closed_child b k ∷ pending) (halved.walks first pending walks));
+  lines = omega (arith, halved.lines, halved.made, opened.lines, closed.lines);
+}
+
+-- ---- the end
+
+pub is_over : (t : Task) (begun after : Progress) → begun.lines.items ≡ [] → begun.made ≡ 1 → IsDone t (root t.instance.now) begun after → IsOver t after
+is_over t begun after none one done =
+    let p = t.instance.now in
+    record {
+      going = done.going;
+      walks = done.walks (root p ∷ []) [] (rw none refl);
+      lines = omega (arith, done.lines, ap length none, one);
+    }

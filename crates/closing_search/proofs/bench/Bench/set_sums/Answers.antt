@@ -1,0 +1,18 @@
+use Rattle.std.proofs.Common.{◌≡◌, List, length, sym, ap, subst, ◌∙◌, rules, arith}
+use Rattle.std.specs.Prelude.{ℕ}
+use Rattle.hub_spec.specs.Separation.{set_cut}
+use Rattle.closing_search.specs.SingleCuts.{AreLoads}
+use Rattle.closing_search.proofs.SetLeaves.{taken, set_loads}
+use Rattle.closing_search.proofs.bench.Bench.set_sums.Goals as goal
+
+pub returns-clause-sums : goal.returns-clause-sums
+returns-clause-sums c =
+    let p = c.self.inside.tables in
+    let is = c.cut_sums.ensures in
+    let ok = c.self.invariant.pricing.problem in
+    let long : length c.cut_sums.new.loads ≡ c.self.inside.pricing.loads.len =
+    is.long ∙ ap (λ q. q.size) c.instance-instance.ensures.value ∙ search rules in
+    subst (AreLoads p (set_cut p c.args.set.now c.args.order.now) c.cut_sums.result)
+    (sym (taken c.self.inside.pricing.loads.len c.cut_sums.new.loads _ long))
+    (set_loads p c.instance-instance.result.now c.args.set.now c.args.order.now c.cut_sums.new.loads c.cut_sums.result c.instance-instance.ensures.value
+    ok c.requires.set c.requires.order is.total is.long is.loads)

@@ -1,0 +1,56 @@
+use Rattle.std.proofs.Common.{◌≡◌, ℕ, Some, refl, sym, ap, subst, ◌∙◌, length, FitsSigned, rules, arith}
+use Rattle.std.specs.Int.{w128}
+use Rattle.std.proofs.lemmas.Int.{to_z-of_z}
+use Rattle.std.proofs.lemmas.List.{length-map}
+use Rattle.std.proofs.lemmas.Result.{on_ok_weaker}
+use Rattle.hub_model.specs.Lines.{tree_line_of}
+use Rattle.search_spec.specs.States.{lesser, rounded_up}
+use Rattle.kept_cuts.specs.Kept.{kept_cut}
+use Rattle.hub_spec.specs.Trees.{Closes, leaf_bound}
+use Rattle.search_spec.specs.States.{denominator}
+use Rattle.closing_search.specs.SingleCuts.{weights_on}
+use Rattle.closing_search.specs.Progressing.{cuts_of, IsDone, target_of}
+use Rattle.closing_search.proofs.Choices.{IsNumber, leaf_sound, leaf_in_range, stop_closes, number_in}
+use Rattle.closing_search.proofs.Steps.{stop_going, stop_done}
+use Rattle.closing_search.proofs.leaves.stopped_leaf.Goals as goal
+
+pub end_with-requires-clause-going : goal.end_with-requires-clause-going
+end_with-requires-clause-going c = stop_going c.args.task.now c.args.progress.now c.lesser.result c.requires.going c.requires.spent
+
+pub end_with-requires-clause-end : goal.end_with-requires-clause-end
+end_with-requires-clause-end c b pending = rw c.in_ok-line.ensures refl
+
+pub end_with-requires-clause-sound : goal.end_with-requires-clause-sound
+end_with-requires-clause-sound c =
+    let p = c.args.task.now.instance.now in
+    let s = c.args.progress.now in
+    let choice = c.best_choice-choice.result in
+    let is = c.best_choice-choice.ensures.choice in
+    let cuts = cuts_of p s in
+    let b = c.args.branch.now in
+    let fits : FitsSigned w128 choice.bound = search rules in
+    let up : c.rounded_up.result ≡ rounded_up choice.bound = c.rounded_up.ensures ∙ ap rounded_up (to_z-of_z w128 choice.bound fits) in
+    let closes = subst (λ (low : ℕ). Closes denominator (lesser s.cost (Some low)) (leaf_bound p cuts denominator (weights_on choice.number) b))
+    (sym c.lesser.ensures) (stop_closes p cuts b choice s.cost c.rounded_up.result s.stop is up) in
+    leaf_sound p cuts (lesser s.cost (Some c.lesser.result)) b choice.number (tree_line_of c.in_ok-line.line) (number_in p cuts b choice is)
+    c.in_ok-line.ensures closes
+
+pub end_with-requires-clause-in_range : goal.end_with-requires-clause-in_range
+end_with-requires-clause-in_range c =
+    let p = c.args.task.now.instance.now in
+    let s = c.args.progress.now in
+    let choice = c.best_choice-choice.result in
+    leaf_in_range p.size (cuts_of p s) choice.number (tree_line_of c.in_ok-line.line)
+    (omega (arith, length-map s.cuts.cuts (kept_cut p), c.requires.going.few_cuts))
+    (number_in p (cuts_of p s) c.args.branch.now choice c.best_choice-choice.ensures.choice) c.in_ok-line.ensures
+
+pub returns : goal.returns
+returns c =
+    let t = c.args.task.now in
+    let b = c.args.branch.now in
+    let s = c.args.progress.now in
+    let after = c.end_with.new.progress in
+    on_ok_weaker c.end_with.result
+    (λ done. stop_done t b s after c.rounded_up.result
+    (subst (λ (low : ℕ). IsDone t b (record s { stop = Some low }) after) c.lesser.ensures done))
+    c.end_with.ensures

@@ -1,0 +1,4 @@
+pub mod SingleCuts
+pub mod Progressing
+pub mod Benches
+pub mod BenchParts

@@ -1,0 +1,80 @@
+-- What a search has at each step, and what a step keeps.
+use Rattle.std.specs.Prelude.{◌≡◌, ℕ, ◌+◌, ◌*◌, ◌≤◌, Bool, true, false, List, [], ◌∷◌, length, All, IsSome, if◌then◌else◌}
+use Rattle.hub_spec.specs.Limits.{most_cost, most_cuts, most_tree_lines}
+use Rattle.hub_spec.specs.Problem.{Problem}
+use Rattle.hub_spec.specs.Plans.{IsHubSet, IsSetCost}
+use Rattle.hub_spec.specs.Cuts.{Cut}
+use Rattle.hub_spec.specs.Trees.{Branching, root, open_child, closed_child, TreeLine}
+use Rattle.hub_spec.specs.Ranges.{IsLineInRange}
+use Rattle.search_spec.specs.States.{lesser}
+use Rattle.search_spec.specs.Findings.{AreWithin, IsSpent}
+use Rattle.tree_walks.specs.Walks.{filled, Walks}
+use Rattle.kept_cuts.specs.Kept.{kept_cuts, AreKeptFor}
+use Rattle.kept_cuts.specs.Networks.{lines_of}
+use Rattle.closing_search.specs.declared.task.Task.{Task}
+use Rattle.closing_search.specs.declared.progress.Progress.{Progress}
+use Rattle.closing_search.specs.SingleCuts.{AreFixedCosts}
+
+-- the cuts of a search
+abbrev pub cuts_of : Problem → Progress → List Cut
+cuts_of p s = kept_cuts p s.cuts.cuts
+
+-- what its leaves close
+abbrev pub target_of : Progress → ℕ
+target_of s = lesser s.cost s.stop
+
+-- its lines lead from the first branches to the last, which are still to be filled
+abbrev pub WalksTo : Problem → Progress → List Branching → List Branching → Type 0
+WalksTo p s first last = Walks p (cuts_of p s) (target_of s) first (lines_of s.lines.items) last
+
+-- what holds at each step: of the task, of the cuts, the lines and the incumbent, and of the nodes
+pub record IsGoing (t : Task) (s : Progress) : Type 0 where
+  pub costs : AreFixedCosts t.instance.now t.fixed.items
+  pub kept : AreKeptFor t.instance.now s.cuts
+  pub few_cuts : length s.cuts.cuts ≤ most_cuts
+  pub few_lines : length s.lines.items ≤ most_tree_lines
+  pub in_range : All (IsLineInRange t.instance.now.size) (lines_of s.lines.items)
+  pub hubs : IsHubSet t.instance.now s.hubs
+  pub cost : IsSetCost t.instance.now s.hubs s.cost
+  pub cost_limit : s.cost ≤ most_cost
+  pub made : s.made ≤ 2 * length s.lines.items + 1
+  pub allowed : AreWithin t.nodes s.made
+  pub spent : IsSome s.stop → IsSpent t.nodes s.made
+
+-- the search goes on with the same lines and nodes: what its lines led to they still lead to
+pub record IsAt (t : Task) (before after : Progress) : Type 0 where
+  pub going : IsGoing t after
+  pub walks : (first last : List Branching) → WalksTo t.instance.now before first last → WalksTo t.instance.now after first last
+  pub lines : length after.lines.items ≡ length before.lines.items
+  pub made : after.made ≡ before.made
+  pub stop : after.stop ≡ before.stop
+
+-- a line after which nothing more is to be filled
+abbrev pub IsEndLine : TreeLine → Type 0
+IsEndLine line = (b : Branching) (pending : List Branching) → filled b line pending ≡ pending
+
+-- the branch has been filled, with a line for each node that was made, and one for the branch itself
+pub record IsDone (t : Task) (b : Branching) (before after : Progress) : Type 0 where
+  pub going : IsGoing t after
+  pub walks : (first pending : List Branching)
+      → WalksTo t.instance.now before first (b ∷ pending) → WalksTo t.instance.now after first pending
+  pub lines : length after.lines.items + before.made ≡ length before.lines.items + after.made + 1
+
+-- in the place of the branch its two children on the node are to be filled
+pub record IsHalved (t : Task) (b : Branching) (k : ℕ) (before after : Progress) : Type 0 where
+  pub going : IsGoing t after
+  pub walks : (first pending : List Branching) → WalksTo t.instance.now before first (b ∷ pending)
+      → WalksTo t.instance.now after first (open_child b k ∷ closed_child b k ∷ pending)
+  pub lines : length after.lines.items ≡ length before.lines.items + 1
+  pub made : after.made ≡ before.made + 2
+
+-- advice was taken: the branch has been filled, or the search goes on, and two nodes more are allowed
+abbrev pub IsAdvised : Task → Branching → Progress → Progress → Bool → Type 0
+IsAdvised t b before after true = IsDone t b before after
+IsAdvised t b before after false = IsAt t before after × AreWithin t.nodes (after.made + 2)
+
+-- the lines lead from the root to the end, one for each node
+pub record IsOver (t : Task) (s : Progress) : Type 0 where
+  pub going : IsGoing t s
+  pub walks : WalksTo t.instance.now s (root t.instance.now ∷ []) []
+  pub lines : length s.lines.items ≡ s.made

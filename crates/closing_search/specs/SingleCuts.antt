@@ -1,0 +1,47 @@
+-- One cut alone: its sums, and the bound of a branch by it.
+use Rattle.std.specs.Prelude.{◌≡◌, ℕ, ◌<◌, ◌≤◌, ℤ, pos, ◌≤ℤ◌, List, [], ◌∷◌, map, length, slice_index, Option, Some, None, IfSome}
+use Rattle.hub_spec.specs.Problem.{Problem, IsProblem}
+use Rattle.hub_spec.specs.Cuts.{Cut, total, load, IsCut}
+use Rattle.hub_spec.specs.Trees.{Branching, leaf_bound, Closes}
+use Rattle.search_spec.specs.States.{denominator, whole_on}
+use Rattle.closing_search.specs.declared.leaves.Choice.{Choice}
+
+-- the fixed cost of each node of an instance
+pub record AreFixedCosts (p : Problem) (fixed : List ℤ) : Type 0 where
+  pub problem : IsProblem p
+  pub costs : fixed ≡ map pos p.fixed_costs
+
+-- the total of a cut of the problem, and its load of each node
+pub record AreLoads (p : Problem) (cut : Cut) (sum : ℕ) (loads : List ℕ) : Type 0 where
+  pub is_cut : IsCut p cut
+  pub is_total : sum ≡ total cut
+  pub long : length loads ≡ p.size
+  pub are_loads : (k : ℕ) → k < p.size → slice_index loads k ≡ load cut k
+
+-- the same, signed, in lists of one
+pub record AreSumsOf (p : Problem) (cut : Cut) (totals : List ℤ) (rows : List (List ℤ)) : Type 0 where
+  pub sum : ℕ
+  pub loads : List ℕ
+  pub are : AreLoads p cut sum loads
+  pub totals_are : totals ≡ pos sum ∷ []
+  pub rows_are : rows ≡ map pos loads ∷ []
+
+-- the bound of a branch by the cut alone
+abbrev pub cut_bound : Problem → Cut → Branching → ℤ
+cut_bound p cut b = leaf_bound p (cut ∷ []) denominator (whole_on 1) b
+
+-- the cut alone closes the target in the branch
+abbrev pub ClosesBy : Problem → Cut → ℕ → Branching → Type 0
+ClosesBy p cut target b = Closes denominator target (cut_bound p cut b)
+
+-- the whole weight on the cut of this number, or no weight
+abbrev pub weights_on : Option ℕ → List (ℕ × ℕ)
+weights_on None = []
+weights_on (Some c) = whole_on c
+
+-- the bound is that of the branch by the cut of this number alone, or by none; it is not below 0
+pub record IsChoice (p : Problem) (cuts : List Cut) (b : Branching) (choice : Choice) : Type 0 where
+  pub least : IfSome choice.number (λ c. 1 ≤ c)
+  pub most : IfSome choice.number (λ c. c ≤ length cuts)
+  pub bound : choice.bound ≡ leaf_bound p cuts denominator (weights_on choice.number) b
+  pub low : pos 0 ≤ℤ choice.bound

@@ -1,0 +1,105 @@
+//! The bound of one cut alone.
+
+ghost use Rattle.std.specs.Prelude.{◌≡◌, ◌≤◌, [], map, pos, IsTrue, length, All, IfOk};
+ghost use Rattle.hub_spec.specs.Cuts.{Cut, total};
+ghost use Rattle.hub_spec.specs.Trees.{IsBranch, leaf_bound, cut_at, Closes};
+ghost use Rattle.hub_spec.specs.Limits.{most_cost};
+ghost use Rattle.leaf_bound.specs.Weighing.{most_bound, IsWithin};
+ghost use Rattle.search_spec.specs.States.{denominator};
+ghost use Rattle.closing_search.specs.Progressing.{cuts_of, IsGoing};
+ghost use Rattle.closing_search.specs.SingleCuts.{AreSumsOf, AreLoads, cut_bound, ClosesBy, AreFixedCosts};
+
+use crate::progress::Progress;
+use crate::task::Task;
+use hub_model::{Branch, signed};
+use std::alloc::{AllocError, Global};
+
+/// The denominator of every leaf.
+pub(crate) const DENOMINATOR: u128 = 1_000_000;
+
+// The whole weight.
+const WHOLE: i128 = 1_000_000;
+
+/// The bound of the branch by the cut of this total and these loads alone, in 10^-12 times the denominator.
+pub(crate) fn single_bound(
+    task: &Task,
+    branch: &Branch,
+    totals: &[i128],
+    loads: &[Vec<i128>],
+) -> i128
+    requires costs { AreFixedCosts task.now.instance.now task.now.fixed.items }
+    requires branch { IsBranch task.now.instance.now branch.now }
+    requires sums { (cut : Cut) × AreSumsOf task.now.instance.now cut totals.now (map (λ v. v.items) loads.now) }
+    ensures bound { (cut : Cut) → AreSumsOf task.now.instance.now cut totals.now (map (λ v. v.items) loads.now)
+        → result ≡ cut_bound task.now.instance.now cut branch.now }
+    ensures limit { IsWithin most_bound result }
+{
+    leaf_bound::bound(totals, loads, &task.fixed, &[WHOLE], WHOLE, branch)
+}
+
+/// The bound of the branch by no cut.
+pub(crate) fn bare_bound(task: &Task, branch: &Branch) -> i128
+    requires costs { AreFixedCosts task.now.instance.now task.now.fixed.items }
+    requires branch { IsBranch task.now.instance.now branch.now }
+    ensures bound { result ≡ leaf_bound task.now.instance.now [] denominator [] branch.now }
+    ensures limit { IsWithin most_bound result }
+{
+    leaf_bound::bound(&[], &[], &task.fixed, &[], WHOLE, branch)
+}
+
+/// The bound of the branch by the kept cut of this number alone.
+pub(crate) fn kept_bound(task: &Task, branch: &Branch, progress: &Progress, number: u64) -> i128
+    requires going { IsGoing task.now progress.now }
+    requires branch { IsBranch task.now.instance.now branch.now }
+    requires least { 1 ≤ number }
+    requires most { number ≤ length progress.now.cuts.cuts }
+    ensures bound { let p = task.now.instance.now in result ≡ cut_bound p (cut_at (cuts_of p progress.now) number) branch.now }
+    ensures limit { IsWithin most_bound result }
+{
+    let start = (number - 1) as usize;
+    let totals = &progress.cuts.totals()[start..start + 1];
+    let loads = &progress.cuts.loads()[start..start + 1];
+    single_bound(task, branch, totals, loads)
+}
+
+/// Tells whether the cut of this total and these loads closes the target in the branch, alone.
+pub(crate) fn sums_close(
+    alloc: Global,
+    task: &Task,
+    branch: &Branch,
+    total: u128,
+    loads: &[u128],
+    target: u128,
+) -> Result<bool, AllocError>
+    requires costs { AreFixedCosts task.now.instance.now task.now.fixed.items }
+    requires branch { IsBranch task.now.instance.now branch.now }
+    requires sums { (cut : Cut) × AreLoads task.now.instance.now cut total loads.now }
+    requires target { target ≤ most_cost }
+    ensures { IfOk result (λ yes. (cut : Cut) → AreLoads task.now.instance.now cut total loads.now → IsTrue yes
+        → ClosesBy task.now.instance.now cut target branch.now) }
+{
+    let row = signed_row(alloc, loads)?;
+    let rows = vec![in alloc; row]?;
+    let bound = single_bound(task, branch, &[signed(total)], &rows);
+    Ok(is_above(bound, target))
+}
+
+/// Tells whether a bound closes the target.
+pub(crate) fn is_above(bound: i128, target: u128) -> bool
+    requires target { target ≤ most_cost }
+    ensures { IsTrue result → Closes denominator target bound }
+{
+    bound > leaf_bound::threshold(WHOLE, signed(target))
+}
+
+// The same amounts, signed.
+fn signed_row(alloc: Global, amounts: &[u128]) -> Result<Vec<i128>, AllocError>
+    requires { All (λ l. l ≤ most_cost) amounts.now }
+    ensures { IfOk result (λ row. row.items ≡ map pos amounts.now) }
+{
+    let mut row = Vec::with_capacity(alloc, amounts.len())?;
+    for amount in amounts {
+        row.push(signed(*amount))?;
+    }
+    Ok(row)
+}

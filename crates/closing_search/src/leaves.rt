@@ -1,0 +1,178 @@
+//! The leaves of the tree.
+
+ghost use Rattle.std.specs.Prelude.{◌≡◌, ◌≤◌, [], ◌∷◌, pos, length, ◌≤ℤ◌, ◌⊎◌, IfOk, IfSome, OnOk};
+ghost use Rattle.hub_spec.specs.Plans.{IsHubSet};
+ghost use Rattle.hub_spec.specs.Trees.{IsBranch, leaf_of, leaf_bound, cut_at};
+ghost use Rattle.hub_model.specs.Lines.{tree_line_of};
+ghost use Rattle.leaf_bound.specs.Weighing.{most_bound, IsWithin};
+ghost use Rattle.search_spec.specs.States.{denominator, whole_on, rounded_up};
+ghost use Rattle.search_spec.specs.Findings.{IsSpent};
+ghost use Rattle.closing_search.specs.Progressing.{cuts_of, target_of, IsGoing, IsDone};
+ghost use Rattle.closing_search.specs.SingleCuts.{ClosesBy, weights_on, IsChoice};
+
+use crate::bench::Bench;
+use crate::bounds::{DENOMINATOR, bare_bound, is_above, kept_bound};
+use crate::keeping::keep;
+use crate::progress::{Progress, end_with, lesser, offer, target};
+use crate::task::Task;
+use hub_model::{Branch, HubSet, Mix, TreeLine, unsigned};
+use hub_plain::outside;
+use kept_cuts::KeptCut;
+use std::alloc::{AllocError, Global};
+
+/// So many of the newest kept cuts are tried at a branch before advice is asked for.
+const MOST_TRIES: u64 = 64;
+
+/// Ends the branch with the leaf of the kept cut of this number, which closes the target.
+pub(crate) fn cut_leaf(
+    alloc: Global,
+    task: &Task,
+    branch: &Branch,
+    number: u64,
+    progress: &mut Progress,
+) -> Result<(), AllocError>
+    requires going { IsGoing task.now progress.old }
+    requires least { 1 ≤ number }
+    requires most { number ≤ length progress.old.cuts.cuts }
+    requires closes { let p = task.now.instance.now in
+        ClosesBy p (cut_at (cuts_of p progress.old) number) (target_of progress.old) branch.now }
+    ensures { OnOk result (IsDone task.now branch.now progress.old progress.new) }
+{
+    let line = whole_line(alloc, number)?;
+    end_with(task, branch, line, progress)
+}
+
+// The leaf with the whole weight on the cut of this number, or with no weight.
+fn leaf_line(alloc: Global, number: Option<u64>) -> Result<TreeLine, AllocError>
+    requires { IfSome number (λ c. 1 ≤ c) }
+    ensures { IfOk result (λ line. tree_line_of line ≡ leaf_of denominator (weights_on number)) }
+{
+    match number {
+        None => Ok(TreeLine::Leaf(Mix::new(DENOMINATOR as i128, Vec::new(alloc)))),
+        Some(number) => whole_line(alloc, number),
+    }
+}
+
+// The leaf with the whole weight on the cut of this number.
+fn whole_line(alloc: Global, number: u64) -> Result<TreeLine, AllocError>
+    requires { 1 ≤ number }
+    ensures { IfOk result (λ line. tree_line_of line ≡ leaf_of denominator (whole_on number)) }
+{
+    let whole = DENOMINATOR as i128;
+    let mut weights = Vec::new(alloc);
+    weights.push((number as i128, whole))?;
+    Ok(TreeLine::Leaf(Mix::new(whole, weights)))
+}
+
+/// The number of a kept cut that closes the target in the branch, alone, if one of the newest does.
+pub(crate) fn closing_cut(task: &Task, branch: &Branch, progress: &Progress) -> Option<u64>
+    requires going { IsGoing task.now progress.now }
+    requires branch { IsBranch task.now.instance.now branch.now }
+    ensures least { IfSome result (λ c. 1 ≤ c) }
+    ensures most { IfSome result (λ c. c ≤ length progress.now.cuts.cuts) }
+    ensures closes { let p = task.now.instance.now in
+        IfSome result (λ c. ClosesBy p (cut_at (cuts_of p progress.now) c) (target_of progress.now) branch.now) }
+{
+    let count = progress.cuts.len();
+    let target = target(progress);
+    for back in 0..count.min(MOST_TRIES) {
+        let number = count - back;
+        if is_above(kept_bound(task, branch, progress, number), target) {
+            return Some(number);
+        }
+    }
+    None
+}
+
+/// Ends a branch in which no node is free with the leaf of the cut of its hubs. They become the incumbent, if they cost
+/// less.
+pub(crate) fn set_leaf(
+    alloc: Global,
+    task: &Task,
+    bench: &mut Bench,
+    branch: &Branch,
+    progress: &mut Progress,
+) -> Result<(), AllocError>
+    requires going { IsGoing task.now progress.old }
+    requires bench { bench.old.problem ≡ task.now.instance.now }
+    requires branch { IsBranch task.now.instance.now branch.now }
+    requires some_inside { 1 ≤ length branch.now.inside }
+    requires none_free { branch.now.free ≡ [] }
+    ensures bench { bench.new.problem ≡ bench.old.problem }
+    ensures done { OnOk result (IsDone task.now branch.now progress.old progress.new) }
+{
+    let set = HubSet::of(alloc, branch.inside())?;
+    let order = outside(alloc, task.instance, &set)?;
+    let total = bench.set_sums(&set, &order);
+    let cost = total + task.instance.opening_cost(set.members());
+    let hubs = set.copy(alloc)?;
+    offer(task, hubs, cost, progress);
+    let cut = KeptCut::Set(set, order);
+    let number = keep(alloc, task, cut, total, bench.loads(), progress)?;
+    cut_leaf(alloc, task, branch, number, progress)
+}
+
+/// The kept cut with the best bound in a branch, if it is better than that of no cut, and the bound, in 10^-12 times the
+/// denominator.
+#[derive(Clone, Copy, Debug)]
+pub(crate) struct Choice {
+    pub(crate) number: Option<u64>,
+    pub(crate) bound: i128,
+}
+
+fn best_choice(task: &Task, branch: &Branch, progress: &Progress) -> Choice
+    requires going { IsGoing task.now progress.now }
+    requires branch { IsBranch task.now.instance.now branch.now }
+    ensures choice { let p = task.now.instance.now in IsChoice p (cuts_of p progress.now) branch.now result }
+    ensures limit { IsWithin most_bound result.bound }
+{
+    let mut best = Choice {
+        number: None,
+        bound: bare_bound(task, branch),
+    };
+    for before in 0..progress.cuts.len() {
+        let number = before + 1;
+        let other = Choice {
+            number: Some(number),
+            bound: kept_bound(task, branch, progress, number),
+        };
+        best = better_of(best, other);
+    }
+    best
+}
+
+// The choice with the better bound, the first if they are equal.
+fn better_of(best: Choice, other: Choice) -> Choice
+    ensures { (result ≡ best) ⊎ ((best.bound ≤ℤ other.bound) × (result ≡ other)) }
+{
+    if other.bound > best.bound { other } else { best }
+}
+
+/// Ends the branch with the leaf that a stop makes of it.
+pub(crate) fn stopped_leaf(
+    alloc: Global,
+    task: &Task,
+    branch: &Branch,
+    progress: &mut Progress,
+) -> Result<(), AllocError>
+    requires going { IsGoing task.now progress.old }
+    requires branch { IsBranch task.now.instance.now branch.now }
+    requires spent { IsSpent task.now.nodes progress.old.made }
+    ensures { OnOk result (IsDone task.now branch.now progress.old progress.new) }
+{
+    let choice = best_choice(task, branch, progress);
+    let line = leaf_line(alloc, choice.number)?;
+    progress.stop = Some(lesser(rounded_up(choice.bound), progress.stop));
+    end_with(task, branch, line, progress)
+}
+
+// The bound, in 10^-12 times the denominator, in 10^-12 and rounded up; 0 for one below 0.
+fn rounded_up(bound: i128) -> u128
+    requires { IsWithin most_bound bound }
+    ensures { result ≡ rounded_up bound }
+{
+    if bound < 0 {
+        return 0;
+    }
+    unsigned(bound).div_ceil(DENOMINATOR)
+}

@@ -1,0 +1,24 @@
+//! A search of real size that follows no fixed rule, with the certificate of what it finds.
+//!
+//! `optimize` walks the tree of branches, the open child first. At a node, advice (`price_passes`) betters hub sets and
+//! values of the candidates for each commodity, and the cut of the values (`value_cuts`) is exact whatever they are. Near
+//! the optimum of the linear relaxation one such cut closes the root: no plan costs less than the incumbent. Where it
+//! does not, the search branches. A branch with nothing free ends on the cut of its own hubs. With a most number of nodes
+//! the search stops where two more are not allowed, and each branch that is left becomes a leaf.
+//!
+//! Nothing of the advice is trusted. Each step keeps what `Progressing` of the specs says: the lines lead from the root
+//! to the branches that are still to be filled (`tree_walks`), and the incumbent has its cost. `Bench` is what a search
+//! works with, `Progress` what it has. Costs are in 10^-12; nodes are `u32`, counted from 0, cuts are counted from 1.
+#![tactic(auto)]
+
+mod advising;
+mod bench;
+mod bounds;
+mod keeping;
+mod leaves;
+mod optimizing;
+mod progress;
+mod task;
+mod walking;
+
+pub use optimizing::optimize;

@@ -1,0 +1,113 @@
+//! What a search has so far, and the lines that it adds.
+
+ghost use Rattle.std.specs.Prelude.{◌≡◌, ◌+◌, ◌≤◌, IsTrue, false, Contains, OnOk};
+ghost use Rattle.hub_spec.specs.Plans.{IsHubSet, IsSetCost};
+ghost use Rattle.hub_spec.specs.Trees.{IsBranch};
+ghost use Rattle.hub_spec.specs.Ranges.{IsLineInRange};
+ghost use Rattle.hub_model.specs.Lines.{tree_line_of};
+ghost use Rattle.search_spec.specs.States.{lesser};
+ghost use Rattle.search_spec.specs.Findings.{AreWithin, IsSpent};
+ghost use Rattle.tree_walks.specs.Walks.{IsSoundLine};
+ghost use Rattle.closing_search.specs.Progressing.{cuts_of, target_of, IsGoing, IsAt, IsDone, IsHalved, IsEndLine};
+
+use crate::task::Task;
+use hub_model::{Branch, HubSet, MOST_TREE_LINES, TreeLine};
+use kept_cuts::KeptCuts;
+use std::alloc::AllocError;
+
+/// The cuts and the lines of the tree, the incumbent with its cost, the nodes made, and after a stop the least that a
+/// leaf of the stop says of every plan. Costs are in 10^-12.
+#[derive(Debug, Drop)]
+pub(crate) struct Progress {
+    pub(crate) cuts: KeptCuts,
+    pub(crate) lines: Vec<TreeLine>,
+    pub(crate) hubs: HubSet,
+    pub(crate) cost: u128,
+    pub(crate) made: u64,
+    pub(crate) stop: Option<u128>,
+}
+
+/// The lesser of a number and another, if there is another.
+pub(crate) fn lesser(number: u128, other: Option<u128>) -> u128
+    ensures { result ≡ lesser number other }
+{
+    match other {
+        None => number,
+        Some(other) => number.min(other),
+    }
+}
+
+/// What a leaf is to close, in 10^-12: the incumbent's cost, or the least of it and of what a stop left.
+pub(crate) fn target(progress: &Progress) -> u128
+    ensures { result ≡ target_of progress.now }
+{
+    lesser(progress.cost, progress.stop)
+}
+
+/// Ends the branch with a line, unless the tree is as long as a certificate's can be.
+pub(crate) fn end_with(
+    task: &Task,
+    branch: &Branch,
+    line: TreeLine,
+    progress: &mut Progress,
+) -> Result<(), AllocError>
+    requires going { IsGoing task.now progress.old }
+    requires end { IsEndLine (tree_line_of line) }
+    requires sound { IsSoundLine task.now.instance.now (cuts_of task.now.instance.now progress.old) (target_of progress.old) branch.now (tree_line_of line) }
+    requires in_range { IsLineInRange task.now.instance.now.size (tree_line_of line) }
+    ensures { OnOk result (IsDone task.now branch.now progress.old progress.new) }
+{
+    if progress.lines.len() >= MOST_TREE_LINES {
+        return Err(AllocError);
+    }
+    progress.lines.push(line)?;
+    Ok(())
+}
+
+/// Adds the line of a branch on the free node, which makes two nodes more.
+pub(crate) fn split_on(
+    task: &Task,
+    branch: &Branch,
+    k: u32,
+    progress: &mut Progress,
+) -> Result<(), AllocError>
+    requires going { IsGoing task.now progress.old }
+    requires branch { IsBranch task.now.instance.now branch.now }
+    requires free { Contains branch.now.free k }
+    requires allowed { AreWithin task.now.nodes (progress.old.made + 2) }
+    ensures { OnOk result (IsHalved task.now branch.now k progress.old progress.new) }
+{
+    if progress.lines.len() >= MOST_TREE_LINES {
+        return Err(AllocError);
+    }
+    progress.lines.push(TreeLine::BranchOn(k))?;
+    progress.made += 2;
+    Ok(())
+}
+
+/// Tells whether two nodes more are allowed.
+pub(crate) fn may_split(task: &Task, progress: &Progress) -> bool
+    requires { IsGoing task.now progress.now }
+    ensures may { IsTrue result → AreWithin task.now.nodes (progress.now.made + 2) }
+    ensures spent { result ≡ false → IsSpent task.now.nodes progress.now.made }
+{
+    match task.nodes {
+        None => true,
+        Some(most) => progress.made + 2 <= most,
+    }
+}
+
+/// Makes the set the incumbent, if it costs less.
+pub(crate) fn offer(task: &Task, set: HubSet, cost: u128, progress: &mut Progress)
+    requires going { IsGoing task.now progress.old }
+    requires set { IsHubSet task.now.instance.now set }
+    requires cost { IsSetCost task.now.instance.now set cost }
+    ensures at { IsAt task.now progress.old progress.new }
+    ensures reached { progress.new.cost ≤ cost }
+    ensures same { progress.new.cuts ≡ progress.old.cuts }
+{
+    if cost < progress.cost {
+        progress.hubs = set;
+        progress.cost = cost;
+    }
+}
