@@ -16,3 +16,4 @@ pub mod Amounts
 pub mod Written
 pub mod Following
 pub mod Putting
+pub mod CutLines

@@ -11,3 +11,4 @@ pub mod Faults
 pub mod Readings
 pub mod Spaced
 pub mod Puts
+pub mod DualItems

@@ -7,12 +7,11 @@ use Rattle.hub_spec.specs.Problem.{Problem, commodities}
 use Rattle.hub_spec.specs.Plans.{Plan}
 use Rattle.hub_spec.specs.Cuts.{Cut, cut_by}
 use Rattle.hub_spec.specs.Trees.{Tree, preorder}
-use Rattle.hub_spec.specs.Separation.{minimal_dual, set_cut}
 use Rattle.hub_model.specs.declared.tree_lines.TreeLine as model
 use Rattle.cert_spec.specs.Lines.{Item, says_cut}
 use Rattle.cert_spec.specs.Text.{line_bytes, cut_items, top_items, cuts_items, tree_items, certificate_text}
 use Rattle.cert_spec.proofs.Items.{certificate_items-parts}
-use Rattle.closed_text.proofs.CutLines.{cut_text, cut_at, cut_text_by, three_texts}
+use Rattle.cert_format.proofs.CutLines.{cut_text, cut_at, cut_text_by, set_cut_text, three_texts}
 use Rattle.value_cuts.specs.Values.{value_cut}
 use Rattle.kept_cuts.specs.Kept.{Kept, by_values, by_set, KeptList, kept_cut, kept_cuts, kept_at}
 use Rattle.kept_cuts.specs.Networks.{lines_of, proof_of}
@@ -34,15 +33,11 @@ value_cut_is : (p : Problem) (rows : _) → value_cut p rows ≡ cut_by (map (co
 unfolding value_cut
 value_cut_is p rows = refl
 
-set_cut_is : (p : Problem) (hubs order : List ℕ) → set_cut p hubs order ≡ cut_by (map (minimal_dual p hubs order) (commodities p.size))
-unfolding set_cut
-set_cut_is p hubs order = refl
-
 -- the line of the cut and those of its duals are the cut's
 pub kept_cut_text : (p : Problem) (c : ℕ) (kept : Kept)
     → line_bytes (says_cut c) ++ flat_map line_bytes (kept_dual_items p kept) ≡ flat_map line_bytes (cut_items p.size (c, kept_cut p kept))
 kept_cut_text p c (by_values rows) = cut_text_by p.size c (commodity_dual p rows) (value_cut p rows) (value_cut_is p rows)
-kept_cut_text p c (by_set hubs order) = cut_text_by p.size c (minimal_dual p hubs order) (set_cut p hubs order) (set_cut_is p hubs order)
+kept_cut_text p c (by_set hubs order) = set_cut_text p c hubs order
 
 -- ---- the cuts
 

@@ -1,2 +1,1 @@
-pub mod CutLines
 pub mod KeptLines

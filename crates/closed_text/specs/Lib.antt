@@ -1,4 +1,3 @@
-pub mod DualItems
 pub mod Rooms
 pub mod RoomParts
 pub mod Texts

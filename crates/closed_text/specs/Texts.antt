@@ -5,7 +5,7 @@ use Rattle.hub_spec.specs.Trees.{Tree, preorder}
 use Rattle.hub_spec.specs.Separation.{minimal_dual}
 use Rattle.cert_spec.specs.Lines.{Item}
 use Rattle.cert_spec.specs.Text.{top_items, cuts_items, tree_items, line_bytes, certificate_text}
-use Rattle.closed_text.specs.DualItems.{all_dual_items}
+use Rattle.cert_format.specs.DualItems.{all_dual_items}
 use Rattle.kept_cuts.specs.Kept.{Kept, by_values, by_set, kept_cuts}
 use Rattle.kept_cuts.specs.Networks.{lines_of, proof_of}
 use Rattle.kept_cuts.specs.declared.network.Network.{Network}

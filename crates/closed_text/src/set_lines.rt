@@ -5,7 +5,7 @@ ghost use Rattle.hub_spec.specs.Plans.{IsHubSet};
 ghost use Rattle.hub_spec.specs.Separation.{IsOrder, minimal_dual};
 ghost use Rattle.pareto_cuts.specs.Scratches.{IsReadyFor};
 ghost use Rattle.cert_format.specs.Puts.{PutsLines};
-ghost use Rattle.closed_text.specs.DualItems.{dual_items_from, all_dual_items};
+ghost use Rattle.cert_format.specs.DualItems.{dual_items_from, all_dual_items};
 
 use cert_format::put_dual;
 use hub_io::{Buffer, Failed, Sink};

@@ -3,7 +3,7 @@
 ghost use Rattle.std.specs.Prelude.{◌≡◌, ◌<◌};
 ghost use Rattle.value_cuts.specs.Values.{AreValuesFor};
 ghost use Rattle.cert_format.specs.Puts.{PutsLines};
-ghost use Rattle.closed_text.specs.DualItems.{dual_items_from, all_dual_items};
+ghost use Rattle.cert_format.specs.DualItems.{dual_items_from, all_dual_items};
 ghost use Rattle.closed_text.specs.Rooms.{commodity_dual};
 
 use crate::rooms::ValueRoom;

@@ -1,11 +1,9 @@
 -- The text of the certificate of what a search found: its lines in order, the tree's as they were found.
-use Rattle.std.specs.Prelude.{◌≡◌, ℕ, List, ◌++◌, length, map, flat_map}
-use Rattle.std.specs.List.{range_with_len}
+use Rattle.std.specs.Prelude.{◌≡◌, ℕ, List, ◌++◌, length, flat_map}
 use Rattle.hub_spec.specs.Problem.{Problem}
 use Rattle.hub_spec.specs.Trees.{Tree, preorder}
-use Rattle.hub_spec.specs.Separation.{minimal_dual}
 use Rattle.hub_model.specs.Amounts.{natural}
-use Rattle.cert_spec.specs.Lines.{Item, says_dual}
+use Rattle.cert_spec.specs.Lines.{Item}
 use Rattle.cert_spec.specs.Text.{top_items, cuts_items, tree_items, line_bytes, certificate_text}
 use Rattle.search_steps.specs.Pools.{pool_cuts}
 use Rattle.branch_tree.specs.declared.found.Found.{Found}
@@ -16,14 +14,6 @@ use Rattle.branch_tree.specs.Findings.{proof_of}
 abbrev pub found_top_items : Problem → Found → List Item
 found_top_items p found =
     top_items p.size (length p.candidates) (natural found.cost) (natural found.bound) found.plan (length found.pool.entries)
-
--- the lines of the duals of a cut's commodities from i
-abbrev pub origin_items : Problem → (hubs order : List ℕ) → ℕ → List Item
-origin_items p hubs order i = map (λ j. says_dual (i, j) (minimal_dual p hubs order (i, j))) (range_with_len 0 p.size)
-
--- the lines of all of the cut's duals
-abbrev pub set_dual_items : Problem → (hubs order : List ℕ) → List Item
-set_dual_items p hubs order = flat_map (origin_items p hubs order) (range_with_len 0 p.size)
 
 -- all lines
 abbrev pub found_items : Problem → Found → List Item

@@ -2,7 +2,7 @@
 
 ghost use Rattle.std.specs.Prelude.{◌≡◌, ◌<◌, ◌≤◌, pos};
 ghost use Rattle.hub_spec.specs.Plans.{IsHubSet};
-ghost use Rattle.hub_spec.specs.Separation.{IsOrder, set_cut};
+ghost use Rattle.hub_spec.specs.Separation.{IsOrder, minimal_dual, set_cut};
 ghost use Rattle.cert_spec.specs.Text.{cut_items, cuts_items};
 ghost use Rattle.hub_io.specs.Outside.{Puts};
 ghost use Rattle.hub_model.specs.Amounts.{natural};
@@ -10,7 +10,8 @@ ghost use Rattle.pareto_cuts.specs.Scratches.{IsReadyFor};
 ghost use Rattle.search_steps.specs.Pools.{IsPoolOf, pool_cuts};
 ghost use Rattle.branch_tree.specs.Findings.{IsProved};
 ghost use Rattle.cert_format.specs.Puts.{PutsLines};
-ghost use Rattle.found_text.specs.Texts.{found_top_items, origin_items, set_dual_items, found_items, found_text};
+ghost use Rattle.cert_format.specs.DualItems.{dual_items_from, all_dual_items};
+ghost use Rattle.found_text.specs.Texts.{found_top_items, found_items, found_text};
 
 use branch_tree::Found;
 use cert_format::{put_cut, put_dual, put_top, put_tree};
@@ -151,7 +152,7 @@ fn put_duals<K: Sink>(
     requires ready { IsReadyFor instance.now set.now order.now scratch.old }
     ensures room { scratch.new.room ≡ scratch.old.room }
     ensures lines { PutsLines K.taken K.faults sink.old sink.new buffer.old buffer.new result
-        (set_dual_items instance.now set.now order.now) }
+        (all_dual_items instance.now.size (minimal_dual instance.now set.now order.now)) }
 {
     for i in 0..instance.size() {
         put_origin(instance, set, order, i, scratch, buffer, sink)?;
@@ -177,7 +178,7 @@ fn put_origin<K: Sink>(
     ensures room { scratch.new.room ≡ scratch.old.room }
     ensures ready { IsReadyFor instance.now set.now order.now scratch.new }
     ensures lines { PutsLines K.taken K.faults sink.old sink.new buffer.old buffer.new result
-        (origin_items instance.now set.now order.now i) }
+        (dual_items_from instance.now.size (minimal_dual instance.now set.now order.now) i) }
 {
     scratch.work_out(instance, set, order, i);
     for j in 0..instance.size() {

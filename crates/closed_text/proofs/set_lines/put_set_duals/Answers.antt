@@ -3,8 +3,8 @@ use Rattle.std.specs.List.{range_with_len}
 use Rattle.std.proofs.lemmas.List.FromFn.{length-range_with_len}
 use Rattle.hub_spec.specs.Separation.{minimal_dual}
 use Rattle.cert_format.proofs.Following.{as_text, list_more, list_stop, list_end}
-use Rattle.closed_text.specs.DualItems.{dual_items_from}
-use Rattle.closed_text.proofs.CutLines.{texts_joined, origin_at}
+use Rattle.cert_format.specs.DualItems.{dual_items_from}
+use Rattle.cert_format.proofs.CutLines.{texts_joined, origin_at}
 use Rattle.closed_text.proofs.set_lines.put_set_duals.Goals as goal
 
 pub returns-in_err-put_set_origin-clause-lines : goal.returns-in_err-put_set_origin-clause-lines

@@ -4,7 +4,7 @@ use Rattle.hub_spec.specs.Separation.{minimal_dual}
 use Rattle.cert_spec.specs.Text.{line_bytes}
 use Rattle.cert_format.proofs.Following.{HasPut}
 use Rattle.pareto_cuts.specs.Scratches.{IsReadyFor}
-use Rattle.closed_text.specs.DualItems.{dual_items_from}
+use Rattle.cert_format.specs.DualItems.{dual_items_from}
 use Rattle.closed_text.proofs.set_lines.put_set_duals.Given as goal
 
 abbrev pub invariant-loop-i : goal.invariant-loop-i

@@ -7,7 +7,7 @@ use Rattle.hub_plain.proofs.Entries.{entries_again}
 use Rattle.cert_format.proofs.Amounts.{same_amount}
 use Rattle.cert_format.proofs.Written.{values_natural}
 use Rattle.cert_format.proofs.Following.{list_more, list_stop, list_end}
-use Rattle.closed_text.proofs.CutLines.{length_dual_items_from, dual_at}
+use Rattle.cert_format.proofs.CutLines.{length_dual_items_from, dual_at}
 use Rattle.closed_text.proofs.set_lines.put_set_origin.Goals as goal
 
 pub make_dual-requires-clause-room : goal.make_dual-requires-clause-room

@@ -2,9 +2,9 @@ use Rattle.std.proofs.Common.{ap, is_ok, is_err, sym, ◌∙◌, arith}
 use Rattle.std.specs.List.{range_with_len}
 use Rattle.std.proofs.lemmas.List.FromFn.{length-range_with_len}
 use Rattle.cert_format.proofs.Following.{as_text, list_more, list_stop, list_end}
-use Rattle.closed_text.specs.DualItems.{dual_items_from}
+use Rattle.cert_format.specs.DualItems.{dual_items_from}
 use Rattle.closed_text.specs.Rooms.{commodity_dual}
-use Rattle.closed_text.proofs.CutLines.{texts_joined, origin_at}
+use Rattle.cert_format.proofs.CutLines.{texts_joined, origin_at}
 use Rattle.closed_text.proofs.value_lines.put_value_duals.Goals as goal
 
 pub returns-in_err-put_value_origin-clause-room : goal.returns-in_err-put_value_origin-clause-room

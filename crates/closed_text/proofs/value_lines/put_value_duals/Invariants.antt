@@ -2,7 +2,7 @@ use Rattle.std.proofs.Common.{◌≡◌, flat_map}
 use Rattle.std.specs.List.{range_with_len}
 use Rattle.cert_spec.specs.Text.{line_bytes}
 use Rattle.cert_format.proofs.Following.{HasPut}
-use Rattle.closed_text.specs.DualItems.{dual_items_from}
+use Rattle.cert_format.specs.DualItems.{dual_items_from}
 use Rattle.closed_text.specs.Rooms.{commodity_dual}
 use Rattle.closed_text.proofs.value_lines.put_value_duals.Given as goal
 

@@ -9,7 +9,7 @@ use Rattle.cert_format.proofs.Amounts.{same_amount}
 use Rattle.cert_format.proofs.Written.{values_natural}
 use Rattle.cert_format.proofs.Following.{list_start, list_more, list_stop, list_end}
 use Rattle.closed_text.specs.Rooms.{commodity_dual, HasPricesFrom}
-use Rattle.closed_text.proofs.CutLines.{length_dual_items_from, dual_at}
+use Rattle.cert_format.proofs.CutLines.{length_dual_items_from, dual_at}
 use Rattle.closed_text.proofs.value_lines.put_value_origin.Goals as goal
 
 pub set_prices-requires-clause-values : goal.set_prices-requires-clause-values

@@ -1,6 +1,6 @@
 use Rattle.std.proofs.Common.{◌≡◌}
 use Rattle.cert_format.proofs.Following.{HasPut}
-use Rattle.closed_text.proofs.CutLines.{cut_text}
+use Rattle.cert_format.proofs.CutLines.{cut_text}
 use Rattle.closed_text.proofs.KeptLines.{numbered}
 use Rattle.closed_text.proofs.written.put_kept_cuts.Given as goal
 

@@ -1,6 +1,7 @@
 use Rattle.std.proofs.Common.{◌≡◌}
 use Rattle.cert_format.proofs.Following.{HasPut}
-use Rattle.found_text.proofs.FoundLines.{cut_text, numbered}
+use Rattle.cert_format.proofs.CutLines.{cut_text}
+use Rattle.found_text.proofs.FoundLines.{numbered}
 use Rattle.found_text.proofs.written.put_pool.Given as goal
 
 abbrev pub invariant-loop-place : goal.invariant-loop-place

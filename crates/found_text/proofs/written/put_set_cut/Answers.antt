@@ -1,6 +1,6 @@
 use Rattle.std.proofs.Common.{ap, is_ok, is_err}
 use Rattle.cert_format.proofs.Following.{as_text, then_put, then_none}
-use Rattle.found_text.proofs.FoundLines.{set_cut_text}
+use Rattle.cert_format.proofs.CutLines.{set_cut_text}
 use Rattle.found_text.proofs.written.put_set_cut.Goals as goal
 
 pub returns-in_err-put_cut-clause-lines : goal.returns-in_err-put_cut-clause-lines

@@ -4,12 +4,13 @@ use Rattle.std.specs.List.{enumerate_from, range_with_len}
 use Rattle.std.proofs.lemmas.List.{map-append}
 use Rattle.std.proofs.lemmas.List.Concat.{flat_map-append}
 use Rattle.std.proofs.lemmas.List.FromFn.{get_or-enumerate_from, length-map-range_with_len, get_or-range_with_len, get_or-map-range_with_len}
-use Rattle.hub_spec.specs.Problem.{commodities}
+use Rattle.hub_spec.specs.Problem.{Problem, commodities}
 use Rattle.hub_spec.specs.Cuts.{Prices, Cut, cut_by}
+use Rattle.hub_spec.specs.Separation.{minimal_dual, set_cut}
 use Rattle.hub_model.specs.Prices.{natural_values}
 use Rattle.cert_spec.specs.Lines.{Item, says_cut, says_dual}
 use Rattle.cert_spec.specs.Text.{line_bytes, dual_items, cut_items}
-use Rattle.closed_text.specs.DualItems.{dual_items_from, all_dual_items}
+use Rattle.cert_format.specs.DualItems.{dual_items_from, all_dual_items}
 
 -- texts of lists of lines, one behind the other
 pub texts_joined : {X : Type 0} (f : X → List Item) (xs : List X) → flat_map (λ x. flat_map line_bytes (f x)) xs ≡ flat_map line_bytes (flat_map f xs)
@@ -51,6 +52,16 @@ pub cut_text_by : (n c : ℕ) (d : ℕ × ℕ → Prices) (cut : Cut) → cut �
 cut_text_by n c d cut is =
     ap (λ items. line_bytes (says_cut c) ++ flat_map line_bytes items) (all_dual_items-mapped n d)
     ∙ ap (λ (k : Cut). flat_map line_bytes (cut_items n (c, k))) (sym is)
+
+set_cut_is : (p : Problem) (hubs order : List ℕ) → set_cut p hubs order ≡ cut_by (map (minimal_dual p hubs order) (commodities p.size))
+unfolding set_cut
+set_cut_is p hubs order = refl
+
+-- the same of the cut of a hub set
+pub set_cut_text : (p : Problem) (c : ℕ) (hubs order : List ℕ)
+    → line_bytes (says_cut c) ++ flat_map line_bytes (all_dual_items p.size (minimal_dual p hubs order))
+    ≡ flat_map line_bytes (cut_items p.size (c, set_cut p hubs order))
+set_cut_text p c hubs order = cut_text_by p.size c (minimal_dual p hubs order) (set_cut p hubs order) (set_cut_is p hubs order)
 
 pub length_dual_items_from : (n : ℕ) (d : ℕ × ℕ → Prices) (i : ℕ) → length (dual_items_from n d i) ≡ n
 length_dual_items_from n d i = length-map-range_with_len (λ j. says_dual (i, j) (d (i, j))) 0 n
