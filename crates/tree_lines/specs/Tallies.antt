@@ -5,12 +5,16 @@ use Rattle.hub_spec.specs.Problem.{Problem, fixed_cost}
 use Rattle.hub_spec.specs.Cuts.{Cut}
 use Rattle.hub_spec.specs.Trees.{Branching, weight_sum, mixed_total, mixed_load, gain, branch_bound}
 
--- the denominator, and so far: the sum of the weights, that of the totals times them, and by node that of the loads times them
+-- the denominator, and so far the sums of the weights, of the totals times them, and by node of the loads times them
 pub record Tally : Type 0 where
   pub denom : ℕ
   pub weight : ℕ
   pub base : ℕ
   pub loads : List ℕ
+
+-- by its parts
+abbrev pub tally_of : ℕ → ℕ → ℕ → List ℕ → Tally
+tally_of denom weight base loads = record { denom = denom; weight = weight; base = base; loads = loads }
 
 -- nothing is added up yet
 pub record IsBegun (denom n : ℕ) (tally : Tally) : Type 0 where

@@ -24,13 +24,13 @@ pub struct LeafSums {
 }
 
 impl Model for LeafSums {
-    ghost use Rattle.tree_lines.specs.Tallies.{Tally, IsWithin};
+    ghost use Rattle.tree_lines.specs.Tallies.{Tally, tally_of, IsWithin};
 
     ghost Value = { Tally };
 
-    ghost view = { λ s. record { denom = s.denom; weight = s.weight; base = s.base; loads = s.loads.items } };
+    ghost view = { λ s. tally_of s.denom s.weight s.base s.loads.items };
 
-    ghost invariant = { λ s. IsWithin (record { denom = s.denom; weight = s.weight; base = s.base; loads = s.loads.items }) };
+    ghost invariant = { λ s. IsWithin (tally_of s.denom s.weight s.base s.loads.items) };
 }
 
 impl LeafSums {
