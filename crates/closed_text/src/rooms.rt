@@ -1,7 +1,6 @@
 //! Room to make duals in.
 
-ghost use Rattle.std.specs.Prelude.{◌≡◌, ◌<◌, ◌≤◌, pos, IfOk};
-ghost use Rattle.hub_spec.specs.Problem.{Problem};
+ghost use Rattle.std.specs.Prelude.{◌≡◌, ◌<◌, pos, IfOk};
 ghost use Rattle.hub_spec.specs.Separation.{AreListedValues};
 ghost use Rattle.hub_model.specs.Prices.{signed_values};
 ghost use Rattle.value_cuts.specs.Values.{AreValuesFor};

@@ -1,7 +1,7 @@
 //! The text of the certificate of a network, put part by part.
 
 ghost use Rattle.std.specs.Prelude.{◌≡◌, All};
-ghost use Rattle.cert_spec.specs.Text.{dual_items, cut_items, cuts_items};
+ghost use Rattle.cert_spec.specs.Text.{cut_items, cuts_items};
 ghost use Rattle.hub_io.specs.Outside.{Puts};
 ghost use Rattle.cert_format.specs.Puts.{PutsLines};
 ghost use Rattle.kept_cuts.specs.Kept.{kept_of, kept_cut, kept_cuts, IsKeptFor};
