@@ -1,7 +1,7 @@
 -- The values of one origin once all places had their turn.
 use Rattle.std.proofs.Common.{◌≡◌, ℕ, ◌*◌, ◌<◌, List, length, slice_index, ⊎_elim, arith}
 use Rattle.unit_duals.specs.Cells.{cell}
-use Rattle.unit_duals.specs.Lengths.{UnitLegs, stops}
+use Rattle.unit_duals.specs.Lengths.{UnitLegs}
 use Rattle.unit_duals.specs.LeastValues.{IsAsked, nothing, by_itself, to_hub, from_hub, to_earlier, from_earlier, IsLeastValue, AreLeastValues}
 use Rattle.unit_duals.specs.Values.{origin_of, reach_leg, IsTight, at_nothing, at_back, at_reach, at_forth, at_home, IsValue, AreFinal}
 use Rattle.unit_duals.proofs.HubLengths.{back_le_last, back_le_by, back_is, reach_le_by, reach_is}
@@ -32,10 +32,10 @@ value_is_least l prices first reach values t j v is_reach value = record {
 }
 
 pub values_are_least : (l : UnitLegs) (prices first reach values : List ℕ) → length values ≡ l.count * l.size
-    → ((t : ℕ) → t < stops l → slice_index reach t ≡ reach_leg l first t)
+    → ((t : ℕ) → t < l.count → slice_index reach t ≡ reach_leg l first t)
     → AreFinal (origin_of l prices first reach) l.size l.count values → AreLeastValues l first prices values
 values_are_least l prices first reach values long is_reach final = record {
   long = long;
   each = λ t j place column. value_is_least l prices first reach (cell l.size values) t j (cell l.size values t j)
-      (is_reach t (omega (arith, place))) (final.each t j place column);
+      (is_reach t place) (final.each t j place column);
 }

@@ -1,21 +1,24 @@
 //! The lengths of one origin: to the stops by a hub, and to the destinations by hubs.
 
-ghost use Rattle.std.specs.Prelude.{◌≡◌, ◌≤◌, length};
-ghost use Rattle.unit_duals.specs.Lengths.{AreFirstLegs, IsLegRow, stops};
+ghost use Rattle.std.specs.Prelude.{◌≡◌, ℕ, ◌<◌, ◌≤◌, length, slice_index};
+ghost use Rattle.unit_duals.specs.Lengths.{AreFirstLegs, stops};
 ghost use Rattle.unit_duals.specs.Values.{reach_leg, price_by, ArePricesBy};
 
 use crate::Tables;
 use crate::lowering::lower_by_hubs;
 use crate::stretches::set_stretch;
 
-/// Sets the least length from the origin to each stop, straight or by a hub.
+/// Sets the least length from the origin to each place, straight or by a hub.
 pub(crate) fn set_reach(tables: &Tables, first: &[u64], reach: &mut [u64])
     requires first { AreFirstLegs tables.now.legs first.now }
     requires long { length reach.old ≡ stops tables.now.legs }
-    ensures { IsLegRow (stops tables.now.legs) (reach_leg tables.now.legs first.now) reach.new }
+    ensures legs { AreFirstLegs tables.now.legs reach.new }
+    ensures each { let l = tables.now.legs in (k : ℕ) → k < l.count → slice_index reach.new k ≡ reach_leg l first.now k }
 {
     reach.copy_from_slice(first);
-    lower_by_hubs(reach, first, tables.trunk(), tables.count(), tables.hubs());
+    if tables.count() > 0 {
+        lower_by_hubs(reach, first, tables.trunk(), tables.count(), tables.hubs());
+    }
 }
 
 /// Sets the least length from the origin to each destination, by one hub or by two.

@@ -29,7 +29,7 @@ returns-clause-values c =
     ap (λ (h : ℕ). h * c.size.result) c.count.ensures.value ∙ ap (λ (n : ℕ). l.count * n) c.size.ensures.value in
     let long : length values ≡ l.count * l.size =
     omega (arith, c.pull_values.auto.values, c.deref_mut-5.ensures.len, c.fit-5.ensures.len, cells) in
-    let reach_items = c.deref-2.ensures.value ∙ with_items_is c.fit-2.new.items reach (omega (arith, c.set_reach.ensures.long, c.fit-2.ensures.len, c.stops.ensures.value)) in
+    let reach_items = c.deref-2.ensures.value ∙ with_items_is c.fit-2.new.items reach (omega (arith, c.set_reach.ensures.legs.long, c.fit-2.ensures.len, c.stops.ensures.value)) in
     let prices = (with_items c.fit.new.items c.set_prices.new.prices).items in
     subst (AreLeastValues l first prices) (sym (with_items_is c.fit-5.new.items values (omega (arith, long, c.fit-5.ensures.len, cells))))
     (subst (λ (ps : List ℕ). AreLeastValues l first ps values) c.deref.ensures.value
