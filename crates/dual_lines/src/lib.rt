@@ -1,4 +1,13 @@
-//! Duals of an instance's commodities, tested one after another.
+//! Duals of an instance's commodities, tested one after another, with no memory of those before.
+//!
+//! A certificate lists for a commodity a price and values of nodes; it is a feasible dual where no route by way of
+//! candidates costs less than the price, with the values of its hubs added. `lines` has the dual that is listed, and
+//! tells whether it holds. `tables` are the instance's legs, made once by `filling`; a place is the number of a
+//! candidate in their order, from 0, and `places` writes and clears what a dual lists by place.
+//!
+//! `units` tests by unit of flow in small numbers, with the price rounded up and the values rounded down, and visits
+//! only the hubs that collection and the nearest end leave open. What it does not show to be covered, `amounts`
+//! decides in the numbers that are listed. Costs are in 10^-12, lengths by unit of flow in 10^-6.
 #![tactic(auto)]
 
 mod amounts;

@@ -131,7 +131,8 @@ fn is_place_covered(
     requires short { All IsAmount amounts.now }
     requires units { AreUnits legs.now (flow legs.now line.from line.to) (slice_index amounts.now) units.now }
     requires place { x < length legs.now.candidates }
-    ensures { IsTrue result ↔ IsCoveredFirst legs.now (line.from, line.to) line.price amounts.now (candidate_at legs.now x) }
+    ensures { IsTrue result
+        ↔ IsCoveredFirst legs.now (line.from, line.to) line.price amounts.now (candidate_at legs.now x) }
 {
     if is_covered_in_units(legs, line.from, line.to, price, last, near, units, x) {
         return true;
