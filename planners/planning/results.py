@@ -22,7 +22,7 @@ class Result:
 
     key: str
     outcome: str
-    """`accepted`, `not accepted`, `time limit`, or what `hub solve` said where it failed."""
+    """`accepted`, `not accepted`, `time limit`, or what the search said where it failed."""
     limit: float | None
     """The time limit in seconds under which this came."""
     seconds: str = ""
@@ -96,10 +96,10 @@ class Sweep:
             part.replace(self.file(scenario, "json"))
 
     def solve(self, scenario: Scenario, folder: Path, stop: Event) -> Result:
-        """Runs `hub solve`, and `hub check` on what it wrote into this folder."""
+        """Runs `hub solve` or `hub optimize`, and `hub check` on what it wrote into this folder."""
         key = scenario.key()
         certificate, told = folder / "cert", folder / "verdict"
-        solved = run(command("solve", scenario.options, extra=scenario.solve_words), certificate, self.limit, stop)
+        solved = run(command(scenario.command, scenario.options, extra=scenario.solve_words), certificate, self.limit, stop)
         used = {
             "limit": self.limit,
             "seconds": f"{solved.seconds:.3f}",

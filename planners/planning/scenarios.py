@@ -25,7 +25,7 @@ NUMBERS = {
 COLUMNS = [*NUMBERS, "costs", "candidates"]
 """What a table may change."""
 OF_SOLVE = ("nodes", "workers")
-"""Options of `hub solve` that are none of the instance."""
+"""Options of a search that are none of the instance."""
 
 
 @dataclass(frozen=True)
@@ -38,6 +38,8 @@ class Scenario:
     """What the table says, by column."""
     options: Options
     """The instance."""
+    command: str
+    """The command of `hub` that solves it: `solve` or `optimize`."""
     solve_words: list[str]
 
     def key(self) -> str:
@@ -45,7 +47,7 @@ class Scenario:
         costs = self.options.values.get("costs")
         files = [digest(self.options.file), digest(Path(costs)) if costs else ""]
         words = [word for word in self.options.words() if not word.startswith("--costs=")]
-        text = json.dumps([self.options.layout, files, sorted(words), self.solve_words])
+        text = json.dumps([self.options.layout, files, sorted(words), self.command, self.solve_words])
         return hashlib.sha256(text.encode()).hexdigest()
 
 
@@ -72,8 +74,8 @@ def tested(row: Row, column: str) -> str:
     return text
 
 
-def read_scenarios(path: Path, base: Options) -> list[Scenario]:
-    """The rows of a table of scenarios of an instance."""
+def read_scenarios(path: Path, base: Options, command: str) -> list[Scenario]:
+    """The rows of a table of scenarios of an instance, each to be solved by this command of `hub`."""
     scenarios: list[Scenario] = []
     for row in read_table(path, []):
         unknown = [column for column in row.cells if column not in (*COLUMNS, "name")]
@@ -83,7 +85,7 @@ def read_scenarios(path: Path, base: Options) -> list[Scenario]:
         if "fixed" in values and "costs" in values:
             raise row.fault("costs", "no file beside a number in the column 'fixed'")
         solve_words = [f"--{name}={values.pop(name)}" for name in OF_SOLVE if name in values]
-        scenarios.append(Scenario(len(scenarios) + 1, row.cells, base.changed(values), solve_words))
+        scenarios.append(Scenario(len(scenarios) + 1, row.cells, base.changed(values), command, solve_words))
     if not scenarios:
         raise Fault(f"{path}: wanted at least one row")
     return scenarios

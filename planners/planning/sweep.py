@@ -58,6 +58,7 @@ def parser() -> Parser:
     words.add_argument(
         "--out", type=Path, required=True, metavar="FOLDER", help="the folder for results.csv and what is done so far"
     )
+    words.add_argument("--optimize", action="store_true", help="solve by hub optimize, for instances of real size")
     words.add_argument("--jobs", type=int, default=1, metavar="N", help="scenarios side by side (default: 1)")
     words.add_argument("--time-limit", type=float, metavar="S", help="seconds for each process of hub")
     words.add_argument("--keep", action="store_true", help="keep the certificates, as FOLDER/rows/ROW.cert")
@@ -177,7 +178,7 @@ def main(words: list[str]) -> int:
     args = parser().parse_args(words)
     if args.jobs < 1 or (args.time_limit is not None and args.time_limit <= 0):
         raise Fault("--jobs and --time-limit want numbers above 0")
-    scenarios = read_scenarios(args.table, options_of(args))
+    scenarios = read_scenarios(args.table, options_of(args), "optimize" if args.optimize else "solve")
     if args.row is not None and not 1 <= args.row <= len(scenarios):
         raise Fault(f"--row wants 1 to {len(scenarios)}, found {args.row}")
     program()

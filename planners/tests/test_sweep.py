@@ -94,6 +94,15 @@ class Sweeps(InFolder):
         self.write("table.csv", "\n".join(TABLE.splitlines()[:9]) + "\n")
         self.stopped_and_resumed("--jobs", "2")
 
+    def test_optimize_comes_to_the_same_costs(self) -> None:
+        self.write("table.csv", "trunk,fixed\n0.5,40000000\n0.25,40000000\n")
+        for out, more in (("solved", []), ("optimized", ["--optimize"])):
+            ended = self.script("sweep", *self.words(out, *more))
+            self.assertEqual((ended.returncode, ended.stdout), (0, ""))
+        costs = [[row["cost"] for row in self.table(f"{out}/results.csv")] for out in ("solved", "optimized")]
+        self.assertEqual(costs[0], costs[1])
+        self.assertEqual(len(costs[0]), 2)
+
     def test_rows_one_by_one_and_a_plot(self) -> None:
         self.write("table.csv", "trunk,fixed\n0.5,40000000\n0.25,40000000\n")
         for row in ("1", "2"):
