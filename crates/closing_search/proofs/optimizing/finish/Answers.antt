@@ -4,9 +4,9 @@ use Rattle.hub_spec.specs.Plans.{Plan}
 use Rattle.kept_cuts.specs.declared.network.Network.{Network}
 use Rattle.closing_search.proofs.Networks.{IsFoundOf, found_of, found_proved, found_within, found_below, found_allowed, found_spent, found_whole}
 use Rattle.closing_search.proofs.optimizing.finish.Goals as goal
-use Rattle.closing_search.proofs.optimizing.finish.Goals.{After-new}
+use Rattle.closing_search.proofs.optimizing.finish.Goals.{After-drop-progress-2}
 
-network : After-new → Network
+abbrev network : After-drop-progress-2 → Network
 network c = record {
   cost = c.args.progress.cost;
   bound = c.target.result;
@@ -15,7 +15,7 @@ network c = record {
   tree = c.args.progress.lines;
 }
 
-is_found : (c : After-new) → IsFoundOf c.args.task.now c.args.progress (network c)
+is_found : (c : After-drop-progress-2) → IsFoundOf c.args.task.now c.args.progress (network c)
 is_found c =
     let s = c.args.progress in
     let routes = c.in_ok-assignment.assignment.routes.items in
