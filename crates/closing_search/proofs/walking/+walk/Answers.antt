@@ -27,14 +27,14 @@ parted-node-requires t c =
     ap (λ (x : Branching). length x.free + 1) child ∙ length-without k b.free free in (
       search (rules, arith),
       (
-          c.in_ok-split_on.ensures.going,
+        c.in_ok-split_on.ensures.going,
+        (
+          ap (λ x. x.problem) c.remember.ensures ∙ c.requires.bench,
           (
-            ap (λ x. x.problem) c.remember.ensures ∙ c.requires.bench,
-            (
-              subst (IsBranch p) (sym child) (open_branch p b k c.requires.branch free),
-              omega (arith, fewer, c.requires.deep),
-            ),
+            subst (IsBranch p) (sym child) (open_branch p b k c.requires.branch free),
+            omega (arith, fewer, c.requires.deep),
           ),
+        ),
       ),
     )
 
@@ -49,14 +49,14 @@ parted-node-requires-2 t c =
     ap (λ (x : Branching). length x.free + 1) child ∙ length-without k b.free free in (
       search (rules, arith),
       (
-          c.in_ok-node.ensures.done.going,
+        c.in_ok-node.ensures.done.going,
+        (
+          ap (λ x. x.problem) c.recall.ensures ∙ c.in_ok-node.ensures.bench ∙ ap (λ x. x.problem) c.remember.ensures ∙ c.requires.bench,
           (
-            ap (λ x. x.problem) c.recall.ensures ∙ c.in_ok-node.ensures.bench ∙ ap (λ x. x.problem) c.remember.ensures ∙ c.requires.bench,
-            (
-              subst (IsBranch p) (sym child) (closed_branch p b k c.requires.branch free),
-              omega (arith, fewer, c.requires.deep),
-            ),
+            subst (IsBranch p) (sym child) (closed_branch p b k c.requires.branch free),
+            omega (arith, fewer, c.requires.deep),
           ),
+        ),
       ),
     )
 
