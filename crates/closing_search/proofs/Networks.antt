@@ -1,12 +1,12 @@
 -- What a search found, as a certificate that holds.
-use Rattle.std.proofs.Common.{◌≡◌, ℕ, ◌<◌, ◌≤◌, List, [], ◌∷◌, length, All, Option, None, Some, IsSome, refl, sym, ap, subst, ◌∙◌, arith}
+use Rattle.std.proofs.Common.{◌≡◌, ℕ, ◌<◌, ◌≤◌, pos, List, [], ◌∷◌, length, map, All, Option, None, Some, IsSome, is_some, true≢false, refl, sym, ap, subst, ◌∙◌, arith}
 use Rattle.std.specs.List.{AllZip}
 use Rattle.std.proofs.lemmas.List.{length-map}
-use Rattle.std.proofs.lemmas.List.Elements.{All-nil, All-cons, All-weaker, All-map}
+use Rattle.std.proofs.lemmas.List.Elements.{All-nil, All-cons, All-weaker, All-map, All-contains_itself}
 use Rattle.std.proofs.lemmas.Slice.Zip.{AllZip-long}
 use Rattle.hub_spec.specs.Limits.{most_cost, most_cuts, most_tree_lines}
 use Rattle.hub_spec.specs.Problem.{Problem, IsProblem, commodities}
-use Rattle.hub_spec.specs.Plans.{IsHubSet, IsSetCost, IsLeastRoute, IsPlan, plan_cost, NoPlanBelow}
+use Rattle.hub_spec.specs.Plans.{Plan, IsHubSet, IsSetCost, IsLeastRoute, IsPlan, plan_cost, NoPlanBelow}
 use Rattle.hub_spec.specs.Cuts.{IsCut}
 use Rattle.hub_spec.specs.Trees.{root, Tree, TreeLine, preorder, line_count, IsSound}
 use Rattle.hub_spec.specs.Certificates.{Holds}
@@ -161,3 +161,53 @@ module _ (t : Task) (s : Progress) (found : Network) (over : IsOver t s) (is : I
 pub set_cost_within : (p : Problem) (hubs : List ℕ) (cost : ℕ) → IsProblem p → IsSetCost p hubs cost → cost ≤ most_cost
 set_cost_within p hubs cost ok is =
     let plan = is.reached in omega (arith, plan.3, plan_cost_limit p plan.0 ok plan.1)
+
+-- ---- the start
+
+pub all_set : (p : Problem) (hubs : List ℕ) → IsProblem p → hubs ≡ p.candidates → IsHubSet p hubs
+all_set p hubs ok same =
+    subst (IsHubSet p) (sym same)
+    (record { some_hub = ok.some_candidate; ascend = ok.candidates_ascend; are_candidates = All-contains_itself p.candidates })
+
+within_one : (n : Option ℕ) → AreWithin n 1
+within_one None = tt
+within_one (Some m) = λ some. some
+
+no_stop : (o : Option ℕ) (n : Option ℕ) (made : ℕ) → o ≡ None → IsSome o → IsSpent n made
+no_stop None n made none some = absurd (true≢false (sym some))
+no_stop (Some m) n made none some = absurd (true≢false (ap is_some none))
+
+pub begun_going : (t : Task) (s : Progress) → IsProblem t.instance.now → t.fixed.items ≡ map pos t.instance.now.fixed_costs
+    → s.cuts ≡ record { cuts = []; totals = []; loads = [] } → s.lines.items ≡ [] → s.hubs ≡ t.instance.now.candidates
+    → IsSetCost t.instance.now s.hubs s.cost → s.made ≡ 1 → s.stop ≡ None → IsGoing t s
+begun_going t s ok costs cuts lines hubs is_cost made stop =
+    let p = t.instance.now in
+    record {
+      costs = record { problem = ok; costs = costs };
+      kept = rw cuts (record { fit = All-nil (IsKeptFor p); are_totals = refl; are_loads = refl });
+      few_cuts = rw cuts (omega arith);
+      few_lines = rw lines (omega arith);
+      in_range = rw lines (All-nil (IsLineInRange p.size));
+      hubs = all_set p s.hubs ok hubs;
+      cost = is_cost;
+      cost_limit = set_cost_within p s.hubs s.cost ok is_cost;
+      made = omega (arith, made);
+      allowed = rw made (within_one t.nodes);
+      spent = no_stop s.stop t.nodes s.made stop;
+    }
+
+-- ---- the end
+
+pub found_of : (t : Task) (s : Progress) (found : Network) (routes : List (ℕ × ℕ)) → found.cost ≡ s.cost → found.bound ≡ target_of s
+    → found.plan ≡ record { hubs = s.hubs; routes = routes } → AllZip (IsLeastRoute t.instance.now s.hubs) (commodities t.instance.now.size) routes
+    → found.cuts ≡ s.cuts → found.tree.items ≡ s.lines.items → IsFoundOf t s found
+found_of t s found routes cost bound plan least cuts lines =
+    let p = t.instance.now in
+    record {
+      cost = cost;
+      bound = bound;
+      hubs = ap (λ (x : Plan). x.hubs) plan;
+      routes = subst (λ (x : Plan). AllZip (IsLeastRoute p x.hubs) (commodities p.size) x.routes) (sym plan) least;
+      cuts = cuts;
+      lines = lines;
+    }

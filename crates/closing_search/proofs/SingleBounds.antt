@@ -84,7 +84,6 @@ row_costs p cut sum loads are =
     (λ k low. let node : k < p.size = omega (arith, low, are.long) in
     is_cost (get_or loads k 0) (omega (arith, are.are_loads k node, load_within p cut k are.is_cut))))
 
-
 numbers_of : (p : Problem) (cut : Cut) (sum : ℕ) (loads : List ℕ) (fixed : List ℤ) → AreFixedCosts p fixed → AreLoads p cut sum loads
     → AreWeightingNumbers (pos sum ∷ []) (map pos loads ∷ []) fixed (pos 1000000 ∷ []) (pos 1000000)
 numbers_of p cut sum loads fixed costs are = record {

@@ -137,7 +137,13 @@ impl<'a> Bench<'a> {
         ensures sums { AreLoads self.new.problem (set_cut self.new.problem set.now order.now) result self.new.loads }
     {
         let instance = self.tables.instance();
-        pareto_cuts::cut_sums(&mut self.sets, instance, set, order, &mut self.pricing.loads)
+        pareto_cuts::cut_sums(
+            &mut self.sets,
+            instance,
+            set,
+            order,
+            &mut self.pricing.loads,
+        )
     }
 
     /// The load of each node in the cut that was worked out last, in 10^-12.

@@ -145,7 +145,11 @@ fn best_choice(task: &Task, branch: &Branch, progress: &Progress) -> Choice
 fn better_of(best: Choice, other: Choice) -> Choice
     ensures { (result ≡ best) ⊎ ((best.bound ≤ℤ other.bound) × (result ≡ other)) }
 {
-    if other.bound > best.bound { other } else { best }
+    if other.bound > best.bound {
+        other
+    } else {
+        best
+    }
 }
 
 /// Ends the branch with the leaf that a stop makes of it.

@@ -1,11 +1,11 @@
 //! The whole search.
 
-ghost use Rattle.std.specs.Prelude.{◌≡◌, ◌≤◌, ◌<◌, [], ◌∷◌, length, map, pos, None, IfOk};
+ghost use Rattle.std.specs.Prelude.{◌≡◌, ◌≤◌, ◌<◌, [], ◌∷◌, length, map, pos, None, IfOk, OnOk};
 ghost use Rattle.hub_spec.specs.Plans.{NoPlanBelow};
 ghost use Rattle.hub_spec.specs.Trees.{root};
 ghost use Rattle.search_spec.specs.Findings.{AreWithin, IsSpent};
 ghost use Rattle.kept_cuts.specs.Networks.{IsProved};
-ghost use Rattle.closing_search.specs.Progressing.{WalksTo, IsGoing, IsOver};
+ghost use Rattle.closing_search.specs.Progressing.{IsGoing, IsDone, IsOver};
 
 use crate::bench::Bench;
 use crate::progress::{Progress, target};
@@ -43,11 +43,19 @@ pub fn optimize(
         nodes,
     };
     let mut progress = begin(alloc, &task)?;
-    let mut bench = Bench::new(alloc, instance)?;
-    let root = Branch::root(alloc, instance)?;
-    let depth = root.free().len() as u32 + 1;
-    node(depth, alloc, &task, &mut bench, &root, &mut progress)?;
+    fill_tree(alloc, &task, &mut progress)?;
     finish(alloc, &task, progress)
+}
+
+// Handles the root, and all nodes below it.
+fn fill_tree(alloc: Global, task: &Task, progress: &mut Progress) -> Result<(), AllocError>
+    requires { IsGoing task.now progress.old }
+    ensures { OnOk result (IsDone task.now (root task.now.instance.now) progress.old progress.new) }
+{
+    let root = Branch::root(alloc, task.instance)?;
+    let depth = root.free().len() as u32 + 1;
+    let mut bench = Bench::new(alloc, task.instance)?;
+    node(depth, alloc, task, &mut bench, &root, progress)
 }
 
 // No cut and no line, with the set of all candidates as the first incumbent.

@@ -17,9 +17,11 @@ sums p k n totals loads ok are least most is_totals is_loads =
 
 pub single_bound-requires-clause-sums : goal.single_bound-requires-clause-sums
 single_bound-requires-clause-sums c =
-    let going = c.requires.going in
-    (_, sums c.args.task.now.instance.now c.args.progress.now.cuts c.args.number c.totals.result.now c.loads.result.now going.costs.problem going.kept
-    c.requires.least c.requires.most c.totals.ensures.value c.loads.ensures.value)
+    let going = c.requires.going in (
+      _,
+      sums c.args.task.now.instance.now c.args.progress.now.cuts c.args.number c.totals.result.now c.loads.result.now going.costs.problem going.kept
+          c.requires.least c.requires.most c.totals.ensures.value c.loads.ensures.value,
+    )
 
 pub returns-clause-bound : goal.returns-clause-bound
 returns-clause-bound c =

@@ -24,5 +24,5 @@ returns-clause-bound c cut sums =
     let totals = c.args.totals.now in
     let rows = map (λ v. v.items) c.args.loads.now in
     let fits : FitsSigned w128 c.bound.result = search rules in
-    to_z-of_z w128 c.bound.result fits ∙ c.bound.ensures.value     ∙ ap (λ (fs : List ℤ). bound_of (weighting_of totals rows fs (pos 1000000 ∷ []) (pos 1000000)) c.args.branch.now) c.deref.ensures.value
+    to_z-of_z w128 c.bound.result fits ∙ c.bound.ensures.value ∙ ap (λ (fs : List ℤ). bound_of (weighting_of totals rows fs (pos 1000000 ∷ []) (pos 1000000)) c.args.branch.now) c.deref.ensures.value
     ∙ single_is p cut totals rows c.args.task.now.fixed.items c.args.branch.now c.requires.costs c.requires.branch sums

@@ -56,9 +56,10 @@ offer-requires-clause-cost c =
 pub keep-requires-clause-fit : goal.keep-requires-clause-fit
 keep-requires-clause-fit c =
     let b = c.args.branch.now in
-    let p = c.args.task.now.instance.now in
-    (set_of p b.inside c.in_ok-set.set (inside_set p b c.requires.branch c.requires.some_inside) (c.in_ok-set.ensures ∙ c.inside.ensures.value),
-    c.in_ok-order.ensures.order)
+    let p = c.args.task.now.instance.now in (
+      set_of p b.inside c.in_ok-set.set (inside_set p b c.requires.branch c.requires.some_inside) (c.in_ok-set.ensures ∙ c.inside.ensures.value),
+      c.in_ok-order.ensures.order,
+    )
 
 pub cut_leaf-requires-clause-closes : goal.cut_leaf-requires-clause-closes
 cut_leaf-requires-clause-closes c =

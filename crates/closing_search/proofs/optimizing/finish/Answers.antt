@@ -1,0 +1,43 @@
+use Rattle.std.proofs.Common.{◌≡◌, List, refl, ap, ◌∙◌, rules}
+use Rattle.std.specs.Prelude.{ℕ}
+use Rattle.hub_spec.specs.Plans.{Plan}
+use Rattle.kept_cuts.specs.declared.network.Network.{Network}
+use Rattle.closing_search.proofs.Networks.{IsFoundOf, found_of, found_proved, found_within, found_below, found_allowed, found_spent, found_whole}
+use Rattle.closing_search.proofs.optimizing.finish.Goals as goal
+use Rattle.closing_search.proofs.optimizing.finish.Goals.{After-drop-progress-2}
+
+abbrev network : After-drop-progress-2 → Network
+network c = record {
+  cost = c.args.progress.cost;
+  bound = c.target.result;
+  plan = c.new.result;
+  cuts = c.args.progress.cuts;
+  tree = c.args.progress.lines;
+}
+
+is_found : (c : After-drop-progress-2) → IsFoundOf c.args.task.now c.args.progress (network c)
+is_found c =
+    let s = c.args.progress in
+    let routes = c.in_ok-assignment.assignment.routes.items in
+    let taken : c.in_ok-hubs.hubs.items ≡ c.members.result.now = search rules in
+    found_of c.args.task.now s (network c) routes refl c.target.ensures
+    (c.new.ensures ∙ ap (λ (hs : List ℕ). let x : Plan = record { hubs = hs; routes = routes } in x) (taken ∙ c.members.ensures.value))
+    c.in_ok-assignment.ensures.routes refl refl
+
+pub returns-clause-proved : goal.returns-clause-proved
+returns-clause-proved c = found_proved c.args.task.now c.args.progress (network c) c.requires (is_found c)
+
+pub returns-clause-within : goal.returns-clause-within
+returns-clause-within c = found_within c.args.task.now c.args.progress (network c) c.requires (is_found c)
+
+pub returns-clause-below : goal.returns-clause-below
+returns-clause-below c = found_below c.args.task.now c.args.progress (network c) c.requires (is_found c)
+
+pub returns-clause-allowed : goal.returns-clause-allowed
+returns-clause-allowed c = found_allowed c.args.task.now c.args.progress (network c) c.requires (is_found c)
+
+pub returns-clause-spent : goal.returns-clause-spent
+returns-clause-spent c = found_spent c.args.task.now c.args.progress (network c) c.requires (is_found c)
+
+pub returns-clause-whole : goal.returns-clause-whole
+returns-clause-whole c none = found_whole c.args.task.now c.args.progress (network c) c.requires (is_found c) none

@@ -1,0 +1,76 @@
+use Rattle.std.proofs.Common.{◌≡◌, ◌+◌, length, false, sym, ap, subst, ◌∙◌, rules, arith}
+use Rattle.std.proofs.lemmas.Result.{on_ok_weaker}
+use Rattle.hub_spec.specs.Trees.{Branching, IsBranch}
+use Rattle.hub_spec.proofs.ChildLists.{open_branch, closed_branch}
+use Rattle.search_spec.proofs.Parting.{length-without}
+use Rattle.closing_search.specs.Progressing.{IsDone, IsAdvised}
+use Rattle.closing_search.proofs.Steps.{at_done, halved_done}
+use Rattle.closing_search.proofs.walking.+walk.Goals as goal
+
+pub node-returns-clause-done : goal.node-returns-clause-done
+node-returns-clause-done t c =
+    let task = c.args.task.now in
+    let b = c.args.branch.now in
+    let before = c.args.progress.now in
+    let middle = c.end_by_advice.new.progress in
+    let went_on = subst (IsAdvised task b before middle) c.if-branch.false c.in_ok-end_by_advice.ensures.advised in
+    on_ok_weaker c.parted.result (λ done. at_done task b before middle c.parted.new.progress went_on.0 done) c.parted.ensures.done
+
+pub parted-node-requires : goal.parted-node-requires
+parted-node-requires t c =
+    let p = c.args.task.now.instance.now in
+    let b = c.args.branch.now in
+    let k = c.branch_node-k.result in
+    let free = c.branch_node-k.ensures in
+    let child = c.in_ok-opened.ensures in
+    let fewer : length c.in_ok-opened.opened.free + 1 ≡ length b.free =
+    ap (λ (x : Branching). length x.free + 1) child ∙ length-without k b.free free in (
+      search (rules, arith),
+      (
+        c.in_ok-split_on.ensures.going,
+        (
+          ap (λ x. x.problem) c.remember.ensures ∙ c.requires.bench,
+          (
+            subst (IsBranch p) (sym child) (open_branch p b k c.requires.branch free),
+            omega (arith, fewer, c.requires.deep),
+          ),
+        ),
+      ),
+    )
+
+pub parted-node-requires-2 : goal.parted-node-requires-2
+parted-node-requires-2 t c =
+    let p = c.args.task.now.instance.now in
+    let b = c.args.branch.now in
+    let k = c.branch_node-k.result in
+    let free = c.branch_node-k.ensures in
+    let child = c.in_ok-closed.ensures in
+    let fewer : length c.in_ok-closed.closed.free + 1 ≡ length b.free =
+    ap (λ (x : Branching). length x.free + 1) child ∙ length-without k b.free free in (
+      search (rules, arith),
+      (
+        c.in_ok-node.ensures.done.going,
+        (
+          ap (λ x. x.problem) c.recall.ensures ∙ c.in_ok-node.ensures.bench ∙ ap (λ x. x.problem) c.remember.ensures ∙ c.requires.bench,
+          (
+            subst (IsBranch p) (sym child) (closed_branch p b k c.requires.branch free),
+            omega (arith, fewer, c.requires.deep),
+          ),
+        ),
+      ),
+    )
+
+pub parted-returns-clause-done : goal.parted-returns-clause-done
+parted-returns-clause-done t c =
+    let task = c.args.task.now in
+    let b = c.args.branch.now in
+    let k = c.branch_node-k.result in
+    let before = c.args.progress.now in
+    let begun = c.split_on.new.progress in
+    let middle = c.node.new.progress in
+    let after = c.node-2.new.progress in
+    let opened = subst (λ (x : Branching). IsDone task x begun middle) c.in_ok-opened.ensures c.in_ok-node.ensures.done in
+    on_ok_weaker c.node-2.result
+    (λ done. halved_done task b k before begun middle after c.in_ok-split_on.ensures opened
+    (subst (λ (x : Branching). IsDone task x middle after) c.in_ok-closed.ensures done))
+    c.node-2.ensures.done
