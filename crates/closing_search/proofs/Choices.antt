@@ -1,9 +1,9 @@
 -- The choice of a kept cut for a leaf, and the leaves that come of it.
-use Rattle.std.proofs.Common.{◌≡◌, ℕ, ◌^◌, ◌<◌, ◌≤◌, ℤ, pos, ◌≤ℤ◌, List, [], ◌∷◌, length, All, Option, None, Some, IfSome, ◌⊎◌, inl, inr, refl, sym, subst, ◌∙◌, arith}
+use Rattle.std.proofs.Common.{◌≡◌, ℕ, ◌^◌, ◌<◌, ◌≤◌, ℤ, pos, ◌≤ℤ◌, List, [], length, Option, None, Some, IfSome, ◌⊎◌, inl, inr, refl, sym, subst, arith}
 use Rattle.std.proofs.lemmas.Int.{ints}
 use Rattle.std.proofs.lemmas.List.{length-map}
 use Rattle.std.proofs.lemmas.List.Elements.{All-nil, All-cons}
-use Rattle.hub_spec.specs.Limits.{most_cuts, most_denominator}
+use Rattle.hub_spec.specs.Limits.{most_cuts}
 use Rattle.hub_spec.specs.Problem.{Problem}
 use Rattle.hub_spec.specs.Cuts.{Cut}
 use Rattle.hub_spec.specs.Trees.{Branching, cut_at, leaf_bound, IsMix, Closes, TreeLine, leaf_of}
@@ -15,7 +15,7 @@ use Rattle.search_spec.proofs.Keeping.{closes_less}
 use Rattle.tree_walks.specs.Walks.{IsSoundLine}
 use Rattle.kept_cuts.specs.Kept.{Kept, kept_cut, kept_cuts}
 use Rattle.closing_search.specs.declared.leaves.Choice.{Choice}
-use Rattle.closing_search.specs.SingleCuts.{cut_bound, ClosesBy, weights_on, IsChoice}
+use Rattle.closing_search.specs.SingleCuts.{cut_bound, weights_on, IsChoice}
 use Rattle.closing_search.proofs.SingleBounds.{bare_not_below}
 use Rattle.closing_search.proofs.Steps.{stop_below}
 

@@ -1,8 +1,7 @@
 -- The sums of kept cuts.
-use Rattle.std.proofs.Common.{◌≡◌, ℕ, suc, ◌+◌, ◌-◌, ◌<◌, ◌≤◌, ℤ, pos, List, [], ◌∷◌, ◌++◌, length, map, get_or, take, drop, slice_range, All, refl, sym, ap, ap₂, subst, ◌∙◌, arith}
+use Rattle.std.proofs.Common.{◌≡◌, ℕ, suc, ◌+◌, ◌-◌, ◌<◌, ◌≤◌, ℤ, pos, List, [], ◌∷◌, ◌++◌, length, map, get_or, take, drop, slice_range, refl, sym, ap, ap₂, subst, ◌∙◌, arith}
 use Rattle.std.proofs.Math.Seq.{drop-cons}
-use Rattle.std.specs.List.{range_with_len}
-use Rattle.std.proofs.lemmas.List.{length-map, get_or-map, length_push, map_push, take-map, drop-map}
+use Rattle.std.proofs.lemmas.List.{length-map, get_or-map, map_push, take-map, drop-map}
 use Rattle.std.proofs.lemmas.List.Elements.{All-push, All-get_or}
 use Rattle.std.proofs.lemmas.List.FromFn.{length-map-range_with_len, get_or-map-range_with_len}
 use Rattle.hub_spec.specs.Problem.{Problem, IsProblem}

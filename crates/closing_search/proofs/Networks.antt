@@ -4,11 +4,11 @@ use Rattle.std.specs.List.{AllZip}
 use Rattle.std.proofs.lemmas.List.{length-map}
 use Rattle.std.proofs.lemmas.List.Elements.{All-nil, All-cons, All-weaker, All-map, All-contains_itself}
 use Rattle.std.proofs.lemmas.Slice.Zip.{AllZip-long}
-use Rattle.hub_spec.specs.Limits.{most_cost, most_cuts, most_tree_lines}
+use Rattle.hub_spec.specs.Limits.{most_cost}
 use Rattle.hub_spec.specs.Problem.{Problem, IsProblem, commodities}
 use Rattle.hub_spec.specs.Plans.{Plan, IsHubSet, IsSetCost, IsLeastRoute, IsPlan, plan_cost, NoPlanBelow}
 use Rattle.hub_spec.specs.Cuts.{IsCut}
-use Rattle.hub_spec.specs.Trees.{root, Tree, TreeLine, preorder, line_count, IsSound}
+use Rattle.hub_spec.specs.Trees.{root, Tree, preorder, IsSound}
 use Rattle.hub_spec.specs.Certificates.{Holds}
 use Rattle.hub_spec.specs.Ranges.{IsCutInRange, IsLineInRange, IsInRange}
 use Rattle.hub_spec.proofs.Commodities.{length_commodities}
@@ -16,14 +16,13 @@ use Rattle.hub_spec.proofs.Limits.{AreNodes, few_candidates, hubs_are_nodes, lea
 use Rattle.hub_spec.proofs.Preorders.{length-preorder}
 use Rattle.hub_spec.proofs.SetCosts.{plan_of_least, set_cost_is, one_set_cost}
 use Rattle.hub_spec.proofs.WeakDuality.{no_plan_below_bound}
-use Rattle.hub_model.specs.declared.tree_lines.TreeLine as model
 use Rattle.hub_model.specs.Lines.{tree_line_of}
 use Rattle.search_spec.specs.States.{lesser}
 use Rattle.search_spec.specs.Findings.{AreWithin, IsSpent}
 use Rattle.search_spec.proofs.Invariants.{lesser_least}
 use Rattle.tree_walks.specs.Walks.{Walks}
 use Rattle.tree_walks.proofs.Walking.{is_tree}
-use Rattle.kept_cuts.specs.Kept.{Kept, kept_cut, kept_cuts, IsKeptFor, AreKeptFor}
+use Rattle.kept_cuts.specs.Kept.{Kept, kept_cut, kept_cuts, IsKeptFor}
 use Rattle.kept_cuts.specs.declared.network.Network.{Network}
 use Rattle.kept_cuts.specs.Networks.{lines_of, proof_of, IsProved}
 use Rattle.kept_cuts.proofs.KeptCutLaws.{kept_is_cut, kept_in_range}

@@ -1,5 +1,5 @@
 -- The leaf of a branch in which nothing is free: the cut of its hubs closes what they cost.
-use Rattle.std.proofs.Common.{◌≡◌, ℕ, zero, suc, ◌+◌, ◌*◌, ◌<◌, ◌≤◌, List, [], ◌∷◌, ◌++◌, length, take, slice_index, sum_by, refl, sym, ap, subst, ◌∙◌, arith}
+use Rattle.std.proofs.Common.{◌≡◌, ℕ, zero, suc, ◌+◌, ◌*◌, ◌<◌, ◌≤◌, List, [], ◌∷◌, ◌++◌, length, take, slice_index, refl, sym, ap, subst, ◌∙◌, arith}
 use Rattle.std.proofs.lemmas.Int.{ints}
 use Rattle.hub_spec.specs.Problem.{Problem, IsProblem, opening_cost, fixed_cost}
 use Rattle.hub_spec.specs.Plans.{IsHubSet, IsSetCost}

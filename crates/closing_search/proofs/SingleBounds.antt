@@ -1,5 +1,5 @@
 -- The bound of a branch by one cut alone, and by none.
-use Rattle.std.proofs.Common.{◌≡◌, ℕ, ◌+◌, ◌<◌, ◌≤◌, ℤ, pos, ◌≤ℤ◌, List, [], ◌∷◌, ◌++◌, length, map, take, get_or, All, Contains, refl, sym, ap, ap₂, subst, ◌∙◌, Bool, true, false, true≢false, arith}
+use Rattle.std.proofs.Common.{◌≡◌, ℕ, ◌+◌, ◌<◌, ◌≤◌, ℤ, pos, ◌≤ℤ◌, List, [], ◌∷◌, ◌++◌, length, map, take, get_or, All, Contains, refl, sym, ap, ap₂, subst, ◌∙◌, true≢false, arith}
 use Rattle.std.specs.List.{AllZip}
 use Rattle.std.specs.Int.{int_min}
 use Rattle.std.proofs.lemmas.Int.{ints, clamps}
@@ -8,18 +8,18 @@ use Rattle.std.proofs.lemmas.List.Elements.{All-nil, All-cons, All-weaker, All-m
 use Rattle.hub_spec.specs.Limits.{most_cost, most_fixed_cost}
 use Rattle.hub_spec.specs.Sums.{sum_ints}
 use Rattle.hub_spec.specs.Problem.{Problem, IsProblem, fixed_cost, commodities}
-use Rattle.hub_spec.specs.Cuts.{Prices, value_at, IsDual, Cut, total, load, IsCut}
+use Rattle.hub_spec.specs.Cuts.{Prices, value_at, IsDual, Cut, load, IsCut}
 use Rattle.hub_spec.specs.Trees.{Branching, IsBranch, mixed_gain, leaf_bound}
 use Rattle.hub_spec.proofs.SumLemmas.{by_test}
 use Rattle.std.proofs.lemmas.List.Sums.{sum_by-cons}
 use Rattle.hub_spec.proofs.Sets.{is_in, is_in-yes, Contains-from_is_in}
 use Rattle.hub_spec.proofs.SetCuts.{unlisted_value}
 use Rattle.hub_spec.proofs.Mixes.{candidate_is_node}
-use Rattle.hub_model.specs.Amounts.{natural, IsNatural}
+use Rattle.hub_model.specs.Amounts.{IsNatural}
 use Rattle.hub_model.proofs.Signs.{natural-pos}
-use Rattle.leaf_bound.specs.Bounds.{Weighting, bound_of}
+use Rattle.leaf_bound.specs.Bounds.{bound_of}
 use Rattle.leaf_bound.specs.Numbers.{naturals, IsCost, AreWeightingNumbers, IsBranchBelow, weighting_of}
-use Rattle.leaf_bound.specs.Theorems.{AreLoadsOf, IsWeightingOf}
+use Rattle.leaf_bound.specs.Theorems.{IsWeightingOf}
 use Rattle.leaf_bound.proofs.LeafWeights.{leaf_has_bound}
 use Rattle.search_spec.specs.States.{denominator}
 use Rattle.closing_search.specs.SingleCuts.{AreFixedCosts, AreLoads, AreSumsOf, cut_bound}

@@ -1,5 +1,5 @@
 -- How the steps of a search follow one another.
-use Rattle.std.proofs.Common.{◌≡◌, ℕ, ◌+◌, ◌<◌, ◌≤◌, List, [], ◌∷◌, ◌++◌, length, All, Option, None, Some, IsSome, refl, sym, ap, subst, ◌∙◌, append-nil, arith}
+use Rattle.std.proofs.Common.{◌≡◌, ℕ, ◌+◌, ◌<◌, ◌≤◌, List, [], ◌∷◌, ◌++◌, length, Option, None, Some, IsSome, refl, sym, ap, subst, ◌∙◌, append-nil, arith}
 use Rattle.std.proofs.lemmas.List.{length_push, map_push}
 use Rattle.std.proofs.lemmas.List.Elements.{All-push}
 use Rattle.hub_spec.specs.Limits.{most_cuts, most_tree_lines}
@@ -15,7 +15,7 @@ use Rattle.search_spec.specs.Findings.{AreWithin, IsSpent}
 use Rattle.search_spec.proofs.Invariants.{lesser_less}
 use Rattle.tree_walks.specs.Walks.{IsSoundLine, filled, Walks}
 use Rattle.tree_walks.proofs.Walking.{goes_on, stays}
-use Rattle.kept_cuts.specs.Kept.{Kept, kept_cut, kept_cuts, IsKeptFor, AreKeptFor}
+use Rattle.kept_cuts.specs.Kept.{Kept, kept_cut, IsKeptFor, AreKeptFor}
 use Rattle.kept_cuts.specs.Networks.{lines_of}
 use Rattle.closing_search.specs.declared.task.Task.{Task}
 use Rattle.closing_search.specs.declared.progress.Progress.{Progress}

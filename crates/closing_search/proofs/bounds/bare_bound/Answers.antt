@@ -1,8 +1,8 @@
-use Rattle.std.proofs.Common.{◌≡◌, List, length, ap, subst, sym, ◌∙◌, pos, FitsSigned, rules}
+use Rattle.std.proofs.Common.{List, ap, ◌∙◌, pos, FitsSigned, rules}
 use Rattle.std.specs.Prelude.{ℤ, []}
 use Rattle.std.specs.Int.{w128}
 use Rattle.std.proofs.lemmas.Int.{to_z-of_z}
-use Rattle.leaf_bound.specs.Numbers.{AreWeightingNumbers, IsBranchBelow, weighting_of}
+use Rattle.leaf_bound.specs.Numbers.{weighting_of}
 use Rattle.leaf_bound.specs.Bounds.{bound_of}
 use Rattle.closing_search.proofs.SingleBounds.{bare_numbers, branch_below, bare_is}
 use Rattle.closing_search.proofs.bounds.bare_bound.Goals as goal

@@ -1,4 +1,4 @@
-use Rattle.std.proofs.Common.{◌≡◌, ◌+◌, Some, refl, sym, subst, ◌∙◌, to_z, of_z, FitsSigned, rules, arith, length}
+use Rattle.std.proofs.Common.{◌+◌, Some, refl, sym, subst, ◌∙◌, to_z, of_z, FitsSigned, rules, arith}
 use Rattle.std.specs.Int.{w128}
 use Rattle.std.proofs.lemmas.Int.{to_z-of_z}
 use Rattle.std.proofs.lemmas.List.{length-map}

@@ -1,9 +1,9 @@
-use Rattle.std.proofs.Common.{◌≤◌, Some, refl, length, arith}
+use Rattle.std.proofs.Common.{Some, refl, arith}
 use Rattle.std.proofs.lemmas.List.{length-map}
 use Rattle.hub_model.specs.Lines.{tree_line_of}
 use Rattle.kept_cuts.specs.Kept.{kept_cut}
 use Rattle.closing_search.specs.Progressing.{cuts_of, target_of}
-use Rattle.closing_search.proofs.Choices.{IsNumber, number_of, leaf_sound, leaf_in_range}
+use Rattle.closing_search.proofs.Choices.{number_of, leaf_sound, leaf_in_range}
 use Rattle.closing_search.proofs.leaves.cut_leaf.Goals as goal
 
 pub end_with-requires-clause-end : goal.end_with-requires-clause-end

@@ -1,4 +1,4 @@
-use Rattle.std.proofs.Common.{◌≡◌, ℕ, Some, refl, sym, ap, subst, ◌∙◌, length, FitsSigned, rules, arith}
+use Rattle.std.proofs.Common.{◌≡◌, ℕ, Some, refl, sym, ap, subst, ◌∙◌, FitsSigned, rules, arith}
 use Rattle.std.specs.Int.{w128}
 use Rattle.std.proofs.lemmas.Int.{to_z-of_z}
 use Rattle.std.proofs.lemmas.List.{length-map}
@@ -9,8 +9,8 @@ use Rattle.kept_cuts.specs.Kept.{kept_cut}
 use Rattle.hub_spec.specs.Trees.{Closes, leaf_bound}
 use Rattle.search_spec.specs.States.{denominator}
 use Rattle.closing_search.specs.SingleCuts.{weights_on}
-use Rattle.closing_search.specs.Progressing.{cuts_of, IsDone, target_of}
-use Rattle.closing_search.proofs.Choices.{IsNumber, leaf_sound, leaf_in_range, stop_closes, number_in}
+use Rattle.closing_search.specs.Progressing.{cuts_of, IsDone}
+use Rattle.closing_search.proofs.Choices.{leaf_sound, leaf_in_range, stop_closes, number_in}
 use Rattle.closing_search.proofs.Steps.{stop_going, stop_done}
 use Rattle.closing_search.proofs.leaves.stopped_leaf.Goals as goal
 

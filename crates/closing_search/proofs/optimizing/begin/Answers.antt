@@ -1,4 +1,4 @@
-use Rattle.std.proofs.Common.{◌≡◌, ap, subst, refl, ◌∙◌, FitsSigned, rules, sym}
+use Rattle.std.proofs.Common.{ap, subst, refl, ◌∙◌, FitsSigned, rules, sym}
 use Rattle.std.specs.Prelude.{ℕ}
 use Rattle.std.specs.Int.{w128}
 use Rattle.std.proofs.lemmas.Int.{to_z-of_z}

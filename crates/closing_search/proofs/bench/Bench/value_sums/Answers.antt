@@ -1,4 +1,4 @@
-use Rattle.std.proofs.Common.{◌≡◌, List, length, sym, subst, rules}
+use Rattle.std.proofs.Common.{◌≡◌, length, sym, subst, rules}
 use Rattle.value_cuts.specs.Values.{value_cut}
 use Rattle.closing_search.specs.SingleCuts.{AreLoads}
 use Rattle.closing_search.proofs.SetLeaves.{taken, value_loads}
