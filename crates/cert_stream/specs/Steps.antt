@@ -254,7 +254,7 @@ pub record MayAdd (n : ℕ) (sums : CutTally) : Type 0 where
   pub loads : All (λ (load : ℕ). load ≤ most_cost) sums.loads
 
 pub record MayWeight (c : Checks) (number : ℕ) : Type 0 where
-  pub number : 1 ≤ number
+  pub least : 1 ≤ number
   pub may_add : All (MayAdd c.instance.now.size) c.cuts
   pub may_end : MayEndLeaf c
 

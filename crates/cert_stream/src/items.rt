@@ -1,7 +1,7 @@
 //! The items, one after another.
 
 ghost use Rattle.std.specs.Prelude.{◌≡◌, ◌^◌, ◌-◌, ◌<◌, ◌⊎◌, IfOk, IsOk, OnErr};
-ghost use Rattle.cert_stream.specs.Steps.{ends, ended, passed, IsCut, IsTaken, Steps, MayCome, MayTake};
+ghost use Rattle.cert_stream.specs.Steps.{ends, failed_at, ended, passed, IsCut, IsTaken, Steps, MayCome, MayTake};
 
 use crate::checks::Checks;
 use cert_checker::Kind;
@@ -67,10 +67,18 @@ impl<'a> Checks<'a> {
         requires { self.old.line < 2 ^ 64 - 1 }
         ensures { self.new ≡ ended self.old found }
     {
-        if let Some(kind) = found {
-            self.failure = Some((kind, self.line));
-        }
+        self.failure = with_line(found, self.line);
         self.line += 1;
+    }
+}
+
+// What was found, with its line.
+fn with_line(found: Option<Kind>, line: u64) -> Option<(Kind, u64)>
+    ensures { result ≡ failed_at line found }
+{
+    match found {
+        Some(kind) => Some((kind, line)),
+        None => None,
     }
 }
 
