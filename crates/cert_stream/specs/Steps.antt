@@ -166,7 +166,7 @@ pub data IsWeighed (old : Checks) (c w : ℕ) (kept : Checks) : Type 0 where
   too_much : c ≤ length old.cuts → old.leaf_failure ≡ None → old.leaf.denom < old.leaf.weight + w
       → kept ≡ leaf_with old old.leaf (Some code.TheVariants.Weight) → IsWeighed old c w kept
   added : (sums : Tally) → c ≤ length old.cuts → old.leaf_failure ≡ None → old.leaf.weight + w ≤ old.leaf.denom
-      → IsAdded old.leaf w (numbered old.cuts c).total (numbered old.cuts c).loads sums → kept ≡ leaf_with old sums None
+      → IsAdded old.leaf w (numbered old.cuts c).total (numbered old.cuts c).loads sums → kept ≡ record old { leaf = sums }
       → IsWeighed old c w kept
 
 pub record WeightTaken (old : Checks) (c w : ℕ) (last : Bool) (new : Checks) : Type 0 where
