@@ -1,10 +1,10 @@
 -- A check as the items that have come make it.
-use Rattle.std.specs.Prelude.{◌≡◌, ◌≢◌, ℕ, ◌+◌, ◌*◌, ◌<◌, ◌≤◌, ◌↔◌, IsTrue, List, [], ◌∷◌, ◌++◌, length, flat_map, map, Option, Some, None, All, Contains}
+use Rattle.std.specs.Prelude.{◌≡◌, ◌≢◌, ℕ, ◌+◌, ◌*◌, ◌<◌, ◌≤◌, ◌↔◌, Bool, true, false, IsTrue, List, [], ◌∷◌, ◌++◌, length, flat_map, map, Option, Some, None, All, Contains}
 use Rattle.std.specs.List.{AllZip}
 use Rattle.std.specs.List.Sorted.{IsStrictlyIncreasing}
 use Rattle.hub_spec.specs.Problem.{Problem, commodity_at}
 use Rattle.hub_spec.specs.Cuts.{Prices, Cut, IsWithinSums}
-use Rattle.hub_spec.specs.Trees.{IsBranch, leaf_of, weight_sum}
+use Rattle.hub_spec.specs.Trees.{Branching, IsBranch, leaf_of, weight_sum}
 use Rattle.hub_spec.specs.Ranges.{IsShort, IsDualInRange, IsLineInRange}
 use Rattle.cert_spec.specs.Lines.{Item as Line}
 use Rattle.cert_spec.specs.Grammar.{Shape, Stage, want_version, want_size, want_cost, want_bound, want_hubs, want_route, want_cuts, want_cut, want_dual, want_nodes, want_tree, Leads}
@@ -16,8 +16,9 @@ use Rattle.cert_checker.specs.declared.kinds.Kind as code
 use Rattle.cert_scan.specs.Parts.{parts_of, open_hubs, open_values, open_weights}
 use Rattle.cert_scan.specs.declared.items.Item.{Item}
 use Rattle.cert_scan.specs.declared.items.Item.TheVariants.{Dual, Leaf}
-use Rattle.plan_lines.specs.Tallies.{IsTallyOf, no_plan}
-use Rattle.tree_lines.specs.Tallies.{AreSumsOf as AreLeafSumsOf}
+use Rattle.plan_lines.specs.Tallies.{PlanTally, IsTallyOf, no_plan}
+use Rattle.dual_lines.specs.Lines.{ListedDual}
+use Rattle.tree_lines.specs.Tallies.{Tally, AreSumsOf as AreLeafSumsOf}
 use Rattle.cert_stream.specs.Sums.{CutTally, AreSumsOf, AreWithin}
 use Rattle.cert_stream.specs.declared.checks.Checks.{Checks}
 
@@ -49,20 +50,23 @@ IsPart (want_tree s places left) (some_weights denom weights) = IsLineInRange s.
 IsPart stage nothing = Unit {0}
 IsPart stage other = ⊥
 
--- what is kept whatever line comes next
-pub record Standing (c : Checks) (s : Progress) : Type 0 where
-  pub dual_problem : c.dual.problem ≡ c.instance.now
-  pub path_size : c.path.size ≡ c.instance.now.size
-  pub path_candidates : c.path.candidates ≡ c.instance.now.candidates
-  pub long : length c.leaf.loads ≡ c.instance.now.size
-  pub cost : c.cost ≡ s.cost
-  pub bound : c.bound ≡ s.bound
-  pub short : IsShort s.bound
+-- what is kept whatever line comes next: the dual, the path, the leaf's sums and what was said are of the instance and the lines
+pub record Standing (p : Problem) (dual_problem : Problem) (path_size : ℕ) (path_candidates : List ℕ) (loads : List ℕ) (cost bound said_cost said_bound : ℕ) : Type 0 where
+  pub dual_is : dual_problem ≡ p
+  pub size_is : path_size ≡ p.size
+  pub candidates_are : path_candidates ≡ p.candidates
+  pub long : length loads ≡ p.size
+  pub cost_is : cost ≡ said_cost
+  pub bound_is : bound ≡ said_bound
+  pub short : IsShort said_bound
 
--- the size that was said is the instance's
-pub record IsSized (c : Checks) (s : Progress) (shape : Shape) : Type 0 where
-  pub said : s.size ≡ c.instance.now.size
-  pub wanted : shape.size ≡ c.instance.now.size
+abbrev pub StandsFirm : Checks → Progress → Type 0
+StandsFirm c s = Standing c.instance.now c.dual.problem c.path.size c.path.candidates c.leaf.loads c.cost c.bound s.cost s.bound
+
+-- the size that was said, and that of the text's shape, are the instance's
+pub record IsSized (n said shape_size : ℕ) : Type 0 where
+  pub said_is : said ≡ n
+  pub wanted_is : shape_size ≡ n
 
 -- the sums are those of a whole cut, which is within them
 pub record AreSumsOfCut (p : Problem) (cut : Cut) (sums : CutTally) : Type 0 where
@@ -74,85 +78,98 @@ abbrev pub AreCutSums : Problem → List Cut → List CutTally → Type 0
 AreCutSums p cuts sums = AllZip (AreSumsOfCut p) cuts sums
 
 -- no plan has come
-pub record NoPlanYet (c : Checks) (s : Progress) : Type 0 where
-  pub hubs : s.hubs ≡ []
-  pub routes : s.routes ≡ []
-  pub tally : c.plan ≡ no_plan c.instance.now.size
-  pub candidates : IsTrue c.are_candidates
+pub record NoPlanYet (p : Problem) (hubs : List ℕ) (routes : List (ℕ × ℕ)) (plan : PlanTally) (are_candidates : Bool) : Type 0 where
+  pub no_hub : hubs ≡ []
+  pub no_route : routes ≡ []
+  pub tally : plan ≡ no_plan p.size
+  pub known : IsTrue are_candidates
 
--- these hubs have come
-pub record HubsStand (c : Checks) (s : Progress) (hubs : List ℕ) : Type 0 where
-  pub routes : s.routes ≡ []
-  pub tally : IsTallyOf c.instance.now hubs [] c.plan
-  pub known : IsTrue c.are_candidates ↔ All (Contains c.instance.now.candidates) hubs
+-- these hubs have come, and no route
+pub record HubsStand (p : Problem) (hubs : List ℕ) (routes : List (ℕ × ℕ)) (plan : PlanTally) (are_candidates : Bool) : Type 0 where
+  pub no_route : routes ≡ []
+  pub tally : IsTallyOf p hubs [] plan
+  pub known : IsTrue are_candidates ↔ All (Contains p.candidates) hubs
 
 -- the hubs, and so many routes have come
-pub record RoutesStand (c : Checks) (s : Progress) (t : ℕ) : Type 0 where
-  pub tally : IsTallyOf c.instance.now s.hubs s.routes c.plan
-  pub count : length s.routes ≡ t
-  pub more : t < c.instance.now.size * c.instance.now.size
+pub record RoutesStand (p : Problem) (hubs : List ℕ) (routes : List (ℕ × ℕ)) (plan : PlanTally) (t : ℕ) : Type 0 where
+  pub tally : IsTallyOf p hubs routes plan
+  pub count : length routes ≡ t
+  pub more : t < p.size * p.size
 
 -- whole cuts have come, and no dual of another
-pub record CutsStand (c : Checks) (s : Progress) : Type 0 where
-  pub sums : AreCutSums c.instance.now s.cuts c.cuts
-  pub none : s.duals ≡ []
+pub record CutsStand (p : Problem) (cuts : List Cut) (duals : List Prices) (sums : List CutTally) : Type 0 where
+  pub sums_are : AreCutSums p cuts sums
+  pub no_dual : duals ≡ []
 
 -- whole cuts have come, and so many duals of another
-pub record DualsStand (c : Checks) (s : Progress) (t : ℕ) : Type 0 where
+pub record DualsStand (p : Problem) (cuts : List Cut) (duals : List Prices) (sums : List CutTally) (t : ℕ) : Type 0 where
   pub front : List CutTally
   pub last : CutTally
-  pub cuts_are : c.cuts ≡ front ++ last ∷ []
-  pub sums : AreCutSums c.instance.now s.cuts front
-  pub open_sums : AreSumsOf c.instance.now.size s.duals last
-  pub candidates : All (λ (d : Prices). All (λ (e : ℕ × ℕ). Contains c.instance.now.candidates e.0) d.u) s.duals
-  pub count : length s.duals ≡ t
-  pub more : t < c.instance.now.size * c.instance.now.size
+  pub split : sums ≡ front ++ last ∷ []
+  pub front_are : AreCutSums p cuts front
+  pub last_is : AreSumsOf p.size duals last
+  pub candidates : All (λ (d : Prices). All (λ (e : ℕ × ℕ). Contains p.candidates e.0) d.u) duals
+  pub count : length duals ≡ t
+  pub more : t < p.size * p.size
 
 -- this dual is listed as far as it has come
-abbrev pub DualStands : Checks → Part → Type 0
-DualStands c (some_values commodity dual) = (c.dual.commodity ≡ commodity) × (c.dual.dual ≡ dual)
-DualStands c other = Unit {0}
+abbrev pub DualStands : ListedDual → Part → Type 0
+DualStands listed (some_values commodity dual) = (listed.commodity ≡ commodity) × (listed.dual ≡ dual)
+DualStands listed other = Unit {0}
 
 -- so many branches are to be filled, and the path has them
-pub record TreeStands (c : Checks) (s : Progress) (places : ℕ) : Type 0 where
-  pub pending : c.path.pending ≡ s.pending
-  pub count : length s.pending ≡ places
+pub record TreeStands (p : Problem) (pending on_path : List Branching) (places : ℕ) : Type 0 where
+  pub are : on_path ≡ pending
+  pub count : length pending ≡ places
   pub some : 1 ≤ places
-  pub branches : All (IsBranch c.instance.now) s.pending
+  pub branches : All (IsBranch p) pending
 
--- the numbers of cuts that weights name are those of cuts
-abbrev pub AreNumbers : Progress → List (ℕ × ℕ) → Type 0
-AreNumbers s weights = All (λ (e : ℕ × ℕ). e.0 ≤ length s.cuts) weights
+-- the numbers that weights name are those of cuts
+abbrev pub AreNumbers : List Cut → List (ℕ × ℕ) → Type 0
+AreNumbers cuts weights = All (λ (e : ℕ × ℕ). e.0 ≤ length cuts) weights
 
--- what failed of the weights, or their sums
-abbrev pub WeightsStand : Checks → Progress → ℕ → List (ℕ × ℕ) → Option code.Kind → Type 0
-WeightsStand c s denom weights None =
-    AreNumbers s weights × (weight_sum weights ≤ denom) × AreLeafSumsOf c.instance.now.size s.cuts denom weights c.leaf
-WeightsStand c s denom weights (Some code.TheVariants.Weight) = AreNumbers s weights × (denom < weight_sum weights)
-WeightsStand c s denom weights (Some code.TheVariants.CutNumber) = AreNumbers s weights → ⊥
-WeightsStand c s denom weights (Some other) = ⊥
+-- what failed of a leaf's weights, or their sums
+abbrev pub WeightsStand : Problem → List Cut → Tally → ℕ → List (ℕ × ℕ) → Option code.Kind → Type 0
+WeightsStand p cuts sums denom weights None =
+    AreNumbers cuts weights × (weight_sum weights ≤ denom) × AreLeafSumsOf p.size cuts denom weights sums
+WeightsStand p cuts sums denom weights (Some code.TheVariants.Weight) = AreNumbers cuts weights × (denom < weight_sum weights)
+WeightsStand p cuts sums denom weights (Some code.TheVariants.CutNumber) = AreNumbers cuts weights → ⊥
+WeightsStand p cuts sums denom weights (Some other) = ⊥
 
-abbrev pub LeafStands : Checks → Progress → Part → Type 0
-LeafStands c s (some_weights denom weights) = WeightsStand c s denom weights c.leaf_failure
-LeafStands c s other = Unit {0}
+abbrev pub LeafStands : Problem → List Cut → Tally → Option code.Kind → Part → Type 0
+LeafStands p cuts sums failure (some_weights denom weights) = WeightsStand p cuts sums denom weights failure
+LeafStands p cuts sums failure other = Unit {0}
 
 -- the hubs of a part
 abbrev pub hubs_of : Part → List ℕ
 hubs_of (some_hubs hubs) = hubs
 hubs_of other = []
 
+abbrev pub Sized : Checks → Progress → Shape → Type 0
+Sized c s shape = IsSized c.instance.now.size s.size shape.size
+
+abbrev pub PlanAbsent : Checks → Progress → Type 0
+PlanAbsent c s = NoPlanYet c.instance.now s.hubs s.routes c.plan c.are_candidates
+
+abbrev pub Cutted : Checks → Progress → Type 0
+Cutted c s = CutsStand c.instance.now s.cuts s.duals c.cuts
+
 -- what is kept at a stage, where a part of the next line has come
 abbrev pub Keeps : Checks → Progress → Stage → Part → Type 0
-Keeps c s want_size part = NoPlanYet c s × CutsStand c s
-Keeps c s (want_cost shape) part = IsSized c s shape × NoPlanYet c s × CutsStand c s
-Keeps c s (want_bound shape) part = IsSized c s shape × NoPlanYet c s × CutsStand c s
-Keeps c s (want_hubs shape) part = IsSized c s shape × HubsStand c s (hubs_of part) × CutsStand c s
-Keeps c s (want_route shape t) part = IsSized c s shape × RoutesStand c s t × CutsStand c s
-Keeps c s (want_cuts shape) part = IsSized c s shape × CutsStand c s
-Keeps c s (want_cut shape all x) part = IsSized c s shape × CutsStand c s
-Keeps c s (want_dual shape all x t) part = IsSized c s shape × DualsStand c s t × DualStands c part
-Keeps c s (want_nodes shape) part = IsSized c s shape × CutsStand c s
-Keeps c s (want_tree shape places left) part = IsSized c s shape × CutsStand c s × TreeStands c s places × LeafStands c s part
+Keeps c s want_size part = PlanAbsent c s × Cutted c s
+Keeps c s (want_cost shape) part = Sized c s shape × PlanAbsent c s × Cutted c s
+Keeps c s (want_bound shape) part = Sized c s shape × PlanAbsent c s × Cutted c s
+Keeps c s (want_hubs shape) part =
+    Sized c s shape × HubsStand c.instance.now (hubs_of part) s.routes c.plan c.are_candidates × Cutted c s
+Keeps c s (want_route shape t) part = Sized c s shape × RoutesStand c.instance.now s.hubs s.routes c.plan t × Cutted c s
+Keeps c s (want_cuts shape) part = Sized c s shape × Cutted c s
+Keeps c s (want_cut shape all x) part = Sized c s shape × Cutted c s
+Keeps c s (want_dual shape all x t) part =
+    Sized c s shape × DualsStand c.instance.now s.cuts s.duals c.cuts t × DualStands c.dual part
+Keeps c s (want_nodes shape) part = Sized c s shape × Cutted c s
+Keeps c s (want_tree shape places left) part =
+    Sized c s shape × Cutted c s × TreeStands c.instance.now s.pending c.path.pending places
+    × LeafStands c.instance.now s.cuts c.leaf c.leaf_failure part
 Keeps c s other part = Unit {0}
 
 -- behind the first line
@@ -163,7 +180,7 @@ second_line = record at_start { line = 2 }
 pub record Stands (c : Checks) (lines : List Line) (stage : Stage) (part : Part) : Type 0 where
   pub line : c.line ≡ (after_lines c.instance.now second_line lines).line
   pub tells : TellsFirst (conditions_from c.instance.now second_line lines) c.failure
-  pub standing : c.failure ≡ None → Standing c (after_lines c.instance.now second_line lines)
+  pub standing : c.failure ≡ None → StandsFirm c (after_lines c.instance.now second_line lines)
   pub keeps : c.failure ≡ None → Keeps c (after_lines c.instance.now second_line lines) stage part
 
 -- these items have come
