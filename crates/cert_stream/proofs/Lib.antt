@@ -1,3 +1,10 @@
 pub mod Loads
 pub mod Lists
 pub mod Parting
+pub mod Counting
+pub mod Trying
+pub mod Kept
+pub mod PlanSteps
+pub mod CutSteps
+pub mod TreeSteps
+pub mod MayCome

@@ -8,7 +8,7 @@ use Rattle.std.proofs.lemmas.List.Elements.{All-get_or, All-head, All-tail, All-
 use Rattle.hub_spec.specs.Cuts.{Prices, value_at}
 use Rattle.hub_spec.specs.Ranges.{IsDualInRange}
 use Rattle.hub_spec.proofs.ListedValues.{next_value}
-use Rattle.cert_stream.specs.Sums.{CutTally, most_duals, most_load, IsDualAdded, AreWithinRange}
+use Rattle.cert_stream.specs.Sums.{CutTally, most_duals, most_load, IsDualAdded, AreWithinRange, last_of}
 
 -- the load of the next entry's node is as it was
 load_before : (u : List (ℕ × ℕ)) (old loads : List ℕ) (e k : ℕ) → IsStrictlyIncreasing (map (λ (x : ℕ × ℕ). x.0) u) → e < length u
@@ -96,3 +96,6 @@ last_written items front last d read new n dual many are is added =
           (is ∙ ap (λ i. get_or items i d) at ∙ ap (λ l. get_or l (length (front ++ last ∷ []) - 1) d) are ∙ last-is front last d) added,
       ap (λ i. set items i new) at ∙ ap (λ l. set l (length (front ++ last ∷ []) - 1) new) are ∙ set-last front last new,
     )
+
+pub last_of-last : (front : List CutTally) (last : CutTally) → last_of (front ++ last ∷ []) ≡ last
+last_of-last front last = last-is front last (record { count = 0; total = 0; loads = [] })

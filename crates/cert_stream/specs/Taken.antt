@@ -2,7 +2,7 @@
 use Rattle.std.specs.Prelude.{◌≡◌, ◌≢◌, ℕ, ◌+◌, ◌*◌, ◌<◌, ◌≤◌, ◌↔◌, Bool, true, false, IsTrue, List, [], ◌∷◌, ◌++◌, length, flat_map, map, Option, Some, None, All, Contains}
 use Rattle.std.specs.List.{AllZip}
 use Rattle.std.specs.List.Sorted.{IsStrictlyIncreasing}
-use Rattle.hub_spec.specs.Problem.{Problem, commodity_at}
+use Rattle.hub_spec.specs.Problem.{Problem, IsProblem, commodity_at}
 use Rattle.hub_spec.specs.Cuts.{Prices, Cut, IsWithinSums}
 use Rattle.hub_spec.specs.Trees.{Branching, IsBranch, leaf_of, weight_sum}
 use Rattle.hub_spec.specs.Ranges.{IsShort, IsDualInRange, IsLineInRange}
@@ -50,8 +50,9 @@ IsPart (want_tree s places left) (some_weights denom weights) = IsLineInRange s.
 IsPart stage nothing = Unit {0}
 IsPart stage other = ⊥
 
--- what is kept whatever line comes next: the dual, the path, the leaf's sums and what was said are of the instance and the lines
+-- what is kept whatever line comes next: the dual, the path, the leaf's sums and what was said are those of the instance and the lines
 pub record Standing (p : Problem) (dual_problem : Problem) (path_size : ℕ) (path_candidates : List ℕ) (loads : List ℕ) (cost bound said_cost said_bound : ℕ) : Type 0 where
+  pub problem : IsProblem p
   pub dual_is : dual_problem ≡ p
   pub size_is : path_size ≡ p.size
   pub candidates_are : path_candidates ≡ p.candidates
