@@ -8,3 +8,4 @@ pub mod PlanSteps
 pub mod CutSteps
 pub mod TreeSteps
 pub mod MayCome
+pub mod Taking
