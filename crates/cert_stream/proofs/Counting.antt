@@ -117,7 +117,7 @@ line_both : (b : Bool) (x y : Progress) (n : ℕ) → x.line ≡ n → y.line �
 line_both true x y n h k = h
 line_both false x y n h k = k
 
-line-after : (p : Problem) (s : Progress) (l : Line) → (after_line p s l).line ≡ s.line + 1
+pub line-after : (p : Problem) (s : Progress) (l : Line) → (after_line p s l).line ≡ s.line + 1
 line-after p s says_version = refl
 line-after p s (says_size n q) = refl
 line-after p s (says_cost c) = refl

@@ -9,3 +9,4 @@ pub mod CutSteps
 pub mod TreeSteps
 pub mod MayCome
 pub mod Taking
+pub mod Whole

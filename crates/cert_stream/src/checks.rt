@@ -3,11 +3,13 @@
 ghost use Rattle.std.specs.Prelude.{◌≡◌, ◌++◌, ◌⊎◌, List, [], ◌∷◌, flat_map, IfOk, IsOk, OnErr};
 ghost use Rattle.cert_spec.specs.Lines.{Item as LineOf};
 ghost use Rattle.cert_spec.specs.Grammar.{Stage, Leads, want_version};
-ghost use Rattle.cert_spec.specs.Conditions.{AllHold};
+ghost use Rattle.cert_spec.specs.Conditions.{AllHold, claims};
+ghost use Rattle.hub_spec.specs.Certificates.{Proof};
+ghost use Rattle.hub_spec.specs.Ranges.{IsInRange};
 ghost use Rattle.stream_spec.specs.Progress.{at_start, after_lines};
 ghost use Rattle.stream_spec.specs.LineConditions.{conditions_from};
 ghost use Rattle.cert_scan.specs.Given.{IsGiven};
-ghost use Rattle.cert_scan.specs.Parts.{parts_of};
+ghost use Rattle.cert_scan.specs.Parts.{parts_of, items_of};
 ghost use Rattle.cert_scan.specs.declared.items.Item.{Item as ItemOf};
 ghost use Rattle.cert_stream.specs.Steps.{IsCut};
 ghost use Rattle.cert_stream.specs.Taken.{HasTaken, TellsFirst};
@@ -48,6 +50,8 @@ impl<'a> Checks<'a> {
         ensures begun { IfOk result (λ checks. HasTaken [] checks) }
         ensures instance { IfOk result (λ checks. checks.instance.now ≡ instance.now) }
     {
+        let nodes = instance.size();
+        prove!(nodes > 0);
         Ok(Checks {
             instance,
             line: 2,
@@ -80,9 +84,11 @@ impl<'a> Checks<'a> {
 
     /// The first condition that fails of those that the whole lines so far try, with its line.
     pub fn first_failure(&self) -> Option<(Kind, u64)>
-        ensures { (lines : List LineOf) (stage : Stage) → Leads want_version lines stage
+        ensures lines { (lines : List LineOf) (stage : Stage) → Leads want_version lines stage
             → HasTaken (flat_map parts_of lines) self.now
             → TellsFirst (conditions_from self.now.instance.now at_start lines) result }
+        ensures certificate { (k : Proof) → IsInRange k → HasTaken (items_of k) self.now
+            → TellsFirst (claims self.now.instance.now k) result }
     {
         self.failure
     }

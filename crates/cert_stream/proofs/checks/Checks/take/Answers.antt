@@ -1,14 +1,8 @@
-use Rattle.cert_stream.proofs.Parting.{coming}
-use Rattle.cert_stream.proofs.Counting.{few_lines}
-use Rattle.cert_stream.proofs.Trying.{tells_more}
-use Rattle.cert_stream.proofs.PlanSteps.{close_route}
-use Rattle.cert_stream.proofs.CutSteps.{close_dual}
-use Rattle.cert_stream.proofs.TreeSteps.{close_leaf}
-use Rattle.cert_stream.proofs.Taking.{grows, closes}
+use Rattle.cert_stream.proofs.Whole.{may_take, has_taken}
 use Rattle.cert_stream.proofs.checks.Checks.take.Goals as goal
 
 pub take_item-requires : goal.take_item-requires
-take_item-requires c = ?
+take_item-requires c = may_take c.requires.0 c.args.item c.args.self.now c.requires.1 c.requires.2
 
-pub returns : goal.returns
-returns c = ?
+pub returns-clause-taken : goal.returns-clause-taken
+returns-clause-taken c = ?
