@@ -10,3 +10,4 @@ pub mod TreeSteps
 pub mod MayCome
 pub mod Taking
 pub mod Whole
+pub mod Ends

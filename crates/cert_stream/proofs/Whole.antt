@@ -1,11 +1,12 @@
 -- A check as the items that have come make it, with one more.
-use Rattle.std.proofs.Common.{◌≡◌, ◌≢◌, ℕ, ◌+◌, ◌-◌, ◌^◌, ◌<◌, Bool, true, false, cond, List, [], ◌∷◌, ◌++◌, length, map, flat_map, Option, Some, None, ◌⊎◌, inl, inr, refl, sym, ap, subst, ◌∙◌, length-append, append-nil, arith, ⊎_elim}
+use Rattle.std.proofs.Common.{◌≡◌, ◌≢◌, ℕ, ◌+◌, ◌-◌, ◌*◌, ◌^◌, ◌<◌, Bool, true, false, cond, nat_eq, List, [], ◌∷◌, ◌++◌, length, map, flat_map, Option, Some, None, ◌⊎◌, inl, inr, refl, sym, ap, subst, ◌∙◌, length-append, append-nil, arith, ⊎_elim}
 use Rattle.hub_spec.specs.Problem.{Problem, IsProblem, commodity_at}
 use Rattle.hub_spec.specs.Certificates.{Proof}
 use Rattle.hub_spec.specs.Ranges.{IsInRange}
+use Rattle.hub_spec.specs.Cuts.{cut_by}
 use Rattle.cert_spec.specs.Lines.{Item as Line, says_version, says_size, says_cost, says_bound, says_hubs, says_route, says_cuts, says_cut, says_dual, says_nodes, says_tree, says_end}
 use Rattle.hub_spec.specs.Trees.{branch_on, leaf_of, no_hub}
-use Rattle.cert_spec.specs.Grammar.{Shape, Stage, want_version, want_size, want_end, want_nothing, want_cost, want_bound, want_hubs, want_cuts, want_nodes, want_route, want_cut, want_dual, want_tree, Wants, after, Leads}
+use Rattle.cert_spec.specs.Grammar.{Shape, Stage, want_version, want_size, want_end, want_nothing, want_cost, want_bound, want_hubs, want_cuts, want_nodes, want_route, want_cut, want_dual, want_tree, Wants, places_after, after_cut, after, shape, Leads}
 use Rattle.cert_spec.specs.Conditions.{Claim, Kind, AllHold, FailsFirst, claims}
 use Rattle.cert_spec.specs.Text.{certificate_items}
 use Rattle.cert_spec.proofs.Leads.{each_text_leads_lem}
@@ -336,3 +337,92 @@ tells_certificate c k range has =
     let h = (tells_whole c (certificate_items k) _ lead has).tells in
     let same = conditions_of_lines c.instance.now k range in
     told_same (claims c.instance.now k) (conditions_from c.instance.now at_start (certificate_items k)) c.failure same h
+
+-- ---- what a certificate says of its cost and its bound
+
+-- the stage is behind the line of the bound
+abbrev IsPastBound : Stage → Type 0
+IsPastBound want_version = ⊥
+IsPastBound want_size = ⊥
+IsPastBound (want_cost s) = ⊥
+IsPastBound (want_bound s) = ⊥
+IsPastBound stage = Unit {0}
+
+past_both : (b : Bool) (x y : Stage) → IsPastBound x → IsPastBound y → IsPastBound (cond b x y)
+past_both true x y h k = h
+past_both false x y h k = k
+
+past_cut : (s : Shape) (all x : ℕ) → IsPastBound (after_cut s all x)
+past_cut s all x = past_both (nat_eq x all) (want_nodes s) (want_cut s all x) tt tt
+
+past_after : (stage : Stage) (l : Line) → IsPastBound stage → Wants stage l → IsPastBound (after stage l)
+past_after (want_hubs s) (says_hubs hubs) h w = tt
+past_after (want_route s t) (says_route c r) h w = past_both (nat_eq (t + 1) (s.size * s.size)) (want_cuts s) (want_route s (t + 1)) tt tt
+past_after (want_cuts s) (says_cuts all) h w = past_cut s all 0
+past_after (want_cut s all x) (says_cut number) h w = tt
+past_after (want_dual s all x t) (says_dual c dual) h w =
+    past_both (nat_eq (t + 1) (s.size * s.size)) (after_cut s all (x + 1)) (want_dual s all x (t + 1)) (past_cut s all (x + 1)) tt
+past_after (want_nodes s) (says_nodes all) h w = tt
+past_after (want_tree s places left) (says_tree line) h w =
+    past_both (nat_eq (left - 1) 0) want_end (want_tree s (places_after places line) (left - 1)) tt tt
+past_after want_end says_end h w = tt
+past_after want_version says_version h w = absurd h
+past_after want_size (says_size n q) h w = absurd h
+past_after (want_cost s) (says_cost v) h w = absurd h
+past_after (want_bound s) (says_bound v) h w = absurd h
+past_after stage l h w = absurd w
+
+-- the cost and the bound that were said
+abbrev said : Progress → ℕ × ℕ
+said s = (s.cost, s.bound)
+
+said_both : (b : Bool) (x y s : Progress) → said x ≡ said s → said y ≡ said s → said (cond b x y) ≡ said s
+said_both true x y s h k = h
+said_both false x y s h k = k
+
+said_after : (p : Problem) (s : Progress) (stage : Stage) (l : Line) → IsPastBound stage → Wants stage l → said (after_line p s l) ≡ said s
+said_after p s (want_hubs sh) (says_hubs hubs) h w = refl
+said_after p s (want_route sh t) (says_route c r) h w = refl
+said_after p s (want_cuts sh) (says_cuts all) h w = refl
+said_after p s (want_cut sh all x) (says_cut number) h w = refl
+said_after p s (want_dual sh all x t) (says_dual c dual) h w =
+    said_both (nat_eq (length (s.duals ++ dual ∷ [])) (s.size * s.size)) (record s { line = s.line + 1; cuts = s.cuts ++ cut_by (s.duals ++ dual ∷ []) ∷ []; duals = [] })
+    (record s { line = s.line + 1; duals = s.duals ++ dual ∷ [] }) s refl refl
+said_after p s (want_nodes sh) (says_nodes all) h w = refl
+said_after p s (want_tree sh places left) (says_tree line) h w = refl
+said_after p s want_end says_end h w = refl
+said_after p s want_version says_version h w = absurd h
+said_after p s want_size (says_size n q) h w = absurd h
+said_after p s (want_cost sh) (says_cost v) h w = absurd h
+said_after p s (want_bound sh) (says_bound v) h w = absurd h
+said_after p s stage l h w = absurd w
+
+said_later : (p : Problem) (s : Progress) (stage : Stage) (lines : List Line) (last : Stage) → IsPastBound stage → Leads stage lines last
+    → said (after_lines p s lines) ≡ said s
+said_later p s stage [] last h lead = refl
+said_later p s stage (l ∷ lines) last h lead =
+    said_later p (after_line p s l) (after stage l) lines last (past_after stage l h lead.0) lead.1 ∙ said_after p s stage l h lead.0
+
+said_lines : (p : Problem) (n q v b : ℕ) (rest : List Line) (last : Stage)
+    → Leads want_version (says_version ∷ says_size n q ∷ says_cost v ∷ says_bound b ∷ rest) last
+    → said (after_lines p at_start (says_version ∷ says_size n q ∷ says_cost v ∷ says_bound b ∷ rest)) ≡ (v, b)
+said_lines p n q v b rest last lead =
+    said_later p (record at_start { line = 5; size = n; cost = v; bound = b }) (want_hubs (shape n)) rest last tt lead.1.1.1.1
+
+-- all but the first line
+abbrev others : List Line → List Line
+others [] = []
+others (l ∷ lines) = lines
+
+said_certificate : (p : Problem) (k : Proof) → IsInRange k → said (after_lines p at_start (certificate_items k)) ≡ (k.cost, k.bound)
+said_certificate p k range =
+    said_lines p k.size k.candidates k.cost k.bound (others (others (others (others (certificate_items k))))) want_nothing (each_text_leads_lem k range)
+
+pub said_by : (c : Checks) (k : Proof) → IsInRange k → HasTaken (items_of k) c → AllHold (claims c.instance.now k) → (c.cost ≡ k.cost) × (c.bound ≡ k.bound)
+said_by c k range has all =
+    let p = c.instance.now in
+    let t = tells_whole c (certificate_items k) want_nothing (each_text_leads_lem k range) has in
+    let told = tells_certificate c k range has in
+    let none = none_failed (claims p k) c.failure told all in
+    let s = said_certificate p k range in
+    (t.cost_is none ∙ ap (λ (x : ℕ × ℕ). x.0) s, t.bound_is none ∙ ap (λ (x : ℕ × ℕ). x.1) s)

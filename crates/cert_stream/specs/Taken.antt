@@ -8,7 +8,11 @@ use Rattle.hub_spec.specs.Trees.{Branching, IsBranch, leaf_of, weight_sum}
 use Rattle.hub_spec.specs.Ranges.{IsShort, IsDualInRange, IsLineInRange}
 use Rattle.cert_spec.specs.Lines.{Item as Line}
 use Rattle.cert_spec.specs.Grammar.{Shape, Stage, want_version, want_size, want_cost, want_bound, want_hubs, want_route, want_cuts, want_cut, want_dual, want_nodes, want_tree, Leads}
-use Rattle.cert_spec.specs.Conditions.{Claim, AllHold, FailsFirst}
+use Rattle.cert_spec.specs.Conditions.{Claim, AllHold, FailsFirst, claims}
+use Rattle.cert_checker.specs.declared.texts.Ending.{Ending}
+use Rattle.cert_checker.specs.declared.texts.Ending.TheVariants.{Optimal, Bounds, No}
+use Rattle.hub_model.specs.Amounts.{natural}
+use Rattle.hub_spec.specs.Certificates.{Proof}
 use Rattle.stream_spec.specs.Progress.{Progress, at_start, after_lines}
 use Rattle.stream_spec.specs.LineConditions.{conditions_from}
 use Rattle.cert_checker.specs.Answers.{kind_of}
@@ -188,3 +192,10 @@ pub record Stands (c : Checks) (lines : List Line) (stage : Stage) (part : Part)
 abbrev pub HasTaken : List Item → Checks → Type 0
 HasTaken given c = (lines : List Line) (stage : Stage) (part : Part) → Leads want_size lines stage
     → given ≡ flat_map parts_of lines ++ part_items part → IsPart stage part → Stands c lines stage part
+
+-- the ending is that of this certificate
+abbrev pub EndsAs : Problem → Proof → Ending → Type 0
+EndsAs p k (Optimal cost) = AllHold (claims p k) × (k.bound ≡ k.cost) × (natural cost ≡ k.cost)
+EndsAs p k (Bounds bound cost) = AllHold (claims p k) × (k.bound < k.cost) × (natural bound ≡ k.bound) × (natural cost ≡ k.cost)
+EndsAs p k (No kind line) = FailsFirst (claims p k) (kind_of kind) line
+EndsAs p k other = ⊥

@@ -95,18 +95,22 @@ impl<'a> Checks<'a> {
 
     /// What was said of the bound, once it was and no condition failed.
     pub fn bound(&self) -> u128
-        ensures { (lines : List LineOf) (stage : Stage) → Leads want_version lines stage
+        ensures lines { (lines : List LineOf) (stage : Stage) → Leads want_version lines stage
             → HasTaken (flat_map parts_of lines) self.now → AllHold (conditions_from self.now.instance.now at_start lines)
             → result ≡ (after_lines self.now.instance.now at_start lines).bound }
+        ensures certificate { (k : Proof) → IsInRange k → HasTaken (items_of k) self.now
+            → AllHold (claims self.now.instance.now k) → result ≡ k.bound }
     {
         self.bound
     }
 
     /// What was said of the cost, once it was and no condition failed.
     pub fn cost(&self) -> u128
-        ensures { (lines : List LineOf) (stage : Stage) → Leads want_version lines stage
+        ensures lines { (lines : List LineOf) (stage : Stage) → Leads want_version lines stage
             → HasTaken (flat_map parts_of lines) self.now → AllHold (conditions_from self.now.instance.now at_start lines)
             → result ≡ (after_lines self.now.instance.now at_start lines).cost }
+        ensures certificate { (k : Proof) → IsInRange k → HasTaken (items_of k) self.now
+            → AllHold (claims self.now.instance.now k) → result ≡ k.cost }
     {
         self.cost
     }
