@@ -1,23 +1,23 @@
 -- The items of the cuts.
-use Rattle.std.proofs.Common.{◌≡◌, ◌≢◌, ℕ, ◌+◌, ◌*◌, ◌<◌, ◌≤◌, Bool, true, false, List, [], ◌∷◌, ◌++◌, length, get_or, nat_eq, sum_by, Option, None, All, Contains, refl, sym, ap, ap₂, subst, ◌∙◌, mul-pos, length-append, arith, ⊎_elim, eq-eqb, ne_eqb}
+use Rattle.std.proofs.Common.{◌≡◌, ◌≢◌, ℕ, ◌+◌, ◌*◌, ◌<◌, ◌≤◌, List, [], ◌∷◌, ◌++◌, length, get_or, nat_eq, None, All, Contains, refl, sym, ap, ap₂, subst, ◌∙◌, mul-pos, length-append, arith, ⊎_elim, eq-eqb, ne_eqb}
 use Rattle.std.proofs.lemmas.Bool.{eqb-true, cases_eq, cases_lt, cond-true, cond-false, cond_both}
 use Rattle.std.proofs.lemmas.List.{get_or_past}
 use Rattle.std.proofs.lemmas.List.Sums.{sum_by-cons, sum_by_push}
 use Rattle.std.proofs.lemmas.List.Elements.{All-push, All-nil, All-head, All-tail, All-get_or, All-from_get_or, All-contains}
 use Rattle.std.proofs.lemmas.Slice.Zip.{all_zipped_more}
 use Rattle.hub_spec.specs.Limits.{most_cost}
-use Rattle.hub_spec.specs.Problem.{Problem, IsProblem, commodity_at}
-use Rattle.hub_spec.specs.Cuts.{Prices, value_at, IsDual, Cut, cut_by, total, load, IsWithinSums}
-use Rattle.hub_spec.proofs.Decisions.{decided_contains, Decided}
+use Rattle.hub_spec.specs.Problem.{Problem}
+use Rattle.hub_spec.specs.Cuts.{Prices, value_at, IsDual, cut_by, load, IsWithinSums}
+use Rattle.hub_spec.proofs.Decisions.{decided_contains}
 use Rattle.cert_spec.specs.Lines.{says_cuts, says_cut, says_dual}
-use Rattle.cert_spec.specs.Grammar.{Shape, Stage, want_cuts, want_cut, want_dual, want_nodes, after_cut, after_dual}
+use Rattle.cert_spec.specs.Grammar.{Shape, Stage, want_cuts, want_cut, want_dual, after_dual}
 use Rattle.cert_spec.specs.Conditions.{claim, AllHold, Dual, Sum}
 use Rattle.cert_spec.proofs.Leads.{after_dual-all, after_dual-more}
 use Rattle.stream_spec.specs.Progress.{Progress, with_duals}
 use Rattle.stream_spec.specs.LineConditions.{if_time}
 use Rattle.cert_stream.specs.Sums.{CutTally, IsNoDual, IsDualAdded, AreSumsOf, AreWithin, last_of}
-use Rattle.cert_stream.specs.Steps.{Tried, ended, Ends, CutTaken, dual_tests, cut_with, DualEnds, dual_with}
-use Rattle.cert_stream.specs.Taken.{Part, nothing, some_values, StandsFirm, AreSumsOfCut, AreCutSums, CutsStand, DualsStand, Keeps}
+use Rattle.cert_stream.specs.Steps.{ended, CutTaken, cut_with, DualEnds, dual_with}
+use Rattle.cert_stream.specs.Taken.{Part, nothing, some_values, StandsFirm, AreSumsOfCut, AreCutSums, Keeps}
 use Rattle.cert_stream.specs.declared.checks.Checks.{Checks}
 use Rattle.cert_stream.proofs.Loads.{last_of-last}
 use Rattle.cert_stream.proofs.Counting.{cut_cases}
@@ -194,20 +194,22 @@ close_dual c s sh all x t commodity dual new e st k h =
           let not_all : t + 1 ≢ sh.size * sh.size = λ y. part (count ∙ y ∙ square ∙ sizes) in
           let after_it : Progress = record s { line = s.line + 1; duals = duals } in
           subst (λ y. Q y (after_dual sh all x (t + 1))) (sym (more_duals s duals part))
-          (subst (Q after_it) (sym (after_dual-more sh all x (t + 1) not_all))
-          (st, (
-            k.0,
-            record {
-              front = d.front;
-              last = later;
-              split = w.2;
-              front_are = d.front_are;
-              last_is = sums;
-              candidates = are held.0;
-              count = count;
-              more = omega (arith, d.more, not_all, square);
-            },
-            tt,
-          ))))
+          (subst (Q after_it) (sym (after_dual-more sh all x (t + 1) not_all)) (
+            st,
+            (
+              k.0,
+              record {
+                front = d.front;
+                last = later;
+                split = w.2;
+                front_are = d.front_are;
+                last_is = sums;
+                candidates = are held.0;
+                count = count;
+                more = omega (arith, d.more, not_all, square);
+              },
+              tt,
+            ),
+          )))
           (cases_eq (length duals) (s.size * s.size));
     }

@@ -1,16 +1,15 @@
 -- How the check of all bytes ends.
-use Rattle.std.proofs.Common.{◌≡◌, ℕ, ◌+◌, ◌-◌, ◌^◌, ◌<◌, ◌≤◌, Bool, true, false, List, length, Option, Some, None, refl, sym, ap, subst, ◌∙◌, arith}
+use Rattle.std.proofs.Common.{◌≡◌, ℕ, ◌<◌, ◌≤◌, true, false, List, length, Option, None, sym, subst, ◌∙◌, arith}
 use Rattle.hub_spec.specs.Problem.{Problem}
-use Rattle.hub_spec.specs.Certificates.{Proof, Holds}
+use Rattle.hub_spec.specs.Certificates.{Proof}
 use Rattle.cert_spec.specs.Text.{Spells}
-use Rattle.cert_spec.specs.Verdicts.{Certifies, Why, certificate_limit}
+use Rattle.cert_spec.specs.Verdicts.{Why, certificate_limit}
 use Rattle.cert_spec.proofs.Claims.{holds_exactly_by_claims}
 use Rattle.cert_checker.specs.Shows.{verdict_of}
 use Rattle.cert_checker.specs.declared.texts.Ending.{Ending}
 use Rattle.cert_checker.specs.declared.texts.Ending.TheVariants.{Optimal, Bounds, No, BadLine, Ended, TooLong}
-use Rattle.hub_model.specs.Amounts.{natural}
 use Rattle.cert_scan.specs.Parts.{items_of}
-use Rattle.cert_scan.specs.Scanned.{HasScanned, AreCountable, Tells}
+use Rattle.cert_scan.specs.Scanned.{AreCountable, Tells}
 use Rattle.cert_scan.specs.declared.items.Item.{Item}
 use Rattle.cert_scan.specs.declared.items.Fault.{Fault}
 use Rattle.cert_stream.specs.Taken.{HasTaken, EndsAs}

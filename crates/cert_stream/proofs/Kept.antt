@@ -1,5 +1,5 @@
 -- What an item leaves of a check that keeps what it should.
-use Rattle.std.proofs.Common.{◌≡◌, ℕ, List, Option, None, sym, subst, refl}
+use Rattle.std.proofs.Common.{◌≡◌, ℕ, Option}
 use Rattle.hub_spec.specs.Problem.{Problem}
 use Rattle.cert_spec.specs.Lines.{Item as Line}
 use Rattle.cert_spec.specs.Grammar.{Stage, after}

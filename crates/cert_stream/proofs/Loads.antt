@@ -1,5 +1,5 @@
 -- The values of a dual added to loads, entry by entry.
-use Rattle.std.proofs.Common.{◌≡◌, ℕ, ◌+◌, ◌*◌, ◌^◌, ◌<◌, ◌≤◌, List, ◌++◌, ◌-◌, length, get_or, subst, take, map, set, All, [], ◌∷◌, nat_eq, cond, ap, sym, ◌∙◌, ⊎_elim, length-append, arith}
+use Rattle.std.proofs.Common.{◌≡◌, ℕ, ◌+◌, ◌*◌, ◌^◌, ◌<◌, ◌≤◌, List, ◌++◌, ◌-◌, length, get_or, subst, take, map, set, All, [], ◌∷◌, nat_eq, ap, sym, ◌∙◌, ⊎_elim, length-append, arith}
 use Rattle.std.specs.List.Sorted.{IsStrictlyIncreasing}
 use Rattle.std.proofs.Math.Seq.{get_or-append_seam, set-append_seam}
 use Rattle.std.proofs.lemmas.Bool.{cases_eq, cond_both}
@@ -54,8 +54,13 @@ load_limits n old later dual range within few added = record {
   few = omega (arith, added.count_is);
   total_limit = let a : dual.a < 10 ^ 30 = range.a in omega (arith, added.count_is, added.total_is, within.total_limit);
   load_limit = All-from_get_or (λ load. load ≤ later.count * 10 ^ 30) later.loads 0 (λ k below.
-      omega (arith, added.count_is, added.loads_are k, dual_value_short n dual k range,
-      All-get_or (λ load. load ≤ old.count * 10 ^ 30) old.loads k 0 (omega (arith, added.long)) within.load_limit));
+      omega (
+        arith,
+        added.count_is,
+        added.loads_are k,
+        dual_value_short n dual k range,
+        All-get_or (λ load. load ≤ old.count * 10 ^ 30) old.loads k 0 (omega (arith, added.long)) within.load_limit,
+      ));
 }
 
 pub loads_below : (tally : CutTally) → AreWithinRange tally → All (λ (load : ℕ). load ≤ most_load) tally.loads

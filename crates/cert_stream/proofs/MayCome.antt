@@ -1,20 +1,19 @@
 -- What an item may be, by the lines and the part that stand.
-use Rattle.std.proofs.Common.{◌≡◌, ◌≢◌, ℕ, ◌+◌, ◌-◌, ◌*◌, ◌^◌, ◌<◌, ◌≤◌, Bool, true, false, List, [], ◌∷◌, ◌++◌, length, map, All, refl, sym, ap, subst, ◌∙◌, arith}
+use Rattle.std.proofs.Common.{◌≡◌, ◌≢◌, ℕ, ◌+◌, ◌*◌, ◌^◌, ◌<◌, ◌≤◌, List, [], ◌∷◌, ◌++◌, length, map, All, sym, ap, subst, ◌∙◌, arith}
 use Rattle.std.specs.List.{AllZip}
 use Rattle.std.specs.List.Sorted.{IsStrictlyIncreasing}
 use Rattle.std.proofs.Math.Nat.{mul-le-mul}
 use Rattle.std.proofs.lemmas.List.{map-append}
 use Rattle.std.proofs.lemmas.List.Elements.{All-nil, All-cons, All-head, All-tail}
-use Rattle.hub_spec.specs.Limits.{most_denominator}
-use Rattle.hub_spec.specs.Problem.{Problem, IsProblem, commodity_at}
-use Rattle.hub_spec.specs.Cuts.{Prices, Cut}
+use Rattle.hub_spec.specs.Problem.{Problem, commodity_at}
+use Rattle.hub_spec.specs.Cuts.{Prices}
 use Rattle.hub_spec.specs.Trees.{leaf_of}
 use Rattle.hub_spec.specs.Ranges.{IsShort, IsDualInRange, IsLineInRange}
 use Rattle.cert_spec.specs.Grammar.{Shape, want_hubs, want_route, want_dual, want_tree}
 use Rattle.stream_spec.specs.Progress.{Progress}
 use Rattle.cert_stream.specs.Sums.{CutTally, most_duals, last_of}
 use Rattle.cert_stream.specs.Steps.{MayHub, MayRoute, MayEndDual, MayDual, MayValue, MayEndLeaf, MayAdd, MayWeight}
-use Rattle.cert_stream.specs.Taken.{Part, nothing, some_hubs, some_values, some_weights, StandsFirm, AreSumsOfCut, AreCutSums, DualsStand, Sized, TreeStands, Keeps}
+use Rattle.cert_stream.specs.Taken.{Part, nothing, some_hubs, some_values, StandsFirm, AreSumsOfCut, DualsStand, Keeps}
 use Rattle.cert_stream.specs.declared.checks.Checks.{Checks}
 use Rattle.cert_stream.proofs.Lists.{all_last, ascend_last, not_nil}
 use Rattle.cert_stream.proofs.Loads.{last_of-last}

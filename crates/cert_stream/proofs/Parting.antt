@@ -4,12 +4,11 @@ use Rattle.std.specs.List.Sorted.{IsStrictlyIncreasing}
 use Rattle.std.proofs.lemmas.List.{same_from_push, map-append}
 use Rattle.std.proofs.lemmas.List.Concat.{flat_map-append}
 use Rattle.hub_spec.specs.Problem.{commodity_at}
-use Rattle.hub_spec.specs.Cuts.{Prices}
-use Rattle.hub_spec.specs.Trees.{TreeLine, branch_on, leaf_of, no_hub}
-use Rattle.hub_spec.specs.Ranges.{IsDualInRange, IsLineInRange, AreWeightsInRange}
+use Rattle.hub_spec.specs.Trees.{branch_on, leaf_of, no_hub}
+use Rattle.hub_spec.specs.Ranges.{IsDualInRange, IsLineInRange}
 use Rattle.cert_spec.specs.Lines.{Item as Line, says_version, says_size, says_cost, says_bound, says_hubs, says_route, says_cuts, says_cut, says_dual, says_nodes, says_tree, says_end}
-use Rattle.cert_spec.specs.Grammar.{Shape, Stage, want_version, want_size, want_end, want_nothing, want_cost, want_bound, want_hubs, want_cuts, want_nodes, want_route, want_cut, want_dual, want_tree, Wants, places_after, after_cut, after, Leads}
-use Rattle.cert_scan.specs.Parts.{parts_of, none_left, hub_parts, value_parts, weight_parts, tree_parts, open_hubs, open_values, open_weights}
+use Rattle.cert_spec.specs.Grammar.{Shape, Stage, want_version, want_size, want_end, want_cost, want_bound, want_hubs, want_cuts, want_nodes, want_route, want_cut, want_dual, want_tree, Wants, places_after, after_cut, after, Leads}
+use Rattle.cert_scan.specs.Parts.{parts_of, none_left, hub_parts, value_parts, weight_parts, open_hubs, open_values, open_weights}
 use Rattle.cert_scan.specs.declared.items.Item.{Item}
 use Rattle.cert_scan.specs.declared.items.Item.TheVariants.{Size, Cost, Bound, Hub, Route, Cuts, Cut, Dual, DualPair, Nodes, Branch, Leaf, LeafPair, Empty, End}
 use Rattle.cert_stream.specs.Taken.{Part, nothing, some_hubs, some_values, some_weights, part_items, IsPart}
@@ -101,10 +100,14 @@ dual_front n a front e h = record {
 }
 
 pub leaf_front : (n denom : ℕ) (front : List (ℕ × ℕ)) (e : ℕ × ℕ) → IsLineInRange n (leaf_of denom (front ++ e ∷ [])) → IsLineInRange n (leaf_of denom front)
-leaf_front n denom front e h = (h.0, h.1, record {
-  ascend = ascend_keys front e h.2.ascend;
-  each = all_front (λ (x : ℕ × ℕ). (1 ≤ x.0) × (x.0 < 10 ^ 30) × (1 ≤ x.1) × (x.1 < 10 ^ 30)) front e h.2.each;
-})
+leaf_front n denom front e h = (
+  h.0,
+  h.1,
+  record {
+    ascend = ascend_keys front e h.2.ascend;
+    each = all_front (λ (x : ℕ × ℕ). (1 ≤ x.0) × (x.0 < 10 ^ 30) × (1 ≤ x.1) × (x.1 < 10 ^ 30)) front e h.2.each;
+  },
+)
 
 -- ---- the last item of a line
 
@@ -120,61 +123,73 @@ ends_hubs s hubs some up nodes =
     elim (by_last hubs) as (λ v. Ending (want_hubs s) (says_hubs hubs)) [
       | inl none ↦ absurd (let e = ap length none in omega (arith, e, some))
       | inr h ↦
-        let front = h.0 in
-        let k = h.1 in
-        let r = hubs_front s.size front k (subst IsStrictlyIncreasing h.2 up, subst (All (λ (m : ℕ). m < s.size)) h.2 nodes) in
-        (Hub k true, record {
-          before = some_hubs front;
-          may = r;
-          items = ap hub_parts h.2 ∙ hub_parts-last front k;
-          closing = (front, k, h.2, refl, refl);
-        })
+          let front = h.0 in
+          let k = h.1 in
+          let r = hubs_front s.size front k (subst IsStrictlyIncreasing h.2 up, subst (All (λ (m : ℕ). m < s.size)) h.2 nodes) in (
+            Hub k true,
+            record {
+              before = some_hubs front;
+              may = r;
+              items = ap hub_parts h.2 ∙ hub_parts-last front k;
+              closing = (front, k, h.2, refl, refl);
+            },
+          )
     ]
 
 ends_dual : (s : Shape) (all x t : ℕ) (c : ℕ × ℕ) (a : ℕ) (u : List (ℕ × ℕ)) → c ≡ commodity_at s.size t → IsDualInRange s.size (record { a = a; u = u })
     → Ending (want_dual s all x t) (says_dual c (record { a = a; u = u }))
 ends_dual s all x t c a u at range =
     elim (by_last u) as (λ v. Ending (want_dual s all x t) (says_dual c (record { a = a; u = u }))) [
-      | inl none ↦ (Dual c.0 c.1 a true, record {
-        before = nothing;
-        may = tt;
-        items = ap (λ (l : List (ℕ × ℕ)). Dual c.0 c.1 a (none_left l) ∷ value_parts l) none;
-        closing = inl (none, refl, refl);
-      })
+      | inl none ↦ (
+        Dual c.0 c.1 a true,
+        record {
+          before = nothing;
+          may = tt;
+          items = ap (λ (l : List (ℕ × ℕ)). Dual c.0 c.1 a (none_left l) ∷ value_parts l) none;
+          closing = inl (none, refl, refl);
+        },
+      )
       | inr h ↦
-        let front = h.0 in
-        let e = h.1 in
-        (DualPair e.0 e.1 true, record {
-          before = some_values c (record { a = a; u = front });
-          may = (at, dual_front s.size a front e (subst (λ (l : List (ℕ × ℕ)). IsDualInRange s.size (record { a = a; u = l })) h.2 range));
-          items = ap (λ (l : List (ℕ × ℕ)). Dual c.0 c.1 a (none_left l) ∷ value_parts l) h.2
-              ∙ ap (λ b. Dual c.0 c.1 a b ∷ value_parts (front ++ e ∷ [])) (none_left-push front e)
-              ∙ ap (λ l. Dual c.0 c.1 a false ∷ l) (value_parts-last front e);
-          closing = inr (front, e, h.2, refl, refl);
-        })
+          let front = h.0 in
+          let e = h.1 in (
+            DualPair e.0 e.1 true,
+            record {
+              before = some_values c (record { a = a; u = front });
+              may = (at, dual_front s.size a front e (subst (λ (l : List (ℕ × ℕ)). IsDualInRange s.size (record { a = a; u = l })) h.2 range));
+              items = ap (λ (l : List (ℕ × ℕ)). Dual c.0 c.1 a (none_left l) ∷ value_parts l) h.2
+                  ∙ ap (λ b. Dual c.0 c.1 a b ∷ value_parts (front ++ e ∷ [])) (none_left-push front e)
+                  ∙ ap (λ l. Dual c.0 c.1 a false ∷ l) (value_parts-last front e);
+              closing = inr (front, e, h.2, refl, refl);
+            },
+          )
     ]
 
 ends_leaf : (s : Shape) (places left denom : ℕ) (weights : List (ℕ × ℕ)) → IsLineInRange s.size (leaf_of denom weights)
     → Ending (want_tree s places left) (says_tree (leaf_of denom weights))
 ends_leaf s places left denom weights range =
     elim (by_last weights) as (λ v. Ending (want_tree s places left) (says_tree (leaf_of denom weights))) [
-      | inl none ↦ (Leaf denom true, record {
-        before = nothing;
-        may = tt;
-        items = ap (λ (l : List (ℕ × ℕ)). Leaf denom (none_left l) ∷ weight_parts l) none;
-        closing = inl (none, refl, refl);
-      })
+      | inl none ↦ (
+        Leaf denom true,
+        record {
+          before = nothing;
+          may = tt;
+          items = ap (λ (l : List (ℕ × ℕ)). Leaf denom (none_left l) ∷ weight_parts l) none;
+          closing = inl (none, refl, refl);
+        },
+      )
       | inr h ↦
-        let front = h.0 in
-        let e = h.1 in
-        (LeafPair e.0 e.1 true, record {
-          before = some_weights denom front;
-          may = leaf_front s.size denom front e (subst (λ (l : List (ℕ × ℕ)). IsLineInRange s.size (leaf_of denom l)) h.2 range);
-          items = ap (λ (l : List (ℕ × ℕ)). Leaf denom (none_left l) ∷ weight_parts l) h.2
-              ∙ ap (λ b. Leaf denom b ∷ weight_parts (front ++ e ∷ [])) (none_left-push front e)
-              ∙ ap (λ l. Leaf denom false ∷ l) (weight_parts-last front e);
-          closing = inr (front, e, h.2, refl, refl);
-        })
+          let front = h.0 in
+          let e = h.1 in (
+            LeafPair e.0 e.1 true,
+            record {
+              before = some_weights denom front;
+              may = leaf_front s.size denom front e (subst (λ (l : List (ℕ × ℕ)). IsLineInRange s.size (leaf_of denom l)) h.2 range);
+              items = ap (λ (l : List (ℕ × ℕ)). Leaf denom (none_left l) ∷ weight_parts l) h.2
+                  ∙ ap (λ b. Leaf denom b ∷ weight_parts (front ++ e ∷ [])) (none_left-push front e)
+                  ∙ ap (λ l. Leaf denom false ∷ l) (weight_parts-last front e);
+              closing = inr (front, e, h.2, refl, refl);
+            },
+          )
     ]
 
 -- the stage is behind the first line
@@ -213,58 +228,73 @@ grown_hubs s hubs may =
     elim (by_last hubs) as (λ v. Grown (want_hubs s) (some_hubs hubs)) [
       | inl none ↦ inl (ap open_hubs none)
       | inr h ↦
-        let front = h.0 in
-        let k = h.1 in
-        inr (Hub k false, record {
-          before = some_hubs front;
-          may = hubs_front s.size front k (subst IsStrictlyIncreasing h.2 may.0, subst (All (λ (m : ℕ). m < s.size)) h.2 may.1);
-          items = ap open_hubs h.2 ∙ map-append (λ k. Hub k false) front (k ∷ []);
-          growing = (front, k, h.2, refl, refl);
-        })
+          let front = h.0 in
+          let k = h.1 in
+          inr (
+            Hub k false,
+            record {
+              before = some_hubs front;
+              may = hubs_front s.size front k (subst IsStrictlyIncreasing h.2 may.0, subst (All (λ (m : ℕ). m < s.size)) h.2 may.1);
+              items = ap open_hubs h.2 ∙ map-append (λ k. Hub k false) front (k ∷ []);
+              growing = (front, k, h.2, refl, refl);
+            },
+          )
     ]
 
 grown_values : (s : Shape) (all x t : ℕ) (c : ℕ × ℕ) (a : ℕ) (u : List (ℕ × ℕ)) → IsPart (want_dual s all x t) (some_values c (record { a = a; u = u }))
     → Grown (want_dual s all x t) (some_values c (record { a = a; u = u }))
 grown_values s all x t c a u may =
     elim (by_last u) as (λ v. Grown (want_dual s all x t) (some_values c (record { a = a; u = u }))) [
-      | inl none ↦ inr (Dual c.0 c.1 a false, record {
-        before = nothing;
-        may = tt;
-        items = ap (λ (l : List (ℕ × ℕ)). Dual c.0 c.1 a false ∷ open_values l) none;
-        growing = inl (none, refl, refl);
-      })
+      | inl none ↦ inr (
+        Dual c.0 c.1 a false,
+        record {
+          before = nothing;
+          may = tt;
+          items = ap (λ (l : List (ℕ × ℕ)). Dual c.0 c.1 a false ∷ open_values l) none;
+          growing = inl (none, refl, refl);
+        },
+      )
       | inr h ↦
-        let front = h.0 in
-        let e = h.1 in
-        inr (DualPair e.0 e.1 false, record {
-          before = some_values c (record { a = a; u = front });
-          may = (may.0, dual_front s.size a front e (subst (λ (l : List (ℕ × ℕ)). IsDualInRange s.size (record { a = a; u = l })) h.2 may.1));
-          items = ap (λ (l : List (ℕ × ℕ)). Dual c.0 c.1 a false ∷ open_values l) h.2
-              ∙ ap (λ l. Dual c.0 c.1 a false ∷ l) (map-append (λ (e : ℕ × ℕ). DualPair e.0 e.1 false) front (e ∷ []));
-          growing = inr (front, e, h.2, refl, refl);
-        })
+          let front = h.0 in
+          let e = h.1 in
+          inr (
+            DualPair e.0 e.1 false,
+            record {
+              before = some_values c (record { a = a; u = front });
+              may = (may.0, dual_front s.size a front e (subst (λ (l : List (ℕ × ℕ)). IsDualInRange s.size (record { a = a; u = l })) h.2 may.1));
+              items = ap (λ (l : List (ℕ × ℕ)). Dual c.0 c.1 a false ∷ open_values l) h.2
+                  ∙ ap (λ l. Dual c.0 c.1 a false ∷ l) (map-append (λ (e : ℕ × ℕ). DualPair e.0 e.1 false) front (e ∷ []));
+              growing = inr (front, e, h.2, refl, refl);
+            },
+          )
     ]
 
 grown_weights : (s : Shape) (places left denom : ℕ) (weights : List (ℕ × ℕ)) → IsPart (want_tree s places left) (some_weights denom weights)
     → Grown (want_tree s places left) (some_weights denom weights)
 grown_weights s places left denom weights may =
     elim (by_last weights) as (λ v. Grown (want_tree s places left) (some_weights denom weights)) [
-      | inl none ↦ inr (Leaf denom false, record {
-        before = nothing;
-        may = tt;
-        items = ap (λ (l : List (ℕ × ℕ)). Leaf denom false ∷ open_weights l) none;
-        growing = inl (none, refl, refl);
-      })
+      | inl none ↦ inr (
+        Leaf denom false,
+        record {
+          before = nothing;
+          may = tt;
+          items = ap (λ (l : List (ℕ × ℕ)). Leaf denom false ∷ open_weights l) none;
+          growing = inl (none, refl, refl);
+        },
+      )
       | inr h ↦
-        let front = h.0 in
-        let e = h.1 in
-        inr (LeafPair e.0 e.1 false, record {
-          before = some_weights denom front;
-          may = leaf_front s.size denom front e (subst (λ (l : List (ℕ × ℕ)). IsLineInRange s.size (leaf_of denom l)) h.2 may);
-          items = ap (λ (l : List (ℕ × ℕ)). Leaf denom false ∷ open_weights l) h.2
-              ∙ ap (λ l. Leaf denom false ∷ l) (map-append (λ (e : ℕ × ℕ). LeafPair e.0 e.1 false) front (e ∷ []));
-          growing = inr (front, e, h.2, refl, refl);
-        })
+          let front = h.0 in
+          let e = h.1 in
+          inr (
+            LeafPair e.0 e.1 false,
+            record {
+              before = some_weights denom front;
+              may = leaf_front s.size denom front e (subst (λ (l : List (ℕ × ℕ)). IsLineInRange s.size (leaf_of denom l)) h.2 may);
+              items = ap (λ (l : List (ℕ × ℕ)). Leaf denom false ∷ open_weights l) h.2
+                  ∙ ap (λ l. Leaf denom false ∷ l) (map-append (λ (e : ℕ × ℕ). LeafPair e.0 e.1 false) front (e ∷ []));
+              growing = inr (front, e, h.2, refl, refl);
+            },
+          )
     ]
 
 pub each_grown : (stage : Stage) (part : Part) → IsPart stage part → Grown stage part
@@ -323,14 +353,14 @@ coming_end given i lines stage part lead none are =
     elim (by_last lines) as (λ v. Coming given i lines stage part) [
       | inl empty ↦ absurd (not_nil given i (are ∙ ap (flat_map parts_of) empty))
       | inr h ↦
-        let front = h.0 in
-        let l = h.1 in
-        let r = leads_last want_size front l stage (subst (λ ls. Leads want_size ls stage) h.2 lead) in
-        let e = each_ends r.0 l r.2 (later_leads want_size front r.0 tt r.1) in
-        let same = same_from_push given (flat_map parts_of front ++ part_items e.1.before) i e.0
-        (are ∙ ap (flat_map parts_of) h.2 ∙ flat_map-append parts_of front (l ∷ []) ∙ ap (λ x. flat_map parts_of front ++ x) (append-nil (parts_of l) ∙ e.1.items)
-        ∙ sym (append_assoc (flat_map parts_of front) (part_items e.1.before) (e.0 ∷ []))) in
-        ends front l r.0 e.1.before h.2 r.1 r.2 (sym r.3) none e.1.may same.0 (subst (Closing l e.1.before) (sym same.1) e.1.closing)
+          let front = h.0 in
+          let l = h.1 in
+          let r = leads_last want_size front l stage (subst (λ ls. Leads want_size ls stage) h.2 lead) in
+          let e = each_ends r.0 l r.2 (later_leads want_size front r.0 tt r.1) in
+          let same = same_from_push given (flat_map parts_of front ++ part_items e.1.before) i e.0
+          (are ∙ ap (flat_map parts_of) h.2 ∙ flat_map-append parts_of front (l ∷ []) ∙ ap (λ x. flat_map parts_of front ++ x) (append-nil (parts_of l) ∙ e.1.items)
+          ∙ sym (append_assoc (flat_map parts_of front) (part_items e.1.before) (e.0 ∷ []))) in
+          ends front l r.0 e.1.before h.2 r.1 r.2 (sym r.3) none e.1.may same.0 (subst (Closing l e.1.before) (sym same.1) e.1.closing)
     ]
 
 pub coming : (given : List Item) (i : Item) (lines : List Line) (stage : Stage) (part : Part) → Leads want_size lines stage
@@ -338,9 +368,9 @@ pub coming : (given : List Item) (i : Item) (lines : List Line) (stage : Stage) 
 coming given i lines stage part lead may are =
     elim (each_grown stage part may) as (λ v. Coming given i lines stage part) [
       | inl none ↦ coming_end given i lines stage part lead none
-        (are ∙ ap (λ x. flat_map parts_of lines ++ x) none ∙ append-nil (flat_map parts_of lines))
+          (are ∙ ap (λ x. flat_map parts_of lines ++ x) none ∙ append-nil (flat_map parts_of lines))
       | inr g ↦
-        let same = same_from_push given (flat_map parts_of lines ++ part_items g.1.before) i g.0
-        (are ∙ ap (λ x. flat_map parts_of lines ++ x) g.1.items ∙ sym (append_assoc (flat_map parts_of lines) (part_items g.1.before) (g.0 ∷ []))) in
-        goes_on g.1.before g.1.may same.0 (subst (Growing part g.1.before) (sym same.1) g.1.growing)
+          let same = same_from_push given (flat_map parts_of lines ++ part_items g.1.before) i g.0
+          (are ∙ ap (λ x. flat_map parts_of lines ++ x) g.1.items ∙ sym (append_assoc (flat_map parts_of lines) (part_items g.1.before) (g.0 ∷ []))) in
+          goes_on g.1.before g.1.may same.0 (subst (Growing part g.1.before) (sym same.1) g.1.growing)
     ]

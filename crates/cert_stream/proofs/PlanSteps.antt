@@ -1,21 +1,21 @@
 -- The items up to the last route.
-use Rattle.std.proofs.Common.{◌≡◌, ℕ, ◌+◌, ◌*◌, ◌/◌, ◌%◌, ◌<◌, ◌≤◌, ◌↔◌, Bool, true, false, IsTrue, List, [], ◌∷◌, ◌++◌, length, nat_eq, Option, None, All, Contains, refl, sym, ap, ap₂, subst, ◌∙◌, mul-pos, div-add-mod', length-append, arith}
+use Rattle.std.proofs.Common.{◌≡◌, ℕ, ◌+◌, ◌*◌, ◌<◌, ◌≤◌, ◌↔◌, Bool, true, false, IsTrue, List, [], ◌∷◌, ◌++◌, length, nat_eq, None, All, Contains, refl, sym, ap, ap₂, subst, ◌∙◌, mul-pos, div-add-mod', length-append, arith}
 use Rattle.std.proofs.lemmas.Bool.{eqb-true}
 use Rattle.std.proofs.lemmas.List.Sums.{sum_by_push}
 use Rattle.std.proofs.lemmas.List.Elements.{All-push, All-nil}
-use Rattle.hub_spec.specs.Problem.{Problem, IsProblem, fixed_cost, commodity_at, opening_cost}
+use Rattle.hub_spec.specs.Problem.{Problem, IsProblem, fixed_cost, commodity_at}
 use Rattle.hub_spec.specs.Plans.{plan_cost}
 use Rattle.hub_spec.specs.Ranges.{IsShort}
 use Rattle.hub_spec.proofs.Commodities.{commodity_nodes}
-use Rattle.cert_spec.specs.Lines.{says_size, says_cost, says_bound, says_hubs, says_route, says_cuts}
-use Rattle.cert_spec.specs.Grammar.{Shape, shape, want_size, want_cost, want_bound, want_hubs, want_route, want_cuts}
+use Rattle.cert_spec.specs.Lines.{says_size, says_cost, says_bound, says_hubs, says_route}
+use Rattle.cert_spec.specs.Grammar.{Shape, want_size, want_cost, want_bound, want_hubs, want_route}
 use Rattle.cert_spec.specs.Conditions.{claim, Size, BoundOverCost, Hubs, Route, Cost}
 use Rattle.plan_lines.specs.Tallies.{PlanTally, no_plan, with_hub, with_route, IsTallyOf}
 use Rattle.plan_lines.proofs.PlanTallies.{costs_plan, has_route}
 use Rattle.stream_spec.specs.Progress.{Progress}
 use Rattle.stream_spec.specs.LineConditions.{if_time}
-use Rattle.cert_stream.specs.Steps.{Tried, ended, Ends, size_tests, bound_tests, hub_tests, route_tests, hubbed, routed, HubTaken, MayHub, MayRoute}
-use Rattle.cert_stream.specs.Taken.{Part, nothing, some_hubs, StandsFirm, Standing, IsSized, NoPlanYet, HubsStand, RoutesStand, Keeps}
+use Rattle.cert_stream.specs.Steps.{ended, Ends, size_tests, bound_tests, route_tests, hubbed, routed, HubTaken}
+use Rattle.cert_stream.specs.Taken.{nothing, some_hubs, StandsFirm, HubsStand, Keeps}
 use Rattle.cert_stream.specs.declared.checks.Checks.{Checks}
 use Rattle.cert_stream.proofs.Lists.{all_front, all_last}
 use Rattle.cert_stream.proofs.Counting.{route_cases}

@@ -1,18 +1,17 @@
 -- One item of any line.
-use Rattle.std.proofs.Common.{◌≡◌, ℕ, ◌+◌, ◌-◌, Bool, true, false, List, [], ◌∷◌, ◌++◌, length, Option, None, All, ◌⊎◌, inl, inr, refl, sym, ap, subst, ◌∙◌, ⊎_elim}
+use Rattle.std.proofs.Common.{◌≡◌, ℕ, ◌-◌, true, false, List, [], ◌∷◌, ◌++◌, None, inl, inr, refl, sym, ap, subst, ◌∙◌}
 use Rattle.hub_spec.specs.Cuts.{Prices}
-use Rattle.hub_spec.specs.Trees.{TreeLine, branch_on, leaf_of, no_hub}
+use Rattle.hub_spec.specs.Trees.{branch_on, leaf_of, no_hub}
 use Rattle.hub_spec.specs.Problem.{commodity_at}
 use Rattle.hub_spec.specs.Ranges.{IsDualInRange, IsLineInRange}
 use Rattle.cert_spec.specs.Lines.{Item as Line, says_version, says_size, says_cost, says_bound, says_hubs, says_route, says_cuts, says_cut, says_dual, says_nodes, says_tree, says_end}
-use Rattle.cert_spec.specs.Grammar.{Shape, Stage, want_version, want_size, want_end, want_nothing, want_cost, want_bound, want_hubs, want_cuts, want_nodes, want_route, want_cut, want_dual, want_tree, IsOpen, places_after, Wants}
+use Rattle.cert_spec.specs.Grammar.{Shape, Stage, want_version, want_size, want_end, want_cost, want_bound, want_hubs, want_cuts, want_nodes, want_route, want_cut, want_dual, want_tree, IsOpen, Wants}
 use Rattle.stream_spec.specs.Progress.{Progress}
 use Rattle.cert_scan.specs.declared.items.Item.{Item}
 use Rattle.cert_scan.specs.declared.items.Item.TheVariants.{Size, Cost, Bound, Hub, Route, Cuts, Cut, Dual, DualPair, Nodes, Branch, Leaf, LeafPair, Empty, End}
-use Rattle.cert_stream.specs.Steps.{IsTaken, MayCome, DualEnds, dual_with, leaf_with, LeafEnds, LeafTaken, WeightTaken}
+use Rattle.cert_stream.specs.Steps.{IsTaken, MayCome, dual_with, leaf_with, LeafEnds}
 use Rattle.cert_stream.specs.Taken.{Part, nothing, some_hubs, some_values, some_weights, IsPart, StandsFirm, Keeps}
 use Rattle.cert_stream.specs.declared.checks.Checks.{Checks}
-use Rattle.cert_stream.proofs.Lists.{all_last}
 use Rattle.cert_stream.proofs.Parting.{Growing, Closing}
 use Rattle.cert_stream.proofs.Kept.{Closed, Grown}
 use Rattle.cert_stream.proofs.PlanSteps.{close_size, close_cost, close_bound, grow_hub, close_hubs, close_route}

@@ -1,16 +1,16 @@
 -- The items of the tree.
-use Rattle.std.proofs.Common.{◌≡◌, ◌≢◌, ℕ, zero, suc, ◌+◌, ◌-◌, ◌*◌, ◌<◌, ◌≤◌, Bool, true, false, List, [], ◌∷◌, ◌++◌, length, get_or, sum_by, Option, Some, None, MatchOption, ℤ, All, Contains, ◌⊎◌, inl, inr, refl, sym, ap, ap₂, subst, ◌∙◌, length-append, arith, ⊎_elim}
+use Rattle.std.proofs.Common.{◌≡◌, ◌≢◌, ℕ, zero, suc, ◌+◌, ◌-◌, ◌*◌, ◌<◌, ◌≤◌, List, [], ◌∷◌, ◌++◌, length, get_or, Option, Some, None, MatchOption, All, Contains, inl, inr, refl, sym, ap, ap₂, subst, ◌∙◌, arith, ⊎_elim}
 use Rattle.std.specs.List.{AllZip}
 use Rattle.std.proofs.lemmas.List.Sums.{sum_by_push}
 use Rattle.std.proofs.lemmas.List.Elements.{All-push, All-nil, All-cons, All-head, All-tail}
 use Rattle.std.proofs.lemmas.Slice.Zip.{AllZip-long}
 use Rattle.hub_spec.specs.Problem.{Problem, IsProblem}
 use Rattle.hub_spec.specs.Cuts.{Cut, cut_by, total, load}
-use Rattle.hub_spec.specs.Trees.{Branching, root, open_child, closed_child, IsBranch, IsClosed, cut_at, weight_sum, mixed_total, mixed_load, leaf_bound, Closes, TreeLine, branch_on, leaf_of, no_hub}
+use Rattle.hub_spec.specs.Trees.{Branching, root, open_child, closed_child, IsBranch, IsClosed, cut_at, weight_sum, leaf_bound, Closes, TreeLine, branch_on, leaf_of, no_hub}
 use Rattle.hub_spec.proofs.ChildLists.{root_branch, open_branch, closed_branch}
 use Rattle.cert_spec.specs.Lines.{says_nodes, says_tree, says_end}
-use Rattle.cert_spec.specs.Grammar.{Shape, Stage, want_nodes, want_tree, want_end, IsOpen, places_after, after_tree}
-use Rattle.cert_spec.specs.Conditions.{Claim, claim, Kind, AllHold, Branch, Empty, CutNumber, Weight, Leaf}
+use Rattle.cert_spec.specs.Grammar.{Shape, want_nodes, want_tree, want_end, IsOpen, places_after, after_tree}
+use Rattle.cert_spec.specs.Conditions.{Claim, claim, Kind, AllHold, Empty, CutNumber, Weight, Leaf}
 use Rattle.cert_checker.specs.declared.kinds.Kind as code
 use Rattle.stream_spec.specs.Progress.{Progress, filled}
 use Rattle.stream_spec.specs.LineConditions.{tree_conditions}
@@ -19,13 +19,13 @@ use Rattle.tree_lines.specs.Paths.{next, behind_next}
 use Rattle.tree_lines.specs.Tallies.{Tally, IsBegun, IsAdded, tally_bound, AreSumsOf}
 use Rattle.tree_lines.proofs.TallyBounds.{bounds_leaf}
 use Rattle.cert_stream.specs.Sums.{CutTally, numbered}
-use Rattle.cert_stream.specs.Steps.{Tried, ended, Ends, rooted, branched, path_filled, BranchTaken, empty_tests, leaf_with, LeafFound, LeafEnds, LeafTaken, IsWeighed, no_cut, failed, too_much, added}
-use Rattle.cert_stream.specs.Taken.{Part, nothing, some_weights, StandsFirm, AreSumsOfCut, AreCutSums, CutsStand, TreeStands, AreNumbers, WeightsStand, Sized, Cutted, Keeps}
+use Rattle.cert_stream.specs.Steps.{Tried, ended, Ends, rooted, branched, path_filled, BranchTaken, empty_tests, leaf_with, LeafEnds, IsWeighed, no_cut, failed, too_much, added}
+use Rattle.cert_stream.specs.Taken.{nothing, some_weights, StandsFirm, AreSumsOfCut, AreCutSums, TreeStands, AreNumbers, WeightsStand, Sized, Cutted, Keeps}
 use Rattle.cert_stream.specs.declared.checks.Checks.{Checks}
 use Rattle.cert_stream.proofs.Lists.{all_front, all_last}
 use Rattle.cert_stream.proofs.Counting.{tree_cases}
 use Rattle.cert_stream.proofs.Trying.{tried_one}
-use Rattle.cert_stream.proofs.Kept.{Closed, Grown}
+use Rattle.cert_stream.proofs.Kept.{Closed}
 
 pub close_nodes : (c : Checks) (s : Progress) (sh : Shape) (all : ℕ) (new : Checks) → StandsFirm c s → Keeps c s (want_nodes sh) nothing
     → new ≡ ended (rooted c) None → Closed c s (want_nodes sh) (says_nodes all) new

@@ -1,6 +1,6 @@
 -- A check as the items that have come make it, with one more.
-use Rattle.std.proofs.Common.{◌≡◌, ◌≢◌, ℕ, ◌+◌, ◌-◌, ◌*◌, ◌^◌, ◌<◌, Bool, true, false, cond, nat_eq, List, [], ◌∷◌, ◌++◌, length, map, flat_map, Option, Some, None, ◌⊎◌, inl, inr, refl, sym, ap, subst, ◌∙◌, length-append, append-nil, arith, ⊎_elim}
-use Rattle.hub_spec.specs.Problem.{Problem, IsProblem, commodity_at}
+use Rattle.std.proofs.Common.{◌≡◌, ◌≢◌, ℕ, ◌+◌, ◌-◌, ◌*◌, ◌^◌, ◌<◌, Bool, true, false, cond, nat_eq, List, [], ◌∷◌, ◌++◌, length, flat_map, Option, Some, None, ◌⊎◌, inl, inr, refl, sym, ap, subst, ◌∙◌, append-nil, arith, ⊎_elim}
+use Rattle.hub_spec.specs.Problem.{Problem, commodity_at}
 use Rattle.hub_spec.specs.Certificates.{Proof}
 use Rattle.hub_spec.specs.Ranges.{IsInRange}
 use Rattle.hub_spec.specs.Cuts.{cut_by}
@@ -21,15 +21,14 @@ use Rattle.stream_spec.proofs.ByParts.{conditions-append}
 use Rattle.cert_scan.specs.Parts.{parts_of, items_of}
 use Rattle.cert_scan.specs.Given.{IsGiven, IsBegun}
 use Rattle.cert_scan.specs.declared.items.Item.{Item}
-use Rattle.cert_stream.specs.Steps.{Tried, ended, ends, failed_at, IsTaken, Steps, passed, MayCome, MayTake}
+use Rattle.cert_stream.specs.Steps.{Tried, ended, ends, failed_at, Steps, MayTake}
 use Rattle.cert_stream.specs.Taken.{Part, nothing, some_hubs, some_values, some_weights, part_items, IsPart, StandsFirm, Keeps, second_line, Stands, HasTaken, TellsFirst}
 use Rattle.cert_stream.specs.declared.checks.Checks.{Checks}
 use Rattle.cert_stream.proofs.Lists.{not_nil}
-use Rattle.cert_stream.proofs.Parting.{Growing, Closing, Coming, goes_on, ends as ends_line, coming, IsLater, leads_last}
+use Rattle.cert_stream.proofs.Parting.{Growing, Closing, Coming, goes_on, ends as ends_line, coming}
 use Rattle.cert_stream.proofs.Counting.{few_lines, line-after, line-after_lines, after_lines-append}
 use Rattle.cert_stream.proofs.Trying.{tells_more, fails_before}
-use Rattle.cert_stream.proofs.Kept.{Closed, Grown}
-use Rattle.cert_stream.proofs.Taking.{IsSafe, grows, closes}
+use Rattle.cert_stream.proofs.Taking.{grows, closes}
 
 -- what the lines behind the first leave
 abbrev behind : Problem → List Line → Progress

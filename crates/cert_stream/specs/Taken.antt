@@ -1,13 +1,13 @@
 -- A check as the items that have come make it.
-use Rattle.std.specs.Prelude.{◌≡◌, ◌≢◌, ℕ, ◌+◌, ◌*◌, ◌<◌, ◌≤◌, ◌↔◌, Bool, true, false, IsTrue, List, [], ◌∷◌, ◌++◌, length, flat_map, map, Option, Some, None, All, Contains}
+use Rattle.std.specs.Prelude.{◌≡◌, ℕ, ◌*◌, ◌<◌, ◌≤◌, ◌↔◌, Bool, false, IsTrue, List, [], ◌∷◌, ◌++◌, length, flat_map, Option, Some, None, All, Contains}
 use Rattle.std.specs.List.{AllZip}
 use Rattle.std.specs.List.Sorted.{IsStrictlyIncreasing}
 use Rattle.hub_spec.specs.Problem.{Problem, IsProblem, commodity_at}
-use Rattle.hub_spec.specs.Cuts.{Prices, Cut, IsWithinSums}
+use Rattle.hub_spec.specs.Cuts.{Prices, Cut}
 use Rattle.hub_spec.specs.Trees.{Branching, IsBranch, leaf_of, weight_sum}
 use Rattle.hub_spec.specs.Ranges.{IsShort, IsDualInRange, IsLineInRange}
 use Rattle.cert_spec.specs.Lines.{Item as Line}
-use Rattle.cert_spec.specs.Grammar.{Shape, Stage, want_version, want_size, want_cost, want_bound, want_hubs, want_route, want_cuts, want_cut, want_dual, want_nodes, want_tree, Leads}
+use Rattle.cert_spec.specs.Grammar.{Shape, Stage, want_size, want_cost, want_bound, want_hubs, want_route, want_cuts, want_cut, want_dual, want_nodes, want_tree, Leads}
 use Rattle.cert_spec.specs.Conditions.{Claim, AllHold, FailsFirst, claims}
 use Rattle.cert_checker.specs.declared.texts.Ending.{Ending}
 use Rattle.cert_checker.specs.declared.texts.Ending.TheVariants.{Optimal, Bounds, No}

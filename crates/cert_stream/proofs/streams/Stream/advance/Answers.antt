@@ -1,7 +1,6 @@
-use Rattle.std.proofs.Common.{◌≡◌, ℕ, ◌+◌, ◌-◌, ◌++◌, List, length, take, drop, ap, sym, subst, ◌∙◌, append_assoc, length-drop, rules, arith}
+use Rattle.std.proofs.Common.{◌-◌, ◌++◌, length, take, drop, ap, sym, subst, ◌∙◌, append_assoc, length-drop, rules, arith}
 use Rattle.std.proofs.Math.Seq.{take-add}
 use Rattle.std.proofs.lemmas.List.{take_all}
-use Rattle.cert_scan.specs.declared.items.Item.{Item}
 use Rattle.cert_stream.specs.Fed.{HasCome}
 use Rattle.cert_stream.proofs.streams.Stream.advance.Goals as goal
 

@@ -1,4 +1,4 @@
-use Rattle.std.proofs.Common.{◌≡◌, Bool, ◌-◌, ◌++◌, List, length, sym, subst, ◌∙◌, length-append, arith}
+use Rattle.std.proofs.Common.{Bool, ◌-◌, ◌++◌, length, sym, subst, ◌∙◌, length-append, arith}
 use Rattle.cert_stream.specs.Fed.{HasFedUnless}
 use Rattle.cert_stream.specs.declared.streams.Stream.{Stream}
 use Rattle.cert_stream.proofs.streams.Stream.feed.Goals as goal

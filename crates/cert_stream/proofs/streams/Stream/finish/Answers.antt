@@ -1,7 +1,7 @@
-use Rattle.std.proofs.Common.{refl, subst}
+use Rattle.std.proofs.Common.{subst}
 use Rattle.cert_spec.specs.Grammar.{IsTextFault}
 use Rattle.cert_scan.specs.Scanned.{fault_of, Tells}
-use Rattle.cert_stream.proofs.Ends.{are_come, are_too_many, is_read, why_ends}
+use Rattle.cert_stream.proofs.Ends.{are_come, is_read, why_ends}
 use Rattle.cert_stream.proofs.streams.Stream.finish.Goals as goal
 
 pub ending_of-requires : goal.ending_of-requires

@@ -1,4 +1,4 @@
-use Rattle.std.proofs.Common.{◌≡◌, ◌++◌, [], ◌∷◌, take, ap, subst, ◌∙◌, append-nil}
+use Rattle.std.proofs.Common.{◌++◌, [], ◌∷◌, take, ap, subst, ◌∙◌, append-nil}
 use Rattle.std.specs.Prelude.{option_to_list}
 use Rattle.cert_scan.specs.Given.{IsGiven}
 use Rattle.cert_scan.specs.Scanned.{HasScanned}
