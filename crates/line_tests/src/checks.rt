@@ -40,7 +40,7 @@ const ONE_CANDIDATE: (&str, &str) = ("size 2 2\n", "size 2 1\n");
 
 const OTHER_PLAN: (&str, &str) = (TWO_NODES_PLAN, TWO_NODES_OTHER_PLAN);
 
-const ROWS: [Row; 31] = [
+const ROWS: [Row; 27] = [
     (TWO_NODES, TWO_NODES_CERTIFICATE, &[], OPTIMAL),
     (
         TWO_NODES,
@@ -187,6 +187,12 @@ const ROWS: [Row; 31] = [
         &[(TWO_NODES_TREE, "nodes 3\nbranch 1\nempty\nempty\n")],
         "No { kind: Empty, line: 23 }",
     ),
+    (TWO_NODES, "", &[], "Ended { line: 1 }"),
+    (TWO_NODES, TWO_NODES_PLAN, &[], "BadLine { line: 1 }"),
+    (TWO_NODES, "HUBCERT 1\nsize 2", &[], "Ended { line: 2 }"),
+];
+
+const MORE: [Row; 4] = [
     // A value that is within the sums of each cut, and not of both together.
     (
         TWO_NODES,
@@ -218,9 +224,6 @@ const ROWS: [Row; 31] = [
         &[(LEAF, "leaf 1000000 1 400000 2 600000\n")],
         OPTIMAL,
     ),
-    (TWO_NODES, "", &[], "Ended { line: 1 }"),
-    (TWO_NODES, TWO_NODES_PLAN, &[], "BadLine { line: 1 }"),
-    (TWO_NODES, "HUBCERT 1\nsize 2", &[], "Ended { line: 2 }"),
 ];
 
 /// The text with each of these changes.
@@ -275,6 +278,16 @@ fn endings_in_longer_pieces(rt: HostRuntime) -> Result<(), Fail> {
         assert_eq!(rt; short.as_str(), wanted, "{text}");
         let long = said(rt.alloc(), &case, text.as_bytes(), 4096)?;
         assert_eq!(rt; long.as_str(), wanted, "{text}");
+    }
+    Ok(())
+}
+
+#[test]
+fn more_endings(rt: HostRuntime) -> Result<(), Fail> {
+    for (case, base, changes, wanted) in MORE {
+        let text = text(rt.alloc(), base, changes)?;
+        let said = said(rt.alloc(), &case, text.as_bytes(), 3)?;
+        assert_eq!(rt; said.as_str(), wanted, "{text}");
     }
     Ok(())
 }
