@@ -1,0 +1,13 @@
+pub mod Loads
+pub mod Lists
+pub mod Parting
+pub mod Counting
+pub mod Trying
+pub mod Kept
+pub mod PlanSteps
+pub mod CutSteps
+pub mod TreeSteps
+pub mod MayCome
+pub mod Taking
+pub mod Whole
+pub mod Ends

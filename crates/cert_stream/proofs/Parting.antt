@@ -1,0 +1,376 @@
+-- Where the last item of some stands: in a line that goes on, or at the end of one.
+use Rattle.std.proofs.Common.{◌≡◌, ℕ, ◌+◌, ◌-◌, ◌*◌, ◌<◌, ◌≤◌, ◌^◌, Bool, true, false, cond, nat_eq, List, [], ◌∷◌, ◌++◌, length, map, flat_map, All, ◌⊎◌, inl, inr, refl, sym, ap, subst, ◌∙◌, append_assoc, append-nil, arith}
+use Rattle.std.specs.List.Sorted.{IsStrictlyIncreasing}
+use Rattle.std.proofs.lemmas.List.{same_from_push, map-append}
+use Rattle.std.proofs.lemmas.List.Concat.{flat_map-append}
+use Rattle.hub_spec.specs.Problem.{commodity_at}
+use Rattle.hub_spec.specs.Trees.{branch_on, leaf_of, no_hub}
+use Rattle.hub_spec.specs.Ranges.{IsDualInRange, IsLineInRange}
+use Rattle.cert_spec.specs.Lines.{Item as Line, says_version, says_size, says_cost, says_bound, says_hubs, says_route, says_cuts, says_cut, says_dual, says_nodes, says_tree, says_end}
+use Rattle.cert_spec.specs.Grammar.{Shape, Stage, want_version, want_size, want_end, want_cost, want_bound, want_hubs, want_cuts, want_nodes, want_route, want_cut, want_dual, want_tree, Wants, places_after, after_cut, after, Leads}
+use Rattle.cert_scan.specs.Parts.{parts_of, none_left, hub_parts, value_parts, weight_parts, open_hubs, open_values, open_weights}
+use Rattle.cert_scan.specs.declared.items.Item.{Item}
+use Rattle.cert_scan.specs.declared.items.Item.TheVariants.{Size, Cost, Bound, Hub, Route, Cuts, Cut, Dual, DualPair, Nodes, Branch, Leaf, LeafPair, Empty, End}
+use Rattle.cert_stream.specs.Taken.{Part, nothing, some_hubs, some_values, some_weights, part_items, IsPart}
+use Rattle.cert_stream.proofs.Lists.{by_last, ascend_front, not_nil, all_front}
+
+-- the item makes this part of what was before it
+abbrev pub Growing : Part → Part → Item → Type 0
+Growing nothing before i = ⊥
+Growing (some_hubs hubs) before i = (front : List ℕ) × (k : ℕ) × (hubs ≡ front ++ k ∷ []) × (before ≡ some_hubs front) × (i ≡ Hub k false)
+Growing (some_values c dual) before i =
+    ((dual.u ≡ []) × (before ≡ nothing) × (i ≡ Dual c.0 c.1 dual.a false))
+    ⊎ ((front : List (ℕ × ℕ)) × (e : ℕ × ℕ) × (dual.u ≡ front ++ e ∷ []) × (before ≡ some_values c (record { a = dual.a; u = front })) × (i ≡ DualPair e.0 e.1 false))
+Growing (some_weights denom weights) before i =
+    ((weights ≡ []) × (before ≡ nothing) × (i ≡ Leaf denom false))
+    ⊎ ((front : List (ℕ × ℕ)) × (e : ℕ × ℕ) × (weights ≡ front ++ e ∷ []) × (before ≡ some_weights denom front) × (i ≡ LeafPair e.0 e.1 false))
+
+-- the item ends this line, of which this was before it
+abbrev pub Closing : Line → Part → Item → Type 0
+Closing says_version before i = ⊥
+Closing (says_size n q) before i = (before ≡ nothing) × (i ≡ Size n q)
+Closing (says_cost c) before i = (before ≡ nothing) × (i ≡ Cost c)
+Closing (says_bound b) before i = (before ≡ nothing) × (i ≡ Bound b)
+Closing (says_hubs hubs) before i = (front : List ℕ) × (k : ℕ) × (hubs ≡ front ++ k ∷ []) × (before ≡ some_hubs front) × (i ≡ Hub k true)
+Closing (says_route c r) before i = (before ≡ nothing) × (i ≡ Route c.0 c.1 r.0 r.1)
+Closing (says_cuts all) before i = (before ≡ nothing) × (i ≡ Cuts all)
+Closing (says_cut number) before i = (before ≡ nothing) × (i ≡ Cut number)
+Closing (says_dual c dual) before i =
+    ((dual.u ≡ []) × (before ≡ nothing) × (i ≡ Dual c.0 c.1 dual.a true))
+    ⊎ ((front : List (ℕ × ℕ)) × (e : ℕ × ℕ) × (dual.u ≡ front ++ e ∷ []) × (before ≡ some_values c (record { a = dual.a; u = front })) × (i ≡ DualPair e.0 e.1 true))
+Closing (says_nodes all) before i = (before ≡ nothing) × (i ≡ Nodes all)
+Closing (says_tree (branch_on k)) before i = (before ≡ nothing) × (i ≡ Branch k)
+Closing (says_tree (leaf_of denom weights)) before i =
+    ((weights ≡ []) × (before ≡ nothing) × (i ≡ Leaf denom true))
+    ⊎ ((front : List (ℕ × ℕ)) × (e : ℕ × ℕ) × (weights ≡ front ++ e ∷ []) × (before ≡ some_weights denom front) × (i ≡ LeafPair e.0 e.1 true))
+Closing (says_tree no_hub) before i = (before ≡ nothing) × (i ≡ Empty)
+Closing says_end before i = (before ≡ nothing) × (i ≡ End)
+
+-- an item that grows a part at a stage
+pub record Grows (stage : Stage) (part : Part) (i : Item) : Type 0 where
+  pub before : Part
+  pub may : IsPart stage before
+  pub items : part_items part ≡ part_items before ++ i ∷ []
+  pub growing : Growing part before i
+
+-- an item that ends a line at a stage
+pub record Closes (stage : Stage) (l : Line) (i : Item) : Type 0 where
+  pub before : Part
+  pub may : IsPart stage before
+  pub items : parts_of l ≡ part_items before ++ i ∷ []
+  pub closing : Closing l before i
+
+-- ---- the last of a list
+
+hub_parts-last : (front : List ℕ) (k : ℕ) → hub_parts (front ++ k ∷ []) ≡ open_hubs front ++ Hub k true ∷ []
+hub_parts-last [] k = refl
+hub_parts-last (m ∷ []) k = refl
+hub_parts-last (m ∷ n ∷ front) k = ap (λ l. Hub m false ∷ l) (hub_parts-last (n ∷ front) k)
+
+value_parts-last : (front : List (ℕ × ℕ)) (e : ℕ × ℕ) → value_parts (front ++ e ∷ []) ≡ open_values front ++ DualPair e.0 e.1 true ∷ []
+value_parts-last [] e = refl
+value_parts-last (m ∷ []) e = refl
+value_parts-last (m ∷ n ∷ front) e = ap (λ l. DualPair m.0 m.1 false ∷ l) (value_parts-last (n ∷ front) e)
+
+weight_parts-last : (front : List (ℕ × ℕ)) (e : ℕ × ℕ) → weight_parts (front ++ e ∷ []) ≡ open_weights front ++ LeafPair e.0 e.1 true ∷ []
+weight_parts-last [] e = refl
+weight_parts-last (m ∷ []) e = refl
+weight_parts-last (m ∷ n ∷ front) e = ap (λ l. LeafPair m.0 m.1 false ∷ l) (weight_parts-last (n ∷ front) e)
+
+none_left-push : {X : Type 0} (front : List X) (x : X) → none_left (front ++ x ∷ []) ≡ false
+none_left-push [] x = refl
+none_left-push (y ∷ front) x = refl
+
+-- ---- the front of what is in range
+
+hubs_front : (n : ℕ) (front : List ℕ) (k : ℕ) → IsStrictlyIncreasing (front ++ k ∷ []) × All (λ (m : ℕ). m < n) (front ++ k ∷ [])
+    → IsStrictlyIncreasing front × All (λ (m : ℕ). m < n) front
+hubs_front n front k h = (ascend_front front k h.0, all_front (λ (m : ℕ). m < n) front k h.1)
+
+ascend_keys : (front : List (ℕ × ℕ)) (e : ℕ × ℕ) → IsStrictlyIncreasing (map (λ (x : ℕ × ℕ). x.0) (front ++ e ∷ []))
+    → IsStrictlyIncreasing (map (λ (x : ℕ × ℕ). x.0) front)
+ascend_keys front e up =
+    ascend_front (map (λ (x : ℕ × ℕ). x.0) front) e.0 (subst IsStrictlyIncreasing (map-append (λ (x : ℕ × ℕ). x.0) front (e ∷ [])) up)
+
+pub dual_front : (n a : ℕ) (front : List (ℕ × ℕ)) (e : ℕ × ℕ) → IsDualInRange n (record { a = a; u = front ++ e ∷ [] }) → IsDualInRange n (record { a = a; u = front })
+dual_front n a front e h = record {
+  a = h.a;
+  ascend = ascend_keys front e h.ascend;
+  each = all_front (λ (x : ℕ × ℕ). (x.0 < n) × (1 ≤ x.1) × (x.1 < 10 ^ 30)) front e h.each;
+}
+
+pub leaf_front : (n denom : ℕ) (front : List (ℕ × ℕ)) (e : ℕ × ℕ) → IsLineInRange n (leaf_of denom (front ++ e ∷ [])) → IsLineInRange n (leaf_of denom front)
+leaf_front n denom front e h = (
+  h.0,
+  h.1,
+  record {
+    ascend = ascend_keys front e h.2.ascend;
+    each = all_front (λ (x : ℕ × ℕ). (1 ≤ x.0) × (x.0 < 10 ^ 30) × (1 ≤ x.1) × (x.1 < 10 ^ 30)) front e h.2.each;
+  },
+)
+
+-- ---- the last item of a line
+
+whole : (stage : Stage) (l : Line) (i : Item) → IsPart stage nothing → parts_of l ≡ i ∷ [] → Closing l nothing i → Closes stage l i
+whole stage l i may items closing = record { before = nothing; may = may; items = items; closing = closing }
+
+-- an item that ends the line, whatever it is
+abbrev Ending : Stage → Line → Type 0
+Ending stage l = (i : Item) × Closes stage l i
+
+ends_hubs : (s : Shape) (hubs : List ℕ) → 1 ≤ length hubs → IsStrictlyIncreasing hubs → All (λ (k : ℕ). k < s.size) hubs → Ending (want_hubs s) (says_hubs hubs)
+ends_hubs s hubs some up nodes =
+    elim (by_last hubs) as (λ v. Ending (want_hubs s) (says_hubs hubs)) [
+      | inl none ↦ absurd (let e = ap length none in omega (arith, e, some))
+      | inr h ↦
+          let front = h.0 in
+          let k = h.1 in
+          let r = hubs_front s.size front k (subst IsStrictlyIncreasing h.2 up, subst (All (λ (m : ℕ). m < s.size)) h.2 nodes) in (
+            Hub k true,
+            record {
+              before = some_hubs front;
+              may = r;
+              items = ap hub_parts h.2 ∙ hub_parts-last front k;
+              closing = (front, k, h.2, refl, refl);
+            },
+          )
+    ]
+
+ends_dual : (s : Shape) (all x t : ℕ) (c : ℕ × ℕ) (a : ℕ) (u : List (ℕ × ℕ)) → c ≡ commodity_at s.size t → IsDualInRange s.size (record { a = a; u = u })
+    → Ending (want_dual s all x t) (says_dual c (record { a = a; u = u }))
+ends_dual s all x t c a u at range =
+    elim (by_last u) as (λ v. Ending (want_dual s all x t) (says_dual c (record { a = a; u = u }))) [
+      | inl none ↦ (
+        Dual c.0 c.1 a true,
+        record {
+          before = nothing;
+          may = tt;
+          items = ap (λ (l : List (ℕ × ℕ)). Dual c.0 c.1 a (none_left l) ∷ value_parts l) none;
+          closing = inl (none, refl, refl);
+        },
+      )
+      | inr h ↦
+          let front = h.0 in
+          let e = h.1 in (
+            DualPair e.0 e.1 true,
+            record {
+              before = some_values c (record { a = a; u = front });
+              may = (at, dual_front s.size a front e (subst (λ (l : List (ℕ × ℕ)). IsDualInRange s.size (record { a = a; u = l })) h.2 range));
+              items = ap (λ (l : List (ℕ × ℕ)). Dual c.0 c.1 a (none_left l) ∷ value_parts l) h.2
+                  ∙ ap (λ b. Dual c.0 c.1 a b ∷ value_parts (front ++ e ∷ [])) (none_left-push front e)
+                  ∙ ap (λ l. Dual c.0 c.1 a false ∷ l) (value_parts-last front e);
+              closing = inr (front, e, h.2, refl, refl);
+            },
+          )
+    ]
+
+ends_leaf : (s : Shape) (places left denom : ℕ) (weights : List (ℕ × ℕ)) → IsLineInRange s.size (leaf_of denom weights)
+    → Ending (want_tree s places left) (says_tree (leaf_of denom weights))
+ends_leaf s places left denom weights range =
+    elim (by_last weights) as (λ v. Ending (want_tree s places left) (says_tree (leaf_of denom weights))) [
+      | inl none ↦ (
+        Leaf denom true,
+        record {
+          before = nothing;
+          may = tt;
+          items = ap (λ (l : List (ℕ × ℕ)). Leaf denom (none_left l) ∷ weight_parts l) none;
+          closing = inl (none, refl, refl);
+        },
+      )
+      | inr h ↦
+          let front = h.0 in
+          let e = h.1 in (
+            LeafPair e.0 e.1 true,
+            record {
+              before = some_weights denom front;
+              may = leaf_front s.size denom front e (subst (λ (l : List (ℕ × ℕ)). IsLineInRange s.size (leaf_of denom l)) h.2 range);
+              items = ap (λ (l : List (ℕ × ℕ)). Leaf denom (none_left l) ∷ weight_parts l) h.2
+                  ∙ ap (λ b. Leaf denom b ∷ weight_parts (front ++ e ∷ [])) (none_left-push front e)
+                  ∙ ap (λ l. Leaf denom false ∷ l) (weight_parts-last front e);
+              closing = inr (front, e, h.2, refl, refl);
+            },
+          )
+    ]
+
+-- the stage is behind the first line
+abbrev pub IsLater : Stage → Type 0
+IsLater want_version = ⊥
+IsLater stage = Unit {0}
+
+-- a line behind the first ends with an item
+pub each_ends : (stage : Stage) (l : Line) → Wants stage l → IsLater stage → Ending stage l
+each_ends want_version l h not = absurd not
+each_ends want_size (says_size n q) h not = (Size n q, whole want_size (says_size n q) (Size n q) tt refl (refl, refl))
+each_ends (want_cost s) (says_cost c) h not = (Cost c, whole (want_cost s) (says_cost c) (Cost c) tt refl (refl, refl))
+each_ends (want_bound s) (says_bound b) h not = (Bound b, whole (want_bound s) (says_bound b) (Bound b) tt refl (refl, refl))
+each_ends (want_hubs s) (says_hubs hubs) h not = ends_hubs s hubs h.0 h.1 h.2
+each_ends (want_route s t) (says_route c r) h not =
+    (Route c.0 c.1 r.0 r.1, whole (want_route s t) (says_route c r) (Route c.0 c.1 r.0 r.1) tt refl (refl, refl))
+each_ends (want_cuts s) (says_cuts all) h not = (Cuts all, whole (want_cuts s) (says_cuts all) (Cuts all) tt refl (refl, refl))
+each_ends (want_cut s all x) (says_cut number) h not = (Cut number, whole (want_cut s all x) (says_cut number) (Cut number) tt refl (refl, refl))
+each_ends (want_dual s all x t) (says_dual c dual) h not = ends_dual s all x t c dual.a dual.u h.0 h.1
+each_ends (want_nodes s) (says_nodes all) h not = (Nodes all, whole (want_nodes s) (says_nodes all) (Nodes all) tt refl (refl, refl))
+each_ends (want_tree s places left) (says_tree (branch_on k)) h not =
+    (Branch k, whole (want_tree s places left) (says_tree (branch_on k)) (Branch k) tt refl (refl, refl))
+each_ends (want_tree s places left) (says_tree (leaf_of denom weights)) h not = ends_leaf s places left denom weights h.0
+each_ends (want_tree s places left) (says_tree no_hub) h not = (Empty, whole (want_tree s places left) (says_tree no_hub) Empty tt refl (refl, refl))
+each_ends want_end says_end h not = (End, whole want_end says_end End tt refl (refl, refl))
+each_ends stage l h not = absurd h
+
+-- ---- the last item of a part
+
+-- the part is empty, or an item grew it
+abbrev Grown : Stage → Part → Type 0
+Grown stage part = (part_items part ≡ []) ⊎ ((i : Item) × Grows stage part i)
+
+grown_hubs : (s : Shape) (hubs : List ℕ) → IsPart (want_hubs s) (some_hubs hubs) → Grown (want_hubs s) (some_hubs hubs)
+grown_hubs s hubs may =
+    elim (by_last hubs) as (λ v. Grown (want_hubs s) (some_hubs hubs)) [
+      | inl none ↦ inl (ap open_hubs none)
+      | inr h ↦
+          let front = h.0 in
+          let k = h.1 in
+          inr (
+            Hub k false,
+            record {
+              before = some_hubs front;
+              may = hubs_front s.size front k (subst IsStrictlyIncreasing h.2 may.0, subst (All (λ (m : ℕ). m < s.size)) h.2 may.1);
+              items = ap open_hubs h.2 ∙ map-append (λ k. Hub k false) front (k ∷ []);
+              growing = (front, k, h.2, refl, refl);
+            },
+          )
+    ]
+
+grown_values : (s : Shape) (all x t : ℕ) (c : ℕ × ℕ) (a : ℕ) (u : List (ℕ × ℕ)) → IsPart (want_dual s all x t) (some_values c (record { a = a; u = u }))
+    → Grown (want_dual s all x t) (some_values c (record { a = a; u = u }))
+grown_values s all x t c a u may =
+    elim (by_last u) as (λ v. Grown (want_dual s all x t) (some_values c (record { a = a; u = u }))) [
+      | inl none ↦ inr (
+        Dual c.0 c.1 a false,
+        record {
+          before = nothing;
+          may = tt;
+          items = ap (λ (l : List (ℕ × ℕ)). Dual c.0 c.1 a false ∷ open_values l) none;
+          growing = inl (none, refl, refl);
+        },
+      )
+      | inr h ↦
+          let front = h.0 in
+          let e = h.1 in
+          inr (
+            DualPair e.0 e.1 false,
+            record {
+              before = some_values c (record { a = a; u = front });
+              may = (may.0, dual_front s.size a front e (subst (λ (l : List (ℕ × ℕ)). IsDualInRange s.size (record { a = a; u = l })) h.2 may.1));
+              items = ap (λ (l : List (ℕ × ℕ)). Dual c.0 c.1 a false ∷ open_values l) h.2
+                  ∙ ap (λ l. Dual c.0 c.1 a false ∷ l) (map-append (λ (e : ℕ × ℕ). DualPair e.0 e.1 false) front (e ∷ []));
+              growing = inr (front, e, h.2, refl, refl);
+            },
+          )
+    ]
+
+grown_weights : (s : Shape) (places left denom : ℕ) (weights : List (ℕ × ℕ)) → IsPart (want_tree s places left) (some_weights denom weights)
+    → Grown (want_tree s places left) (some_weights denom weights)
+grown_weights s places left denom weights may =
+    elim (by_last weights) as (λ v. Grown (want_tree s places left) (some_weights denom weights)) [
+      | inl none ↦ inr (
+        Leaf denom false,
+        record {
+          before = nothing;
+          may = tt;
+          items = ap (λ (l : List (ℕ × ℕ)). Leaf denom false ∷ open_weights l) none;
+          growing = inl (none, refl, refl);
+        },
+      )
+      | inr h ↦
+          let front = h.0 in
+          let e = h.1 in
+          inr (
+            LeafPair e.0 e.1 false,
+            record {
+              before = some_weights denom front;
+              may = leaf_front s.size denom front e (subst (λ (l : List (ℕ × ℕ)). IsLineInRange s.size (leaf_of denom l)) h.2 may);
+              items = ap (λ (l : List (ℕ × ℕ)). Leaf denom false ∷ open_weights l) h.2
+                  ∙ ap (λ l. Leaf denom false ∷ l) (map-append (λ (e : ℕ × ℕ). LeafPair e.0 e.1 false) front (e ∷ []));
+              growing = inr (front, e, h.2, refl, refl);
+            },
+          )
+    ]
+
+pub each_grown : (stage : Stage) (part : Part) → IsPart stage part → Grown stage part
+each_grown (want_hubs s) (some_hubs hubs) may = grown_hubs s hubs may
+each_grown (want_dual s all x t) (some_values c dual) may = grown_values s all x t c dual.a dual.u may
+each_grown (want_tree s places left) (some_weights denom weights) may = grown_weights s places left denom weights may
+each_grown stage nothing may = inl refl
+each_grown stage part may = absurd may
+
+-- ---- the last item of all
+
+-- lines up to the last, and the last
+pub leads_last : (first : Stage) (front : List Line) (l : Line) (last : Stage) → Leads first (front ++ l ∷ []) last
+    → (at : Stage) × Leads first front at × Wants at l × (after at l ≡ last)
+leads_last first [] l last h = (first, refl, h.0, h.1)
+leads_last first (x ∷ front) l last h = let r = leads_last (after first x) front l last h.1 in (r.0, (h.0, r.1), r.2, r.3)
+
+later_both : (b : Bool) (x y : Stage) → IsLater x → IsLater y → IsLater (cond b x y)
+later_both true x y h k = h
+later_both false x y h k = k
+
+later_cut : (s : Shape) (all x : ℕ) → IsLater (after_cut s all x)
+later_cut s all x = later_both (nat_eq x all) (want_nodes s) (want_cut s all x) tt tt
+
+later_after : (stage : Stage) (l : Line) → Wants stage l → IsLater (after stage l)
+later_after want_version says_version h = tt
+later_after want_size (says_size n q) h = tt
+later_after (want_cost s) (says_cost c) h = tt
+later_after (want_bound s) (says_bound b) h = tt
+later_after (want_hubs s) (says_hubs hubs) h = tt
+later_after (want_route s t) (says_route c r) h = later_both (nat_eq (t + 1) (s.size * s.size)) (want_cuts s) (want_route s (t + 1)) tt tt
+later_after (want_cuts s) (says_cuts all) h = later_cut s all 0
+later_after (want_cut s all x) (says_cut number) h = tt
+later_after (want_dual s all x t) (says_dual c dual) h =
+    later_both (nat_eq (t + 1) (s.size * s.size)) (after_cut s all (x + 1)) (want_dual s all x (t + 1)) (later_cut s all (x + 1)) tt
+later_after (want_nodes s) (says_nodes all) h = tt
+later_after (want_tree s places left) (says_tree line) h = later_both (nat_eq (left - 1) 0) want_end (want_tree s (places_after places line) (left - 1)) tt tt
+later_after want_end says_end h = tt
+later_after stage l h = absurd h
+
+later_leads : (first : Stage) (lines : List Line) (last : Stage) → IsLater first → Leads first lines last → IsLater last
+later_leads first [] last h e = subst IsLater e h
+later_leads first (l ∷ lines) last h lead = later_leads (after first l) lines last (later_after first l lead.0) lead.1
+
+-- what an item that is the last of some is of their lines
+pub data Coming (given : List Item) (i : Item) (lines : List Line) (stage : Stage) (part : Part) : Type 0 where
+  goes_on : (before : Part) → IsPart stage before → given ≡ flat_map parts_of lines ++ part_items before → Growing part before i
+      → Coming given i lines stage part
+  ends : (front : List Line) (l : Line) (at : Stage) (before : Part) → lines ≡ front ++ l ∷ [] → Leads want_size front at → Wants at l
+      → stage ≡ after at l → part_items part ≡ [] → IsPart at before → given ≡ flat_map parts_of front ++ part_items before
+      → Closing l before i → Coming given i lines stage part
+
+coming_end : (given : List Item) (i : Item) (lines : List Line) (stage : Stage) (part : Part) → Leads want_size lines stage
+    → part_items part ≡ [] → given ++ i ∷ [] ≡ flat_map parts_of lines → Coming given i lines stage part
+coming_end given i lines stage part lead none are =
+    elim (by_last lines) as (λ v. Coming given i lines stage part) [
+      | inl empty ↦ absurd (not_nil given i (are ∙ ap (flat_map parts_of) empty))
+      | inr h ↦
+          let front = h.0 in
+          let l = h.1 in
+          let r = leads_last want_size front l stage (subst (λ ls. Leads want_size ls stage) h.2 lead) in
+          let e = each_ends r.0 l r.2 (later_leads want_size front r.0 tt r.1) in
+          let same = same_from_push given (flat_map parts_of front ++ part_items e.1.before) i e.0
+          (are ∙ ap (flat_map parts_of) h.2 ∙ flat_map-append parts_of front (l ∷ []) ∙ ap (λ x. flat_map parts_of front ++ x) (append-nil (parts_of l) ∙ e.1.items)
+          ∙ sym (append_assoc (flat_map parts_of front) (part_items e.1.before) (e.0 ∷ []))) in
+          ends front l r.0 e.1.before h.2 r.1 r.2 (sym r.3) none e.1.may same.0 (subst (Closing l e.1.before) (sym same.1) e.1.closing)
+    ]
+
+pub coming : (given : List Item) (i : Item) (lines : List Line) (stage : Stage) (part : Part) → Leads want_size lines stage
+    → IsPart stage part → given ++ i ∷ [] ≡ flat_map parts_of lines ++ part_items part → Coming given i lines stage part
+coming given i lines stage part lead may are =
+    elim (each_grown stage part may) as (λ v. Coming given i lines stage part) [
+      | inl none ↦ coming_end given i lines stage part lead none
+          (are ∙ ap (λ x. flat_map parts_of lines ++ x) none ∙ append-nil (flat_map parts_of lines))
+      | inr g ↦
+          let same = same_from_push given (flat_map parts_of lines ++ part_items g.1.before) i g.0
+          (are ∙ ap (λ x. flat_map parts_of lines ++ x) g.1.items ∙ sym (append_assoc (flat_map parts_of lines) (part_items g.1.before) (g.0 ∷ []))) in
+          goes_on g.1.before g.1.may same.0 (subst (Growing part g.1.before) (sym same.1) g.1.growing)
+    ]

@@ -1,0 +1,243 @@
+-- One item of any line.
+use Rattle.std.proofs.Common.{◌≡◌, ℕ, ◌-◌, true, false, List, [], ◌∷◌, ◌++◌, None, inl, inr, refl, sym, ap, subst, ◌∙◌}
+use Rattle.hub_spec.specs.Cuts.{Prices}
+use Rattle.hub_spec.specs.Trees.{branch_on, leaf_of, no_hub}
+use Rattle.hub_spec.specs.Problem.{commodity_at}
+use Rattle.hub_spec.specs.Ranges.{IsDualInRange, IsLineInRange}
+use Rattle.cert_spec.specs.Lines.{Item as Line, says_version, says_size, says_cost, says_bound, says_hubs, says_route, says_cuts, says_cut, says_dual, says_nodes, says_tree, says_end}
+use Rattle.cert_spec.specs.Grammar.{Shape, Stage, want_version, want_size, want_end, want_cost, want_bound, want_hubs, want_cuts, want_nodes, want_route, want_cut, want_dual, want_tree, IsOpen, Wants}
+use Rattle.stream_spec.specs.Progress.{Progress}
+use Rattle.cert_scan.specs.declared.items.Item.{Item}
+use Rattle.cert_scan.specs.declared.items.Item.TheVariants.{Size, Cost, Bound, Hub, Route, Cuts, Cut, Dual, DualPair, Nodes, Branch, Leaf, LeafPair, Empty, End}
+use Rattle.cert_stream.specs.Steps.{IsTaken, MayCome, dual_with, leaf_with, LeafEnds}
+use Rattle.cert_stream.specs.Taken.{Part, nothing, some_hubs, some_values, some_weights, IsPart, StandsFirm, Keeps}
+use Rattle.cert_stream.specs.declared.checks.Checks.{Checks}
+use Rattle.cert_stream.proofs.Parting.{Growing, Closing}
+use Rattle.cert_stream.proofs.Kept.{Closed, Grown}
+use Rattle.cert_stream.proofs.PlanSteps.{close_size, close_cost, close_bound, grow_hub, close_hubs, close_route}
+use Rattle.cert_stream.proofs.CutSteps.{close_cuts, close_cut, grow_dual, close_dual}
+use Rattle.cert_stream.proofs.TreeSteps.{close_nodes, close_end, close_branch, close_empty, begun_leaf, weighed_as, weighed_leaf, close_leaf}
+use Rattle.cert_stream.proofs.MayCome.{may_hub, may_route, may_dual, may_value, may_fill, may_end_leaf, may_weight}
+
+-- what an item is for a check that keeps what it should: it may come, and so it leaves the check
+pub record IsSafe (c : Checks) (i : Item) (After : Checks → Type 0) : Type 0 where
+  pub may : MayCome c i
+  pub leaves : (new : Checks) → IsTaken c i new → After new
+
+-- the safety of an item that is this one
+by_item : (c : Checks) (i j : Item) (After : Checks → Type 0) → i ≡ j → IsSafe c j After → IsSafe c i After
+by_item c i j After e h = subst (λ x. IsSafe c x After) (sym e) h
+
+-- what is kept where the part is this one
+keeps_at : (c : Checks) (s : Progress) (at : Stage) (before part : Part) → before ≡ part → Keeps c s at before → Keeps c s at part
+keeps_at c s at before part e h = subst (Keeps c s at) e h
+
+-- ---- lists that grow
+
+grows_hubs : (c : Checks) (s : Progress) (sh : Shape) (hubs : List ℕ) (before : Part) (i : Item) → IsPart (want_hubs sh) (some_hubs hubs)
+    → Growing (some_hubs hubs) before i → StandsFirm c s → Keeps c s (want_hubs sh) before
+    → IsSafe c i (Grown c s (want_hubs sh) (some_hubs hubs))
+grows_hubs c s sh hubs before i may g st keeps =
+    let front = g.0 in
+    let k = g.1 in
+    let kept = keeps_at c s (want_hubs sh) before (some_hubs front) g.3 keeps in
+    by_item c i (Hub k false) (Grown c s (want_hubs sh) (some_hubs hubs)) g.4
+    (subst (λ hs. IsPart (want_hubs sh) (some_hubs hs) → IsSafe c (Hub k false) (Grown c s (want_hubs sh) (some_hubs hs))) (sym g.2)
+    (λ in_range. record {
+      may = may_hub c s sh front k kept in_range.0 in_range.1;
+      leaves = λ new h. grow_hub c s sh front k new st kept h;
+    }) may)
+
+grows_dual : (c : Checks) (s : Progress) (sh : Shape) (all x t : ℕ) (commodity : ℕ × ℕ) (a : ℕ) (u : List (ℕ × ℕ)) (before : Part) (i : Item)
+    → commodity ≡ commodity_at sh.size t → IsDualInRange sh.size (record { a = a; u = u })
+    → Growing (some_values commodity (record { a = a; u = u })) before i → StandsFirm c s → Keeps c s (want_dual sh all x t) before
+    → IsSafe c i (Grown c s (want_dual sh all x t) (some_values commodity (record { a = a; u = u })))
+grows_dual c s sh all x t commodity a u before i at range (inl g) st keeps =
+    let D : List (ℕ × ℕ) → Prices = λ l. record { a = a; u = l } in
+    by_item c i (Dual commodity.0 commodity.1 a false) (Grown c s (want_dual sh all x t) (some_values commodity (D u))) g.2
+    (record {
+      may = may_dual c s sh all x t commodity a before st keeps at range.a;
+      leaves = λ new h. subst (λ l. Grown c s (want_dual sh all x t) (some_values commodity (D l)) new) (sym g.0)
+          (grow_dual c s sh all x t commodity (D []) new st before keeps h);
+    })
+grows_dual c s sh all x t commodity a u before i at range (inr g) st keeps =
+    let D : List (ℕ × ℕ) → Prices = λ l. record { a = a; u = l } in
+    let front = g.0 in
+    let e = g.1 in
+    let kept = keeps_at c s (want_dual sh all x t) before (some_values commodity (D front)) g.3 keeps in
+    let same : record { a = c.dual.dual.a; u = c.dual.dual.u ++ e ∷ [] } ≡ D (front ++ e ∷ []) = ap (λ (d : Prices). let y : Prices = record { a = d.a; u = d.u ++ e ∷ [] } in y) kept.2.1 in
+    by_item c i (DualPair e.0 e.1 false) (Grown c s (want_dual sh all x t) (some_values commodity (D u))) g.4
+    (record {
+      may = may_value c s sh all x t commodity a front e st kept (subst (λ l. IsDualInRange sh.size (D l)) g.2 range);
+      leaves = λ new h. subst (λ l. Grown c s (want_dual sh all x t) (some_values commodity (D l)) new) (sym g.2)
+          (grow_dual c s sh all x t commodity (D (front ++ e ∷ [])) new st before keeps
+          (h ∙ ap (λ d. dual_with c c.dual.commodity d) same ∙ ap (λ k. dual_with c k (D (front ++ e ∷ []))) kept.2.0));
+    })
+
+grows_leaf : (c : Checks) (s : Progress) (sh : Shape) (places left denom : ℕ) (weights : List (ℕ × ℕ)) (before : Part) (i : Item)
+    → IsLineInRange sh.size (leaf_of denom weights) → Growing (some_weights denom weights) before i → StandsFirm c s
+    → Keeps c s (want_tree sh places left) before → IsSafe c i (Grown c s (want_tree sh places left) (some_weights denom weights))
+grows_leaf c s sh places left denom weights before i range (inl g) st keeps =
+    let at = want_tree sh places left in
+    by_item c i (Leaf denom false) (Grown c s at (some_weights denom weights)) g.2
+    (record {
+      may = (range.1, may_end_leaf c s sh places left before st keeps);
+      leaves = λ new h.
+          let r = begun_leaf c s sh places left denom h.sums st (keeps_at c s at before nothing g.1 keeps) h.begun in
+          subst (λ l. Grown c s at (some_weights denom l) new) (sym g.0)
+          (subst (λ n. Grown c s at (some_weights denom []) n) (sym h.goes)
+          (record { same = refl; line_is = refl; failure_is = refl; firm = r.0; keeps = r.1 }));
+    })
+grows_leaf c s sh places left denom weights before i range (inr g) st keeps =
+    let at = want_tree sh places left in
+    let front = g.0 in
+    let e = g.1 in
+    let kept = keeps_at c s at before (some_weights denom front) g.3 keeps in
+    let in_range = subst (λ l. IsLineInRange sh.size (leaf_of denom l)) g.2 range in
+    let may = may_weight c s sh places left denom front e (some_weights denom front) st kept in_range in
+    by_item c i (LeafPair e.0 e.1 false) (Grown c s at (some_weights denom weights)) g.4
+    (record {
+      may = may;
+      leaves = λ new h.
+          let w = weighed_as c h.kept s.cuts denom front e kept.1.sums_are may.least kept.3 h.weighed in
+          let r = weighed_leaf c h.kept s sh places left denom front e st kept w in
+          subst (λ l. Grown c s at (some_weights denom l) new) (sym g.2)
+          (subst (λ n. Grown c s at (some_weights denom (front ++ e ∷ [])) n) (sym (h.goes ∙ w.is))
+          (record { same = refl; line_is = refl; failure_is = refl; firm = r.0; keeps = r.1 }));
+    })
+
+pub grows : (at : Stage) (part before : Part) (i : Item) (c : Checks) (s : Progress) → IsPart at part → Growing part before i → StandsFirm c s
+    → Keeps c s at before → IsSafe c i (Grown c s at part)
+grows (want_hubs sh) (some_hubs hubs) before i c s may g st keeps = grows_hubs c s sh hubs before i may g st keeps
+grows (want_dual sh all x t) (some_values commodity dual) before i c s may g st keeps =
+    grows_dual c s sh all x t commodity dual.a dual.u before i may.0 may.1 g st keeps
+grows (want_tree sh places left) (some_weights denom weights) before i c s may g st keeps =
+    grows_leaf c s sh places left denom weights before i may g st keeps
+grows at nothing before i c s may g st keeps = absurd g
+grows at part before i c s may g st keeps = absurd may
+
+-- ---- lines that end
+
+closes_hubs : (c : Checks) (s : Progress) (sh : Shape) (hubs : List ℕ) (before : Part) (i : Item) → c.line ≡ s.line
+    → Wants (want_hubs sh) (says_hubs hubs) → Closing (says_hubs hubs) before i → StandsFirm c s → Keeps c s (want_hubs sh) before
+    → IsSafe c i (Closed c s (want_hubs sh) (says_hubs hubs))
+closes_hubs c s sh hubs before i e wants g st keeps =
+    let front = g.0 in
+    let k = g.1 in
+    let kept = keeps_at c s (want_hubs sh) before (some_hubs front) g.3 keeps in
+    by_item c i (Hub k true) (Closed c s (want_hubs sh) (says_hubs hubs)) g.4
+    (subst (λ hs. Wants (want_hubs sh) (says_hubs hs) → IsSafe c (Hub k true) (Closed c s (want_hubs sh) (says_hubs hs))) (sym g.2)
+    (λ w. record {
+      may = may_hub c s sh front k kept w.1 w.2;
+      leaves = λ new h. close_hubs c s sh front k new e st kept h;
+    }) wants)
+
+closes_dual : (c : Checks) (s : Progress) (sh : Shape) (all x t : ℕ) (commodity : ℕ × ℕ) (a : ℕ) (u : List (ℕ × ℕ)) (before : Part) (i : Item)
+    → c.line ≡ s.line → commodity ≡ commodity_at sh.size t → IsDualInRange sh.size (record { a = a; u = u })
+    → Closing (says_dual commodity (record { a = a; u = u })) before i → StandsFirm c s → Keeps c s (want_dual sh all x t) before
+    → IsSafe c i (Closed c s (want_dual sh all x t) (says_dual commodity (record { a = a; u = u })))
+closes_dual c s sh all x t commodity a u before i line at range (inl g) st keeps =
+    let D : List (ℕ × ℕ) → Prices = λ l. record { a = a; u = l } in
+    by_item c i (Dual commodity.0 commodity.1 a true) (Closed c s (want_dual sh all x t) (says_dual commodity (D u))) g.2
+    (record {
+      may = may_dual c s sh all x t commodity a before st keeps at range.a;
+      leaves = λ new h. subst (λ l. Closed c s (want_dual sh all x t) (says_dual commodity (D l)) new) (sym g.0)
+          (close_dual (dual_with c commodity (D [])) s sh all x t commodity (D []) new line st (keeps.0, keeps.1, (refl, refl)) h);
+    })
+closes_dual c s sh all x t commodity a u before i line at range (inr g) st keeps =
+    let D : List (ℕ × ℕ) → Prices = λ l. record { a = a; u = l } in
+    let front = g.0 in
+    let e = g.1 in
+    let kept = keeps_at c s (want_dual sh all x t) before (some_values commodity (D front)) g.3 keeps in
+    let same : record { a = c.dual.dual.a; u = c.dual.dual.u ++ e ∷ [] } ≡ D (front ++ e ∷ []) = ap (λ (d : Prices). let y : Prices = record { a = d.a; u = d.u ++ e ∷ [] } in y) kept.2.1 in
+    by_item c i (DualPair e.0 e.1 true) (Closed c s (want_dual sh all x t) (says_dual commodity (D u))) g.4
+    (record {
+      may = may_value c s sh all x t commodity a front e st kept (subst (λ l. IsDualInRange sh.size (D l)) g.2 range);
+      leaves = λ new h. subst (λ l. Closed c s (want_dual sh all x t) (says_dual commodity (D l)) new) (sym g.2)
+          (close_dual (dual_with c c.dual.commodity (record { a = c.dual.dual.a; u = c.dual.dual.u ++ e ∷ [] })) s sh all x t commodity (D (front ++ e ∷ [])) new line st
+          (kept.0, kept.1, (kept.2.0, same)) h);
+    })
+
+closes_leaf : (c : Checks) (s : Progress) (sh : Shape) (places left denom : ℕ) (weights : List (ℕ × ℕ)) (before : Part) (i : Item) → c.line ≡ s.line
+    → IsLineInRange sh.size (leaf_of denom weights) → IsOpen (places - 1) (left - 1) → Closing (says_tree (leaf_of denom weights)) before i
+    → StandsFirm c s → Keeps c s (want_tree sh places left) before
+    → IsSafe c i (Closed c s (want_tree sh places left) (says_tree (leaf_of denom weights)))
+closes_leaf c s sh places left denom weights before i line range opens (inl g) st keeps =
+    let at = want_tree sh places left in
+    by_item c i (Leaf denom true) (Closed c s at (says_tree (leaf_of denom weights))) g.2
+    (record {
+      may = (range.1, may_end_leaf c s sh places left before st keeps);
+      leaves = λ new h.
+          let r = begun_leaf c s sh places left denom h.sums st (keeps_at c s at before nothing g.1 keeps) h.begun in
+          subst (λ l. Closed c s at (says_tree (leaf_of denom l)) new) (sym g.0)
+          (close_leaf (leaf_with c h.sums None) s sh places left denom [] new line opens r.0 r.1 h.goes);
+    })
+closes_leaf c s sh places left denom weights before i line range opens (inr g) st keeps =
+    let at = want_tree sh places left in
+    let front = g.0 in
+    let e = g.1 in
+    let kept = keeps_at c s at before (some_weights denom front) g.3 keeps in
+    let in_range = subst (λ l. IsLineInRange sh.size (leaf_of denom l)) g.2 range in
+    let may = may_weight c s sh places left denom front e (some_weights denom front) st kept in_range in
+    by_item c i (LeafPair e.0 e.1 true) (Closed c s at (says_tree (leaf_of denom weights))) g.4
+    (record {
+      may = may;
+      leaves = λ new h.
+          let w = weighed_as c h.kept s.cuts denom front e kept.1.sums_are may.least kept.3 h.weighed in
+          let r = weighed_leaf c h.kept s sh places left denom front e st kept w in
+          subst (λ l. Closed c s at (says_tree (leaf_of denom l)) new) (sym g.2)
+          (close_leaf (leaf_with c w.sums w.failure) s sh places left denom (front ++ e ∷ []) new line opens r.0 r.1
+          (subst (λ k. LeafEnds k new) w.is h.goes));
+    })
+
+pub closes : (at : Stage) (l : Line) (before : Part) (i : Item) (c : Checks) (s : Progress) → c.line ≡ s.line → Wants at l → Closing l before i
+    → StandsFirm c s → Keeps c s at before → IsSafe c i (Closed c s at l)
+closes want_version says_version before i c s e w g st keeps = absurd g
+closes want_size (says_size n q) before i c s e w g st keeps =
+    by_item c i (Size n q) (Closed c s want_size (says_size n q)) g.1
+    (record { may = tt; leaves = λ new h. close_size c s n q new e st (keeps_at c s want_size before nothing g.0 keeps) h })
+closes (want_cost sh) (says_cost v) before i c s e w g st keeps =
+    by_item c i (Cost v) (Closed c s (want_cost sh) (says_cost v)) g.1
+    (record { may = tt; leaves = λ new h. close_cost c s sh v new st (keeps_at c s (want_cost sh) before nothing g.0 keeps) h })
+closes (want_bound sh) (says_bound v) before i c s e w g st keeps =
+    by_item c i (Bound v) (Closed c s (want_bound sh) (says_bound v)) g.1
+    (record { may = tt; leaves = λ new h. close_bound c s sh v new e w st (keeps_at c s (want_bound sh) before nothing g.0 keeps) h })
+closes (want_hubs sh) (says_hubs hubs) before i c s e w g st keeps = closes_hubs c s sh hubs before i e w g st keeps
+closes (want_route sh t) (says_route commodity route) before i c s e w g st keeps =
+    let at = want_route sh t in
+    let kept = keeps_at c s at before nothing g.0 keeps in
+    by_item c i (Route commodity.0 commodity.1 route.0 route.1) (Closed c s at (says_route commodity route)) g.1
+    (record {
+      may = may_route c s sh t commodity route kept w.0 w.1 w.2;
+      leaves = λ new h. close_route c s sh t commodity route new e w.0 st kept h;
+    })
+closes (want_cuts sh) (says_cuts all) before i c s e w g st keeps =
+    by_item c i (Cuts all) (Closed c s (want_cuts sh) (says_cuts all)) g.1
+    (record { may = tt; leaves = λ new h. close_cuts c s sh all new st (keeps_at c s (want_cuts sh) before nothing g.0 keeps) h })
+closes (want_cut sh all x) (says_cut number) before i c s e w g st keeps =
+    by_item c i (Cut number) (Closed c s (want_cut sh all x) (says_cut number)) g.1
+    (record { may = tt; leaves = λ new h. close_cut c s sh all x number new st (keeps_at c s (want_cut sh all x) before nothing g.0 keeps) h })
+closes (want_dual sh all x t) (says_dual commodity dual) before i c s e w g st keeps =
+    closes_dual c s sh all x t commodity dual.a dual.u before i e w.0 w.1 g st keeps
+closes (want_nodes sh) (says_nodes all) before i c s e w g st keeps =
+    by_item c i (Nodes all) (Closed c s (want_nodes sh) (says_nodes all)) g.1
+    (record { may = tt; leaves = λ new h. close_nodes c s sh all new st (keeps_at c s (want_nodes sh) before nothing g.0 keeps) h })
+closes (want_tree sh places left) (says_tree (branch_on k)) before i c s e w g st keeps =
+    let at = want_tree sh places left in
+    by_item c i (Branch k) (Closed c s at (says_tree (branch_on k))) g.1
+    (record {
+      may = may_fill c s sh places left before keeps;
+      leaves = λ new h. close_branch c s sh places left k new e w.1 st (keeps_at c s at before nothing g.0 keeps) h;
+    })
+closes (want_tree sh places left) (says_tree (leaf_of denom weights)) before i c s e w g st keeps =
+    closes_leaf c s sh places left denom weights before i e w.0 w.1 g st keeps
+closes (want_tree sh places left) (says_tree no_hub) before i c s e w g st keeps =
+    let at = want_tree sh places left in
+    by_item c i Empty (Closed c s at (says_tree no_hub)) g.1
+    (record {
+      may = may_fill c s sh places left before keeps;
+      leaves = λ new h. close_empty c s sh places left new e w.1 st (keeps_at c s at before nothing g.0 keeps) h;
+    })
+closes want_end says_end before i c s e w g st keeps =
+    by_item c i End (Closed c s want_end says_end) g.1 (record { may = tt; leaves = λ new h. close_end c s new st h })
+closes at l before i c s e w g st keeps = absurd w

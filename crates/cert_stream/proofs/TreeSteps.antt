@@ -1,0 +1,364 @@
+-- The items of the tree.
+use Rattle.std.proofs.Common.{◌≡◌, ◌≢◌, ℕ, zero, suc, ◌+◌, ◌-◌, ◌*◌, ◌<◌, ◌≤◌, List, [], ◌∷◌, ◌++◌, length, get_or, Option, Some, None, MatchOption, All, Contains, inl, inr, refl, sym, ap, ap₂, subst, ◌∙◌, arith, ⊎_elim}
+use Rattle.std.specs.List.{AllZip}
+use Rattle.std.proofs.lemmas.List.Sums.{sum_by_push}
+use Rattle.std.proofs.lemmas.List.Elements.{All-push, All-nil, All-cons, All-head, All-tail}
+use Rattle.std.proofs.lemmas.Slice.Zip.{AllZip-long}
+use Rattle.hub_spec.specs.Problem.{Problem, IsProblem}
+use Rattle.hub_spec.specs.Cuts.{Cut, cut_by, total, load}
+use Rattle.hub_spec.specs.Trees.{Branching, root, open_child, closed_child, IsBranch, IsClosed, cut_at, weight_sum, leaf_bound, Closes, TreeLine, branch_on, leaf_of, no_hub}
+use Rattle.hub_spec.proofs.ChildLists.{root_branch, open_branch, closed_branch}
+use Rattle.cert_spec.specs.Lines.{says_nodes, says_tree, says_end}
+use Rattle.cert_spec.specs.Grammar.{Shape, want_nodes, want_tree, want_end, IsOpen, places_after, after_tree}
+use Rattle.cert_spec.specs.Conditions.{Claim, claim, Kind, AllHold, Empty, CutNumber, Weight, Leaf}
+use Rattle.cert_checker.specs.declared.kinds.Kind as code
+use Rattle.stream_spec.specs.Progress.{Progress, filled}
+use Rattle.stream_spec.specs.LineConditions.{tree_conditions}
+use Rattle.tree_lines.specs.Trails.{undecided}
+use Rattle.tree_lines.specs.Paths.{next, behind_next}
+use Rattle.tree_lines.specs.Tallies.{Tally, IsBegun, IsAdded, tally_bound, AreSumsOf}
+use Rattle.tree_lines.proofs.TallyBounds.{bounds_leaf}
+use Rattle.cert_stream.specs.Sums.{CutTally, numbered}
+use Rattle.cert_stream.specs.Steps.{Tried, ended, Ends, rooted, branched, path_filled, BranchTaken, empty_tests, leaf_with, LeafEnds, IsWeighed, no_cut, failed, too_much, added}
+use Rattle.cert_stream.specs.Taken.{nothing, some_weights, StandsFirm, AreSumsOfCut, AreCutSums, TreeStands, AreNumbers, WeightsStand, Sized, Cutted, Keeps}
+use Rattle.cert_stream.specs.declared.checks.Checks.{Checks}
+use Rattle.cert_stream.proofs.Lists.{all_front, all_last}
+use Rattle.cert_stream.proofs.Counting.{tree_cases}
+use Rattle.cert_stream.proofs.Trying.{tried_one}
+use Rattle.cert_stream.proofs.Kept.{Closed}
+
+pub close_nodes : (c : Checks) (s : Progress) (sh : Shape) (all : ℕ) (new : Checks) → StandsFirm c s → Keeps c s (want_nodes sh) nothing
+    → new ≡ ended (rooted c) None → Closed c s (want_nodes sh) (says_nodes all) new
+close_nodes c s sh all new st k h =
+    let p = c.instance.now in
+    record {
+      kept = rooted c;
+      found = None;
+      is = h;
+      same = refl;
+      line_is = refl;
+      tried = tt;
+      keeps = λ held. (
+        st,
+        (
+          k.0,
+          k.1,
+          record {
+            are = ap (λ (l : List ℕ). undecided l ∷ []) st.candidates_are;
+            count = refl;
+            some = omega arith;
+            branches = All-cons (IsBranch p) (root p) [] (root_branch p st.problem) (All-nil (IsBranch p));
+          },
+          tt,
+        ),
+      );
+    }
+
+pub close_end : (c : Checks) (s : Progress) (new : Checks) → StandsFirm c s → new ≡ ended c None → Closed c s want_end says_end new
+close_end c s new st h = record { kept = c; found = None; is = h; same = refl; line_is = refl; tried = tt; keeps = λ held. (st, tt) }
+
+-- ---- the next branch
+
+pub some_next : (b : List Branching) → 1 ≤ length b → (x : Branching) × (rest : List Branching) × (b ≡ x ∷ rest)
+some_next [] h = absurd (omega arith)
+some_next (x ∷ rest) h = (x, rest, refl)
+
+open_some : (places left : ℕ) → IsOpen places left → 0 < left → 1 ≤ places
+open_some zero left opens some = absurd (let e : left ≡ 0 = opens.1 refl in omega arith)
+open_some (suc places) left opens some = omega arith
+
+count_behind : (l : List Branching) (x : Branching) (rest : List Branching) (places : ℕ) → l ≡ x ∷ rest → length l ≡ places → length rest + 1 ≡ places
+count_behind l x rest places e h = omega (arith, ap length e)
+
+-- where these are to be filled after a line, and the path has them
+tree_kept : (kept : Checks) (s : Progress) (sh : Shape) (places left : ℕ) (pending : List Branching) → StandsFirm kept s → Sized kept s sh
+    → Cutted kept s → s.pending ≡ pending → kept.path.pending ≡ pending → length pending ≡ places → All (IsBranch kept.instance.now) pending
+    → IsOpen places left → StandsFirm kept s × Keeps kept s (after_tree sh places left) nothing
+tree_kept kept s sh places left pending st sized cuts said path count branches opens = (
+  st,
+  tree_cases (λ g. Keeps kept s g nothing) sh places left tt (λ some. (
+    sized,
+    cuts,
+    record {
+      are = path ∙ sym said;
+      count = ap length said ∙ count;
+      some = open_some places left opens some;
+      branches = subst (All (IsBranch kept.instance.now)) (sym said) branches;
+    },
+    tt,
+  )),
+)
+
+pub close_branch : (c : Checks) (s : Progress) (sh : Shape) (places left k : ℕ) (new : Checks) → c.line ≡ s.line
+    → IsOpen (places_after places (branch_on k)) (left - 1) → StandsFirm c s → Keeps c s (want_tree sh places left) nothing → BranchTaken c k new
+    → Closed c s (want_tree sh places left) (says_tree (branch_on k)) new
+close_branch c s sh places left k new e opens st keeps h =
+    let p = c.instance.now in
+    let tree = keeps.2 in
+    let n = some_next s.pending (omega (arith, tree.count, tree.some)) in
+    let b = n.0 in
+    let rest = n.1 in
+    let path : c.path.pending ≡ b ∷ rest = tree.are ∙ n.2 in
+    let branches : All (IsBranch p) (b ∷ rest) = subst (All (IsBranch p)) n.2 tree.branches in
+    let here : IsBranch p b = All-head (IsBranch p) b rest branches in
+    let count : length rest + 1 ≡ places = count_behind s.pending b rest places n.2 tree.count in
+    let as_next : Contains (next c.path.pending).free k → Contains b.free k = subst (λ l. Contains (next l).free k) path in
+    let to_next : Contains b.free k → Contains (next c.path.pending).free k = subst (λ l. Contains (next l).free k) (sym path) in
+    let after_it : Progress = record s { line = s.line + 1; pending = filled s.pending (branch_on k) } in
+    ⊎_elim (λ free. record {
+      kept = branched c k;
+      found = None;
+      is = free.1;
+      same = refl;
+      line_is = refl;
+      tried = subst (λ l. AllHold (tree_conditions p s l (branch_on k))) (sym n.2) (as_next free.0, tt);
+      keeps = λ held. tree_kept (branched c k) after_it sh (places + 1) (left - 1) (open_child b k ∷ closed_child b k ∷ rest) st keeps.0 keeps.1
+          (ap (λ l. filled l (branch_on k)) n.2)
+          (ap (λ l. open_child (next l) k ∷ closed_child (next l) k ∷ behind_next l) path)
+          (omega (arith, count))
+          (All-cons (IsBranch p) (open_child b k) (closed_child b k ∷ rest) (open_branch p b k here (as_next free.0))
+          (All-cons (IsBranch p) (closed_child b k) rest (closed_branch p b k here (as_next free.0)) (All-tail (IsBranch p) b rest branches)))
+          opens;
+    })
+    (λ taken. record {
+      kept = c;
+      found = Some code.TheVariants.Branch;
+      is = taken.1;
+      same = refl;
+      line_is = refl;
+      tried = subst (λ l. Tried (tree_conditions p s l (branch_on k)) (Some code.TheVariants.Branch) c.line) (sym n.2)
+          (inl ((λ free. taken.0 (to_next free)), refl, sym e));
+      keeps = λ held. absurd (taken.0 (to_next (subst (λ l. AllHold (tree_conditions p s l (branch_on k))) n.2 held).0));
+    })
+    h
+
+-- the path behind its next branch
+filled_kept : (c : Checks) (s : Progress) (sh : Shape) (places left : ℕ) (l : TreeLine) (b : Branching) (rest : List Branching)
+    → StandsFirm c s → Sized c s sh → Cutted c s → TreeStands c.instance.now s.pending c.path.pending places → s.pending ≡ b ∷ rest
+    → filled (b ∷ rest) l ≡ rest → IsOpen (places - 1) (left - 1)
+    → StandsFirm (path_filled c) (record s { line = s.line + 1; pending = filled s.pending l })
+    × Keeps (path_filled c) (record s { line = s.line + 1; pending = filled s.pending l }) (after_tree sh (places - 1) (left - 1)) nothing
+filled_kept c s sh places left l b rest st sized cuts tree e fills opens =
+    let p = c.instance.now in
+    tree_kept (path_filled c) (record s { line = s.line + 1; pending = filled s.pending l }) sh (places - 1) (left - 1) rest st sized cuts
+    (ap (λ x. filled x l) e ∙ fills) (ap behind_next (tree.are ∙ e))
+    (let count : length rest + 1 ≡ places = count_behind s.pending b rest places e tree.count in omega arith)
+    (All-tail (IsBranch p) b rest (subst (All (IsBranch p)) e tree.branches)) opens
+
+pub close_empty : (c : Checks) (s : Progress) (sh : Shape) (places left : ℕ) (new : Checks) → c.line ≡ s.line
+    → IsOpen (places - 1) (left - 1) → StandsFirm c s → Keeps c s (want_tree sh places left) nothing → Ends (empty_tests c) (path_filled c) new
+    → Closed c s (want_tree sh places left) (says_tree no_hub) new
+close_empty c s sh places left new e opens st keeps h =
+    let p = c.instance.now in
+    let tree = keeps.2 in
+    let n = some_next s.pending (omega (arith, tree.count, tree.some)) in
+    let path : c.path.pending ≡ n.0 ∷ n.1 = tree.are ∙ n.2 in
+    record {
+      kept = path_filled c;
+      found = h.found;
+      is = h.is;
+      same = refl;
+      line_is = refl;
+      tried = subst (λ l. Tried (tree_conditions p s l no_hub) h.found c.line) (sym n.2)
+          (tried_one Empty c.line s.line c.line (IsClosed (next c.path.pending)) (IsClosed n.0) h.found e
+          (subst (λ l. IsClosed (next l)) path) (subst (λ l. IsClosed (next l)) (sym path)) h.tried);
+      keeps = λ held. filled_kept c s sh places left no_hub n.0 n.1 st keeps.0 keeps.1 tree n.2 refl opens;
+    }
+
+-- ---- the weights of a leaf
+
+no_weights : (n : ℕ) (cuts : List Cut) (denom : ℕ) (sums : Tally) → IsBegun denom n sums → AreSumsOf n cuts denom [] sums
+no_weights n cuts denom sums h = record {
+  denom_is = h.denom_is;
+  weight_is = h.weight_is;
+  base_is = h.base_is;
+  count = h.count;
+  loads_are = h.loads_are;
+}
+
+weight_more : (n : ℕ) (cuts : List Cut) (denom : ℕ) (weights : List (ℕ × ℕ)) (e : ℕ × ℕ) (loads : List ℕ) (sum : ℕ) (sums later : Tally)
+    → AreSumsOf n cuts denom weights sums → sum ≡ total (cut_at cuts e.0) → ((k : ℕ) → get_or loads k 0 ≡ load (cut_at cuts e.0) k)
+    → IsAdded sums e.1 sum loads later → AreSumsOf n cuts denom (weights ++ e ∷ []) later
+weight_more n cuts denom weights e loads sum sums later h totals each a = record {
+  denom_is = a.denom_is ∙ h.denom_is;
+  weight_is = omega (arith, a.weight_is, h.weight_is, sum_by_push (λ (e : ℕ × ℕ). e.1) weights e);
+  base_is = a.base_is ∙ ap₂ (λ x y. x + e.1 * y) h.base_is totals ∙ sym (sum_by_push (λ (e : ℕ × ℕ). e.1 * total (cut_at cuts e.0)) weights e);
+  count = a.count ∙ h.count;
+  loads_are = λ k below. a.loads_are k (omega (arith, h.count)) ∙ ap₂ (λ x y. x + e.1 * y) (h.loads_are k below) (each k)
+      ∙ sym (sum_by_push (λ (e : ℕ × ℕ). e.1 * load (cut_at cuts e.0) k) weights e);
+}
+
+-- what the leaf's sums are after a weight, and what failed
+pub record IsWeighedAs (c : Checks) (cuts : List Cut) (denom : ℕ) (weights : List (ℕ × ℕ)) (kept : Checks) : Type 0 where
+  pub sums : Tally
+  pub failure : Option code.Kind
+  pub is : kept ≡ leaf_with c sums failure
+  pub long : length sums.loads ≡ length c.leaf.loads
+  pub stands : WeightsStand c.instance.now cuts sums denom weights failure
+
+still_failed : (p : Problem) (cuts : List Cut) (sums : Tally) (denom : ℕ) (weights : List (ℕ × ℕ)) (e : ℕ × ℕ) (f : Option code.Kind) → f ≢ None
+    → e.0 ≤ length cuts → WeightsStand p cuts sums denom weights f → WeightsStand p cuts sums denom (weights ++ e ∷ []) f
+still_failed p cuts sums denom weights e None some within h = absurd (some refl)
+still_failed p cuts sums denom weights e (Some code.TheVariants.Weight) some within h =
+    (All-push (λ (e : ℕ × ℕ). e.0 ≤ length cuts) weights e h.0 within, omega (arith, h.1, sum_by_push (λ (e : ℕ × ℕ). e.1) weights e))
+still_failed p cuts sums denom weights e (Some code.TheVariants.CutNumber) some within h =
+    λ all. h (all_front (λ (e : ℕ × ℕ). e.0 ≤ length cuts) weights e all)
+still_failed p cuts sums denom weights e (Some other) some within h = absurd h
+
+zip_at : {A B : Type 0} (R : A → B → Type 0) (xs : List A) (ys : List B) (i : ℕ) (d : A) (e : B) → AllZip R xs ys → i < length xs
+    → R (get_or xs i d) (get_or ys i e)
+zip_at R [] [] i d e h below = absurd (omega arith)
+zip_at R [] (y ∷ ys) i d e h below = absurd h
+zip_at R (x ∷ xs) [] i d e h below = absurd h
+zip_at R (x ∷ xs) (y ∷ ys) zero d e h below = h.0
+zip_at R (x ∷ xs) (y ∷ ys) (suc i) d e h below = zip_at R xs ys i d e h.1 (omega arith)
+
+pub cut_numbered : (p : Problem) (cuts : List Cut) (sums : List CutTally) (number : ℕ) → AreCutSums p cuts sums → 1 ≤ number → number ≤ length sums
+    → AreSumsOfCut p (cut_at cuts number) (numbered sums number)
+cut_numbered p cuts sums number h least most =
+    zip_at (AreSumsOfCut p) cuts sums (number - 1) (cut_by []) (record { count = 0; total = 0; loads = [] }) h
+    (omega (arith, AllZip-long (AreSumsOfCut p) cuts sums h))
+
+pub weighed_as : (c kept : Checks) (cuts : List Cut) (denom : ℕ) (weights : List (ℕ × ℕ)) (e : ℕ × ℕ) → AreCutSums c.instance.now cuts c.cuts
+    → 1 ≤ e.0 → WeightsStand c.instance.now cuts c.leaf denom weights c.leaf_failure → IsWeighed c e.0 e.1 kept
+    → IsWeighedAs c cuts denom (weights ++ e ∷ []) kept
+weighed_as c kept cuts denom weights e are least h (no_cut above is) = record {
+  sums = c.leaf;
+  failure = Some code.TheVariants.CutNumber;
+  is = is;
+  long = refl;
+  stands = λ all. let x : e.0 ≤ length cuts = all_last (λ (e : ℕ × ℕ). e.0 ≤ length cuts) weights e all in
+      absurd (omega (arith, AllZip-long (AreSumsOfCut c.instance.now) cuts c.cuts are));
+}
+weighed_as c kept cuts denom weights e are least h (failed within some is) = record {
+  sums = c.leaf;
+  failure = c.leaf_failure;
+  is = is;
+  long = refl;
+  stands = still_failed c.instance.now cuts c.leaf denom weights e c.leaf_failure some
+      (omega (arith, AllZip-long (AreSumsOfCut c.instance.now) cuts c.cuts are)) h;
+}
+weighed_as c kept cuts denom weights e are least h (too_much within none above is) =
+    let so_far = subst (WeightsStand c.instance.now cuts c.leaf denom weights) none h in
+    record {
+      sums = c.leaf;
+      failure = Some code.TheVariants.Weight;
+      is = is;
+      long = refl;
+      stands = (
+        All-push (λ (e : ℕ × ℕ). e.0 ≤ length cuts) weights e so_far.0 (omega (arith, AllZip-long (AreSumsOfCut c.instance.now) cuts c.cuts are)),
+        omega (arith, so_far.2.denom_is, so_far.2.weight_is, sum_by_push (λ (e : ℕ × ℕ). e.1) weights e),
+      );
+    }
+weighed_as c kept cuts denom weights e are least h (added sums within none fits adds is) =
+    let so_far = subst (WeightsStand c.instance.now cuts c.leaf denom weights) none h in
+    let cut = cut_numbered c.instance.now cuts c.cuts e.0 are least within in
+    record {
+      sums = sums;
+      failure = None;
+      is = is ∙ ap (λ f. leaf_with c sums f) none;
+      long = adds.count;
+      stands = (
+        All-push (λ (e : ℕ × ℕ). e.0 ≤ length cuts) weights e so_far.0 (omega (arith, AllZip-long (AreSumsOfCut c.instance.now) cuts c.cuts are)),
+        omega (arith, fits, so_far.2.denom_is, so_far.2.weight_is, sum_by_push (λ (e : ℕ × ℕ). e.1) weights e),
+        weight_more c.instance.now.size cuts denom weights e (numbered c.cuts e.0).loads (numbered c.cuts e.0).total c.leaf sums so_far.2
+            cut.are.total_is cut.are.loads_are adds,
+      );
+    }
+
+-- ---- a leaf
+
+-- with other sums of a leaf, as long
+leaf_firm : (c : Checks) (s : Progress) (sums : Tally) (failure : Option code.Kind) → StandsFirm c s → length sums.loads ≡ length c.leaf.loads
+    → StandsFirm (leaf_with c sums failure) s
+leaf_firm c s sums failure st long = record {
+  problem = st.problem;
+  dual_is = st.dual_is;
+  size_is = st.size_is;
+  candidates_are = st.candidates_are;
+  long = long ∙ st.long;
+  cost_is = st.cost_is;
+  bound_is = st.bound_is;
+  short = st.short;
+}
+
+-- a leaf has begun
+pub begun_leaf : (c : Checks) (s : Progress) (sh : Shape) (places left denom : ℕ) (sums : Tally) → StandsFirm c s
+    → Keeps c s (want_tree sh places left) nothing → IsBegun denom (length c.leaf.loads) sums
+    → StandsFirm (leaf_with c sums None) s × Keeps (leaf_with c sums None) s (want_tree sh places left) (some_weights denom [])
+begun_leaf c s sh places left denom sums st k h = (
+  leaf_firm c s sums None st h.count,
+  (
+    k.0,
+    k.1,
+    k.2,
+    (
+      All-nil (λ (e : ℕ × ℕ). e.0 ≤ length s.cuts),
+      omega arith,
+      subst (λ n. AreSumsOf n s.cuts denom [] sums) st.long (no_weights (length c.leaf.loads) s.cuts denom sums h),
+    ),
+  ),
+)
+
+-- a weight more has come
+pub weighed_leaf : (c kept : Checks) (s : Progress) (sh : Shape) (places left denom : ℕ) (weights : List (ℕ × ℕ)) (e : ℕ × ℕ) → StandsFirm c s
+    → Keeps c s (want_tree sh places left) (some_weights denom weights) → (w : IsWeighedAs c s.cuts denom (weights ++ e ∷ []) kept)
+    → StandsFirm (leaf_with c w.sums w.failure) s
+    × Keeps (leaf_with c w.sums w.failure) s (want_tree sh places left) (some_weights denom (weights ++ e ∷ []))
+weighed_leaf c kept s sh places left denom weights e st k w =
+    (leaf_firm c s w.sums w.failure st w.long, (k.0, k.1, k.2, w.stands))
+
+tried_behind : (kind : Kind) (n m : ℕ) (P : Type 0) (cs : List Claim) (found : Option code.Kind) → P → Tried cs found m → Tried (claim kind n P ∷ cs) found m
+tried_behind kind n m P cs None h t = (h, t)
+tried_behind kind n m P cs (Some k) h t = inr (h, t)
+
+closes_same : (p : Problem) (cuts : List Cut) (denom : ℕ) (weights : List (ℕ × ℕ)) (b : Branching) (sums : Tally) (bound said : ℕ) (l : List Branching)
+    → IsProblem p → IsBranch p b → AreSumsOf p.size cuts denom weights sums → bound ≡ said → next l ≡ b
+    → Closes sums.denom bound (tally_bound p sums (next l)) ≡ Closes denom said (leaf_bound p cuts denom weights b)
+closes_same p cuts denom weights b sums bound said l ok branch h e n =
+    ap (λ x. Closes sums.denom bound (tally_bound p sums x)) n
+    ∙ ap (λ x. Closes sums.denom bound x) (bounds_leaf p cuts denom weights b sums ok branch h)
+    ∙ ap₂ (λ x y. Closes x y (leaf_bound p cuts denom weights b)) h.denom_is e
+
+leaf_tried : (c : Checks) (s : Progress) (denom : ℕ) (weights : List (ℕ × ℕ)) (b : Branching) (rest : List Branching) (f found : Option code.Kind)
+    → c.line ≡ s.line → StandsFirm c s → IsBranch c.instance.now b → c.path.pending ≡ b ∷ rest
+    → WeightsStand c.instance.now s.cuts c.leaf denom weights f
+    → MatchOption f
+    (Tried (claim Leaf c.line (Closes c.leaf.denom c.bound (tally_bound c.instance.now c.leaf (next c.path.pending))) ∷ []) found c.line)
+    (λ kind. found ≡ Some kind)
+    → Tried (tree_conditions c.instance.now s (b ∷ rest) (leaf_of denom weights)) found c.line
+leaf_tried c s denom weights b rest None found e st branch path h t =
+    let p = c.instance.now in
+    let same = closes_same p s.cuts denom weights b c.leaf c.bound s.bound c.path.pending st.problem branch h.2 st.bound_is (ap next path) in
+    tried_behind CutNumber s.line c.line (AreNumbers s.cuts weights)
+    (claim Weight s.line (weight_sum weights ≤ denom) ∷ claim Leaf s.line (Closes denom s.bound (leaf_bound p s.cuts denom weights b)) ∷ []) found h.0
+    (tried_behind Weight s.line c.line (weight_sum weights ≤ denom)
+    (claim Leaf s.line (Closes denom s.bound (leaf_bound p s.cuts denom weights b)) ∷ []) found h.1
+    (tried_one Leaf c.line s.line c.line (Closes c.leaf.denom c.bound (tally_bound p c.leaf (next c.path.pending)))
+    (Closes denom s.bound (leaf_bound p s.cuts denom weights b)) found e (subst (λ (x : Type 0). x) same) (subst (λ (x : Type 0). x) (sym same)) t))
+leaf_tried c s denom weights b rest (Some code.TheVariants.Weight) found e st branch path h t =
+    subst (λ x. Tried (tree_conditions c.instance.now s (b ∷ rest) (leaf_of denom weights)) x c.line) (sym t)
+    (inr (h.0, inl ((λ (x : weight_sum weights ≤ denom). omega (arith, h.1)), refl, sym e)))
+leaf_tried c s denom weights b rest (Some code.TheVariants.CutNumber) found e st branch path h t =
+    subst (λ x. Tried (tree_conditions c.instance.now s (b ∷ rest) (leaf_of denom weights)) x c.line) (sym t) (inl (h, refl, sym e))
+leaf_tried c s denom weights b rest (Some other) found e st branch path h t = absurd h
+
+pub close_leaf : (c : Checks) (s : Progress) (sh : Shape) (places left denom : ℕ) (weights : List (ℕ × ℕ)) (new : Checks) → c.line ≡ s.line
+    → IsOpen (places - 1) (left - 1) → StandsFirm c s → Keeps c s (want_tree sh places left) (some_weights denom weights) → LeafEnds c new
+    → Closed c s (want_tree sh places left) (says_tree (leaf_of denom weights)) new
+close_leaf c s sh places left denom weights new e opens st keeps h =
+    let p = c.instance.now in
+    let tree = keeps.2 in
+    let n = some_next s.pending (omega (arith, tree.count, tree.some)) in
+    let path : c.path.pending ≡ n.0 ∷ n.1 = tree.are ∙ n.2 in
+    let branches : All (IsBranch p) (n.0 ∷ n.1) = subst (All (IsBranch p)) n.2 tree.branches in
+    record {
+      kept = path_filled c;
+      found = h.found;
+      is = h.is;
+      same = refl;
+      line_is = refl;
+      tried = subst (λ l. Tried (tree_conditions p s l (leaf_of denom weights)) h.found c.line) (sym n.2)
+          (leaf_tried c s denom weights n.0 n.1 c.leaf_failure h.found e st (All-head (IsBranch p) n.0 n.1 branches) path keeps.3 h.tried);
+      keeps = λ held. filled_kept c s sh places left (leaf_of denom weights) n.0 n.1 st keeps.0 keeps.1 tree n.2 refl opens;
+    }

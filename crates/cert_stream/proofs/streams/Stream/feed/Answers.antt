@@ -1,0 +1,24 @@
+use Rattle.std.proofs.Common.{Bool, ◌-◌, ◌++◌, length, sym, subst, ◌∙◌, length-append, arith}
+use Rattle.cert_stream.specs.Fed.{HasFedUnless}
+use Rattle.cert_stream.specs.declared.streams.Stream.{Stream}
+use Rattle.cert_stream.proofs.streams.Stream.feed.Goals as goal
+
+pub advance-requires : goal.advance-requires
+advance-requires c =
+    let f = subst (λ (b : Bool). HasFedUnless b c.requires.0 c.args.self) c.if-self.false c.requires.1 in
+    (c.requires.0, f.1.0, f.1.1)
+
+pub returns-clause-fed : goal.returns-clause-fed
+returns-clause-fed c = λ bytes h.
+    let s = c.args.self in
+    let piece = c.args.piece.now in
+    let f = subst (λ (b : Bool). HasFedUnless b bytes s) c.if-self.false h in
+    let r = c.in_ok-advance.ensures.come bytes f.1.0 f.1.1 in
+    let t : Stream = record {
+      scan = c.advance.new.self.scan;
+      checks = c.advance.new.self.checks;
+      room = c.advance.new.self.room - length piece;
+      is_too_long = c.advance.new.self.is_too_long;
+    } in
+    subst (λ (b : Bool). HasFedUnless b (bytes ++ piece) t) (sym (c.in_ok-advance.ensures.short ∙ c.if-self.false))
+    (omega (arith, f.0, length-append bytes piece, c.in_ok-advance.ensures.room), (r.0, record { scanned = r.1.scanned; taken = r.1.taken }))

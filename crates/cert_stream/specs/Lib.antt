@@ -1,0 +1,4 @@
+pub mod Sums
+pub mod Steps
+pub mod Taken
+pub mod Fed

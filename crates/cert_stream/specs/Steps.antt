@@ -1,0 +1,274 @@
+-- What an item makes of a check.
+use Rattle.std.specs.Prelude.{◌≡◌, ◌≢◌, ℕ, ◌+◌, ◌-◌, ◌*◌, ◌^◌, ◌<◌, ◌≤◌, ◌↔◌, Bool, true, false, IsTrue, List, [], ◌∷◌, ◌++◌, length, Option, Some, None, MatchOption, nat_eq, All, Contains, ◌⊎◌, if◌then◌else◌}
+use Rattle.hub_spec.specs.Limits.{most_cost, most_denominator}
+use Rattle.hub_spec.specs.Cuts.{Prices, IsDual}
+use Rattle.hub_spec.specs.Trees.{Closes, IsClosed, open_child, closed_child}
+use Rattle.hub_spec.specs.Ranges.{IsShort, IsAmount}
+use Rattle.cert_spec.specs.Conditions.{Claim, claim, Size, BoundOverCost, Hubs, Route, Cost, Dual, Sum, Empty, Leaf, AllHold, FailsFirst}
+use Rattle.stream_spec.specs.LineConditions.{if_time}
+use Rattle.cert_checker.specs.Answers.{kind_of}
+use Rattle.cert_checker.specs.declared.kinds.Kind as code
+use Rattle.cert_scan.specs.declared.items.Item as item
+use Rattle.plan_lines.specs.Tallies.{with_hub, with_route}
+use Rattle.tree_lines.specs.Trails.{undecided}
+use Rattle.tree_lines.specs.Paths.{next, behind_next}
+use Rattle.tree_lines.specs.Tallies.{Tally, IsBegun, IsAdded, tally_bound}
+use Rattle.cert_stream.specs.Sums.{CutTally, most_duals, IsNoDual, AreWithin, last_of, numbered, IsLastAdded}
+use Rattle.cert_stream.specs.declared.checks.Checks.{Checks}
+
+-- the item is the last of its line
+abbrev pub ends : item.Item → Bool
+ends (item.TheVariants.Hub k last) = last
+ends (item.TheVariants.Dual i j a last) = last
+ends (item.TheVariants.DualPair k u last) = last
+ends (item.TheVariants.Leaf denom last) = last
+ends (item.TheVariants.LeafPair c w last) = last
+ends other = true
+
+-- it begins a cut
+abbrev pub IsCut : item.Item → Type 0
+IsCut (item.TheVariants.Cut number) = Unit {0}
+IsCut other = ⊥
+
+-- of these conditions all hold, or what was found is the first to fail
+abbrev pub Tried : List Claim → Option code.Kind → ℕ → Type 0
+Tried cs None line = AllHold cs
+Tried cs (Some kind) line = FailsFirst cs (kind_of kind) line
+
+-- what was found, with its line
+abbrev pub failed_at : ℕ → Option code.Kind → Option (code.Kind × ℕ)
+failed_at line None = None
+failed_at line (Some kind) = Some (kind, line)
+
+-- the line has ended, and this was found of it
+abbrev pub ended : Checks → Option code.Kind → Checks
+ended c found = record c { line = c.line + 1; failure = failed_at c.line found }
+
+-- the line has ended, and these conditions were tried
+pub record Ends (cs : List Claim) (kept new : Checks) : Type 0 where
+  pub found : Option code.Kind
+  pub tried : Tried cs found kept.line
+  pub is : new ≡ ended kept found
+
+-- ---- from the size to the plan
+
+abbrev pub size_tests : Checks → ℕ → ℕ → List Claim
+size_tests c n q = claim Size c.line ((n ≡ c.instance.now.size) × (q ≡ length c.instance.now.candidates)) ∷ []
+
+abbrev pub bound_tests : Checks → List Claim
+bound_tests c = claim BoundOverCost c.line (c.bound ≤ c.cost) ∷ []
+
+abbrev pub hub_tests : Checks → List Claim
+hub_tests c = claim Hubs c.line (IsTrue c.are_candidates) ∷ []
+
+abbrev pub route_tests : Checks → ℕ × ℕ → List Claim
+route_tests c route =
+    claim Route c.line (Contains c.plan.hubs route.0 × Contains c.plan.hubs route.1)
+    ∷ if_time (nat_eq c.plan.routed (c.plan.size * c.plan.size)) (claim Cost c.line (c.cost ≡ c.plan.cost))
+
+-- with one more hub; it and those before it are all candidates, or not
+abbrev pub hubbed : Checks → ℕ → Bool → Checks
+hubbed c k are = record c { plan = with_hub c.instance.now c.plan k; are_candidates = are }
+
+abbrev pub routed : Checks → ℕ × ℕ → ℕ × ℕ → Checks
+routed c commodity route = record c { plan = with_route c.instance.now c.plan commodity route }
+
+-- the line ends here, or goes on
+abbrev pub EndsOrGoesOn : Bool → List Claim → Checks → Checks → Type 0
+EndsOrGoesOn true cs kept new = Ends cs kept new
+EndsOrGoesOn false cs kept new = new ≡ kept
+
+pub record HubTaken (old : Checks) (k : ℕ) (last : Bool) (new : Checks) : Type 0 where
+  pub are : Bool
+  pub known : IsTrue are ↔ (IsTrue old.are_candidates × Contains old.instance.now.candidates k)
+  pub goes : EndsOrGoesOn last (hub_tests (hubbed old k are)) (hubbed old k are) new
+
+-- ---- the cuts
+
+pub record CutTaken (old new : Checks) : Type 0 where
+  pub sums : CutTally
+  pub none : IsNoDual old.instance.now.size sums
+  pub is : new ≡ ended (record old { cuts = old.cuts ++ sums ∷ [] }) None
+
+abbrev pub dual_tests : Checks → List Claim
+dual_tests c =
+    claim Dual c.line (IsDual c.dual.problem c.dual.commodity c.dual.dual)
+    ∷ if_time (nat_eq (last_of c.cuts).count (c.instance.now.size * c.instance.now.size)) (claim Sum c.line (AreWithin (last_of c.cuts)))
+
+-- with these sums of the cuts
+abbrev pub cut_with : Checks → List CutTally → Checks
+cut_with c cuts = record c { cuts = cuts }
+
+-- the dual that is listed is added, and its conditions were tried
+pub record DualEnds (kept new : Checks) : Type 0 where
+  pub cuts : List CutTally
+  pub added : IsLastAdded kept.cuts kept.dual.dual cuts
+  pub ends : Ends (dual_tests (cut_with kept cuts)) (cut_with kept cuts) new
+
+abbrev pub DualGoesOn : Bool → Checks → Checks → Type 0
+DualGoesOn true kept new = DualEnds kept new
+DualGoesOn false kept new = new ≡ kept
+
+-- with this dual listed
+abbrev pub dual_with : Checks → ℕ × ℕ → Prices → Checks
+dual_with c commodity dual = record c { dual = record c.dual { commodity = commodity; dual = dual } }
+
+-- ---- the tree
+
+abbrev pub rooted : Checks → Checks
+rooted c = record c { path = record c.path { pending = undecided c.path.candidates ∷ [] } }
+
+abbrev pub branched : Checks → ℕ → Checks
+branched c k =
+    record c { path = record c.path { pending = open_child (next c.path.pending) k ∷ closed_child (next c.path.pending) k ∷ behind_next c.path.pending } }
+
+abbrev pub path_filled : Checks → Checks
+path_filled c = record c { path = record c.path { pending = behind_next c.path.pending } }
+
+abbrev pub BranchTaken : Checks → ℕ → Checks → Type 0
+BranchTaken old k new =
+    (Contains (next old.path.pending).free k × (new ≡ ended (branched old k) None))
+    ⊎ ((Contains (next old.path.pending).free k → ⊥) × (new ≡ ended old (Some code.TheVariants.Branch)))
+
+abbrev pub empty_tests : Checks → List Claim
+empty_tests c = claim Empty c.line (IsClosed (next c.path.pending)) ∷ []
+
+-- with these sums of a leaf, and what fails of its weights
+abbrev pub leaf_with : Checks → Tally → Option code.Kind → Checks
+leaf_with c sums failure = record c { leaf = sums; leaf_failure = failure }
+
+-- what a leaf's conditions come to
+abbrev pub LeafFound : Checks → Option code.Kind → Type 0
+LeafFound c found =
+    MatchOption c.leaf_failure
+    (Tried (claim Leaf c.line (Closes c.leaf.denom c.bound (tally_bound c.instance.now c.leaf (next c.path.pending))) ∷ []) found c.line)
+    (λ kind. found ≡ Some kind)
+
+pub record LeafEnds (kept new : Checks) : Type 0 where
+  pub found : Option code.Kind
+  pub tried : LeafFound kept found
+  pub is : new ≡ ended (path_filled kept) found
+
+abbrev pub LeafGoesOn : Bool → Checks → Checks → Type 0
+LeafGoesOn true kept new = LeafEnds kept new
+LeafGoesOn false kept new = new ≡ kept
+
+pub record LeafTaken (old : Checks) (denom : ℕ) (last : Bool) (new : Checks) : Type 0 where
+  pub sums : Tally
+  pub begun : IsBegun denom (length old.leaf.loads) sums
+  pub goes : LeafGoesOn last (leaf_with old sums None) new
+
+-- a cut of this number comes with this weight: there is none, or something failed already, or the weight is too much, or it is added
+pub data IsWeighed (old : Checks) (c w : ℕ) (kept : Checks) : Type 0 where
+  no_cut : length old.cuts < c → kept ≡ leaf_with old old.leaf (Some code.TheVariants.CutNumber) → IsWeighed old c w kept
+  failed : c ≤ length old.cuts → old.leaf_failure ≢ None → kept ≡ old → IsWeighed old c w kept
+  too_much : c ≤ length old.cuts → old.leaf_failure ≡ None → old.leaf.denom < old.leaf.weight + w
+      → kept ≡ leaf_with old old.leaf (Some code.TheVariants.Weight) → IsWeighed old c w kept
+  added : (sums : Tally) → c ≤ length old.cuts → old.leaf_failure ≡ None → old.leaf.weight + w ≤ old.leaf.denom
+      → IsAdded old.leaf w (numbered old.cuts c).total (numbered old.cuts c).loads sums → kept ≡ record old { leaf = sums }
+      → IsWeighed old c w kept
+
+pub record WeightTaken (old : Checks) (c w : ℕ) (last : Bool) (new : Checks) : Type 0 where
+  pub kept : Checks
+  pub weighed : IsWeighed old c w kept
+  pub goes : LeafGoesOn last kept new
+
+-- ---- any item
+
+-- with an item taken where no condition failed before
+abbrev pub IsTaken : Checks → item.Item → Checks → Type 0
+IsTaken old (item.TheVariants.Size n q) new = Ends (size_tests old n q) old new
+IsTaken old (item.TheVariants.Cost cost) new = new ≡ ended (record old { cost = cost }) None
+IsTaken old (item.TheVariants.Bound bound) new = Ends (bound_tests (record old { bound = bound })) (record old { bound = bound }) new
+IsTaken old (item.TheVariants.Hub k last) new = HubTaken old k last new
+IsTaken old (item.TheVariants.Route i j k m) new = Ends (route_tests (routed old (i, j) (k, m)) (k, m)) (routed old (i, j) (k, m)) new
+IsTaken old (item.TheVariants.Cuts all) new = new ≡ ended old None
+IsTaken old (item.TheVariants.Cut number) new = CutTaken old new
+IsTaken old (item.TheVariants.Dual i j a last) new = DualGoesOn last (dual_with old (i, j) (record { a = a; u = [] })) new
+IsTaken old (item.TheVariants.DualPair k u last) new =
+    DualGoesOn last (dual_with old old.dual.commodity (record { a = old.dual.dual.a; u = old.dual.dual.u ++ (k, u) ∷ [] })) new
+IsTaken old (item.TheVariants.Nodes all) new = new ≡ ended (rooted old) None
+IsTaken old (item.TheVariants.Branch k) new = BranchTaken old k new
+IsTaken old (item.TheVariants.Leaf denom last) new = LeafTaken old denom last new
+IsTaken old (item.TheVariants.LeafPair c w last) new = WeightTaken old c w last new
+IsTaken old item.TheVariants.Empty new = Ends (empty_tests old) (path_filled old) new
+IsTaken old item.TheVariants.End new = new ≡ ended old None
+
+-- with an item taken where one had failed
+abbrev pub passed : Checks → item.Item → Checks
+passed old i = record old { line = if ends i then old.line + 1 else old.line }
+
+-- with an item taken
+pub record Steps (old : Checks) (i : item.Item) (new : Checks) : Type 0 where
+  pub first : old.failure ≡ None → IsTaken old i new
+  pub later : old.failure ≢ None → new ≡ passed old i
+
+-- ---- what an item may be
+
+-- a hub above those before it
+pub record MayHub (c : Checks) (k : ℕ) : Type 0 where
+  pub nodes : c.plan.size ≡ c.instance.now.size
+  pub node : k < c.plan.size
+  pub above : All (λ (m : ℕ). m < k) c.plan.hubs
+
+-- the route of the next commodity
+pub record MayRoute (c : Checks) (commodity route : ℕ × ℕ) : Type 0 where
+  pub nodes : c.plan.size ≡ c.instance.now.size
+  pub from : commodity.0 < c.plan.size
+  pub to : commodity.1 < c.plan.size
+  pub next : commodity.0 * c.plan.size + commodity.1 ≡ c.plan.routed
+  pub first : route.0 < c.plan.size
+  pub last : route.1 < c.plan.size
+
+-- a cut stands to which a dual may be added
+pub record MayEndDual (c : Checks) : Type 0 where
+  pub stands : c.cuts ≢ []
+  pub few : (last_of c.cuts).count < most_duals
+  pub long : length (last_of c.cuts).loads ≡ c.dual.problem.size
+
+pub record MayDual (c : Checks) (commodity : ℕ × ℕ) (a : ℕ) : Type 0 where
+  pub from : commodity.0 < c.dual.problem.size
+  pub to : commodity.1 < c.dual.problem.size
+  pub short : IsAmount a
+  pub may_end : MayEndDual c
+
+pub record MayValue (c : Checks) (k u : ℕ) : Type 0 where
+  pub node : k < c.dual.problem.size
+  pub above : All (λ (e : ℕ × ℕ). e.0 < k) c.dual.dual.u
+  pub least : 1 ≤ u
+  pub short : IsAmount u
+  pub may_end : MayEndDual c
+
+-- a branch is to be filled, and a leaf's bound can be reckoned
+pub record MayEndLeaf (c : Checks) : Type 0 where
+  pub some : c.path.pending ≢ []
+  pub nodes : c.path.size ≡ c.instance.now.size
+  pub long : length c.leaf.loads ≡ c.instance.now.size
+  pub short : IsShort c.bound
+
+-- sums of a cut that a leaf may add
+pub record MayAdd (n : ℕ) (sums : CutTally) : Type 0 where
+  pub total : sums.total ≤ most_cost
+  pub long : length sums.loads ≡ n
+  pub loads : All (λ (load : ℕ). load ≤ most_cost) sums.loads
+
+pub record MayWeight (c : Checks) (number : ℕ) : Type 0 where
+  pub least : 1 ≤ number
+  pub may_add : All (MayAdd c.instance.now.size) c.cuts
+  pub may_end : MayEndLeaf c
+
+abbrev pub MayCome : Checks → item.Item → Type 0
+MayCome c (item.TheVariants.Hub k last) = MayHub c k
+MayCome c (item.TheVariants.Route i j k m) = MayRoute c (i, j) (k, m)
+MayCome c (item.TheVariants.Dual i j a last) = MayDual c (i, j) a
+MayCome c (item.TheVariants.DualPair k u last) = MayValue c k u
+MayCome c (item.TheVariants.Branch k) = c.path.pending ≢ []
+MayCome c (item.TheVariants.Leaf denom last) = (denom ≤ most_denominator) × MayEndLeaf c
+MayCome c (item.TheVariants.LeafPair number w last) = MayWeight c number
+MayCome c item.TheVariants.Empty = c.path.pending ≢ []
+MayCome c other = Unit {0}
+
+-- its line can be counted, and where no condition failed before, it may come
+pub record MayTake (c : Checks) (i : item.Item) : Type 0 where
+  pub room : c.line < 2 ^ 64 - 1
+  pub may_come : c.failure ≡ None → MayCome c i

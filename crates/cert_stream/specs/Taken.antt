@@ -1,0 +1,201 @@
+-- A check as the items that have come make it.
+use Rattle.std.specs.Prelude.{◌≡◌, ℕ, ◌*◌, ◌<◌, ◌≤◌, ◌↔◌, Bool, false, IsTrue, List, [], ◌∷◌, ◌++◌, length, flat_map, Option, Some, None, All, Contains}
+use Rattle.std.specs.List.{AllZip}
+use Rattle.std.specs.List.Sorted.{IsStrictlyIncreasing}
+use Rattle.hub_spec.specs.Problem.{Problem, IsProblem, commodity_at}
+use Rattle.hub_spec.specs.Cuts.{Prices, Cut}
+use Rattle.hub_spec.specs.Trees.{Branching, IsBranch, leaf_of, weight_sum}
+use Rattle.hub_spec.specs.Ranges.{IsShort, IsDualInRange, IsLineInRange}
+use Rattle.cert_spec.specs.Lines.{Item as Line}
+use Rattle.cert_spec.specs.Grammar.{Shape, Stage, want_size, want_cost, want_bound, want_hubs, want_route, want_cuts, want_cut, want_dual, want_nodes, want_tree, Leads}
+use Rattle.cert_spec.specs.Conditions.{Claim, AllHold, FailsFirst, claims}
+use Rattle.cert_checker.specs.declared.texts.Ending.{Ending}
+use Rattle.cert_checker.specs.declared.texts.Ending.TheVariants.{Optimal, Bounds, No}
+use Rattle.hub_model.specs.Amounts.{natural}
+use Rattle.hub_spec.specs.Certificates.{Proof}
+use Rattle.stream_spec.specs.Progress.{Progress, at_start, after_lines}
+use Rattle.stream_spec.specs.LineConditions.{conditions_from}
+use Rattle.cert_checker.specs.Answers.{kind_of}
+use Rattle.cert_checker.specs.declared.kinds.Kind as code
+use Rattle.cert_scan.specs.Parts.{parts_of, open_hubs, open_values, open_weights}
+use Rattle.cert_scan.specs.declared.items.Item.{Item}
+use Rattle.cert_scan.specs.declared.items.Item.TheVariants.{Dual, Leaf}
+use Rattle.plan_lines.specs.Tallies.{PlanTally, IsTallyOf, no_plan}
+use Rattle.dual_lines.specs.Lines.{ListedDual}
+use Rattle.tree_lines.specs.Tallies.{Tally, AreSumsOf as AreLeafSumsOf}
+use Rattle.cert_stream.specs.Sums.{CutTally, AreSumsOf, AreWithin}
+use Rattle.cert_stream.specs.declared.checks.Checks.{Checks}
+
+-- of these conditions all hold, or this is the first to fail, with its line
+abbrev pub TellsFirst : List Claim → Option (code.Kind × ℕ) → Type 0
+TellsFirst cs None = AllHold cs
+TellsFirst cs (Some failure) = FailsFirst cs (kind_of failure.0) failure.1
+
+-- what was given of a line whose end was not: nothing, or what has come of a list
+pub data Part : Type 0 where
+  nothing : Part
+  some_hubs : List ℕ → Part
+  some_values : ℕ × ℕ → Prices → Part
+  some_weights : ℕ → List (ℕ × ℕ) → Part
+
+-- the items of it
+abbrev pub part_items : Part → List Item
+part_items nothing = []
+part_items (some_hubs hubs) = open_hubs hubs
+part_items (some_values commodity dual) = Dual commodity.0 commodity.1 dual.a false ∷ open_values dual.u
+part_items (some_weights denom weights) = Leaf denom false ∷ open_weights weights
+
+-- it may stand at this stage
+abbrev pub IsPart : Stage → Part → Type 0
+IsPart (want_hubs s) (some_hubs hubs) = IsStrictlyIncreasing hubs × All (λ k. k < s.size) hubs
+IsPart (want_hubs s) other = ⊥
+IsPart (want_dual s all x t) (some_values commodity dual) = (commodity ≡ commodity_at s.size t) × IsDualInRange s.size dual
+IsPart (want_tree s places left) (some_weights denom weights) = IsLineInRange s.size (leaf_of denom weights)
+IsPart stage nothing = Unit {0}
+IsPart stage other = ⊥
+
+-- what is kept whatever line comes next: the dual, the path, the leaf's sums and what was said are those of the instance and the lines
+pub record Standing (p : Problem) (dual_problem : Problem) (path_size : ℕ) (path_candidates : List ℕ) (loads : List ℕ) (cost bound said_cost said_bound : ℕ) : Type 0 where
+  pub problem : IsProblem p
+  pub dual_is : dual_problem ≡ p
+  pub size_is : path_size ≡ p.size
+  pub candidates_are : path_candidates ≡ p.candidates
+  pub long : length loads ≡ p.size
+  pub cost_is : cost ≡ said_cost
+  pub bound_is : bound ≡ said_bound
+  pub short : IsShort said_bound
+
+abbrev pub StandsFirm : Checks → Progress → Type 0
+StandsFirm c s = Standing c.instance.now c.dual.problem c.path.size c.path.candidates c.leaf.loads c.cost c.bound s.cost s.bound
+
+-- the size that was said, and that of the text's shape, are the instance's
+pub record IsSized (n said shape_size : ℕ) : Type 0 where
+  pub said_is : said ≡ n
+  pub wanted_is : shape_size ≡ n
+
+-- the sums are those of a whole cut, which is within them
+pub record AreSumsOfCut (p : Problem) (cut : Cut) (sums : CutTally) : Type 0 where
+  pub are : AreSumsOf p.size cut.duals sums
+  pub within : AreWithin sums
+
+-- and of all these, one by one
+abbrev pub AreCutSums : Problem → List Cut → List CutTally → Type 0
+AreCutSums p cuts sums = AllZip (AreSumsOfCut p) cuts sums
+
+-- no plan has come
+pub record NoPlanYet (p : Problem) (hubs : List ℕ) (routes : List (ℕ × ℕ)) (plan : PlanTally) (are_candidates : Bool) : Type 0 where
+  pub no_hub : hubs ≡ []
+  pub no_route : routes ≡ []
+  pub tally : plan ≡ no_plan p.size
+  pub known : IsTrue are_candidates
+
+-- these hubs have come, and no route
+pub record HubsStand (p : Problem) (hubs : List ℕ) (routes : List (ℕ × ℕ)) (plan : PlanTally) (are_candidates : Bool) : Type 0 where
+  pub no_route : routes ≡ []
+  pub tally : IsTallyOf p hubs [] plan
+  pub known : IsTrue are_candidates ↔ All (Contains p.candidates) hubs
+
+-- the hubs, and so many routes have come
+pub record RoutesStand (p : Problem) (hubs : List ℕ) (routes : List (ℕ × ℕ)) (plan : PlanTally) (t : ℕ) : Type 0 where
+  pub tally : IsTallyOf p hubs routes plan
+  pub count : length routes ≡ t
+  pub more : t < p.size * p.size
+
+-- whole cuts have come, and no dual of another
+pub record CutsStand (p : Problem) (cuts : List Cut) (duals : List Prices) (sums : List CutTally) : Type 0 where
+  pub sums_are : AreCutSums p cuts sums
+  pub no_dual : duals ≡ []
+
+-- whole cuts have come, and so many duals of another
+pub record DualsStand (p : Problem) (cuts : List Cut) (duals : List Prices) (sums : List CutTally) (t : ℕ) : Type 0 where
+  pub front : List CutTally
+  pub last : CutTally
+  pub split : sums ≡ front ++ last ∷ []
+  pub front_are : AreCutSums p cuts front
+  pub last_is : AreSumsOf p.size duals last
+  pub candidates : All (λ (d : Prices). All (λ (e : ℕ × ℕ). Contains p.candidates e.0) d.u) duals
+  pub count : length duals ≡ t
+  pub more : t < p.size * p.size
+
+-- this dual is listed as far as it has come
+abbrev pub DualStands : ListedDual → Part → Type 0
+DualStands listed (some_values commodity dual) = (listed.commodity ≡ commodity) × (listed.dual ≡ dual)
+DualStands listed other = Unit {0}
+
+-- so many branches are to be filled, and the path has them
+pub record TreeStands (p : Problem) (pending on_path : List Branching) (places : ℕ) : Type 0 where
+  pub are : on_path ≡ pending
+  pub count : length pending ≡ places
+  pub some : 1 ≤ places
+  pub branches : All (IsBranch p) pending
+
+-- the numbers that weights name are those of cuts
+abbrev pub AreNumbers : List Cut → List (ℕ × ℕ) → Type 0
+AreNumbers cuts weights = All (λ (e : ℕ × ℕ). e.0 ≤ length cuts) weights
+
+-- what failed of a leaf's weights, or their sums
+abbrev pub WeightsStand : Problem → List Cut → Tally → ℕ → List (ℕ × ℕ) → Option code.Kind → Type 0
+WeightsStand p cuts sums denom weights None =
+    AreNumbers cuts weights × (weight_sum weights ≤ denom) × AreLeafSumsOf p.size cuts denom weights sums
+WeightsStand p cuts sums denom weights (Some code.TheVariants.Weight) = AreNumbers cuts weights × (denom < weight_sum weights)
+WeightsStand p cuts sums denom weights (Some code.TheVariants.CutNumber) = AreNumbers cuts weights → ⊥
+WeightsStand p cuts sums denom weights (Some other) = ⊥
+
+abbrev pub LeafStands : Problem → List Cut → Tally → Option code.Kind → Part → Type 0
+LeafStands p cuts sums failure (some_weights denom weights) = WeightsStand p cuts sums denom weights failure
+LeafStands p cuts sums failure other = Unit {0}
+
+-- the hubs of a part
+abbrev pub hubs_of : Part → List ℕ
+hubs_of (some_hubs hubs) = hubs
+hubs_of other = []
+
+abbrev pub Sized : Checks → Progress → Shape → Type 0
+Sized c s shape = IsSized c.instance.now.size s.size shape.size
+
+abbrev pub PlanAbsent : Checks → Progress → Type 0
+PlanAbsent c s = NoPlanYet c.instance.now s.hubs s.routes c.plan c.are_candidates
+
+abbrev pub Cutted : Checks → Progress → Type 0
+Cutted c s = CutsStand c.instance.now s.cuts s.duals c.cuts
+
+-- what is kept at a stage, where a part of the next line has come
+abbrev pub Keeps : Checks → Progress → Stage → Part → Type 0
+Keeps c s want_size part = PlanAbsent c s × Cutted c s
+Keeps c s (want_cost shape) part = Sized c s shape × PlanAbsent c s × Cutted c s
+Keeps c s (want_bound shape) part = Sized c s shape × PlanAbsent c s × Cutted c s
+Keeps c s (want_hubs shape) part =
+    Sized c s shape × HubsStand c.instance.now (hubs_of part) s.routes c.plan c.are_candidates × Cutted c s
+Keeps c s (want_route shape t) part = Sized c s shape × RoutesStand c.instance.now s.hubs s.routes c.plan t × Cutted c s
+Keeps c s (want_cuts shape) part = Sized c s shape × Cutted c s
+Keeps c s (want_cut shape all x) part = Sized c s shape × Cutted c s
+Keeps c s (want_dual shape all x t) part =
+    Sized c s shape × DualsStand c.instance.now s.cuts s.duals c.cuts t × DualStands c.dual part
+Keeps c s (want_nodes shape) part = Sized c s shape × Cutted c s
+Keeps c s (want_tree shape places left) part =
+    Sized c s shape × Cutted c s × TreeStands c.instance.now s.pending c.path.pending places
+    × LeafStands c.instance.now s.cuts c.leaf c.leaf_failure part
+Keeps c s other part = Unit {0}
+
+-- behind the first line
+abbrev pub second_line : Progress
+second_line = record at_start { line = 2 }
+
+-- what a check is where these lines behind the first, and a part of another, have come
+pub record Stands (c : Checks) (lines : List Line) (stage : Stage) (part : Part) : Type 0 where
+  pub line : c.line ≡ (after_lines c.instance.now second_line lines).line
+  pub tells : TellsFirst (conditions_from c.instance.now second_line lines) c.failure
+  pub standing : c.failure ≡ None → StandsFirm c (after_lines c.instance.now second_line lines)
+  pub keeps : c.failure ≡ None → Keeps c (after_lines c.instance.now second_line lines) stage part
+
+-- these items have come
+abbrev pub HasTaken : List Item → Checks → Type 0
+HasTaken given c = (lines : List Line) (stage : Stage) (part : Part) → Leads want_size lines stage
+    → given ≡ flat_map parts_of lines ++ part_items part → IsPart stage part → Stands c lines stage part
+
+-- the ending is that of this certificate
+abbrev pub EndsAs : Problem → Proof → Ending → Type 0
+EndsAs p k (Optimal cost) = AllHold (claims p k) × (k.bound ≡ k.cost) × (natural cost ≡ k.cost)
+EndsAs p k (Bounds bound cost) = AllHold (claims p k) × (k.bound < k.cost) × (natural bound ≡ k.bound) × (natural cost ≡ k.cost)
+EndsAs p k (No kind line) = FailsFirst (claims p k) (kind_of kind) line
+EndsAs p k other = ⊥

@@ -1,0 +1,136 @@
+//! The check of bytes that come piece by piece.
+
+ghost use Rattle.std.specs.Prelude.{◌≡◌, ℕ, ◌≤◌, ◌<◌, ◌++◌, List, [], length, take, IfOk};
+ghost use Rattle.cert_spec.specs.Verdicts.{Why};
+ghost use Rattle.cert_checker.specs.Shows.{verdict_of};
+ghost use Rattle.cert_scan.specs.declared.items.Item.{Item as ItemOf};
+ghost use Rattle.hub_spec.specs.Certificates.{Proof};
+ghost use Rattle.hub_spec.specs.Ranges.{IsInRange};
+ghost use Rattle.cert_scan.specs.Parts.{items_of};
+ghost use Rattle.cert_stream.specs.Taken.{HasTaken, EndsAs};
+ghost use Rattle.cert_stream.specs.Fed.{HasCome, HasFed};
+
+use crate::checks::Checks;
+use cert_checker::Ending;
+use cert_scan::{Fault, Scan};
+use hub_model::{Instance, signed};
+use std::alloc::{AllocError, Global};
+
+// A certificate's text may have at most this many bytes: 2^30.
+const MOST_BYTES: usize = 1_073_741_824;
+
+/// The check of a certificate's text for an instance, of which some bytes have come.
+///
+/// No byte of a piece with which there are more than 2^30 is looked at, and none behind it.
+#[derive(Drop)]
+pub struct Stream<'a> {
+    scan: Scan,
+    checks: Checks<'a>,
+    // How many bytes may still come.
+    room: usize,
+    is_too_long: bool,
+}
+
+impl<'a> Stream<'a> {
+    /// The check of which no byte has come.
+    pub fn new(alloc: Global, instance: &'a Instance) -> Result<Stream<'a>, AllocError>
+        ensures begun { IfOk result (λ stream. HasFed [] stream) }
+        ensures instance { IfOk result (λ stream. stream.checks.instance.now ≡ instance.now) }
+    {
+        Ok(Stream {
+            scan: Scan::new(),
+            checks: Checks::new(alloc, instance)?,
+            room: MOST_BYTES,
+            is_too_long: false,
+        })
+    }
+
+    /// Takes the next bytes. Memory is taken for the sums of cuts alone: where there is none, the check is given up.
+    pub fn feed(mut self, alloc: Global, piece: &[u8]) -> Result<Stream<'a>, AllocError>
+        requires { (bytes : List ℕ) × HasFed bytes self }
+        ensures fed { (bytes : List ℕ) → HasFed bytes self.entry → IfOk result (λ stream. HasFed (bytes ++ piece.now) stream) }
+        ensures instance { IfOk result (λ stream. stream.checks.instance ≡ self.entry.checks.instance) }
+    {
+        if self.is_too_long {
+            return Ok(self);
+        }
+        if piece.len() > self.room {
+            self.is_too_long = true;
+            return Ok(self);
+        }
+        self.advance(alloc, piece)?;
+        self.room -= piece.len();
+        Ok(self)
+    }
+
+    fn advance(&mut self, alloc: Global, piece: &[u8]) -> Result<(), AllocError>
+        requires { (bytes : List ℕ) × (given : List ItemOf) × HasCome bytes given self.old }
+        ensures come { (bytes : List ℕ) (given : List ItemOf) → HasCome bytes given self.old
+            → IfOk result (λ _. (later : List ItemOf) × HasCome (bytes ++ piece.now) later self.new) }
+        ensures room { self.new.room ≡ self.old.room }
+        ensures short { self.new.is_too_long ≡ self.old.is_too_long }
+        ensures instance { self.new.checks.instance ≡ self.old.checks.instance }
+    {
+        let mut at = 0;
+        while at < piece.len() {
+            at += self.take_next(alloc, &piece[at..])?;
+        }
+        Ok(())
+    }
+
+    // Takes bytes up to the one that gives an item, and the item, or all bytes where none does; tells how many.
+    fn take_next(&mut self, alloc: Global, bytes: &[u8]) -> Result<usize, AllocError>
+        requires some { 0 < length bytes.now }
+        requires come { (front : List ℕ) × (given : List ItemOf) × HasCome front given self.old }
+        ensures some { IfOk result (λ n. 0 < n) }
+        ensures within { IfOk result (λ n. n ≤ length bytes.now) }
+        ensures come { (front : List ℕ) (given : List ItemOf) → HasCome front given self.old
+            → IfOk result (λ n. (later : List ItemOf) × HasCome (front ++ take n bytes.now) later self.new) }
+        ensures room { self.new.room ≡ self.old.room }
+        ensures short { self.new.is_too_long ≡ self.old.is_too_long }
+        ensures instance { self.new.checks.instance ≡ self.old.checks.instance }
+    {
+        let (count, given) = self.scan.run(bytes);
+        match given {
+            None => Ok(count),
+            Some(item) => {
+                self.checks.take(alloc, item)?;
+                Ok(count)
+            }
+        }
+    }
+
+    /// How the check of all bytes that were fed ends, however they were cut into pieces.
+    pub fn finish(&self) -> Ending
+        requires { (bytes : List ℕ) × HasFed bytes self.now }
+        ensures { (bytes : List ℕ) → HasFed bytes self.now → Why self.now.checks.instance.now bytes (verdict_of result) }
+    {
+        if self.is_too_long {
+            return Ending::TooLong;
+        }
+        match self.scan.finish() {
+            Some(Fault::BadLine { line }) => Ending::BadLine { line },
+            Some(Fault::Ended { line }) => Ending::Ended { line },
+            None => ending_of(&self.checks),
+        }
+    }
+}
+
+// How the check of a whole certificate ends.
+fn ending_of(checks: &Checks<'_>) -> Ending
+    requires { (k : Proof) × IsInRange k × HasTaken (items_of k) checks.now }
+    ensures { (k : Proof) → IsInRange k → HasTaken (items_of k) checks.now → EndsAs checks.now.instance.now k result }
+{
+    if let Some((kind, line)) = checks.first_failure() {
+        return Ending::No { kind, line };
+    }
+    let bound = checks.bound();
+    let cost = checks.cost();
+    if bound == cost {
+        return Ending::Optimal { cost: signed(cost) };
+    }
+    Ending::Bounds {
+        bound: signed(bound),
+        cost: signed(cost),
+    }
+}

@@ -1,0 +1,134 @@
+//! The conditions of the tree.
+
+ghost use Rattle.std.specs.Prelude.{◌≡◌, ◌≢◌, ◌^◌, ◌-◌, ◌<◌, ◌≤◌, [], None};
+ghost use Rattle.hub_spec.specs.Limits.{most_denominator};
+ghost use Rattle.cert_stream.specs.Steps.{
+  Tried,
+  ended,
+  Ends,
+  rooted,
+  path_filled,
+  BranchTaken,
+  empty_tests,
+  LeafFound,
+  LeafEnds,
+  LeafTaken,
+  IsWeighed,
+  WeightTaken,
+  MayEndLeaf,
+  MayWeight,
+};
+
+use crate::checks::Checks;
+use cert_checker::Kind;
+
+impl<'a> Checks<'a> {
+    pub(crate) fn take_nodes(&mut self)
+        requires { self.old.line < 2 ^ 64 - 1 }
+        ensures { self.new ≡ ended (rooted self.old) None }
+    {
+        self.path.restart();
+        self.end_line(None);
+    }
+
+    pub(crate) fn take_branch(&mut self, k: u32)
+        requires room { self.old.line < 2 ^ 64 - 1 }
+        requires some { self.old.path.pending ≢ [] }
+        ensures { BranchTaken self.old k self.new }
+    {
+        if !self.path.is_free(k) {
+            self.end_line(Some(Kind::Branch));
+            return;
+        }
+        self.path.branch(k);
+        self.end_line(None);
+    }
+
+    pub(crate) fn take_empty(&mut self)
+        requires room { self.old.line < 2 ^ 64 - 1 }
+        requires some { self.old.path.pending ≢ [] }
+        ensures { Ends (empty_tests self.old) (path_filled self.old) self.new }
+    {
+        let found = self.failed_empty();
+        self.path.fill();
+        self.end_line(found);
+    }
+
+    fn failed_empty(&self) -> Option<Kind>
+        requires { self.now.path.pending ≢ [] }
+        ensures { Tried (empty_tests self.now) result self.now.line }
+    {
+        if self.path.is_closed() {
+            return None;
+        }
+        Some(Kind::Empty)
+    }
+
+    pub(crate) fn take_leaf(&mut self, denom: u32, last: bool)
+        requires room { self.old.line < 2 ^ 64 - 1 }
+        requires denom { denom ≤ most_denominator }
+        requires may { MayEndLeaf self.old }
+        ensures { LeafTaken self.old denom last self.new }
+    {
+        self.leaf.begin(denom as u128);
+        self.leaf_failure = None;
+        if !last {
+            return;
+        }
+        self.end_leaf();
+    }
+
+    pub(crate) fn take_weight(&mut self, c: u128, w: u128, last: bool)
+        requires room { self.old.line < 2 ^ 64 - 1 }
+        requires may { MayWeight self.old c }
+        ensures { WeightTaken self.old c w last self.new }
+    {
+        self.add_weight(c, w);
+        if !last {
+            return;
+        }
+        self.end_leaf();
+    }
+
+    fn add_weight(&mut self, c: u128, w: u128)
+        requires { MayWeight self.old c }
+        ensures { IsWeighed self.old c w self.new }
+    {
+        if c > self.cuts.len() as u128 {
+            self.leaf_failure = Some(Kind::CutNumber);
+            return;
+        }
+        if self.leaf_failure.is_some() {
+            return;
+        }
+        if !self.leaf.fits(w) {
+            self.leaf_failure = Some(Kind::Weight);
+            return;
+        }
+        let sums = self.cuts.numbered(c);
+        self.leaf.add(w, sums.total(), sums.loads());
+    }
+
+    fn end_leaf(&mut self)
+        requires room { self.old.line < 2 ^ 64 - 1 }
+        requires may { MayEndLeaf self.old }
+        ensures { LeafEnds self.old self.new }
+    {
+        let found = self.failed_leaf();
+        self.path.fill();
+        self.end_line(found);
+    }
+
+    fn failed_leaf(&self) -> Option<Kind>
+        requires { MayEndLeaf self.now }
+        ensures { LeafFound self.now result }
+    {
+        if self.leaf_failure.is_some() {
+            return self.leaf_failure;
+        }
+        if self.leaf.closes(&self.path, self.instance, self.bound) {
+            return None;
+        }
+        Some(Kind::Leaf)
+    }
+}
