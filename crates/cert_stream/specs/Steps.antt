@@ -93,7 +93,8 @@ pub record CutTaken (old new : Checks) : Type 0 where
 abbrev pub dual_tests : Checks → List Claim
 dual_tests c =
     claim Dual c.line (IsDual c.dual.problem c.dual.commodity c.dual.dual)
-    ∷ if_time (nat_eq (last_of c.cuts).count (c.instance.now.size * c.instance.now.size)) (claim Sum c.line (AreWithin (last_of c.cuts)))
+    ∷ if_time (nat_eq (last_of c.cuts).count (c.instance.now.size * c.instance.now.size))
+    (claim Sum c.line (AreWithin (last_of c.cuts)))
 
 -- with these sums of the cuts
 abbrev pub cut_with : Checks → List CutTally → Checks
@@ -120,7 +121,8 @@ rooted c = record c { path = record c.path { pending = undecided c.path.candidat
 
 abbrev pub branched : Checks → ℕ → Checks
 branched c k =
-    record c { path = record c.path { pending = open_child (next c.path.pending) k ∷ closed_child (next c.path.pending) k ∷ behind_next c.path.pending } }
+    let b = next c.path.pending in
+    record c { path = record c.path { pending = open_child b k ∷ closed_child b k ∷ behind_next c.path.pending } }
 
 abbrev pub path_filled : Checks → Checks
 path_filled c = record c { path = record c.path { pending = behind_next c.path.pending } }
@@ -141,7 +143,8 @@ leaf_with c sums failure = record c { leaf = sums; leaf_failure = failure }
 abbrev pub LeafFound : Checks → Option code.Kind → Type 0
 LeafFound c found =
     MatchOption c.leaf_failure
-    (Tried (claim Leaf c.line (Closes c.leaf.denom c.bound (tally_bound c.instance.now c.leaf (next c.path.pending))) ∷ []) found c.line)
+    (Tried (claim Leaf c.line (Closes c.leaf.denom c.bound (tally_bound c.instance.now c.leaf (next c.path.pending))) ∷ [])
+    found c.line)
     (λ kind. found ≡ Some kind)
 
 pub record LeafEnds (kept new : Checks) : Type 0 where
@@ -158,7 +161,8 @@ pub record LeafTaken (old : Checks) (denom : ℕ) (last : Bool) (new : Checks) :
   pub begun : IsBegun denom (length old.leaf.loads) sums
   pub goes : LeafGoesOn last (leaf_with old sums None) new
 
--- a cut of this number comes with this weight: there is none, or something failed already, or the weight is too much, or it is added
+-- a cut of this number comes with this weight: there is no such cut, or something failed already, or the weight is
+-- too much, or the cut is added
 pub data IsWeighed (old : Checks) (c w : ℕ) (kept : Checks) : Type 0 where
   no_cut : length old.cuts < c → kept ≡ leaf_with old old.leaf (Some code.TheVariants.CutNumber) → IsWeighed old c w kept
   failed : c ≤ length old.cuts → old.leaf_failure ≢ None → kept ≡ old → IsWeighed old c w kept
@@ -179,9 +183,11 @@ pub record WeightTaken (old : Checks) (c w : ℕ) (last : Bool) (new : Checks) :
 abbrev pub IsTaken : Checks → item.Item → Checks → Type 0
 IsTaken old (item.TheVariants.Size n q) new = Ends (size_tests old n q) old new
 IsTaken old (item.TheVariants.Cost cost) new = new ≡ ended (record old { cost = cost }) None
-IsTaken old (item.TheVariants.Bound bound) new = Ends (bound_tests (record old { bound = bound })) (record old { bound = bound }) new
+IsTaken old (item.TheVariants.Bound bound) new =
+    Ends (bound_tests (record old { bound = bound })) (record old { bound = bound }) new
 IsTaken old (item.TheVariants.Hub k last) new = HubTaken old k last new
-IsTaken old (item.TheVariants.Route i j k m) new = Ends (route_tests (routed old (i, j) (k, m)) (k, m)) (routed old (i, j) (k, m)) new
+IsTaken old (item.TheVariants.Route i j k m) new =
+    Ends (route_tests (routed old (i, j) (k, m)) (k, m)) (routed old (i, j) (k, m)) new
 IsTaken old (item.TheVariants.Cuts all) new = new ≡ ended old None
 IsTaken old (item.TheVariants.Cut number) new = CutTaken old new
 IsTaken old (item.TheVariants.Dual i j a last) new = DualGoesOn last (dual_with old (i, j) (record { a = a; u = [] })) new

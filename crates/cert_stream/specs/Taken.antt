@@ -54,8 +54,10 @@ IsPart (want_tree s places left) (some_weights denom weights) = IsLineInRange s.
 IsPart stage nothing = Unit {0}
 IsPart stage other = ⊥
 
--- what is kept whatever line comes next: the dual, the path, the leaf's sums and what was said are those of the instance and the lines
-pub record Standing (p : Problem) (dual_problem : Problem) (path_size : ℕ) (path_candidates : List ℕ) (loads : List ℕ) (cost bound said_cost said_bound : ℕ) : Type 0 where
+-- what is kept whatever line comes next: the dual, the path, the leaf's sums and what was said are those of the
+-- instance and the lines
+pub record Standing (p : Problem) (dual_problem : Problem) (path_size : ℕ) (path_candidates : List ℕ) (loads : List ℕ)
+    (cost bound said_cost said_bound : ℕ) : Type 0 where
   pub problem : IsProblem p
   pub dual_is : dual_problem ≡ p
   pub size_is : path_size ≡ p.size
@@ -83,14 +85,16 @@ abbrev pub AreCutSums : Problem → List Cut → List CutTally → Type 0
 AreCutSums p cuts sums = AllZip (AreSumsOfCut p) cuts sums
 
 -- no plan has come
-pub record NoPlanYet (p : Problem) (hubs : List ℕ) (routes : List (ℕ × ℕ)) (plan : PlanTally) (are_candidates : Bool) : Type 0 where
+pub record NoPlanYet (p : Problem) (hubs : List ℕ) (routes : List (ℕ × ℕ)) (plan : PlanTally)
+    (are_candidates : Bool) : Type 0 where
   pub no_hub : hubs ≡ []
   pub no_route : routes ≡ []
   pub tally : plan ≡ no_plan p.size
   pub known : IsTrue are_candidates
 
 -- these hubs have come, and no route
-pub record HubsStand (p : Problem) (hubs : List ℕ) (routes : List (ℕ × ℕ)) (plan : PlanTally) (are_candidates : Bool) : Type 0 where
+pub record HubsStand (p : Problem) (hubs : List ℕ) (routes : List (ℕ × ℕ)) (plan : PlanTally)
+    (are_candidates : Bool) : Type 0 where
   pub no_route : routes ≡ []
   pub tally : IsTallyOf p hubs [] plan
   pub known : IsTrue are_candidates ↔ All (Contains p.candidates) hubs

@@ -50,6 +50,7 @@ impl<'a> Checks<'a> {
         ensures begun { IfOk result (λ checks. HasTaken [] checks) }
         ensures instance { IfOk result (λ checks. checks.instance.now ≡ instance.now) }
     {
+        // What is known of an instance comes with its size.
         let nodes = instance.size();
         prove!(nodes > 0);
         Ok(Checks {
