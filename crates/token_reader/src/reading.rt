@@ -132,12 +132,12 @@ impl<'a> Reader<'a> {
 
     /// Sees that no token is left.
     #[tactic(auto, unfolding(crate::specs::Unread::fault_here))]
-    pub fn end(&mut self) -> Result<(), InstanceFault>
-        ensures { told result ≡ fault_here nothing self.old }
+    pub fn end(&self) -> Result<(), InstanceFault>
+        ensures { told result ≡ fault_here nothing self.now }
     {
-        match self.token() {
-            Ok((at, _)) => Err(InstanceFault::Extra { at }),
-            Err(_) => Ok(()),
+        match self.ahead {
+            Some((at, _)) => Err(InstanceFault::Extra { at: at as u64 }),
+            None => Ok(()),
         }
     }
 
