@@ -7,13 +7,13 @@ use Rattle.std.proofs.lemmas.Nat.{pow_pos}
 use Rattle.std.proofs.lemmas.Bool.{leb-true, cases_lt}
 use Rattle.std.proofs.lemmas.Bool.Decides.{nat_tests}
 use Rattle.std.proofs.lemmas.List.{map-append}
-use Rattle.std.proofs.lemmas.List.Elements.{All-nil, All-cons, All-weaker}
+use Rattle.std.proofs.lemmas.List.Elements.{All-nil, All-cons, All-head, All-tail, All-append, All-map, All-weaker}
 use Rattle.std.proofs.lemmas.List.Sums.{fold-append, position_or_len_is, fails_before_first, passes_at_first, prefix_len-le-length}
 use Rattle.std.proofs.lemmas.List.FromFn.{length-range_with_len, get_or-range_with_len}
 use Rattle.hub_spec.specs.Problem.{greatest}
 use Rattle.hub_spec.specs.Trees.{Branching}
 use Rattle.hub_model.specs.Amounts.{natural}
-use Rattle.frac_master.specs.Masters.{MasterNumbers, master_of, candidates_of, at_nodes, greatest_number, most_scaled, halved, halvings}
+use Rattle.frac_master.specs.Masters.{MasterNumbers, AreWithinTotals, master_of, candidates_of, at_nodes, greatest_number, most_scaled, halved, halvings}
 use Rattle.frac_master.specs.Theorems.{AreHalvings, LeastHalvings}
 use Rattle.frac_master.specs.Scaled.{AreSmallAt, AreScaled}
 use Rattle.frac_master.proofs.Parts.{all_left, all_right, all_mapped, all_parts}
@@ -63,6 +63,56 @@ greatest_by totals fixed loads b most result most_is result_is =
     ∙ ap (λ n. fold max n of_fixed)
     (most_is ∙ ap (λ ys. fold max 0 (m.totals ++ ys)) (sym (parts_of_rows (at_nodes nodes) loads)) ∙ fold-append max 0 m.totals of_loads)
     ∙ sym (fold-append max (fold max 0 m.totals) of_loads of_fixed) ∙ sym (fold-append max 0 m.totals (of_loads ++ of_fixed))
+
+-- ---- the greatest where no load is above its cut's total
+
+fold_within : (a : ℕ) (xs : List ℕ) → All (λ x. x ≤ a) xs → fold max a xs ≡ a
+fold_within a [] within = refl
+fold_within a (x ∷ xs) within =
+    let low = All-head (λ y. y ≤ a) x xs within in
+    let same : max a x ≡ a = omega arith in
+    ap (λ n. fold max n xs) same ∙ fold_within a xs (All-tail (λ y. y ≤ a) x xs within)
+
+get_within : (a : ℕ) (row : List ℕ) (k : ℕ) → All (λ x. x ≤ a) row → slice_index row k ≤ a
+get_within a [] k within = omega arith
+get_within a (x ∷ row) zero within = All-head (λ y. y ≤ a) x row within
+get_within a (x ∷ row) (suc k) within = get_within a row k (All-tail (λ y. y ≤ a) x row within)
+
+row_within : (a : ℕ) (nodes row : List ℕ) → All (λ x. x ≤ a) row → All (λ x. x ≤ a) (at_nodes nodes row)
+row_within a nodes row within =
+    All-map (λ x. x ≤ a) (slice_index row) nodes (λ k d l. get_within a row (get_or nodes k d) within)
+
+mapped_within : (a : ℕ) (xs : List ℤ) → All (λ x. natural x ≤ a) xs → All (λ x. x ≤ a) (map natural xs)
+mapped_within a [] within = All-nil (λ x. x ≤ a)
+mapped_within a (x ∷ xs) within =
+    All-cons (λ y. y ≤ a) (natural x) (map natural xs) (All-head (λ y. natural y ≤ a) x xs within)
+    (mapped_within a xs (All-tail (λ y. natural y ≤ a) x xs within))
+
+rows_within : (a : ℕ) (nodes : List ℕ) (totals : List ℤ) (loads : List (Vec ℤ Global))
+    → AreWithinTotals totals (map (λ (v : Vec ℤ Global). v.items) loads) → All (λ x. x ≤ a) (map natural totals)
+    → All (λ x. x ≤ a) (flat_map (λ (v : Vec ℤ Global). at_nodes nodes (map natural v.items)) loads)
+rows_within a nodes [] [] within low = All-nil (λ x. x ≤ a)
+rows_within a nodes [] (v ∷ loads) within low = absurd within
+rows_within a nodes (t ∷ totals) [] within low = absurd within
+rows_within a nodes (t ∷ totals) (v ∷ loads) within low =
+    let total = All-head (λ x. x ≤ a) (natural t) (map natural totals) low in
+    let row : All (λ x. natural x ≤ a) v.items =
+    All-weaker (λ x. natural x ≤ natural t) (λ x. natural x ≤ a) (λ x le. omega (arith, le, total)) v.items within.0 in
+    All-append (λ x. x ≤ a) (at_nodes nodes (map natural v.items)) (flat_map (λ (v : Vec ℤ Global). at_nodes nodes (map natural v.items)) loads)
+    (row_within a nodes (map natural v.items) (mapped_within a v.items row))
+    (rows_within a nodes totals loads within.1 (All-tail (λ x. x ≤ a) (natural t) (map natural totals) low))
+
+pub greatest_within : (totals fixed : List ℤ) (loads : List (Vec ℤ Global)) (b : Branching) (most result : ℕ)
+    → AreWithinTotals totals (map (λ (v : Vec ℤ Global). v.items) loads)
+    → most ≡ fold max 0 (map natural totals) → result ≡ fold max most (at_nodes (candidates_of b) (map natural fixed))
+    → result ≡ greatest_number (master_of totals (map (λ (v : Vec ℤ Global). v.items) loads) fixed) b
+greatest_within totals fixed loads b most result within most_is result_is =
+    let of_totals = map natural totals in
+    let of_loads = flat_map (λ (v : Vec ℤ Global). at_nodes (candidates_of b) (map natural v.items)) loads in
+    let top = fold max 0 of_totals in
+    let below = rows_within top (candidates_of b) totals loads within (fold_max 0 of_totals).1 in
+    greatest_by totals fixed loads b most result
+    (most_is ∙ sym (fold_within top of_loads below) ∙ sym (fold-append max 0 of_totals of_loads)) result_is
 
 halved_le : (h x y : ℕ) → x ≤ y → halved h x ≤ halved h y
 halved_le h x y le =

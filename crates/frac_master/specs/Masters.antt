@@ -1,6 +1,6 @@
 -- The master problem of a branch, scaled to small whole numbers, as the first table of a linear program.
-use Rattle.std.specs.Prelude.{◌≡◌, ℕ, ◌+◌, ◌/◌, ◌^◌, ◌==◌, nat_le, if◌then◌else◌, List, [], ◌∷◌, ◌++◌, map, length, slice_index, slice_index_or, sum_by, All, ℤ, pos, ◌-ℤ◌, neg_ℤ}
-use Rattle.std.specs.List.{range_with_len, flat_map, position_or_len}
+use Rattle.std.specs.Prelude.{◌≡◌, ℕ, ◌+◌, ◌/◌, ◌^◌, ◌==◌, ◌≤◌, nat_le, if◌then◌else◌, List, [], ◌∷◌, ◌++◌, map, length, slice_index, slice_index_or, sum_by, All, ℤ, pos, ◌-ℤ◌, neg_ℤ}
+use Rattle.std.specs.List.{range_with_len, flat_map, position_or_len, AllZip}
 use Rattle.hub_spec.specs.Problem.{greatest}
 use Rattle.hub_spec.specs.Trees.{Branching}
 use Rattle.hub_model.specs.Amounts.{natural, IsNatural}
@@ -27,6 +27,10 @@ pub record AreMasterNumbers (totals : List ℤ) (loads : List (List ℤ)) (fixed
   pub totals_low : All IsNatural totals
   pub loads_low : All (λ row. All IsNatural row) loads
   pub fixed_low : All IsNatural fixed
+
+-- no load is above its cut's total
+abbrev pub AreWithinTotals : List ℤ → List (List ℤ) → Type 0
+AreWithinTotals totals loads = AllZip (λ total row. All (λ x. natural x ≤ natural total) row) totals loads
 
 -- the nodes that the branch speaks of
 abbrev pub candidates_of : Branching → List ℕ

@@ -1,11 +1,13 @@
 //! What a master advises.
 
 ghost use Rattle.std.specs.Prelude.{◌≡◌, ◌<◌, length, map, All, IfOk};
-ghost use Rattle.frac_master.specs.Masters.{AreMasterNumbers, master_of, candidates_of};
+ghost use Rattle.frac_master.specs.Masters.{AreMasterNumbers, AreWithinTotals, master_of, candidates_of, greatest_number};
 ghost use Rattle.frac_master.specs.Advice.{advice, advice_of_code, AreMixWeights};
 
+use crate::Ended;
+use crate::masters::rows_under;
 use crate::reading::{point_of, scale_of, weights_of};
-use crate::{Ended, rows_of};
+use crate::scaling::{greatest_by_totals, greatest_number};
 use hub_model::Branch;
 use std::alloc::{AllocError, Global};
 
@@ -40,7 +42,47 @@ pub fn advise(
         (λ a. advice_of_code a ≡ advice (master_of totals.now (map (λ v. v.items) loads.now) fixed.now) branch.now) }
     ensures weights { IfOk result (λ a. AreMixWeights (length totals.now) a.weights.items) }
 {
-    let mut rows = rows_of(alloc, totals, loads, fixed, branch)?;
+    let greatest = greatest_number(totals, loads, fixed, branch);
+    advise_under(alloc, totals, loads, fixed, branch, greatest)
+}
+
+/// The same for cuts of which none has a load above its total. No load is looked at for the greatest number.
+pub fn advise_by_totals(
+    alloc: Global,
+    totals: &[i128],
+    loads: &[Vec<i128>],
+    fixed: &[i128],
+    branch: &Branch,
+) -> Result<Advice, AllocError>
+    requires numbers { AreMasterNumbers totals.now (map (λ v. v.items) loads.now) fixed.now }
+    requires nodes { All (λ k. k < length fixed.now) (candidates_of branch.now) }
+    requires within { AreWithinTotals totals.now (map (λ v. v.items) loads.now) }
+    ensures advice { IfOk result
+        (λ a. advice_of_code a ≡ advice (master_of totals.now (map (λ v. v.items) loads.now) fixed.now) branch.now) }
+    ensures weights { IfOk result (λ a. AreMixWeights (length totals.now) a.weights.items) }
+{
+    let greatest = greatest_by_totals(totals, loads, fixed, branch);
+    advise_under(alloc, totals, loads, fixed, branch, greatest)
+}
+
+// The same, where the greatest number is known.
+fn advise_under(
+    alloc: Global,
+    totals: &[i128],
+    loads: &[Vec<i128>],
+    fixed: &[i128],
+    branch: &Branch,
+    greatest: u128,
+) -> Result<Advice, AllocError>
+    requires numbers { AreMasterNumbers totals.now (map (λ v. v.items) loads.now) fixed.now }
+    requires nodes { All (λ k. k < length fixed.now) (candidates_of branch.now) }
+    requires greatest { greatest
+        ≡ greatest_number (master_of totals.now (map (λ v. v.items) loads.now) fixed.now) branch.now }
+    ensures advice { IfOk result
+        (λ a. advice_of_code a ≡ advice (master_of totals.now (map (λ v. v.items) loads.now) fixed.now) branch.now) }
+    ensures weights { IfOk result (λ a. AreMixWeights (length totals.now) a.weights.items) }
+{
+    let mut rows = rows_under(alloc, totals, loads, fixed, branch, greatest)?;
     // Behind the variables stand the slacks, v and the right side.
     let variables = rows.columns() - rows.constraints() - 2;
     let (ended, pivots) = rows.run();

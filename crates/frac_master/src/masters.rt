@@ -1,7 +1,7 @@
 //! The rows of a master before the first pivot.
 
 ghost use Rattle.std.specs.Prelude.{◌≡◌, ◌+◌, ◌*◌, ◌^◌, ◌<◌, ◌≤◌, false, length, map, All, IfOk};
-ghost use Rattle.frac_master.specs.Masters.{AreMasterNumbers, master_of, master, candidates_of};
+ghost use Rattle.frac_master.specs.Masters.{AreMasterNumbers, master_of, master, candidates_of, greatest_number};
 
 use crate::Rows;
 use crate::columns::{columns_of, rights_of};
@@ -37,10 +37,30 @@ pub fn rows_of(
     ensures { IfOk result
         (λ rows. rows ≡ master (master_of totals.now (map (λ v. v.items) loads.now) fixed.now) branch.now) }
 {
+    let greatest = greatest_number(totals, loads, fixed, branch);
+    rows_under(alloc, totals, loads, fixed, branch, greatest)
+}
+
+/// The same, where the greatest number is known.
+pub(crate) fn rows_under(
+    alloc: Global,
+    totals: &[i128],
+    loads: &[Vec<i128>],
+    fixed: &[i128],
+    branch: &Branch,
+    greatest: u128,
+) -> Result<Rows, AllocError>
+    requires numbers { AreMasterNumbers totals.now (map (λ v. v.items) loads.now) fixed.now }
+    requires nodes { All (λ k. k < length fixed.now) (candidates_of branch.now) }
+    requires greatest { greatest
+        ≡ greatest_number (master_of totals.now (map (λ v. v.items) loads.now) fixed.now) branch.now }
+    ensures { IfOk result
+        (λ rows. rows ≡ master (master_of totals.now (map (λ v. v.items) loads.now) fixed.now) branch.now) }
+{
     if is_beyond_rows(totals.len(), branch) {
         return Err(AllocError);
     }
-    let halvings = halvings(greatest_number(totals, loads, fixed, branch));
+    let halvings = halvings(greatest);
     let columns = columns_of(alloc, totals, loads, branch, halvings)?;
     let rights = rights_of(alloc, fixed, branch.free(), halvings)?;
     let variables = totals.len() + branch.free().len();

@@ -2,7 +2,7 @@
 
 ghost use Rattle.std.specs.Prelude.{◌≡◌, ◌<◌, ◌≤◌, length, map, fold, max, All};
 ghost use Rattle.hub_model.specs.Amounts.{natural, IsNatural};
-ghost use Rattle.frac_master.specs.Masters.{AreMasterNumbers, master_of, candidates_of, at_nodes, greatest_number, most_scaled, halved, halvings};
+ghost use Rattle.frac_master.specs.Masters.{AreMasterNumbers, AreWithinTotals, master_of, candidates_of, at_nodes, greatest_number, most_scaled, halved, halvings};
 
 use hub_model::{Branch, unsigned};
 
@@ -26,6 +26,25 @@ pub(crate) fn greatest_number(
     }
     for row in loads {
         most = greatest_of_candidates(most, row, branch);
+    }
+    greatest_of_candidates(most, fixed, branch)
+}
+
+/// The same where no load is above its cut's total, so that the loads are not looked at.
+pub(crate) fn greatest_by_totals(
+    totals: &[i128],
+    loads: &[Vec<i128>],
+    fixed: &[i128],
+    branch: &Branch,
+) -> u128
+    requires numbers { AreMasterNumbers totals.now (map (λ v. v.items) loads.now) fixed.now }
+    requires nodes { All (λ k. k < length fixed.now) (candidates_of branch.now) }
+    requires within { AreWithinTotals totals.now (map (λ v. v.items) loads.now) }
+    ensures { result ≡ greatest_number (master_of totals.now (map (λ v. v.items) loads.now) fixed.now) branch.now }
+{
+    let mut most = 0;
+    for total in totals {
+        most = unsigned(*total).max(most);
     }
     greatest_of_candidates(most, fixed, branch)
 }

@@ -8,7 +8,7 @@ use Rattle.frac_master.specs.Scaled.{IsSmallRow}
 use Rattle.frac_master.proofs.Scalings.{scaled_by}
 use Rattle.frac_master.proofs.MasterColumns.{length-rights_of}
 use Rattle.frac_master.proofs.WholeMasters.{small_cuts, small_free, master_length, master_limit, right_limit, master_made}
-use Rattle.frac_master.proofs.masters.rows_of.Goals as goal
+use Rattle.frac_master.proofs.masters.rows_under.Goals as goal
 
 pub columns_of-requires : goal.columns_of-requires
 columns_of-requires c =
@@ -16,7 +16,7 @@ columns_of-requires c =
     let m = master_of c.args.totals.now loads c.args.fixed.now in
     let h = c.halvings-halvings.result in
     small_cuts c.args.totals.now loads c.args.fixed.now c.args.branch.now h c.requires.numbers c.requires.nodes c.halvings-halvings.ensures.few
-    (scaled_by h m c.args.branch.now (rw (← c.greatest_number.ensures) c.halvings-halvings.ensures.enough))
+    (scaled_by h m c.args.branch.now (rw (← c.requires.greatest) c.halvings-halvings.ensures.enough))
     (c.is_beyond_rows.ensures.inside c.if-is_beyond_rows.false) (c.is_beyond_rows.ensures.columns c.if-is_beyond_rows.false)
 
 pub rights_of-requires : goal.rights_of-requires
@@ -26,7 +26,7 @@ rights_of-requires c =
     let h = c.halvings-halvings.result in
     rw c.free.ensures.value
     (small_free c.args.totals.now loads c.args.fixed.now c.args.branch.now h c.requires.numbers c.requires.nodes c.halvings-halvings.ensures.few
-    (scaled_by h m c.args.branch.now (rw (← c.greatest_number.ensures) c.halvings-halvings.ensures.enough)))
+    (scaled_by h m c.args.branch.now (rw (← c.requires.greatest) c.halvings-halvings.ensures.enough)))
 
 pub start-requires-clause-long : goal.start-requires-clause-long
 start-requires-clause-long c =
@@ -47,7 +47,7 @@ start-requires-clause-columns_limit c =
     let b = c.args.branch.now in
     let rows = map (λ (v : Vec ℤ Global). v.items) c.args.loads.now in
     let m = master_of c.args.totals.now rows c.args.fixed.now in
-    master_limit h b m.totals m.fixed m.loads c.in_ok-columns.columns.items (scaled_by h m b (rw (← c.greatest_number.ensures) c.halvings-halvings.ensures.enough))
+    master_limit h b m.totals m.fixed m.loads c.in_ok-columns.columns.items (scaled_by h m b (rw (← c.requires.greatest) c.halvings-halvings.ensures.enough))
     (c.is_beyond_rows.ensures.inside c.if-is_beyond_rows.false) c.in_ok-columns.ensures
 
 pub start-requires-clause-rights_limit : goal.start-requires-clause-rights_limit
@@ -58,7 +58,7 @@ start-requires-clause-rights_limit c =
     let m = master_of c.args.totals.now rows c.args.fixed.now in
     let row : IsSmallRow h b.free c.args.fixed.now =
     small_free c.args.totals.now rows c.args.fixed.now b h c.requires.numbers c.requires.nodes c.halvings-halvings.ensures.few
-    (scaled_by h m b (rw (← c.greatest_number.ensures) c.halvings-halvings.ensures.enough)) in
+    (scaled_by h m b (rw (← c.requires.greatest) c.halvings-halvings.ensures.enough)) in
     right_limit h m.fixed b.free c.deref.result.now row.small
     (c.deref.ensures.value ∙ c.in_ok-rights.ensures ∙ ap (λ ks. rights_of h (map natural c.args.fixed.now) ks) c.free.ensures.value)
 
@@ -82,8 +82,8 @@ returns c =
     let free : length c.free-2.result.now ≡ length b.free = ap length c.free-2.ensures.value in
     let same : start (pieces (length c.deref.result.now + 1) (length totals + length c.free-2.result.now) c.in_ok-columns.columns.items) c.deref.result.now
     ≡ master (master_of totals rows fixed) b =
-    master_made totals rows fixed b h c.greatest_number.result (length totals + length c.free-2.result.now) c.in_ok-columns.columns.items c.deref.result.now
-    c.greatest_number.ensures c.halvings-halvings.ensures.value c.in_ok-columns.ensures
+    master_made totals rows fixed b h c.args.greatest (length totals + length c.free-2.result.now) c.in_ok-columns.columns.items c.deref.result.now
+    c.requires.greatest c.halvings-halvings.ensures.value c.in_ok-columns.ensures
     (c.deref.ensures.value ∙ c.in_ok-rights.ensures ∙ ap (λ ks. rights_of h (map natural fixed) ks) c.free.ensures.value)
     (ap (λ n. length totals + n) free) in
     subst (λ t. IfOk c.start.result (λ rows. rows ≡ t)) same c.start.ensures
