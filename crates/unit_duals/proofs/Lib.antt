@@ -12,3 +12,4 @@ pub mod HubLengths
 pub mod WholeOrigins
 pub mod FirstRoutes
 pub mod SetStretches
+pub mod PriceLimits

@@ -17,6 +17,7 @@
 mod duals;
 mod filling;
 mod hops;
+mod lanes;
 mod legs;
 mod lengths;
 mod lowering;

@@ -3,13 +3,15 @@
 //! Values stand row by row, a row for each place. Slack and rest have rows too, for the places whose turn is over:
 //! what the price leaves beside a value and its last leg, and beside the value alone.
 
-ghost use Rattle.std.specs.Prelude.{◌≡◌, ◌+◌, ◌-◌, ◌*◌, ◌<◌, ◌≤◌, length, slice_index};
+ghost use Rattle.std.specs.Prelude.{◌≡◌, ℕ, ◌+◌, ◌-◌, ◌*◌, ◌<◌, ◌≤◌, length, slice_index, All};
 ghost use Rattle.unit_duals.specs.Cells.{cell};
+ghost use Rattle.unit_duals.specs.Limits.{most_length};
 ghost use Rattle.unit_duals.specs.Lengths.{AreFirstLegs, last_leg, stops};
 ghost use Rattle.unit_duals.specs.Values.{AreRowsDone, AreRowsNoted, AreWorkLists, IsTurn};
 ghost use Rattle.unit_duals.specs.Raised.{asked_by_hubs, asked_forth, asked_home, IsSparedForth, IsSparedHome, IsRowRaised, IsRowSet};
 
 use crate::Tables;
+use crate::lanes::{excess, lesser};
 use crate::legs::row;
 use crate::raising::{raise_forth, raise_home};
 
@@ -23,7 +25,8 @@ pub(crate) fn pull_values(
     rest: &mut [u64],
     values: &mut [u64],
 )
-    requires { AreWorkLists tables.now.legs prices.now first.now reach.now slack.old rest.old values.old }
+    requires lists { AreWorkLists tables.now.legs prices.now first.now reach.now slack.old rest.old values.old }
+    requires limit { All (λ d. d ≤ most_length) prices.now }
     ensures { AreRowsDone tables.now.legs prices.now first.now reach.now tables.now.legs.count values.new }
 {
     for t in 0..tables.count() {
@@ -45,6 +48,7 @@ fn pull_row(
 )
     requires lists { AreWorkLists tables.now.legs prices.now first.now reach.now slack.now rest.now values.old }
     requires place { t < tables.now.legs.count }
+    requires limit { All (λ d. d ≤ most_length) prices.now }
     requires noted { AreRowsNoted tables.now.legs prices.now first.now reach.now t values.old slack.now rest.now }
     requires before { AreRowsDone tables.now.legs prices.now first.now reach.now t values.old }
     ensures noted { AreRowsNoted tables.now.legs prices.now first.now reach.now t values.new slack.now rest.now }
@@ -67,6 +71,7 @@ fn set_row(
 )
     requires place { t < tables.now.legs.count }
     requires prices { length prices.now ≡ tables.now.legs.size }
+    requires limit { All (λ d. d ≤ most_length) prices.now }
     requires first { AreFirstLegs tables.now.legs first.now }
     requires reach { AreFirstLegs tables.now.legs reach.now }
     requires values { length values.old ≡ tables.now.legs.count * tables.now.legs.size }
@@ -78,8 +83,8 @@ fn set_row(
     let back = tables.back_row(t);
     let last = tables.last_row(t);
     for j in 0..size {
-        let least = (first[t] + back[j]).min(reach[t] + last[j]);
-        values[at + j] = prices[j].saturating_sub(least);
+        let least = lesser(first[t] + back[j], reach[t] + last[j]);
+        values[at + j] = excess(prices[j], least);
     }
 }
 
@@ -176,7 +181,9 @@ fn set_slack_row(
 )
     requires place { t < tables.now.legs.count }
     requires prices { length prices.now ≡ tables.now.legs.size }
+    requires limit { All (λ d. d ≤ most_length) prices.now }
     requires values { length values.now ≡ tables.now.legs.count * tables.now.legs.size }
+    requires within { (j : ℕ) → j < tables.now.legs.size → cell tables.now.legs.size values.now t j ≤ slice_index prices.now j }
     requires slack { length slack.old ≡ tables.now.legs.count * tables.now.legs.size }
     requires rest { length rest.old ≡ tables.now.legs.count * tables.now.legs.size }
     ensures slack { let l = tables.now.legs in
@@ -188,8 +195,8 @@ fn set_slack_row(
     let at = t * size;
     let last = tables.last_row(t);
     for j in 0..size {
-        let above = prices[j].saturating_sub(values[at + j]);
+        let above = excess(prices[j], values[at + j]);
         rest[at + j] = above;
-        slack[at + j] = above.saturating_sub(last[j]);
+        slack[at + j] = excess(above, last[j]);
     }
 }

@@ -1,6 +1,11 @@
 use Rattle.unit_duals.specs.Values.{origin_of}
+use Rattle.unit_duals.proofs.PriceLimits.{value_within}
 use Rattle.unit_duals.proofs.RowTurns.{slacks_more}
 use Rattle.unit_duals.proofs.turns.pull_values.Goals as goal
+
+pub set_slack_row-requires-clause-within : goal.set_slack_row-requires-clause-within
+set_slack_row-requires-clause-within c = λ j column. (let l = c.args.tables.now.legs in
+    value_within (origin_of l c.args.prices.now c.args.first.now c.args.reach.now) l.size c.loop-t.t j c.pull_row.new.values c.pull_row.ensures.done column)
 
 pub loop-t-preserved : goal.loop-t-preserved
 loop-t-preserved c =

@@ -13,7 +13,7 @@ loop-j-preserved c =
     let value = asked_by_hubs l c.args.prices.now c.args.first.now c.args.reach.now t in
     let back = c.back_row-back.ensures.each j column in
     let last = c.last_row-last.ensures.each j column in
-    subst (λ (n : ℕ). IsRowSet l.size t (j + 1) value c.args.values.now (set c.loop-j.values (t * n + j) c.saturating_sub.result)) (sym c.size-size.ensures.value)
-    (row_set_more l.size t j c.saturating_sub.result value c.args.values.now c.loop-j.values column
+    subst (λ (n : ℕ). IsRowSet l.size t (j + 1) value c.args.values.now (set c.loop-j.values (t * n + j) c.excess.result)) (sym c.size-size.ensures.value)
+    (row_set_more l.size t j c.excess.result value c.args.values.now c.loop-j.values column
     (omega (arith, cell_within t j l.size l.count c.requires.place column, c.requires.values))
-    (omega (arith, c.saturating_sub.ensures, c.min-least.ensures, back, last)) c.loop-j.invariant)
+    (omega (arith, c.excess.ensures, c.lesser-least.ensures, back, last)) c.loop-j.invariant)
