@@ -10,3 +10,4 @@ pub mod OneByte
 pub mod Tracks
 pub mod Finishing
 pub mod Stepping
+pub mod PairRuns

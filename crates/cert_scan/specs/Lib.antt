@@ -4,3 +4,4 @@ pub mod Parts
 pub mod Given
 pub mod Scanned
 pub mod Runs
+pub mod PairAhead

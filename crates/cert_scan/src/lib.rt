@@ -13,8 +13,10 @@
 #![tactic(auto)]
 
 mod bytes;
+mod digits;
 mod heads;
 mod items;
+mod pairs;
 mod places;
 mod scanner;
 mod stages;

@@ -291,7 +291,7 @@ fn take_value_node(n: u32, at: DualAt, before: u32, value: u128, last: bool) -> 
     more(last, Place::ValueAmount(at, value as u32))
 }
 
-fn take_value(n: u32, at: DualAt, number: u32, value: u128, last: bool) -> Move
+pub(crate) fn take_value(n: u32, at: DualAt, number: u32, value: u128, last: bool) -> Move
     ensures { result ≡ taken_by n (ValueAmount at number) value last }
 {
     if value < 1 {

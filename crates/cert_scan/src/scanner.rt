@@ -1,5 +1,5 @@
 //! A scan of the bytes of a text.
-ghost use Rattle.std.specs.Prelude.{◌≡◌, ℕ, ◌++◌, ◌≤◌, List, [], ◌∷◌, length, take, Some, None, IfSome, option_to_list};
+ghost use Rattle.std.specs.Prelude.{◌≡◌, ℕ, ◌++◌, ◌≤◌, List, [], ◌∷◌, length, take, None, IfSome, option_to_list};
 ghost use Rattle.hub_spec.specs.Certificates.{Proof};
 ghost use Rattle.cert_spec.specs.Text.{Spells};
 ghost use Rattle.cert_scan.specs.Scans.{
@@ -16,15 +16,15 @@ ghost use Rattle.cert_scan.specs.Scans.{
 ghost use Rattle.cert_scan.specs.Parts.{items_of};
 ghost use Rattle.cert_scan.specs.Given.{IsGiven};
 ghost use Rattle.cert_scan.specs.Scanned.{HasScanned, IsLost, AreCountable, Tells};
-ghost use Rattle.cert_scan.specs.Runs.{SpellsOn, Runs};
+ghost use Rattle.cert_scan.specs.Runs.{Runs};
 ghost use Rattle.cert_scan.specs.declared.items.Item.{Item as ItemOf};
 
-use crate::bytes::{Position, after_byte, with_digit};
+use crate::bytes::{Move, Position, after_byte};
+use crate::digits::more_digits;
 use crate::items::{Fault, Item};
+use crate::pairs::pair_ahead;
+use crate::places::{Place, take_value};
 use crate::stages::Stage;
-
-// A number below this takes a digit more in 64 bits.
-const SHORT: u64 = 1_000_000_000_000_000_000;
 
 /// The scan of a text, of which some bytes have come. It takes no memory.
 #[derive(Clone, Copy)]
@@ -73,7 +73,36 @@ impl Scan {
         ensures in_order { (front : List ℕ) (given : List ItemOf) → HasScanned front given self.old
             → IsGiven (given ++ option_to_list result.1) }
     {
+        self.take_run(bytes)
+    }
+
+    fn take_run(&mut self, bytes: &[u8]) -> (usize, Option<Item>)
+        ensures { Runs self.old bytes.now result.0 result.1 self.new }
+    {
+        if let Some(taken) = self.take_pair(bytes) {
+            return taken;
+        }
         self.advance_all(bytes)
+    }
+
+    // Takes the node and the value that a dual lists next, where they stand there whole and as wanted.
+    fn take_pair(&mut self, bytes: &[u8]) -> Option<(usize, Option<Item>)>
+        ensures runs { IfSome result (λ taken. Runs self.old bytes.now taken.0 taken.1 self.new) }
+        ensures same { result ≡ None → self.new ≡ self.old }
+    {
+        let Position::Number(place, value) = self.position else {
+            return None;
+        };
+        let Place::ValueNode(at, before) = place else {
+            return None;
+        };
+        if value.is_some() {
+            return None;
+        }
+        let pair = pair_ahead(self.n, before, bytes)?;
+        let next = take_value(self.n, at, pair.number, pair.value as u128, pair.last);
+        let item = self.go(next);
+        Some((pair.front + 1 + pair.back + 1, item))
     }
 
     fn advance_all(&mut self, bytes: &[u8]) -> (usize, Option<Item>)
@@ -130,90 +159,20 @@ impl Scan {
         ensures given { result ≡ given_by self.old byte }
         ensures after { self.new ≡ stepped self.old byte }
     {
-        let next = after_byte(self.n, self.position, byte);
+        self.go(after_byte(self.n, self.position, byte))
+    }
+
+    fn go(&mut self, next: Move) -> Option<Item>
+        ensures given { result ≡ next.item }
+        ensures nodes { self.new.n ≡ nodes_by self.old.n next.item }
+        ensures line { self.new.line ≡ line_by self.old.line next.position }
+        ensures position { self.new.position ≡ next.position }
+    {
         self.n = nodes_after(self.n, next.item);
         self.line = line_after(self.line, next.position);
         self.position = next.position;
         next.item
     }
-}
-
-// How many of the bytes are digits that go on with a number, and the number with them.
-fn more_digits(first: Option<u128>, bytes: &[u8]) -> (usize, Option<u128>)
-    ensures within { result.0 ≤ length bytes.now }
-    ensures spelled { SpellsOn first (take result.0 bytes.now) result.1 }
-{
-    if first.is_some() {
-        return long_digits(first, bytes);
-    }
-    let (front, short) = short_digits(bytes);
-    let (back, value) = long_digits(widened(short), &bytes[front..]);
-    (front + back, value)
-}
-
-fn widened(value: Option<u64>) -> Option<u128>
-    ensures { result ≡ value }
-{
-    match value {
-        Some(number) => Some(number as u128),
-        None => None,
-    }
-}
-
-fn long_digits(first: Option<u128>, bytes: &[u8]) -> (usize, Option<u128>)
-    ensures within { result.0 ≤ length bytes.now }
-    ensures spelled { SpellsOn first (take result.0 bytes.now) result.1 }
-{
-    let mut value = first;
-    for (i, byte) in bytes.iter().enumerate() {
-        let Some(more) = digit_behind(value, *byte) else {
-            return (i, value);
-        };
-        value = Some(more);
-    }
-    (bytes.len(), value)
-}
-
-// The number with this byte behind it, if it is a digit that may stand there.
-fn digit_behind(value: Option<u128>, byte: u8) -> Option<u128>
-    ensures { IfSome result (λ more. SpellsOn value (byte ∷ []) (Some more)) }
-{
-    if byte < b'0' || byte > b'9' {
-        return None;
-    }
-    with_digit(value, byte)
-}
-
-// The first digits of a number, while 64 bits hold it.
-fn short_digits(bytes: &[u8]) -> (usize, Option<u64>)
-    ensures within { result.0 ≤ length bytes.now }
-    ensures spelled { SpellsOn None (take result.0 bytes.now) result.1 }
-{
-    let mut value = None;
-    for (i, byte) in bytes.iter().enumerate() {
-        let Some(more) = short_digit_behind(value, *byte) else {
-            return (i, value);
-        };
-        value = Some(more);
-    }
-    (bytes.len(), value)
-}
-
-// The number with this byte behind it, if it is a digit that may stand there and the number is short.
-fn short_digit_behind(value: Option<u64>, byte: u8) -> Option<u64>
-    ensures { IfSome result (λ more. SpellsOn value (byte ∷ []) (Some more)) }
-{
-    if byte < b'0' || byte > b'9' {
-        return None;
-    }
-    let digit = (byte - b'0') as u64;
-    let Some(front) = value else {
-        return Some(digit);
-    };
-    if front < 1 || front >= SHORT {
-        return None;
-    }
-    Some(front * 10 + digit)
 }
 
 fn fault_of(line: u64, position: Position) -> Option<Fault>

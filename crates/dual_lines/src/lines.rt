@@ -10,7 +10,7 @@ ghost use Rattle.hub_model.specs.Amounts.{natural, IsNatural};
 use crate::amounts::Priced;
 use crate::places::{clear, put_unit, set_places};
 use crate::tables::CandidateLegs;
-use crate::units::{is_covered, unit_value};
+use crate::units::{inverse_of, is_covered, unit_value};
 use hub_model::{Instance, unsigned};
 use std::alloc::{AllocError, Global};
 use std::marker::Model;
@@ -24,6 +24,7 @@ pub struct DualLine<'a> {
     places: Vec<u32>,
     line: Priced,
     carried: u64,
+    inverse: u64,
     listed: Vec<(u32, u128)>,
     are_candidates: bool,
     amounts: Vec<u128>,
@@ -61,6 +62,7 @@ impl<'a> DualLine<'a> {
                 price: 0,
             },
             carried: flow_between(instance, 0, 0),
+            inverse: 0,
             listed: Vec::with_capacity(alloc, nodes)?,
             are_candidates: true,
             amounts: vec![in alloc; 0; nodes]?,
@@ -89,6 +91,7 @@ impl<'a> DualLine<'a> {
             price: unsigned(a),
         };
         self.carried = flow_between(self.legs.instance(), i, j);
+        self.inverse = inverse_of(self.carried);
         self.are_candidates = true;
     }
 
@@ -103,7 +106,7 @@ impl<'a> DualLine<'a> {
         } }
     {
         let amount = unsigned(u);
-        let unit = unit_value(amount, self.carried);
+        let unit = unit_value(amount, self.carried, self.inverse);
         self.listed.push_reserved((k, amount));
         self.amounts[k as usize] = amount;
         let placed = put_unit(&self.places, k, unit, &mut self.units);

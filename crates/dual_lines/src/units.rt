@@ -69,14 +69,63 @@ fn unit_price(price: u128, carried: u64) -> Option<u64>
     Some(rounded as u64)
 }
 
-/// The value by unit of flow, rounded down, and cut.
-pub(crate) fn unit_value(amount: u128, carried: u64) -> u64
+/// The value by unit of flow, rounded down, and cut. The inverse is that of the flow by `inverse_of`: where it is another
+/// number, the value by unit of flow may be told as less.
+pub(crate) fn unit_value(amount: u128, carried: u64, inverse: u64) -> u64
+    ensures all { carried * result ≤ amount }
+    ensures one { result ≤ amount }
+    ensures limit { result ≤ most_unit }
+{
+    if amount > u64::MAX as u128 {
+        return divided(amount, carried);
+    }
+    short_unit_value(amount as u64, carried.max(1), inverse)
+}
+
+/// What amounts are multiplied by, in place of a division by the flow: 2^64 by unit of flow.
+pub(crate) fn inverse_of(carried: u64) -> u64 {
+    u64::MAX / carried.max(1)
+}
+
+/// The value by unit of flow, rounded down, and cut, by a division.
+fn divided(amount: u128, carried: u64) -> u64
     ensures all { carried * result ≤ amount }
     ensures one { result ≤ amount }
     ensures limit { result ≤ most_unit }
 {
     let carried = carried.max(1) as u128;
     (amount / carried).min(MOST_UNIT as u128) as u64
+}
+
+/// The quotient by multiplication. It is the product with the inverse or 1 more.
+fn short_unit_value(amount: u64, divisor: u64, inverse: u64) -> u64
+    requires some { 1 ≤ divisor }
+    ensures all { divisor * result ≤ amount }
+    ensures limit { result ≤ most_unit }
+{
+    let low = upper_half(amount, inverse).min(MOST_UNIT - 1);
+    if is_within(low + 1, divisor, amount) {
+        low + 1
+    } else if is_within(low, divisor, amount) {
+        low
+    } else {
+        0
+    }
+}
+
+/// The product of two numbers by 2^64, rounded down.
+fn upper_half(a: u64, b: u64) -> u64 {
+    ((a as u128).wrapping_mul(b as u128) >> 64) as u64
+}
+
+/// Tells whether so many times the divisor are no more than the amount.
+fn is_within(times: u64, divisor: u64, amount: u64) -> bool
+    ensures { IsTrue result → divisor * times ≤ amount }
+{
+    match divisor.checked_mul(times) {
+        Some(product) => product <= amount,
+        None => false,
+    }
 }
 
 /// Tells whether the price is covered with each candidate as the first hub, by unit of flow where that suffices.

@@ -2,7 +2,7 @@ use Rattle.cert_scan.proofs.Stepping.{run_scanned, run_given}
 use Rattle.cert_scan.proofs.scanner.Scan.run.Goals as goal
 
 pub returns-clause-scanned : goal.returns-clause-scanned
-returns-clause-scanned c = run_scanned c.args.self.now c.advance_all.new.self c.args.bytes.now c.advance_all.result.0 c.advance_all.result.1 c.advance_all.ensures
+returns-clause-scanned c = run_scanned c.args.self.now c.take_run.new.self c.args.bytes.now c.take_run.result.0 c.take_run.result.1 c.take_run.ensures
 
 pub returns-clause-in_order : goal.returns-clause-in_order
-returns-clause-in_order c = run_given c.args.self.now c.advance_all.new.self c.args.bytes.now c.advance_all.result.0 c.advance_all.result.1 c.advance_all.ensures
+returns-clause-in_order c = run_given c.args.self.now c.take_run.new.self c.args.bytes.now c.take_run.result.0 c.take_run.result.1 c.take_run.ensures

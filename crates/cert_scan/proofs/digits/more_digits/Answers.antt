@@ -1,7 +1,7 @@
 use Rattle.std.proofs.Common.{◌∙◌, ◌-◌, take, drop, length, subst, sym}
 use Rattle.cert_scan.specs.Runs.{SpellsOn}
 use Rattle.cert_scan.proofs.Stepping.{spells_both, none_of}
-use Rattle.cert_scan.proofs.scanner.more_digits.Goals as goal
+use Rattle.cert_scan.proofs.digits.more_digits.Goals as goal
 
 pub returns-clause-spelled : goal.returns-clause-spelled
 returns-clause-spelled c =

@@ -2,7 +2,7 @@ use Rattle.std.proofs.Common.{take, get_or, Some, sym, subst, length, ◌<◌, a
 use Rattle.std.proofs.lemmas.List.{take_more}
 use Rattle.cert_scan.specs.Runs.{SpellsOn}
 use Rattle.cert_scan.proofs.Stepping.{spells_more}
-use Rattle.cert_scan.proofs.scanner.long_digits.Goals as goal
+use Rattle.cert_scan.proofs.digits.long_digits.Goals as goal
 
 pub loop-i-preserved : goal.loop-i-preserved
 loop-i-preserved c =

@@ -1,6 +1,0 @@
-use Rattle.std.proofs.Common.{take, None}
-use Rattle.cert_scan.specs.Runs.{SpellsOn}
-use Rattle.cert_scan.proofs.scanner.short_digits.Given as goal
-
-abbrev pub invariant-loop-i : goal.invariant-loop-i
-invariant-loop-i l = SpellsOn None (take l.i l.bytes) l.value

@@ -1,0 +1,17 @@
+-- A node and a value that a dual lists, whole in the bytes at hand.
+use Rattle.std.specs.Prelude.{◌≡◌, ℕ, ◌+◌, ◌-◌, ◌<◌, ◌≤◌, List, length, take, drop, slice_index, Some, None, true, false}
+use Rattle.cert_scan.specs.Runs.{SpellsOn}
+use Rattle.cert_scan.specs.declared.pairs.Pair.{Pair}
+
+-- the number of one of n nodes after the one before it, a space, a value, and the byte that ends it
+pub record IsPairAhead (n before : ℕ) (bytes : List ℕ) (pair : Pair) : Type 0 where
+  pub node : SpellsOn None (take pair.front bytes) (Some pair.number)
+  pub above : before < pair.number
+  pub within : pair.number ≤ n
+  pub space : slice_index bytes pair.front ≡ 32
+  pub amount : SpellsOn None (take pair.back (take (length bytes - (pair.front + 1)) (drop (pair.front + 1) bytes))) (Some pair.value)
+  pub some : 1 ≤ pair.value
+  pub room : pair.front + 1 + pair.back < length bytes
+  pub fits : pair.back ≤ length (take (length bytes - (pair.front + 1)) (drop (pair.front + 1) bytes))
+  pub line_end : pair.last ≡ true → slice_index bytes (pair.front + 1 + pair.back) ≡ 10
+  pub more : pair.last ≡ false → slice_index bytes (pair.front + 1 + pair.back) ≡ 32

@@ -1,0 +1,95 @@
+//! Digits that spell a number.
+ghost use Rattle.std.specs.Prelude.{◌≡◌, ◌≤◌, [], ◌∷◌, length, take, Some, None, IfSome};
+ghost use Rattle.cert_scan.specs.Runs.{SpellsOn};
+
+use crate::bytes::with_digit;
+
+// A number below this takes a digit more in 64 bits.
+const SHORT: u64 = 1_000_000_000_000_000_000;
+
+// How many of the bytes are digits that go on with a number, and the number with them.
+pub(crate) fn more_digits(first: Option<u128>, bytes: &[u8]) -> (usize, Option<u128>)
+    ensures within { result.0 ≤ length bytes.now }
+    ensures spelled { SpellsOn first (take result.0 bytes.now) result.1 }
+{
+    if first.is_some() {
+        return long_digits(first, bytes);
+    }
+    let (front, short) = short_digits(bytes);
+    let (back, value) = long_digits(widened(short), &bytes[front..]);
+    (front + back, value)
+}
+
+fn widened(value: Option<u64>) -> Option<u128>
+    ensures { result ≡ value }
+{
+    match value {
+        Some(number) => Some(number as u128),
+        None => None,
+    }
+}
+
+fn long_digits(first: Option<u128>, bytes: &[u8]) -> (usize, Option<u128>)
+    ensures within { result.0 ≤ length bytes.now }
+    ensures spelled { SpellsOn first (take result.0 bytes.now) result.1 }
+{
+    let mut value = first;
+    for (i, byte) in bytes.iter().enumerate() {
+        let Some(more) = digit_behind(value, *byte) else {
+            return (i, value);
+        };
+        value = Some(more);
+    }
+    (bytes.len(), value)
+}
+
+// The number with this byte behind it, if it is a digit that may stand there.
+fn digit_behind(value: Option<u128>, byte: u8) -> Option<u128>
+    ensures { IfSome result (λ more. SpellsOn value (byte ∷ []) (Some more)) }
+{
+    if byte < b'0' || byte > b'9' {
+        return None;
+    }
+    with_digit(value, byte)
+}
+
+// The first digits of a number, while 64 bits hold it.
+pub(crate) fn short_digits(bytes: &[u8]) -> (usize, Option<u64>)
+    ensures within { result.0 ≤ length bytes.now }
+    ensures spelled { SpellsOn None (take result.0 bytes.now) result.1 }
+{
+    if bytes.len() == 0 {
+        return (0, None);
+    }
+    let Some(first) = first_digit(bytes[0]) else {
+        return (0, None);
+    };
+    let mut value = first;
+    for i in 1..bytes.len() {
+        let Some(more) = short_digit_behind(value, bytes[i]) else {
+            return (i, Some(value));
+        };
+        value = more;
+    }
+    (bytes.len(), Some(value))
+}
+
+// The number of this digit, if it is one.
+fn first_digit(byte: u8) -> Option<u64>
+    ensures { IfSome result (λ digit. SpellsOn None (byte ∷ []) (Some digit)) }
+{
+    if byte < b'0' || byte > b'9' {
+        return None;
+    }
+    Some((byte - b'0') as u64)
+}
+
+// The number with this byte behind it, if it is a digit that may stand there and the number is short.
+fn short_digit_behind(value: u64, byte: u8) -> Option<u64>
+    ensures { IfSome result (λ more. SpellsOn (Some value) (byte ∷ []) (Some more)) }
+{
+    if byte < b'0' || byte > b'9' || value < 1 || value >= SHORT {
+        return None;
+    }
+    Some(value * 10 + (byte - b'0') as u64)
+}
