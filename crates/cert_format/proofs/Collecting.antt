@@ -1,24 +1,99 @@
--- What all lines of a certificate give is the certificate.
-use Rattle.std.proofs.Common.{◌≡◌, ℕ, ◌+◌, ◌*◌, ◌<◌, ◌≤◌, List, [], ◌∷◌, ◌++◌, length, map, flat_map, zip, refl, sym, ap, ap₂, ◌∙◌, arith, append_assoc, append-nil, length-append, mul-pos}
+-- What the items of a certificate give is the certificate.
+use Rattle.std.proofs.Common.{◌≡◌, ℕ, ◌+◌, ◌*◌, List, [], ◌∷◌, ◌++◌, length, map, flat_map, zip, refl, sym, ap, ◌∙◌, arith, append_assoc, append-nil}
 use Rattle.std.specs.List.{AllByRecursion, enumerate_from}
-use Rattle.std.proofs.lemmas.Bool.{eq-eqb, ne_eqb}
+use Rattle.std.proofs.lemmas.List.Concat.{flat_map-append}
 use Rattle.std.proofs.lemmas.List.Elements.{recursion_from_All}
 use Rattle.hub_spec.specs.Problem.{commodities}
 use Rattle.hub_spec.specs.Cuts.{Prices, Cut, cut_by}
-use Rattle.hub_spec.specs.Trees.{TreeLine, preorder, line_count}
+use Rattle.hub_spec.specs.Trees.{TreeLine, branch_on, leaf_of, no_hub, preorder, line_count}
 use Rattle.hub_spec.specs.Certificates.{Proof}
-use Rattle.cert_spec.specs.Lines.{Item, says_route, says_cuts, says_dual, says_nodes, says_tree, says_end}
-use Rattle.cert_spec.specs.Text.{cut_items, certificate_items}
 use Rattle.hub_spec.specs.Ranges.{IsCutInRange, IsInRange}
 use Rattle.hub_spec.proofs.Commodities.{length_commodities}
-use Rattle.cert_format.specs.Gathered.{Gathered, nothing_gathered, with_duals, with_item, with_items, all_gathered}
+use Rattle.cert_spec.specs.Lines.{Item as Line, says_version, says_size, says_cost, says_bound, says_hubs, says_route, says_cuts, says_cut, says_dual, says_nodes, says_tree, says_end}
+use Rattle.cert_spec.specs.Text.{route_items, dual_items, cut_items, cuts_items, certificate_items}
+use Rattle.cert_scan.specs.Parts.{none_left, hub_parts, value_parts, weight_parts, parts_of, items_of}
+use Rattle.cert_scan.specs.declared.items.Item.{Item}
+use Rattle.cert_scan.specs.declared.items.Item.TheVariants.{Hub, End}
+use Rattle.cert_format.specs.Gathered.{Gathered, dual_begun, leaf_begun, Standing, at_start, with_dual, settled, taken, taken_all, all_gathered}
 
-pub with_items-append : (g : Gathered) (xs ys : List Item) → with_items g (xs ++ ys) ≡ with_items (with_items g xs) ys
-with_items-append g [] ys = refl
-with_items-append g (x ∷ xs) ys = with_items-append (with_item g x) xs ys
+pub taken_all-append : (s : Standing) (xs ys : List Item) → taken_all s (xs ++ ys) ≡ taken_all (taken_all s xs) ys
+taken_all-append s [] ys = refl
+taken_all-append s (x ∷ xs) ys = taken_all-append (taken s x) xs ys
+
+-- ---- what was begun
+
+-- a dual with these values
+abbrev pub dual_at : Gathered → ℕ → List (ℕ × ℕ) → Standing
+dual_at g a u = record { parts = g; begun = dual_begun (record { a = a; u = u }) }
+
+-- a leaf with these weights
+abbrev pub leaf_at : Gathered → ℕ → List (ℕ × ℕ) → Standing
+leaf_at g denom weights = record { parts = g; begun = leaf_begun denom weights }
+
+pub values_taken : (g : Gathered) (a : ℕ) (u more : List (ℕ × ℕ)) → taken_all (dual_at g a u) (value_parts more) ≡ dual_at g a (u ++ more)
+values_taken g a u [] = ap (dual_at g a) (sym (append-nil u))
+values_taken g a u (e ∷ more) = values_taken g a (u ++ e ∷ []) more ∙ ap (dual_at g a) (append_assoc u (e ∷ []) more)
+
+pub weights_taken : (g : Gathered) (denom : ℕ) (w more : List (ℕ × ℕ)) → taken_all (leaf_at g denom w) (weight_parts more) ≡ leaf_at g denom (w ++ more)
+weights_taken g denom w [] = ap (leaf_at g denom) (sym (append-nil w))
+weights_taken g denom w (e ∷ more) = weights_taken g denom (w ++ e ∷ []) more ∙ ap (leaf_at g denom) (append_assoc w (e ∷ []) more)
+
+-- ---- line by line
+
+-- with what one more line says
+abbrev with_line : Gathered → Line → Gathered
+with_line g (says_size n q) = record g { size = n; candidates = q }
+with_line g (says_cost c) = record g { cost = c }
+with_line g (says_bound b) = record g { bound = b }
+with_line g (says_hubs hubs) = record g { hubs = g.hubs ++ hubs }
+with_line g (says_route commodity route) = record g { routes = g.routes ++ route ∷ [] }
+with_line g (says_cut number) = record g { cuts = g.cuts ++ cut_by [] ∷ [] }
+with_line g (says_dual commodity dual) = record g { cuts = with_dual g.cuts dual }
+with_line g (says_tree line) = record g { lines = g.lines ++ line ∷ [] }
+with_line g line = g
+
+-- with what more lines say
+abbrev with_lines : Gathered → List Line → Gathered
+with_lines g [] = g
+with_lines g (line ∷ lines) = with_lines (with_line g line) lines
+
+hubs_taken : (s : Standing) (hubs : List ℕ) → settled (taken_all s (hub_parts hubs)) ≡ record (settled s) { hubs = (settled s).hubs ++ hubs }
+hubs_taken s [] = ap (λ hs. record (settled s) { hubs = hs }) (sym (append-nil (settled s).hubs))
+hubs_taken s (k ∷ hubs) =
+    hubs_taken (taken s (Hub k (none_left hubs))) hubs
+    ∙ ap (λ hs. record (settled s) { hubs = hs }) (append_assoc (settled s).hubs (k ∷ []) hubs)
+
+line_taken : (s : Standing) (l : Line) → settled (taken_all s (parts_of l)) ≡ with_line (settled s) l
+line_taken s says_version = refl
+line_taken s (says_size n q) = refl
+line_taken s (says_cost c) = refl
+line_taken s (says_bound b) = refl
+line_taken s (says_hubs hubs) = hubs_taken s hubs
+line_taken s (says_route commodity route) = refl
+line_taken s (says_cuts all) = refl
+line_taken s (says_cut number) = refl
+line_taken s (says_dual commodity dual) = ap settled (values_taken (settled s) dual.a [] dual.u)
+line_taken s (says_nodes all) = refl
+line_taken s (says_tree (branch_on k)) = refl
+line_taken s (says_tree (leaf_of denom weights)) = ap settled (weights_taken (settled s) denom [] weights)
+line_taken s (says_tree no_hub) = refl
+line_taken s says_end = refl
+
+lines_taken : (s : Standing) (ls : List Line) → settled (taken_all s (flat_map parts_of ls)) ≡ with_lines (settled s) ls
+lines_taken s [] = refl
+lines_taken s (l ∷ ls) =
+    ap settled (taken_all-append s (parts_of l) (flat_map parts_of ls))
+    ∙ lines_taken (taken_all s (parts_of l)) ls
+    ∙ ap (λ g. with_lines g ls) (line_taken s l)
+
+-- ---- all lines
+
+with_lines-append : (g : Gathered) (xs ys : List Line) → with_lines g (xs ++ ys) ≡ with_lines (with_lines g xs) ys
+with_lines-append g [] ys = refl
+with_lines-append g (x ∷ xs) ys = with_lines-append (with_line g x) xs ys
 
 routes_gathered : (g : Gathered) (cs routes : List (ℕ × ℕ)) → length cs ≡ length routes
-    → with_items g (map (λ (t : (ℕ × ℕ) × (ℕ × ℕ)). says_route t.0 t.1) (zip cs routes)) ≡ record g { routes = g.routes ++ routes }
+    → with_lines g (route_items (zip cs routes)) ≡ record g { routes = g.routes ++ routes }
 routes_gathered g [] [] e = ap (λ rs. record g { routes = rs }) (sym (append-nil g.routes))
 routes_gathered g [] (r ∷ routes) e = absurd (omega arith)
 routes_gathered g (c ∷ cs) [] e = absurd (omega arith)
@@ -26,54 +101,66 @@ routes_gathered g (c ∷ cs) (r ∷ routes) e =
     routes_gathered (record g { routes = g.routes ++ r ∷ [] }) cs routes (omega arith)
     ∙ ap (λ rs. record g { routes = rs }) (append_assoc g.routes (r ∷ []) routes)
 
--- a dual that makes the cut whole, and one that does not
-whole_cut : (g : Gathered) (duals : List Prices) → length duals ≡ g.size * g.size → with_duals g duals ≡ record g { cuts = g.cuts ++ cut_by duals ∷ []; duals = [] }
-whole_cut g duals e = rw (eq-eqb (length duals) (g.size * g.size) e) refl
+with_dual-last : (front : List Cut) (duals : List Prices) (d : Prices) → with_dual (front ++ cut_by duals ∷ []) d ≡ front ++ cut_by (duals ++ d ∷ []) ∷ []
+with_dual-last [] duals d = refl
+with_dual-last (c ∷ []) duals d = refl
+with_dual-last (c ∷ e ∷ front) duals d = ap (λ l. c ∷ l) (with_dual-last (e ∷ front) duals d)
 
-part_cut : (g : Gathered) (duals : List Prices) → length duals < g.size * g.size → with_duals g duals ≡ record g { duals = duals }
-part_cut g duals l = rw (ne_eqb (length duals) (g.size * g.size) (λ e. omega arith)) refl
+duals_gathered : (g : Gathered) (front : List Cut) (before : List Prices) (cs : List (ℕ × ℕ)) (duals : List Prices) → length cs ≡ length duals
+    → g.cuts ≡ front ++ cut_by before ∷ [] → with_lines g (dual_items (zip cs duals)) ≡ record g { cuts = front ++ cut_by (before ++ duals) ∷ [] }
+duals_gathered g front before [] [] l e =
+    ap (λ cuts. record g { cuts = cuts }) (e ∙ ap (λ ds. front ++ cut_by ds ∷ []) (sym (append-nil before)))
+duals_gathered g front before [] (d ∷ duals) l e = absurd (omega arith)
+duals_gathered g front before (c ∷ cs) [] l e = absurd (omega arith)
+duals_gathered g front before (c ∷ cs) (d ∷ duals) l e =
+    duals_gathered (record g { cuts = with_dual g.cuts d }) front (before ++ d ∷ []) cs duals (omega arith)
+    (ap (λ cuts. with_dual cuts d) e ∙ with_dual-last front before d)
+    ∙ ap (λ ds. record g { cuts = front ++ cut_by ds ∷ [] }) (append_assoc before (d ∷ []) duals)
 
-duals_gathered : (g : Gathered) (cs : List (ℕ × ℕ)) (d : Prices) (duals : List Prices) → length cs ≡ length (d ∷ duals) → length g.duals + length (d ∷ duals) ≡ g.size * g.size
-    → with_items g (map (λ (t : (ℕ × ℕ) × Prices). says_dual t.0 t.1) (zip cs (d ∷ duals))) ≡ record g { cuts = g.cuts ++ cut_by (g.duals ++ d ∷ duals) ∷ []; duals = [] }
-duals_gathered g [] d duals e whole = absurd (omega arith)
-duals_gathered g (c ∷ []) d [] e whole = whole_cut g (g.duals ++ d ∷ []) (omega (arith, length-append g.duals (d ∷ [])))
-duals_gathered g (c ∷ b ∷ cs) d [] e whole = absurd (omega arith)
-duals_gathered g (c ∷ cs) d (f ∷ duals) e whole =
-    ap (λ h. with_items h (map (λ (t : (ℕ × ℕ) × Prices). says_dual t.0 t.1) (zip cs (f ∷ duals)))) (part_cut g (g.duals ++ d ∷ []) (omega (arith, length-append g.duals (d ∷ []))))
-    ∙ duals_gathered (record g { duals = g.duals ++ d ∷ [] }) cs f duals (omega arith) (omega (arith, length-append g.duals (d ∷ [])))
-    ∙ ap (λ ds. record g { cuts = g.cuts ++ cut_by ds ∷ []; duals = [] }) (append_assoc g.duals (d ∷ []) (f ∷ duals))
+cut_gathered : (g : Gathered) (n x : ℕ) (cut : Cut) → length cut.duals ≡ n * n → with_lines g (cut_items n (x, cut)) ≡ record g { cuts = g.cuts ++ cut ∷ [] }
+cut_gathered g n x cut whole =
+    duals_gathered (record g { cuts = g.cuts ++ cut_by [] ∷ [] }) g.cuts [] (commodities n) cut.duals (length_commodities n ∙ sym whole) refl
 
-cut_gathered : (g : Gathered) (duals : List Prices) (x : ℕ) → 1 ≤ g.size * g.size → length duals ≡ g.size * g.size → g.duals ≡ []
-    → with_items g (cut_items g.size (x, cut_by duals)) ≡ record g { cuts = g.cuts ++ cut_by duals ∷ []; duals = [] }
-cut_gathered g [] x some whole none = absurd (omega arith)
-cut_gathered g (d ∷ duals) x some whole none =
-    duals_gathered g (commodities g.size) d duals (length_commodities g.size ∙ sym whole) (ap (λ ds. length ds + length (d ∷ duals)) none ∙ omega arith)
-    ∙ ap (λ ds. record g { cuts = g.cuts ++ cut_by (ds ++ d ∷ duals) ∷ []; duals = [] }) none
+cuts_gathered : (g : Gathered) (n x : ℕ) (cuts : List Cut) → AllByRecursion (IsCutInRange n) cuts
+    → with_lines g (cuts_items n x cuts) ≡ record g { cuts = g.cuts ++ cuts }
+cuts_gathered g n x [] all = ap (λ cs. record g { cuts = cs }) (sym (append-nil g.cuts))
+cuts_gathered g n x (cut ∷ cuts) all =
+    with_lines-append g (cut_items n (x, cut)) (cuts_items n (x + 1) cuts)
+    ∙ ap (λ h. with_lines h (cuts_items n (x + 1) cuts)) (cut_gathered g n x cut all.0.one_for_each)
+    ∙ cuts_gathered (record g { cuts = g.cuts ++ cut ∷ [] }) n (x + 1) cuts all.1
+    ∙ ap (λ cs. record g { cuts = cs }) (append_assoc g.cuts (cut ∷ []) cuts)
 
-cuts_gathered : (g : Gathered) (cuts : List Cut) (x : ℕ) → 1 ≤ g.size * g.size → AllByRecursion (IsCutInRange g.size) cuts → g.duals ≡ []
-    → with_items g (flat_map (cut_items g.size) (enumerate_from x cuts)) ≡ record g { cuts = g.cuts ++ cuts; duals = [] }
-cuts_gathered g [] x some all none = ap₂ (λ cs ds. record g { cuts = cs; duals = ds }) (sym (append-nil g.cuts)) none
-cuts_gathered g (cut ∷ cuts) x some all none =
-    let after : Gathered = record g { cuts = g.cuts ++ cut ∷ []; duals = [] } in
-    with_items-append g (cut_items g.size (x, cut)) (flat_map (cut_items g.size) (enumerate_from (x + 1) cuts))
-    ∙ ap (λ h. with_items h (flat_map (cut_items g.size) (enumerate_from (x + 1) cuts))) (cut_gathered g cut.duals x some all.0.one_for_each none)
-    ∙ cuts_gathered after cuts (x + 1) some all.1 refl
-    ∙ ap (λ cs. record g { cuts = cs; duals = [] }) (append_assoc g.cuts (cut ∷ []) cuts)
+tree_gathered : (g : Gathered) (lines : List TreeLine) → with_lines g (map says_tree lines) ≡ record g { lines = g.lines ++ lines }
+tree_gathered g [] = ap (λ ls. record g { lines = ls }) (sym (append-nil g.lines))
+tree_gathered g (l ∷ lines) =
+    tree_gathered (record g { lines = g.lines ++ l ∷ [] }) lines ∙ ap (λ ls. record g { lines = ls }) (append_assoc g.lines (l ∷ []) lines)
 
-lines_gathered : (g : Gathered) (lines : List TreeLine) → with_items g (map says_tree lines) ≡ record g { lines = g.lines ++ lines }
-lines_gathered g [] = ap (λ ls. record g { lines = ls }) (sym (append-nil g.lines))
-lines_gathered g (l ∷ lines) =
-    lines_gathered (record g { lines = g.lines ++ l ∷ [] }) lines ∙ ap (λ ls. record g { lines = ls }) (append_assoc g.lines (l ∷ []) lines)
+-- the lines of a certificate in front of the last, from each part on
+abbrev tree_front : Proof → List Line
+tree_front k = says_nodes (line_count k.tree) ∷ map says_tree (preorder k.tree)
 
--- the parts of a certificate's lines, from the first
-abbrev tree_rest : Proof → List Item
-tree_rest k = map says_tree (preorder k.tree) ++ says_end ∷ []
+abbrev cuts_front : Proof → List Line
+cuts_front k = says_cuts (length k.cuts) ∷ (cuts_items k.size 1 k.cuts ++ tree_front k)
 
-abbrev cut_rest : Proof → List Item
-cut_rest k = flat_map (cut_items k.size) (enumerate_from 1 k.cuts) ++ says_nodes (line_count k.tree) ∷ tree_rest k
+abbrev front_lines : Proof → List Line
+front_lines k =
+    says_version
+    ∷ says_size k.size k.candidates
+    ∷ says_cost k.cost
+    ∷ says_bound k.bound
+    ∷ says_hubs k.plan.hubs
+    ∷ (route_items (zip (commodities k.size) k.plan.routes) ++ cuts_front k)
+
+front_and_end : (k : Proof) → certificate_items k ≡ front_lines k ++ says_end ∷ []
+front_and_end k =
+    let routes = route_items (zip (commodities k.size) k.plan.routes) in
+    let cuts = cuts_items k.size 1 k.cuts in
+    ap (λ l. says_version ∷ says_size k.size k.candidates ∷ says_cost k.cost ∷ says_bound k.bound ∷ says_hubs k.plan.hubs ∷ l)
+    (sym (append_assoc routes (cuts_front k) (says_end ∷ [])
+    ∙ ap (λ l. routes ++ says_cuts (length k.cuts) ∷ l) (append_assoc cuts (tree_front k) (says_end ∷ []))))
 
 abbrev with_hubs : Proof → Gathered
-with_hubs k = record { size = k.size; candidates = k.candidates; cost = k.cost; bound = k.bound; hubs = k.plan.hubs; routes = []; cuts = []; duals = []; lines = [] }
+with_hubs k = record { size = k.size; candidates = k.candidates; cost = k.cost; bound = k.bound; hubs = k.plan.hubs; routes = []; cuts = []; lines = [] }
 
 abbrev with_routes : Proof → Gathered
 with_routes k = record (with_hubs k) { routes = k.plan.routes }
@@ -81,15 +168,21 @@ with_routes k = record (with_hubs k) { routes = k.plan.routes }
 abbrev with_cuts : Proof → Gathered
 with_cuts k = record (with_routes k) { cuts = k.cuts }
 
-some_commodity : (n : ℕ) → 1 ≤ n → 1 ≤ n * n
-some_commodity n some = mul-pos some some
+front_gathered : (k : Proof) → IsInRange k → with_lines (settled at_start) (front_lines k) ≡ all_gathered k
+front_gathered k h =
+    with_lines-append (with_hubs k) (route_items (zip (commodities k.size) k.plan.routes)) (cuts_front k)
+    ∙ ap (λ g. with_lines g (cuts_front k))
+    (routes_gathered (with_hubs k) (commodities k.size) k.plan.routes (length_commodities k.size ∙ sym h.one_route_each))
+    ∙ with_lines-append (with_routes k) (cuts_items k.size 1 k.cuts) (tree_front k)
+    ∙ ap (λ g. with_lines g (tree_front k))
+    (cuts_gathered (with_routes k) k.size 1 k.cuts (recursion_from_All (IsCutInRange k.size) k.cuts h.cuts))
+    ∙ tree_gathered (with_cuts k) (preorder k.tree)
 
-pub items_gathered : (k : Proof) → IsInRange k → with_items nothing_gathered (certificate_items k) ≡ all_gathered k
-items_gathered k h =
-    with_items-append (with_hubs k) (map (λ (t : (ℕ × ℕ) × (ℕ × ℕ)). says_route t.0 t.1) (zip (commodities k.size) k.plan.routes)) (says_cuts (length k.cuts) ∷ cut_rest k)
-    ∙ ap (λ g. with_items g (says_cuts (length k.cuts) ∷ cut_rest k)) (routes_gathered (with_hubs k) (commodities k.size) k.plan.routes (length_commodities k.size ∙ sym h.one_route_each))
-    ∙ with_items-append (with_routes k) (flat_map (cut_items k.size) (enumerate_from 1 k.cuts)) (says_nodes (line_count k.tree) ∷ tree_rest k)
-    ∙ ap (λ g. with_items g (says_nodes (line_count k.tree) ∷ tree_rest k))
-    (cuts_gathered (with_routes k) k.cuts 1 (some_commodity k.size h.some_node) (recursion_from_All (IsCutInRange k.size) k.cuts h.cuts) refl)
-    ∙ with_items-append (with_cuts k) (map says_tree (preorder k.tree)) (says_end ∷ [])
-    ∙ ap (λ g. with_items g (says_end ∷ [])) (lines_gathered (with_cuts k) (preorder k.tree))
+pub certificate_gathered : (k : Proof) → IsInRange k → (taken_all at_start (items_of k)).parts ≡ all_gathered k
+certificate_gathered k h =
+    let front = flat_map parts_of (front_lines k) in
+    ap (λ (s : Standing). s.parts)
+    (ap (taken_all at_start) (ap (flat_map parts_of) (front_and_end k) ∙ flat_map-append parts_of (front_lines k) (says_end ∷ []))
+    ∙ taken_all-append at_start front (End ∷ []))
+    ∙ lines_taken at_start (front_lines k)
+    ∙ front_gathered k h

@@ -1,4 +1,4 @@
--- A draft that has all that a certificate's lines give is the certificate.
+-- A gathering that has all that a certificate's items give is the certificate.
 use Rattle.std.proofs.Common.{◌≡◌, ◌^◌, ◌<◌, ℤ, pos, sym, ap, ◌∙◌, subst, arith}
 use Rattle.std.specs.List.Sorted.{IsStrictlyIncreasing}
 use Rattle.hub_spec.specs.Plans.{Plan}
@@ -10,26 +10,26 @@ use Rattle.cert_format.proofs.Amounts.{natural_pos}
 use Rattle.cert_format.specs.Growing.{tree_of}
 use Rattle.cert_format.specs.Parts.{proof_of, AreCertificateParts}
 use Rattle.cert_format.specs.Gathered.{all_gathered}
-use Rattle.cert_format.specs.Drafts.{gathered_of}
-use Rattle.cert_format.specs.declared.drafts.Draft.{Draft}
+use Rattle.cert_format.specs.Gatherings.{gathered_of}
+use Rattle.cert_format.specs.declared.gathering.Gathering.{Gathering}
 use Rattle.cert_format.specs.Codes.{tree_of-preorder}
 
-pub hubs_ascend : (d : Draft) (k : Proof) → IsInRange k → gathered_of d ≡ all_gathered k → IsStrictlyIncreasing d.hubs.items
+pub hubs_ascend : (d : Gathering) (k : Proof) → IsInRange k → gathered_of d ≡ all_gathered k → IsStrictlyIncreasing d.hubs.items
 hubs_ascend d k h e = subst IsStrictlyIncreasing (sym (ap (λ g. g.hubs) e)) h.hubs_ascend
 
-pub cost_fits : (d : Draft) (k : Proof) → IsInRange k → gathered_of d ≡ all_gathered k → d.cost < 2 ^ 127
+pub cost_fits : (d : Gathering) (k : Proof) → IsInRange k → gathered_of d ≡ all_gathered k → d.cost < 2 ^ 127
 cost_fits d k h e = omega (arith, ap (λ g. g.cost) e, h.cost)
 
-pub bound_fits : (d : Draft) (k : Proof) → IsInRange k → gathered_of d ≡ all_gathered k → d.bound < 2 ^ 127
+pub bound_fits : (d : Gathering) (k : Proof) → IsInRange k → gathered_of d ≡ all_gathered k → d.bound < 2 ^ 127
 bound_fits d k h e = omega (arith, ap (λ g. g.bound) e, h.bound)
 
--- the plan, the cost and the bound are those that the draft has
-pub record Took (d : Draft) (plan : Plan) (cost bound : ℤ) : Type 0 where
+-- the plan, the cost and the bound are those that the gathering has
+pub record Took (d : Gathering) (plan : Plan) (cost bound : ℤ) : Type 0 where
   pub plan_is : plan ≡ record { hubs = d.hubs.items; routes = d.routes.items }
   pub cost_is : cost ≡ pos d.cost
   pub bound_is : bound ≡ pos d.bound
 
-pub finished_is : (d : Draft) {plan : Plan} {cost bound : ℤ} (k : Proof) → IsInRange k → gathered_of d ≡ all_gathered k → Took d plan cost bound
+pub finished_is : (d : Gathering) {plan : Plan} {cost bound : ℤ} (k : Proof) → IsInRange k → gathered_of d ≡ all_gathered k → Took d plan cost bound
     → proof_of d.size d.candidates cost bound plan d.cuts.items d.lines.items ≡ k
 finished_is d {plan = plan} k h e t =
     let costs = ap natural t.cost_is ∙ ap (λ g. g.cost) e in
@@ -38,7 +38,7 @@ finished_is d {plan = plan} k h e t =
     let tree = ap tree_of (ap (λ g. g.lines) e) ∙ tree_of-preorder k.tree in
     λ i. record { size = (e i).size; candidates = (e i).candidates; cost = costs i; bound = bounds i; plan = plans i; cuts = (e i).cuts; tree = tree i }
 
-pub finished_parts : (d : Draft) {plan : Plan} {cost bound : ℤ} (k : Proof) → IsInRange k → gathered_of d ≡ all_gathered k → Took d plan cost bound
+pub finished_parts : (d : Gathering) {plan : Plan} {cost bound : ℤ} (k : Proof) → IsInRange k → gathered_of d ≡ all_gathered k → Took d plan cost bound
     → AreCertificateParts d.size d.candidates cost bound plan d.cuts.items d.lines.items
 finished_parts d k h e t = record {
   cost_least = subst IsNatural (sym t.cost_is) (natural_pos d.cost);

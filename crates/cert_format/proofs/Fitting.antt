@@ -1,136 +1,168 @@
--- What numbers that fit say: ascending nodes with values, and cut numbers with weights.
-use Rattle.std.proofs.Common.{◌≡◌, ℕ, zero, suc, ◌+◌, ◌-◌, ◌<◌, ◌≤◌, inl, inr, true, false, ◌&&◌, List, [], ◌∷◌, length, get_or, take, drop, map, nat_lt, nat_le, refl, sym, ap, ◌∙◌, subst, arith, add-one}
+-- What items in order give is in range.
+use Rattle.std.proofs.Common.{◌≡◌, ℕ, ◌<◌, ◌≤◌, false, List, [], ◌∷◌, ◌++◌, flat_map, inl, inr, append_assoc, append-nil, sym, ap, ◌∙◌, subst}
 use Rattle.std.specs.List.{AllByRecursion}
-use Rattle.std.specs.List.Sorted.{IsStrictlyIncreasing}
-use Rattle.std.proofs.lemmas.Bool.{and_from, and_parts, cases_Bool, ltb-true, lt-ltb, leb-true, le-leb}
-use Rattle.std.proofs.lemmas.List.{take_all}
-use Rattle.cert_spec.specs.Lines.{value_numbers, weight_numbers}
-use Rattle.hub_spec.proofs.Sets.{ascend_tail, ascend_head}
-use Rattle.cert_format.specs.Fits.{nodes_fit, pairs_fit}
+use Rattle.std.proofs.lemmas.List.Elements.{recursion_from_All}
+use Rattle.hub_spec.specs.Cuts.{Prices}
+use Rattle.hub_spec.specs.Trees.{branch_on, leaf_of, no_hub}
+use Rattle.hub_spec.specs.Ranges.{IsShort, IsDualInRange, IsLineInRange}
+use Rattle.cert_spec.specs.Lines.{Item as Line, says_version, says_size, says_cost, says_bound, says_hubs, says_route, says_cuts, says_cut, says_dual, says_nodes, says_tree, says_end}
+use Rattle.cert_spec.specs.Grammar.{Stage, want_version, want_size, want_end, want_nothing, want_cost, want_bound, want_hubs, want_cuts, want_nodes, want_route, want_cut, want_dual, want_tree, Wants, after, Leads}
+use Rattle.cert_scan.specs.Parts.{none_left, hub_parts, value_parts, weight_parts, parts_of, open_hubs, open_values, open_weights}
+use Rattle.cert_scan.specs.Given.{IsBegun, IsGiven}
+use Rattle.cert_scan.specs.declared.items.Item.{Item}
+use Rattle.cert_scan.specs.declared.items.Item.TheVariants.{Hub}
+use Rattle.cert_format.specs.Gathered.{Gathered, Standing, at_start, settled, taken, taken_all, IsFit, IsShortItem, MayTake}
+use Rattle.cert_format.proofs.Collecting.{taken_all-append, dual_at, leaf_at, values_taken, weights_taken}
 
--- each number is above the one before it, and the first is at least the least
-pub Climbs : ℕ → List ℕ → Type 0
-Climbs least [] = Unit {0}
-Climbs least (x ∷ xs) = (least ≤ x) × Climbs (x + 1) xs
+-- what was begun behind these parts is in range
+abbrev Fits : Standing → Type 0
+Fits s = IsFit s.begun
 
-climbs_step : (least : ℕ) (xs : List ℕ) → Climbs least xs → (k : ℕ) → suc k < length xs → get_or xs k 0 < get_or xs (suc k) 0
-unfolding Climbs
-climbs_step least [] h k l = absurd (omega (arith, l))
-climbs_step least (x ∷ []) h k l = absurd (omega (arith, l))
-climbs_step least (x ∷ y ∷ xs) h zero l = omega (arith, h.1.0)
-climbs_step least (x ∷ y ∷ xs) h (suc k) l = climbs_step (x + 1) (y ∷ xs) h.1 k (omega (arith, l))
+-- ---- whole lines
 
-pub climbs_ascend : (least : ℕ) (xs : List ℕ) → Climbs least xs → IsStrictlyIncreasing xs
-climbs_ascend least xs h k = subst (λ m. m < length xs → get_or xs k 0 < get_or xs m 0) (sym (add-one k)) (climbs_step least xs h k)
+fits_hubs : (s : Standing) (hubs : List ℕ) → Fits s → Fits (taken_all s (hub_parts hubs))
+fits_hubs s [] h = h
+fits_hubs s (k ∷ hubs) h = fits_hubs (taken s (Hub k (none_left hubs))) hubs tt
 
-ascend_next : (x : ℕ) (xs : List ℕ) → IsStrictlyIncreasing (x ∷ xs) → Climbs (x + 1) xs
-unfolding Climbs
-ascend_next x [] h = tt
-ascend_next x (y ∷ xs) h = (omega (arith, ascend_head x (y ∷ xs) y h (0, omega arith, refl)), ascend_next y xs (ascend_tail x (y ∷ xs) h))
+fits_line : (stage : Stage) (l : Line) (s : Standing) → Wants stage l → Fits s → Fits (taken_all s (parts_of l))
+fits_line want_version says_version s w h = h
+fits_line want_size (says_size n q) s w h = tt
+fits_line (want_cost sh) (says_cost c) s w h = tt
+fits_line (want_bound sh) (says_bound b) s w h = tt
+fits_line (want_hubs sh) (says_hubs hubs) s w h = fits_hubs s hubs h
+fits_line (want_route sh t) (says_route c r) s w h = tt
+fits_line (want_cuts sh) (says_cuts all) s w h = tt
+fits_line (want_cut sh all x) (says_cut number) s w h = tt
+fits_line (want_dual sh all x t) (says_dual c dual) s w h = subst Fits (sym (values_taken (settled s) dual.a [] dual.u)) (sh.size, w.1)
+fits_line (want_nodes sh) (says_nodes all) s w h = tt
+fits_line (want_tree sh places left) (says_tree (branch_on k)) s w h = tt
+fits_line (want_tree sh places left) (says_tree (leaf_of denom weights)) s w h = subst Fits (sym (weights_taken (settled s) denom [] weights)) w.0
+fits_line (want_tree sh places left) (says_tree no_hub) s w h = tt
+fits_line want_end says_end s w h = tt
+fits_line stage l s w h = absurd w
 
-pub ascend_climbs : (xs : List ℕ) → IsStrictlyIncreasing xs → Climbs 0 xs
-unfolding Climbs
-ascend_climbs [] h = tt
-ascend_climbs (x ∷ xs) h = (omega arith, ascend_next x xs h)
+fits_lines : (stage : Stage) (ls : List Line) (last : Stage) (s : Standing) → Leads stage ls last → Fits s → Fits (taken_all s (flat_map parts_of ls))
+fits_lines stage [] last s lead h = h
+fits_lines stage (l ∷ ls) last s lead h =
+    subst Fits (sym (taken_all-append s (parts_of l) (flat_map parts_of ls)))
+    (fits_lines (after stage l) ls last (taken_all s (parts_of l)) lead.1 (fits_line stage l s lead.0 h))
 
--- ascending cut numbers from 1
-pub climbs_from_1 : (xs : List ℕ) → IsStrictlyIncreasing xs → AllByRecursion (λ x. 1 ≤ x) xs → Climbs 1 xs
-unfolding Climbs
-climbs_from_1 [] h some = tt
-climbs_from_1 (x ∷ xs) h some = (some.0, ascend_next x xs h)
+-- ---- a line that was begun
 
--- nodes that a text names by these numbers
-pub nodes_from_fit : (n least : ℕ) (ks : List ℕ) → nodes_fit n least (map (λ k. k + 1) ks) ≡ true → Climbs least ks × AllByRecursion (λ k. k < n) ks
-unfolding Climbs
-nodes_from_fit n least [] e = (tt, tt)
-nodes_from_fit n least (k ∷ ks) e =
-    let both = and_parts (nat_lt least (k + 1) && nat_le (k + 1) n) _ e in
-    let here = and_parts (nat_lt least (k + 1)) _ both.0 in
-    let later = nodes_from_fit n (k + 1) ks both.1 in
-    ((omega (arith, ltb-true least (k + 1) here.0), later.0), (omega (arith, leb-true (k + 1) n here.1), later.1))
+open_values_taken : (g : Gathered) (a : ℕ) (u more : List (ℕ × ℕ)) → taken_all (dual_at g a u) (open_values more) ≡ dual_at g a (u ++ more)
+open_values_taken g a u [] = ap (dual_at g a) (sym (append-nil u))
+open_values_taken g a u (e ∷ more) = open_values_taken g a (u ++ e ∷ []) more ∙ ap (dual_at g a) (append_assoc u (e ∷ []) more)
 
-pub fit_from_nodes : (n least : ℕ) (ks : List ℕ) → Climbs least ks → AllByRecursion (λ k. k < n) ks → nodes_fit n least (map (λ k. k + 1) ks) ≡ true
-unfolding Climbs
-fit_from_nodes n least [] h all = refl
-fit_from_nodes n least (k ∷ ks) h all =
-    and_from (nat_lt least (k + 1) && nat_le (k + 1) n) _
-    (and_from (nat_lt least (k + 1)) _ (lt-ltb least (k + 1) (omega (arith, h.0))) (le-leb (k + 1) n (omega (arith, all.0))))
-    (fit_from_nodes n (k + 1) ks h.1 all.1)
+open_weights_taken : (g : Gathered) (denom : ℕ) (w more : List (ℕ × ℕ)) → taken_all (leaf_at g denom w) (open_weights more) ≡ leaf_at g denom (w ++ more)
+open_weights_taken g denom w [] = ap (leaf_at g denom) (sym (append-nil w))
+open_weights_taken g denom w (e ∷ more) = open_weights_taken g denom (w ++ e ∷ []) more ∙ ap (leaf_at g denom) (append_assoc w (e ∷ []) more)
 
--- values of nodes
-abbrev pub IsValueOf : ℕ → ℕ × ℕ → Type 0
-IsValueOf n e = (e.0 < n) × (1 ≤ e.1)
+fits_open_hubs : (s : Standing) (hubs : List ℕ) → Fits s → Fits (taken_all s (open_hubs hubs))
+fits_open_hubs s [] h = h
+fits_open_hubs s (k ∷ hubs) h = fits_open_hubs (taken s (Hub k false)) hubs tt
 
-pub values_from_fit : (n least : ℕ) (u : List (ℕ × ℕ)) → pairs_fit n least (value_numbers u) ≡ true
-    → Climbs least (map (λ (e : ℕ × ℕ). e.0) u) × AllByRecursion (IsValueOf n) u
-unfolding Climbs
-values_from_fit n least [] e = (tt, tt)
-values_from_fit n least (p ∷ u) e =
-    let both = and_parts (nat_lt least (p.0 + 1) && (nat_le (p.0 + 1) n && nat_le 1 p.1)) _ e in
-    let here = and_parts (nat_lt least (p.0 + 1)) _ both.0 in
-    let ends = and_parts (nat_le (p.0 + 1) n) _ here.1 in
-    let later = values_from_fit n (p.0 + 1) u both.1 in
-    ((omega (arith, ltb-true least (p.0 + 1) here.0), later.0), ((omega (arith, leb-true (p.0 + 1) n ends.0), leb-true 1 p.1 ends.1), later.1))
+fits_begun : (stage : Stage) (more : List Item) (s : Standing) → IsBegun stage more → Fits s → Fits (taken_all s more)
+fits_begun (want_hubs sh) more s b h = subst (λ l. Fits (taken_all s l)) (sym b.are) (fits_open_hubs s b.hubs h)
+fits_begun (want_dual sh all x t) more s (inl none) h = subst (λ l. Fits (taken_all s l)) (sym none) h
+fits_begun (want_dual sh all x t) more s (inr b) h =
+    subst (λ l. Fits (taken_all s l)) (sym b.are) (subst Fits (sym (open_values_taken (settled s) b.dual.a [] b.dual.u)) (sh.size, b.in_range))
+fits_begun (want_tree sh places left) more s (inl none) h = subst (λ l. Fits (taken_all s l)) (sym none) h
+fits_begun (want_tree sh places left) more s (inr b) h =
+    subst (λ l. Fits (taken_all s l)) (sym b.are) (subst Fits (sym (open_weights_taken (settled s) b.denom [] b.weights)) b.in_range)
+fits_begun stage more s none h = subst (λ l. Fits (taken_all s l)) (sym none) h
 
-pub fit_from_values : (n least : ℕ) (u : List (ℕ × ℕ)) → Climbs least (map (λ (e : ℕ × ℕ). e.0) u) → AllByRecursion (IsValueOf n) u
-    → pairs_fit n least (value_numbers u) ≡ true
-unfolding Climbs
-fit_from_values n least [] h all = refl
-fit_from_values n least (p ∷ u) h all =
-    and_from (nat_lt least (p.0 + 1) && (nat_le (p.0 + 1) n && nat_le 1 p.1)) _
-    (and_from (nat_lt least (p.0 + 1)) _ (lt-ltb least (p.0 + 1) (omega (arith, h.0))) (and_from (nat_le (p.0 + 1) n) _ (le-leb (p.0 + 1) n (omega (arith, all.0.0))) (le-leb 1 p.1 all.0.1)))
-    (fit_from_values n (p.0 + 1) u h.1 all.1)
+fits_given : (given : List Item) → IsGiven given → Fits (taken_all at_start given)
+fits_given given g =
+    let lines = flat_map parts_of g.lines in
+    subst (λ l. Fits (taken_all at_start l)) (sym g.are)
+    (subst Fits (sym (taken_all-append at_start lines g.more))
+    (fits_begun g.stage g.more (taken_all at_start lines) g.begun (fits_lines want_version g.lines g.stage at_start g.lead tt)))
 
--- weights of cuts
-abbrev pub IsWeightOf : ℕ → ℕ × ℕ → Type 0
-IsWeightOf most e = (1 ≤ e.0) × (e.0 ≤ most) × (1 ≤ e.1)
+-- ---- the amounts of items
 
-pub weights_from_fit : (most least : ℕ) (w : List (ℕ × ℕ)) → pairs_fit most least (weight_numbers w) ≡ true
-    → Climbs (least + 1) (map (λ (e : ℕ × ℕ). e.0) w) × AllByRecursion (IsWeightOf most) w
-unfolding Climbs
-weights_from_fit most least [] e = (tt, tt)
-weights_from_fit most least (p ∷ w) e =
-    let both = and_parts (nat_lt least p.0 && (nat_le p.0 most && nat_le 1 p.1)) _ e in
-    let here = and_parts (nat_lt least p.0) _ both.0 in
-    let ends = and_parts (nat_le p.0 most) _ here.1 in
-    let later = weights_from_fit most p.0 w both.1 in
-    let above = ltb-true least p.0 here.0 in
-    ((omega (arith, above), later.0), ((omega (arith, above), leb-true p.0 most ends.0, leb-true 1 p.1 ends.1), later.1))
+abbrev AreShort : List Item → Type 0
+AreShort items = AllByRecursion IsShortItem items
 
-pub fit_from_weights : (most least : ℕ) (w : List (ℕ × ℕ)) → Climbs (least + 1) (map (λ (e : ℕ × ℕ). e.0) w) → AllByRecursion (IsWeightOf most) w
-    → pairs_fit most least (weight_numbers w) ≡ true
-unfolding Climbs
-fit_from_weights most least [] h all = refl
-fit_from_weights most least (p ∷ w) h all =
-    and_from (nat_lt least p.0 && (nat_le p.0 most && nat_le 1 p.1)) _
-    (and_from (nat_lt least p.0) _ (lt-ltb least p.0 (omega (arith, h.0))) (and_from (nat_le p.0 most) _ (le-leb p.0 most all.0.1) (le-leb 1 p.1 all.0.2)))
-    (fit_from_weights most p.0 w h.1 all.1)
+short_append : (xs ys : List Item) → AreShort xs → AreShort ys → AreShort (xs ++ ys)
+short_append [] ys h k = k
+short_append (x ∷ xs) ys h k = (h.0, short_append xs ys h.1 k)
 
--- a pair that fits, and the rest
-pub pair_fits_step : (most least : ℕ) (ns : List ℕ) → 2 ≤ length ns → least < get_or ns 0 0 → get_or ns 0 0 ≤ most → 1 ≤ get_or ns 1 0
-    → pairs_fit most (get_or ns 0 0) (take (length ns - 2) (drop 2 ns)) ≡ pairs_fit most least ns
-pair_fits_step most least [] l above within some = absurd (omega arith)
-pair_fits_step most least (m ∷ []) l above within some = absurd (omega arith)
-pair_fits_step most least (m ∷ v ∷ ns) l above within some =
-    ap (pairs_fit most m) (take_all (length (m ∷ v ∷ ns) - 2) ns (omega arith))
-    ∙ sym (ap (λ t. t && pairs_fit most m ns) (and_from (nat_lt least m) _ (lt-ltb least m above) (and_from (nat_le m most) _ (le-leb m most within) (le-leb 1 v some))))
+short_last : (xs : List Item) (x : Item) → AreShort (xs ++ x ∷ []) → IsShortItem x
+short_last [] x h = h.0
+short_last (y ∷ xs) x h = short_last xs x h.1
 
--- a pair that does not
-pub pair_fits_stop : (most least : ℕ) (ns : List ℕ) → 2 ≤ length ns → (least < get_or ns 0 0 → get_or ns 0 0 ≤ most → 1 ≤ get_or ns 1 0 → ⊥)
-    → pairs_fit most least ns ≡ false
-pair_fits_stop most least [] l out = absurd (omega arith)
-pair_fits_stop most least (m ∷ []) l out = absurd (omega arith)
-pair_fits_stop most least (m ∷ v ∷ ns) l out = elim (cases_Bool (pairs_fit most least (m ∷ v ∷ ns))) [
-  | inl fits ↦
-      let both = and_parts (nat_lt least m && (nat_le m most && nat_le 1 v)) _ fits in
-      let here = and_parts (nat_lt least m) _ both.0 in
-      let ends = and_parts (nat_le m most) _ here.1 in
-      absurd (out (ltb-true least m here.0) (leb-true m most ends.0) (leb-true 1 v ends.1))
-  | inr not_so ↦ not_so
-]
+short_hubs : (hubs : List ℕ) → AreShort (hub_parts hubs)
+short_hubs [] = tt
+short_hubs (k ∷ hubs) = (tt, short_hubs hubs)
 
--- one number has no value behind it
-pub no_pair_fits : (most least : ℕ) (ns : List ℕ) → 1 ≤ length ns → length ns < 2 → pairs_fit most least ns ≡ false
-no_pair_fits most least [] l m = absurd (omega arith)
-no_pair_fits most least (x ∷ []) l m = refl
-no_pair_fits most least (x ∷ y ∷ ns) l m = absurd (omega arith)
+-- a value of a dual, and a weight of a leaf
+abbrev IsValue : ℕ → ℕ × ℕ → Type 0
+IsValue n e = (e.0 < n) × (1 ≤ e.1) × IsShort e.1
+
+abbrev IsWeight : ℕ × ℕ → Type 0
+IsWeight e = (1 ≤ e.0) × IsShort e.0 × (1 ≤ e.1) × IsShort e.1
+
+short_values : (n : ℕ) (u : List (ℕ × ℕ)) → AllByRecursion (IsValue n) u → AreShort (value_parts u)
+short_values n [] h = tt
+short_values n (e ∷ u) h = (h.0.2, short_values n u h.1)
+
+short_weights : (w : List (ℕ × ℕ)) → AllByRecursion IsWeight w → AreShort (weight_parts w)
+short_weights [] h = tt
+short_weights (e ∷ w) h = ((h.0.1, h.0.3), short_weights w h.1)
+
+short_line : (stage : Stage) (l : Line) → Wants stage l → AreShort (parts_of l)
+short_line want_version says_version w = tt
+short_line want_size (says_size n q) w = (tt, tt)
+short_line (want_cost sh) (says_cost c) w = (tt, tt)
+short_line (want_bound sh) (says_bound b) w = (tt, tt)
+short_line (want_hubs sh) (says_hubs hubs) w = short_hubs hubs
+short_line (want_route sh t) (says_route c r) w = (tt, tt)
+short_line (want_cuts sh) (says_cuts all) w = (tt, tt)
+short_line (want_cut sh all x) (says_cut number) w = (tt, tt)
+short_line (want_dual sh all x t) (says_dual c dual) w = (tt, short_values sh.size dual.u (recursion_from_All (IsValue sh.size) dual.u w.1.each))
+short_line (want_nodes sh) (says_nodes all) w = (tt, tt)
+short_line (want_tree sh places left) (says_tree (branch_on k)) w = (tt, tt)
+short_line (want_tree sh places left) (says_tree (leaf_of denom weights)) w = (tt, short_weights weights (recursion_from_All IsWeight weights w.0.2.each))
+short_line (want_tree sh places left) (says_tree no_hub) w = (tt, tt)
+short_line want_end says_end w = (tt, tt)
+short_line stage l w = absurd w
+
+short_lines : (stage : Stage) (ls : List Line) (last : Stage) → Leads stage ls last → AreShort (flat_map parts_of ls)
+short_lines stage [] last lead = tt
+short_lines stage (l ∷ ls) last lead =
+    short_append (parts_of l) (flat_map parts_of ls) (short_line stage l lead.0) (short_lines (after stage l) ls last lead.1)
+
+short_open_hubs : (hubs : List ℕ) → AreShort (open_hubs hubs)
+short_open_hubs [] = tt
+short_open_hubs (k ∷ hubs) = (tt, short_open_hubs hubs)
+
+short_open_values : (n : ℕ) (u : List (ℕ × ℕ)) → AllByRecursion (IsValue n) u → AreShort (open_values u)
+short_open_values n [] h = tt
+short_open_values n (e ∷ u) h = (h.0.2, short_open_values n u h.1)
+
+short_open_weights : (w : List (ℕ × ℕ)) → AllByRecursion IsWeight w → AreShort (open_weights w)
+short_open_weights [] h = tt
+short_open_weights (e ∷ w) h = ((h.0.1, h.0.3), short_open_weights w h.1)
+
+short_begun : (stage : Stage) (more : List Item) → IsBegun stage more → AreShort more
+short_begun (want_hubs sh) more b = subst AreShort (sym b.are) (short_open_hubs b.hubs)
+short_begun (want_dual sh all x t) more (inl none) = subst AreShort (sym none) tt
+short_begun (want_dual sh all x t) more (inr b) =
+    subst AreShort (sym b.are) (tt, short_open_values sh.size b.dual.u (recursion_from_All (IsValue sh.size) b.dual.u b.in_range.each))
+short_begun (want_tree sh places left) more (inl none) = subst AreShort (sym none) tt
+short_begun (want_tree sh places left) more (inr b) =
+    subst AreShort (sym b.are) (tt, short_open_weights b.weights (recursion_from_All IsWeight b.weights b.in_range.2.each))
+short_begun stage more none = subst AreShort (sym none) tt
+
+short_given : (given : List Item) → IsGiven given → AreShort given
+short_given given g =
+    subst AreShort (sym g.are)
+    (short_append (flat_map parts_of g.lines) g.more (short_lines want_version g.lines g.stage g.lead) (short_begun g.stage g.more g.begun))
+
+-- ---- the next item
+
+pub may_take : (given : List Item) (item : Item) (s : Standing) → s ≡ taken_all at_start given → IsGiven given → IsGiven (given ++ item ∷ []) → MayTake s item
+may_take given item s e before after = record {
+  fits = subst Fits (sym e) (fits_given given before);
+  short = short_last given item (short_given (given ++ item ∷ []) after);
+}

@@ -1,11 +1,13 @@
--- What the lines of a text have given so far.
-use Rattle.std.specs.Prelude.{ℕ, ◌*◌, List, [], ◌∷◌, ◌++◌, length, nat_eq, if◌then◌else◌}
+-- What the items of a text have given so far.
+use Rattle.std.specs.Prelude.{ℕ, List, [], ◌∷◌, ◌++◌}
 use Rattle.hub_spec.specs.Cuts.{Prices, Cut, cut_by}
-use Rattle.hub_spec.specs.Trees.{TreeLine, preorder}
+use Rattle.hub_spec.specs.Trees.{TreeLine, branch_on, leaf_of, no_hub, preorder}
 use Rattle.hub_spec.specs.Certificates.{Proof}
-use Rattle.cert_spec.specs.Lines.{Item, says_size, says_cost, says_bound, says_hubs, says_route, says_dual, says_tree}
+use Rattle.hub_spec.specs.Ranges.{IsShort, IsDualInRange, IsLineInRange}
+use Rattle.cert_scan.specs.declared.items.Item.{Item}
+use Rattle.cert_scan.specs.declared.items.Item.TheVariants.{Size, Cost, Bound, Hub, Route, Cut as cut_item, Dual, DualPair, Branch, Leaf, LeafPair, Empty}
 
--- the parts of a certificate, and the duals of the cut that is not whole yet
+-- the parts of a certificate; the last cut may still lack duals
 pub record Gathered : Type 0 where
   pub size : ℕ
   pub candidates : ℕ
@@ -14,37 +16,95 @@ pub record Gathered : Type 0 where
   pub hubs : List ℕ
   pub routes : List (ℕ × ℕ)
   pub cuts : List Cut
-  pub duals : List Prices
   pub lines : List TreeLine
 
--- no line has given anything
-abbrev pub nothing_gathered : Gathered
-nothing_gathered = record { size = 0; candidates = 0; cost = 0; bound = 0; hubs = []; routes = []; cuts = []; duals = []; lines = [] }
+-- a dual or a leaf of which more may come
+pub data Begun : Type 0 where
+  no_line : Begun
+  dual_begun : Prices → Begun
+  leaf_begun : (denom : ℕ) → (weights : List (ℕ × ℕ)) → Begun
 
--- with the duals of a cut, which is whole where there is one for each commodity
-abbrev pub with_duals : Gathered → List Prices → Gathered
-with_duals g duals =
-    if nat_eq (length duals) (g.size * g.size)
-    then record g { cuts = g.cuts ++ cut_by duals ∷ []; duals = [] }
-    else record g { duals = duals }
+-- the parts, and what was begun behind them
+pub record Standing : Type 0 where
+  pub parts : Gathered
+  pub begun : Begun
 
--- with what one more line says
-abbrev pub with_item : Gathered → Item → Gathered
-with_item g (says_size n q) = record g { size = n; candidates = q }
-with_item g (says_cost c) = record g { cost = c }
-with_item g (says_bound b) = record g { bound = b }
-with_item g (says_hubs hubs) = record g { hubs = hubs }
-with_item g (says_route commodity route) = record g { routes = g.routes ++ route ∷ [] }
-with_item g (says_dual commodity dual) = with_duals g (g.duals ++ dual ∷ [])
-with_item g (says_tree line) = record g { lines = g.lines ++ line ∷ [] }
-with_item g item = g
+-- nothing was begun behind these parts
+abbrev pub whole : Gathered → Standing
+whole g = record { parts = g; begun = no_line }
 
--- with what more lines say
-abbrev pub with_items : Gathered → List Item → Gathered
-with_items g [] = g
-with_items g (item ∷ items) = with_items (with_item g item) items
+-- no item has given anything
+abbrev pub at_start : Standing
+at_start = whole (record { size = 0; candidates = 0; cost = 0; bound = 0; hubs = []; routes = []; cuts = []; lines = [] })
 
--- what the lines of a certificate give
+-- with a dual more in the last cut
+abbrev pub with_dual : List Cut → Prices → List Cut
+with_dual [] dual = []
+with_dual (cut ∷ []) dual = cut_by (cut.duals ++ dual ∷ []) ∷ []
+with_dual (cut ∷ next ∷ cuts) dual = cut ∷ with_dual (next ∷ cuts) dual
+
+-- with what was begun, of which no more comes
+abbrev pub with_begun : Gathered → Begun → Gathered
+with_begun g no_line = g
+with_begun g (dual_begun dual) = record g { cuts = with_dual g.cuts dual }
+with_begun g (leaf_begun denom weights) = record g { lines = g.lines ++ leaf_of denom weights ∷ [] }
+
+abbrev pub settled : Standing → Gathered
+settled s = with_begun s.parts s.begun
+
+-- the dual that was begun, with a node more and its value
+abbrev pub with_value : Begun → ℕ → ℕ → Begun
+with_value (dual_begun dual) k u = dual_begun (record { a = dual.a; u = dual.u ++ (k, u) ∷ [] })
+with_value other k u = other
+
+-- the leaf that was begun, with a cut more and its weight
+abbrev pub with_weight : Begun → ℕ → ℕ → Begun
+with_weight (leaf_begun denom weights) c w = leaf_begun denom (weights ++ (c, w) ∷ [])
+with_weight other c w = other
+
+-- with an item where nothing was begun
+abbrev pub first_taken : Gathered → Item → Standing
+first_taken g (Size n q) = whole (record g { size = n; candidates = q })
+first_taken g (Cost cost) = whole (record g { cost = cost })
+first_taken g (Bound bound) = whole (record g { bound = bound })
+first_taken g (Hub k last) = whole (record g { hubs = g.hubs ++ k ∷ [] })
+first_taken g (Route i j k m) = whole (record g { routes = g.routes ++ (k, m) ∷ [] })
+first_taken g (cut_item number) = whole (record g { cuts = g.cuts ++ cut_by [] ∷ [] })
+first_taken g (Dual i j a last) = record { parts = g; begun = dual_begun (record { a = a; u = [] }) }
+first_taken g (Branch k) = whole (record g { lines = g.lines ++ branch_on k ∷ [] })
+first_taken g (Leaf denom last) = record { parts = g; begun = leaf_begun denom [] }
+first_taken g Empty = whole (record g { lines = g.lines ++ no_hub ∷ [] })
+first_taken g item = whole g
+
+-- with an item more: it goes on with what was begun, or nothing more of that comes
+abbrev pub taken : Standing → Item → Standing
+taken s (DualPair k u last) = record { parts = s.parts; begun = with_value s.begun k u }
+taken s (LeafPair c w last) = record { parts = s.parts; begun = with_weight s.begun c w }
+taken s item = first_taken (settled s) item
+
+-- with more items
+abbrev pub taken_all : Standing → List Item → Standing
+taken_all s [] = s
+taken_all s (item ∷ items) = taken_all (taken s item) items
+
+-- what was begun is in range as far as it has come
+abbrev pub IsFit : Begun → Type 0
+IsFit no_line = Unit {0}
+IsFit (dual_begun dual) = (n : ℕ) × IsDualInRange n dual
+IsFit (leaf_begun denom weights) = IsLineInRange 0 (leaf_of denom weights)
+
+-- the amounts that an item lists have at most 30 digits
+abbrev pub IsShortItem : Item → Type 0
+IsShortItem (DualPair k u last) = IsShort u
+IsShortItem (LeafPair c w last) = IsShort c × IsShort w
+IsShortItem item = Unit {0}
+
+-- the item may be taken
+pub record MayTake (s : Standing) (item : Item) : Type 0 where
+  pub fits : IsFit s.begun
+  pub short : IsShortItem item
+
+-- what the items of a certificate give
 abbrev pub all_gathered : Proof → Gathered
 all_gathered k = record {
   size = k.size;
@@ -54,6 +114,5 @@ all_gathered k = record {
   hubs = k.plan.hubs;
   routes = k.plan.routes;
   cuts = k.cuts;
-  duals = [];
   lines = preorder k.tree;
 }

@@ -1,12 +1,8 @@
-pub mod Words
-pub mod Said
-pub mod Fits
 pub mod Growing
 pub mod Codes
 pub mod Parts
 pub mod Gathered
-pub mod Stages
-pub mod Drafts
+pub mod Gatherings
 pub mod Faults
 pub mod Readings
 pub mod Spaced

@@ -6,22 +6,16 @@
 //! - [`read_cert`] reads bytes back: a certificate exactly where all of the bytes spell it, and otherwise the fault of
 //!   the text that the definitions give it, as a [`CertFault`] with the number of the line.
 //!
-//! The text is defined in the crate `cert_spec`: `Lines`, `Text` and `Grammar`. A line is read as its first word and the
-//! numbers behind it (`words`), these say an item at a stage of the text (`said`, `listed`), and a draft takes items in
-//! until it is a certificate (`drafts`).
+//! The text is defined in the crate `cert_spec`: `Lines`, `Text` and `Grammar`. It is read by a scan of the crate
+//! `cert_scan`, whose items a gathering takes in until it is a certificate (`gathering`).
 #![tactic(auto)]
 
 mod certificate;
 
-// Reading: a line as words and numbers, what these say, and a draft that takes it in.
-mod drafts;
-mod fits;
-mod listed;
-mod lists;
+// Reading: a gathering of what the items of a text give.
+mod begun;
+mod gathering;
 mod reader;
-mod said;
-mod stages;
-mod words;
 
 // Writing: the words of a line, lines, and the parts of a text.
 mod lines;

@@ -1,11 +1,12 @@
-ghost use Rattle.std.specs.Prelude.{◌≡◌, IfOk, IfErr};
+ghost use Rattle.std.specs.Prelude.{◌≡◌, ◌<◌, ◌≤◌, ◌++◌, ℕ, List, length, take, IfOk, IfErr};
 ghost use Rattle.cert_spec.specs.Text.{Spells};
-ghost use Rattle.cert_format.specs.Faults.{ToldFault};
+ghost use Rattle.cert_format.specs.Faults.{ToldFault, told_of};
+ghost use Rattle.cert_format.specs.Readings.{HasRead};
 ghost use Rattle.cert_format.specs.declared.reader.CertFault.TheVariants.{OutOfMemory};
 
 use crate::Certificate;
-use crate::drafts::Draft;
-use crate::words::split_first;
+use crate::gathering::Gathering;
+use cert_scan::{Fault, Scan};
 use std::alloc::{AllocError, Global};
 use thiserror::Error;
 
@@ -37,26 +38,48 @@ pub fn read_cert(alloc: Global, bytes: &[u8]) -> Result<Certificate, CertFault>
     ensures spells { IfOk result (Spells bytes.now) }
     ensures fault { IfErr result (ToldFault bytes.now) }
 {
-    let mut draft = Draft::new(alloc);
-    let mut numbers = Vec::new(alloc);
-    let mut rest = bytes;
-    let mut line = 1;
-    'lines: loop {
-        let (part, behind) = split_first(rest, b'\n');
-        let Some(next) = behind else {
-            break;
-        };
-        if !draft.take_line(alloc, part, &mut numbers)? {
-            return Err(CertFault::BadLine { line });
+    let mut scan = Scan::new();
+    let mut gathering = Gathering::new(alloc);
+    let mut at = 0;
+    while at < bytes.len() {
+        at += take_next(alloc, &bytes[at..], &mut scan, &mut gathering)?;
+    }
+    match scan.finish() {
+        Some(fault) => Err(told(fault)),
+        None => Ok(gathering.finish()),
+    }
+}
+
+// Takes bytes up to the one that tells an item, and the item, or all bytes where none does; tells how many.
+fn take_next(
+    alloc: Global,
+    bytes: &[u8],
+    scan: &mut Scan,
+    gathering: &mut Gathering,
+) -> Result<usize, AllocError>
+    requires some { 0 < length bytes.now }
+    requires read { (front : List ℕ) × HasRead front scan.old gathering.old }
+    ensures some { IfOk result (λ count. 0 < count) }
+    ensures within { IfOk result (λ count. count ≤ length bytes.now) }
+    ensures read { (front : List ℕ) → HasRead front scan.old gathering.old
+        → IfOk result (λ count. HasRead (front ++ take count bytes.now) scan.new gathering.new) }
+{
+    let (count, told) = scan.run(bytes);
+    match told {
+        None => Ok(count),
+        Some(item) => {
+            gathering.take(alloc, item)?;
+            Ok(count)
         }
-        rest = next;
-        line += 1;
     }
-    if !draft.is_complete() {
-        return Err(CertFault::Ended { line });
+}
+
+// The fault of a scan as one of the reader's.
+fn told(fault: Fault) -> CertFault
+    ensures { result ≡ told_of fault }
+{
+    match fault {
+        Fault::BadLine { line } => CertFault::BadLine { line },
+        Fault::Ended { line } => CertFault::Ended { line },
     }
-    if !rest.is_empty() {
-        return Err(CertFault::BadLine { line });
-    }
-    Ok(draft.finish())
 }

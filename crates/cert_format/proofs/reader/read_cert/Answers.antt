@@ -1,41 +1,55 @@
-use Rattle.std.proofs.Common.{◌≡◌, ◌≢◌, ◌∙◌, [], length, nat_eq, sym, ap, subst}
-use Rattle.std.proofs.lemmas.Bool.{false≢true, eqb-true}
-use Rattle.std.proofs.lemmas.List.{nil_from_length}
+use Rattle.std.proofs.Common.{◌≡◌, ◌-◌, ◌^◌, ◌<◌, ◌++◌, length, take, drop, None, sym, ap, subst, ◌∙◌, length-drop, rules, arith}
+use Rattle.std.proofs.Math.Seq.{take-add}
+use Rattle.std.proofs.lemmas.List.{take_all}
 use Rattle.cert_spec.specs.Text.{Spells}
-use Rattle.cert_format.proofs.Steps.{read_more, read_bad, read_extra, read_whole, read_stage}
+use Rattle.cert_scan.specs.Scanned.{Tells}
+use Rattle.cert_format.specs.Faults.{ToldFault}
+use Rattle.cert_format.specs.Readings.{HasRead}
+use Rattle.cert_format.proofs.Steps.{IsRead, read_faulty, read_whole}
 use Rattle.cert_format.proofs.reader.read_cert.Goals as goal
+use Rattle.cert_format.proofs.reader.read_cert.Goals.{After-finish}
 
-pub take_line-requires : goal.take_line-requires
-take_line-requires c = read_stage c.lines.invariant
+pub take_next-requires-clause-read : goal.take_next-requires-clause-read
+take_next-requires-clause-read c = (take c.loop-at.at c.args.bytes.now, c.loop-at.invariant.read)
 
-pub returns-then-not-branch-clause-fault : goal.returns-then-not-branch-clause-fault
-returns-then-not-branch-clause-fault c =
-    let parts = rw c.in-Some.is at c.split_first.ensures.parts in
-    let none = rw c.if-not-branch.true at c.in_ok-take_line.ensures in
-    read_bad c.split_first.result.0.now c.in-Some.next.now c.lines.invariant parts none
+pub loop-at-preserved : goal.loop-at-preserved
+loop-at-preserved c =
+    let bytes = c.args.bytes.now in
+    let at = c.loop-at.at in
+    let n = c.in_ok-at.field-0 in
+    record {
+      within = search rules;
+      read = subst (λ b. HasRead b c.take_next.new.scan c.take_next.new.gathering)
+          (ap (λ l. take at bytes ++ take n l) (take_all (length bytes - at) (drop at bytes) (let long = length-drop at bytes in omega arith))
+          ∙ sym (take-add at n bytes))
+          (c.in_ok-at.ensures.read (take at bytes) c.loop-at.invariant.read);
+    }
 
-pub lines-preserved : goal.lines-preserved
-lines-preserved c =
-    let parts = rw c.in-Some.is at c.split_first.ensures.parts in
-    let shorter = rw c.in-Some.is at c.split_first.ensures.shorter in
-    let took = rw c.if-not-branch.false at c.in_ok-take_line.ensures in
-    read_more c.split_first.result.0.now c.in-Some.next.now c.take_line.new.self c.lines.invariant parts shorter took
+-- all bytes were read
+read : (c : After-finish) → HasRead c.args.bytes.now c.loop-at.scan c.loop-at.gathering
+read c = subst (λ b. HasRead b c.loop-at.scan c.loop-at.gathering) (take_all c.loop-at.at c.args.bytes.now (omega arith)) c.loop-at.invariant.read
 
-pub returns-then-not-is_empty-clause-fault : goal.returns-then-not-is_empty-clause-fault
-returns-then-not-is_empty-clause-fault c =
-    let parts = rw c.in_default.is at c.split_first.ensures.parts in
-    let some : c.lines.rest.now ≢ [] = λ none. false≢true (sym c.if-not-is_empty.true ∙ c.is_empty.ensures ∙ ap (λ xs. nat_eq (length xs) 0) none) in
-    read_extra c.split_first.result.0.now c.lines.invariant parts
-    (c.is_complete.ensures.complete c.if-not-is_complete.false) some
+tells : (c : After-finish) → Tells c.args.bytes.now c.finish.result
+tells c =
+    let few : length c.args.bytes.now < 2 ^ 64 - 1 = search rules in
+    c.finish.ensures.tells c.args.bytes.now (read c).given (read c).scanned few
 
-pub finish-requires : goal.finish-requires
-finish-requires c =
-    let none : c.lines.rest.now ≡ [] = nil_from_length c.lines.rest.now (eqb-true (length c.lines.rest.now) 0 (sym c.is_empty.ensures ∙ c.if-not-is_empty.false)) in
-    let read = read_whole c.lines.invariant (c.is_complete.ensures.complete c.if-not-is_complete.false) none in
-    (read.proof, read.in_range, read.gathered)
+whole : (c : After-finish) → c.finish.result ≡ None → IsRead c.args.bytes.now c.loop-at.gathering
+whole c none =
+    read_whole c.args.bytes.now c.loop-at.scan c.loop-at.gathering c.finish.result (read c) none (tells c)
+    (λ k spells. c.finish.ensures.items c.args.bytes.now (read c).given k (read c).scanned spells)
 
-pub returns-clause-spells : goal.returns-clause-spells
-returns-clause-spells c =
-    let none : c.lines.rest.now ≡ [] = nil_from_length c.lines.rest.now (eqb-true (length c.lines.rest.now) 0 (sym c.is_empty.ensures ∙ c.if-not-is_empty.false)) in
-    let read = read_whole c.lines.invariant (c.is_complete.ensures.complete c.if-not-is_complete.false) none in
-    subst (Spells c.args.bytes.now) (sym (c.finish.ensures read.proof read.in_range read.gathered)) read.spells
+pub finish-requires-in-None : goal.finish-requires-in-None
+finish-requires-in-None c =
+    let r = whole (goal.at.finish-requires-in-None c).After-finish c.in-None.is in
+    (r.proof, r.in_range, r.gathered)
+
+pub returns-in-None-clause-spells : goal.returns-in-None-clause-spells
+returns-in-None-clause-spells c =
+    let r = whole (goal.at.returns-in-None-clause-spells c).After-finish c.in-None.is in
+    subst (Spells c.args.bytes.now) (sym (c.finish-in-None.ensures r.proof r.in_range r.gathered)) r.spells
+
+pub returns-in-Some-clause-fault : goal.returns-in-Some-clause-fault
+returns-in-Some-clause-fault c =
+    subst (ToldFault c.args.bytes.now) (sym c.told.ensures)
+    (read_faulty c.args.bytes.now c.finish.result c.in-Some.fault c.in-Some.is (tells (goal.at.returns-in-Some-clause-fault c).After-finish))

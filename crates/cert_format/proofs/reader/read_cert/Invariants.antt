@@ -1,9 +1,12 @@
-use Rattle.std.proofs.Common.{length}
+use Rattle.std.proofs.Common.{◌-◌, ◌≤◌, length, take}
 use Rattle.cert_format.specs.Readings.{HasRead}
 use Rattle.cert_format.proofs.reader.read_cert.Given as goal
 
-abbrev pub invariant-lines : goal.invariant-lines
-invariant-lines l = HasRead l.bytes l.rest l.line l.draft
+abbrev pub invariant-loop-at : goal.invariant-loop-at
+invariant-loop-at l = record {
+  within : l.at ≤ length l.bytes;
+  read : HasRead (take l.at l.bytes) l.scan l.gathering;
+}
 
-abbrev pub decreases-lines : goal.decreases-lines
-decreases-lines l = length l.rest
+abbrev pub decreases-loop-at : goal.decreases-loop-at
+decreases-loop-at l = length l.bytes - l.at

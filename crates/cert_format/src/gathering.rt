@@ -1,0 +1,141 @@
+// A certificate in the making, item by item.
+ghost use Rattle.std.specs.Prelude.{◌≡◌, ◌<◌, ◌^◌, map, IfOk};
+ghost use Rattle.hub_spec.specs.Certificates.{Proof};
+ghost use Rattle.hub_spec.specs.Ranges.{IsInRange};
+ghost use Rattle.cert_format.specs.Parts.{cut_of};
+ghost use Rattle.cert_format.specs.Gathered.{with_dual};
+
+use crate::Certificate;
+use crate::begun::BegunLine;
+use cert_scan::Item;
+use hub_model::{Dual, Mix, Plan, TreeLine, signed};
+use std::alloc::{AllocError, Global};
+use std::mem;
+
+// The parts that items gave. That a line ends is told by the next one, so its dual or leaf is put in only then.
+#[derive(Drop)]
+pub(crate) struct Gathering {
+    pub(crate) size: u32,
+    pub(crate) candidates: u32,
+    pub(crate) cost: u128,
+    pub(crate) bound: u128,
+    pub(crate) hubs: Vec<u32>,
+    pub(crate) routes: Vec<(u32, u32)>,
+    // The last may still lack duals.
+    pub(crate) cuts: Vec<Vec<Dual>>,
+    pub(crate) lines: Vec<TreeLine>,
+    pub(crate) begun: BegunLine,
+}
+
+impl Gathering {
+    ghost use Rattle.cert_format.specs.Gathered.{at_start, settled, whole, taken, first_taken, MayTake, IsFit, all_gathered};
+    ghost use Rattle.cert_format.specs.Gatherings.{gathered_of, standing_of};
+
+    pub(crate) fn new(alloc: Global) -> Gathering
+        ensures { standing_of result ≡ at_start }
+    {
+        Gathering {
+            size: 0,
+            candidates: 0,
+            cost: 0,
+            bound: 0,
+            hubs: Vec::new(alloc),
+            routes: Vec::new(alloc),
+            cuts: Vec::new(alloc),
+            lines: Vec::new(alloc),
+            begun: BegunLine::Nothing,
+        }
+    }
+
+    // Takes the next item in.
+    pub(crate) fn take(&mut self, alloc: Global, item: Item) -> Result<(), AllocError>
+        requires { MayTake (standing_of self.old) item }
+        ensures { IfOk result (λ _. standing_of self.new ≡ taken (standing_of self.old) item) }
+    {
+        match item {
+            Item::DualPair { k, u, .. } => self.begun.list_value(k, u),
+            Item::LeafPair { c, w, .. } => self.begun.list_weight(c, w),
+            _ => {
+                self.settle()?;
+                self.take_first(alloc, item)
+            }
+        }
+    }
+
+    // Puts what was begun among the parts: no more of it comes.
+    fn settle(&mut self) -> Result<(), AllocError>
+        requires { IsFit (standing_of self.old).begun }
+        ensures { IfOk result (λ _. standing_of self.new ≡ whole (settled (standing_of self.old))) }
+    {
+        match mem::replace(&mut self.begun, BegunLine::Nothing) {
+            BegunLine::Nothing => Ok(()),
+            BegunLine::Dual(price, values) => {
+                let dual = Dual::new(signed(price), values);
+                add_dual(&mut self.cuts, dual)
+            }
+            BegunLine::Leaf(denominator, weights) => {
+                let mix = Mix::new(signed(denominator as u128), weights);
+                self.lines.push(TreeLine::Leaf(mix))?;
+                Ok(())
+            }
+        }
+    }
+
+    // Takes an item that is the first of its line, or a hub.
+    fn take_first(&mut self, alloc: Global, item: Item) -> Result<(), AllocError>
+        requires { standing_of self.old ≡ whole (gathered_of self.old) }
+        ensures { IfOk result (λ _. standing_of self.new ≡ first_taken (gathered_of self.old) item) }
+    {
+        match item {
+            Item::Size { n, q } => {
+                self.size = n;
+                self.candidates = q;
+            }
+            Item::Cost(cost) => self.cost = cost,
+            Item::Bound(bound) => self.bound = bound,
+            Item::Hub { k, .. } => self.hubs.push(k)?,
+            Item::Route { k, m, .. } => self.routes.push((k, m))?,
+            Item::Cut(_) => self.cuts.push(Vec::new(alloc))?,
+            Item::Dual { a, .. } => self.begun = BegunLine::Dual(a, Vec::new(alloc)),
+            Item::Branch(k) => self.lines.push(TreeLine::BranchOn(k))?,
+            Item::Leaf { denom, .. } => self.begun = BegunLine::Leaf(denom, Vec::new(alloc)),
+            Item::Empty => self.lines.push(TreeLine::Empty)?,
+            _ => {}
+        }
+        Ok(())
+    }
+
+    // The certificate of which all items were taken in.
+    pub(crate) fn finish(self) -> Certificate
+        requires { (k : Proof) × IsInRange k × (gathered_of self ≡ all_gathered k) }
+        ensures { (k : Proof) → IsInRange k → gathered_of self ≡ all_gathered k → result ≡ k }
+    {
+        let Gathering {
+            size,
+            candidates,
+            cost,
+            bound,
+            hubs,
+            routes,
+            cuts,
+            lines,
+            ..
+        } = self;
+        let plan = Plan::new(hubs, routes);
+        let cost = signed(cost);
+        let bound = signed(bound);
+        Certificate::new(size, candidates, cost, bound, plan, cuts, lines)
+    }
+}
+
+// Adds a dual to the last cut.
+fn add_dual(cuts: &mut Vec<Vec<Dual>>, dual: Dual) -> Result<(), AllocError>
+    ensures { IfOk result (λ _. map cut_of cuts.new.items ≡ with_dual (map cut_of cuts.old.items) dual) }
+{
+    if cuts.is_empty() {
+        return Ok(());
+    }
+    let last = cuts.len() - 1;
+    cuts[last].push(dual)?;
+    Ok(())
+}
