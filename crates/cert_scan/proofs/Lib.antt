@@ -11,3 +11,4 @@ pub mod Tracks
 pub mod Finishing
 pub mod Stepping
 pub mod PairRuns
+pub mod ShortDigits

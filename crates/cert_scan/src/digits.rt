@@ -1,11 +1,11 @@
 //! Digits that spell a number.
-ghost use Rattle.std.specs.Prelude.{◌≡◌, ◌≤◌, [], ◌∷◌, length, take, Some, None, IfSome};
+ghost use Rattle.std.specs.Prelude.{◌≡◌, ◌+◌, ◌*◌, ◌^◌, ◌≤◌, [], ◌∷◌, length, take, Some, None, IfSome};
 ghost use Rattle.cert_scan.specs.Runs.{SpellsOn};
 
 use crate::bytes::with_digit;
 
-// A number below this takes a digit more in 64 bits.
-const SHORT: u64 = 1_000_000_000_000_000_000;
+// Any number of so many digits fits 64 bits.
+const SHORT: usize = 18;
 
 // How many of the bytes are digits that go on with a number, and the number with them.
 pub(crate) fn more_digits(first: Option<u128>, bytes: &[u8]) -> (usize, Option<u128>)
@@ -53,7 +53,7 @@ fn digit_behind(value: Option<u128>, byte: u8) -> Option<u128>
     with_digit(value, byte)
 }
 
-// The first digits of a number, while 64 bits hold it.
+// The first digits of a number: one where it is 0, and else no more than 18.
 pub(crate) fn short_digits(bytes: &[u8]) -> (usize, Option<u64>)
     ensures within { result.0 ≤ length bytes.now }
     ensures spelled { SpellsOn None (take result.0 bytes.now) result.1 }
@@ -61,22 +61,26 @@ pub(crate) fn short_digits(bytes: &[u8]) -> (usize, Option<u64>)
     if bytes.len() == 0 {
         return (0, None);
     }
-    let Some(first) = first_digit(bytes[0]) else {
+    let Some(first) = digit_of(bytes[0]) else {
         return (0, None);
     };
+    if first < 1 {
+        return (1, Some(first));
+    }
     let mut value = first;
-    for i in 1..bytes.len() {
-        let Some(more) = short_digit_behind(value, bytes[i]) else {
+    let limit = bytes.len().min(SHORT);
+    for i in 1..limit {
+        let Some(digit) = digit_of(bytes[i]) else {
             return (i, Some(value));
         };
-        value = more;
+        value = with_short_digit(value, digit);
     }
-    (bytes.len(), Some(value))
+    (limit, Some(value))
 }
 
-// The number of this digit, if it is one.
-fn first_digit(byte: u8) -> Option<u64>
-    ensures { IfSome result (λ digit. SpellsOn None (byte ∷ []) (Some digit)) }
+// The digit that the byte is, if it is one.
+fn digit_of(byte: u8) -> Option<u64>
+    ensures { IfSome result (λ digit. (byte ≡ 48 + digit) × (digit ≤ 9)) }
 {
     if byte < b'0' || byte > b'9' {
         return None;
@@ -84,12 +88,10 @@ fn first_digit(byte: u8) -> Option<u64>
     Some((byte - b'0') as u64)
 }
 
-// The number with this byte behind it, if it is a digit that may stand there and the number is short.
-fn short_digit_behind(value: u64, byte: u8) -> Option<u64>
-    ensures { IfSome result (λ more. SpellsOn (Some value) (byte ∷ []) (Some more)) }
+fn with_short_digit(value: u64, digit: u64) -> u64
+    requires value { value ≤ 10 ^ 17 }
+    requires digit { digit ≤ 9 }
+    ensures { result ≡ value * 10 + digit }
 {
-    if byte < b'0' || byte > b'9' || value < 1 || value >= SHORT {
-        return None;
-    }
-    Some(value * 10 + (byte - b'0') as u64)
+    value * 10 + digit
 }
