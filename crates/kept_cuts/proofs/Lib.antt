@@ -1,3 +1,4 @@
 pub mod Amounts
 pub mod KeptCutLaws
 pub mod KeptMore
+pub mod Packing
