@@ -1,4 +1,4 @@
--- The values of a dual, added to loads and taken back entry by entry.
+-- The values of a dual, added to loads entry by entry.
 use Rattle.std.proofs.Common.{◌≡◌, ℕ, ◌+◌, ◌<◌, ◌≤◌, List, length, get_or, take, map, set, All, ap, sym, ◌∙◌, ⊎_elim, arith}
 use Rattle.std.specs.List.Sorted.{IsStrictlyIncreasing}
 use Rattle.std.proofs.lemmas.Bool.{cases_eq}
@@ -7,18 +7,6 @@ use Rattle.std.proofs.lemmas.List.Elements.{All-get_or}
 use Rattle.hub_spec.specs.Cuts.{value_at}
 use Rattle.hub_spec.proofs.ListedValues.{next_value}
 use Rattle.cert_checker.specs.Duals.{most_sum}
-
--- without the value of the last entry, those of the entries before it stand
-pub cleared_more : (u : List (ℕ × ℕ)) (values : List ℕ) (e left k : ℕ) → IsStrictlyIncreasing (map (λ (x : ℕ × ℕ). x.0) u) → left ≡ e + 1
-    → e < length u → k ≡ (get_or u e (0, 0)).0 → k < length values → ((m : ℕ) → get_or values m 0 ≡ value_at (take left u) m)
-    → (m : ℕ) → get_or (set values k 0) m 0 ≡ value_at (take e u) m
-cleared_more u values e left k up last below node within are m =
-    let next = next_value u e up below in
-    let before : get_or values m 0 ≡ value_at (take (e + 1) u) m = are m ∙ ap (λ n. value_at (take n u) m) last in
-    ⊎_elim (λ same. ap (λ x. get_or (set values k 0) x 0) (sym same) ∙ get_or-set_same values k 0 0 within
-    ∙ sym next.none ∙ ap (value_at (take e u)) (sym node ∙ same))
-    (λ apart. get_or-set_other values k m 0 0 (λ same. apart (sym same)) ∙ before ∙ next.other m (λ same. apart (node ∙ same)))
-    (cases_eq k m)
 
 -- the load of the next entry's node is as it was
 load_before : (u : List (ℕ × ℕ)) (old loads : List ℕ) (e k : ℕ) → IsStrictlyIncreasing (map (λ (x : ℕ × ℕ). x.0) u) → e < length u

@@ -1,5 +1,5 @@
 -- The values of a dual listed by node, and the conditions on it by that list.
-use Rattle.std.proofs.Common.{ℕ, ◌+◌, ◌*◌, ◌^◌, ◌<◌, ◌≤◌, List, [], ◌∷◌, get_or, nat_eq, Bool, IsTrue, ◌↔◌, All, Contains, inl, inr, ⊎_elim, mul-le-mul_left, arith}
+use Rattle.std.proofs.Common.{◌≡◌, ℕ, zero, suc, ◌+◌, ◌*◌, ◌^◌, ◌<◌, ◌≤◌, List, [], ◌∷◌, get_or, take, replicate, nat_eq, Bool, IsTrue, ◌↔◌, All, Contains, inl, inr, refl, ⊎_elim, mul-le-mul_left, arith}
 use Rattle.std.proofs.lemmas.Bool.{cases_eq, cond_both}
 use Rattle.std.proofs.lemmas.List.Elements.{All-head, All-tail, All-contains, All-from_get_or}
 use Rattle.hub_spec.specs.Problem.{Problem, flow, distance, route_cost}
@@ -7,6 +7,13 @@ use Rattle.hub_spec.specs.Ranges.{IsAmount}
 use Rattle.hub_spec.specs.Cuts.{Prices, value_at, IsDual}
 use Rattle.hub_spec.proofs.Sets.{All-from_contains}
 use Rattle.cert_checker.specs.Duals.{AreValues, IsCovered, IsCoveredSingle, IsCoveredFrom, IsCoveredByAll}
+
+-- in room of which nothing is used yet each node has the value 0
+pub no_values : (m n k : ℕ) → ◌≡◌ {A = ℕ} (get_or (take n (replicate m 0)) k 0) 0
+no_values m zero k = refl
+no_values zero (suc n) k = refl
+no_values (suc m) (suc n) zero = refl
+no_values (suc m) (suc n) (suc k) = no_values m n k
 
 pub value_at_short : (m : ℕ) (u : List (ℕ × ℕ)) (k : ℕ) → 0 < m → All (λ (e : ℕ × ℕ). e.1 < m) u → value_at u k < m
 value_at_short m [] k some h = some

@@ -1,5 +1,6 @@
 mod Reductions
 mod Parts
+mod FirstFailing
 mod DualValues
 mod DualEntries
 mod DualSums

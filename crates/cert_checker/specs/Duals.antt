@@ -1,8 +1,11 @@
 -- The conditions on a dual whose values are listed by node, and the sums of a cut.
-use Rattle.std.specs.Prelude.{◌≡◌, ℕ, ◌+◌, ◌*◌, ◌^◌, ◌≤◌, List, slice_index, All, ◌⊎◌}
+use Rattle.std.specs.Prelude.{◌≡◌, ℕ, ◌+◌, ◌*◌, ◌^◌, ◌<◌, ◌≤◌, List, [], length, slice_index, slice_index_or, Option, All, ◌⊎◌}
+use Rattle.std.specs.Option.{MatchOption}
 use Rattle.hub_spec.specs.Limits.{most_nodes}
-use Rattle.hub_spec.specs.Problem.{Problem, route_cost}
-use Rattle.hub_spec.specs.Cuts.{value_at, Cut, total, load}
+use Rattle.hub_spec.specs.Problem.{Problem, commodities, commodity_at, route_cost}
+use Rattle.hub_spec.specs.Cuts.{Prices, value_at, IsDual, Cut, total, load}
+use Rattle.hub_spec.specs.Ranges.{IsDualInRange}
+use Rattle.cert_spec.specs.Conditions.{Dual, AllHold, FailsFirst, dual_claims}
 
 -- of the duals of a cut
 abbrev pub most_duals : ℕ
@@ -37,3 +40,23 @@ IsCoveredByAll p c a values =
 pub record IsSummed (cut : Cut) (sum : ℕ) (loads : List ℕ) : Type 0 where
   pub sum_is : sum ≡ total cut
   pub loads_are : (k : ℕ) → slice_index loads k ≡ load cut k
+
+-- the dual of the commodity of this number is feasible
+abbrev pub IsDualAt : Problem → List Prices → ℕ → Type 0
+IsDualAt p duals t = IsDual p (commodity_at p.size t) (slice_index_or duals t (record { a = 0; u = [] }))
+
+-- there is a dual in range for each commodity, and a commodity of this number
+pub record MayTryDual (p : Problem) (duals : List Prices) (t : ℕ) : Type 0 where
+  pub below : t < p.size * p.size
+  pub one_for_each : length duals ≡ p.size * p.size
+  pub in_range : All (IsDualInRange p.size) duals
+
+-- the conditions of the duals from this line on hold, or that of this number is the first to fail
+abbrev pub HoldsOrFails : Problem → List Prices → ℕ → Option ℕ → Type 0
+HoldsOrFails p duals line first =
+    MatchOption first (AllHold (dual_claims p line (commodities p.size) duals))
+    (λ t. FailsFirst (dual_claims p line (commodities p.size) duals) Dual (line + t))
+
+-- so it is wherever they stand
+abbrev pub IsFirstFailing : Problem → List Prices → Option ℕ → Type 0
+IsFirstFailing p duals first = (line : ℕ) → HoldsOrFails p duals line first

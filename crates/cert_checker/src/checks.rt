@@ -17,12 +17,14 @@ use crate::walks::check_tree;
 use cert_format::Certificate;
 use hub_model::{Instance, unsigned};
 use std::alloc::{AllocError, Global};
+use std::thread::Threads;
 
 /// What the certificate shows of its plan for the instance.
 ///
 /// The conditions are tried in order: size, bound and cost, plan, cuts, tree. Lines are those of the certificate's
-/// text, counted from 1. The only error is want of memory.
-pub fn check(
+/// text, counted from 1. The duals of a large cut are tried side by side. The only error is want of memory.
+pub fn check<R: Threads + Sync>(
+    rt: &R,
     alloc: Global,
     instance: &Instance,
     certificate: &Certificate,
@@ -31,7 +33,7 @@ pub fn check(
     ensures bound { IfOk result (ShowsBound instance.now certificate.now) }
     ensures optimal { IfOk result (ShowsOptimal instance.now certificate.now) }
 {
-    match check_all(alloc, instance, certificate) {
+    match check_all(rt, alloc, instance, certificate) {
         Ok(()) => Ok(verdict_of(instance, certificate)),
         Err(Failure::Fails { kind, line }) => Ok(Verdict::No { kind, line }),
         Err(Failure::OutOfMemory) => Err(AllocError),
@@ -54,7 +56,12 @@ fn verdict_of(instance: &Instance, certificate: &Certificate) -> Verdict
 }
 
 /// Tries all conditions.
-fn check_all(alloc: Global, instance: &Instance, certificate: &Certificate) -> Result<(), Failure>
+fn check_all<R: Threads + Sync>(
+    rt: &R,
+    alloc: Global,
+    instance: &Instance,
+    certificate: &Certificate,
+) -> Result<(), Failure>
     ensures problem { IsProblem instance.now }
     ensures in_range { IsInRange certificate.now }
     ensures holds { OnOk result (AllHold (claims instance.now certificate.now)) }
@@ -62,7 +69,7 @@ fn check_all(alloc: Global, instance: &Instance, certificate: &Certificate) -> R
 {
     check_sizes(instance, certificate)?;
     check_plan_of(instance, certificate)?;
-    let cuts = check_cuts_of(alloc, instance, certificate)?;
+    let cuts = check_cuts_of(rt, alloc, instance, certificate)?;
     check_tree_of(alloc, instance, certificate, cuts.as_slice())?;
     Ok(())
 }
@@ -111,7 +118,8 @@ fn check_plan_of(instance: &Instance, certificate: &Certificate) -> Result<(), F
     )
 }
 
-fn check_cuts_of<'a>(
+fn check_cuts_of<'a, R: Threads + Sync>(
+    rt: &R,
     alloc: Global,
     instance: &Instance,
     certificate: &'a Certificate,
@@ -123,14 +131,7 @@ fn check_cuts_of<'a>(
     ensures fails { IfErr result (IsFailure (all_cut_claims instance.now certificate.now)) }
 {
     let n = instance.size();
-    let mut values = vec![in alloc; 0; n as usize]?;
-    check_cuts(
-        alloc,
-        instance,
-        first_cut_line(n),
-        certificate.cuts(),
-        &mut values,
-    )
+    check_cuts(rt, alloc, instance, first_cut_line(n), certificate.cuts())
 }
 
 fn check_tree_of(

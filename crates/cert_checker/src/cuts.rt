@@ -1,6 +1,6 @@
 //! The conditions of a cut.
 
-ghost use Rattle.std.specs.Prelude.{◌≡◌, ℕ, ◌+◌, ◌*◌, ◌^◌, ◌<◌, ◌≤◌, ◌↔◌, [], length, map, IsTrue, IfOk, IfErr, OnOk, All};
+ghost use Rattle.std.specs.Prelude.{◌≡◌, ℕ, ◌+◌, ◌*◌, ◌^◌, ◌<◌, ◌≤◌, ◌↔◌, length, map, IsTrue, IfOk, IfErr, OnOk, All};
 ghost use Rattle.hub_spec.specs.Limits.{most_cost};
 ghost use Rattle.hub_spec.specs.Cuts.{cut_by, load, IsCut, IsWithinSums};
 ghost use Rattle.hub_spec.specs.Ranges.{IsCutInRange};
@@ -8,7 +8,6 @@ ghost use Rattle.cert_spec.specs.Text.{cut_lines};
 ghost use Rattle.cert_spec.specs.Conditions.{AllHold, one_cut_claims, cut_claims};
 ghost use Rattle.cert_format.specs.Parts.{cut_of};
 ghost use Rattle.cert_checker.specs.Answers.{IsFailure};
-ghost use Rattle.cert_checker.specs.Duals.{AreValues};
 
 use crate::duals::check_duals;
 use crate::failures::Failure;
@@ -17,20 +16,19 @@ use crate::lines::{cut_lines, last_dual_line};
 use crate::sums::SummedCut;
 use hub_model::{Dual, Instance, MOST_COST};
 use std::alloc::Global;
+use std::thread::Threads;
 
 /// Tries the conditions of the cuts, each given by its duals, the first of which stands at this line, and gives them
-/// with their sums. `values` has a 0 for each node.
-pub(crate) fn check_cuts<'a>(
+/// with their sums.
+pub(crate) fn check_cuts<'a, R: Threads + Sync>(
+    rt: &R,
     alloc: Global,
     instance: &Instance,
     line: u64,
     cuts: &'a [Vec<Dual>],
-    values: &mut [u128],
 ) -> Result<Vec<SummedCut<'a>>, Failure>
     requires line { line + length cuts.now * cut_lines instance.now.size < 2 ^ 59 }
     requires cuts { All (IsCutInRange instance.now.size) (map cut_of cuts.now) }
-    requires values { length values.old ≡ instance.now.size }
-    requires cleared { AreValues [] values.old }
     ensures same { IfOk result (λ summed. summed.items ≡ map cut_of cuts.now) }
     ensures holds { OnOk result (AllHold (cut_claims instance.now line (map cut_of cuts.now))) }
     ensures are_cuts { IfOk result (λ summed. All (IsCut instance.now) summed.items) }
@@ -40,7 +38,7 @@ pub(crate) fn check_cuts<'a>(
     let mut summed = Vec::new(alloc);
     let mut at = line;
     for duals in cuts {
-        let cut = check_cut(alloc, instance, at, duals.as_slice(), values)?;
+        let cut = check_cut(rt, alloc, instance, at, duals.as_slice())?;
         summed.push(cut)?;
         at += lines;
     }
@@ -48,26 +46,22 @@ pub(crate) fn check_cuts<'a>(
 }
 
 /// Tries the conditions of the cut of these duals, which stands at this line, and gives the cut with its sums.
-/// `values` has a 0 for each node, and has so again.
-fn check_cut<'a>(
+fn check_cut<'a, R: Threads + Sync>(
+    rt: &R,
     alloc: Global,
     instance: &Instance,
     line: u64,
     duals: &'a [Dual],
-    values: &mut [u128],
 ) -> Result<SummedCut<'a>, Failure>
     requires line { line < 2 ^ 59 }
     requires cut { IsCutInRange instance.now.size (cut_by duals.now) }
-    requires values { length values.old ≡ instance.now.size }
-    requires cleared { AreValues [] values.old }
     ensures cut { IfOk result (λ cut. cut ≡ cut_by duals.now) }
     ensures holds { OnOk result (AllHold (one_cut_claims instance.now line (cut_by duals.now))) }
     ensures is_cut { IfOk result (IsCut instance.now) }
     ensures fails { IfErr result (IsFailure (one_cut_claims instance.now line (cut_by duals.now))) }
-    ensures cleared { AreValues [] values.new }
 {
     let n = instance.size();
-    check_duals(instance, line + 1, duals, values)?;
+    check_duals(rt, instance, line + 1, duals)?;
     let cut = SummedCut::of(alloc, n, duals)?;
     if !is_within_sums(instance, &cut) {
         return Err(Failure::Fails {

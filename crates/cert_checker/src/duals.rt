@@ -1,65 +1,90 @@
 //! The conditions of the duals of a cut.
 
-ghost use Rattle.std.specs.Prelude.{◌≡◌, ℕ, ◌+◌, ◌*◌, ◌^◌, ◌<◌, ◌≤◌, ◌↔◌, [], length, slice_index_or, IsTrue, IfErr, OnOk, All, Contains};
+ghost use Rattle.std.specs.Prelude.{◌≡◌, ℕ, ◌+◌, ◌*◌, ◌^◌, ◌<◌, ◌≤◌, ◌↔◌, [], length, slice_index_or, false, IsTrue, IfErr, OnOk, All, Contains};
 ghost use Rattle.hub_spec.specs.Problem.{commodities};
 ghost use Rattle.hub_spec.specs.Cuts.{IsDual};
 ghost use Rattle.cert_spec.specs.Conditions.{AllHold, dual_claims};
 ghost use Rattle.hub_spec.specs.Ranges.{IsAmount, IsDualInRange};
 ghost use Rattle.cert_checker.specs.Answers.{IsFailure};
-ghost use Rattle.cert_checker.specs.Duals.{AreValues, IsCovered, IsCoveredSingle, IsCoveredFrom, IsCoveredByAll};
+ghost use Rattle.cert_checker.specs.Duals.{AreValues, IsCovered, IsCoveredSingle, IsCoveredFrom, IsCoveredByAll, IsDualAt, MayTryDual, IsFirstFailing};
 
 use crate::failures::Failure;
 use crate::kinds::Kind;
 use crate::nodes::is_among;
-use hub_model::{Dual, Instance};
+use hub_model::{Dual, Instance, MOST_NODES};
+use rayon::prelude::*;
+use std::thread::Threads;
 
-/// Tries the duals of a cut, one for each commodity; the first dual stands at this line. `values` has a 0 for each
-/// node, and has so again.
-pub(crate) fn check_duals(
+/// A thread takes at least so many duals, so that a small cut is tried on one.
+const DUALS_OF_A_THREAD: usize = 512;
+
+/// Room for a value of each node.
+const ROOM: usize = MOST_NODES as usize;
+
+/// Tries the duals of a cut, one for each commodity; the first dual stands at this line.
+pub(crate) fn check_duals<R: Threads + Sync>(
+    rt: &R,
     instance: &Instance,
     line: u64,
     duals: &[Dual],
-    values: &mut [u128],
 ) -> Result<(), Failure>
     requires line { line < 2 ^ 60 }
     requires one_for_each { length duals.now ≡ instance.now.size * instance.now.size }
     requires duals { All (IsDualInRange instance.now.size) duals.now }
-    requires values { length values.old ≡ instance.now.size }
-    requires cleared { AreValues [] values.old }
     ensures holds { OnOk result (AllHold (dual_claims instance.now line (commodities instance.now.size) duals.now)) }
     ensures fails { IfErr result (IsFailure (dual_claims instance.now line (commodities instance.now.size) duals.now)) }
-    ensures cleared { AreValues [] values.new }
 {
-    let n = instance.size();
-    for t in 0..n * n {
-        if !is_dual(instance, t / n, t % n, &duals[t as usize], values) {
-            return Err(Failure::Fails {
-                kind: Kind::Dual,
-                line: line + t as u64,
-            });
-        }
+    match first_failing(rt, instance, duals) {
+        None => Ok(()),
+        Some(t) => Err(Failure::Fails {
+            kind: Kind::Dual,
+            line: line + t as u64,
+        }),
     }
-    Ok(())
 }
 
-/// Tells whether this is a feasible dual of the commodity from `i` to `j`. Only the listed values are put into `values`
-/// and taken back, so that a dual takes no pass over all nodes.
-fn is_dual(instance: &Instance, i: u32, j: u32, dual: &Dual, values: &mut [u128]) -> bool
+/// The number of the first commodity whose dual is not feasible. The duals are tried side by side, also those behind it.
+fn first_failing<R: Threads + Sync>(rt: &R, instance: &Instance, duals: &[Dual]) -> Option<u32>
+    requires one_for_each { length duals.now ≡ instance.now.size * instance.now.size }
+    requires duals { All (IsDualInRange instance.now.size) duals.now }
+    ensures { IsFirstFailing instance.now duals.now result }
+{
+    let n = instance.size();
+    (0..n * n)
+        .into_par_iter()
+        .with_min_len(DUALS_OF_A_THREAD)
+        .find_first(
+            rt,
+            |t: &u32| -> bool
+                requires { MayTryDual instance.now duals.now t.now }
+                ensures { (result ≡ false) ↔ IsDualAt instance.entry.now duals.entry.now t.entry.now }
+            { !is_dual_at(instance, duals, *t) },
+        )
+}
+
+/// Tells whether the dual of the commodity of this number is feasible.
+fn is_dual_at(instance: &Instance, duals: &[Dual], t: u32) -> bool
+    requires { MayTryDual instance.now duals.now t }
+    ensures { IsTrue result ↔ IsDualAt instance.now duals.now t }
+{
+    let n = instance.size();
+    is_dual(instance, t / n, t % n, &duals[t as usize])
+}
+
+/// Tells whether this is a feasible dual of the commodity from `i` to `j`.
+fn is_dual(instance: &Instance, i: u32, j: u32, dual: &Dual) -> bool
     requires from { i < instance.now.size }
     requires to { j < instance.now.size }
     requires dual { IsDualInRange instance.now.size dual.now }
-    requires values { length values.old ≡ instance.now.size }
-    requires cleared { AreValues [] values.old }
-    ensures is { IsTrue result ↔ IsDual instance.now (i, j) dual.now }
-    ensures cleared { AreValues [] values.new }
+    ensures { IsTrue result ↔ IsDual instance.now (i, j) dual.now }
 {
     if !lists_candidates(instance, dual) {
         return false;
     }
+    let mut room = [0; ROOM];
+    let values = &mut room[..instance.size() as usize];
     spread(dual, values);
-    let covered = is_covered_by_all(instance, i, j, dual.price(), values);
-    clear(dual, values);
-    covered
+    is_covered_by_all(instance, i, j, dual.price(), values)
 }
 
 /// Tells whether the price is covered by the routes and values of each candidate and of each two.
@@ -183,18 +208,5 @@ fn spread(dual: &Dual, values: &mut [u128])
         left -= 1;
         let (k, value) = dual.value(left);
         values[k as usize] = value;
-    }
-}
-
-/// Takes the values that the dual lists back.
-fn clear(dual: &Dual, values: &mut [u128])
-    requires dual { IsDualInRange (length values.old) dual.now }
-    requires values { AreValues dual.now.u values.old }
-    ensures { AreValues [] values.new }
-{
-    let mut left = dual.count();
-    while left > 0 {
-        left -= 1;
-        values[dual.value(left).0 as usize] = 0;
     }
 }

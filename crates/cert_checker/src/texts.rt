@@ -9,6 +9,7 @@ use crate::kinds::{Kind, Verdict};
 use cert_format::{CertFault, Certificate, read_cert};
 use hub_model::Instance;
 use std::alloc::{AllocError, Global};
+use std::thread::Threads;
 
 // A certificate's text may have at most this many bytes: 2^30.
 const MOST_BYTES: usize = 1_073_741_824;
@@ -32,7 +33,12 @@ pub enum Ending {
 
 /// What these bytes show of the plan that they name for the instance. They are read as a certificate, whose conditions
 /// are then tried. The only error is want of memory.
-pub fn check_text(alloc: Global, instance: &Instance, bytes: &[u8]) -> Result<Ending, AllocError>
+pub fn check_text<R: Threads + Sync>(
+    rt: &R,
+    alloc: Global,
+    instance: &Instance,
+    bytes: &[u8],
+) -> Result<Ending, AllocError>
     ensures why { IfOk result (λ e. Why instance.now bytes.now (verdict_of e)) }
     ensures proves { IfOk result (λ e. Proves instance.now bytes.now (verdict_of e)) }
 {
@@ -41,7 +47,7 @@ pub fn check_text(alloc: Global, instance: &Instance, bytes: &[u8]) -> Result<En
     }
     match read_cert(alloc, bytes) {
         Ok(certificate) => {
-            let verdict = check(alloc, instance, &certificate)?;
+            let verdict = check(rt, alloc, instance, &certificate)?;
             Ok(ending_of(&certificate, verdict))
         }
         Err(CertFault::BadLine { line }) => Ok(Ending::BadLine { line }),

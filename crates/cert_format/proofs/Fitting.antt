@@ -2,11 +2,10 @@
 use Rattle.std.proofs.Common.{◌≡◌, ℕ, ◌<◌, ◌≤◌, false, List, [], ◌∷◌, ◌++◌, flat_map, inl, inr, append_assoc, append-nil, sym, ap, ◌∙◌, subst}
 use Rattle.std.specs.List.{AllByRecursion}
 use Rattle.std.proofs.lemmas.List.Elements.{recursion_from_All}
-use Rattle.hub_spec.specs.Cuts.{Prices}
 use Rattle.hub_spec.specs.Trees.{branch_on, leaf_of, no_hub}
-use Rattle.hub_spec.specs.Ranges.{IsShort, IsDualInRange, IsLineInRange}
+use Rattle.hub_spec.specs.Ranges.{IsShort}
 use Rattle.cert_spec.specs.Lines.{Item as Line, says_version, says_size, says_cost, says_bound, says_hubs, says_route, says_cuts, says_cut, says_dual, says_nodes, says_tree, says_end}
-use Rattle.cert_spec.specs.Grammar.{Stage, want_version, want_size, want_end, want_nothing, want_cost, want_bound, want_hubs, want_cuts, want_nodes, want_route, want_cut, want_dual, want_tree, Wants, after, Leads}
+use Rattle.cert_spec.specs.Grammar.{Stage, want_version, want_size, want_end, want_cost, want_bound, want_hubs, want_cuts, want_nodes, want_route, want_cut, want_dual, want_tree, Wants, after, Leads}
 use Rattle.cert_scan.specs.Parts.{none_left, hub_parts, value_parts, weight_parts, parts_of, open_hubs, open_values, open_weights}
 use Rattle.cert_scan.specs.Given.{IsBegun, IsGiven}
 use Rattle.cert_scan.specs.declared.items.Item.{Item}

@@ -4,6 +4,7 @@ use cert_checker::{Kind, check, check_text};
 use cert_format::read_cert;
 use std::alloc::{AllocError, Global};
 use std::test::Fail;
+use std::thread::Threads;
 use worked_cases::{
     Case, NoInstance, ONE_NODE, ONE_NODE_BOUND, SECOND_OF_TWO, TWO_NODES, TWO_NODES_CERTIFICATE,
     TWO_NODES_OTHER_PLAN, TWO_NODES_PLAN, TWO_NODES_TREE, changed, instance,
@@ -197,9 +198,14 @@ fn text(alloc: Global, base: &str, changes: &[(&str, &str)]) -> Result<String, A
 }
 
 /// How the check of these bytes ends, as it prints.
-fn said(alloc: Global, case: &Case, bytes: &[u8]) -> Result<String, NoInstance> {
+fn said<R: Threads + Sync>(
+    rt: &R,
+    alloc: Global,
+    case: &Case,
+    bytes: &[u8],
+) -> Result<String, NoInstance> {
     let instance = instance(alloc, case)?;
-    let ending = check_text(alloc, &instance, bytes)?;
+    let ending = check_text(rt, alloc, &instance, bytes)?;
     Ok(format!(in alloc; "{ending:?}")?)
 }
 
@@ -207,25 +213,25 @@ fn said(alloc: Global, case: &Case, bytes: &[u8]) -> Result<String, NoInstance> 
 fn endings_of_texts(rt: HostRuntime) -> Result<(), Fail> {
     for (case, base, changes, wanted) in ROWS {
         let text = text(rt.alloc(), base, changes)?;
-        let said = said(rt.alloc(), &case, text.as_bytes())?;
+        let said = said(&rt, rt.alloc(), &case, text.as_bytes())?;
         assert_eq!(rt; said.as_str(), wanted, "{text}");
     }
     Ok(())
 }
 
 /// The verdict on the certificate of two nodes, as it prints, if its text is read.
-fn verdict(alloc: Global) -> Result<Option<String>, NoInstance> {
+fn verdict<R: Threads + Sync>(rt: &R, alloc: Global) -> Result<Option<String>, NoInstance> {
     let instance = instance(alloc, &TWO_NODES)?;
     let Ok(certificate) = read_cert(alloc, TWO_NODES_CERTIFICATE.as_bytes()) else {
         return Ok(None);
     };
-    let verdict = check(alloc, &instance, &certificate)?;
+    let verdict = check(rt, alloc, &instance, &certificate)?;
     Ok(Some(format!(in alloc; "{verdict:?}")?))
 }
 
 #[test]
 fn verdict_on_a_certificate(rt: HostRuntime) -> Result<(), Fail> {
-    let verdict = verdict(rt.alloc())?.ok_or("a certificate")?;
+    let verdict = verdict(&rt, rt.alloc())?.ok_or("a certificate")?;
     assert_eq!(rt; verdict.as_str(), "Optimal");
     assert_eq!(rt; Kind::CutNumber.name(), "CutNumber");
     Ok(())

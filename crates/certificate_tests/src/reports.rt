@@ -10,6 +10,7 @@ use hub_model::{Factors, Instance, Parts, Terms};
 use network_report::report;
 use std::alloc::Global;
 use std::test::Fail;
+use std::thread::Threads;
 use worked_cases::{LINE_OF_THREE, ONE_NODE, ONE_NODE_BOUND, TWO_NODES_CERTIFICATE, instance};
 
 // The two ends of the line as hubs, in three cuts: those of both ends, and of each end with the node between.
@@ -105,11 +106,16 @@ hub 1 collected 2.000000 delivered 2.000000
 ";
 
 // The certificate that the text spells, which holds for the instance.
-fn certified(alloc: Global, instance: &Instance, text: &str) -> Result<Certificate, Fail>
+fn certified<R: Threads + Sync>(
+    rt: &R,
+    alloc: Global,
+    instance: &Instance,
+    text: &str,
+) -> Result<Certificate, Fail>
     ensures { IfOk result (λ k. Holds instance.now k) }
 {
     let certificate = read_cert(alloc, text.as_bytes())?;
-    match check(alloc, instance, &certificate)? {
+    match check(rt, alloc, instance, &certificate)? {
         Verdict::Optimal => Ok(certificate),
         Verdict::Bounds => Ok(certificate),
         Verdict::No { .. } => Err(Fail::new("a certificate that doesn't hold")),
@@ -124,7 +130,7 @@ fn worked_networks(rt: HostRuntime) -> Result<(), Fail> {
         (ONE_NODE, ONE_NODE_BOUND, ONE_NODE_REPORT),
     ] {
         let instance = instance(alloc, &case)?;
-        let certificate = certified(alloc, &instance, text)?;
+        let certificate = certified(&rt, alloc, &instance, text)?;
         let mut sink = MemSink::new(alloc, 1000)?;
         assert_eq!(rt; report(&instance, &certificate, &mut sink), Ok(()));
         assert_eq!(rt; sink.taken(), wanted.as_bytes());
@@ -151,7 +157,7 @@ fn two_nodes(alloc: Global) -> Result<Instance, Fail> {
 fn listed_hubs(rt: HostRuntime) -> Result<(), Fail> {
     let alloc = rt.alloc();
     let instance = two_nodes(alloc)?;
-    let certificate = certified(alloc, &instance, TWO_NODES_CERTIFICATE)?;
+    let certificate = certified(&rt, alloc, &instance, TWO_NODES_CERTIFICATE)?;
     let mut sink = MemSink::new(alloc, 1000)?;
     assert_eq!(rt; report(&instance, &certificate, &mut sink), Ok(()));
     assert_eq!(rt; sink.taken(), TWO_NODES_REPORT.as_bytes());
@@ -162,7 +168,7 @@ fn listed_hubs(rt: HostRuntime) -> Result<(), Fail> {
 fn failing_put(rt: HostRuntime) -> Result<(), Fail> {
     let alloc = rt.alloc();
     let instance = instance(alloc, &ONE_NODE)?;
-    let certificate = certified(alloc, &instance, ONE_NODE_BOUND)?;
+    let certificate = certified(&rt, alloc, &instance, ONE_NODE_BOUND)?;
     let mut failing = Vec::new(alloc);
     failing.push(Partial { call: 1, taken: 9 })?;
     let mut sink = MemSink::with_faults(alloc, 1000, failing)?;

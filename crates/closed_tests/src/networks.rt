@@ -14,6 +14,7 @@ use hub_plain::{assign, is_hub_set, outside};
 use kept_cuts::{KeptCut, KeptCuts, Network};
 use std::alloc::{AllocError, Global};
 use std::test::Fail;
+use std::thread::Threads;
 use value_cuts::Values;
 use worked_cases::{Case, LINE_OF_THREE, TWO_NODES, instance};
 
@@ -107,13 +108,13 @@ fn put_text(
 }
 
 // What the text of that network of the case shows.
-fn checked(alloc: Global, case: &Case) -> Result<Ending, Fail> {
+fn checked<R: Threads + Sync>(rt: &R, alloc: Global, case: &Case) -> Result<Ending, Fail> {
     let instance = instance(alloc, case)?;
     let mut sink = MemSink::new(alloc, 2000)?;
     if put_text(alloc, &instance, &mut sink)?.is_err() {
         return Ok(Ending::TooLong);
     }
-    Ok(check_text(alloc, &instance, sink.taken())?)
+    Ok(check_text(rt, alloc, &instance, sink.taken())?)
 }
 
 #[test]
@@ -131,7 +132,7 @@ fn checked_texts(rt: HostRuntime) -> Result<(), Fail> {
         (TWO_NODES, 30_000_000_000_000),
         (LINE_OF_THREE, 83_000_000_000_000),
     ] {
-        let ending = checked(rt.alloc(), &case)?;
+        let ending = checked(&rt, rt.alloc(), &case)?;
         assert_eq!(rt; ending, Ending::Bounds { bound: 0, cost });
     }
     Ok(())

@@ -8,16 +8,16 @@ use Rattle.cert_checker.proofs.Parts.{cut_from_claims, duals_fail, sum_fails, cu
 use Rattle.cert_checker.proofs.cuts.check_cut.Goals as goal
 
 pub returns-in_err-check_duals-clause-fails : goal.returns-in_err-check_duals-clause-fails
-returns-in_err-check_duals-clause-fails c =
+returns-in_err-check_duals-clause-fails g c =
     let p = err_from_is_err_and c.from_residual.result c.from_residual.ensures.1 in
     rw (p.1, p.2) (duals_fail c.args.instance.now c.args.line (cut_by c.args.duals.now) _ c.in_err-check_duals.ensures.fails)
 
 pub of-requires-clause-few : goal.of-requires-clause-few
-of-requires-clause-few c =
+of-requires-clause-few g c =
     let few = mul-le-mul c.size-n.ensures.problem.size_limit c.size-n.ensures.problem.size_limit in omega (arith, few, c.requires.cut.one_for_each)
 
 pub returns-then-not-is_within_sums-clause-fails : goal.returns-then-not-is_within_sums-clause-fails
-returns-then-not-is_within_sums-clause-fails c =
+returns-then-not-is_within_sums-clause-fails g c =
     let cut = cut_by c.args.duals.now in
     let at = c.last_dual_line.ensures ∙ ap (λ n. last_dual_line n c.args.line) c.size-n.ensures.value in
     sum_fails c.args.instance.now c.args.line c.last_dual_line.result cut at c.in_ok-check_duals.ensures.holds
@@ -25,12 +25,12 @@ returns-then-not-is_within_sums-clause-fails c =
     (subst (IsWithinSums c.args.instance.now) (sym c.in_ok-cut.ensures) h))
 
 pub returns-clause-holds : goal.returns-clause-holds
-returns-clause-holds c =
+returns-clause-holds g c =
     cut_holds c.args.instance.now c.args.line (cut_by c.args.duals.now) c.in_ok-check_duals.ensures.holds
     (subst (IsWithinSums c.args.instance.now) c.in_ok-cut.ensures (c.is_within_sums.ensures.0 c.if-not-is_within_sums.false))
 
 pub returns-clause-is_cut : goal.returns-clause-is_cut
-returns-clause-is_cut c =
+returns-clause-is_cut g c =
     let cut = cut_by c.args.duals.now in
     subst (IsCut c.args.instance.now) (sym c.in_ok-cut.ensures)
     (cut_from_claims c.args.instance.now (first_dual_line c.args.line) cut c.requires.cut.one_for_each c.in_ok-check_duals.ensures.holds
