@@ -11,7 +11,7 @@ use closed_text::{DualRoom, write_network};
 use hub_io::{Failed, MemSink, Partial};
 use hub_model::{HubSet, Instance, Mix, Plan, TreeLine, unsigned};
 use hub_plain::{assign, is_hub_set, outside};
-use kept_cuts::{KeptCut, KeptCuts, Network};
+use kept_cuts::{KeptCut, KeptCuts, Network, PackedValues};
 use std::alloc::{AllocError, Global};
 use std::test::Fail;
 use std::thread::Threads;
@@ -50,13 +50,14 @@ fn kept(alloc: Global, instance: &Instance) -> Result<KeptCuts, AllocError>
     ensures two { IfOk result (λ k. length k.cuts ≤ 2) }
 {
     let values = Values::new(alloc, instance, 1)?;
+    let packed = PackedValues::pack(alloc, instance, &values)?;
     let set = HubSet::of(alloc, &instance.candidates()[..1])?;
     if !is_hub_set(instance, set.members()) {
         return Err(AllocError);
     }
     let order = outside(alloc, instance, &set)?;
     let mut cuts = KeptCuts::new(alloc);
-    cuts.keep(alloc, KeptCut::Values(values), 0, &[])?;
+    cuts.keep(alloc, KeptCut::Values(packed), 0, &[])?;
     cuts.keep(alloc, KeptCut::Set(set, order), 0, &[])?;
     Ok(cuts)
 }

@@ -10,12 +10,12 @@ use crate::rooms::ValueRoom;
 use cert_format::put_dual;
 use hub_io::{Buffer, Failed, Sink};
 use hub_model::Instance;
-use value_cuts::Values;
+use kept_cuts::PackedValues;
 
 /// Puts the lines of the duals of all commodities by these values. It takes no memory.
 pub(crate) fn put_value_duals<K: Sink>(
     instance: &Instance,
-    values: &Values,
+    values: &PackedValues,
     room: &mut ValueRoom,
     buffer: &mut Buffer,
     sink: &mut K,
@@ -35,7 +35,7 @@ pub(crate) fn put_value_duals<K: Sink>(
 // Puts the lines of the duals of the commodities from `i`.
 fn put_value_origin<K: Sink>(
     instance: &Instance,
-    values: &Values,
+    values: &PackedValues,
     i: u32,
     room: &mut ValueRoom,
     buffer: &mut Buffer,

@@ -10,7 +10,7 @@ ghost use Rattle.closing_search.specs.SingleCuts.{AreLoads};
 ghost use Rattle.closing_search.specs.Benches.{IsPricingFor};
 
 use hub_model::{Branch, HubSet, Instance};
-use kept_cuts::KeptCut;
+use kept_cuts::{KeptCut, PackedValues};
 use pareto_cuts::Scratch;
 use price_passes::{Adviser, Memory, Side};
 use std::alloc::{AllocError, Global};
@@ -126,7 +126,9 @@ impl<'a> Bench<'a> {
     pub(crate) fn kept_values(&self, alloc: Global) -> Result<KeptCut, AllocError>
         ensures { IfOk result (λ cut. kept_of cut ≡ by_values self.now.values) }
     {
-        Ok(KeptCut::Values(self.pricing.values.copy(alloc)?))
+        let instance = self.tables.instance();
+        let values = PackedValues::pack(alloc, instance, &self.pricing.values)?;
+        Ok(KeptCut::Values(values))
     }
 
     /// The total of the cut of the hub set over the order. It takes no memory.

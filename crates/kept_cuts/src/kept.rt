@@ -4,16 +4,16 @@ ghost use Rattle.std.specs.Prelude.{◌≡◌, ◌+◌, ◌-◌, ◌<◌, ◌≤
 ghost use Rattle.hub_spec.specs.Limits.{most_cost};
 ghost use Rattle.kept_cuts.specs.Kept.{kept_of, kept_at};
 
+use crate::PackedValues;
 use hub_model::{HubSet, signed};
 use std::alloc::{AllocError, Global};
 use std::marker::Model;
-use value_cuts::Values;
 
 /// What the duals of a cut can be made from anew.
 #[derive(Debug, Drop)]
 pub enum KeptCut {
     /// Values of the candidates for each commodity.
-    Values(Values),
+    Values(PackedValues),
     /// A hub set and an order of the other candidates.
     Set(HubSet, Vec<u32>),
 }
