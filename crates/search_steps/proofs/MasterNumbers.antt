@@ -11,7 +11,7 @@ use Rattle.hub_model.specs.Amounts.{natural, IsNatural}
 use Rattle.hub_model.proofs.Signs.{pos_least}
 use Rattle.leaf_bound.specs.Numbers.{naturals, IsCost}
 use Rattle.leaf_bound.proofs.LeafWeights.{pairs_mix}
-use Rattle.frac_master.specs.Masters.{MasterNumbers, AreMasterNumbers, master_of, candidates_of}
+use Rattle.frac_master.specs.Masters.{MasterNumbers, AreMasterNumbers, AreWithinTotals, master_of, candidates_of}
 use Rattle.frac_master.specs.Advice.{Advised, advice, AreMixWeights}
 use Rattle.frac_master.specs.Theorems.{IsMaster, IsMixed}
 use Rattle.frac_master.proofs.MasterTables.{weights_are_a_mix}
@@ -21,7 +21,7 @@ use Rattle.search_steps.specs.Pools.{IsSumsOf, IsPoolOf, pool_cuts, state_by}
 use Rattle.search_steps.specs.Advising.{node_loads, master_numbers, told_by, master_advising}
 use Rattle.search_steps.specs.Weights.{AreFixedCosts, AreNodeWeights}
 use Rattle.search_steps.specs.Theorems.{AdvisingIsSound}
-use Rattle.search_steps.proofs.PoolNumbers.{lent_totals, lent_loads, naturals_totals, naturals_loads, loads_least, loads_costs, fixed_naturals, fixed_long}
+use Rattle.search_steps.proofs.PoolNumbers.{lent_totals, lent_loads, naturals_totals, naturals_loads, loads_least, loads_below, loads_costs, fixed_naturals, fixed_long}
 use Rattle.search_steps.proofs.Weighed.{below_size, branch_below}
 
 -- the numbers are those that the pool lends, with the fixed costs
@@ -47,6 +47,11 @@ numbers_serve p entries totals loads fixed are = record {
   loads_low = subst (All (λ (row : List ℤ). All IsNatural row)) (sym are.are_loads) (loads_least entries);
   fixed_low = subst (All IsNatural) (sym are.costs.costs) (pos_least p.fixed_costs);
 }
+
+pub within_totals : (p : Problem) (entries : List Entry) (totals : List ℤ) (loads : List (List ℤ)) (fixed : List ℤ)
+    → AreMasters p entries totals loads fixed → AreWithinTotals totals loads
+within_totals p entries totals loads fixed are =
+    rw (are.are_totals, are.are_loads) (loads_below p entries are.costs.problem are.pool)
 
 pub nodes_serve : (p : Problem) (fixed : List ℤ) (b : Branching) → AreFixedCosts p fixed → IsBranch p b
     → All (λ k. k < length fixed) (candidates_of b)

@@ -13,10 +13,11 @@ use Rattle.hub_spec.specs.Cuts.{total, load}
 use Rattle.hub_spec.specs.Separation.{IsOrder, IsSetCut, set_cut}
 use Rattle.hub_spec.proofs.SetCutFunction.{set_cut_is_one_lem}
 use Rattle.hub_spec.proofs.SetCuts.{loads_within, set_cut_is_cut}
-use Rattle.hub_model.specs.Amounts.{IsNatural}
+use Rattle.hub_model.specs.Amounts.{natural, IsNatural}
 use Rattle.hub_model.proofs.Signs.{natural-pos, pos_least}
 use Rattle.leaf_bound.specs.Numbers.{naturals, IsCost}
 use Rattle.leaf_bound.specs.Theorems.{AreLoadsOf}
+use Rattle.frac_master.specs.Masters.{AreWithinTotals}
 use Rattle.cut_pool.specs.Entries.{Entry}
 use Rattle.search_steps.specs.Pools.{entry_cut, IsSumsOf, IsPoolOf, pool_cuts}
 use Rattle.search_steps.specs.Advising.{node_loads}
@@ -51,6 +52,24 @@ entry_total p e ok is = omega (arith, is.is_total, total_limit p e.hubs e.order 
 
 entry_load : (p : Problem) (e : Entry) (k : ℕ) → IsProblem p → IsSumsOf p e → k < p.size → get_or e.loads k 0 ≤ most_cost
 entry_load p e k ok is node = omega (arith, is.are_loads k node, load_limit p e.hubs e.order k ok is.set is.order)
+
+-- no load is above the total
+load_below : (p : Problem) (e : Entry) (k : ℕ) → IsProblem p → IsSumsOf p e → k < p.size → get_or e.loads k 0 ≤ e.total
+load_below p e k ok is node =
+    let cut = entry_cut p e in
+    let within : load cut k ≤ total cut =
+    loads_within p e.hubs e.order (commodities p.size) cut.duals k (is_minimal p e.hubs e.order ok is.set is.order) in
+    omega (arith, is.is_total, is.are_loads k node, within)
+
+pub loads_below : (p : Problem) (entries : List Entry) → IsProblem p → IsPoolOf p entries
+    → AreWithinTotals (lent_totals entries) (lent_loads entries)
+loads_below p [] ok are = tt
+loads_below p (e ∷ entries) ok are =
+    let is = All-head (IsSumsOf p) e entries are in (
+      All-map (λ (x : ℤ). natural x ≤ e.total) pos e.loads (All-from_get_or (λ (x : ℕ). x ≤ e.total) e.loads 0
+          (λ k low. load_below p e k ok is (omega (arith, low, is.one_load_each)))),
+      loads_below p entries ok (All-tail (IsSumsOf p) e entries are),
+    )
 
 is_cost : (n : ℕ) → n ≤ most_cost → IsCost (pos n)
 is_cost n low = (omega (arith, ints), omega (arith, ints, low))

@@ -8,7 +8,7 @@ ghost use Rattle.search_steps.specs.Advising.{told_by, master_advising};
 ghost use Rattle.search_steps.specs.Weights.{AreFixedCosts, AreNodeWeights};
 
 use cut_pool::Pool;
-use frac_master::{Advice, advise};
+use frac_master::{Advice, advise_by_totals};
 use hub_model::{Branch, Instance};
 use std::alloc::{AllocError, Global};
 
@@ -26,7 +26,7 @@ pub fn fixed_costs(alloc: Global, instance: &Instance) -> Result<Vec<i128>, Allo
     Ok(costs)
 }
 
-/// What the master of the branch advises, by the cuts of the pool.
+/// What the master of the branch advises, by the cuts of the pool. No load of a cut is above its total.
 ///
 /// The answer is `AllocError` where memory runs out, and where the master is beyond what its rows can hold.
 pub fn node_advice(
@@ -43,5 +43,5 @@ pub fn node_advice(
     ensures weights { IfOk result (λ a. AreNodeWeights (length pool.now.entries) a.weights.items) }
     ensures point { IfOk result (λ a. length a.point.items ≡ instance.now.size) }
 {
-    advise(alloc, pool.totals(), pool.loads(), fixed, branch)
+    advise_by_totals(alloc, pool.totals(), pool.loads(), fixed, branch)
 }

@@ -6,7 +6,7 @@ use Rattle.frac_master.specs.Advice.{advice, advice_of_code, AreMixWeights}
 use Rattle.search_steps.specs.Pools.{InEachState}
 use Rattle.search_steps.specs.Advising.{told_by, master_advising}
 use Rattle.search_steps.specs.Weights.{AreNodeWeights}
-use Rattle.search_steps.proofs.MasterNumbers.{AreMasters, numbers_serve, nodes_serve, advice_is, point_long, node_weights}
+use Rattle.search_steps.proofs.MasterNumbers.{AreMasters, numbers_serve, nodes_serve, within_totals, advice_is, point_long, node_weights}
 use Rattle.search_steps.proofs.advising.node_advice.Goals as goal
 use Rattle.search_steps.proofs.advising.node_advice.Goals.{After-loads}
 
@@ -20,36 +20,41 @@ lent c = record {
   are_loads = c.loads.ensures;
 }
 
-pub advise-requires-clause-numbers : goal.advise-requires-clause-numbers
-advise-requires-clause-numbers c =
+pub advise_by_totals-requires-clause-numbers : goal.advise_by_totals-requires-clause-numbers
+advise_by_totals-requires-clause-numbers c =
     numbers_serve c.args.instance.now c.args.pool.now.entries c.totals.result.now (map (λ (v : Vec ℤ Global). v.items) c.loads.result.now)
-    c.args.fixed.now (lent (goal.at.advise-requires-clause-numbers c).After-loads)
+    c.args.fixed.now (lent (goal.at.advise_by_totals-requires-clause-numbers c).After-loads)
 
-pub advise-requires-clause-nodes : goal.advise-requires-clause-nodes
-advise-requires-clause-nodes c = nodes_serve c.args.instance.now c.args.fixed.now c.args.branch.now c.requires.fixed c.requires.branch
+pub advise_by_totals-requires-clause-nodes : goal.advise_by_totals-requires-clause-nodes
+advise_by_totals-requires-clause-nodes c = nodes_serve c.args.instance.now c.args.fixed.now c.args.branch.now c.requires.fixed c.requires.branch
+
+pub advise_by_totals-requires-clause-within : goal.advise_by_totals-requires-clause-within
+advise_by_totals-requires-clause-within c =
+    within_totals c.args.instance.now c.args.pool.now.entries c.totals.result.now (map (λ (v : Vec ℤ Global). v.items) c.loads.result.now)
+    c.args.fixed.now (lent (goal.at.advise_by_totals-requires-clause-within c).After-loads)
 
 pub returns-clause-advice : goal.returns-clause-advice
 returns-clause-advice c =
     let numbers = master_of c.totals.result.now (map (λ (v : Vec ℤ Global). v.items) c.loads.result.now) c.args.fixed.now in
-    IfOk-weaker c.advise.result (λ (a : Advice). advice_of_code a ≡ advice numbers c.args.branch.now)
+    IfOk-weaker c.advise_by_totals.result (λ (a : Advice). advice_of_code a ≡ advice numbers c.args.branch.now)
     (λ (a : Advice). InEachState c.args.instance.now c.args.pool.now.entries (λ s. told_by (advice_of_code a) ≡ master_advising c.args.instance.now s c.args.branch.now))
     (λ a is. advice_is c.args.instance.now c.args.pool.now.entries c.totals.result.now (map (λ (v : Vec ℤ Global). v.items) c.loads.result.now)
     c.args.fixed.now c.args.branch.now (advice_of_code a)
-    (lent (goal.at.returns-clause-advice c).After-loads) is) c.advise.ensures.advice
+    (lent (goal.at.returns-clause-advice c).After-loads) is) c.advise_by_totals.ensures.advice
 
 pub returns-clause-weights : goal.returns-clause-weights
 returns-clause-weights c =
-    IfOk-weaker c.advise.result (λ (a : Advice). AreMixWeights (length c.totals.result.now) a.weights.items)
+    IfOk-weaker c.advise_by_totals.result (λ (a : Advice). AreMixWeights (length c.totals.result.now) a.weights.items)
     (λ (a : Advice). AreNodeWeights (length c.args.pool.now.entries) a.weights.items)
     (λ a is. node_weights c.args.instance.now c.args.pool.now.entries c.totals.result.now (map (λ (v : Vec ℤ Global). v.items) c.loads.result.now)
     c.args.fixed.now a.weights.items
-    (lent (goal.at.returns-clause-weights c).After-loads) is) c.advise.ensures.weights
+    (lent (goal.at.returns-clause-weights c).After-loads) is) c.advise_by_totals.ensures.weights
 
 pub returns-clause-point : goal.returns-clause-point
 returns-clause-point c =
     let numbers = master_of c.totals.result.now (map (λ (v : Vec ℤ Global). v.items) c.loads.result.now) c.args.fixed.now in
-    IfOk-weaker c.advise.result (λ (a : Advice). advice_of_code a ≡ advice numbers c.args.branch.now)
+    IfOk-weaker c.advise_by_totals.result (λ (a : Advice). advice_of_code a ≡ advice numbers c.args.branch.now)
     (λ (a : Advice). length a.point.items ≡ c.args.instance.now.size)
     (λ a is. point_long c.args.instance.now c.args.pool.now.entries c.totals.result.now (map (λ (v : Vec ℤ Global). v.items) c.loads.result.now)
     c.args.fixed.now c.args.branch.now (advice_of_code a)
-    (lent (goal.at.returns-clause-point c).After-loads) is) c.advise.ensures.advice
+    (lent (goal.at.returns-clause-point c).After-loads) is) c.advise_by_totals.ensures.advice
