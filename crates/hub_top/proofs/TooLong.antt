@@ -1,17 +1,15 @@
--- A file that is too long is judged so, also where the shelf tells nothing of it.
-use Rattle.std.proofs.Common.{◌≡◌, ℕ, ◌+◌, ◌<◌, List, length, Option, Some, None, replicate, refl, arith}
-use Rattle.std.proofs.lemmas.List.{length-replicate}
+-- The verdict on what a file holds, and on a file that is too long.
+use Rattle.std.proofs.Common.{ℕ, List, Option, Some, None}
 use Rattle.hub_io.specs.Outside.{Files, HoldsMore}
 use Rattle.hub_spec.specs.Problem.{Problem}
-use Rattle.cert_spec.specs.Verdicts.{too_long, certificate_limit}
+use Rattle.cert_spec.specs.Verdicts.{Verdict, too_long, certificate_limit}
+use Rattle.stream_check.specs.Held.{IsVerdictOnHeld}
+use Rattle.stream_check.proofs.TooLong.{too_long_held}
 use Rattle.hub_top.specs.Judging.{IsVerdictOn}
 
--- more bytes than the limit, of which nothing is told
-bytes_over : (limit : ℕ) → (bytes : List ℕ) × (limit < length bytes)
-bytes_over limit = (replicate (limit + 1) 0, (let e = length-replicate {A = ℕ} (limit + 1) 0 in omega (arith, e)))
+pub verdict_on_held : (p : Problem) (held : Option Files) (file : List ℕ) (verdict : Verdict) → IsVerdictOnHeld p held file verdict → IsVerdictOn p held file verdict
+verdict_on_held p None file verdict v = record { bytes = v.bytes; bytes_held = tt; why = v.why; proves = v.proves }
+verdict_on_held p (Some files) file verdict v = record { bytes = v.bytes; bytes_held = v.are_held; why = v.why; proves = v.proves }
 
 pub too_long_verdict : (p : Problem) (held : Option Files) (file : List ℕ) → HoldsMore held file certificate_limit → IsVerdictOn p held file too_long
-too_long_verdict p None file more =
-    let some = bytes_over certificate_limit in
-    record { bytes = some.0; bytes_held = tt; why = some.1; proves = tt }
-too_long_verdict p (Some files) file more = record { bytes = more.0; bytes_held = more.1; why = more.2; proves = tt }
+too_long_verdict p held file more = verdict_on_held p held file too_long (too_long_held p held file more)

@@ -12,14 +12,12 @@ ghost use Rattle.hub_top.specs.Told.{LacksFile};
 
 use crate::halts::Halt;
 use crate::instances::read_instance;
-use cert_checker::{Ending, check_text};
-use hub_io::{ReadEnd, Shelf, read_whole};
+use cert_checker::Ending;
+use hub_io::Shelf;
 use hub_model::Instance;
 use hub_words::Source;
 use std::alloc::Global;
-
-/// A certificate may hold at most this many bytes: 2^30.
-pub const CERTIFICATE_LIMIT: u64 = 1_073_741_824;
+use stream_check::{NoEnding, check_held};
 
 /// The ending of a check of the certificate of this file against the instance that the source names.
 pub fn check<S: Shelf>(
@@ -39,7 +37,7 @@ pub fn check<S: Shelf>(
     check_file(alloc, &instance, certificate, shelf)
 }
 
-/// The ending of a check of the certificate of this file.
+/// The ending of a check of the certificate of this file, of which no more than a piece is held at a time.
 fn check_file<S: Shelf>(
     alloc: Global,
     instance: &Instance,
@@ -51,10 +49,9 @@ fn check_file<S: Shelf>(
         (FailsFor S.held S.faults S.sound shelf.old shelf.new (LacksFile certificate.now))) }
     ensures stays { StaysShelf S.held S.faults S.sound shelf.old shelf.new }
 {
-    match read_whole(alloc, shelf, certificate, CERTIFICATE_LIMIT) {
-        Ok(bytes) => Ok(check_text(alloc, instance, &bytes)?),
-        Err(ReadEnd::TooLong) => Ok(Ending::TooLong),
-        Err(ReadEnd::ReadFault) => Err(Halt::Read),
-        Err(ReadEnd::OutOfMemory) => Err(Halt::Memory),
+    match check_held(alloc, shelf, certificate, instance) {
+        Ok(ending) => Ok(ending),
+        Err(NoEnding::ReadFault) => Err(Halt::Read),
+        Err(NoEnding::OutOfMemory) => Err(Halt::Memory),
     }
 }

@@ -12,7 +12,6 @@ ghost use Rattle.hub_top.specs.Told.{LacksFile};
 ghost use Rattle.hub_top.specs.Reporting.{IsReport, IsReading, IsReadingOf};
 
 use crate::answers::Answer;
-use crate::checking::CERTIFICATE_LIMIT;
 use crate::halts::Halt;
 use crate::instances::read_instance;
 use cert_checker::{Ending, Verdict, check};
@@ -21,6 +20,10 @@ use hub_io::{ReadEnd, Shelf, read_whole};
 use hub_model::Instance;
 use hub_words::Source;
 use std::alloc::{AllocError, Global};
+use std::thread::Threads;
+
+/// A certificate that is held may have at most this many bytes: 2^30.
+const CERTIFICATE_LIMIT: u64 = 1_073_741_824;
 
 /// What the bytes of a certificate are for an instance.
 #[derive(Drop)]
@@ -33,7 +36,8 @@ pub enum Reading {
 
 /// The report of the certificate of this file on the instance that the source names; where its bytes do not certify,
 /// the ending of a check.
-pub fn report<S: Shelf>(
+pub fn report<R: Threads + Sync, S: Shelf>(
+    rt: &R,
     alloc: Global,
     source: &Source<'_>,
     certificate: &str,
@@ -47,14 +51,15 @@ pub fn report<S: Shelf>(
     ensures stays { StaysShelf S.held S.faults S.sound shelf.old shelf.new }
 {
     let instance = read_instance(alloc, source, shelf)?;
-    match read_file(alloc, &instance, certificate, shelf)? {
+    match read_file(rt, alloc, &instance, certificate, shelf)? {
         Reading::Certified(certificate) => Ok(Answer::Reported(instance, certificate)),
         Reading::Refused(ending) => Ok(Answer::Judged(ending)),
     }
 }
 
 /// What the bytes of this file are for the instance.
-fn read_file<S: Shelf>(
+fn read_file<R: Threads + Sync, S: Shelf>(
+    rt: &R,
     alloc: Global,
     instance: &Instance,
     certificate: &str,
@@ -66,7 +71,7 @@ fn read_file<S: Shelf>(
     ensures stays { StaysShelf S.held S.faults S.sound shelf.old shelf.new }
 {
     match read_whole(alloc, shelf, certificate, CERTIFICATE_LIMIT) {
-        Ok(bytes) => Ok(read_bytes(alloc, instance, &bytes)?),
+        Ok(bytes) => Ok(read_bytes(rt, alloc, instance, &bytes)?),
         Err(ReadEnd::TooLong) => Ok(Reading::Refused(Ending::TooLong)),
         Err(ReadEnd::ReadFault) => Err(Halt::Read),
         Err(ReadEnd::OutOfMemory) => Err(Halt::Memory),
@@ -74,12 +79,17 @@ fn read_file<S: Shelf>(
 }
 
 /// What these bytes, which are no more than the limit, are for the instance.
-fn read_bytes(alloc: Global, instance: &Instance, bytes: &[u8]) -> Result<Reading, AllocError>
+fn read_bytes<R: Threads + Sync>(
+    rt: &R,
+    alloc: Global,
+    instance: &Instance,
+    bytes: &[u8],
+) -> Result<Reading, AllocError>
     requires { length bytes.now ≤ certificate_limit }
     ensures { IfOk result (IsReading instance.now bytes.now) }
 {
     match read_cert(alloc, bytes) {
-        Ok(certificate) => match check(alloc, instance, &certificate)? {
+        Ok(certificate) => match check(rt, alloc, instance, &certificate)? {
             Verdict::No { kind, line } => Ok(Reading::Refused(Ending::No { kind, line })),
             Verdict::Optimal | Verdict::Bounds => Ok(Reading::Certified(certificate)),
         },

@@ -6,11 +6,11 @@ ghost use Rattle.hub_top.specs.Statuses.{number_of};
 /// How a run ended; the program ends with its number.
 #[derive(Clone, Copy, Debug, PartialEq, Eq)]
 pub enum Status {
-    /// `solve`, `demo`: the bound is the cost. `check`: the bytes certify an optimal plan. `report`: they certify. `make`:
-    /// the text was written.
+    /// `solve`, `optimize`, `demo`: the bound is the cost. `check`: the bytes certify an optimal plan. `report`: they
+    /// certify. `make`: the text was written.
     Done,
-    /// `solve`, `demo`: two nodes more were not allowed, and the bound is below the cost. `check`: the bytes certify a plan,
-    /// with a bound below its cost.
+    /// `solve`, `optimize`, `demo`: two nodes more were not allowed, and the bound is below the cost. `check`: the bytes
+    /// certify a plan, with a bound below its cost.
     Stopped,
     /// `check`, `report`: the bytes do not certify.
     No,

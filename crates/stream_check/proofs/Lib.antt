@@ -1,0 +1,3 @@
+mod Shown
+mod Reading
+pub mod TooLong
