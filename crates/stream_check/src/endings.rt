@@ -1,8 +1,9 @@
 //! Why a check has no ending.
 
 ghost use Rattle.std.specs.Prelude.{◌≡◌};
-ghost use Rattle.stream_check.specs.declared.endings.NoEnding.TheVariants.{OutOfMemory};
+ghost use Rattle.stream_check.specs.declared.endings.NoEnding.TheVariants.{OutOfMemory, ReadFault};
 
+use hub_io::Failed;
 use std::alloc::AllocError;
 
 /// Why a check has no ending.
@@ -19,5 +20,13 @@ impl From<AllocError> for NoEnding {
 
     fn from(_error: AllocError) -> NoEnding {
         NoEnding::OutOfMemory
+    }
+}
+
+impl From<Failed> for NoEnding {
+    ghost from_gives = { λ _ r. r ≡ ReadFault };
+
+    fn from(_failed: Failed) -> NoEnding {
+        NoEnding::ReadFault
     }
 }

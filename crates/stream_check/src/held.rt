@@ -1,10 +1,12 @@
 //! The check of the bytes that a shelf holds under a name.
 
-ghost use Rattle.std.specs.Prelude.{◌≡◌, ◌≤◌, IfOk};
+ghost use Rattle.std.specs.Prelude.{◌≡◌, ℕ, ◌++◌, ◌<◌, ◌≤◌, List, [], length, take, IfOk, IsSome};
+ghost use Rattle.std.specs.Io.KnownBytes.{Consumes, IsAtEnd};
 ghost use Rattle.hub_io.specs.Outside.{LeavesRest, Rose, TellsOf};
 ghost use Rattle.cert_spec.specs.Verdicts.{certificate_limit};
 ghost use Rattle.cert_checker.specs.Shows.{verdict_of};
-ghost use Rattle.stream_check.specs.Held.{IsVerdictOnHeld};
+ghost use Rattle.cert_stream.specs.Fed.{HasFed};
+ghost use Rattle.stream_check.specs.Held.{IsVerdictOnHeld, EndsOver};
 
 use crate::endings::NoEnding;
 use cert_checker::Ending;
@@ -22,7 +24,8 @@ const MOST_READ: usize = 1_073_741_825;
 /// The ending of the check of the bytes of that name against the instance. They are read to their end whatever is found
 /// before; where they are more than 2^30, that and one byte of them are read.
 ///
-/// Memory is taken for one piece, for one path of a tree, and for the sums of each cut.
+/// Memory is taken for one path of a tree, and for the sums of each cut.
+#[tactic(auto, using(crate::proofs::Reading::verdict_over, crate::proofs::Reading::rest_over, crate::proofs::Reading::told_first))]
 pub fn check_held<S: Shelf>(
     alloc: Global,
     shelf: &mut S,
@@ -40,22 +43,63 @@ pub fn check_held<S: Shelf>(
     // What is known of an instance comes with its size.
     let nodes = instance.size();
     prove!(nodes > 0);
-    if shelf.begin(name).is_err() {
-        return Err(NoEnding::ReadFault);
-    }
-    let mut stream = Stream::new(alloc, instance)?;
-    let mut piece = vec![in alloc; 0; PIECE]?;
+    shelf.begin(name)?;
+    let stream = Stream::new(alloc, instance)?;
+    feed_all(alloc, shelf, stream)
+}
+
+// Feeds what is left of the file that was begun, and ends the check.
+fn feed_all<S: Shelf>(alloc: Global, shelf: &mut S, stream: Stream<'_>) -> Result<Ending, NoEnding>
+    requires fed { HasFed [] stream }
+    ensures ended { IfOk result (λ e.
+        EndsOver stream.entry.checks.instance.now (S.left shelf.old) (S.left shelf.new) (verdict_of e)) }
+    ensures fault { result ≡ Err NoEnding.ReadFault → Rose (S.faults shelf.old) (S.faults shelf.new) }
+    ensures sound { S.sound shelf.old → IsSome (S.left shelf.old) → result ≡ Err NoEnding.ReadFault → ⊥ }
+    ensures later { S.faults shelf.old ≤ S.faults shelf.new }
+    ensures same { S.held shelf.new ≡ S.held shelf.old }
+    ensures stays_sound { S.sound shelf.old → S.sound shelf.new }
+{
+    let mut stream = stream;
+    let mut piece = [0u8; PIECE];
     let mut room = MOST_READ;
     while room > 0 {
         let most = room.min(PIECE);
-        match shelf.read(&mut piece[..most]) {
-            Err(_) => return Err(NoEnding::ReadFault),
-            Ok(0) => return Ok(stream.finish()),
-            Ok(count) => {
-                stream = stream.feed(alloc, &piece[..count])?;
-                room -= count;
-            }
+        let (next, count) = feed_next(alloc, shelf, stream, &mut piece[..most])?;
+        stream = next;
+        if count == 0 {
+            return Ok(stream.finish());
         }
+        room -= count;
     }
     Ok(Ending::TooLong)
+}
+
+// Reads on as far as the piece has room, and feeds what was read, which is nothing at the end of the file.
+fn feed_next<'a, S: Shelf>(
+    alloc: Global,
+    shelf: &mut S,
+    stream: Stream<'a>,
+    piece: &mut [u8],
+) -> Result<(Stream<'a>, usize), NoEnding>
+    requires room { 0 < length piece.old }
+    requires fed { (bytes : List ℕ) × HasFed bytes stream }
+    ensures within { IfOk result (λ r. r.1 ≤ length piece.new) }
+    ensures long { length piece.new ≡ length piece.old }
+    ensures fed { (bytes : List ℕ) → HasFed bytes stream.entry → IfOk result (λ r. HasFed (bytes ++ take r.1 piece.new) r.0) }
+    ensures read { IfOk result (λ r. Consumes (S.left shelf.old) (S.left shelf.new) (take r.1 piece.new)) }
+    ensures end { IfOk result (λ r. r.1 ≡ 0 → IsAtEnd (S.left shelf.new)) }
+    ensures instance { IfOk result (λ r. r.0.checks.instance ≡ stream.entry.checks.instance) }
+    ensures fault { result ≡ Err NoEnding.ReadFault → Rose (S.faults shelf.old) (S.faults shelf.new) }
+    ensures sound { S.sound shelf.old → IsSome (S.left shelf.old) → result ≡ Err NoEnding.ReadFault → ⊥ }
+    ensures later { S.faults shelf.old ≤ S.faults shelf.new }
+    ensures same { S.held shelf.new ≡ S.held shelf.old }
+    ensures stays_sound { S.sound shelf.old → S.sound shelf.new }
+{
+    match shelf.read(piece) {
+        Err(_) => Err(NoEnding::ReadFault),
+        Ok(count) => {
+            let stream = stream.feed(alloc, &piece[..count])?;
+            Ok((stream, count))
+        }
+    }
 }
