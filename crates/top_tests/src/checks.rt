@@ -103,7 +103,7 @@ fn each_failing_call_of_a_check_is_told(rt: HostRuntime) -> Result<(), Fail> {
             let checked = checked(&rt, alloc, certificate, &[call], 10)?;
             assert_eq!(rt; checked, failed, "call {call}");
         }
-        let checked = checked(&rt, alloc, certificate, &[calls + 1], 10)?;
+        let checked = checked(&rt, alloc, certificate, &[calls.wrapping_add(1)], 10)?;
         assert_eq!(rt; checked, told);
     }
     Ok(())
