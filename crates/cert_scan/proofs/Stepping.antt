@@ -1,13 +1,14 @@
 -- The clauses of a scan's calls.
 use Rattle.std.proofs.Common.{◌≡◌, ℕ, ◌+◌, ◌-◌, ◌<◌, ◌≤◌, Bool, true, false, ◌&&◌, List, [], ◌∷◌, ◌++◌, length, take, drop, get_or, Option, Some, None, nat_le, ◌⊎◌, inl, inr, refl, sym, ap, ◌∙◌, subst, append-nil, arith, zero, suc}
-use Rattle.std.specs.Prelude.{option_to_list, is_some}
+use Rattle.std.specs.Prelude.{option_to_list, is_some, unwrap_or, slice_index, ◌==◌}
+use Rattle.memchr.specs.Find.{IsFirstByte, is_byte}
 use Rattle.std.proofs.lemmas.List.{take_more, take_all, length-drop}
 use Rattle.std.proofs.lemmas.Bool.{cond-true, and_from, le-leb}
 use Rattle.cert_scan.specs.Moves.{moved_by, with_digit_of, refusal, spelled_by}
 use Rattle.cert_scan.specs.Scans.{new_scan, given_by, stepped, scanned, given_all}
 use Rattle.cert_scan.specs.Given.{IsGiven}
 use Rattle.cert_scan.specs.Scanned.{HasScanned, IsLost}
-use Rattle.cert_scan.specs.Runs.{SpellsOn, Runs}
+use Rattle.cert_scan.specs.Runs.{SpellsOn, HasNoLineEnd, Runs}
 use Rattle.cert_scan.proofs.Goes.{scanned-append, given_all-append, state, moved}
 use Rattle.cert_scan.proofs.Tracks.{scanned_given}
 use Rattle.cert_scan.specs.declared.items.Item.{Item}
@@ -183,6 +184,54 @@ pub digits_nothing : (scan : Scan) (place : Place) (value last : Option ℕ) (by
     → given_all scan bytes ≡ []
 digits_nothing scan place value last bytes e h =
     ap (λ p. given_all (state scan.n scan.line p) bytes) e ∙ digits_give scan.n scan.line place value bytes last h
+
+-- ---- bytes behind a place that is not as wanted
+
+failed_scanned : (n line : ℕ) (bytes : List ℕ) → scanned (state n line Failed) bytes ≡ state n line Failed
+failed_scanned n line [] = refl
+failed_scanned n line (byte ∷ bytes) = failed_scanned n line bytes
+
+failed_gives : (n line : ℕ) (bytes : List ℕ) → given_all (state n line Failed) bytes ≡ []
+failed_gives n line [] = refl
+failed_gives n line (byte ∷ bytes) = failed_gives n line bytes
+
+spoiled_scanned : (n line : ℕ) (bytes : List ℕ) → HasNoLineEnd bytes → scanned (state n line Spoiled) bytes ≡ state n line Spoiled
+spoiled_scanned n line [] h = refl
+spoiled_scanned n line (byte ∷ bytes) h = ap (λ last. scanned (moved n line (refusal last)) bytes) h.0 ∙ spoiled_scanned n line bytes h.1
+
+spoiled_gives : (n line : ℕ) (bytes : List ℕ) → HasNoLineEnd bytes → given_all (state n line Spoiled) bytes ≡ []
+spoiled_gives n line [] h = refl
+spoiled_gives n line (byte ∷ bytes) h =
+    ap (λ last. option_to_list (refusal last).item ++ given_all (moved n line (refusal last)) bytes) h.0 ∙ spoiled_gives n line bytes h.1
+
+pub failed_after : (scan : Scan) (bytes : List ℕ) → scan.position ≡ Failed → scan ≡ scanned scan bytes
+failed_after scan bytes e =
+    subst (λ p. state scan.n scan.line p ≡ scanned (state scan.n scan.line p) bytes) (sym e) (sym (failed_scanned scan.n scan.line bytes))
+
+pub failed_nothing : (scan : Scan) (bytes : List ℕ) → scan.position ≡ Failed → given_all scan bytes ≡ []
+failed_nothing scan bytes e = ap (λ p. given_all (state scan.n scan.line p) bytes) e ∙ failed_gives scan.n scan.line bytes
+
+pub spoiled_after : (scan : Scan) (bytes : List ℕ) → scan.position ≡ Spoiled → HasNoLineEnd bytes → scan ≡ scanned scan bytes
+spoiled_after scan bytes e h =
+    subst (λ p. state scan.n scan.line p ≡ scanned (state scan.n scan.line p) bytes) (sym e) (sym (spoiled_scanned scan.n scan.line bytes h))
+
+pub spoiled_nothing : (scan : Scan) (bytes : List ℕ) → scan.position ≡ Spoiled → HasNoLineEnd bytes → given_all scan bytes ≡ []
+spoiled_nothing scan bytes e h = ap (λ p. given_all (state scan.n scan.line p) bytes) e ∙ spoiled_gives scan.n scan.line bytes h
+
+is_no : (answer : Bool) → (answer ≡ true → ⊥) → answer ≡ false
+is_no true h = absurd (h refl)
+is_no false h = refl
+
+-- the bytes before a place below which none ends a line
+pub no_end_before : (bytes : List ℕ) (k : ℕ) → ((i : ℕ) → i < k → i < length bytes → slice_index bytes i == 10 ≡ true → ⊥) → HasNoLineEnd (take k bytes)
+no_end_before bytes zero h = tt
+no_end_before [] (suc k) h = tt
+no_end_before (b ∷ bytes) (suc k) h =
+    (is_no (b == 10) (h 0 (omega arith) (omega arith)), no_end_before bytes k (λ i low within. h (suc i) (omega (arith, low)) (omega (arith, within))))
+
+pub no_end_found : (bytes : List ℕ) (found : Option ℕ) → IsFirstByte (is_byte 10) bytes found → HasNoLineEnd (take (unwrap_or found (length bytes)) bytes)
+no_end_found bytes None h = no_end_before bytes (length bytes) (λ i low within. h i (omega arith) within)
+no_end_found bytes (Some k) h = no_end_before bytes k (λ i low within. h.0.before i (omega arith) low)
 
 -- what the test of an item says
 pub none_of : {X : Type 0} (item : Option X) → is_some item ≡ false → item ≡ None

@@ -1,5 +1,5 @@
 -- The bytes that a run takes.
-use Rattle.std.specs.Prelude.{◌≡◌, ℕ, ◌-◌, ◌≤◌, List, [], ◌∷◌, length, take, Option, Some, None, option_to_list}
+use Rattle.std.specs.Prelude.{◌≡◌, ℕ, ◌-◌, ◌≤◌, false, List, [], ◌∷◌, length, take, Option, Some, None, option_to_list, nat_eq}
 use Rattle.cert_scan.specs.Moves.{with_digit_of}
 use Rattle.cert_scan.specs.Scans.{scanned, given_all}
 use Rattle.cert_scan.specs.declared.items.Item.{Item}
@@ -10,6 +10,11 @@ abbrev pub SpellsOn : Option ℕ → List ℕ → Option ℕ → Type 0
 SpellsOn value [] last = value ≡ last
 SpellsOn value (byte ∷ bytes) last =
     (more : ℕ) × (48 ≤ byte) × (byte ≤ 57) × (with_digit_of value (byte - 48) ≡ Some more) × SpellsOn (Some more) bytes last
+
+-- none of the bytes ends a line
+abbrev pub HasNoLineEnd : List ℕ → Type 0
+HasNoLineEnd [] = Unit
+HasNoLineEnd (byte ∷ bytes) = (nat_eq byte 10 ≡ false) × HasNoLineEnd bytes
 
 -- so many of the bytes were taken one after another, and the last one gave the item; all were taken where there is none
 pub record Runs (old : Scan) (bytes : List ℕ) (taken : ℕ) (item : Option Item) (new : Scan) : Type 0 where

@@ -16,7 +16,7 @@ ghost use Rattle.cert_scan.specs.Scans.{
 ghost use Rattle.cert_scan.specs.Parts.{items_of};
 ghost use Rattle.cert_scan.specs.Given.{IsGiven};
 ghost use Rattle.cert_scan.specs.Scanned.{HasScanned, IsLost, AreCountable, Tells};
-ghost use Rattle.cert_scan.specs.Runs.{Runs};
+ghost use Rattle.cert_scan.specs.Runs.{Runs, HasNoLineEnd};
 ghost use Rattle.cert_scan.specs.declared.items.Item.{Item as ItemOf};
 
 use crate::bytes::{Move, Position, after_byte};
@@ -25,6 +25,7 @@ use crate::items::{Fault, Item};
 use crate::pairs::pair_ahead;
 use crate::places::{Place, take_value};
 use crate::stages::Stage;
+use memchr::memchr;
 
 /// The scan of a text, of which some bytes have come. It takes no memory.
 #[derive(Clone, Copy)]
@@ -110,7 +111,7 @@ impl Scan {
     {
         let mut at = 0;
         while at < bytes.len() {
-            at += self.take_digits(&bytes[at..]);
+            at += self.take_quietly(&bytes[at..]);
             if at == bytes.len() {
                 break;
             }
@@ -123,18 +124,23 @@ impl Scan {
         (at, None)
     }
 
-    // Takes digits that go on with the number that stands, and tells how many.
-    fn take_digits(&mut self, bytes: &[u8]) -> usize
+    // Takes bytes of which none can give an item, at once, and tells how many: digits that go on with the number that
+    // stands, what is left of a line that is not as wanted, and all that stands behind such a line.
+    fn take_quietly(&mut self, bytes: &[u8]) -> usize
         ensures within { result ≤ length bytes.now }
         ensures after { self.new ≡ scanned self.old (take result bytes.now) }
         ensures nothing { given_all self.old (take result bytes.now) ≡ [] }
     {
-        let Position::Number(place, value) = self.position else {
-            return 0;
-        };
-        let (count, more) = more_digits(value, bytes);
-        self.position = Position::Number(place, more);
-        count
+        match self.position {
+            Position::Number(place, value) => {
+                let (count, more) = more_digits(value, bytes);
+                self.position = Position::Number(place, more);
+                count
+            }
+            Position::Spoiled => line_rest(bytes),
+            Position::Failed => bytes.len(),
+            _ => 0,
+        }
     }
 
     /// The number of the line in which the next byte stands, counted from 1; once a line was bad, that of the bad line.
@@ -173,6 +179,14 @@ impl Scan {
         self.position = next.position;
         next.item
     }
+}
+
+// How many bytes stand before the first line feed.
+fn line_rest(bytes: &[u8]) -> usize
+    ensures within { result ≤ length bytes.now }
+    ensures none { HasNoLineEnd (take result bytes.now) }
+{
+    memchr(b'\n', bytes).unwrap_or(bytes.len())
 }
 
 fn fault_of(line: u64, position: Position) -> Option<Fault>
