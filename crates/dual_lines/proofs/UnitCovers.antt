@@ -1,10 +1,11 @@
--- What is covered by unit of flow is covered in costs.
-use Rattle.std.proofs.Common.{ℕ, ◌+◌, ◌*◌, ◌<◌, ◌≤◌, List, length, slice_index, inr, mul-le-mul_left, arith}
+-- What is covered by unit of flow, or in steps, is covered in costs.
+use Rattle.std.proofs.Common.{◌≡◌, ℕ, ap, ◌+◌, ◌*◌, ◌<◌, ◌≤◌, List, length, slice_index, inr, mul-le-mul_left, arith}
 use Rattle.std.proofs.lemmas.List.Elements.{All-from_get_or}
 use Rattle.hub_spec.specs.Problem.{Problem, flow, route_cost}
 use Rattle.dual_lines.specs.Legs.{candidate_at, collection_length, trunk_length, delivery_length}
 use Rattle.dual_lines.specs.Covers.{IsCoveredBy, IsCoveredFirst}
 use Rattle.dual_lines.specs.Units.{AreUnits, IsCoveredInUnits}
+use Rattle.dual_lines.specs.Steps.{LegsInSteps, AreStepValues, IsCoveredInSteps}
 
 alone_by_unit : (w a price first trunk last u v : ℕ) → a ≤ w * price → price ≤ first + u + last → w * u ≤ v
     → a ≤ w * (first + trunk + last) + v
@@ -28,3 +29,29 @@ covered_by_unit p c a price amounts units x low are place covered =
           (slice_index units y) (slice_index amounts k) (slice_index amounts (candidate_at p y)) low (covered.by_two y below) (are.all x place)
           (are.all y below))),
     )
+
+-- what is covered in steps is covered in costs
+pub covered_by_step : (l : LegsInSteps) (c : ℕ × ℕ) (a price cost : ℕ) (amounts values : List ℕ) (x : ℕ) → a ≤ cost * price
+    → cost ≡ flow l.problem c.0 c.1 * l.step → AreStepValues l.problem cost (slice_index amounts) values → x < length l.problem.candidates
+    → IsCoveredInSteps l c price values x → IsCoveredFirst l.problem c a amounts (candidate_at l.problem x)
+unfolding route_cost
+covered_by_step l c a price cost amounts values x low is are place covered =
+    let p = l.problem in
+    let w = flow p c.0 c.1 in
+    let k = candidate_at p x in (
+      alone_by_unit w a (l.step * price) (collection_length p c.0 x) (trunk_length p x x) (delivery_length p c.1 x) (l.step * slice_index values x)
+          (slice_index amounts k) whole covered.alone (value x place),
+      All-from_get_or (IsCoveredBy p c a amounts k) p.candidates 0 (λ y below.
+          inr (by_two_by_unit w a (l.step * price) (collection_length p c.0 x) (trunk_length p x y) (delivery_length p c.1 y)
+          (l.step * slice_index values x) (l.step * slice_index values y) (slice_index amounts k) (slice_index amounts (candidate_at p y)) whole
+          (covered.by_two y below) (value x place) (value y below))),
+    )
+  where
+    by_flow : (m : ℕ) → cost * m ≡ flow l.problem c.0 c.1 * (l.step * m)
+    by_flow m = omega (arith, ap (λ (n : ℕ). n * m) is)
+
+    whole : a ≤ flow l.problem c.0 c.1 * (l.step * price)
+    whole = omega (arith, low, by_flow price)
+
+    value : (y : ℕ) → y < length l.problem.candidates → flow l.problem c.0 c.1 * (l.step * slice_index values y) ≤ slice_index amounts (candidate_at l.problem y)
+    value y below = omega (arith, are.all y below, by_flow (slice_index values y))

@@ -3,5 +3,7 @@ pub mod Legs
 pub mod LegParts
 pub mod Covers
 pub mod Units
+pub mod Steps
+pub mod StepParts
 pub mod Places
 pub mod LineParts

@@ -12,7 +12,6 @@ pub record AreUnits (p : Problem) (flow : ℕ) (value : ℕ → ℕ) (units : Li
   pub long : length units ≡ length p.candidates
   pub limit : All (λ v. v ≤ most_unit) units
   pub all : (x : ℕ) → x < length p.candidates → flow * slice_index units x ≤ value (candidate_at p x)
-  pub one : (x : ℕ) → x < length p.candidates → slice_index units x ≤ value (candidate_at p x)
 
 -- no last hub's leg of delivery and value are together less
 pub record IsNearestLast (p : Problem) (j : ℕ) (units : List ℕ) (nearest : ℕ) : Type 0 where

@@ -5,15 +5,19 @@
 //! tells whether it holds. `tables` are the instance's legs, made once by `filling`; a place is the number of a
 //! candidate in their order, from 0, and `places` writes and clears what a dual lists by place.
 //!
-//! `units` tests by unit of flow in small numbers, with the price rounded up and the values rounded down, and visits
-//! only the hubs that collection and the nearest end leave open. What it does not show to be covered, `amounts`
-//! decides in the numbers that are listed. Costs are in 10^-12, lengths by unit of flow in 10^-6.
+//! `steps` tests in small numbers, told in steps of one length, with the price rounded up and the values rounded down:
+//! `stepping` chooses the step, `step_tables` are the legs in it. What this does not show to be covered, `units` tests
+//! by unit of flow, visiting only the hubs that collection and the nearest end leave open, and what is left then,
+//! `amounts` decides in the numbers that are listed. Costs are in 10^-12, lengths by unit of flow in 10^-6.
 #![tactic(auto)]
 
 mod amounts;
 mod filling;
 mod lines;
 mod places;
+mod step_tables;
+mod stepping;
+mod steps;
 mod tables;
 mod units;
 

@@ -8,9 +8,10 @@ ghost use Rattle.hub_spec.specs.Ranges.{IsAmount, IsDualInRange};
 ghost use Rattle.hub_model.specs.Amounts.{natural, IsNatural};
 
 use crate::amounts::Priced;
-use crate::places::{clear, put_unit, set_places};
-use crate::tables::CandidateLegs;
-use crate::units::{inverse_of, is_covered, unit_value};
+use crate::places::{clear, put_steps, set_places};
+use crate::step_tables::StepLegs;
+use crate::steps::{is_covered, value_in_steps};
+use crate::units::inverse_of;
 use hub_model::{Instance, unsigned};
 use std::alloc::{AllocError, Global};
 use std::marker::Model;
@@ -20,15 +21,16 @@ use std::marker::Model;
 /// One after another may stand here. What the last one listed is taken back in time of its values alone.
 #[derive(Debug, Drop)]
 pub struct DualLine<'a> {
-    legs: CandidateLegs<'a>,
+    legs: StepLegs<'a>,
     places: Vec<u32>,
     line: Priced,
     carried: u64,
+    step_cost: u64,
     inverse: u64,
     listed: Vec<(u32, u128)>,
     are_candidates: bool,
     amounts: Vec<u128>,
-    units: Vec<u64>,
+    steps: Vec<u32>,
 }
 
 impl<'a> Model for DualLine<'a> {
@@ -37,7 +39,7 @@ impl<'a> Model for DualLine<'a> {
 
     ghost Value = { ListedDual };
 
-    ghost view = { λ s. record { problem = s.legs; commodity = (s.line.from, s.line.to); dual = held_dual s } };
+    ghost view = { λ s. record { problem = s.legs.problem; commodity = (s.line.from, s.line.to); dual = held_dual s } };
 
     ghost invariant = { IsLineHeld };
 }
@@ -48,11 +50,13 @@ impl<'a> DualLine<'a> {
         ensures { IfOk result (λ d. d
             ≡ record { problem = instance.now; commodity = (0, 0); dual = record { a = 0; u = [] } }) }
     {
-        let legs = CandidateLegs::new(alloc, instance)?;
+        let legs = StepLegs::new(alloc, instance)?;
         let nodes = instance.size() as usize;
         let count = legs.places();
         let mut places = vec![in alloc; count as u32; nodes]?;
         set_places(instance, &mut places);
+        let carried = flow_between(instance, 0, 0);
+        let step_cost = carried * legs.step();
         Ok(DualLine {
             legs,
             places,
@@ -61,12 +65,13 @@ impl<'a> DualLine<'a> {
                 to: 0,
                 price: 0,
             },
-            carried: flow_between(instance, 0, 0),
+            carried,
+            step_cost,
             inverse: 0,
             listed: Vec::with_capacity(alloc, nodes)?,
             are_candidates: true,
             amounts: vec![in alloc; 0; nodes]?,
-            units: vec![in alloc; 0; count]?,
+            steps: vec![in alloc; 0; count]?,
         })
     }
 
@@ -82,7 +87,7 @@ impl<'a> DualLine<'a> {
             &self.listed,
             &self.places,
             &mut self.amounts,
-            &mut self.units,
+            &mut self.steps,
         );
         self.listed.clear();
         self.line = Priced {
@@ -90,8 +95,9 @@ impl<'a> DualLine<'a> {
             to: j,
             price: unsigned(a),
         };
-        self.carried = flow_between(self.legs.instance(), i, j);
-        self.inverse = inverse_of(self.carried);
+        self.carried = flow_between(self.legs.long().instance(), i, j);
+        self.step_cost = self.carried * self.legs.step();
+        self.inverse = inverse_of(self.step_cost);
         self.are_candidates = true;
     }
 
@@ -106,10 +112,10 @@ impl<'a> DualLine<'a> {
         } }
     {
         let amount = unsigned(u);
-        let unit = unit_value(amount, self.carried, self.inverse);
+        let value = value_in_steps(amount, self.step_cost, self.inverse);
         self.listed.push_reserved((k, amount));
         self.amounts[k as usize] = amount;
-        let placed = put_unit(&self.places, k, unit, &mut self.units);
+        let placed = put_steps(&self.places, k, value, &mut self.steps);
         self.are_candidates = self.are_candidates && placed;
     }
 
@@ -123,8 +129,9 @@ impl<'a> DualLine<'a> {
                 &self.legs,
                 self.line,
                 self.carried,
+                self.step_cost,
                 &self.amounts,
-                &self.units,
+                &self.steps,
             )
     }
 

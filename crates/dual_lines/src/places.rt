@@ -19,16 +19,16 @@ pub(crate) fn set_places(instance: &Instance, places: &mut [u32])
 }
 
 /// Puts the value at the node's place, and tells whether it has one.
-pub(crate) fn put_unit(places: &[u32], k: u32, unit: u64, units: &mut [u64]) -> bool
+pub(crate) fn put_steps(places: &[u32], k: u32, value: u32, steps: &mut [u32]) -> bool
     requires node { k < length places.now }
-    ensures placed { IsTrue result ↔ slice_index places.now k < length units.old }
-    ensures here { slice_index places.now k < length units.old
-        → slice_index units.new (slice_index places.now k) ≡ unit }
-    ensures others { (x : ℕ) → x ≢ slice_index places.now k → slice_index units.new x ≡ slice_index units.old x }
+    ensures placed { IsTrue result ↔ slice_index places.now k < length steps.old }
+    ensures here { slice_index places.now k < length steps.old
+        → slice_index steps.new (slice_index places.now k) ≡ value }
+    ensures others { (x : ℕ) → x ≢ slice_index places.now k → slice_index steps.new x ≡ slice_index steps.old x }
 {
     let place = places[k as usize] as usize;
-    if place < units.len() {
-        units[place] = unit;
+    if place < steps.len() {
+        steps[place] = value;
         true
     } else {
         false
@@ -36,18 +36,18 @@ pub(crate) fn put_unit(places: &[u32], k: u32, unit: u64, units: &mut [u64]) -> 
 }
 
 /// Takes back what was written for the nodes that are listed, in time of these alone.
-pub(crate) fn clear(listed: &[(u32, u128)], places: &[u32], amounts: &mut [u128], units: &mut [u64])
+pub(crate) fn clear(listed: &[(u32, u128)], places: &[u32], amounts: &mut [u128], steps: &mut [u32])
     requires nodes { All (λ e. e.0 < length places.now) listed.now }
     requires long { length amounts.old ≡ length places.now }
     requires amounts { (k : ℕ) → slice_index amounts.old k ≤ value_at listed.now k }
     ensures amounts { (k : ℕ) → slice_index amounts.new k ≡ 0 }
-    ensures units { (node : ℕ → ℕ) → IsPlaceOf (length units.old) node places.now
-        → IsWithinListed (length units.old) node listed.now units.old
-        → (x : ℕ) → x < length units.old → slice_index units.new x ≡ 0 }
+    ensures steps { (node : ℕ → ℕ) → IsPlaceOf (length steps.old) node places.now
+        → IsWithinListed (length steps.old) node listed.now steps.old
+        → (x : ℕ) → x < length steps.old → slice_index steps.new x ≡ 0 }
 {
     for entry in listed {
         let k = entry.0;
         amounts[k as usize] = 0;
-        let _ = put_unit(places, k, 0, units);
+        let _ = put_steps(places, k, 0, steps);
     }
 }

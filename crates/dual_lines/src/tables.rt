@@ -5,7 +5,7 @@ ghost use Rattle.hub_spec.specs.Limits.{most_nodes};
 ghost use Rattle.hub_spec.specs.Problem.{IsProblem};
 ghost use Rattle.unit_duals.specs.Cells.{cell};
 ghost use Rattle.unit_duals.specs.Lengths.{IsLegRow};
-ghost use Rattle.dual_lines.specs.Legs.{collection_length, trunk_length, delivery_length};
+ghost use Rattle.dual_lines.specs.Legs.{collection_length, trunk_length, delivery_length, IsLegTable};
 
 use crate::filling::{places_of, set_collect, set_deliver, set_trunk};
 use hub_model::Instance;
@@ -73,6 +73,27 @@ impl<'a> CandidateLegs<'a> {
         ensures limit { result ≤ most_nodes }
     {
         self.places
+    }
+
+    /// The legs of collection, row by row.
+    pub(crate) fn collection_table(&self) -> &[u64]
+        ensures { IsLegTable self.now.size (length self.now.candidates) (collection_length self.now) result.now }
+    {
+        &self.collect
+    }
+
+    /// The legs of trunk, row by row.
+    pub(crate) fn trunk_table(&self) -> &[u64]
+        ensures { IsLegTable (length self.now.candidates) (length self.now.candidates) (trunk_length self.now) result.now }
+    {
+        &self.trunk
+    }
+
+    /// The legs of delivery, row by row.
+    pub(crate) fn delivery_table(&self) -> &[u64]
+        ensures { IsLegTable self.now.size (length self.now.candidates) (delivery_length self.now) result.now }
+    {
+        &self.deliver
     }
 
     /// The legs of collection from the origin to each candidate.

@@ -1,4 +1,4 @@
-//! The fast test: a price against lengths and values by unit of flow.
+//! The test that decides: a price against lengths and values by unit of flow, and where need be in costs.
 //!
 //! The price is divided by the flow and rounded up, each value divided and rounded down. So what is covered here is
 //! covered in the costs that are listed, and a hub that is not is left to the exact test. Lengths, prices and values by
@@ -20,16 +20,14 @@ use crate::tables::CandidateLegs;
 const MOST_UNIT: u64 = 100_000_000_000_000_000;
 
 /// The most candidates that an instance has.
-const MOST_PLACES: usize = 200;
+pub(crate) const MOST_PLACES: usize = 200;
 
-/// Tells whether the price is covered with each candidate as the first hub. `amounts` has a value for each node,
-/// `units` for each place by unit of flow.
-pub(crate) fn is_covered(
+/// Tells whether the price is covered with each candidate as the first hub. `amounts` has a value for each node.
+pub(crate) fn is_covered_by_flow(
     legs: &CandidateLegs,
     line: Priced,
     carried: u64,
     amounts: &[u128],
-    units: &[u64],
 ) -> bool
     requires from { line.from < legs.now.size }
     requires to { line.to < legs.now.size }
@@ -38,13 +36,30 @@ pub(crate) fn is_covered(
     requires carried_limit { carried ≤ most_flow }
     requires long { length amounts.now ≡ legs.now.size }
     requires short { All IsAmount amounts.now }
-    requires units { AreUnits legs.now carried (slice_index amounts.now) units.now }
     ensures { IsTrue result
         ↔ All (IsCoveredFirst legs.now (line.from, line.to) line.price amounts.now) legs.now.candidates }
 {
     match unit_price(line.price, carried) {
-        Some(price) => is_covered_by_units(legs, line, price, amounts, units),
+        Some(price) => {
+            let count = legs.places();
+            let mut units = [0; MOST_PLACES];
+            set_units(legs, carried, amounts, &mut units);
+            is_covered_by_units(legs, line, price, amounts, &units[..count])
+        }
         None => is_covered_by_amounts(legs.instance(), line, amounts),
+    }
+}
+
+/// Sets the value by unit of flow of each place.
+fn set_units(legs: &CandidateLegs, carried: u64, amounts: &[u128], units: &mut [u64])
+    requires long { length amounts.now ≡ legs.now.size }
+    requires room { length legs.now.candidates ≤ length units.old }
+    ensures { AreUnits legs.now carried (slice_index amounts.now) (take (length legs.now.candidates) units.new) }
+{
+    let inverse = inverse_of(carried);
+    let candidates = legs.instance().candidates();
+    for x in 0..candidates.len() {
+        units[x] = unit_value(amounts[candidates[x] as usize], carried, inverse);
     }
 }
 

@@ -1,9 +1,10 @@
-use Rattle.std.proofs.Common.{◌≡◌, ℕ, ◌<◌, length, Fits, ap, ◌∙◌, rules, arith}
+use Rattle.std.proofs.Common.{sym, ◌*◌, ◌≡◌, ℕ, ◌<◌, length, Fits, ap, ◌∙◌, rules, arith}
 use mir.Syntax.{w32}
 use Rattle.std.proofs.lemmas.List.{with_items_is}
 use Rattle.hub_spec.specs.Problem.{Problem}
+use Rattle.dual_lines.specs.Steps.{LegsInSteps}
 use Rattle.dual_lines.proofs.CandidateTables.{few_places}
-use Rattle.dual_lines.proofs.HeldLines.{range_begun, amounts_begun, units_begun, candidates_begun, zeros}
+use Rattle.dual_lines.proofs.HeldLines.{range_begun, amounts_begun, steps_begun, candidates_begun, zeros}
 use Rattle.dual_lines.proofs.lines.DualLine.new.Goals as goal
 
 fits : (n : ℕ) → n < 201 → Fits w32 n
@@ -12,13 +13,13 @@ fits n low = search (rules, arith)
 pub overflow_cast-count : goal.overflow_cast-count
 overflow_cast-count c =
     let p = c.args.instance.now in
-    let same = ap (λ (q : Problem). length q.candidates) (c.in_ok-legs.ensures) in
+    let same = ap (λ (q : Problem). length q.candidates) c.in_ok-legs.ensures in
     fits c.places-count.result (omega (arith, c.places-count.ensures.value, same, few_places p c.size-nodes.ensures.problem, c.size-nodes.ensures.problem.size_limit))
 
 pub invariant_of-result-2 : goal.invariant_of-result-2
 invariant_of-result-2 c =
     let p = c.args.instance.now in
-    let same : c.legs.inside.instance.now ≡ p = c.legs.view_is ∙ c.in_ok-legs.ensures in
+    let same : c.legs.inside.long ≡ p = ap (λ (l : LegsInSteps). l.problem) c.legs.view_is ∙ c.in_ok-legs.ensures in
     let count : c.places-count.result ≡ length p.candidates = c.places-count.ensures.value ∙ ap (λ (q : Problem). length q.candidates) (c.in_ok-legs.ensures) in
     let none = c.in_ok-with_capacity.ensures.items in
     let places_are = with_items_is c.in_ok-places.places c.set_places.new.places (omega (arith, c.set_places.auto.places, c.deref_mut.ensures.len)) in
@@ -26,11 +27,12 @@ invariant_of-result-2 c =
       from = omega (arith, c.size-nodes.ensures.problem.some_node);
       to = omega (arith, c.size-nodes.ensures.problem.some_node);
       range = rw none (range_begun p.size 0 (omega arith));
-      carried = c.flow_between.ensures.value;
-      carried_limit = c.flow_between.ensures.limit;
+      carried = c.flow_between-carried.ensures.value;
+      carried_limit = c.flow_between-carried.ensures.limit;
       room = omega (arith, c.in_ok-with_capacity.ensures.capacity, c.size-nodes.ensures.value);
       places = rw places_are c.set_places.ensures;
       amounts = rw none (amounts_begun p.size c.in_ok-vec.field-0.items (omega (arith, c.in_ok-vec.ensures.len, c.in_ok-vec.field-0.ok.0, c.size-nodes.ensures.value)) (zeros c.size-nodes.result c.in_ok-vec.field-0.items (c.in_ok-vec.ensures.items_if_clones_equal (λ y h. h))));
-      units = rw none (units_begun p c.flow_between.result c.in_ok-vec-2.field-0.items (omega (arith, c.in_ok-vec-2.ensures.len, c.in_ok-vec-2.field-0.ok.0, count)) (λ x _. zeros c.places-count.result c.in_ok-vec-2.field-0.items (c.in_ok-vec-2.ensures.items_if_clones_equal (λ y h. h)) x));
+      cost = ap (λ (n : ℕ). c.flow_between-carried.result * n) (c.step.ensures.value ∙ sym (ap (λ (l : LegsInSteps). l.step) c.legs.view_is));
+      steps = rw none (steps_begun p (c.flow_between-carried.result * c.step.result) c.in_ok-vec-2.field-0.items (omega (arith, c.in_ok-vec-2.ensures.len, c.in_ok-vec-2.field-0.ok.0, count)) (λ x _. zeros c.places-count.result c.in_ok-vec-2.field-0.items (c.in_ok-vec-2.ensures.items_if_clones_equal (λ y h. h)) x));
       candidates = rw (none, places_are) (candidates_begun p c.set_places.new.places);
     })

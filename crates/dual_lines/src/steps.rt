@@ -1,0 +1,178 @@
+//! The test of a price. First the sure one: a price against lengths and values in steps, which fit 32 bits.
+//!
+//! Legs and values are rounded down, the price up. So a price that is covered here is covered in the costs that are
+//! listed. Any other is left to the test by flow.
+
+ghost use Rattle.std.specs.Prelude.{◌≡◌, ℕ, ◌+◌, ◌*◌, ◌^◌, ◌<◌, ◌≤◌, ◌↔◌, List, length, slice_index, IsTrue, IfSome, All};
+ghost use Rattle.hub_spec.specs.Limits.{most_flow};
+ghost use Rattle.hub_spec.specs.Problem.{flow};
+ghost use Rattle.hub_spec.specs.Ranges.{IsAmount};
+ghost use Rattle.dual_lines.specs.Legs.{delivery_length};
+ghost use Rattle.dual_lines.specs.Covers.{IsCoveredFirst};
+ghost use Rattle.dual_lines.specs.Steps.{most_steps, AreStepValues, AreStepEnds, IsCoveredInSteps};
+
+use crate::amounts::Priced;
+use crate::step_tables::StepLegs;
+use crate::stepping::MOST_STEPS;
+use crate::units::{MOST_PLACES, is_covered_by_flow, unit_value};
+
+/// Tells whether the price is covered with each candidate as the first hub. `amounts` has a value for each node,
+/// `values` for each place in steps, and `step_cost` is what a step costs: the flow times the step.
+pub(crate) fn is_covered(
+    legs: &StepLegs,
+    line: Priced,
+    carried: u64,
+    step_cost: u64,
+    amounts: &[u128],
+    values: &[u32],
+) -> bool
+    requires from { line.from < legs.now.problem.size }
+    requires to { line.to < legs.now.problem.size }
+    requires price { IsAmount line.price }
+    requires carried { carried ≡ flow legs.now.problem line.from line.to }
+    requires carried_limit { carried ≤ most_flow }
+    requires cost { step_cost ≡ carried * legs.now.step }
+    requires long { length amounts.now ≡ legs.now.problem.size }
+    requires short { All IsAmount amounts.now }
+    requires values { AreStepValues legs.now.problem step_cost (slice_index amounts.now) values.now }
+    ensures { IsTrue result
+        ↔ All (IsCoveredFirst legs.now.problem (line.from, line.to) line.price amounts.now) legs.now.problem.candidates }
+{
+    if is_covered_surely(legs, line, step_cost, values) {
+        return true;
+    }
+    is_covered_by_flow(legs.long(), line, carried, amounts)
+}
+
+/// Tells for sure that the price is covered with each candidate as the first hub. It may be, too, where this says no.
+fn is_covered_surely(legs: &StepLegs, line: Priced, step_cost: u64, values: &[u32]) -> bool
+    requires from { line.from < legs.now.problem.size }
+    requires to { line.to < legs.now.problem.size }
+    requires price { IsAmount line.price }
+    requires cost { step_cost ≡ flow legs.now.problem line.from line.to * legs.now.step }
+    requires long { length values.now ≡ length legs.now.problem.candidates }
+    requires short { All (λ v. v ≤ most_steps) values.now }
+    ensures { (amounts : List ℕ) → AreStepValues legs.now.problem step_cost (slice_index amounts) values.now → IsTrue result
+        → All (IsCoveredFirst legs.now.problem (line.from, line.to) line.price amounts) legs.now.problem.candidates }
+{
+    match price_in_steps(line.price, step_cost) {
+        Some(price) => is_covered_in_steps(legs, line.from, line.to, price, values),
+        None => false,
+    }
+}
+
+/// The price in steps, rounded up; none where it is too great, or steps cost nothing.
+fn price_in_steps(price: u128, step_cost: u64) -> Option<u32>
+    requires { IsAmount price }
+    ensures { IfSome result (λ a. price ≤ step_cost * a) }
+{
+    if price == 0 {
+        return Some(0);
+    }
+    if step_cost == 0 {
+        return None;
+    }
+    let step_cost = step_cost as u128;
+    let rounded = (price + (step_cost - 1)) / step_cost;
+    if rounded > u32::MAX as u128 {
+        return None;
+    }
+    Some(rounded as u32)
+}
+
+/// The value in steps, rounded down, and cut. The inverse is that of the cost of a step by `inverse_of`.
+pub(crate) fn value_in_steps(amount: u128, step_cost: u64, inverse: u64) -> u32
+    ensures all { step_cost * result ≤ amount }
+    ensures one { result ≤ amount }
+    ensures limit { result ≤ most_steps }
+{
+    unit_value(amount, step_cost, inverse).min(MOST_STEPS) as u32
+}
+
+/// Tells for sure that the price in steps is covered with each candidate as the first hub.
+fn is_covered_in_steps(legs: &StepLegs, i: u32, j: u32, price: u32, values: &[u32]) -> bool
+    requires from { i < legs.now.problem.size }
+    requires to { j < legs.now.problem.size }
+    requires long { length values.now ≡ length legs.now.problem.candidates }
+    requires short { All (λ v. v ≤ most_steps) values.now }
+    ensures { IsTrue result
+        → (x : ℕ) → x < length legs.now.problem.candidates → IsCoveredInSteps legs.now (i, j) price values.now x }
+{
+    let places = legs.places();
+    let mut ends = [0; MOST_PLACES];
+    let last = set_ends(legs.delivery_steps(j), values, &mut ends);
+    for x in 0..places {
+        if !is_place_covered(legs, i, j, price, last, &ends, values, x) {
+            return false;
+        }
+    }
+    true
+}
+
+/// Tells for sure that the price in steps is covered with the candidate at the place as the first hub. Where collection
+/// and the nearest end cover the price, no last hub is visited.
+fn is_place_covered(
+    legs: &StepLegs,
+    i: u32,
+    j: u32,
+    price: u32,
+    last: u32,
+    ends: &[u32],
+    values: &[u32],
+    x: usize,
+) -> bool
+    requires from { i < legs.now.problem.size }
+    requires to { j < legs.now.problem.size }
+    requires long { length values.now ≡ length legs.now.problem.candidates }
+    requires short { All (λ v. v ≤ most_steps) values.now }
+    requires room { length legs.now.problem.candidates ≤ length ends.now }
+    requires ends { (y : ℕ) → y < length legs.now.problem.candidates → slice_index ends.now y ≤ 2 * most_steps }
+    requires each { (y : ℕ) → y < length legs.now.problem.candidates
+        → legs.now.step * slice_index ends.now y
+        ≤ delivery_length legs.now.problem j y + legs.now.step * slice_index values.now y }
+    requires last { (y : ℕ) → y < length legs.now.problem.candidates → last ≤ slice_index ends.now y }
+    requires last_limit { last ≤ 2 * most_steps }
+    requires place { x < length legs.now.problem.candidates }
+    ensures { IsTrue result → IsCoveredInSteps legs.now (i, j) price values.now x }
+{
+    let first = legs.collection_steps(i)[x] + values[x];
+    if first + legs.delivery_steps(j)[x] < price {
+        return false;
+    }
+    first + last >= price || are_beyond(price - first, legs.trunk_steps(x), ends)
+}
+
+/// Sets the ends of the last hubs, each a leg of delivery and its value together, and gives the least.
+fn set_ends(legs: &[u32], values: &[u32], ends: &mut [u32]) -> u32
+    requires long { length values.now ≡ length legs.now }
+    requires legs { All (λ v. v ≤ most_steps) legs.now }
+    requires short { All (λ v. v ≤ most_steps) values.now }
+    requires room { length legs.now ≤ length ends.old }
+    ensures ends { AreStepEnds (length legs.now) legs.now values.now ends.new }
+    ensures least { (y : ℕ) → y < length legs.now → result ≤ slice_index ends.new y }
+    ensures limit { result ≤ 2 * most_steps }
+{
+    let mut least = MOST_STEPS as u32;
+    for y in 0..legs.len() {
+        let end = legs[y] + values[y];
+        ends[y] = end;
+        least = least.min(end);
+    }
+    least
+}
+
+/// Tells whether a leg of trunk and the end of its place are together never less than the bound. Nothing ends the loop
+/// early, so that several places are taken at a time.
+fn are_beyond(bound: u32, trunk: &[u32], ends: &[u32]) -> bool
+    requires trunk { All (λ v. v ≤ most_steps) trunk.now }
+    requires ends { (y : ℕ) → y < length trunk.now → slice_index ends.now y ≤ 2 * most_steps }
+    requires room { length trunk.now ≤ length ends.now }
+    ensures { IsTrue result
+        → (y : ℕ) → y < length trunk.now → bound ≤ slice_index trunk.now y + slice_index ends.now y }
+{
+    let mut least = u32::MAX;
+    for y in 0..trunk.len() {
+        least = least.min(trunk[y] + ends[y]);
+    }
+    least >= bound
+}
