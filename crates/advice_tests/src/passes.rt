@@ -4,6 +4,7 @@ use hub_model::{Factors, Instance};
 use price_passes::{Adviser, Memory, Side};
 use std::alloc::{AllocError, Global};
 use std::test::Fail;
+use std::thread::Threads;
 use worked_cases::{
     Case, LINE_OF_THREE, NoInstance, ONE_NODE, SECOND_OF_TWO, THREE_COSTS, instance,
 };
@@ -47,13 +48,19 @@ const SEVEN_SIDES: [Side; 7] = [
 const ONE: i128 = 1_000_000_000_000;
 
 // Tells whether passes at the root bring bound and cost to these.
-fn comes_to(alloc: Global, case: &Case, bound: i128, cost: i128) -> Result<bool, NoInstance> {
+fn comes_to<R: Threads + Sync>(
+    rt: &R,
+    alloc: Global,
+    case: &Case,
+    bound: i128,
+    cost: i128,
+) -> Result<bool, NoInstance> {
     let instance = instance(alloc, case)?;
-    let mut adviser = Adviser::new(alloc, &instance)?;
+    let mut adviser = Adviser::new(alloc, &instance, 1)?;
     adviser.enter(&[Side::Free; 7], &[]);
     for _ in 0..60 {
         if adviser.goes_on(cost) {
-            adviser.better(cost);
+            adviser.better(rt, alloc, cost)?;
         }
     }
     Ok(adviser.bound_hint() == bound && adviser.cost_hint() == cost)
@@ -69,42 +76,51 @@ fn passes_close_small_instances(rt: HostRuntime) -> Result<(), Fail> {
         (THREE_COSTS, 0, 4 * ONE),
         (SEVEN_NODES, SEVEN_COST, SEVEN_COST),
     ] {
-        assert!(rt; comes_to(rt.alloc(), &case, bound, cost)?);
+        assert!(rt; comes_to(&rt, rt.alloc(), &case, bound, cost)?);
     }
     Ok(())
 }
 
 // Tells whether one pass at the node of the cheapest set alone closes it.
-fn closes(alloc: Global) -> Result<bool, NoInstance> {
+fn closes<R: Threads + Sync>(rt: &R, alloc: Global) -> Result<bool, NoInstance> {
     let instance = instance(alloc, &SEVEN_NODES)?;
-    let mut adviser = Adviser::new(alloc, &instance)?;
+    let mut adviser = Adviser::new(alloc, &instance, 1)?;
     adviser.enter(&SEVEN_SIDES, &[]);
-    adviser.better(SEVEN_COST);
+    adviser.better(rt, alloc, SEVEN_COST)?;
     Ok(adviser.bound_hint() == SEVEN_COST && adviser.branch_place().is_none())
 }
 
 // The values after a pass at this node.
-fn pass(alloc: Global, adviser: &mut Adviser, hubs: &[bool]) -> Result<Vec<u32>, AllocError> {
+fn pass<R: Threads + Sync>(
+    rt: &R,
+    alloc: Global,
+    adviser: &mut Adviser,
+    hubs: &[bool],
+) -> Result<Vec<u32>, AllocError> {
     adviser.enter(&[Side::Free; 7], hubs);
-    adviser.better(SEVEN_COST);
+    adviser.better(rt, alloc, SEVEN_COST)?;
     adviser.values().to_vec(alloc)
 }
 
 // Tells whether the values that are remembered are there again, where others stood between.
-fn goes_back(alloc: Global, instance: &Instance) -> Result<bool, AllocError> {
-    let mut adviser = Adviser::new(alloc, instance)?;
+fn goes_back<R: Threads + Sync>(
+    rt: &R,
+    alloc: Global,
+    instance: &Instance,
+) -> Result<bool, AllocError> {
+    let mut adviser = Adviser::new(alloc, instance, 1)?;
     let mut memory = Memory::new(alloc, instance)?;
-    let first = pass(alloc, &mut adviser, &SEVEN_HUBS)?;
+    let first = pass(rt, alloc, &mut adviser, &SEVEN_HUBS)?;
     adviser.remember(&mut memory);
-    let second = pass(alloc, &mut adviser, &[])?;
+    let second = pass(rt, alloc, &mut adviser, &[])?;
     adviser.recall(&memory);
     Ok(first != second && adviser.values() == first.as_slice())
 }
 
 #[test]
 fn full_node_and_back(rt: HostRuntime) -> Result<(), Fail> {
-    assert!(rt; closes(rt.alloc())?);
+    assert!(rt; closes(&rt, rt.alloc())?);
     let instance = instance(rt.alloc(), &SEVEN_NODES)?;
-    assert!(rt; goes_back(rt.alloc(), &instance)?);
+    assert!(rt; goes_back(&rt, rt.alloc(), &instance)?);
     Ok(())
 }

@@ -15,6 +15,7 @@ use assign_sub::set_cost;
 use hub_model::{Branch, HubSet, signed, unsigned};
 use hub_plain::is_hub_set;
 use std::alloc::{AllocError, Global};
+use std::thread::Threads;
 
 /// So many passes there are at most at the root.
 const ROOT_PASSES: u32 = 60;
@@ -24,7 +25,8 @@ const PASSES: u32 = 15;
 
 /// Takes advice at the branch, and tells whether that ended it: with a leaf of the cut of the values, or of a stop, where
 /// two nodes more are not allowed.
-pub(crate) fn end_by_advice(
+pub(crate) fn end_by_advice<R: Threads + Sync>(
+    rt: &R,
     alloc: Global,
     task: &Task,
     bench: &mut Bench,
@@ -37,7 +39,7 @@ pub(crate) fn end_by_advice(
     ensures bench { bench.new.problem ≡ bench.old.problem }
     ensures advised { IfOk result (λ ended. IsAdvised task.now branch.now progress.old progress.new ended) }
 {
-    take_advice(alloc, task, bench, branch, progress)?;
+    take_advice(rt, alloc, task, bench, branch, progress)?;
     let total = bench.value_sums();
     let wanted = target(progress);
     let closes = sums_close(alloc, task, branch, total, bench.loads(), wanted)?;
@@ -55,7 +57,8 @@ pub(crate) fn end_by_advice(
 }
 
 // Makes passes at the branch, as long as they are worth their time.
-fn take_advice(
+fn take_advice<R: Threads + Sync>(
+    rt: &R,
     alloc: Global,
     task: &Task,
     bench: &mut Bench,
@@ -69,7 +72,7 @@ fn take_advice(
 {
     bench.enter(branch, &progress.hubs);
     for _ in 0..most_passes(branch) {
-        if !pass(alloc, task, bench, progress)? {
+        if !pass(rt, alloc, task, bench, progress)? {
             break;
         }
     }
@@ -86,7 +89,8 @@ fn most_passes(branch: &Branch) -> u32 {
 }
 
 // Makes one pass, and takes the guess after it, unless a pass is not worth its time. It tells whether it did.
-fn pass(
+fn pass<R: Threads + Sync>(
+    rt: &R,
     alloc: Global,
     task: &Task,
     bench: &mut Bench,
@@ -101,7 +105,7 @@ fn pass(
     if !bench.goes_on(wanted) {
         return Ok(false);
     }
-    bench.better(wanted);
+    bench.better(rt, alloc, wanted)?;
     take_guess(alloc, task, bench, progress)?;
     Ok(true)
 }

@@ -15,6 +15,7 @@ use pareto_cuts::Scratch;
 use price_passes::{Adviser, Memory, Side};
 use std::alloc::{AllocError, Global};
 use std::marker::Model;
+use std::thread::Threads;
 use value_cuts::{CandidateLegs, PriceScratch, Values};
 
 /// So many memories of duals there are at most. Each takes four bytes for each commodity and place.
@@ -85,12 +86,16 @@ impl<'a> Model for Bench<'a> {
 }
 
 impl<'a> Bench<'a> {
-    /// A bench for the instance.
-    pub(crate) fn new(alloc: Global, instance: &'a Instance) -> Result<Bench<'a>, AllocError>
+    /// A bench for the instance, whose passes so many workers make.
+    pub(crate) fn new(
+        alloc: Global,
+        instance: &'a Instance,
+        workers: u32,
+    ) -> Result<Bench<'a>, AllocError>
         ensures { IfOk result (λ b. b.problem ≡ instance.now) }
     {
         let tables = CandidateLegs::new(alloc, instance)?;
-        let adviser = Adviser::new(alloc, instance)?;
+        let adviser = Adviser::new(alloc, instance, workers)?;
         let pricing = Pricing::new(alloc, &tables, adviser.unit())?;
         let sets = Scratch::new(alloc, instance)?;
         let places = Places::new(alloc, instance.candidates().len())?;
@@ -171,10 +176,15 @@ impl<'a> Bench<'a> {
     }
 
     /// Betters the values by one pass.
-    pub(crate) fn better(&mut self, wanted: i128)
+    pub(crate) fn better<R: Threads + Sync>(
+        &mut self,
+        rt: &R,
+        alloc: Global,
+        wanted: i128,
+    ) -> Result<(), AllocError>
         ensures { self.new ≡ self.old }
     {
-        self.adviser.better(wanted);
+        self.adviser.better(rt, alloc, wanted)
     }
 
     /// Tells whether the guess seems to cost less than this, in 10^-12.

@@ -6,6 +6,7 @@
 //! does not, the search branches. A branch with nothing free ends on the cut of its own hubs. With a most number of nodes
 //! the search stops where two more are not allowed, and each branch that is left becomes a leaf.
 //!
+//! Workers side by side make the passes of the advice, and what the search finds is the same, whatever their number.
 //! Nothing of the advice is trusted. Each step keeps what `Progressing` of the specs says: the lines lead from the root
 //! to the branches that are still to be filled (`tree_walks`), and the incumbent has its cost. `Bench` is what a search
 //! works with, `Progress` what it has. Costs are in 10^-12; nodes are `u32`, counted from 0, cuts are counted from 1.

@@ -15,6 +15,7 @@ use assign_sub::{assign, set_cost};
 use hub_model::{Branch, HubSet, Instance, Plan, unsigned};
 use kept_cuts::{KeptCuts, Network};
 use std::alloc::{AllocError, Global};
+use std::thread::Threads;
 
 /// A plan with the cuts and the tree that bound what any plan costs. `nodes` is the most nodes of the tree, the root among
 /// them; with `None` they are not limited.
@@ -22,13 +23,19 @@ use std::alloc::{AllocError, Global};
 /// Only where two nodes more are not allowed the search stops, and then the bound may be below the cost. Else both are
 /// equal and the plan is optimal.
 ///
+/// The passes of its advice are made by so many workers, 1 to 64, each in a thread of its own where one can be made. What
+/// is found is the same for every number of workers and every schedule, as long as memory does not run out.
+///
 /// The answer is `AllocError` where memory runs out, and for a search that would have more cuts or tree lines than a
 /// certificate's text can have, 67,108,864 and 268,435,456.
-pub fn optimize(
+pub fn optimize<R: Threads + Sync>(
+    rt: &R,
     alloc: Global,
     instance: &Instance,
     nodes: Option<u64>,
+    workers: u32,
 ) -> Result<Network, AllocError>
+    requires workers { (1 ≤ workers) × (workers ≤ 64) }
     ensures proved { IfOk result (IsProved instance.now) }
     ensures within { IfOk result (λ found. found.bound ≤ found.cost) }
     ensures below { IfOk result (λ found. NoPlanBelow instance.now found.bound) }
@@ -43,19 +50,25 @@ pub fn optimize(
         nodes,
     };
     let mut progress = begin(alloc, &task)?;
-    fill_tree(alloc, &task, &mut progress)?;
+    fill_tree(rt, alloc, &task, workers, &mut progress)?;
     finish(alloc, &task, progress)
 }
 
 // Handles the root, and all nodes below it.
-fn fill_tree(alloc: Global, task: &Task, progress: &mut Progress) -> Result<(), AllocError>
+fn fill_tree<R: Threads + Sync>(
+    rt: &R,
+    alloc: Global,
+    task: &Task,
+    workers: u32,
+    progress: &mut Progress,
+) -> Result<(), AllocError>
     requires { IsGoing task.now progress.old }
     ensures { OnOk result (IsDone task.now (root task.now.instance.now) progress.old progress.new) }
 {
     let root = Branch::root(alloc, task.instance)?;
     let depth = root.free().len() as u32 + 1;
-    let mut bench = Bench::new(alloc, task.instance)?;
-    node(depth, alloc, task, &mut bench, &root, progress)
+    let mut bench = Bench::new(alloc, task.instance, workers)?;
+    node(depth, rt, alloc, task, &mut bench, &root, progress)
 }
 
 // No cut and no line, with the set of all candidates as the first incumbent.

@@ -12,11 +12,13 @@ use crate::progress::{Progress, end_with, split_on};
 use crate::task::Task;
 use hub_model::{Branch, TreeLine};
 use std::alloc::{AllocError, Global};
+use std::thread::Threads;
 
 /// Handles the node of a branch that has fewer free nodes than the depth, and all nodes below it.
 #[cycle(walk)]
-pub(crate) fn node(
+pub(crate) fn node<R: Threads + Sync>(
     depth: u32,
+    rt: &R,
     alloc: Global,
     task: &Task,
     bench: &mut Bench,
@@ -42,16 +44,17 @@ pub(crate) fn node(
     if branch.free().is_empty() {
         return set_leaf(alloc, task, bench, branch, progress);
     }
-    if end_by_advice(alloc, task, bench, branch, progress)? {
+    if end_by_advice(rt, alloc, task, bench, branch, progress)? {
         return Ok(());
     }
-    parted(depth - 1, alloc, task, bench, branch, progress)
+    parted(depth - 1, rt, alloc, task, bench, branch, progress)
 }
 
 /// Parts the branch on a free node, where two nodes more are allowed.
 #[cycle(walk)]
-fn parted(
+fn parted<R: Threads + Sync>(
     depth: u32,
+    rt: &R,
     alloc: Global,
     task: &Task,
     bench: &mut Bench,
@@ -71,8 +74,8 @@ fn parted(
     split_on(task, branch, k, progress)?;
     let memory = bench.remember(alloc)?;
     let opened = branch.open_child(alloc, k)?;
-    node(depth, alloc, task, bench, &opened, progress)?;
+    node(depth, rt, alloc, task, bench, &opened, progress)?;
     bench.recall(memory)?;
     let closed = branch.closed_child(alloc, k)?;
-    node(depth, alloc, task, bench, &closed, progress)
+    node(depth, rt, alloc, task, bench, &closed, progress)
 }

@@ -6,6 +6,7 @@ use hub_model::{Factors, Instance};
 use hub_plain::{best_plan, plan_cost};
 use std::alloc::{AllocError, Global};
 use std::test::Fail;
+use std::thread::Threads;
 use worked_cases::{
     Case, EDGE_OF_TWO_CLOSED, LINE_OF_THREE, ONE_NODE, SECOND_OF_TWO, SHORTER_BACK, THREE_COSTS,
     TWO_CLOSED, TWO_NODES, instance,
@@ -26,8 +27,12 @@ const EIGHT_ALIKE: Case = Case {
 };
 
 // Tells whether the search finds what the cheapest plan costs, and shows that none costs less.
-fn finds_the_least(alloc: Global, instance: &Instance) -> Result<bool, AllocError> {
-    let found = optimize(alloc, instance, None)?;
+fn finds_the_least<R: Threads + Sync>(
+    rt: &R,
+    alloc: Global,
+    instance: &Instance,
+) -> Result<bool, AllocError> {
+    let found = optimize(rt, alloc, instance, None, 1)?;
     let best = best_plan(alloc, instance)?;
     Ok(found.cost == plan_cost(instance, &best) && found.bound == found.cost)
 }
@@ -46,7 +51,7 @@ fn worked_instances(rt: HostRuntime) -> Result<(), Fail> {
         EIGHT_ALIKE,
     ] {
         let instance = instance(rt.alloc(), &case)?;
-        assert!(rt; finds_the_least(rt.alloc(), &instance)?);
+        assert!(rt; finds_the_least(&rt, rt.alloc(), &instance)?);
     }
     Ok(())
 }
@@ -55,18 +60,19 @@ fn worked_instances(rt: HostRuntime) -> Result<(), Fail> {
 fn made_instances(rt: HostRuntime) -> Result<(), Fail> {
     for size in 5..9 {
         let instance = made_instance(rt.alloc(), 7, size)?;
-        assert!(rt; finds_the_least(rt.alloc(), &instance)?);
+        assert!(rt; finds_the_least(&rt, rt.alloc(), &instance)?);
     }
     Ok(())
 }
 
 // What a search with so many nodes finds: the cost, the bound, and how many lines the tree has.
-fn within(
+fn within<R: Threads + Sync>(
+    rt: &R,
     alloc: Global,
     instance: &Instance,
     nodes: Option<u64>,
 ) -> Result<(u128, u128, usize), AllocError> {
-    let found = optimize(alloc, instance, nodes)?;
+    let found = optimize(rt, alloc, instance, nodes, 1)?;
     Ok((found.cost, found.bound, found.tree.len()))
 }
 
@@ -75,9 +81,12 @@ fn within(
 fn a_stop_leaves_a_gap(rt: HostRuntime) -> Result<(), Fail> {
     let instance = instance(rt.alloc(), &ONE_NODE)?;
     let cost = 5_000_000_000_000;
-    assert_eq!(rt; within(rt.alloc(), &instance, Some(1))?, (cost, 0, 1));
-    assert_eq!(rt; within(rt.alloc(), &instance, Some(2))?, (cost, 0, 1));
-    assert_eq!(rt; within(rt.alloc(), &instance, Some(3))?, (cost, cost, 3));
-    assert_eq!(rt; within(rt.alloc(), &instance, None)?, (cost, cost, 3));
+    assert_eq!(rt; within(&rt, rt.alloc(), &instance, Some(1))?, (cost, 0, 1));
+    assert_eq!(rt; within(&rt, rt.alloc(), &instance, Some(2))?, (cost, 0, 1));
+    assert_eq!(rt;
+        within(&rt, rt.alloc(), &instance, Some(3))?,
+        (cost, cost, 3)
+    );
+    assert_eq!(rt; within(&rt, rt.alloc(), &instance, None)?, (cost, cost, 3));
     Ok(())
 }

@@ -57,20 +57,22 @@ pub fn solve<R: Threads + Sync, S: Shelf, G: Gate>(
 }
 
 /// What the search without a rule finds for the instance that the source names, with the instance.
-pub fn optimize<S: Shelf>(
+pub fn optimize<R: Threads + Sync, S: Shelf>(
+    rt: &R,
     alloc: Global,
     source: &Source<'_>,
-    nodes: Option<u64>,
+    asked: Search,
     shelf: &mut S,
 ) -> Result<(Instance, Network), Halt>
     requires sources { AreSources (source_of source.now) }
-    ensures optimized { IfOk result (λ r. IsOptimum (S.held shelf.old) (source_of source.now) nodes r.0 r.1) }
+    requires asked { IsSearch (search_seen asked) }
+    ensures optimized { IfOk result (λ r. IsOptimum (S.held shelf.old) (source_of source.now) asked.nodes r.0 r.1) }
     ensures halted { IfErr result (Halts (IsOfSource (S.held shelf.old) (source_of source.now))
         (FailsFor S.held S.faults S.sound shelf.old shelf.new (λ files. LacksSource files (source_of source.now)))) }
     ensures stays { StaysShelf S.held S.faults S.sound shelf.old shelf.new }
 {
     let instance = read_instance(alloc, source, shelf)?;
-    let found = closing_search::optimize(alloc, &instance, nodes)?;
+    let found = closing_search::optimize(rt, alloc, &instance, asked.nodes, asked.workers)?;
     Ok((instance, found))
 }
 

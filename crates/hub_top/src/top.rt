@@ -110,7 +110,7 @@ fn answer<R: Threads + Sync, S: Shelf, G: Gate>(
             Ok(Intended::Answered(Answer::Solved(solution)))
         }
         Command::Optimize(solving) => {
-            let (instance, found) = optimize(alloc, &solving.source, solving.search.nodes, shelf)?;
+            let (instance, found) = optimize(rt, alloc, &solving.source, solving.search, shelf)?;
             Ok(Intended::Optimized(instance, found))
         }
         Command::Check(source, certificate) => {

@@ -1,5 +1,5 @@
 -- What the words of a command line ask for. They include the program's name as the first.
-use Rattle.std.specs.Prelude.{ℕ, Bool, ◌&&◌, ◌||◌, not, List, codes, bytes_eq, Option, Some, None, option_map, option_and_then, is_some, nat_eq, if◌then◌else◌}
+use Rattle.std.specs.Prelude.{ℕ, Bool, ◌&&◌, ◌||◌, not, List, codes, bytes_eq, Option, Some, None, option_map, option_and_then, is_some, if◌then◌else◌}
 use Rattle.clap.specs.Words.{Row, Text, first_of}
 use Rattle.file_spec.specs.Options.{Layout, Order, Tail, tail_ignored, tail_costs, Options}
 use Rattle.hub_words.specs.Requests.{Source, Search, Making, Request, solve, optimize, check, report, make, demo}
@@ -107,19 +107,14 @@ solved source run = None
 abbrev pub solve_asked : List Row → Option Request
 solve_asked rows = solved (source_asked rows) (search_asked rows)
 
--- a search with one worker
-abbrev pub alone : Option Search → Option Search
-alone (Some run) = if nat_eq run.workers 1 then Some run else None
-alone None = None
-
--- a call to solve the instance by a search that follows no rule
+-- the same by a search that follows no rule
 abbrev pub optimized : Option Source → Option Search → Option Request
 optimized (Some source) (Some run) = Some (optimize (record { source = source; search = run }))
 optimized source run = None
 
--- a call to solve the instance by a search that follows no rule, which has one worker
+-- a call to solve the instance by a search that follows no rule
 abbrev pub optimize_asked : List Row → Option Request
-optimize_asked rows = optimized (source_asked rows) (alone (search_asked rows))
+optimize_asked rows = optimized (source_asked rows) (search_asked rows)
 
 -- an instance and a certificate, where both are given
 abbrev pub certificate_from : Option Text → Option Source → Option (Source × Text)

@@ -8,7 +8,7 @@ ghost use Rattle.hub_words.specs.Views.{request_of, requested, rows_found, sourc
 use crate::makings::read_making;
 use crate::parsing::parse;
 use crate::requests::{Command, Solving, Source};
-use crate::searches::{lone_search, read_search};
+use crate::searches::read_search;
 use crate::settings::given;
 use crate::sources::source;
 use clap::ArgMatches;
@@ -74,7 +74,7 @@ fn optimize<'a>(alloc: Global, found: &ArgMatches<'a>) -> Result<Option<Command<
     ensures command { IfOk result (λ command. requested command ≡ spec.optimize_asked (rows_found found.now)) }
     ensures lawful { IfOk result (λ command. IfSome command (λ c. IsLawful (request_of c))) }
 {
-    let Some(search) = lone_search(found) else {
+    let Some(search) = read_search(found) else {
         return Ok(None);
     };
     match source(alloc, found)? {

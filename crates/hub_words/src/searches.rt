@@ -21,16 +21,3 @@ pub(crate) fn read_search(found: &ArgMatches<'_>) -> Option<Search>
         workers: workers(given(found, "workers"))?,
     })
 }
-
-/// The search that the words ask for, if it has one worker.
-pub(crate) fn lone_search(found: &ArgMatches<'_>) -> Option<Search>
-    ensures value { option_map search_seen result ≡ spec.alone (spec.search_asked (rows_found found.now)) }
-    ensures limits { IfSome result (λ s. IsSearch (search_seen s)) }
-{
-    let search = read_search(found)?;
-    if search.workers == 1 {
-        Some(search)
-    } else {
-        None
-    }
-}

@@ -17,6 +17,7 @@ use crate::tightening::Tightening;
 use hub_model::Instance;
 use std::alloc::{AllocError, Global};
 use std::marker::Model;
+use std::thread::Threads;
 
 /// In so many first passes at a node the start set sets caps and least prices.
 const EARLY_PASSES: usize = 3;
@@ -28,6 +29,7 @@ const EARLY_PASSES: usize = 3;
 /// from node to node, so that a child starts from its parent's; a [`Memory`] leads back to those of an earlier node.
 #[derive(Debug, Drop)]
 pub struct Adviser {
+    workers: u32,
     lengths: Lengths,
     state: State,
     node: Node,
@@ -47,14 +49,16 @@ impl Model for Adviser {
 }
 
 impl Adviser {
-    /// An adviser for the instance, with all duals 0.
+    /// An adviser for the instance, with all duals 0, whose passes so many workers make, at most 64. Its advice is the
+    /// same, whatever their number.
     #[tactic(auto, using(crate::proofs::SmallShapes::few_places))]
-    pub fn new(alloc: Global, instance: &Instance) -> Result<Adviser, AllocError>
+    pub fn new(alloc: Global, instance: &Instance, workers: u32) -> Result<Adviser, AllocError>
         ensures { IfOk result (λ a. a ≡ shape_of instance.now) }
     {
         let size = instance.size() as usize;
         let places = instance.candidates().len();
         Ok(Adviser {
+            workers,
             lengths: Lengths::new(alloc, instance)?,
             state: State::new(alloc, size, places)?,
             node: Node::new(alloc, size, places)?,
@@ -86,21 +90,34 @@ impl Adviser {
             .set_caps(&self.lengths, limit, &mut self.node.caps);
     }
 
-    /// Betters the duals by one pass, and the guess, where the bound is to come to this, in 10^-12.
-    pub fn better(&mut self, wanted: i128)
+    /// Betters the duals by one pass, and the guess, where the bound is to come to this, in 10^-12. Several
+    /// workers need memory for it; where that runs out, the pass may have been made in part.
+    pub fn better<R: Threads + Sync>(
+        &mut self,
+        rt: &R,
+        alloc: Global,
+        wanted: i128,
+    ) -> Result<(), AllocError>
         ensures { self.new ≡ self.old }
     {
         if self.node.is_full() {
             self.better_full();
-            return;
+            return Ok(());
         }
         self.prepare();
-        self.state
-            .pass(&self.lengths, self.node.terms(), &mut self.bench);
+        self.state.pass(
+            rt,
+            alloc,
+            self.workers,
+            &self.lengths,
+            self.node.terms(),
+            &mut self.bench,
+        )?;
         self.node.follow(self.state.loads());
         let bound = self.state.bound(&self.lengths, &self.node.sides);
         let bound = self.round(wanted, bound);
         self.progress.note(bound);
+        Ok(())
     }
 
     /// The values, commodity by commodity: a number for each place, in the unit.

@@ -70,6 +70,11 @@ impl Lengths {
         self.places
     }
 
+    /// How many values the commodities of an origin have.
+    pub fn origin_values(&self) -> usize {
+        self.size.wrapping_mul(self.places)
+    }
+
     /// The number of columns of a row over places.
     pub fn width(&self) -> usize {
         self.width

@@ -1,37 +1,34 @@
 //! One pass over all commodities, that betters the dual of each at the prices of its turn.
 //!
 //! Origins go in batches. All origins of a batch start at the loads of its start, and each counts its own changes as
-//! if all the others did the same. So they could be worked out side by side, and the answer would be the same.
+//! if all the others did the same. So the order of the origins of a batch makes no difference, and workers can do them
+//! side by side; what they change is put in place in the order of the origins.
 
 ghost use Rattle.std.specs.Prelude.{◌≡◌};
 
+use crate::batches::Batch;
 use crate::lengths::Lengths;
-use crate::mixing::{Step, mixed_down};
-use crate::oracle::Oracle;
-use crate::places::Commodity;
-use crate::ramps::{NO_TURN, Ramp, Turn, set_order, set_prices};
-use crate::rows::{at, copy, row, row_mut, short};
+use crate::origins::{OriginScratch, Start, Terms};
+use crate::ramps::{NO_TURN, Turn, set_order};
+use crate::rows::{add, copy, row_mut, short};
 use crate::state::{State, Sums};
+use crew::answers;
+use hub_io::OpenGate;
 use std::alloc::{AllocError, Global};
+use std::thread::Threads;
 
-/// For so many nodes a batch has one origin more.
+/// For so many nodes a batch has one origin more, whatever the workers.
 const NODES_FOR_AN_ORIGIN: usize = 50;
 
-/// What a pass reads of a node of the search: the ramps by place, and by commodity what no price is to be above.
-#[derive(Clone, Copy)]
-pub(crate) struct Terms<'a> {
-    pub(crate) ramps: &'a [Ramp],
-    pub(crate) caps: &'a [u32],
-}
+/// No more workers make a pass.
+const MOST_WORKERS: u32 = 64;
 
-/// What a pass works with, besides the duals.
+/// What a pass works with, besides the duals: the loads at the start of a batch and the order of the places at them,
+/// and what origins are bettered in one after another.
 #[derive(Debug, Drop)]
 pub(crate) struct Bench {
-    oracle: Oracle,
-    step: Step,
+    scratch: OriginScratch,
     order: Vec<Turn>,
-    prices: Vec<i64>,
-    loads: Vec<i64>,
     start: Vec<i64>,
 }
 
@@ -39,11 +36,8 @@ impl Bench {
     /// What passes over so many places need.
     pub(crate) fn new(alloc: Global, places: usize) -> Result<Bench, AllocError> {
         Ok(Bench {
-            oracle: Oracle::new(alloc, places)?,
-            step: Step::new(alloc, places)?,
+            scratch: OriginScratch::new(alloc, places)?,
             order: vec![in alloc; NO_TURN; places]?,
-            prices: vec![in alloc; 0; places]?,
-            loads: vec![in alloc; 0; places]?,
             start: vec![in alloc; 0; places]?,
         })
     }
@@ -54,111 +48,116 @@ impl Bench {
         set_order(terms.ramps, loads, &mut self.order);
     }
 
-    /// Begins an origin of the batch.
-    fn begin_origin(&mut self, terms: Terms<'_>) {
-        copy(&self.start, &mut self.loads);
-        set_prices(terms.ramps, &self.start, &mut self.prices);
-    }
-
-    /// Betters the duals of the origin among the prices and values of all commodities, and gives what they gain,
-    /// weighed by the flows.
-    fn better_origin(
+    /// Betters the duals of all commodities, batch by batch, by so many workers. The sums follow.
+    fn better_all<R: Threads + Sync>(
         &mut self,
-        lengths: &Lengths,
-        terms: Terms<'_>,
-        i: usize,
-        copies: u32,
-        prices: &mut [u32],
-        values: &mut [u32],
-    ) -> i64 {
-        let cells = lengths.size().wrapping_mul(lengths.places());
-        let prices = row_mut(prices, i, lengths.size());
-        let values = row_mut(values, i, cells);
-        let caps = row(terms.caps, i, lengths.size());
-        let mut gained = 0i64;
-        for (j, (price, flow)) in prices.iter_mut().zip(lengths.flows(i)).enumerate() {
-            if *flow > 0 {
-                let legs = Commodity::of(lengths, i, j);
-                let weight = (*flow as i64).wrapping_mul(copies as i64);
-                let values = row_mut(values, j, lengths.places());
-                let cap = at(caps, j);
-                let new = self.better(lengths, &legs, terms.ramps, weight, cap, *price, values);
-                gained = gained.wrapping_add(
-                    (*flow as i64).wrapping_mul(new as i64 - *price as i64),
-                );
-                *price = new;
-            }
-        }
-        gained
-    }
-
-    /// Betters the dual of a commodity with this price, and gives its new price.
-    fn better(
-        &mut self,
-        lengths: &Lengths,
-        legs: &Commodity<'_>,
-        ramps: &[Ramp],
-        weight: i64,
-        cap: u32,
-        price: u32,
-        values: &mut [u32],
-    ) -> u32 {
-        let found = self
-            .oracle
-            .find(lengths, legs, &self.prices, &self.order, cap);
-        self.step
-            .list(values, self.oracle.values(), ramps, &self.loads, weight);
-        let parts = self.step.parts(found as i64 - price as i64);
-        self.step
-            .take(parts, values, &mut self.loads, &mut self.prices);
-        mixed_down(price, found, parts)
-    }
-
-    /// Adds to the sums what the origin changed, of which it counted so many copies.
-    fn add_changes(&self, copies: u32, sums: &mut [i64]) {
-        for (sum, (load, start)) in sums.iter_mut().zip(self.loads.iter().zip(&self.start)) {
-            let change = load.wrapping_sub(*start).div_euclid((copies as i64).max(1));
-            *sum = sum.wrapping_add(change);
-        }
-    }
-
-    /// Betters the duals of all commodities, each in its turn. The sums follow.
-    fn better_all(
-        &mut self,
+        rt: &R,
+        alloc: Global,
+        workers: u32,
         lengths: &Lengths,
         terms: Terms<'_>,
         prices: &mut [u32],
         values: &mut [u32],
         sums: &mut Sums,
-    ) {
+    ) -> Result<(), AllocError> {
         let size = lengths.size();
         let batch = size.div_ceil(NODES_FOR_AN_ORIGIN).max(1);
         for number in 0..size.div_ceil(batch) {
             let first = number.wrapping_mul(batch);
-            let copies = batch.min(size.wrapping_sub(first));
             self.begin_batch(terms, &sums.loads);
-            for e in 0..copies {
-                let i = first.wrapping_add(e);
-                self.begin_origin(terms);
-                let gained = self.better_origin(lengths, terms, i, short(copies), prices, values);
-                sums.total = sums.total.wrapping_add(gained);
-                self.add_changes(short(copies), &mut sums.loads);
+            let start = Start {
+                lengths,
+                terms,
+                loads: &self.start,
+                order: &self.order,
+                copies: short(batch.min(size.wrapping_sub(first))),
+            };
+            // One worker needs no memory for answers.
+            if workers <= 1 || start.copies <= 1 {
+                better_in_turn(&mut self.scratch, start, first, prices, values, sums);
+            } else {
+                better_together(rt, alloc, workers, start, first, prices, values, sums)?;
             }
         }
+        Ok(())
     }
 }
 
+/// Betters the duals of a batch, one origin after another from `first` on, in their place. The sums follow.
+fn better_in_turn(
+    scratch: &mut OriginScratch,
+    start: Start<'_>,
+    first: usize,
+    prices: &mut [u32],
+    values: &mut [u32],
+    sums: &mut Sums,
+) {
+    let lengths = start.lengths;
+    for e in 0..start.copies {
+        let i = first.wrapping_add(e as usize);
+        let prices = row_mut(prices, i, lengths.size());
+        let values = row_mut(values, i, lengths.origin_values());
+        let gained = scratch.better_origin(start, i, prices, values);
+        sums.total = sums.total.wrapping_add(gained);
+        scratch.add_changes(start, &mut sums.loads);
+    }
+}
+
+/// Betters the duals of a batch, whose origins are those from `first` on, by so many workers side by side. The sums
+/// follow.
+fn better_together<R: Threads + Sync>(
+    rt: &R,
+    alloc: Global,
+    workers: u32,
+    start: Start<'_>,
+    first: usize,
+    prices: &mut [u32],
+    values: &mut [u32],
+    sums: &mut Sums,
+) -> Result<(), AllocError> {
+    let batch = Batch {
+        start,
+        first,
+        prices,
+        values,
+    };
+    let workers = workers.clamp(1, MOST_WORKERS);
+    let found = answers(rt, alloc, &batch, start.copies, workers, &OpenGate)?;
+    for (e, duals) in found.iter().enumerate() {
+        let i = first.wrapping_add(e);
+        let lengths = start.lengths;
+        copy(&duals.prices, row_mut(prices, i, lengths.size()));
+        copy(&duals.values, row_mut(values, i, lengths.origin_values()));
+        sums.total = sums.total.wrapping_add(duals.gained);
+        add(&duals.added, &mut sums.loads);
+    }
+    Ok(())
+}
+
 impl State {
-    /// Betters the duals of all commodities by one pass.
-    pub(crate) fn pass(&mut self, lengths: &Lengths, terms: Terms<'_>, bench: &mut Bench)
+    /// Betters the duals of all commodities by one pass of so many workers, at most 64.
+    ///
+    /// They come out the same, whatever the workers. Where memory runs out, those of the batches before are bettered.
+    pub(crate) fn pass<R: Threads + Sync>(
+        &mut self,
+        rt: &R,
+        alloc: Global,
+        workers: u32,
+        lengths: &Lengths,
+        terms: Terms<'_>,
+        bench: &mut Bench,
+    ) -> Result<(), AllocError>
         ensures { self.new ≡ self.old }
     {
         bench.better_all(
+            rt,
+            alloc,
+            workers,
             lengths,
             terms,
             &mut self.prices,
             &mut self.values,
             &mut self.sums,
-        );
+        )
     }
 }

@@ -61,6 +61,13 @@ pub(crate) fn copy<T: Copy + Drop>(from: &[T], into: &mut [T]) {
     }
 }
 
+/// Adds the amounts one by one, as far as both lists go.
+pub(crate) fn add(from: &[i64], into: &mut [i64]) {
+    for (sum, amount) in into.iter_mut().zip(from) {
+        *sum = sum.wrapping_add(*amount);
+    }
+}
+
 /// Gathers the numbers at these places.
 pub(crate) fn gather(numbers: &[u32], places: &[usize], into: &mut [u32]) {
     for (number, place) in into.iter_mut().zip(places) {

@@ -5,7 +5,7 @@
 ghost use Rattle.std.specs.Prelude.{◌≡◌};
 
 use crate::lengths::Lengths;
-use crate::passes::Terms;
+use crate::origins::Terms;
 use crate::places::{Commodity, PlaceValues};
 use crate::ramps::{NO_TURN, Turn, set_order};
 use crate::routes::{Route, SetRoutes};
@@ -79,9 +79,8 @@ impl Tightening {
         values: &mut [u32],
         keeps: bool,
     ) {
-        let cells = lengths.size().wrapping_mul(lengths.places());
         let prices = row_mut(prices, i, lengths.size());
-        let values = row_mut(values, i, cells);
+        let values = row_mut(values, i, lengths.origin_values());
         for (j, (price, flow)) in prices.iter_mut().zip(lengths.flows(i)).enumerate() {
             if *flow > 0 {
                 let values = row_mut(values, j, lengths.places());

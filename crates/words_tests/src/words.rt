@@ -210,8 +210,8 @@ fn tells_searches_and_makings(rt: HostRuntime) -> Result<(), Fail> {
             "Optimize(Solving { source: Source { layout: AustraliaPost, file: \"F\"",
         ),
         (
-            "hub optimize cab-matrix F --nodes 5 --workers 1",
-            "search: Search { nodes: Some(5), workers: 1 }",
+            "hub optimize cab-matrix F --nodes 5 --workers 7",
+            "search: Search { nodes: Some(5), workers: 7 }",
         ),
         (
             "hub report ap F P",
@@ -256,7 +256,7 @@ fn refuses_searches_and_makings(rt: HostRuntime) -> Result<(), Fail> {
         "solve ap F --workers 65",
         "solve ap F --workers=+1",
         "solve ap F --workers 1 --workers 1",
-        "optimize ap F --workers 2",
+        "optimize ap F --workers 65",
         "optimize ap F --nodes 0",
         "optimize ap",
         "optimize ap F P",

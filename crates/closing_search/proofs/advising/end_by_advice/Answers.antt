@@ -2,7 +2,7 @@ use Rattle.closing_search.proofs.Steps.{at_twice, at_done}
 use Rattle.closing_search.proofs.advising.end_by_advice.Goals as goal
 
 pub returns-in_ok-cut_leaf-clause-advised : goal.returns-in_ok-cut_leaf-clause-advised
-returns-in_ok-cut_leaf-clause-advised c =
+returns-in_ok-cut_leaf-clause-advised g c =
     let t = c.args.task.now in
     let before = c.args.progress.now in
     let advised = c.take_advice.new.progress in
@@ -11,7 +11,7 @@ returns-in_ok-cut_leaf-clause-advised c =
     (at_twice t before advised kept c.in_ok-take_advice.ensures.at c.in_ok-number.ensures.at) c.in_ok-cut_leaf.ensures
 
 pub returns-in_ok-stopped_leaf-clause-advised : goal.returns-in_ok-stopped_leaf-clause-advised
-returns-in_ok-stopped_leaf-clause-advised c =
+returns-in_ok-stopped_leaf-clause-advised g c =
     let t = c.args.task.now in
     let before = c.args.progress.now in
     let advised = c.take_advice.new.progress in

@@ -3,4 +3,4 @@ use Rattle.closing_search.specs.Progressing.{IsAt}
 use Rattle.closing_search.proofs.advising.take_advice.Given as goal
 
 abbrev pub invariant-loop : goal.invariant-loop
-invariant-loop l = (l.bench.problem ≡ l.fn.bench.problem) × IsAt l.task l.fn.progress l.progress
+invariant-loop g l = (l.bench.problem ≡ l.fn.bench.problem) × IsAt l.task l.fn.progress l.progress

@@ -8,7 +8,7 @@ use Rattle.closing_search.proofs.Steps.{at_done, halved_done}
 use Rattle.closing_search.proofs.walking.+walk.Goals as goal
 
 pub node-returns-clause-done : goal.node-returns-clause-done
-node-returns-clause-done t c =
+node-returns-clause-done g t c =
     let task = c.args.task.now in
     let b = c.args.branch.now in
     let before = c.args.progress.now in
@@ -17,8 +17,8 @@ node-returns-clause-done t c =
     on_ok_weaker c.parted.result (λ done. at_done task b before middle c.parted.new.progress went_on.0 done) c.parted.ensures.done
 
 pub parted-node-requires : goal.parted-node-requires
-parted-node-requires t c =
-    let p = c.args.task.now.instance.now in
+parted-node-requires g t c = λ _ within.
+    (let p = c.args.task.now.instance.now in
     let b = c.args.branch.now in
     let k = c.branch_node-k.result in
     let free = c.branch_node-k.ensures in
@@ -27,20 +27,26 @@ parted-node-requires t c =
     ap (λ (x : Branching). length x.free + 1) child ∙ length-without k b.free free in (
       search (rules, arith),
       (
-        c.in_ok-split_on.ensures.going,
+        within,
         (
-          ap (λ x. x.problem) c.remember.ensures ∙ c.requires.bench,
+          search rules,
           (
-            subst (IsBranch p) (sym child) (open_branch p b k c.requires.branch free),
-            omega (arith, fewer, c.requires.deep),
+            c.in_ok-split_on.ensures.going,
+            (
+              ap (λ x. x.problem) c.remember.ensures ∙ c.requires.bench,
+              (
+                subst (IsBranch p) (sym child) (open_branch p b k c.requires.branch free),
+                omega (arith, fewer, c.requires.deep),
+              ),
+            ),
           ),
         ),
       ),
-    )
+    ))
 
 pub parted-node-requires-2 : goal.parted-node-requires-2
-parted-node-requires-2 t c =
-    let p = c.args.task.now.instance.now in
+parted-node-requires-2 g t c = λ _ within.
+    (let p = c.args.task.now.instance.now in
     let b = c.args.branch.now in
     let k = c.branch_node-k.result in
     let free = c.branch_node-k.ensures in
@@ -49,19 +55,25 @@ parted-node-requires-2 t c =
     ap (λ (x : Branching). length x.free + 1) child ∙ length-without k b.free free in (
       search (rules, arith),
       (
-        c.in_ok-node.ensures.done.going,
+        within,
         (
-          ap (λ x. x.problem) c.recall.ensures ∙ c.in_ok-node.ensures.bench ∙ ap (λ x. x.problem) c.remember.ensures ∙ c.requires.bench,
+          search rules,
           (
-            subst (IsBranch p) (sym child) (closed_branch p b k c.requires.branch free),
-            omega (arith, fewer, c.requires.deep),
+            c.in_ok-node.ensures.done.going,
+            (
+              ap (λ x. x.problem) c.recall.ensures ∙ c.in_ok-node.ensures.bench ∙ ap (λ x. x.problem) c.remember.ensures ∙ c.requires.bench,
+              (
+                subst (IsBranch p) (sym child) (closed_branch p b k c.requires.branch free),
+                omega (arith, fewer, c.requires.deep),
+              ),
+            ),
           ),
         ),
       ),
-    )
+    ))
 
 pub parted-returns-clause-done : goal.parted-returns-clause-done
-parted-returns-clause-done t c =
+parted-returns-clause-done g t c =
     let task = c.args.task.now in
     let b = c.args.branch.now in
     let k = c.branch_node-k.result in
