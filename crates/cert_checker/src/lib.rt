@@ -30,4 +30,4 @@ mod texts;
 
 pub use checks::check;
 pub use kinds::{Kind, Verdict};
-pub use texts::{Ending, check_text};
+pub use texts::{Ending, MOST_CERTIFICATE_BYTES, check_text};

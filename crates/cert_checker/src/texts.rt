@@ -11,8 +11,8 @@ use hub_model::Instance;
 use std::alloc::{AllocError, Global};
 use std::thread::Threads;
 
-// A certificate's text may have at most this many bytes: 2^30.
-const MOST_BYTES: usize = 1_073_741_824;
+/// The text of a certificate may have at most this many bytes: 2^30.
+pub const MOST_CERTIFICATE_BYTES: usize = 1_073_741_824;
 
 /// How a check of bytes ends. Costs are in 10^-12, and lines count from 1.
 #[derive(Clone, Copy, Debug, PartialEq, Eq)]
@@ -42,7 +42,7 @@ pub fn check_text<R: Threads + Sync>(
     ensures why { IfOk result (λ e. Why instance.now bytes.now (verdict_of e)) }
     ensures proves { IfOk result (λ e. Proves instance.now bytes.now (verdict_of e)) }
 {
-    if bytes.len() > MOST_BYTES {
+    if bytes.len() > MOST_CERTIFICATE_BYTES {
         return Ok(Ending::TooLong);
     }
     match read_cert(alloc, bytes) {

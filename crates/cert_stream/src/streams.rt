@@ -11,13 +11,10 @@ ghost use Rattle.cert_stream.specs.Taken.{HasTaken, EndsAs};
 ghost use Rattle.cert_stream.specs.Fed.{HasCome, HasFed};
 
 use crate::checks::Checks;
-use cert_checker::Ending;
+use cert_checker::{Ending, MOST_CERTIFICATE_BYTES};
 use cert_scan::{Fault, Scan};
 use hub_model::{Instance, signed};
 use std::alloc::{AllocError, Global};
-
-// A certificate's text may have at most this many bytes: 2^30.
-const MOST_BYTES: usize = 1_073_741_824;
 
 /// The check of a certificate's text for an instance, of which some bytes have come.
 ///
@@ -40,7 +37,7 @@ impl<'a> Stream<'a> {
         Ok(Stream {
             scan: Scan::new(),
             checks: Checks::new(alloc, instance)?,
-            room: MOST_BYTES,
+            room: MOST_CERTIFICATE_BYTES,
             is_too_long: false,
         })
     }

@@ -14,16 +14,13 @@ ghost use Rattle.hub_top.specs.Reporting.{IsReport, IsReading, IsReadingOf};
 use crate::answers::Answer;
 use crate::halts::Halt;
 use crate::instances::read_instance;
-use cert_checker::{Ending, Verdict, check};
+use cert_checker::{Ending, MOST_CERTIFICATE_BYTES, Verdict, check};
 use cert_format::{CertFault, Certificate, read_cert};
 use hub_io::{ReadEnd, Shelf, read_whole};
 use hub_model::Instance;
 use hub_words::Source;
 use std::alloc::{AllocError, Global};
 use std::thread::Threads;
-
-/// A certificate that is held may have at most this many bytes: 2^30.
-const CERTIFICATE_LIMIT: u64 = 1_073_741_824;
 
 /// What the bytes of a certificate are for an instance.
 #[derive(Drop)]
@@ -70,7 +67,7 @@ fn read_file<R: Threads + Sync, S: Shelf>(
         (FailsFor S.held S.faults S.sound shelf.old shelf.new (LacksFile certificate.now))) }
     ensures stays { StaysShelf S.held S.faults S.sound shelf.old shelf.new }
 {
-    match read_whole(alloc, shelf, certificate, CERTIFICATE_LIMIT) {
+    match read_whole(alloc, shelf, certificate, MOST_CERTIFICATE_BYTES as u64) {
         Ok(bytes) => Ok(read_bytes(rt, alloc, instance, &bytes)?),
         Err(ReadEnd::TooLong) => Ok(Reading::Refused(Ending::TooLong)),
         Err(ReadEnd::ReadFault) => Err(Halt::Read),

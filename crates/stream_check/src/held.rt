@@ -9,7 +9,7 @@ ghost use Rattle.cert_stream.specs.Fed.{HasFed};
 ghost use Rattle.stream_check.specs.Held.{IsVerdictOnHeld, EndsOver};
 
 use crate::endings::NoEnding;
-use cert_checker::Ending;
+use cert_checker::{Ending, MOST_CERTIFICATE_BYTES};
 use cert_stream::Stream;
 use hub_io::Shelf;
 use hub_model::Instance;
@@ -18,8 +18,8 @@ use std::alloc::Global;
 // How many bytes are read at once, at most.
 const PIECE: usize = 65_536;
 
-// How many bytes are read in all, at most: one more than the 2^30 that a certificate may have.
-const MOST_READ: usize = 1_073_741_825;
+// How many bytes are read in all, at most: one more than a certificate may have.
+const MOST_READ: usize = MOST_CERTIFICATE_BYTES + 1;
 
 /// The ending of the check of the bytes of that name against the instance. They are read to their end whatever is found
 /// before; where they are more than 2^30, that and one byte of them are read.
