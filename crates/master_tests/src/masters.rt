@@ -318,3 +318,43 @@ fn generated_masters_that_end_wide(rt: HostRuntime) -> Result<(), Fail> {
     assert!(rt; wide > 0);
     Ok(())
 }
+
+// A master of the two nodes in which each cut has a greater total than the one before it, so that a run on the least
+// column enters one after another.
+fn rising(
+    alloc: Global,
+    state: &mut u64,
+    cuts: i128,
+    most_load: u64,
+    fixed: &[i128],
+) -> Result<Master, AllocError> {
+    let mut totals = Vec::new(alloc);
+    let mut loads = Vec::new(alloc);
+    for total in 1..=cuts {
+        totals.push(total)?;
+        for _ in fixed {
+            loads.push(i128::from(drawn(state, most_load)))?;
+        }
+    }
+    master(alloc, &totals, &loads, fixed)
+}
+
+#[test]
+fn masters_that_end_as_turns(rt: HostRuntime) -> Result<(), Fail> {
+    let alloc = rt.alloc();
+    let root = Branch::root(alloc, &instance(alloc, &TWO_NODES)?)?;
+    let mut state = 3;
+    for (cuts, most_load, fixed, ended) in [
+        (2000, 1, [0, 0], Ended::Best),
+        (2001, 1, [0, 0], Ended::Turns),
+        (2001, 5, [4095, 4095], Ended::Turns),
+        (2500, 9, [4, 7], Ended::Turns),
+    ] {
+        let master = rising(alloc, &mut state, cuts, most_load, &fixed)?;
+        let found = advised(alloc, &master, &root)?;
+        assert!(rt; agree(&found, &advice(alloc, &master, &root)?));
+        assert_eq!(rt; found.ended, ended);
+        assert_eq!(rt; found.pivots, 2000);
+    }
+    Ok(())
+}
