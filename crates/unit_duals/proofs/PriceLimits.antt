@@ -1,5 +1,5 @@
 -- Prices are within the limit of a length, and no value is above its price.
-use Rattle.std.proofs.Common.{◌≡◌, ℕ, ◌+◌, ◌<◌, ◌≤◌, List, length, slice_index, arith}
+use Rattle.std.proofs.Common.{ℕ, ◌+◌, ◌<◌, ◌≤◌, List, slice_index, arith}
 use Rattle.std.proofs.lemmas.List.Elements.{All-get_or}
 use Rattle.unit_duals.specs.Cells.{cell}
 use Rattle.unit_duals.specs.Limits.{most_leg, most_length}

@@ -3,9 +3,10 @@
 //! A way whose first part alone is no shorter than each of the lengths lowers none of them. So the nearest hub comes
 //! first, and then of the others only those that are nearer than the greatest length which is left.
 
-ghost use Rattle.std.specs.Prelude.{◌≡◌, ◌+◌, ◌<◌, ◌≤◌, length, All};
+ghost use Rattle.std.specs.Prelude.{◌≡◌, ◌+◌, ◌^◌, ◌<◌, ◌≤◌, length, All};
 ghost use Rattle.unit_duals.specs.Lowered.{AreLoweredBy, AreLowered, EndAlike, AreRows};
 
+use crate::lanes::greater;
 use crate::legs::row;
 use crate::stretches::lower_stretch;
 
@@ -20,6 +21,7 @@ pub(crate) fn lower_by_hubs(
 )
     requires hubs { start + hubs ≤ length bases.now }
     requires rows { AreRows (length items.old) bases.now table.now }
+    requires limit { All (λ d. d < 2 ^ 63) items.old }
     ensures { AreLowered (length items.old) bases.now table.now start hubs items.old items.new }
 {
     lower_by_nearest(items, bases, table, start, hubs);
@@ -33,7 +35,9 @@ pub(crate) fn lower_by_hubs(
 fn lower_by_nearest(items: &mut [u64], bases: &[u64], table: &[u64], start: usize, hubs: usize)
     requires hubs { start + hubs ≤ length bases.now }
     requires rows { AreRows (length items.old) bases.now table.now }
-    ensures { EndAlike (length items.old) bases.now table.now start hubs items.old items.new }
+    requires limit { All (λ d. d < 2 ^ 63) items.old }
+    ensures alike { EndAlike (length items.old) bases.now table.now start hubs items.old items.new }
+    ensures limit { All (λ d. d < 2 ^ 63) items.new }
 {
     if hubs > 0 {
         let nearest = start + least_place(&bases[start..start + hubs]);
@@ -45,9 +49,11 @@ fn lower_by_nearest(items: &mut [u64], bases: &[u64], table: &[u64], start: usiz
 fn lower_from(items: &mut [u64], bases: &[u64], table: &[u64], m: usize, most: u64)
     requires stop { m < length bases.now }
     requires rows { AreRows (length items.old) bases.now table.now }
+    requires limit { All (λ d. d < 2 ^ 63) items.old }
     requires most { All (λ d. d ≤ most) items.old }
     ensures lowered { AreLoweredBy (length items.old) bases.now table.now m items.old items.new }
     ensures most { All (λ d. d ≤ most) items.new }
+    ensures limit { All (λ d. d < 2 ^ 63) items.new }
 {
     if bases[m] < most {
         lower_by(items, bases, table, m);
@@ -58,7 +64,9 @@ fn lower_from(items: &mut [u64], bases: &[u64], table: &[u64], m: usize, most: u
 fn lower_by(items: &mut [u64], bases: &[u64], table: &[u64], m: usize)
     requires stop { m < length bases.now }
     requires rows { AreRows (length items.old) bases.now table.now }
-    ensures { AreLoweredBy (length items.old) bases.now table.now m items.old items.new }
+    requires limit { All (λ d. d < 2 ^ 63) items.old }
+    ensures lowered { AreLoweredBy (length items.old) bases.now table.now m items.old items.new }
+    ensures limit { All (λ d. d < 2 ^ 63) items.new }
 {
     let legs = row(table, m, items.len());
     lower_stretch(items, 0, bases[m], legs);
@@ -66,11 +74,12 @@ fn lower_by(items: &mut [u64], bases: &[u64], table: &[u64], m: usize)
 
 /// The greatest of the numbers, or 0.
 fn greatest(items: &[u64]) -> u64
+    requires { All (λ d. d < 2 ^ 63) items.now }
     ensures { All (λ d. d ≤ result) items.now }
 {
     let mut most = 0;
     for item in items {
-        most = most.max(*item);
+        most = greater(most, *item);
     }
     most
 }

@@ -6,7 +6,7 @@
 ghost use Rattle.std.specs.Prelude.{◌≡◌, ℕ, ◌+◌, ◌-◌, ◌*◌, ◌<◌, ◌≤◌, length, slice_index, All};
 ghost use Rattle.unit_duals.specs.Cells.{cell};
 ghost use Rattle.unit_duals.specs.Limits.{most_length};
-ghost use Rattle.unit_duals.specs.Lengths.{AreFirstLegs, last_leg, stops};
+ghost use Rattle.unit_duals.specs.Lengths.{AreFirstLegs, IsLegRow, last_leg, trunk_leg, stops};
 ghost use Rattle.unit_duals.specs.Values.{AreRowsDone, AreRowsNoted, AreWorkLists, IsTurn};
 ghost use Rattle.unit_duals.specs.Raised.{asked_by_hubs, asked_forth, asked_home, IsSparedForth, IsSparedHome, IsRowRaised, IsRowSet};
 
@@ -55,8 +55,12 @@ fn pull_row(
     ensures done { AreRowsDone tables.now.legs prices.now first.now reach.now (t + 1) values.new }
 {
     set_row(tables, prices, first, reach, values, t);
+    let trunk = tables.trunk_row(t);
+    let turned = tables.turned_row(t);
     for e in 0..t {
-        pull_pair(tables, prices, first, reach, slack, rest, values, e, t);
+        pull_pair(
+            tables, trunk, turned, prices, first, reach, slack, rest, values, e, t,
+        );
     }
 }
 
@@ -88,9 +92,12 @@ fn set_row(
     }
 }
 
-/// Gives the place what the ways with the earlier place `e` ask beyond that.
+/// Gives the place what the ways with the earlier place `e` ask beyond that. The place's own legs to all stops are
+/// `trunk`, and those of all stops to it are `turned`.
 fn pull_pair(
     tables: &Tables,
+    trunk: &[u64],
+    turned: &[u64],
     prices: &[u64],
     first: &[u64],
     reach: &[u64],
@@ -103,17 +110,38 @@ fn pull_pair(
     requires lists { AreWorkLists tables.now.legs prices.now first.now reach.now slack.now rest.now values.old }
     requires place { t < tables.now.legs.count }
     requires earlier { e < t }
+    requires trunk { IsLegRow (stops tables.now.legs) (trunk_leg tables.now.legs t) trunk.now }
+    requires turned { IsLegRow (stops tables.now.legs) (λ m. trunk_leg tables.now.legs m t) turned.now }
     requires turn { IsTurn tables.now.legs prices.now first.now reach.now t e values.old slack.now rest.now }
     ensures { IsTurn tables.now.legs prices.now first.now reach.now t (e + 1) values.new slack.now rest.now }
 {
     let size = tables.size();
-    go_forth(tables, first, reach, row(slack, e, size), values, e, t);
-    go_home(tables, first, reach, row(rest, e, size), values, e, t);
+    go_forth(
+        tables,
+        trunk,
+        first,
+        reach,
+        row(slack, e, size),
+        values,
+        e,
+        t,
+    );
+    go_home(
+        tables,
+        turned,
+        first,
+        reach,
+        row(rest, e, size),
+        values,
+        e,
+        t,
+    );
 }
 
 /// Raises the place's values to what the ways by it and then `e` ask.
 fn go_forth(
     tables: &Tables,
+    trunk: &[u64],
     first: &[u64],
     reach: &[u64],
     slack: &[u64],
@@ -123,6 +151,7 @@ fn go_forth(
 )
     requires place { t < tables.now.legs.count }
     requires earlier { e < t }
+    requires trunk { IsLegRow (stops tables.now.legs) (trunk_leg tables.now.legs t) trunk.now }
     requires first { AreFirstLegs tables.now.legs first.now }
     requires reach { length reach.now ≡ stops tables.now.legs }
     requires slack { length slack.now ≡ tables.now.legs.size }
@@ -130,7 +159,7 @@ fn go_forth(
     ensures { let l = tables.now.legs in
         IsRowRaised l.size t (asked_forth l first.now slack.now t e) (IsSparedForth l first.now reach.now t e) values.old values.new }
 {
-    let base = first[t] + tables.trunk_row(t)[e];
+    let base = first[t] + trunk[e];
     if base < reach[e] {
         let at = t * tables.size();
         raise_forth(values, at, tables.near_forth(t, e), slack, base);
@@ -140,6 +169,7 @@ fn go_forth(
 /// Raises the place's values to what the ways by `e` and then it ask.
 fn go_home(
     tables: &Tables,
+    turned: &[u64],
     first: &[u64],
     reach: &[u64],
     rest: &[u64],
@@ -149,6 +179,7 @@ fn go_home(
 )
     requires place { t < tables.now.legs.count }
     requires earlier { e < t }
+    requires turned { IsLegRow (stops tables.now.legs) (λ m. trunk_leg tables.now.legs m t) turned.now }
     requires first { AreFirstLegs tables.now.legs first.now }
     requires reach { length reach.now ≡ stops tables.now.legs }
     requires rest { length rest.now ≡ tables.now.legs.size }
@@ -156,7 +187,7 @@ fn go_home(
     ensures { let l = tables.now.legs in
         IsRowRaised l.size t (asked_home l first.now rest.now t e) (IsSparedHome l first.now reach.now t e) values.old values.new }
 {
-    let base = first[e] + tables.turned_row(t)[e];
+    let base = first[e] + turned[e];
     if base < reach[t] {
         let at = t * tables.size();
         raise_home(

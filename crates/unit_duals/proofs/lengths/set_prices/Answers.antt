@@ -1,4 +1,6 @@
-use Rattle.std.proofs.Common.{◌≡◌, ℕ, ◌+◌, ◌<◌, length, slice_index, sym, ap, ◌∙◌, arith}
+use Rattle.std.proofs.Common.{◌≡◌, ℕ, ◌+◌, ◌^◌, ◌<◌, ◌≤◌, length, slice_index, sym, ap, ◌∙◌, arith}
+use Rattle.std.proofs.lemmas.List.Elements.{All-get_or, All-from_get_or}
+use Rattle.unit_duals.specs.Limits.{most_leg}
 use Rattle.unit_duals.specs.Lowered.{AreLowered}
 use Rattle.unit_duals.specs.Values.{back_leg}
 use Rattle.unit_duals.proofs.LoweredRows.{back_rows, prices_lowered}
@@ -10,6 +12,24 @@ lower_by_hubs-requires-clause-rows c =
     let l = c.args.tables.now.legs in
     back_rows l c.args.first.now c.back.result.now (length c.set_stretch.new.items)
     (omega (arith, c.set_stretch.auto.items, c.requires.long)) c.back.ensures.legs c.requires.first c.back.ensures.long c.back.ensures.back
+
+pub lower_by_hubs-requires-clause-limit : goal.lower_by_hubs-requires-clause-limit
+lower_by_hubs-requires-clause-limit c =
+    let l = c.args.tables.now.legs in
+    let first = c.args.first.now in
+    let on = c.back_row.result.now in
+    let new = c.set_stretch.new.items in
+    let some : c.count-count.result < length first = omega (arith, c.count-count.ensures.value, c.requires.some_hub, c.requires.first.long) in
+    All-from_get_or (λ d. d < 2 ^ 63) new 0
+    (λ j below.
+    (let short : j < length on =
+    omega (arith, below, c.set_stretch.auto.items, c.requires.long, c.back_row.ensures.long) in
+    omega (
+      arith,
+      from_start (length on) _ c.args.prices.now new j short c.set_stretch.ensures,
+      All-get_or (λ d. d ≤ most_leg) first c.count-count.result 0 some c.requires.first.limit,
+      All-get_or (λ d. d ≤ most_leg) on j 0 short c.back_row.ensures.limit,
+    )))
 
 pub returns : goal.returns
 returns c =

@@ -6,6 +6,7 @@ pub loop-x-init : goal.loop-x-init
 loop-x-init c = record {
   lowered = lowered_none (length c.args.items.now) c.args.bases.now c.args.table.now c.args.start c.lower_by_nearest.new.items;
   most = c.greatest-most.ensures;
+  limit = c.lower_by_nearest.ensures.limit;
 }
 
 pub loop-x-preserved : goal.loop-x-preserved
@@ -14,8 +15,9 @@ loop-x-preserved c = record {
       c.loop-x.items c.lower_from.new.items c.loop-x.invariant.lowered
       (rw (c.loop-x.auto.items, c.lower_by_nearest.auto.items) at c.lower_from.ensures.lowered);
   most = c.lower_from.ensures.most;
+  limit = c.lower_from.ensures.limit;
 }
 
 pub returns : goal.returns
 returns c = lowered_all (length c.args.items.now) c.args.bases.now c.args.table.now c.args.start c.loop-x.x c.args.hubs
-    c.args.items.now c.lower_by_nearest.new.items c.loop-x.items c.lower_by_nearest.ensures c.loop-x.invariant.lowered (omega arith)
+    c.args.items.now c.lower_by_nearest.new.items c.loop-x.items c.lower_by_nearest.ensures.alike c.loop-x.invariant.lowered (omega arith)

@@ -11,8 +11,8 @@ returns-then-base-reach c =
     let slack = c.args.slack.now in
     let t = c.args.t in
     let e = c.args.e in
-    let leg = c.trunk_row.ensures.each e (omega arith) in
+    let leg = c.requires.trunk.each e (omega arith) in
     row_raised l.size t (t * c.size.result) c.near_forth.result.now (asked_forth l first slack t e)
-    (λ j. slice_index slack j - (slice_index first t + slice_index c.trunk_row.result.now e)) (IsNoShorterForth l t e)
+    (λ j. slice_index slack j - (slice_index first t + slice_index c.args.trunk.now e)) (IsNoShorterForth l t e)
     (IsSparedForth l first c.args.reach.now t e) c.args.values.now c.raise_forth.new.values (ap (λ (n : ℕ). t * n) c.size.ensures.value)
     (λ j column. ap (λ (d : ℕ). slice_index slack j - (slice_index first t + d)) leg) (λ j far. inr far) c.near_forth.ensures c.raise_forth.ensures

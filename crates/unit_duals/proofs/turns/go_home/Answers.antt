@@ -11,9 +11,9 @@ returns-then-base-reach c =
     let rest = c.args.rest.now in
     let t = c.args.t in
     let e = c.args.e in
-    let leg = c.turned_row.ensures.each e (omega arith) in
+    let leg = c.requires.turned.each e (omega arith) in
     row_raised l.size t (t * c.size.result) c.near_home.result.now (asked_home l first rest t e)
-    (λ j. slice_index rest j - (slice_index first e + slice_index c.turned_row.result.now e + slice_index c.last_row.result.now j))
+    (λ j. slice_index rest j - (slice_index first e + slice_index c.args.turned.now e + slice_index c.last_row.result.now j))
     (IsNoShorterHome l t e) (IsSparedHome l first c.args.reach.now t e) c.args.values.now c.raise_home.new.values
     (ap (λ (n : ℕ). t * n) c.size.ensures.value)
     (λ j column. (let on = c.last_row.ensures.each j column in omega (arith, leg, on))) (λ j far. inr far) c.near_home.ensures c.raise_home.ensures
