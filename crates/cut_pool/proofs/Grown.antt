@@ -10,6 +10,7 @@ use Rattle.hub_model.proofs.Signs.{natural-pos, pos_least}
 use Rattle.cut_pool.specs.Entries.{Sums, entry_of, Lacks}
 use Rattle.cut_pool.specs.Kept.{most_kept, entries_of, AreDistinct}
 use Rattle.cut_pool.specs.Ordered.{IsIndex, IsSplitAt}
+use Rattle.cut_pool.specs.Shorts.{AreShortIfKept}
 use Rattle.cut_pool.specs.PoolParts.{free, spare_of, state_of, IsPool}
 use Rattle.cut_pool.specs.declared.pool.Pool.TheInside.{Inside}
 use Rattle.cut_pool.proofs.Columns.{entries_push, sets_from_lacks}
@@ -24,6 +25,7 @@ pub record HasGrown (s t : Inside) (cut : Sums) (order : Vec ℕ Global) (loads 
   pub all_loads : t.loads.items ≡ s.loads.items ++ loads ∷ []
   pub amounts : loads.items ≡ map pos cut.loads
   pub index : t.by_set.items ≡ insert s.by_set.items at (length s.sets.items)
+  pub short : AreShortIfKept ((state_of s).entries ++ entry_of cut order.items ∷ []) t.short
 
 -- where a cut more is spare, the last number is not reached, and the index has room
 pub spare_number : (s : Inside) → 1 ≤ spare_of s → length s.sets.items + 1 ≤ most_kept
@@ -39,6 +41,19 @@ module _ (s t : Inside) (cut : Sums) (order : Vec ℕ Global) (loads : Vec ℤ G
     (is : IsPool s) (grown : HasGrown s t cut order loads at) where
   long_sets : length t.sets.items ≡ length s.sets.items + 1
   long_sets = ap length grown.sets ∙ length_push s.sets.items cut.hubs
+
+  pub entries_more : (state_of t).entries ≡ (state_of s).entries ++ entry_of cut order.items ∷ []
+  entries_more =
+      let orders = ap (map (λ (v : Vec ℕ Global). v.items)) grown.orders ∙ map_push (λ v. v.items) s.orders.items order in
+      let totals = ap (map natural) grown.totals ∙ map_push natural s.totals.items (pos cut.total) in
+      let amounts : map natural loads.items ≡ cut.loads = ap (map natural) grown.amounts ∙ natural-pos cut.loads in
+      let all_loads =
+      ap (map (λ (v : Vec ℤ Global). map natural v.items)) grown.all_loads ∙ map_push (λ v. map natural v.items) s.loads.items loads
+      ∙ ap (λ (xs : List ℕ). map (λ v. map natural v.items) s.loads.items ++ xs ∷ []) amounts in
+      let e : (state_of t).entries ≡ entries_of (s.sets.items ++ cut.hubs ∷ []) (map (λ v. v.items) s.orders.items ++ order.items ∷ [])
+      (map natural s.totals.items ++ cut.total ∷ []) (map (λ v. map natural v.items) s.loads.items ++ cut.loads ∷ []) =
+      λ i. entries_of (grown.sets i) (orders i) (totals i) (all_loads i) in
+      e ∙ entries_push _ _ _ _ cut.hubs order.items cut.total cut.loads (beside s is)
 
   pub pool_more : IsSplitAt s.sets.items s.by_set.items cut.hubs at → Lacks (state_of s).entries cut.hubs
       → length s.sets.items + 1 ≤ most_kept → IsPool t
@@ -58,20 +73,8 @@ module _ (s t : Inside) (cut : Sums) (order : Vec ℕ Global) (loads : Vec ℤ G
         index = subst (λ (sets : List (List ℕ)). IsIndex sets t.by_set.items) (sym grown.sets)
             (subst (IsIndex (s.sets.items ++ cut.hubs ∷ [])) (sym grown.index)
             (index_more s.sets.items s.by_set.items cut.hubs at is.index split others));
+        short = subst (λ es. AreShortIfKept es t.short) (sym entries_more) grown.short;
       }
-
-  pub entries_more : (state_of t).entries ≡ (state_of s).entries ++ entry_of cut order.items ∷ []
-  entries_more =
-      let orders = ap (map (λ (v : Vec ℕ Global). v.items)) grown.orders ∙ map_push (λ v. v.items) s.orders.items order in
-      let totals = ap (map natural) grown.totals ∙ map_push natural s.totals.items (pos cut.total) in
-      let amounts : map natural loads.items ≡ cut.loads = ap (map natural) grown.amounts ∙ natural-pos cut.loads in
-      let all_loads =
-      ap (map (λ (v : Vec ℤ Global). map natural v.items)) grown.all_loads ∙ map_push (λ v. map natural v.items) s.loads.items loads
-      ∙ ap (λ (xs : List ℕ). map (λ v. map natural v.items) s.loads.items ++ xs ∷ []) amounts in
-      let e : (state_of t).entries ≡ entries_of (s.sets.items ++ cut.hubs ∷ []) (map (λ v. v.items) s.orders.items ++ order.items ∷ [])
-      (map natural s.totals.items ++ cut.total ∷ []) (map (λ v. map natural v.items) s.loads.items ++ cut.loads ∷ []) =
-      λ i. entries_of (grown.sets i) (orders i) (totals i) (all_loads i) in
-      e ∙ entries_push _ _ _ _ cut.hubs order.items cut.total cut.loads (beside s is)
 
   pub spare_more : free s.sets ≤ free t.sets + 1 → free s.orders ≤ free t.orders + 1 → free s.totals ≤ free t.totals + 1
       → free s.loads ≤ free t.loads + 1 → free s.by_set ≤ free t.by_set + 1 → spare_of s ≤ spare_of t + 1

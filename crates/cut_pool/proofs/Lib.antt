@@ -3,3 +3,4 @@ pub mod Indexes
 pub mod Columns
 pub mod Entered
 pub mod Grown
+pub mod ShortRows

@@ -2,3 +2,4 @@ pub mod Entries
 pub mod Kept
 pub mod Ordered
 pub mod PoolParts
+pub mod Shorts

@@ -4,6 +4,7 @@ use Rattle.hub_model.specs.Amounts.{natural, IsNatural}
 use Rattle.cut_pool.specs.Entries.{PoolState}
 use Rattle.cut_pool.specs.Kept.{most_kept, entries_of, AreDistinct}
 use Rattle.cut_pool.specs.Ordered.{IsIndex}
+use Rattle.cut_pool.specs.Shorts.{AreShortIfKept}
 use Rattle.cut_pool.specs.declared.pool.Pool.TheInside.{Inside}
 
 -- how many more items have a place
@@ -24,7 +25,8 @@ state_of s = record {
   spare = spare_of s;
 }
 
--- the vectors are as long as one another, amounts are not below 0, no set stands twice, and the index has each
+-- the vectors are as long as one another, amounts are not below 0, no set stands twice, the index has each, and the
+-- loads in 32 bits are those of the entries
 pub record IsPool (s : Inside) : Type 0 where
   pub most : length s.sets.items ≤ most_kept
   pub orders : length s.orders.items ≡ length s.sets.items
@@ -34,3 +36,4 @@ pub record IsPool (s : Inside) : Type 0 where
   pub natural_loads : All (λ v. All IsNatural v.items) s.loads.items
   pub distinct : AreDistinct s.sets.items
   pub index : IsIndex s.sets.items s.by_set.items
+  pub short : AreShortIfKept (state_of s).entries s.short

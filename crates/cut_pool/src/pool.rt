@@ -2,9 +2,11 @@
 
 ghost use Rattle.std.specs.Prelude.{◌≡◌, ℕ, ◌+◌, ◌<◌, ◌≤◌, [], ◌∷◌, ◌++◌, length, map, pos, slice_index, IfSome, IfNone, IsOk, IfOk, OnOk, OnErr, IfErr};
 ghost use Rattle.cut_pool.specs.Entries.{entry_of, entry_at, IsNumber, IsNumberOf, Lacks};
+ghost use Rattle.cut_pool.specs.Shorts.{AreShortLoads};
 
-use crate::CutSums;
 use crate::places::place_of;
+use crate::short_loads::{reserve_kept, with_cut};
+use crate::{CutSums, ShortLoads};
 use hub_model::HubSet;
 use std::alloc::{AllocError, Global};
 use std::marker::Model;
@@ -23,6 +25,8 @@ pub struct Pool {
     loads: Vec<Vec<i128>>,
     // The places of the sets, from 0, in the order of their members.
     by_set: Vec<u32>,
+    // The loads in 32 bits, until they are given up.
+    short: Option<ShortLoads>,
 }
 
 impl Model for Pool {
@@ -58,6 +62,7 @@ impl Pool {
             totals: Vec::new(alloc),
             loads: Vec::new(alloc),
             by_set: Vec::new(alloc),
+            short: Some(ShortLoads::new(alloc)),
         })
     }
 
@@ -70,6 +75,9 @@ impl Pool {
         ensures kept { self.old.spare ≤ self.new.spare }
         ensures succeeds { cuts ≤ self.old.spare → IsOk result }
     {
+        if cuts <= self.spare() {
+            return Ok(());
+        }
         if cuts > MOST_KEPT - self.sets.len() as u64 {
             return Err(AllocError);
         }
@@ -78,7 +86,20 @@ impl Pool {
         self.orders.reserve(more)?;
         self.totals.reserve(more)?;
         self.loads.reserve(more)?;
-        self.by_set.reserve(more)
+        self.by_set.reserve(more)?;
+        reserve_kept(&mut self.short, more)
+    }
+
+    // How many more cuts can be added for certain without memory.
+    fn spare(&self) -> u64
+        ensures { result ≡ self.now.spare }
+    {
+        let room = (self.sets.capacity() - self.sets.len())
+            .min(self.orders.capacity() - self.orders.len())
+            .min(self.totals.capacity() - self.totals.len())
+            .min(self.loads.capacity() - self.loads.len())
+            .min(self.by_set.capacity() - self.by_set.len());
+        (MOST_KEPT - self.sets.len() as u64).min(room as u64)
     }
 
     /// The number of the cut of this hub set, if there is one. It takes no memory.
@@ -123,6 +144,7 @@ impl Pool {
         // It succeeds, since there is room.
         let _ = self.by_set.insert(at, place);
         let (set, total, loads) = cut.into_parts();
+        self.short = with_cut(self.short.take(), place == 0, &loads);
         self.sets.push_reserved(set);
         self.orders.push_reserved(order);
         self.totals.push_reserved(total);
@@ -182,5 +204,15 @@ impl Pool {
         ensures { map (λ v. v.items) result.now ≡ map (λ e. map pos e.loads) self.now.entries }
     {
         &self.loads
+    }
+
+    /// The loads in 32 bits, if they are kept: a row for each node, with one number for each cut.
+    ///
+    /// They are given up for good where a cut has loads of more or fewer nodes than those before, and where memory for
+    /// them is wanting as a cut is added.
+    pub fn short_loads(&self) -> Option<&ShortLoads>
+        ensures { IfSome result (λ s. AreShortLoads self.now.entries s.now) }
+    {
+        self.short.as_ref()
     }
 }

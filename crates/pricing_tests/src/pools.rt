@@ -87,6 +87,53 @@ fn keeps_two_cuts(rt: HostRuntime) -> Result<(), Fail> {
     Ok(())
 }
 
+// The halvings and the rows of the short loads, where they are kept and are these.
+fn are_short(pool: &Pool, halvings: u32, rows: &[&[u32]]) -> bool {
+    let Some(short) = pool.short_loads() else {
+        return false;
+    };
+    short.halvings() == halvings
+        && short.rows().len() == rows.len()
+        && short
+            .rows()
+            .iter()
+            .zip(rows)
+            .all(|(row, other)| row.as_slice() == *other)
+}
+
+#[test]
+fn short_loads_grow_past_31_bits_in_three_steps(rt: HostRuntime) -> Result<(), Fail> {
+    let alloc = rt.alloc();
+    let mut pool = Pool::new(alloc)?;
+    assert!(rt; are_short(&pool, 0, &[]));
+    let greatest = (1 << 31) - 1;
+    added(alloc, &mut pool, &[0], &[], 9, &[5, 7, greatest])?;
+    assert!(rt; are_short(&pool, 0, &[&[5], &[7], &[2_147_483_647]]));
+    // 2^31 is halved once.
+    added(alloc, &mut pool, &[1], &[], 9, &[3, 1 << 31, 0])?;
+    let rows: [&[u32]; 3] = [&[2, 1], &[3, 1_073_741_824], &[1_073_741_823, 0]];
+    assert!(rt; are_short(&pool, 1, &rows));
+    // 2^33 + 9 is halved three times, and the others twice more.
+    added(alloc, &mut pool, &[2], &[], 9, &[(1 << 33) + 9, 8, 15])?;
+    let rows: [&[u32]; 3] = [
+        &[0, 0, 1_073_741_825],
+        &[0, 268_435_456, 1],
+        &[268_435_455, 0, 1],
+    ];
+    assert!(rt; are_short(&pool, 3, &rows));
+    // 2^126 is halved 96 times: nothing is left of the others.
+    added(alloc, &mut pool, &[3], &[], 9, &[0, 1 << 126, 1 << 96])?;
+    let rows: [&[u32]; 3] = [&[0, 0, 0, 0], &[0, 0, 0, 1_073_741_824], &[0, 0, 0, 1]];
+    assert!(rt; are_short(&pool, 96, &rows));
+    // The loads of fewer nodes, or of more.
+    added(alloc, &mut pool, &[4], &[], 9, &[1, 2])?;
+    assert!(rt; pool.short_loads().is_none());
+    added(alloc, &mut pool, &[5], &[], 9, &[1, 2, 3])?;
+    assert!(rt; pool.short_loads().is_none());
+    assert_eq!(rt; load_of(&pool, 6, 2), Some(3));
+    Ok(())
+}
+
 #[test]
 fn reserves_no_more_than_can_be_numbered(rt: HostRuntime) -> Result<(), Fail> {
     let mut pool = Pool::new(rt.alloc())?;

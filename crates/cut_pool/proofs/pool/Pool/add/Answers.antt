@@ -1,12 +1,15 @@
-use Rattle.std.proofs.Common.{◌≡◌, ◌+◌, ◌≤◌, ◌++◌, ◌∷◌, [], length, cond, true, false, Result, Ok, Err, is_ok, is_err, OnOk, pos, to_z, of_z, FitsSigned, ap, subst, sym, rules, ◌∙◌, arith}
+use Rattle.std.proofs.Common.{◌≡◌, ◌+◌, ◌≤◌, ◌==◌, ◌++◌, ◌∷◌, [], length, map, All, cond, true, false, Result, Ok, Err, is_ok, is_err, OnOk, pos, to_z, of_z, FitsSigned, ap, subst, sym, rules, ◌∙◌, arith}
 use Rattle.std.specs.Int.{w128}
 use Rattle.std.specs.List.{insert}
 use Rattle.std.proofs.lemmas.Int.{to_z-of_z}
+use Rattle.hub_model.specs.Amounts.{natural, IsNatural}
+use Rattle.hub_model.proofs.Signs.{natural-pos, pos_least}
 use Rattle.cut_pool.specs.Entries.{PoolState, entry_of, Lacks}
 use Rattle.cut_pool.specs.PoolParts.{free, spare_of, state_of}
 use Rattle.cut_pool.specs.Ordered.{IsSplitAt}
 use Rattle.cut_pool.proofs.Grown.{HasGrown, spare_number, spare_index, pool_more, entries_more, spare_more}
 use Rattle.cut_pool.proofs.Entered.{length-entries}
+use Rattle.cut_pool.proofs.ShortRows.{short_more}
 use Rattle.cut_pool.proofs.pool.Pool.add.Goals as goal
 use Rattle.cut_pool.proofs.pool.Pool.add.Goals.{After-from}
 
@@ -23,6 +26,9 @@ room c =
 inserted : (c : After-from) → is_ok c.insert.result ≡ true
 inserted c = c.insert.ensures.succeeds (spare_index c.self.inside (room c))
 
+lent : (c : After-from) → c.deref-3.result.now ≡ map pos c.args.cut.loads
+lent c = c.deref-3.ensures.value ∙ c.into_parts-set.ensures.loads
+
 grown : (c : After-from)
     → HasGrown c.self.inside
     (record {
@@ -31,6 +37,7 @@ grown : (c : After-from)
       totals = c.push_reserved-3.new.self;
       loads = c.push_reserved-4.new.self;
       by_set = c.insert.new.self;
+      short = c.with_cut.result;
     })
     c.args.cut c.args.order c.into_parts-set.result.2 c.place_of-at.result
 grown c =
@@ -48,6 +55,10 @@ grown c =
       index = c.insert.ensures.items
           ∙ ap (λ b. cond b (insert s.by_set.items c.place_of-at.result c.len-place.result) s.by_set.items) (inserted c)
           ∙ ap (insert s.by_set.items c.place_of-at.result) place;
+      short = short_more (state_of s).entries (entry_of c.args.cut c.args.order.items) s.short c.take.result c.with_cut.result (c.len-place.result == 0)
+          (map natural c.deref-3.result.now) c.self.invariant.short c.take.ensures.value c.with_cut.ensures
+          (ap (λ n. n == 0) (place ∙ sym (length-entries s c.self.invariant)))
+          (ap (map natural) (lent c) ∙ natural-pos c.args.cut.loads);
     }
 
 entries_before : (c : After-from) → (state_of c.self.inside).entries ≡ c.args.self.now.entries
@@ -90,3 +101,7 @@ returns-clause-spare c =
     spare_more _ _ c.args.cut c.args.order c.into_parts-set.result.2 c.place_of-at.result c.self.invariant (grown c) sets orders totals loads by_set in
     let before : spare_of s ≡ c.reserve.new.self.spare = ap (λ (p : PoolState). p.spare) c.self.view_is in
     omega (arith, c.reserve.ensures.kept, before, more)
+
+pub with_cut-requires : goal.with_cut-requires
+with_cut-requires c =
+    subst (All IsNatural) (sym (c.deref-3.ensures.value ∙ c.into_parts-set.ensures.loads)) (pos_least c.args.cut.loads)
