@@ -1,5 +1,5 @@
 -- The master problem of a branch, scaled to small whole numbers, as the first table of a linear program.
-use Rattle.std.specs.Prelude.{◌≡◌, ℕ, ◌+◌, ◌/◌, ◌^◌, ◌==◌, ◌≤◌, nat_le, if◌then◌else◌, List, [], ◌∷◌, ◌++◌, map, length, slice_index, slice_index_or, sum_by, All, ℤ, pos, ◌-ℤ◌, neg_ℤ}
+use Rattle.std.specs.Prelude.{◌≡◌, ℕ, ◌+◌, ◌/◌, ◌^◌, ◌==◌, ◌<◌, ◌≤◌, nat_le, if◌then◌else◌, List, [], ◌∷◌, ◌++◌, map, length, slice_index, slice_index_or, sum_by, All, ℤ, pos, ◌-ℤ◌, neg_ℤ}
 use Rattle.std.specs.List.{range_with_len, flat_map, position_or_len, AllZip}
 use Rattle.hub_spec.specs.Problem.{greatest}
 use Rattle.hub_spec.specs.Trees.{Branching}
@@ -28,9 +28,17 @@ pub record AreMasterNumbers (totals : List ℤ) (loads : List (List ℤ)) (fixed
   pub loads_low : All (λ row. All IsNatural row) loads
   pub fixed_low : All IsNatural fixed
 
+-- the number after h halvings, each of them rounded down
+abbrev pub halved : ℕ → ℕ → ℕ
+halved h x = x / 2 ^ h
+
 -- no load is above its cut's total
 abbrev pub AreWithinTotals : List ℤ → List (List ℤ) → Type 0
 AreWithinTotals totals loads = AllZip (λ total row. All (λ x. natural x ≤ natural total) row) totals loads
+
+-- the row of each node has the cuts' loads of it, halved h times
+pub record AreShortRows (h : ℕ) (rows : List (List ℕ)) (loads : List (List ℤ)) : Type 0 where
+  pub row : (k : ℕ) → k < length rows → slice_index_or rows k [] ≡ map (λ load. halved h (slice_index (map natural load) k)) loads
 
 -- the nodes that the branch speaks of
 abbrev pub candidates_of : Branching → List ℕ
@@ -51,10 +59,6 @@ greatest_number m b =
 -- what no scaled number is above
 abbrev pub most_scaled : ℕ
 most_scaled = 4095
-
--- the number after h halvings, each of them rounded down
-abbrev pub halved : ℕ → ℕ → ℕ
-halved h x = x / 2 ^ h
 
 -- the least number of halvings by which g comes to at most that; it is sought below g, since g halvings are enough
 unfoldable pub halvings : ℕ → ℕ

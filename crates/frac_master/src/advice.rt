@@ -1,13 +1,14 @@
 //! What a master advises.
 
-ghost use Rattle.std.specs.Prelude.{◌≡◌, ◌<◌, length, map, All, IfOk};
-ghost use Rattle.frac_master.specs.Masters.{AreMasterNumbers, AreWithinTotals, master_of, candidates_of, greatest_number};
+ghost use Rattle.std.specs.Prelude.{◌≡◌, ◌<◌, length, map, All, IfOk, IfSome};
+ghost use Rattle.frac_master.specs.Masters.{AreMasterNumbers, AreShortRows, AreWithinTotals, master_of, candidates_of, greatest_number};
 ghost use Rattle.frac_master.specs.Advice.{advice, advice_of_code, AreMixWeights};
 
 use crate::Ended;
 use crate::masters::rows_under;
 use crate::reading::{point_of, scale_of, weights_of};
 use crate::scaling::{greatest_by_totals, greatest_number};
+use crate::short_rows::ShortRows;
 use hub_model::Branch;
 use std::alloc::{AllocError, Global};
 
@@ -43,26 +44,31 @@ pub fn advise(
     ensures weights { IfOk result (λ a. AreMixWeights (length totals.now) a.weights.items) }
 {
     let greatest = greatest_number(totals, loads, fixed, branch);
-    advise_under(alloc, totals, loads, fixed, branch, greatest)
+    advise_under(alloc, totals, loads, None, fixed, branch, greatest)
 }
 
 /// The same for cuts of which none has a load above its total. No load is looked at for the greatest number.
+///
+/// Where there are short rows, with a row for each node, whose loads are halved no more often than the master's numbers,
+/// the master is made from them, and else from `loads`: the advice is the same.
 pub fn advise_by_totals(
     alloc: Global,
     totals: &[i128],
     loads: &[Vec<i128>],
+    short: Option<ShortRows<'_>>,
     fixed: &[i128],
     branch: &Branch,
 ) -> Result<Advice, AllocError>
     requires numbers { AreMasterNumbers totals.now (map (λ v. v.items) loads.now) fixed.now }
     requires nodes { All (λ k. k < length fixed.now) (candidates_of branch.now) }
+    requires short { IfSome short (λ s. AreShortRows s.halvings (map (λ v. v.items) s.rows.now) (map (λ v. v.items) loads.now)) }
     requires within { AreWithinTotals totals.now (map (λ v. v.items) loads.now) }
     ensures advice { IfOk result
         (λ a. advice_of_code a ≡ advice (master_of totals.now (map (λ v. v.items) loads.now) fixed.now) branch.now) }
     ensures weights { IfOk result (λ a. AreMixWeights (length totals.now) a.weights.items) }
 {
     let greatest = greatest_by_totals(totals, loads, fixed, branch);
-    advise_under(alloc, totals, loads, fixed, branch, greatest)
+    advise_under(alloc, totals, loads, short, fixed, branch, greatest)
 }
 
 // The same, where the greatest number is known.
@@ -70,19 +76,21 @@ fn advise_under(
     alloc: Global,
     totals: &[i128],
     loads: &[Vec<i128>],
+    short: Option<ShortRows<'_>>,
     fixed: &[i128],
     branch: &Branch,
     greatest: u128,
 ) -> Result<Advice, AllocError>
     requires numbers { AreMasterNumbers totals.now (map (λ v. v.items) loads.now) fixed.now }
     requires nodes { All (λ k. k < length fixed.now) (candidates_of branch.now) }
+    requires short { IfSome short (λ s. AreShortRows s.halvings (map (λ v. v.items) s.rows.now) (map (λ v. v.items) loads.now)) }
     requires greatest { greatest
         ≡ greatest_number (master_of totals.now (map (λ v. v.items) loads.now) fixed.now) branch.now }
     ensures advice { IfOk result
         (λ a. advice_of_code a ≡ advice (master_of totals.now (map (λ v. v.items) loads.now) fixed.now) branch.now) }
     ensures weights { IfOk result (λ a. AreMixWeights (length totals.now) a.weights.items) }
 {
-    let mut rows = rows_under(alloc, totals, loads, fixed, branch, greatest)?;
+    let mut rows = rows_under(alloc, totals, loads, short, fixed, branch, greatest)?;
     // Behind the variables stand the slacks, v and the right side.
     let variables = rows.columns() - rows.constraints() - 2;
     let (ended, pivots) = rows.run();

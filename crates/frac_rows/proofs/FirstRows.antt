@@ -1,5 +1,5 @@
 -- The rows before the first pivot: what is kept of them, and that it stands for the table of the textbook.
-use Rattle.std.proofs.Common.{◌≡◌, ℕ, zero, suc, ◌+◌, ◌-◌, ◌*◌, ◌^◌, ◌<◌, ◌≤◌, ◌≢◌, List, [], ◌∷◌, ◌++◌, map, length, get_or, drop, All, eqb, cond, ℤ, pos, ◌+ℤ◌, ◌*ℤ◌, unsigned_abs, refl, sym, ap, ap₂, subst, ◌∙◌, ⊎_elim, arith}
+use Rattle.std.proofs.Common.{◌≡◌, ℕ, zero, suc, ◌+◌, ◌-◌, ◌*◌, ◌^◌, ◌<◌, ◌≤◌, ◌≢◌, List, [], ◌∷◌, ◌++◌, map, length, get_or, All, eqb, cond, ℤ, pos, ◌+ℤ◌, ◌*ℤ◌, unsigned_abs, refl, sym, ap, ap₂, subst, ◌∙◌, ⊎_elim, arith}
 use Rattle.std.specs.List.{range_with_len}
 use borrow.Author.Count.{below_more}
 use borrow.Rule.Slice.PartMut.{put_mid}
@@ -8,16 +8,16 @@ use Rattle.std.proofs.lemmas.Bool.{cond-true, cond-false, eq-eqb, ne_eqb, cases_
 use Rattle.std.proofs.Math.Nat.{mul-le-mul_right}
 use Rattle.std.proofs.lemmas.List.Sums.{sum_by-le}
 use Rattle.std.proofs.lemmas.List.{map-id, length-append, get_or_append_left, get_or_push}
-use Rattle.std.proofs.lemmas.List.Elements.{All-head, All-tail, All-take, All-drop, All-from_get_or}
+use Rattle.std.proofs.lemmas.List.Elements.{All-head, All-tail, All-from_get_or}
 use Rattle.std.proofs.lemmas.List.FromFn.{length-map-range_with_len, get_or-map-range_with_len, map-range_with_len_more, length-range_with_len, get_or-range_with_len}
 use Rattle.frac_rows.specs.Divisors.{divisor_of, reduced}
 use Rattle.frac_rows.specs.Rows.{widest, number, AreNarrow}
 use Rattle.frac_rows.specs.Starts.{unit, own_numbers, start_row, start}
-use Rattle.frac_rows.specs.Stored.{dot, times, extended, piece, pieces, Matrix, whole_row, table_of, IsStored, AreFirst, IsUnder, AreTops}
+use Rattle.frac_rows.specs.Stored.{dot, times, extended, piece, standing, columns_of, Matrix, whole_row, table_of, IsStored, AreFirst, AreTops}
 use Rattle.frac_rows.proofs.Gcds.{divisor_of_one}
 use Rattle.frac_rows.proofs.Quotients.{scale, times-reduced}
 use Rattle.frac_rows.proofs.Refined.{divisor_of-extended, times_one}
-use Rattle.frac_rows.proofs.WholeRows.{length-piece, piece_within, length-pieces, get_or-pieces, narrow_whole, variables_narrow}
+use Rattle.frac_rows.proofs.WholeRows.{length-piece, piece_within, length-standing, standing_at, length-columns_of, get_or-columns_of, narrow_whole, variables_narrow}
 use Rattle.frac_rows.proofs.Pieces.{piece_put, piece_kept}
 
 -- ---- the numbers of one row
@@ -113,12 +113,26 @@ dot-own_numbers rights i column long = dot_units 0 (length rights + 1) i (number
 
 -- ---- the tops, and the columns of the slacks
 
-pub tops_are : (height variables : ℕ) (columns : List ℤ) (tops : List ℕ) → height < 2 ^ 32 → length tops ≡ height
-    → ((j : ℕ) → j < variables → IsUnder (piece height columns j) tops) → All (λ t. t ≤ 2 ^ 32) tops
-    → AreTops height variables columns tops
-tops_are height variables columns tops few long under limit = record {
+-- the tops of the first rows, and the next one's
+pub tops_more : (variables : ℕ) (numbers : List ℤ) (tops : List ℕ) (n top : ℕ) → length tops ≡ n
+    → ((k : ℕ) → k < n → All (λ x. unsigned_abs x ≤ get_or tops k 0) (piece variables numbers k))
+    → All (λ x. unsigned_abs x ≤ top) (piece variables numbers n)
+    → (k : ℕ) → k < n + 1 → All (λ x. unsigned_abs x ≤ get_or (tops ++ top ∷ []) k 0) (piece variables numbers k)
+tops_more variables numbers tops n top long before here =
+    below_more (λ k. All (λ x. unsigned_abs x ≤ get_or (tops ++ top ∷ []) k 0) (piece variables numbers k)) n
+    (λ k low.
+    subst (λ t. All (λ x. unsigned_abs x ≤ t) (piece variables numbers k)) (sym (get_or_append_left tops (top ∷ []) 0 k (omega arith))) (before k low))
+    (subst (λ t. All (λ x. unsigned_abs x ≤ t) (piece variables numbers n)) (sym (get_or_push tops top 0 n long)) here)
+
+pub tops_are : (height variables : ℕ) (numbers : List ℤ) (tops : List ℕ) → height < 2 ^ 32 → length numbers ≡ height * variables → length tops ≡ height
+    → ((k : ℕ) → k < height → All (λ x. unsigned_abs x ≤ get_or tops k 0) (piece variables numbers k)) → All (λ t. t ≤ 2 ^ 32) tops
+    → AreTops height variables numbers tops
+tops_are height variables numbers tops few whole long under limit = record {
   one_top_each = long;
-  under = under;
+  under = λ j column k low.
+      let row : k < height = omega (arith, low, long) in
+      let size = length-piece variables numbers k (piece_within variables height k numbers whole row) in
+      subst (λ x. unsigned_abs x ≤ get_or tops k 0) (sym (standing_at numbers variables height j k row)) (under k row j (pos 0) (omega (arith, column, size)));
   room =
       let whole = sum_by-le (λ n. n) (2 ^ 32) tops limit in
       let most : length tops * 2 ^ 32 ≤ 2 ^ 32 * 2 ^ 32 = mul-le-mul_right {n = 2 ^ 32} (2 ^ 32) (omega arith) in
@@ -135,12 +149,12 @@ map_agree_on f g [] same = refl
 map_agree_on f g (x ∷ xs) same =
     ap₂ (λ y ys. y ∷ ys) (All-head (λ x. f x ≡ g x) x xs same) (map_agree_on f g xs (All-tail (λ x. f x ≡ g x) x xs same))
 
-long_pieces : (h v : ℕ) (flat : List ℤ) → length flat ≡ v * h → All (λ column. length column ≡ h) (pieces h v flat)
-long_pieces h v flat long =
-    All-from_get_or (λ column. length column ≡ h) (pieces h v flat) []
+long_columns : (h v : ℕ) (flat : List ℤ) → All (λ column. length column ≡ h) (columns_of h v flat)
+long_columns h v flat =
+    All-from_get_or (λ column. length column ≡ h) (columns_of h v flat) []
     (λ j low.
-    let less : j < v = omega (arith, length-pieces h v flat) in
-    ap length (get_or-pieces h v flat j less) ∙ length-piece h flat j (piece_within h v j flat long less))
+    let less : j < v = omega (arith, length-columns_of h v flat) in
+    ap length (get_or-columns_of h v flat j less) ∙ length-standing flat v h j)
 
 -- a row with a number 1 is reduced
 reduced_with_one : (row : List ℤ) → divisor_of row ≡ 1 → reduced row ≡ row
@@ -165,19 +179,18 @@ reduced_first rights columns i low long =
     ∙ divisor_of_one (own_numbers rights i) i (omega (arith, length-own_numbers rights i)) (own_one rights i i low refl))
     ∙ whole_first rights columns i low long
 
-pub start_is : (rights flat numbers : List ℤ) (variables : ℕ) → length flat ≡ variables * (length rights + 1)
-    → AreFirst rights (length rights + 1) numbers
-    → table_of (record { height = length rights + 1; columns = pieces (length rights + 1) variables flat }) numbers (range_with_len variables (length rights))
-    ≡ start (pieces (length rights + 1) variables flat) rights
+pub start_is : (rights flat numbers : List ℤ) (variables : ℕ) → AreFirst rights (length rights + 1) numbers
+    → table_of (record { height = length rights + 1; columns = columns_of (length rights + 1) variables flat }) numbers (range_with_len variables (length rights))
+    ≡ start (columns_of (length rights + 1) variables flat) rights
 unfolding table_of start
-start_is rights flat numbers variables long first =
+start_is rights flat numbers variables first =
     let h = length rights + 1 in
-    let columns = pieces h variables flat in
+    let columns = columns_of h variables flat in
     let m : Matrix = record { height = h; columns = columns } in
     let at : (i : ℕ) → i < h → reduced (whole_row m numbers i) ≡ start_row columns rights i =
     λ i low.
     ap (λ p. reduced (extended columns p)) (ap (λ w. piece w numbers i) (omega arith) ∙ first.each i low)
-    ∙ reduced_first rights columns i low (long_pieces h variables flat long) in
+    ∙ reduced_first rights columns i low (long_columns h variables flat) in
     ap₂ (λ (rs : List (List ℤ)) (bs : List ℕ). record { rows = rs; basis = bs })
     (map_agree_on (λ i. reduced (whole_row m numbers i)) (start_row columns rights) (range_with_len 0 h)
     (All-from_get_or (λ i. reduced (whole_row m numbers i) ≡ start_row columns rights i) (range_with_len 0 h) 0
@@ -185,7 +198,7 @@ start_is rights flat numbers variables long first =
     let less : k < h = omega (arith, length-range_with_len 0 h) in
     let is : get_or (range_with_len 0 h) k 0 ≡ k = get_or-range_with_len 0 h k 0 less ∙ omega arith in
     subst (λ i. reduced (whole_row m numbers i) ≡ start_row columns rights i) (sym is) (at k less))))
-    (ap (range_with_len variables) refl ∙ ap (λ v. range_with_len v (length rights)) (sym (length-pieces h variables flat)))
+    (ap (range_with_len variables) refl ∙ ap (λ v. range_with_len v (length rights)) (sym (length-columns_of h variables flat)))
 
 -- ---- and what is kept of it is within the limits
 
@@ -208,13 +221,13 @@ own_narrow rights i limit =
     (cases_eq k i))
     (cases_eq k (length rights + 1)))
 
-pub stored_first : (rights flat numbers : List ℤ) (variables : ℕ) → length flat ≡ variables * (length rights + 1)
-    → All (λ x. unsigned_abs x ≤ 2 ^ 32) flat → All (λ x. unsigned_abs x ≤ widest) rights
+pub stored_first : (rights flat numbers : List ℤ) (variables : ℕ) (tops : List ℕ)
+    → AreTops (length rights + 1) variables flat tops → All (λ t. t ≤ 2 ^ 32) tops → All (λ x. unsigned_abs x ≤ widest) rights
     → length numbers ≡ (length rights + 1) * (length rights + 2) → AreFirst rights (length rights + 1) numbers
-    → IsStored (record { height = length rights + 1; columns = pieces (length rights + 1) variables flat }) numbers (range_with_len variables (length rights))
-stored_first rights flat numbers variables long columns_limit rights_limit size first =
+    → IsStored (record { height = length rights + 1; columns = columns_of (length rights + 1) variables flat }) numbers (range_with_len variables (length rights))
+stored_first rights flat numbers variables tops are limit rights_limit size first =
     let h = length rights + 1 in
-    let columns = pieces h variables flat in
+    let columns = columns_of h variables flat in
     let m : Matrix = record { height = h; columns = columns } in
     record {
       kept = record {
@@ -225,12 +238,11 @@ stored_first rights flat numbers variables long columns_limit rights_limit size 
             (narrow_whole columns (own_numbers rights i) (own_narrow rights i rights_limit)
             (variables_narrow h variables flat (own_numbers rights i)
             (λ k l.
-            let within = piece_within h variables k flat long l in
-            let is = dot-own_numbers rights i (piece h flat k) (length-piece h flat k within) in
-            let small : unsigned_abs (number (piece h flat k) i) ≤ 2 ^ 32 =
-            below_at (2 ^ 32) (piece h flat k) i
-            (All-take (λ x. unsigned_abs x ≤ 2 ^ 32) h (drop (k * h) flat) (All-drop (λ x. unsigned_abs x ≤ 2 ^ 32) (k * h) flat columns_limit)) in
-            subst (λ x. unsigned_abs x ≤ widest) (sym is) (omega (arith, small)))));
+            let is = dot-own_numbers rights i (standing flat variables h k) (length-standing flat variables h k) in
+            let has_top : i < length tops = omega (arith, low, are.one_top_each) in
+            let top : get_or tops i 0 ≤ 2 ^ 32 = limit i 0 has_top in
+            let small : unsigned_abs (number (standing flat variables h k) i) ≤ get_or tops i 0 = are.under k l i has_top in
+            subst (λ x. unsigned_abs x ≤ widest) (sym is) (omega (arith, small, top)))));
       };
       one_each = ap (λ n. n + 1) (length-range_with_len variables (length rights));
       before_v =
@@ -238,5 +250,5 @@ stored_first rights flat numbers variables long columns_limit rights_limit size 
           (λ k low.
           let less : k < length rights = omega (arith, length-range_with_len variables (length rights)) in
           let is = get_or-range_with_len variables (length rights) k 0 less in
-          omega (arith, is, length-pieces h variables flat));
+          omega (arith, is, length-columns_of h variables flat));
     }

@@ -1,60 +1,36 @@
--- Rough rows and short copies of columns: what their sums tell of the numbers of the variables.
-use Rattle.std.proofs.Common.{◌≡◌, ℕ, zero, suc, ◌+◌, ◌-◌, ◌*◌, ◌^◌, ◌<◌, ◌≤◌, false, List, [], ◌∷◌, length, get_or, set, take, drop, sum, ℤ, pos, ◌+ℤ◌, ◌-ℤ◌, ◌*ℤ◌, ◌≤ℤ◌, int_lt, unsigned_abs, sym, ap, subst, ◌∙◌, arith}
+-- Rough rows: what their sums of products tell of the numbers of the variables.
+use Rattle.std.proofs.Common.{◌≡◌, ℕ, suc, ◌+◌, ◌-◌, ◌*◌, ◌^◌, ◌<◌, ◌≤◌, false, List, [], ◌∷◌, length, set, take, drop, sum, ℤ, pos, ◌+ℤ◌, ◌-ℤ◌, ◌*ℤ◌, ◌≤ℤ◌, int_lt, unsigned_abs, sym, ap, subst, ◌∙◌, arith}
 use Rattle.std.specs.Int.{w32, int_wrap, is_negative}
 use borrow.Author.Count.{below_more}
-use borrow.Rule.Slice.PartMut.{put_mid}
 use Rattle.std.proofs.Math.Nat.{mul-le-mul, mul-le-mul_left}
 use Rattle.std.proofs.lemmas.Int.{ints, unsigned_abs-mul, int_wrap_fits, fits_signed_from_abs}
-use Rattle.std.proofs.lemmas.List.{get_or-take, get_or-drop, ext_get_or, get_or-set_same, get_or-set_other}
+use Rattle.std.proofs.lemmas.List.{get_or-take, get_or-drop, get_or-set_same, get_or-set_other}
 use Rattle.std.proofs.lemmas.List.Sums.{sum_by-cons}
-use Rattle.std.proofs.lemmas.List.FromFn.{length-map-range_with_len, get_or-map-range_with_len}
 use Rattle.frac_rows.specs.Rows.{widest, number}
-use Rattle.frac_rows.specs.Stored.{dot, reach, piece, IsUnder, AreColumns}
-use Rattle.frac_rows.specs.Sketches.{standing, IsRowOf, IsSketch, IsRough, number_of, is_below, NoneBelow, AreTelling, NoneWide, AreTellingSizes}
+use Rattle.frac_rows.specs.Stored.{dot, reach, piece, standing, IsUnder, AreColumns}
+use Rattle.frac_rows.specs.RoughRows.{IsMargin, IsRough, number_of, is_below, NoneBelow, AreTelling, NoneWide, AreTellingSizes}
 use Rattle.frac_rows.proofs.Integers.{*ℤ-+ℤ, -ℤ-*ℤ, *ℤ_assoc, unsigned_abs-+ℤ-le, times-le}
 use Rattle.frac_rows.proofs.SumsOfProducts.{dot_le_reach, wrapped_more, dot_all}
-use Rattle.frac_rows.proofs.WholeRows.{piece_within, length-piece}
-use Rattle.frac_rows.proofs.Pieces.{piece_put, piece_kept}
-
--- ---- the short copy
-
-pub top_le_sum : (tops : List ℕ) (k : ℕ) → get_or tops k 0 ≤ sum tops
-top_le_sum [] k = omega arith
-top_le_sum (t ∷ tops) zero = omega (arith, sum_by-cons (λ n. n) t tops)
-top_le_sum (t ∷ tops) (suc k) = omega (arith, sum_by-cons (λ n. n) t tops, top_le_sum tops k)
-
-pub rows_more : (height variables : ℕ) (numbers flat part : List ℤ) (i s : ℕ) → i * variables ≤ length flat → length part ≡ variables
-    → ((k : ℕ) → k < i → IsRowOf height numbers k (piece variables flat k)) → IsRowOf height numbers i part
-    → (k : ℕ) → k < i + 1 → IsRowOf height numbers k (piece variables (put_mid (i * variables) s flat part) k)
-rows_more height variables numbers flat part i s within long before here =
-    below_more (λ k. IsRowOf height numbers k (piece variables (put_mid (i * variables) s flat part) k)) i
-    (λ k low. subst (IsRowOf height numbers k) (sym (piece_kept variables i k s flat part within low)) (before k low))
-    (subst (IsRowOf height numbers i) (sym (piece_put variables i s flat part within long)) here)
-
-standing_at : (rows : List ℤ) (variables height j k : ℕ) → k < height → number (standing rows variables height j) k ≡ number (piece variables rows k) j
-standing_at rows variables height j k low = get_or-map-range_with_len (λ k. number (piece variables rows k) j) 0 height k k (pos 0) low (omega arith)
-
-length-standing : (rows : List ℤ) (variables height j : ℕ) → length (standing rows variables height j) ≡ height
-length-standing rows variables height j = length-map-range_with_len (λ k. number (piece variables rows k) j) 0 height
+use Rattle.frac_rows.proofs.WholeRows.{length-standing, standing_at}
 
 -- ---- sums
 
-pub summed_more : (rows : List ℤ) (variables first : ℕ) (rough sums new row : List ℤ) (k : ℕ) → k < length rough → row ≡ piece variables rows k
+pub summed_more : (numbers : List ℤ) (variables first : ℕ) (rough sums new row : List ℤ) (k : ℕ) → k < length rough → row ≡ piece variables numbers k
     → length new ≡ length sums
-    → ((l : ℕ) → l < length sums → number sums l ≡ int_wrap w32 (dot (take k rough) (take k (standing rows variables (length rough) (first + l)))))
+    → ((l : ℕ) → l < length sums → number sums l ≡ int_wrap w32 (dot (take k rough) (take k (standing numbers variables (length rough) (first + l)))))
     → ((l : ℕ) → l < length sums → number new l ≡ int_wrap w32 (number sums l +ℤ number rough k *ℤ number row (first + l)))
-    → (l : ℕ) → l < length new → number new l ≡ int_wrap w32 (dot (take (k + 1) rough) (take (k + 1) (standing rows variables (length rough) (first + l))))
-summed_more rows variables first rough sums new row k low is long so_far added l within =
-    let column = standing rows variables (length rough) (first + l) in
+    → (l : ℕ) → l < length new → number new l ≡ int_wrap w32 (dot (take (k + 1) rough) (take (k + 1) (standing numbers variables (length rough) (first + l))))
+summed_more numbers variables first rough sums new row k low is long so_far added l within =
+    let column = standing numbers variables (length rough) (first + l) in
     let at : number column k ≡ number row (first + l) =
-    standing_at rows variables (length rough) (first + l) k low ∙ ap (λ r. number r (first + l)) (sym is) in
-    wrapped_more w32 rough column k (number sums l) (number new l) low (omega (arith, low, length-standing rows variables (length rough) (first + l)))
+    standing_at numbers variables (length rough) (first + l) k low ∙ ap (λ r. number r (first + l)) (sym is) in
+    wrapped_more w32 rough column k (number sums l) (number new l) low (omega (arith, low, length-standing numbers variables (length rough) (first + l)))
     (so_far l (omega arith)) (added l (omega arith) ∙ ap (λ z. int_wrap w32 (number sums l +ℤ number rough k *ℤ z)) (sym at))
 
-pub summed_all : (rows : List ℤ) (variables j : ℕ) (rough : List ℤ) (k : ℕ) → length rough ≤ k
-    → dot (take k rough) (take k (standing rows variables (length rough) j)) ≡ dot rough (standing rows variables (length rough) j)
-summed_all rows variables j rough k all =
-    dot_all rough (standing rows variables (length rough) j) k (omega (arith, all, length-standing rows variables (length rough) j))
+pub summed_all : (numbers : List ℤ) (variables j : ℕ) (rough : List ℤ) (k : ℕ) → length rough ≤ k
+    → dot (take k rough) (take k (standing numbers variables (length rough) j)) ≡ dot rough (standing numbers variables (length rough) j)
+summed_all numbers variables j rough k all =
+    dot_all rough (standing numbers variables (length rough) j) k (omega (arith, all, length-standing numbers variables (length rough) j))
 
 -- ---- what a sum tells
 
@@ -93,53 +69,39 @@ not_below d margin exact rough near above =
     let more : (pos d *ℤ pos margin) ≤ℤ (pos d *ℤ rough) = times-le d (pos margin) rough above in
     not_negative exact (omega (arith, ints, more, near))
 
--- the column of the short copy is the variable's
-standing_is : (height variables : ℕ) (numbers : List ℤ) (tops : List ℕ) (rows : List ℤ) (margin : ℤ) (j : ℕ)
-    → AreColumns height variables numbers tops → IsSketch height variables numbers tops rows margin → j < variables
-    → standing rows variables height j ≡ piece height numbers j
-standing_is height variables numbers tops rows margin j are sketch low =
-    let long = length-piece height numbers j (piece_within height variables j numbers are.long low) in
-    ext_get_or (pos 0) (standing rows variables height j) (piece height numbers j) (length-standing rows variables height j ∙ sym long)
-    (λ k less.
-    let within : k < height = omega (arith, less, length-standing rows variables height j) in
-    standing_at rows variables height j k within
-    ∙ (sketch.same k within).each j
-    (omega (arith, low, length-piece variables rows k (piece_within variables height k rows sketch.long within))))
-
 -- each sum times the step is about the variable's number
-sums_near : (height variables : ℕ) (numbers : List ℤ) (tops : List ℕ) (rows : List ℤ) (margin : ℤ) (row rough : List ℤ) (first : ℕ) (sums : List ℤ) (d : ℕ)
+sums_near : (height variables : ℕ) (numbers : List ℤ) (tops : List ℕ) (row rough : List ℤ) (first : ℕ) (sums : List ℤ) (d : ℕ)
     → height ≡ length row - 1
-    → AreColumns height variables numbers tops → IsSketch height variables numbers tops rows margin → length rough ≡ length tops → IsRough d row rough
+    → AreColumns height variables numbers tops → length rough ≡ length tops → IsRough d row rough
     → reach rough tops < 2 ^ 31 → first + length sums ≤ variables
-    → ((l : ℕ) → l < length sums → number sums l ≡ int_wrap w32 (dot rough (standing rows variables (length rough) (first + l))))
-    → (l : ℕ) → l < length sums → unsigned_abs (number_of numbers row (first + l) -ℤ pos d *ℤ number sums l) ≤ d * sum tops
-sums_near height variables numbers tops rows margin row rough first sums d high are sketch long is small within summed l low =
+    → ((l : ℕ) → l < length sums → number sums l ≡ int_wrap w32 (dot rough (standing numbers variables (length rough) (first + l))))
+    → (l : ℕ) → l < length sums → unsigned_abs (number_of variables numbers row (first + l) -ℤ pos d *ℤ number sums l) ≤ d * sum tops
+sums_near height variables numbers tops row rough first sums d high are long is small within summed l low =
     let j = first + l in
-    let less : j < variables = omega arith in
-    let column = piece height numbers j in
+    let column = standing numbers variables height j in
     let tall : length rough ≡ height = long ∙ are.topped.one_top_each in
-    let column_long : length column ≡ length tops = length-piece height numbers j (piece_within height variables j numbers are.long less) ∙ sym are.topped.one_top_each in
-    let under = are.topped.under j less in
-    let same : dot rough (standing rows variables (length rough) j) ≡ dot rough column =
-    ap (λ h. dot rough (standing rows variables h j)) tall ∙ ap (dot rough) (standing_is height variables numbers tops rows margin j are sketch less) in
+    let column_long : length column ≡ length tops = length-standing numbers variables height j ∙ sym are.topped.one_top_each in
+    let under = are.topped.under j (omega arith) in
+    let same : dot rough (standing numbers variables (length rough) j) ≡ dot rough column =
+    ap (λ h. dot rough (standing numbers variables h j)) tall in
     let size = dot_le_reach rough column tops column_long under in
     let whole : number sums l ≡ dot rough column =
     summed l low ∙ ap (int_wrap w32) same ∙ int_wrap_fits w32 (dot rough column) (fits_signed_from_abs w32 (dot rough column) (omega (arith, size, small))) in
     let near = dot_near d row rough column tops (omega (arith, tall, high)) long column_long under is.near in
-    subst (λ h. unsigned_abs (dot row (piece h numbers j) -ℤ pos d *ℤ number sums l) ≤ d * sum tops) high
+    subst (λ h. unsigned_abs (dot row (standing numbers variables h j) -ℤ pos d *ℤ number sums l) ≤ d * sum tops) high
     (subst (λ z. unsigned_abs (dot row column -ℤ pos d *ℤ z) ≤ d * sum tops) (sym whole) near)
 
-pub sums_tell : (height variables : ℕ) (numbers : List ℤ) (tops : List ℕ) (rows : List ℤ) (margin : ℤ) (row rough : List ℤ) (first : ℕ) (sums : List ℤ) (d : ℕ)
+pub sums_tell : (height variables : ℕ) (numbers : List ℤ) (tops : List ℕ) (margin : ℤ) (row rough : List ℤ) (first : ℕ) (sums : List ℤ) (d : ℕ)
     → height ≡ length row - 1
-    → AreColumns height variables numbers tops → IsSketch height variables numbers tops rows margin → length rough ≡ length tops → IsRough d row rough
+    → AreColumns height variables numbers tops → IsMargin height tops margin → length rough ≡ length tops → IsRough d row rough
     → reach rough tops < 2 ^ 31 → first + length sums ≤ variables
-    → ((l : ℕ) → l < length sums → number sums l ≡ int_wrap w32 (dot rough (standing rows variables (length rough) (first + l))))
-    → AreTelling numbers row margin first sums
-sums_tell height variables numbers tops rows margin row rough first sums d high are sketch long is small within summed = record {
+    → ((l : ℕ) → l < length sums → number sums l ≡ int_wrap w32 (dot rough (standing numbers variables (length rough) (first + l))))
+    → AreTelling variables numbers row margin first sums
+sums_tell height variables numbers tops margin row rough first sums d high are is_margin long is small within summed = record {
   each = λ l low above.
-      not_below d (sum tops) (number_of numbers row (first + l)) (number sums l)
-      (sums_near height variables numbers tops rows margin row rough first sums d high are sketch long is small within summed l low)
-      (subst (λ z. z ≤ℤ number sums l) sketch.is_margin above);
+      not_below d (sum tops) (number_of variables numbers row (first + l)) (number sums l)
+      (sums_near height variables numbers tops row rough first sums d high are long is small within summed l low)
+      (subst (λ z. z ≤ℤ number sums l) is_margin.is_sum above);
 }
 
 -- a number that is about so many times the step
@@ -153,56 +115,56 @@ not_wide_near d margin most exact rough near few limit =
     let all : d * (unsigned_abs rough + margin) ≤ d * most = mul-le-mul_left d few in
     omega (arith, ap unsigned_abs parts, size, times, all, near, limit)
 
-pub sums_tell_sizes : (height variables : ℕ) (numbers : List ℤ) (tops : List ℕ) (rows : List ℤ) (margin : ℤ) (row rough : List ℤ) (first : ℕ) (sums : List ℤ) (d most n : ℕ)
+pub sums_tell_sizes : (height variables : ℕ) (numbers : List ℤ) (tops : List ℕ) (margin : ℤ) (row rough : List ℤ) (first : ℕ) (sums : List ℤ) (d most n : ℕ)
     → height ≡ length row - 1
-    → AreColumns height variables numbers tops → IsSketch height variables numbers tops rows margin → length rough ≡ length tops → IsRough d row rough
+    → AreColumns height variables numbers tops → IsMargin height tops margin → length rough ≡ length tops → IsRough d row rough
     → reach rough tops < 2 ^ 31 → first + length sums ≤ variables
-    → ((l : ℕ) → l < length sums → number sums l ≡ int_wrap w32 (dot rough (standing rows variables (length rough) (first + l))))
-    → d * most ≤ widest → n ≡ unsigned_abs margin → AreTellingSizes numbers row n most first sums
-sums_tell_sizes height variables numbers tops rows margin row rough first sums d most n high are sketch long is small within summed limit size = record {
+    → ((l : ℕ) → l < length sums → number sums l ≡ int_wrap w32 (dot rough (standing numbers variables (length rough) (first + l))))
+    → d * most ≤ widest → n ≡ unsigned_abs margin → AreTellingSizes variables numbers row n most first sums
+sums_tell_sizes height variables numbers tops margin row rough first sums d most n high are is_margin long is small within summed limit size = record {
   each = λ l low few.
-      let sized : n ≡ sum tops = size ∙ ap unsigned_abs sketch.is_margin in
-      not_wide_near d (sum tops) most (number_of numbers row (first + l)) (number sums l)
-      (sums_near height variables numbers tops rows margin row rough first sums d high are sketch long is small within summed l low)
+      let sized : n ≡ sum tops = size ∙ ap unsigned_abs is_margin.is_sum in
+      not_wide_near d (sum tops) most (number_of variables numbers row (first + l)) (number sums l)
+      (sums_near height variables numbers tops row rough first sums d high are long is small within summed l low)
       (omega (arith, few, sized)) limit;
 }
 
 -- ---- no number that is too great
 
-pub sizes_at : (numbers row : List ℤ) (margin most first : ℕ) (sums : List ℤ) (j : ℕ) → AreTellingSizes numbers row margin most first sums → first ≤ j
-    → j - first < length sums → unsigned_abs (number sums (j - first)) + margin ≤ most → unsigned_abs (number_of numbers row j) ≤ widest
-sizes_at numbers row margin most first sums j telling low high few =
+pub sizes_at : (variables : ℕ) (numbers row : List ℤ) (margin most first : ℕ) (sums : List ℤ) (j : ℕ) → AreTellingSizes variables numbers row margin most first sums → first ≤ j
+    → j - first < length sums → unsigned_abs (number sums (j - first)) + margin ≤ most → unsigned_abs (number_of variables numbers row j) ≤ widest
+sizes_at variables numbers row margin most first sums j telling low high few =
     let same : first + (j - first) ≡ j = omega arith in
-    subst (λ n. unsigned_abs (number_of numbers row n) ≤ widest) same (telling.each (j - first) high few)
+    subst (λ n. unsigned_abs (number_of variables numbers row n) ≤ widest) same (telling.each (j - first) high few)
 
-pub none_wide_told : (numbers row : List ℤ) (margin most first last : ℕ) (sums : List ℤ) → AreTellingSizes numbers row margin most first sums → first + length sums ≡ last
-    → ((l : ℕ) → l < length sums → unsigned_abs (number sums l) + margin ≤ most) → NoneWide numbers row first last
-none_wide_told numbers row margin most first last sums telling whole few = record {
-  each = λ j low high. sizes_at numbers row margin most first sums j telling low (omega arith) (few (j - first) (omega arith));
+pub none_wide_told : (variables : ℕ) (numbers row : List ℤ) (margin most first last : ℕ) (sums : List ℤ) → AreTellingSizes variables numbers row margin most first sums → first + length sums ≡ last
+    → ((l : ℕ) → l < length sums → unsigned_abs (number sums l) + margin ≤ most) → NoneWide variables numbers row first last
+none_wide_told variables numbers row margin most first last sums telling whole few = record {
+  each = λ j low high. sizes_at variables numbers row margin most first sums j telling low (omega arith) (few (j - first) (omega arith));
 }
 
-pub none_wide_more : (numbers row : List ℤ) (first j : ℕ) → NoneWide numbers row first j → unsigned_abs (number_of numbers row j) ≤ widest → NoneWide numbers row first (j + 1)
-none_wide_more numbers row first j none here = record {
-  each = λ k low high. below_more (λ i. first ≤ i → unsigned_abs (number_of numbers row i) ≤ widest) j (λ i less among. none.each i among less) (λ among. here) k high low;
+pub none_wide_more : (variables : ℕ) (numbers row : List ℤ) (first j : ℕ) → NoneWide variables numbers row first j → unsigned_abs (number_of variables numbers row j) ≤ widest → NoneWide variables numbers row first (j + 1)
+none_wide_more variables numbers row first j none here = record {
+  each = λ k low high. below_more (λ i. first ≤ i → unsigned_abs (number_of variables numbers row i) ≤ widest) j (λ i less among. none.each i among less) (λ among. here) k high low;
 }
 
 -- ---- the first number below 0
 
-pub telling_at : (numbers row : List ℤ) (margin : ℤ) (first : ℕ) (sums : List ℤ) (j : ℕ) → AreTelling numbers row margin first sums → first ≤ j
-    → j - first < length sums → margin ≤ℤ number sums (j - first) → is_below numbers row j ≡ false
-telling_at numbers row margin first sums j telling low high above =
+pub telling_at : (variables : ℕ) (numbers row : List ℤ) (margin : ℤ) (first : ℕ) (sums : List ℤ) (j : ℕ) → AreTelling variables numbers row margin first sums → first ≤ j
+    → j - first < length sums → margin ≤ℤ number sums (j - first) → is_below variables numbers row j ≡ false
+telling_at variables numbers row margin first sums j telling low high above =
     let same : first + (j - first) ≡ j = omega arith in
-    subst (λ n. is_below numbers row n ≡ false) same (telling.each (j - first) high above)
+    subst (λ n. is_below variables numbers row n ≡ false) same (telling.each (j - first) high above)
 
-pub none_told : (numbers row : List ℤ) (margin : ℤ) (first last : ℕ) (sums : List ℤ) → AreTelling numbers row margin first sums → first + length sums ≡ last
-    → ((l : ℕ) → l < length sums → margin ≤ℤ number sums l) → NoneBelow numbers row first last
-none_told numbers row margin first last sums telling whole above = record {
-  each = λ j low high. telling_at numbers row margin first sums j telling low (omega arith) (above (j - first) (omega arith));
+pub none_told : (variables : ℕ) (numbers row : List ℤ) (margin : ℤ) (first last : ℕ) (sums : List ℤ) → AreTelling variables numbers row margin first sums → first + length sums ≡ last
+    → ((l : ℕ) → l < length sums → margin ≤ℤ number sums l) → NoneBelow variables numbers row first last
+none_told variables numbers row margin first last sums telling whole above = record {
+  each = λ j low high. telling_at variables numbers row margin first sums j telling low (omega arith) (above (j - first) (omega arith));
 }
 
-pub none_more : (numbers row : List ℤ) (first j : ℕ) → NoneBelow numbers row first j → is_below numbers row j ≡ false → NoneBelow numbers row first (j + 1)
-none_more numbers row first j none here = record {
-  each = λ k low high. below_more (λ i. first ≤ i → is_below numbers row i ≡ false) j (λ i less among. none.each i among less) (λ among. here) k high low;
+pub none_more : (variables : ℕ) (numbers row : List ℤ) (first j : ℕ) → NoneBelow variables numbers row first j → is_below variables numbers row j ≡ false → NoneBelow variables numbers row first (j + 1)
+none_more variables numbers row first j none here = record {
+  each = λ k low high. below_more (λ i. first ≤ i → is_below variables numbers row i ≡ false) j (λ i less among. none.each i among less) (λ among. here) k high low;
 }
 
 -- a rough row, number by number

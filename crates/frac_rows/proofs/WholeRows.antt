@@ -1,31 +1,23 @@
 -- Whole rows and their numbers: of the variables, and of those that are kept.
-use Rattle.std.proofs.Common.{◌≡◌, ℕ, ◌+◌, ◌-◌, ◌*◌, ◌<◌, ◌≤◌, ◌^◌, ◌||◌, true, false, List, [], map, length, get_or, take, sum, ℤ, pos, unsigned_abs, FitsSigned, Some, None, nat_lt, sym, ap, subst, ◌∙◌, arith, le_refl, le_trans}
+use Rattle.std.proofs.Common.{◌≡◌, ℕ, ◌+◌, ◌-◌, ◌*◌, ◌<◌, ◌≤◌, ◌^◌, ◌||◌, true, false, List, [], map, length, get_or, take, drop, sum, ℤ, pos, unsigned_abs, FitsSigned, Some, None, nat_lt, sym, ap, subst, ◌∙◌, arith, le_refl, le_trans}
 use Rattle.std.specs.Int.{w64, w128, int_wrap, is_negative}
 use Rattle.std.specs.List.{position_or_len}
 use Rattle.std.proofs.Math.Nat.{mul-le-mul_left}
 use Rattle.std.proofs.lemmas.Nat.{row_fits}
 use Rattle.std.proofs.lemmas.Int.{int_wrap_fits, fits_signed_from_abs}
 use Rattle.std.proofs.lemmas.Bool.{lt-ltb, le-ltb, cond-true, cond-false}
-use Rattle.std.proofs.lemmas.List.{length-map, length-take, length-drop, get_or-map, get_or_append_left, get_or-append_right, get_or-take}
+use Rattle.std.proofs.lemmas.List.{length-map, length-take, length-drop, get_or-map, get_or_append_left, get_or-append_right, get_or-take, get_or-drop}
 use Rattle.std.proofs.lemmas.List.Elements.{All-from_get_or, All-append}
 use Rattle.std.proofs.lemmas.List.Sums.{position_or_len_is}
 use Rattle.std.proofs.lemmas.List.Folds.{list_any-append}
 use Rattle.std.proofs.lemmas.List.FromFn.{length-map-range_with_len, get_or-map-range_with_len}
 use Rattle.frac_rows.specs.Rows.{widest, number, first_negative, is_wide_row, AreNarrow}
-use Rattle.frac_rows.specs.Stored.{dot, reach, extended, piece, pieces, AreColumns}
+use Rattle.frac_rows.specs.Stored.{dot, reach, extended, piece, standing, columns_of, AreColumns}
 use Rattle.frac_rows.proofs.Divided.{narrow_at, narrow_from_false, not_wide, wide_at}
 use Rattle.frac_rows.proofs.SumsOfProducts.{dot_le_reach, reach_limit}
 use Rattle.frac_rows.proofs.Linear.{length-extended}
 
 -- ---- pieces
-
-pub length-pieces : (w n : ℕ) (flat : List ℤ) → length (pieces w n flat) ≡ n
-unfolding pieces
-length-pieces w n flat = length-map-range_with_len (piece w flat) 0 n
-
-pub get_or-pieces : (w n : ℕ) (flat : List ℤ) (i : ℕ) → i < n → get_or (pieces w n flat) i [] ≡ piece w flat i
-unfolding pieces
-get_or-pieces w n flat i low = get_or-map-range_with_len (piece w flat) 0 n i i [] low (omega arith)
 
 -- a piece that is among n of them is within the list
 pub piece_within : (w n i : ℕ) (flat : List ℤ) → length flat ≡ n * w → i < n → i * w + w ≤ length flat
@@ -33,6 +25,29 @@ piece_within w n i flat long low = rw long (row_fits i w n w low (le_refl w))
 
 pub length-piece : (w : ℕ) (flat : List ℤ) (i : ℕ) → i * w + w ≤ length flat → length (piece w flat i) ≡ w
 length-piece w flat i within = simp (length-take, length-drop) (omega arith)
+
+number_of_piece : (w : ℕ) (flat : List ℤ) (i j : ℕ) → j < w → number (piece w flat i) j ≡ number flat (i * w + j)
+number_of_piece w flat i j low = get_or-take w (drop (i * w) flat) j (pos 0) low ∙ get_or-drop (i * w) flat j (pos 0)
+
+-- ---- columns whose numbers stand row by row
+
+pub standing_at : (rows : List ℤ) (variables height j k : ℕ) → k < height → number (standing rows variables height j) k ≡ number (piece variables rows k) j
+standing_at rows variables height j k low = get_or-map-range_with_len (λ k. number (piece variables rows k) j) 0 height k k (pos 0) low (omega arith)
+
+pub length-standing : (rows : List ℤ) (variables height j : ℕ) → length (standing rows variables height j) ≡ height
+length-standing rows variables height j = length-map-range_with_len (λ k. number (piece variables rows k) j) 0 height
+
+pub standing_number : (rows : List ℤ) (variables height j k : ℕ) → k < height → j < variables
+    → number (standing rows variables height j) k ≡ number rows (k * variables + j)
+standing_number rows variables height j k row column = standing_at rows variables height j k row ∙ number_of_piece variables rows k j column
+
+pub length-columns_of : (h n : ℕ) (flat : List ℤ) → length (columns_of h n flat) ≡ n
+unfolding columns_of
+length-columns_of h n flat = length-map-range_with_len (standing flat n h) 0 n
+
+pub get_or-columns_of : (h n : ℕ) (flat : List ℤ) (j : ℕ) → j < n → get_or (columns_of h n flat) j [] ≡ standing flat n h j
+unfolding columns_of
+get_or-columns_of h n flat j low = get_or-map-range_with_len (standing flat n h) 0 n j j [] low (omega arith)
 
 -- ---- numbers of a whole row
 
@@ -47,16 +62,16 @@ pub number_of_kept : (columns : List (List ℤ)) (row : List ℤ) (c : ℕ) → 
 unfolding extended
 number_of_kept columns row c low = get_or-append_right (map (dot row) columns) row (length columns) c (pos 0) (length-map columns (dot row)) low
 
-pub number_of_piece : (w n : ℕ) (flat row : List ℤ) (c : ℕ) → c < n → number (extended (pieces w n flat) row) c ≡ dot row (piece w flat c)
-number_of_piece w n flat row c low =
-    number_of_variable (pieces w n flat) row c (omega (arith, length-pieces w n flat)) ∙ ap (dot row) (get_or-pieces w n flat c low)
+pub number_of_column : (h n : ℕ) (flat row : List ℤ) (c : ℕ) → c < n → number (extended (columns_of h n flat) row) c ≡ dot row (standing flat n h c)
+number_of_column h n flat row c low =
+    number_of_variable (columns_of h n flat) row c (omega (arith, length-columns_of h n flat)) ∙ ap (dot row) (get_or-columns_of h n flat c low)
 
-pub number_behind_pieces : (w n : ℕ) (flat row : List ℤ) (c : ℕ) → n ≤ c → number (extended (pieces w n flat) row) c ≡ number row (c - n)
-number_behind_pieces w n flat row c low =
-    number_of_kept (pieces w n flat) row c (omega (arith, length-pieces w n flat)) ∙ ap (λ m. number row (c - m)) (length-pieces w n flat)
+pub number_behind_columns : (h n : ℕ) (flat row : List ℤ) (c : ℕ) → n ≤ c → number (extended (columns_of h n flat) row) c ≡ number row (c - n)
+number_behind_columns h n flat row c low =
+    number_of_kept (columns_of h n flat) row c (omega (arith, length-columns_of h n flat)) ∙ ap (λ m. number row (c - m)) (length-columns_of h n flat)
 
-pub length-whole : (w n : ℕ) (flat row : List ℤ) → length (extended (pieces w n flat) row) ≡ n + length row
-length-whole w n flat row = length-extended (pieces w n flat) row ∙ ap (λ m. m + length row) (length-pieces w n flat)
+pub length-whole : (h n : ℕ) (flat row : List ℤ) → length (extended (columns_of h n flat) row) ≡ n + length row
+length-whole h n flat row = length-extended (columns_of h n flat) row ∙ ap (λ m. m + length row) (length-columns_of h n flat)
 
 -- ---- what is within the limit fits
 
@@ -64,13 +79,13 @@ pub narrow_fits : (z : ℤ) → unsigned_abs z ≤ widest → FitsSigned w64 z
 narrow_fits z h = fits_signed_from_abs w64 z (omega arith)
 
 -- a number of a narrow row that was summed up in its bits is itself
-pub wrapped_number : (w n : ℕ) (flat row : List ℤ) (c : ℕ) (z : ℤ) → c < n → AreNarrow (extended (pieces w n flat) row)
-    → z ≡ int_wrap w64 (dot row (piece w flat c)) → z ≡ number (extended (pieces w n flat) row) c
-wrapped_number w n flat row c z low narrow is =
-    let whole = number_of_piece w n flat row c low in
-    let small : unsigned_abs (dot row (piece w flat c)) ≤ widest =
-    subst (λ x. unsigned_abs x ≤ widest) whole (narrow_at (extended (pieces w n flat) row) c narrow) in
-    is ∙ int_wrap_fits w64 (dot row (piece w flat c)) (narrow_fits (dot row (piece w flat c)) small) ∙ sym whole
+pub wrapped_number : (h n : ℕ) (flat row : List ℤ) (c : ℕ) (z : ℤ) → c < n → AreNarrow (extended (columns_of h n flat) row)
+    → z ≡ int_wrap w64 (dot row (standing flat n h c)) → z ≡ number (extended (columns_of h n flat) row) c
+wrapped_number h n flat row c z low narrow is =
+    let whole = number_of_column h n flat row c low in
+    let sum = dot row (standing flat n h c) in
+    let small : unsigned_abs sum ≤ widest = subst (λ x. unsigned_abs x ≤ widest) whole (narrow_at (extended (columns_of h n flat) row) c narrow) in
+    is ∙ int_wrap_fits w64 sum (narrow_fits sum small) ∙ sym whole
 
 -- ---- the first number below 0
 
@@ -102,39 +117,40 @@ first_negative_none row none =
 -- ---- whether the numbers of the variables are narrow
 
 variable_size : (height variables j : ℕ) (numbers : List ℤ) (tops : List ℕ) (row : List ℤ) → AreColumns height variables numbers tops → j < variables
-    → unsigned_abs (dot row (piece height numbers j)) ≤ reach row tops
+    → unsigned_abs (dot row (standing numbers variables height j)) ≤ reach row tops
 variable_size height variables j numbers tops row are low =
-    dot_le_reach row (piece height numbers j) tops
-    (length-piece height numbers j (piece_within height variables j numbers are.long low) ∙ sym are.topped.one_top_each) (are.topped.under j low)
+    dot_le_reach row (standing numbers variables height j) tops (length-standing numbers variables height j ∙ sym are.topped.one_top_each)
+    (are.topped.under j low)
 
 -- a sum of products in twice the bits is itself
 pub whole_sum : (height variables j : ℕ) (numbers : List ℤ) (tops : List ℕ) (row : List ℤ) → AreColumns height variables numbers tops → j < variables
-    → AreNarrow row → int_wrap w128 (dot row (piece height numbers j)) ≡ dot row (piece height numbers j)
+    → AreNarrow row → int_wrap w128 (dot row (standing numbers variables height j)) ≡ dot row (standing numbers variables height j)
 whole_sum height variables j numbers tops row are low narrow =
+    let sum_of = dot row (standing numbers variables height j) in
     let size = variable_size height variables j numbers tops row are low in
     let most = reach_limit row tops narrow in
     let product : widest * sum tops ≤ widest * 2 ^ 64 = mul-le-mul_left widest are.topped.room in
-    int_wrap_fits w128 (dot row (piece height numbers j)) (fits_signed_from_abs w128 (dot row (piece height numbers j)) (omega arith))
+    int_wrap_fits w128 sum_of (fits_signed_from_abs w128 sum_of (omega arith))
 
-pub variables_narrow : (w n : ℕ) (flat row : List ℤ) → ((k : ℕ) → k < n → unsigned_abs (dot row (piece w flat k)) ≤ widest)
-    → is_wide_row (map (dot row) (pieces w n flat)) ≡ false
-variables_narrow w n flat row each =
-    not_wide (map (dot row) (pieces w n flat))
-    (All-from_get_or (λ x. unsigned_abs x ≤ widest) (map (dot row) (pieces w n flat)) (pos 0)
+pub variables_narrow : (h n : ℕ) (flat row : List ℤ) → ((k : ℕ) → k < n → unsigned_abs (dot row (standing flat n h k)) ≤ widest)
+    → is_wide_row (map (dot row) (columns_of h n flat)) ≡ false
+variables_narrow h n flat row each =
+    not_wide (map (dot row) (columns_of h n flat))
+    (All-from_get_or (λ x. unsigned_abs x ≤ widest) (map (dot row) (columns_of h n flat)) (pos 0)
     (λ k low.
-    let less : k < n = omega (arith, length-map (pieces w n flat) (dot row), length-pieces w n flat) in
-    let at = get_or-map (dot row) (pieces w n flat) k [] (pos 0) (omega (arith, length-pieces w n flat)) ∙ ap (dot row) (get_or-pieces w n flat k less) in
+    let less : k < n = omega (arith, length-map (columns_of h n flat) (dot row), length-columns_of h n flat) in
+    let at = get_or-map (dot row) (columns_of h n flat) k [] (pos 0) (omega (arith, length-columns_of h n flat)) ∙ ap (dot row) (get_or-columns_of h n flat k less) in
     subst (λ x. unsigned_abs x ≤ widest) (sym at) (each k less)))
 
-pub variables_wide : (w n : ℕ) (flat row : List ℤ) (k : ℕ) → k < n → widest < unsigned_abs (dot row (piece w flat k))
-    → is_wide_row (map (dot row) (pieces w n flat)) ≡ true
-variables_wide w n flat row k low wide =
-    let at = get_or-map (dot row) (pieces w n flat) k [] (pos 0) (omega (arith, length-pieces w n flat)) ∙ ap (dot row) (get_or-pieces w n flat k low) in
-    wide_at (map (dot row) (pieces w n flat)) k (omega (arith, length-map (pieces w n flat) (dot row), length-pieces w n flat))
+pub variables_wide : (h n : ℕ) (flat row : List ℤ) (k : ℕ) → k < n → widest < unsigned_abs (dot row (standing flat n h k))
+    → is_wide_row (map (dot row) (columns_of h n flat)) ≡ true
+variables_wide h n flat row k low wide =
+    let at = get_or-map (dot row) (columns_of h n flat) k [] (pos 0) (omega (arith, length-columns_of h n flat)) ∙ ap (dot row) (get_or-columns_of h n flat k low) in
+    wide_at (map (dot row) (columns_of h n flat)) k (omega (arith, length-map (columns_of h n flat) (dot row), length-columns_of h n flat))
     (subst (λ x. widest < unsigned_abs x) (sym at) wide)
 
 pub variables_within_reach : (height variables : ℕ) (numbers : List ℤ) (tops : List ℕ) (row : List ℤ) → AreColumns height variables numbers tops
-    → reach row tops ≤ widest → is_wide_row (map (dot row) (pieces height variables numbers)) ≡ false
+    → reach row tops ≤ widest → is_wide_row (map (dot row) (columns_of height variables numbers)) ≡ false
 variables_within_reach height variables numbers tops row are most =
     variables_narrow height variables numbers row (λ k low. le_trans (variable_size height variables k numbers tops row are low) most)
 

@@ -4,5 +4,5 @@ pub mod Runs
 pub mod Starts
 pub mod Stored
 pub mod Steps
-pub mod Sketches
+pub mod RoughRows
 pub mod Theorems

@@ -38,6 +38,16 @@ piece w flat i = take w (drop (i * w) flat)
 unfoldable pub pieces : ℕ → ℕ → List ℤ → List (List ℤ)
 pieces w n flat = map (piece w flat) (range_with_len 0 n)
 
+-- ---- columns whose numbers stand row by row
+
+-- the column j of so many columns, whose rows stand one after the other
+abbrev pub standing : List ℤ → ℕ → ℕ → ℕ → List ℤ
+standing rows variables height j = map (λ k. number (piece variables rows k) j) (range_with_len 0 height)
+
+-- all of these columns
+unfoldable pub columns_of : ℕ → ℕ → List ℤ → List (List ℤ)
+columns_of height variables rows = map (standing rows variables height) (range_with_len 0 variables)
+
 -- ---- the columns of the variables
 
 -- the columns of the variables, and how many numbers each of them has: one for each constraint, and the objective row's
@@ -54,17 +64,17 @@ pub record IsMatrix (m : Matrix) : Type 0 where
 abbrev pub IsUnder : List ℤ → List ℕ → Type 0
 IsUnder column tops = (k : ℕ) → k < length tops → unsigned_abs (number column k) ≤ slice_index tops k
 
--- a top for each row, above the numbers of all columns, with a sum that leaves room for sums of products
+-- a top for each row, above its numbers in all columns, with a sum that leaves room for sums of products
 pub record AreTops (height variables : ℕ) (numbers : List ℤ) (tops : List ℕ) : Type 0 where
   pub one_top_each : length tops ≡ height
-  pub under : (j : ℕ) → j < variables → IsUnder (piece height numbers j) tops
+  pub under : (j : ℕ) → j < variables → IsUnder (standing numbers variables height j) tops
   pub room : sum tops ≤ 2 ^ 64
 
--- the columns that stand one after the other, and their tops
+-- the columns whose numbers stand row by row, and their tops
 pub record AreColumns (height variables : ℕ) (numbers : List ℤ) (tops : List ℕ) : Type 0 where
   pub some_row : 1 ≤ height
   pub few : variables + height < 2 ^ 32
-  pub long : length numbers ≡ variables * height
+  pub long : length numbers ≡ height * variables
   pub topped : AreTops height variables numbers tops
 
 -- ---- tables

@@ -3,54 +3,52 @@
 ghost use Rattle.std.specs.Prelude.{◌≡◌, ℕ, ◌+◌, ◌-◌, ◌*◌, ◌^◌, ◌<◌, ◌≤◌, length, map, IfOk};
 ghost use Rattle.std.specs.List.{position};
 ghost use Rattle.frac_rows.specs.Rows.{number, first_negative, is_wide_row, AreNarrow};
-ghost use Rattle.frac_rows.specs.Stored.{dot, extended, piece, pieces, AreColumns, Matrix, IsMatrix};
-ghost use Rattle.frac_rows.specs.Sketches.{AreSketched};
+ghost use Rattle.frac_rows.specs.Stored.{dot, columns_of, extended, Matrix, IsMatrix};
+ghost use Rattle.frac_rows.specs.RoughRows.{AreSummed};
 
-use crate::parts::part;
 use crate::pricing::first_negative_of;
-use crate::products::dot_64;
-use crate::sketches::Sketch;
+use crate::products::sum_64;
 use crate::widths::is_wide_of;
 use std::marker::Model;
 
-/// The columns of the variables, one after the other, and for each row the greatest size of their numbers there.
+/// The numbers of the variables, row by row; for each row the greatest size of its numbers; and how far rough sums are
+/// at most off, if there are such.
 #[derive(Drop)]
 pub(crate) struct Columns {
-    numbers: Vec<i64>,
+    numbers: Vec<i32>,
     tops: Vec<u64>,
-    sketch: Sketch,
+    margin: Option<i32>,
     variables: usize,
     height: usize,
 }
 
 impl Model for Columns {
-    ghost use Rattle.frac_rows.specs.Stored.{Matrix, pieces};
-    ghost use Rattle.frac_rows.specs.Sketches.{AreSketched};
+    ghost use Rattle.frac_rows.specs.Stored.{Matrix, columns_of};
+    ghost use Rattle.frac_rows.specs.RoughRows.{AreSummed};
 
     ghost Value = { Matrix };
 
-    ghost view = { λ s. record { height = s.height; columns = pieces s.height s.variables s.numbers.items } };
+    ghost view = { λ s. record { height = s.height; columns = columns_of s.height s.variables s.numbers.items } };
 
-    ghost invariant = { λ s.
-        AreSketched s.height s.variables s.numbers.items s.tops.items s.sketch.rows.items s.sketch.margin };
+    ghost invariant = { λ s. AreSummed s.height s.variables s.numbers.items s.tops.items s.margin };
 }
 
 impl Columns {
     /// These columns, which are taken as they are.
     pub(crate) fn new(
-        numbers: Vec<i64>,
+        numbers: Vec<i32>,
         tops: Vec<u64>,
-        sketch: Sketch,
+        margin: Option<i32>,
         variables: usize,
         height: usize,
     ) -> Columns
-        requires { AreSketched height variables numbers.items tops.items sketch.rows.items sketch.margin }
-        ensures { result ≡ record { height = height; columns = pieces height variables numbers.items } }
+        requires { AreSummed height variables numbers.items tops.items margin }
+        ensures { result ≡ record { height = height; columns = columns_of height variables numbers.items } }
     {
         Columns {
             numbers,
             tops,
-            sketch,
+            margin,
             variables,
             height,
         }
@@ -86,7 +84,7 @@ impl Columns {
         requires narrow { AreNarrow (extended self.now.columns row.now) }
         ensures { result ≡ first_negative (extended self.now.columns row.now) }
     {
-        first_negative_of(&self.numbers, &self.tops, &self.sketch, self.variables, row)
+        first_negative_of(&self.numbers, &self.tops, self.margin, self.variables, row)
     }
 
     /// Whether a number of the whole row before those that are kept is too great.
@@ -95,21 +93,20 @@ impl Columns {
         requires narrow { AreNarrow row.now }
         ensures { result ≡ is_wide_row (map (dot row.now) self.now.columns) }
     {
-        is_wide_of(&self.numbers, &self.tops, &self.sketch, self.variables, row)
+        is_wide_of(&self.numbers, &self.tops, self.margin, self.variables, row)
     }
 }
 
 /// The number in the column: a sum of products for a variable, and else one of the row's own.
-pub(crate) fn entry_of(numbers: &[i64], variables: usize, row: &[i64], column: usize) -> i64
+pub(crate) fn entry_of(numbers: &[i32], variables: usize, row: &[i64], column: usize) -> i64
     requires some { 1 ≤ length row.now }
-    requires long { length numbers.now ≡ variables * (length row.now - 1) }
-    requires narrow { AreNarrow (extended (pieces (length row.now - 1) variables numbers.now) row.now) }
+    requires long { length numbers.now ≡ (length row.now - 1) * variables }
+    requires narrow { AreNarrow (extended (columns_of (length row.now - 1) variables numbers.now) row.now) }
     requires within { column < variables + length row.now }
-    ensures { result ≡ number (extended (pieces (length row.now - 1) variables numbers.now) row.now) column }
+    ensures { result ≡ number (extended (columns_of (length row.now - 1) variables numbers.now) row.now) column }
 {
-    let height = row.len() - 1;
     if column < variables {
-        return dot_64(row, part(numbers, height, column));
+        return sum_64(numbers, variables, row, column);
     }
     row[column - variables]
 }

@@ -4,11 +4,11 @@ ghost use Rattle.std.specs.Prelude.{◌≡◌, ◌+◌, ◌*◌, ◌^◌, ◌<�
 ghost use Rattle.frac_rows.specs.Rows.{widest, number, row_at, objective, after_pivot, is_wide, entering, IsTable};
 ghost use Rattle.frac_rows.specs.Runs.{step, goes, ends, ended_by, run};
 ghost use Rattle.frac_rows.specs.Starts.{start};
-ghost use Rattle.frac_rows.specs.Stored.{pieces};
+ghost use Rattle.frac_rows.specs.Stored.{columns_of};
 
 use crate::columns::Columns;
 use crate::limits::MOST_PIVOTS;
-use crate::sketches::sketch_of;
+use crate::rough_rows::margin_of;
 use crate::starts::{first_rows, slacks, tops_of};
 use crate::{Ended, Wide, entries, moves};
 use std::alloc::{AllocError, Global};
@@ -36,29 +36,28 @@ impl Model for Rows {
 }
 
 impl Rows {
-    /// The table before the first pivot. The columns of the variables stand one after the other; each has a number for
-    /// each constraint, and last what v loses by the variable.
+    /// The table before the first pivot. The numbers of the variables stand row by row: a row for each constraint, and
+    /// last what v loses by each.
     pub fn start(
         alloc: Global,
-        columns: Vec<i64>,
+        numbers: Vec<i32>,
         variables: usize,
         rights: &[i64],
     ) -> Result<Rows, AllocError>
-        requires long { length columns.items ≡ variables * (length rights.now + 1) }
-        requires columns_limit { All (λ x. unsigned_abs x ≤ 2 ^ 32) columns.items }
+        requires long { length numbers.items ≡ (length rights.now + 1) * variables }
         requires rights_limit { All (λ x. unsigned_abs x ≤ widest) rights.now }
         requires few { variables + length rights.now + 1 < 2 ^ 32 }
-        ensures { IfOk result (λ t. t ≡ start (pieces (length rights.now + 1) variables columns.items) rights.now) }
+        ensures { IfOk result (λ t. t ≡ start (columns_of (length rights.now + 1) variables numbers.items) rights.now) }
     {
         let height = rights.len() + 1;
-        let tops = tops_of(alloc, &columns, variables, height)?;
-        let sketch = sketch_of(alloc, &columns, &tops, variables)?;
-        let numbers = first_rows(alloc, rights)?;
-        let spare = numbers.to_vec(alloc)?;
+        let tops = tops_of(alloc, &numbers, variables, height)?;
+        let margin = margin_of(&tops);
+        let kept = first_rows(alloc, rights)?;
+        let spare = kept.to_vec(alloc)?;
         let basis = slacks(alloc, variables, rights.len())?;
         Ok(Rows {
-            columns: Columns::new(columns, tops, sketch, variables, height),
-            numbers,
+            columns: Columns::new(numbers, tops, margin, variables, height),
+            numbers: kept,
             spare,
             basis,
             denominator: 1,

@@ -15,7 +15,7 @@ mod multipliers;
 mod parts;
 mod pricing;
 mod products;
-mod sketches;
+mod rough_rows;
 mod starts;
 mod steps;
 mod tables;

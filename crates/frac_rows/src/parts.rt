@@ -11,3 +11,13 @@ pub(crate) fn part(flat: &[i64], width: usize, i: usize) -> &[i64]
 {
     &flat[i * width..i * width + width]
 }
+
+/// The row `k` of the numbers of so many variables, which stand row by row.
+#[inline(always)]
+pub(crate) fn row_at(numbers: &[i32], variables: usize, k: usize) -> &[i32]
+    requires { k * variables + variables ≤ length numbers.now }
+    ensures value { result.now ≡ piece variables numbers.now k }
+    ensures long { length result.now ≡ variables }
+{
+    &numbers[k * variables..k * variables + variables]
+}

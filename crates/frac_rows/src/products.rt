@@ -1,18 +1,21 @@
-//! Sums of products of two lists' numbers.
+//! Sums of products of a row's numbers and those of a column.
 
-ghost use Rattle.std.specs.Prelude.{◌≡◌, ◌≤◌, ◌-◌, ◌^◌, ◌*◌, ◌+ℤ◌, ◌*ℤ◌, length, min, unsigned_abs};
+ghost use Rattle.std.specs.Prelude.{◌≡◌, ◌<◌, ◌≤◌, ◌-◌, ◌^◌, ◌*◌, ◌+ℤ◌, ◌*ℤ◌, length, min, unsigned_abs};
 ghost use Rattle.std.specs.Int.{w64, w128, int_wrap};
-ghost use Rattle.frac_rows.specs.Stored.{dot, reach};
+ghost use Rattle.frac_rows.specs.Stored.{reach};
+ghost use Rattle.frac_rows.specs.RoughRows.{number_of};
 
-/// The sum of the products, as far as it fits: of a row and a variable's column it is the row's number for the
-/// variable, which is within the limit.
-pub(crate) fn dot_64(row: &[i64], column: &[i64]) -> i64
-    requires { length column.now ≤ length row.now }
-    ensures { result ≡ int_wrap w64 (dot row.now column.now) }
+/// The row's number for the variable `j`, as far as it fits: the sum of the products of the row and the variable's
+/// column. The numbers of the variables stand row by row.
+pub(crate) fn sum_64(numbers: &[i32], variables: usize, row: &[i64], j: usize) -> i64
+    requires some { 1 ≤ length row.now }
+    requires long { length numbers.now ≡ (length row.now - 1) * variables }
+    requires within { j < variables }
+    ensures { result ≡ int_wrap w64 (number_of variables numbers.now row.now j) }
 {
     let mut sum = 0;
-    for k in 0..column.len() {
-        sum = wrapped_64(sum, row[k], column[k]);
+    for k in 0..row.len() - 1 {
+        sum = wrapped_64(sum, row[k], i64::from(numbers[k * variables + j]));
     }
     sum
 }
@@ -24,13 +27,15 @@ fn wrapped_64(sum: i64, a: i64, b: i64) -> i64
 }
 
 /// The same in twice the bits, for a row that may have a number beyond the limit.
-pub(crate) fn dot_128(row: &[i64], column: &[i64]) -> i128
-    requires { length column.now ≤ length row.now }
-    ensures { result ≡ int_wrap w128 (dot row.now column.now) }
+pub(crate) fn sum_128(numbers: &[i32], variables: usize, row: &[i64], j: usize) -> i128
+    requires some { 1 ≤ length row.now }
+    requires long { length numbers.now ≡ (length row.now - 1) * variables }
+    requires within { j < variables }
+    ensures { result ≡ int_wrap w128 (number_of variables numbers.now row.now j) }
 {
     let mut sum = 0;
-    for k in 0..column.len() {
-        sum = wrapped_128(sum, row[k], column[k]);
+    for k in 0..row.len() - 1 {
+        sum = wrapped_128(sum, row[k], i64::from(numbers[k * variables + j]));
     }
     sum
 }

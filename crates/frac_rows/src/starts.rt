@@ -1,57 +1,47 @@
 //! What is kept of the table before the first pivot.
 
-ghost use Rattle.std.specs.Prelude.{◌≡◌, ℕ, ◌+◌, ◌*◌, ◌^◌, ◌<◌, ◌≤◌, length, slice_index, unsigned_abs, All, IfOk};
+ghost use Rattle.std.specs.Prelude.{◌≡◌, ℕ, ◌+◌, ◌*◌, ◌^◌, ◌<◌, ◌≤◌, length, unsigned_abs, All, IfOk};
 ghost use Rattle.std.specs.List.{range_with_len};
 ghost use Rattle.frac_rows.specs.Rows.{number};
 ghost use Rattle.frac_rows.specs.Starts.{own_numbers};
-ghost use Rattle.frac_rows.specs.Stored.{piece, IsUnder, AreTops, AreFirst};
+ghost use Rattle.frac_rows.specs.Stored.{AreTops, AreFirst};
 
-use crate::parts::part;
+use crate::parts::row_at;
 use std::alloc::{AllocError, Global};
 
-/// For each row the greatest size of its numbers in the columns.
+/// For each row the greatest size of its numbers, where the numbers of the variables stand row by row.
 pub(crate) fn tops_of(
     alloc: Global,
-    columns: &[i64],
+    numbers: &[i32],
     variables: usize,
     height: usize,
 ) -> Result<Vec<u64>, AllocError>
-    requires long { length columns.now ≡ variables * height }
+    requires long { length numbers.now ≡ height * variables }
     requires few { height < 2 ^ 32 }
-    requires limit { All (λ x. unsigned_abs x ≤ 2 ^ 32) columns.now }
-    ensures { IfOk result (λ tops. AreTops height variables columns.now tops.items) }
+    ensures tops { IfOk result (λ tops. AreTops height variables numbers.now tops.items) }
+    ensures limit { IfOk result (λ tops. All (λ t. t ≤ 2 ^ 32) tops.items) }
 {
-    let mut tops = vec![in alloc; 0; height]?;
-    raise_by_all(&mut tops, columns, variables);
+    let mut tops = Vec::with_capacity(alloc, height)?;
+    for k in 0..height {
+        tops.push(top_of(row_at(numbers, variables, k)))?;
+    }
     Ok(tops)
 }
 
-// Raises the tops to the greatest sizes in all columns.
-fn raise_by_all(tops: &mut [u64], columns: &[i64], variables: usize)
-    requires long { length columns.now ≡ variables * length tops.old }
-    requires limit { All (λ x. unsigned_abs x ≤ 2 ^ 32) columns.now }
-    requires low { All (λ t. t ≤ 2 ^ 32) tops.old }
-    ensures under { (j : ℕ) → j < variables → IsUnder (piece (length tops.old) columns.now j) tops.new }
-    ensures limit { All (λ t. t ≤ 2 ^ 32) tops.new }
+// The greatest size of the numbers; 0 where there are none. It is that of the least or the greatest of them, which are
+// found faster than the sizes.
+fn top_of(row: &[i32]) -> u64
+    ensures limit { result ≤ 2 ^ 32 }
+    ensures above { All (λ x. unsigned_abs x ≤ result) row.now }
+    ensures least { (b : ℕ) → All (λ x. unsigned_abs x ≤ b) row.now → result ≤ b }
 {
-    for j in 0..variables {
-        let height = tops.len();
-        raise(tops, part(columns, height, j));
+    let mut low = 0i32;
+    let mut high = 0i32;
+    for x in row {
+        low = low.min(*x);
+        high = high.max(*x);
     }
-}
-
-// Raises each top to the size of the column's number there.
-fn raise(tops: &mut [u64], column: &[i64])
-    requires long { length column.now ≡ length tops.old }
-    requires limit { All (λ x. unsigned_abs x ≤ 2 ^ 32) column.now }
-    requires low { All (λ t. t ≤ 2 ^ 32) tops.old }
-    ensures under { IsUnder column.now tops.new }
-    ensures above { (k : ℕ) → k < length tops.old → slice_index tops.old k ≤ slice_index tops.new k }
-    ensures limit { All (λ t. t ≤ 2 ^ 32) tops.new }
-{
-    for k in 0..tops.len() {
-        tops[k] = tops[k].max(column[k].unsigned_abs());
-    }
+    u64::from(low.unsigned_abs().max(high.unsigned_abs()))
 }
 
 /// The numbers of all rows behind the variables: a unit of the slacks and v, and the right side.

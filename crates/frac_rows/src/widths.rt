@@ -1,63 +1,66 @@
 //! Whether a row has a number for a variable that is too great.
 
-ghost use Rattle.std.specs.Prelude.{◌≡◌, ℕ, ◌+◌, ◌-◌, ◌*◌, ◌^◌, ◌<◌, ◌≤◌, length, map, unsigned_abs, nat_lt, IsTrue, IsFalse};
+ghost use Rattle.std.specs.Prelude.{◌≡◌, ℕ, ◌+◌, ◌-◌, ◌*◌, ◌^◌, ◌<◌, ◌≤◌, length, map, unsigned_abs, nat_lt, IfSome, IsTrue, IsFalse};
 ghost use Rattle.frac_rows.specs.Rows.{widest, number, is_wide_row, AreNarrow};
-ghost use Rattle.frac_rows.specs.Stored.{dot, piece, pieces, reach, AreColumns};
-ghost use Rattle.frac_rows.specs.Sketches.{IsSketch, IsRough, number_of, NoneWide, SomeWide, AreTellingSizes};
+ghost use Rattle.frac_rows.specs.Stored.{columns_of, dot, reach, AreColumns};
+ghost use Rattle.frac_rows.specs.RoughRows.{IsMargin, IsRough, number_of, NoneWide, SomeWide, AreTellingSizes};
 
 use crate::limits::WIDEST;
-use crate::parts::part;
-use crate::products::{dot_128, reach};
-use crate::sketches::{LANES, MOST_ROWS, Sketch, full_sums, greatest_size, rough_sums, roughen};
+use crate::products::{reach, sum_128};
+use crate::rough_rows::{LANES, MOST_ROWS, full_sums, greatest_size, rough_sums, roughen};
 
 /// Whether a number of the whole row before those that are kept is too great.
 ///
 /// Where even the greatest sizes stay within the limit together, no column is looked at.
 pub(crate) fn is_wide_of(
-    numbers: &[i64],
+    numbers: &[i32],
     tops: &[u64],
-    sketch: &Sketch,
+    margin: Option<i32>,
     variables: usize,
     row: &[i64],
 ) -> bool
     requires columns { AreColumns (length row.now - 1) variables numbers.now tops.now }
-    requires sketch { 1 ≤ length sketch.now.rows.items
-        → IsSketch (length row.now - 1) variables numbers.now tops.now sketch.now.rows.items sketch.now.margin }
+    requires margin { IfSome margin (IsMargin (length row.now - 1) tops.now) }
     requires narrow { AreNarrow row.now }
-    ensures { result ≡ is_wide_row (map (dot row.now) (pieces (length row.now - 1) variables numbers.now)) }
+    ensures { result ≡ is_wide_row (map (dot row.now) (columns_of (length row.now - 1) variables numbers.now)) }
 {
     if reach(row, tops) <= u128::from(WIDEST) {
         return false;
     }
-    some_wide(numbers, tops, sketch, variables, row)
+    some_wide(numbers, tops, margin, variables, row)
 }
 
 // The same by looking at the columns.
-fn some_wide(numbers: &[i64], tops: &[u64], sketch: &Sketch, variables: usize, row: &[i64]) -> bool
+fn some_wide(
+    numbers: &[i32],
+    tops: &[u64],
+    margin: Option<i32>,
+    variables: usize,
+    row: &[i64],
+) -> bool
     requires columns { AreColumns (length row.now - 1) variables numbers.now tops.now }
-    requires sketch { 1 ≤ length sketch.now.rows.items
-        → IsSketch (length row.now - 1) variables numbers.now tops.now sketch.now.rows.items sketch.now.margin }
+    requires margin { IfSome margin (IsMargin (length row.now - 1) tops.now) }
     requires narrow { AreNarrow row.now }
-    ensures none { IsFalse result → NoneWide numbers.now row.now 0 variables }
-    ensures some { IsTrue result → SomeWide numbers.now row.now variables }
+    ensures none { IsFalse result → NoneWide variables numbers.now row.now 0 variables }
+    ensures some { IsTrue result → SomeWide variables numbers.now row.now }
 {
-    if sketch.rows.is_empty() {
+    let Some(margin) = margin else {
         return wide_between(numbers, tops, variables, row);
-    }
+    };
     let mut room = [0i32; MOST_ROWS];
     let rough = &mut room[..tops.len()];
     let Some(step) = roughen(row, tops, rough) else {
         return wide_between(numbers, tops, variables, row);
     };
-    wide_by_blocks(numbers, tops, sketch, variables, row, rough, step)
+    wide_by_blocks(numbers, tops, margin, variables, row, rough, step)
 }
 
 // The same by looking at one after the other.
-fn wide_between(numbers: &[i64], tops: &[u64], variables: usize, row: &[i64]) -> bool
+fn wide_between(numbers: &[i32], tops: &[u64], variables: usize, row: &[i64]) -> bool
     requires columns { AreColumns (length row.now - 1) variables numbers.now tops.now }
     requires narrow { AreNarrow row.now }
-    ensures none { IsFalse result → NoneWide numbers.now row.now 0 variables }
-    ensures some { IsTrue result → SomeWide numbers.now row.now variables }
+    ensures none { IsFalse result → NoneWide variables numbers.now row.now 0 variables }
+    ensures some { IsTrue result → SomeWide variables numbers.now row.now }
 {
     for j in 0..variables {
         if is_wide_at(numbers, tops, variables, row, j) {
@@ -68,41 +71,41 @@ fn wide_between(numbers: &[i64], tops: &[u64], variables: usize, row: &[i64]) ->
 }
 
 // Whether the variable's number is too great.
-fn is_wide_at(numbers: &[i64], tops: &[u64], variables: usize, row: &[i64], j: usize) -> bool
+fn is_wide_at(numbers: &[i32], tops: &[u64], variables: usize, row: &[i64], j: usize) -> bool
     requires columns { AreColumns (length row.now - 1) variables numbers.now tops.now }
     requires narrow { AreNarrow row.now }
     requires within { j < variables }
-    ensures { result ≡ nat_lt widest (unsigned_abs (number_of numbers.now row.now j)) }
+    ensures { result ≡ nat_lt widest (unsigned_abs (number_of variables numbers.now row.now j)) }
 {
-    dot_128(row, part(numbers, row.len() - 1, j)).unsigned_abs() > u128::from(WIDEST)
+    sum_128(numbers, variables, row, j).unsigned_abs() > u128::from(WIDEST)
 }
 
 // The same by the rough row, block by block.
 fn wide_by_blocks(
-    numbers: &[i64],
+    numbers: &[i32],
     tops: &[u64],
-    sketch: &Sketch,
+    margin: i32,
     variables: usize,
     row: &[i64],
     rough: &[i32],
     step: u64,
 ) -> bool
     requires columns { AreColumns (length row.now - 1) variables numbers.now tops.now }
-    requires sketch { IsSketch (length row.now - 1) variables numbers.now tops.now sketch.now.rows.items sketch.now.margin }
+    requires margin { IsMargin (length row.now - 1) tops.now margin }
     requires narrow { AreNarrow row.now }
     requires long { length rough.now ≡ length tops.now }
     requires rough { IsRough step row.now rough.now }
     requires reach { reach rough.now tops.now < 2 ^ 31 }
     requires step { 1 ≤ step }
-    ensures none { IsFalse result → NoneWide numbers.now row.now 0 variables }
-    ensures some { IsTrue result → SomeWide numbers.now row.now variables }
+    ensures none { IsFalse result → NoneWide variables numbers.now row.now 0 variables }
+    ensures some { IsTrue result → SomeWide variables numbers.now row.now }
 {
     let most = WIDEST / step;
     for block in 0..variables.div_ceil(LANES) {
         let first = block * LANES;
         let last = variables.min(first + LANES);
         if wide_in_block(
-            numbers, tops, sketch, variables, row, rough, step, most, first, last,
+            numbers, tops, margin, variables, row, rough, step, most, first, last,
         ) {
             return true;
         }
@@ -112,9 +115,9 @@ fn wide_by_blocks(
 
 // Whether one of these variables has a number that is too great, where so many steps are not.
 fn wide_in_block(
-    numbers: &[i64],
+    numbers: &[i32],
     tops: &[u64],
-    sketch: &Sketch,
+    margin: i32,
     variables: usize,
     row: &[i64],
     rough: &[i32],
@@ -124,7 +127,7 @@ fn wide_in_block(
     last: usize,
 ) -> bool
     requires columns { AreColumns (length row.now - 1) variables numbers.now tops.now }
-    requires sketch { IsSketch (length row.now - 1) variables numbers.now tops.now sketch.now.rows.items sketch.now.margin }
+    requires margin { IsMargin (length row.now - 1) tops.now margin }
     requires narrow { AreNarrow row.now }
     requires long { length rough.now ≡ length tops.now }
     requires rough { IsRough step row.now rough.now }
@@ -133,19 +136,19 @@ fn wide_in_block(
     requires first { first ≤ last }
     requires few { last ≤ first + 32 }
     requires last { last ≤ variables }
-    ensures none { IsFalse result → NoneWide numbers.now row.now first last }
-    ensures some { IsTrue result → SomeWide numbers.now row.now variables }
+    ensures none { IsFalse result → NoneWide variables numbers.now row.now first last }
+    ensures some { IsTrue result → SomeWide variables numbers.now row.now }
 {
-    let margin = sketch.margin.unsigned_abs();
+    let margin = margin.unsigned_abs();
     if last - first == LANES {
-        let sums = full_sums(&sketch.rows, variables, first, rough);
+        let sums = full_sums(numbers, variables, first, rough);
         return wide_told(
             numbers, tops, variables, row, margin, most, first, last, &sums,
         );
     }
     let mut room = [0i32; LANES];
     let sums = &mut room[..last - first];
-    rough_sums(&sketch.rows, variables, first, rough, sums);
+    rough_sums(numbers, variables, first, rough, sums);
     wide_told(
         numbers, tops, variables, row, margin, most, first, last, sums,
     )
@@ -153,7 +156,7 @@ fn wide_in_block(
 
 // The same, where sums tell of most that their number is not too great.
 fn wide_told(
-    numbers: &[i64],
+    numbers: &[i32],
     tops: &[u64],
     variables: usize,
     row: &[i64],
@@ -167,9 +170,9 @@ fn wide_told(
     requires narrow { AreNarrow row.now }
     requires one_each { first + length sums.now ≡ last }
     requires last { last ≤ variables }
-    requires telling { AreTellingSizes numbers.now row.now margin most first sums.now }
-    ensures none { IsFalse result → NoneWide numbers.now row.now first last }
-    ensures some { IsTrue result → SomeWide numbers.now row.now variables }
+    requires telling { AreTellingSizes variables numbers.now row.now margin most first sums.now }
+    ensures none { IsFalse result → NoneWide variables numbers.now row.now first last }
+    ensures some { IsTrue result → SomeWide variables numbers.now row.now }
 {
     if is_told(greatest_size(sums), margin, most) {
         return false;
@@ -200,7 +203,7 @@ fn is_told(size: u32, margin: u32, most: u64) -> bool
 
 // Whether the variable's number is too great, which a sum may rule out.
 fn is_wide_by(
-    numbers: &[i64],
+    numbers: &[i32],
     tops: &[u64],
     variables: usize,
     row: &[i64],
@@ -212,8 +215,8 @@ fn is_wide_by(
     requires columns { AreColumns (length row.now - 1) variables numbers.now tops.now }
     requires narrow { AreNarrow row.now }
     requires within { j < variables }
-    requires telling { unsigned_abs sum + margin ≤ most → unsigned_abs (number_of numbers.now row.now j) ≤ widest }
-    ensures { result ≡ nat_lt widest (unsigned_abs (number_of numbers.now row.now j)) }
+    requires telling { unsigned_abs sum + margin ≤ most → unsigned_abs (number_of variables numbers.now row.now j) ≤ widest }
+    ensures { result ≡ nat_lt widest (unsigned_abs (number_of variables numbers.now row.now j)) }
 {
     if is_told(sum.unsigned_abs(), margin, most) {
         return false;

@@ -3,20 +3,18 @@ use frac_rows::{Ended, Rows, WIDEST, Wide};
 use std::alloc::Global;
 use std::test::Fail;
 
-// The rows of these columns and right sides, where they are within the limits.
-fn rows_of(alloc: Global, columns: &[i64], rights: &[i64]) -> Result<Rows, Fail> {
+// The rows of these numbers, which stand row by row, and right sides, where these are within the limit.
+fn rows_of(alloc: Global, numbers: &[i32], rights: &[i64]) -> Result<Rows, Fail> {
     let height = rights.len() + 1;
-    let variables = columns.len() / height;
-    if columns.len() != variables * height || variables + height >= 1 << 32 {
-        return Err(Fail::new("no columns"));
+    let variables = numbers.len() / height;
+    if numbers.len() != height * variables || variables + height >= 1 << 32 {
+        return Err(Fail::new("no rows"));
     }
-    if columns.iter().any(|x| x.unsigned_abs() > 1 << 32)
-        || rights.iter().any(|x| x.unsigned_abs() > WIDEST)
-    {
-        return Err(Fail::new("beyond the limits"));
+    if rights.iter().any(|x| x.unsigned_abs() > WIDEST) {
+        return Err(Fail::new("beyond the limit"));
     }
-    let columns = columns.to_vec(alloc)?;
-    Ok(Rows::start(alloc, columns, variables, rights)?)
+    let numbers = numbers.to_vec(alloc)?;
+    Ok(Rows::start(alloc, numbers, variables, rights)?)
 }
 
 // The number of the row in the column, where there are such.
@@ -67,8 +65,13 @@ fn are(rows: &Rows, numbers: &[i64], basis: &[u32]) -> bool {
 #[test]
 fn two_equal_nodes(rt: HostRuntime) -> Result<(), Fail> {
     // One cut with the total 2328 and no loads; two free candidates with fixed costs 582.
-    let columns = [0, 0, 1, -2328, -1, 0, 0, 1, 0, -1, 0, 1];
-    let mut rows = rows_of(rt.alloc(), &columns, &[582, 582, 1])?;
+    let numbers = [
+        0, -1, 0, //
+        0, 0, -1, //
+        1, 0, 0, //
+        -2328, 1, 1,
+    ];
+    let mut rows = rows_of(rt.alloc(), &numbers, &[582, 582, 1])?;
     assert_eq!(rt; rows.constraints(), 3);
     assert_eq!(rt; rows.columns(), 8);
     assert_eq!(rt; rows.run(), (Ended::Best, 1));
@@ -85,7 +88,7 @@ fn two_equal_nodes(rt: HostRuntime) -> Result<(), Fail> {
 #[test]
 fn one_node(rt: HostRuntime) -> Result<(), Fail> {
     // A cut with the total 0: nothing enters.
-    let mut rows = rows_of(rt.alloc(), &[0, 1, 0, -1, 0, 1], &[2328, 1])?;
+    let mut rows = rows_of(rt.alloc(), &[0, -1, 1, 0, 0, 1], &[2328, 1])?;
     assert_eq!(rt; rows.run(), (Ended::Best, 0));
     let first = [0, -1, 1, 0, 0, 2328, 1, 0, 0, 1, 0, 1, 0, 1, 0, 0, 1, 0];
     assert!(rt; are(&rows, &first, &[2, 3]));
@@ -95,7 +98,7 @@ fn one_node(rt: HostRuntime) -> Result<(), Fail> {
 #[test]
 fn least_column_enters_and_least_ratio_leaves(rt: HostRuntime) -> Result<(), Fail> {
     // The most of 3x + 2y under x + y <= 4, x + 3y <= 6 and x <= 3 is 11.
-    let mut rows = rows_of(rt.alloc(), &[1, 1, 1, -3, 1, 3, 0, -2], &[4, 6, 3])?;
+    let mut rows = rows_of(rt.alloc(), &[1, 1, 1, 3, 1, 0, -3, -2], &[4, 6, 3])?;
     assert_eq!(rt; rows.run(), (Ended::Best, 2));
     let last = [
         0, 1, 1, 0, -1, 0, 1, //
@@ -110,7 +113,7 @@ fn least_column_enters_and_least_ratio_leaves(rt: HostRuntime) -> Result<(), Fai
 #[test]
 fn among_equal_ratios_the_least_basic_column_leaves(rt: HostRuntime) -> Result<(), Fail> {
     // At the second pivot the rows have the ratio 2 both: the second one, of column 0, leaves.
-    let mut rows = rows_of(rt.alloc(), &[0, 1, -1, 1, 1, -2], &[2, 2])?;
+    let mut rows = rows_of(rt.alloc(), &[0, 1, 1, 1, -1, -2], &[2, 2])?;
     assert_eq!(rt; rows.run(), (Ended::Best, 2));
     assert!(rt;
         are(
@@ -194,36 +197,38 @@ fn the_greatest_number(rt: HostRuntime) -> Result<(), Fail> {
     Ok(())
 }
 
-// The columns of a program by which pivots on the least column go a long way, and its right sides.
-fn long_way(alloc: Global, n: u32) -> Result<(Vec<i64>, Vec<i64>), Fail> {
-    let mut columns = Vec::new(alloc);
+// The rows of a program by which pivots on the least column go a long way, and its right sides.
+fn long_way(alloc: Global, n: u32) -> Result<(Vec<i32>, Vec<i64>), Fail> {
+    let mut numbers = Vec::new(alloc);
     let mut rights = Vec::new(alloc);
     let mut right = 1i64;
-    for j in 0..n.min(16) {
+    for i in 0..n.min(16) {
         right = right.wrapping_mul(5);
         rights.push(right)?;
-        for i in 0..n.min(16) {
-            columns.push(if i < j {
+        for j in 0..n.min(16) {
+            numbers.push(if i < j {
                 0
             } else if i == j {
                 1
             } else {
-                2i64 << (i - j)
+                2i32 << (i - j)
             })?;
         }
-        columns.push(-(1i64 << (n.min(16) - 1 - j)))?;
     }
-    Ok((columns, rights))
+    for j in 0..n.min(16) {
+        numbers.push(-(1i32 << (n.min(16) - 1 - j)))?;
+    }
+    Ok((numbers, rights))
 }
 
 #[test]
 fn two_thousand_pivots_at_most(rt: HostRuntime) -> Result<(), Fail> {
-    let (columns, rights) = long_way(rt.alloc(), 15)?;
-    let mut rows = rows_of(rt.alloc(), &columns, &rights)?;
+    let (numbers, rights) = long_way(rt.alloc(), 15)?;
+    let mut rows = rows_of(rt.alloc(), &numbers, &rights)?;
     assert_eq!(rt; rows.run(), (Ended::Best, 1973));
     // One more would take 3193 in all: the second run goes on where the first one stopped.
-    let (columns, rights) = long_way(rt.alloc(), 16)?;
-    let mut rows = rows_of(rt.alloc(), &columns, &rights)?;
+    let (numbers, rights) = long_way(rt.alloc(), 16)?;
+    let mut rows = rows_of(rt.alloc(), &numbers, &rights)?;
     assert_eq!(rt; rows.run(), (Ended::Turns, 2000));
     assert_eq!(rt; rows.run(), (Ended::Best, 1193));
     Ok(())

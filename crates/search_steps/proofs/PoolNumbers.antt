@@ -1,5 +1,5 @@
 -- The numbers that a pool lends are those of its entries' cuts.
-use Rattle.std.proofs.Common.{◌≡◌, ℕ, ◌+◌, ◌<◌, ◌≤◌, ℤ, pos, List, [], ◌∷◌, ◌++◌, length, take, map, get_or, All, refl, sym, ap, ap₂, ◌∙◌, arith}
+use Rattle.std.proofs.Common.{◌≡◌, ℕ, ◌+◌, ◌/◌, ◌^◌, ◌<◌, ◌≤◌, slice_index, ℤ, pos, List, [], ◌∷◌, ◌++◌, length, take, map, get_or, All, refl, sym, ap, ap₂, ◌∙◌, arith}
 use Rattle.std.specs.List.{AllZip}
 use Rattle.std.proofs.lemmas.Int.{ints}
 use Rattle.std.proofs.lemmas.List.{length-map, map-append, take_more}
@@ -17,8 +17,9 @@ use Rattle.hub_model.specs.Amounts.{natural, IsNatural}
 use Rattle.hub_model.proofs.Signs.{natural-pos, pos_least}
 use Rattle.leaf_bound.specs.Numbers.{naturals, IsCost}
 use Rattle.leaf_bound.specs.Theorems.{AreLoadsOf}
-use Rattle.frac_master.specs.Masters.{AreWithinTotals}
+use Rattle.frac_master.specs.Masters.{AreShortRows, AreWithinTotals, halved}
 use Rattle.cut_pool.specs.Entries.{Entry}
+use Rattle.cut_pool.specs.Shorts.{Shorts, AreShortLoads}
 use Rattle.search_steps.specs.Pools.{entry_cut, IsSumsOf, IsPoolOf, pool_cuts}
 use Rattle.search_steps.specs.Advising.{node_loads}
 use Rattle.search_steps.specs.Weights.{AreFixedCosts}
@@ -29,6 +30,21 @@ lent_totals entries = map (λ (e : Entry). pos e.total) entries
 
 abbrev pub lent_loads : List Entry → List (List ℤ)
 lent_loads entries = map (λ (e : Entry). map pos e.loads) entries
+
+rows_lent : (h k : ℕ) (entries : List Entry)
+    → map (λ (e : Entry). slice_index e.loads k / 2 ^ h) entries ≡ map (λ load. halved h (slice_index (map natural load) k)) (lent_loads entries)
+rows_lent h k [] = refl
+rows_lent h k (e ∷ entries) =
+    ap₂ (λ x xs. x ∷ xs) (ap (λ (loads : List ℕ). slice_index loads k / 2 ^ h) (sym (natural-pos e.loads))) (rows_lent h k entries)
+
+-- the short loads that a pool lends are short rows of the loads that it lends
+pub short_lent : (entries : List Entry) (s : Shorts) (h : ℕ) (rows : List (List ℕ)) → AreShortLoads entries s → rows ≡ s.rows → h ≡ s.halvings
+    → AreShortRows h rows (lent_loads entries)
+short_lent entries s h rows are same_rows same = record {
+  row = λ k low.
+      ap (λ (r : List (List ℕ)). get_or r k []) same_rows ∙ are.row k (omega (arith, low, ap length same_rows))
+      ∙ ap (λ (n : ℕ). map (λ (e : Entry). slice_index e.loads k / 2 ^ n) entries) (sym same) ∙ rows_lent h k entries;
+}
 
 -- ---- limits
 

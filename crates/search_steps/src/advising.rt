@@ -1,14 +1,15 @@
 //! What the master of a node's branch advises.
 
-ghost use Rattle.std.specs.Prelude.{◌≡◌, length, IfOk};
+ghost use Rattle.std.specs.Prelude.{◌≡◌, length, map, pos, IfOk, IfSome};
 ghost use Rattle.hub_spec.specs.Trees.{IsBranch};
 ghost use Rattle.frac_master.specs.Advice.{advice_of_code};
+ghost use Rattle.frac_master.specs.Masters.{AreShortRows};
 ghost use Rattle.search_steps.specs.Pools.{IsPoolOf, InEachState};
 ghost use Rattle.search_steps.specs.Advising.{told_by, master_advising};
 ghost use Rattle.search_steps.specs.Weights.{AreFixedCosts, AreNodeWeights};
 
 use cut_pool::Pool;
-use frac_master::{Advice, advise_by_totals};
+use frac_master::{Advice, ShortRows, advise_by_totals};
 use hub_model::{Branch, Instance};
 use std::alloc::{AllocError, Global};
 
@@ -43,5 +44,23 @@ pub fn node_advice(
     ensures weights { IfOk result (λ a. AreNodeWeights (length pool.now.entries) a.weights.items) }
     ensures point { IfOk result (λ a. length a.point.items ≡ instance.now.size) }
 {
-    advise_by_totals(alloc, pool.totals(), pool.loads(), fixed, branch)
+    advise_by_totals(
+        alloc,
+        pool.totals(),
+        pool.loads(),
+        short_rows(pool),
+        fixed,
+        branch,
+    )
+}
+
+// The short loads of the pool, if it keeps them.
+fn short_rows(pool: &Pool) -> Option<ShortRows<'_>>
+    ensures { IfSome result (λ s. AreShortRows s.halvings (map (λ v. v.items) s.rows.now) (map (λ e. map pos e.loads) pool.now.entries)) }
+{
+    let short = pool.short_loads()?;
+    Some(ShortRows {
+        rows: short.rows(),
+        halvings: short.halvings(),
+    })
 }

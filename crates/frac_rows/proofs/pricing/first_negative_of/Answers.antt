@@ -3,13 +3,13 @@ use Rattle.std.specs.Int.{w64, is_negative}
 use borrow.Author.Count.{below_more}
 use Rattle.std.proofs.lemmas.Int.{to_z-of_z}
 use Rattle.frac_rows.specs.Rows.{number}
-use Rattle.frac_rows.specs.Stored.{extended, pieces}
-use Rattle.frac_rows.proofs.WholeRows.{length-whole, number_of_piece, first_negative_is, first_negative_none}
+use Rattle.frac_rows.specs.Stored.{columns_of, extended}
+use Rattle.frac_rows.proofs.WholeRows.{length-whole, number_of_column, first_negative_is, first_negative_none}
 use Rattle.frac_rows.proofs.pricing.first_negative_of.Goals as goal
 use Rattle.frac_rows.proofs.pricing.first_negative_of.Goals.{After-entry_of}
 
 whole : After-entry_of → List ℤ
-whole c = extended (pieces (length c.args.row.now - 1) c.args.variables c.args.numbers.now) c.args.row.now
+whole c = extended (columns_of (length c.args.row.now - 1) c.args.variables c.args.numbers.now) c.args.row.now
 
 -- what the test of this turn tells of the number
 tested : (c : After-entry_of) (b : Bool) → is_negative (to_z w64 (of_z w64 c.entry_of.result)) ≡ b → is_negative (number (whole c) c.loop-j.j) ≡ b
@@ -34,7 +34,7 @@ loop-j-preserved c =
 
 pub returns : goal.returns
 returns c =
-    let row = extended (pieces (length c.args.row.now - 1) c.args.variables c.args.numbers.now) c.args.row.now in
+    let row = extended (columns_of (length c.args.row.now - 1) c.args.variables c.args.numbers.now) c.args.row.now in
     sym (first_negative_none row
     (λ k low.
     c.loop-j.invariant k
@@ -43,16 +43,16 @@ returns c =
 pub returns-in-Some : goal.returns-in-Some
 returns-in-Some c =
     let h = length c.args.row.now - 1 in
-    let row = extended (pieces h c.args.variables c.args.numbers.now) c.args.row.now in
+    let row = extended (columns_of h c.args.variables c.args.numbers.now) c.args.row.now in
     let found = c.in-Some.ensures.some in
     sym (first_negative_is row c.in-Some.j
     (omega (arith, length-whole h c.args.variables c.args.numbers.now c.args.row.now, found.within, c.requires.some))
     (λ k low.
-    ap is_negative (number_of_piece h c.args.variables c.args.numbers.now c.args.row.now k (omega (arith, low, found.within)))
+    ap is_negative (number_of_column h c.args.variables c.args.numbers.now c.args.row.now k (omega (arith, low, found.within)))
     ∙ found.before.each k (omega arith) low)
-    (ap is_negative (number_of_piece h c.args.variables c.args.numbers.now c.args.row.now c.in-Some.j found.within) ∙ found.here))
+    (ap is_negative (number_of_column h c.args.variables c.args.numbers.now c.args.row.now c.in-Some.j found.within) ∙ found.here))
 
 pub loop-j-init : goal.loop-j-init
 loop-j-init c = λ k low.
-    ap is_negative (number_of_piece (length c.args.row.now - 1) c.args.variables c.args.numbers.now c.args.row.now k low)
+    ap is_negative (number_of_column (length c.args.row.now - 1) c.args.variables c.args.numbers.now c.args.row.now k low)
     ∙ (c.in_default.ensures.none refl).each k (omega arith) low

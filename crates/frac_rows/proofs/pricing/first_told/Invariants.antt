@@ -1,5 +1,5 @@
-use Rattle.frac_rows.specs.Sketches.{NoneBelow}
+use Rattle.frac_rows.specs.RoughRows.{NoneBelow}
 use Rattle.frac_rows.proofs.pricing.first_told.Given as goal
 
 abbrev pub invariant-loop-j : goal.invariant-loop-j
-invariant-loop-j l = NoneBelow l.numbers l.row l.first l.j
+invariant-loop-j l = NoneBelow l.variables l.numbers l.row l.first l.j

@@ -1,17 +1,16 @@
 use Rattle.std.proofs.Common.{◌≡◌, ◌∙◌, ◌-◌, length, nat_lt, unsigned_abs, FitsSigned, ap, ap₂, rules}
-use Rattle.std.specs.Int.{w128, int_wrap}
+use Rattle.std.specs.Int.{w128}
 use Rattle.std.proofs.lemmas.Int.{to_z-of_z}
-use Rattle.frac_rows.specs.Stored.{dot}
-use Rattle.frac_rows.specs.Sketches.{number_of}
+use Rattle.frac_rows.specs.RoughRows.{number_of}
 use Rattle.frac_rows.proofs.WholeRows.{whole_sum}
 use Rattle.frac_rows.proofs.widths.is_wide_at.Goals as goal
 
 pub returns : goal.returns
 returns c =
-    let fits : FitsSigned w128 c.dot_128.result = search rules in
-    let is : c.unsigned_abs.result ≡ unsigned_abs c.dot_128.result = simp to_z-of_z at c.unsigned_abs.ensures.value in
-    let size : c.unsigned_abs.result ≡ unsigned_abs (number_of c.args.numbers.now c.args.row.now c.args.j) =
-    is ∙ ap unsigned_abs (c.dot_128.ensures ∙ ap (λ p. int_wrap w128 (dot c.args.row.now p)) c.part.ensures.value
+    let fits : FitsSigned w128 c.sum_128.result = search rules in
+    let is : c.unsigned_abs.result ≡ unsigned_abs c.sum_128.result = simp to_z-of_z at c.unsigned_abs.ensures.value in
+    let size : c.unsigned_abs.result ≡ unsigned_abs (number_of c.args.variables c.args.numbers.now c.args.row.now c.args.j) =
+    is ∙ ap unsigned_abs (c.sum_128.ensures
     ∙ whole_sum (length c.args.row.now - 1) c.args.variables c.args.j c.args.numbers.now c.args.tops.now c.args.row.now c.requires.columns
     c.requires.within c.requires.narrow) in
     ap₂ nat_lt c.from.ensures size

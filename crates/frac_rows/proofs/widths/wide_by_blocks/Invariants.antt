@@ -1,6 +1,6 @@
 use Rattle.std.proofs.Common.{◌*◌, min}
-use Rattle.frac_rows.specs.Sketches.{NoneWide}
+use Rattle.frac_rows.specs.RoughRows.{NoneWide}
 use Rattle.frac_rows.proofs.widths.wide_by_blocks.Given as goal
 
 abbrev pub invariant-loop-block : goal.invariant-loop-block
-invariant-loop-block l = NoneWide l.numbers l.row 0 (min l.variables (l.block * 32))
+invariant-loop-block l = NoneWide l.variables l.numbers l.row 0 (min l.variables (l.block * 32))

@@ -33,6 +33,9 @@ advise_by_totals-requires-clause-within c =
     within_totals c.args.instance.now c.args.pool.now.entries c.totals.result.now (map (λ (v : Vec ℤ Global). v.items) c.loads.result.now)
     c.args.fixed.now (lent (goal.at.advise_by_totals-requires-clause-within c).After-loads)
 
+pub advise_by_totals-requires-clause-short : goal.advise_by_totals-requires-clause-short
+advise_by_totals-requires-clause-short c = rw c.loads.ensures c.short_rows.ensures
+
 pub returns-clause-advice : goal.returns-clause-advice
 returns-clause-advice c =
     let numbers = master_of c.totals.result.now (map (λ (v : Vec ℤ Global). v.items) c.loads.result.now) c.args.fixed.now in

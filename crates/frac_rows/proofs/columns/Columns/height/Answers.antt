@@ -1,5 +1,5 @@
 use Rattle.std.proofs.Common.{arith}
-use Rattle.frac_rows.proofs.WholeRows.{length-pieces}
+use Rattle.frac_rows.proofs.WholeRows.{length-columns_of}
 use Rattle.frac_rows.proofs.columns.Columns.height.Goals as goal
 
 pub returns-clause-limits : goal.returns-clause-limits
@@ -7,5 +7,5 @@ returns-clause-limits c =
     rw (← c.self.view_is)
     (record {
       some_row = c.self.invariant.columns.some_row;
-      few = omega (arith, length-pieces c.self.inside.height c.self.inside.variables c.self.inside.numbers.items, c.self.invariant.columns.few);
+      few = omega (arith, length-columns_of c.self.inside.height c.self.inside.variables c.self.inside.numbers.items, c.self.invariant.columns.few);
     })

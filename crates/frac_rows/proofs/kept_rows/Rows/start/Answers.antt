@@ -7,12 +7,13 @@ pub invariant_of-result : goal.invariant_of-result
 invariant_of-result c = record {
   stored =
       rw (c.new.ensures, c.in_ok-basis.ensures)
-      (stored_first c.args.rights.now c.args.columns.items c.in_ok-numbers.numbers.items c.args.variables c.requires.long c.requires.columns_limit
-      c.requires.rights_limit c.in_ok-numbers.ensures.long c.in_ok-numbers.ensures.rows);
-  room = omega (arith, c.in_ok-spare.ensures.len, c.in_ok-spare.spare.ok.0, c.deref-2.ensures.len, c.in_ok-numbers.numbers.ok.0);
+      (stored_first c.args.rights.now c.args.numbers.items c.in_ok-kept.kept.items c.args.variables c.in_ok-tops.tops.items
+      (rw c.deref.ensures.value at c.in_ok-tops.ensures.tops) c.in_ok-tops.ensures.limit
+      c.requires.rights_limit c.in_ok-kept.ensures.long c.in_ok-kept.ensures.rows);
+  room = omega (arith, c.in_ok-spare.ensures.len, c.in_ok-spare.spare.ok.0, c.deref-2.ensures.len, c.in_ok-kept.kept.ok.0);
 }
 
 pub returns : goal.returns
 returns c =
-    ap₂ (λ m b. table_of m c.in_ok-numbers.numbers.items b) c.new.ensures c.in_ok-basis.ensures
-    ∙ start_is c.args.rights.now c.args.columns.items c.in_ok-numbers.numbers.items c.args.variables c.requires.long c.in_ok-numbers.ensures.rows
+    ap₂ (λ m b. table_of m c.in_ok-kept.kept.items b) c.new.ensures c.in_ok-basis.ensures
+    ∙ start_is c.args.rights.now c.args.numbers.items c.in_ok-kept.kept.items c.args.variables c.in_ok-kept.ensures.rows

@@ -1,6 +1,0 @@
-use Rattle.std.proofs.Common.{ℕ, ◌<◌, ◌≤ℤ◌}
-use Rattle.frac_rows.specs.Rows.{number}
-use Rattle.frac_rows.proofs.sketches.least.Given as goal
-
-abbrev pub invariant-loop-sum : goal.invariant-loop-sum
-invariant-loop-sum l = (k : ℕ) → k < l.sum-index → l.least ≤ℤ number l.sums k

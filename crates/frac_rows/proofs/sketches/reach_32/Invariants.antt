@@ -1,6 +1,0 @@
-use Rattle.std.proofs.Common.{◌≡◌, ◌-◌, ◌^◌, min, take}
-use Rattle.frac_rows.specs.Stored.{reach}
-use Rattle.frac_rows.proofs.sketches.reach_32.Given as goal
-
-abbrev pub invariant-loop-k : goal.invariant-loop-k
-invariant-loop-k l = l.sum ≡ min (2 ^ 128 - 1) (reach (take l.k l.rough) (take l.k l.tops))
