@@ -1,5 +1,5 @@
 -- A row that is written number by number: divided by a number, or reduced.
-use Rattle.std.proofs.Common.{◌≡◌, ℕ, zero, suc, ◌+◌, ◌<◌, ◌≤◌, true, false, List, [], ◌∷◌, length, set, drop, nat_lt, ℤ, pos, ◌-ℤ◌, ◌*ℤ◌, unsigned_abs, sym, ap, ap₂, subst, ◌∙◌, arith}
+use Rattle.std.proofs.Common.{◌≡◌, ℕ, zero, suc, ◌+◌, ◌<◌, ◌≤◌, true, false, List, [], ◌∷◌, length, set, drop, max, nat_lt, ℤ, pos, ◌-ℤ◌, ◌*ℤ◌, unsigned_abs, sym, ap, ap₂, subst, ◌∙◌, arith}
 use borrow.Author.Count.{below_more}
 use Rattle.std.proofs.Math.Nat.{le_of_dvd}
 use Rattle.std.proofs.lemmas.Nat.Gcd.{dvd-zero}
@@ -52,6 +52,17 @@ divides_more d p row e base new i q low before whole narrow =
     let same : number (set new i q) k ≡ number new k = get_or-set_other new i k q (pos 0) (omega arith) in
     record { whole = rw same (before k l).whole; narrow = rw same (before k l).narrow })
     (record { whole = rw here whole; narrow = rw here narrow })
+
+-- no size of the first numbers is above the most so far, nor above the greatest of that and the next number's size
+pub sizes_more : (new : List ℤ) (i : ℕ) (q : ℤ) (most : ℕ) → i < length new → ((k : ℕ) → k < i → unsigned_abs (number new k) ≤ most)
+    → (k : ℕ) → k < i + 1 → unsigned_abs (number (set new i q) k) ≤ max most (unsigned_abs q)
+sizes_more new i q most low before =
+    let here : number (set new i q) i ≡ q = get_or-set_same new i q (pos 0) low in
+    below_more (λ k. unsigned_abs (number (set new i q) k) ≤ max most (unsigned_abs q)) i
+    (λ k l.
+    let same : number (set new i q) k ≡ number new k = get_or-set_other new i k q (pos 0) (omega arith) in
+    rw same (omega (arith, before k l)))
+    (rw here (omega arith))
 
 pub divided_all : (d : ℕ) (p : ℤ) (row : List ℤ) (e : ℤ) (base new : List ℤ) → length base ≡ length row → length new ≡ length row
     → ((k : ℕ) → k < length row → DividesAt d p row e base new k)

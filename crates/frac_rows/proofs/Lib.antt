@@ -7,6 +7,7 @@ pub mod Divided
 pub mod SumsOfProducts
 pub mod WholeRows
 pub mod RoughRows
+pub mod OddGcds
 pub mod Pieces
 pub mod Ratios
 pub mod Pivots

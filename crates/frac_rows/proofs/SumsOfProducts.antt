@@ -1,9 +1,10 @@
 -- Sums of products, number by number, and what they are at most in size.
-use Rattle.std.proofs.Common.{◌≡◌, ℕ, zero, suc, ◌+◌, ◌*◌, ◌<◌, ◌≤◌, List, [], ◌∷◌, length, get_or, take, sum, ℤ, pos, ◌+ℤ◌, ◌*ℤ◌, unsigned_abs, refl, sym, ap, ◌∙◌, arith, add-one}
+use Rattle.std.proofs.Common.{◌≡◌, ℕ, zero, suc, ◌+◌, ◌*◌, ◌<◌, ◌≤◌, List, [], ◌∷◌, length, get_or, take, sum, All, ℤ, pos, ◌+ℤ◌, ◌*ℤ◌, unsigned_abs, refl, sym, ap, ◌∙◌, arith, add-one}
 use Rattle.std.specs.Int.{Width, int_wrap}
 use Rattle.std.proofs.Math.Nat.{mul-le-mul_right, mul-le-mul}
 use Rattle.std.proofs.lemmas.Int.{ints, unsigned_abs-mul, int_wrap-add_left}
 use Rattle.std.proofs.lemmas.List.{take_all}
+use Rattle.std.proofs.lemmas.List.Elements.{All-head, All-tail}
 use Rattle.std.proofs.lemmas.List.Sums.{sum_by-cons}
 use Rattle.frac_rows.specs.Rows.{widest, number, AreNarrow}
 use Rattle.frac_rows.specs.Stored.{dot, reach, IsUnder}
@@ -82,3 +83,12 @@ reach_limit (x ∷ row) (t ∷ tops) narrow =
     let first : unsigned_abs x * t ≤ widest * t = mul-le-mul_right t (narrow 0 (pos 0) (omega arith)) in
     let rest = reach_limit row tops (λ k d low. narrow (suc k) d (omega arith)) in
     omega (arith, first, rest, sum_by-cons (λ n. n) t tops)
+
+-- where no number of the row is above `most` in size
+pub reach_sizes : (row : List ℤ) (tops : List ℕ) (most : ℕ) → All (λ x. unsigned_abs x ≤ most) row → reach row tops ≤ most * sum tops
+reach_sizes [] tops most sizes = omega arith
+reach_sizes (x ∷ row) [] most sizes = omega arith
+reach_sizes (x ∷ row) (t ∷ tops) most sizes =
+    let rest = reach_sizes row tops most (All-tail (λ y. unsigned_abs y ≤ most) x row sizes) in
+    let first : unsigned_abs x * t ≤ most * t = mul-le-mul_right t (All-head (λ y. unsigned_abs y ≤ most) x row sizes) in
+    omega (arith, rest, first, ap (λ n. most * n) (sum_by-cons (λ n. n) t tops))

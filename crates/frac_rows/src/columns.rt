@@ -1,13 +1,14 @@
 //! The columns of the variables, from which a whole row follows.
 
-ghost use Rattle.std.specs.Prelude.{◌≡◌, ℕ, ◌+◌, ◌-◌, ◌*◌, ◌^◌, ◌<◌, ◌≤◌, length, map, IfOk};
+ghost use Rattle.std.specs.Prelude.{◌≡◌, ℕ, ◌+◌, ◌-◌, ◌*◌, ◌^◌, ◌<◌, ◌≤◌, false, length, List, map, ℤ, unsigned_abs, All, IsTrue, IfOk};
 ghost use Rattle.std.specs.List.{position};
 ghost use Rattle.frac_rows.specs.Rows.{number, first_negative, is_wide_row, AreNarrow};
 ghost use Rattle.frac_rows.specs.Stored.{dot, columns_of, extended, Matrix, IsMatrix};
 ghost use Rattle.frac_rows.specs.RoughRows.{AreSummed};
 
+use crate::limits::WIDEST;
 use crate::pricing::first_negative_of;
-use crate::products::sum_64;
+use crate::products::{size_product, sum_64};
 use crate::widths::is_wide_of;
 use std::marker::Model;
 
@@ -85,6 +86,18 @@ impl Columns {
         ensures { result ≡ first_negative (extended self.now.columns row.now) }
     {
         first_negative_of(&self.numbers, &self.tops, self.margin, self.variables, row)
+    }
+
+    /// Tells that no number of a whole row before those that are kept is too great, if no size of these is above this
+    /// one. Where it is not told, it may be so too.
+    pub(crate) fn stays_within(&self, most: u64) -> bool
+        ensures { IsTrue result → (row : List ℤ) → All (λ x. unsigned_abs x ≤ most) row
+            → is_wide_row (map (dot row) self.now.columns) ≡ false }
+    {
+        let Some(margin) = self.margin else {
+            return false;
+        };
+        size_product(i64::from(margin), most) <= u128::from(WIDEST)
     }
 
     /// Whether a number of the whole row before those that are kept is too great.

@@ -1,6 +1,7 @@
 //! Greatest common divisors, and exact division by a number that is known beforehand.
 
-ghost use Rattle.std.specs.Prelude.{◌≡◌, ◌*ℤ◌, ◌<◌, ◌≤◌, pos, unsigned_abs, IfSome};
+ghost use Rattle.std.specs.Prelude.{◌≡◌, ◌*◌, ◌%◌, ◌^◌, ◌*ℤ◌, ◌<◌, ◌≤◌, pos, unsigned_abs, IfSome};
+ghost use Rattle.std.specs.Int.{w64, w128, trailing_zeros};
 ghost use Rattle.frac_rows.specs.Divisors.{gcd};
 ghost use Rattle.frac_rows.specs.Rows.{widest};
 
@@ -8,28 +9,86 @@ use crate::limits::WIDEST;
 use crate::multipliers::product;
 
 /// The greatest common divisor of two numbers.
+///
+/// What is left of them without their factors of 2 is odd, and the difference of two odd numbers is even: so the lesser
+/// is taken from the greater, and halved as often as that goes, until nothing is left. No step is a division.
 pub(crate) fn gcd_64(a: u64, b: u64) -> u64
+    ensures { result ≡ gcd a b }
+{
+    if a == 0 {
+        return b;
+    }
+    if b == 0 {
+        return a;
+    }
+    let twos = a.trailing_zeros().min(b.trailing_zeros());
+    odd_gcd_64(odd_part_64(a), b) << twos
+}
+
+// What is left of the number without its factors of 2.
+fn odd_part_64(n: u64) -> u64
+    requires { 1 ≤ n }
+    ensures odd { result % 2 ≡ 1 }
+    ensures part { result * 2 ^ trailing_zeros w64 n ≡ n }
+{
+    n >> n.trailing_zeros()
+}
+
+// The greatest common divisor of an odd number and another one.
+fn odd_gcd_64(a: u64, b: u64) -> u64
+    requires { a % 2 ≡ 1 }
     ensures { result ≡ gcd a b }
 {
     let mut x = a;
     let mut y = b;
     while y > 0 {
-        (x, y) = (y, x % y);
+        let odd = odd_part_64(y);
+        y = x.abs_diff(odd);
+        x = x.min(odd);
     }
     x
 }
 
-/// The greatest common divisor of two numbers, of which mostly one is small or becomes so at once.
+/// The greatest common divisor of two numbers, of which mostly the second one is small.
 pub(crate) fn gcd_128(a: u128, b: u128) -> u128
+    ensures { result ≡ gcd a b }
+{
+    if a == 0 {
+        return b;
+    }
+    if b == 0 {
+        return a;
+    }
+    if let Ok(small) = u64::try_from(b) {
+        return u128::from(gcd_64(small, (a % b) as u64));
+    }
+    let twos = a.trailing_zeros().min(b.trailing_zeros());
+    odd_gcd_128(odd_part_128(a), b) << twos
+}
+
+// What is left of the number without its factors of 2.
+fn odd_part_128(n: u128) -> u128
+    requires { 1 ≤ n }
+    ensures odd { result % 2 ≡ 1 }
+    ensures part { result * 2 ^ trailing_zeros w128 n ≡ n }
+{
+    n >> n.trailing_zeros()
+}
+
+// The greatest common divisor of an odd number and another one.
+fn odd_gcd_128(a: u128, b: u128) -> u128
+    requires { a % 2 ≡ 1 }
     ensures { result ≡ gcd a b }
 {
     let mut x = a;
     let mut y = b;
     while y > 0 {
         if let (Ok(x), Ok(y)) = (u64::try_from(x), u64::try_from(y)) {
-            return u128::from(gcd_64(x, y));
+            return u128::from(odd_gcd_64(x, y));
         }
-        (x, y) = (y, x % y);
+        let odd = odd_part_128(y);
+        y = x.abs_diff(odd);
+        x = x.min(odd);
     }
     x
 }

@@ -73,8 +73,11 @@ fn follow_by(
     let Some(by) = by else {
         return false;
     };
-    if !divide_by(by, turn, row, base, out) {
+    let Some(most) = divide_by(by, turn, row, base, out) else {
         return false;
+    };
+    if columns.stays_within(most) {
+        return true;
     }
     !columns.is_wide(out)
 }

@@ -1,6 +1,6 @@
 //! What a pivot makes of one row, divided by a number that is known beforehand or by the greatest common divisor.
 
-ghost use Rattle.std.specs.Prelude.{◌≡◌, ◌≤◌, ◌^◌, ◌*ℤ◌, ◌-ℤ◌, length, pos, not, unsigned_abs, IsTrue, IfSome};
+ghost use Rattle.std.specs.Prelude.{◌≡◌, ◌≤◌, ◌^◌, ◌*ℤ◌, ◌-ℤ◌, length, pos, not, unsigned_abs, All, IsTrue, OnSome, IfSome};
 ghost use Rattle.frac_rows.specs.Divisors.{gcd, divisor_of, quotient, reduced};
 ghost use Rattle.frac_rows.specs.Rows.{widest, eliminated, is_wide_row, AreNarrow};
 ghost use Rattle.frac_rows.specs.Steps.{IsDivided};
@@ -9,38 +9,40 @@ use crate::divisors::{Divisor, gcd_128};
 use crate::limits::WIDEST;
 use crate::multipliers::Multipliers;
 
-/// Writes what the row becomes, divided by a number that may divide it, and tells whether it does so and all quotients
-/// are within the limit.
+/// Writes what the row becomes, divided by a number that may divide it, and gives the greatest size of the quotients,
+/// unless it does not divide all of it or a quotient is beyond the limit.
 pub(crate) fn divide_by(
     by: &Divisor,
     turn: Multipliers,
     row: &[i64],
     base: &[i64],
     out: &mut [i64],
-) -> bool
+) -> Option<u64>
     requires as_long { length base.now ≡ length row.now }
     requires room { length out.old ≡ length row.now }
     requires narrow { AreNarrow row.now }
     requires narrow_base { AreNarrow base.now }
-    ensures { IsTrue result → IsDivided by.now.number (eliminated turn.own row.now turn.base base.now) out.new }
+    ensures divided { OnSome result (IsDivided by.now.number (eliminated turn.own row.now turn.base base.now) out.new) }
+    ensures size { IfSome result (λ most. All (λ x. unsigned_abs x ≤ most) out.new) }
 {
+    let mut most = 0u64;
     for k in 0..row.len() {
-        let Some(quotient) = exact_quotient(by, turn, row[k], base[k]) else {
-            return false;
-        };
+        let quotient = exact_quotient(by, turn, row[k], base[k])?;
+        most = most.max(quotient.unsigned_abs());
         out[k] = quotient;
     }
-    true
+    Some(most)
 }
 
-// The number that gives what `x` becomes times the divisor. Most numbers of large tables are 0 and stay so.
+// The number that gives what `x` becomes times the divisor. Most numbers of large tables are 0 where those of the base
+// row are 0 too, and stay so.
 fn exact_quotient(by: &Divisor, turn: Multipliers, x: i64, y: i64) -> Option<i64>
     requires x_limit { unsigned_abs x ≤ widest }
     requires y_limit { unsigned_abs y ≤ widest }
     ensures value { IfSome result (λ q. pos by.now.number *ℤ q ≡ turn.own *ℤ x -ℤ turn.base *ℤ y) }
     ensures size { IfSome result (λ q. unsigned_abs q ≤ widest) }
 {
-    if x == 0 && (y == 0 || turn.base == 0) {
+    if x == 0 && y == 0 {
         return Some(0);
     }
     by.exact(turn.cross(x, y))
