@@ -19,7 +19,7 @@ natural_le : (z : ℤ) (most : ℕ) → z ≤ℤ pos most → natural z ≤ most
 natural_le (pos n) most le = omega (arith, ints, le)
 natural_le (negsuc n) most le = omega arith
 
-pub weighed_totals : (totals : List ℤ) (loads : List (List ℤ)) (fixed weights : List ℤ) (denom : ℤ)
+weighed_totals : (totals : List ℤ) (loads : List (List ℤ)) (fixed weights : List ℤ) (denom : ℤ)
     → AreWeightingNumbers totals loads fixed weights denom → AreWeighed weights totals
 weighed_totals totals loads fixed weights denom are = record {
   few = are.few_weights;
@@ -40,10 +40,12 @@ weighed_column totals loads fixed weights denom k are node = record {
 }
 
 pub gain_numbers : (totals : List ℤ) (loads : List (List ℤ)) (fixed weights : List ℤ) (denom : ℤ) (d : ℕ)
-    → AreWeightingNumbers totals loads fixed weights denom → d ≡ natural denom → AreGainNumbers loads fixed weights d
+    → AreWeightingNumbers totals loads fixed weights denom → d ≡ natural denom
+    → AreGainNumbers totals loads fixed weights d
 gain_numbers totals loads fixed weights denom d are is = record {
   some_nodes = are.some_nodes;
-  weighed = record {
+  weighed_totals = weighed_totals totals loads fixed weights denom are;
+  weighed_loads = record {
     few = omega (arith, are.few_weights, are.one_load_each);
     are_weights = are.are_weights;
     wide = All-weaker (λ (row : List ℤ). (length row ≡ length fixed) × All IsCost row) (λ (row : List ℤ). length fixed ≤ length row)

@@ -42,10 +42,11 @@ pub record IsWeighedTo (weights numbers : List ℤ) (i so_far : ℕ) : Type 0 wh
 pub record AreLoadsTo (weights : List ℤ) (loads : List (List ℤ)) (i : ℕ) (sums : List ℕ) : Type 0 where
   pub each : (k : ℕ) → k < length sums → IsWeighedTo weights (column loads k) i (slice_index_or sums k 0)
 
--- what the gains of nodes are made of
-pub record AreGainNumbers (loads : List (List ℤ)) (fixed weights : List ℤ) (denom : ℕ) : Type 0 where
+-- what the gains of nodes and the weighted sum of the totals are made of
+pub record AreGainNumbers (totals : List ℤ) (loads : List (List ℤ)) (fixed weights : List ℤ) (denom : ℕ) : Type 0 where
   pub some_nodes : length fixed ≤ most_nodes
-  pub weighed : AreWeighedLoads weights loads (length fixed)
+  pub weighed_totals : AreWeighed weights totals
+  pub weighed_loads : AreWeighedLoads weights loads (length fixed)
   pub are_fixed_costs : All IsCost fixed
   pub denom_most : denom ≤ most_denominator
 

@@ -9,7 +9,6 @@ ghost use Rattle.leaf_bound.specs.Numbers.{AreWeightingNumbers, IsBranchBelow, w
 ghost use Rattle.leaf_bound.specs.Weighing.{most_bound, IsWithin};
 
 use crate::gains::{ROOM, sum_of_gains, sum_of_losses, write_gains_by};
-use crate::weighing::weighted_total;
 use hub_model::{Branch, signed, unsigned};
 
 /// The bound of the branch under these weights, in 10^-12, times the denominator.
@@ -32,10 +31,9 @@ pub fn bound(
     // Weights of at most 10^6 together keep each weighted sum within 10^35, and so each gain. The two lists have at
     // most 200 nodes each, so that the bound stays within 5 * 10^37, and an `i128` holds 10^38.
     let denom = unsigned(denom);
-    let base = signed(weighted_total(totals, weights));
     let mut room = [0; ROOM];
     let gains = &mut room[..fixed.len()];
-    write_gains_by(loads, fixed, weights, denom, gains);
+    let base = signed(write_gains_by(totals, loads, fixed, weights, denom, gains));
     let inside = sum_of_gains(gains, branch.inside());
     let free = sum_of_losses(gains, branch.free());
     base + inside + free

@@ -5,11 +5,11 @@ ghost use Rattle.std.specs.Int.{int_min};
 ghost use Rattle.hub_spec.specs.Limits.{most_nodes, most_denominator};
 ghost use Rattle.hub_spec.specs.Sums.{sum_ints};
 ghost use Rattle.hub_model.specs.Amounts.{natural, IsNatural};
-ghost use Rattle.leaf_bound.specs.Bounds.{gain_of};
-ghost use Rattle.leaf_bound.specs.Numbers.{AreWeightingNumbers, IsCost, weighting_of};
+ghost use Rattle.leaf_bound.specs.Bounds.{weighted_by, gain_of};
+ghost use Rattle.leaf_bound.specs.Numbers.{AreWeightingNumbers, IsCost, naturals, weighting_of};
 ghost use Rattle.leaf_bound.specs.Weighing.{most_gain, AreGainNumbers, IsWithin, gain_by};
 
-use crate::weighing::weigh_loads;
+use crate::weighing::weigh;
 use hub_model::{MOST_NODES, unsigned};
 
 /// Room for a number of each node.
@@ -51,27 +51,31 @@ pub fn write_gains(
         ≡ gain_of (weighting_of totals.now (map (λ v. v.items) loads.now) fixed.now weights.now denom) k }
     ensures limit { (k : ℕ) → k < length gains.new → IsWithin most_gain (slice_index_or gains.new k (pos 0)) }
 {
-    write_gains_by(loads, fixed, weights, unsigned(denom), gains);
+    write_gains_by(totals, loads, fixed, weights, unsigned(denom), gains);
 }
 
-/// The same, with the denominator as a number that can't be below 0.
+/// The same, with the denominator as a number that can't be below 0; it gives the weighted sum of the cuts' totals.
 pub(crate) fn write_gains_by(
+    totals: &[i128],
     loads: &[Vec<i128>],
     fixed: &[i128],
     weights: &[i128],
     denom: u128,
     gains: &mut [i128],
-)
-    requires numbers { AreGainNumbers (map (λ v. v.items) loads.now) fixed.now weights.now denom }
+) -> u128
+    requires numbers { AreGainNumbers totals.now (map (λ v. v.items) loads.now) fixed.now weights.now denom }
     requires room { length gains.old ≡ length fixed.now }
+    ensures total { result ≡ weighted_by (naturals weights.now) (naturals totals.now) }
+    ensures total_limit { result ≤ most_gain }
     ensures value { (k : ℕ) → k < length gains.new → slice_index_or gains.new k (pos 0)
         ≡ gain_by (map (λ v. v.items) loads.now) fixed.now weights.now denom k }
     ensures limit { (k : ℕ) → k < length gains.new → IsWithin most_gain (slice_index_or gains.new k (pos 0)) }
 {
     let mut room = [0; ROOM];
     let sums = &mut room[..fixed.len()];
-    weigh_loads(loads, weights, sums);
+    let total = weigh(totals, loads, weights, sums);
     write_differences(fixed, denom, sums, gains);
+    total
 }
 
 // Writes for each node its fixed cost times the denominator, less its sum.

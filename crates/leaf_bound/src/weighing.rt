@@ -8,42 +8,28 @@ ghost use Rattle.leaf_bound.specs.Weighing.{most_gain, AreWeighed, AreWeighedLoa
 
 use hub_model::unsigned;
 
-/// The weighted sum of the cuts' totals.
-pub(crate) fn weighted_total(totals: &[i128], weights: &[i128]) -> u128
-    requires { AreWeighed weights.now totals.now }
-    ensures value { result ≡ weighted_by (naturals weights.now) (naturals totals.now) }
-    ensures limit { result ≤ most_gain }
-{
-    let mut sum = 0;
-    for c in 0..weights.len() {
-        sum += weighted(weights, totals, c);
-    }
-    sum
-}
-
-// The number of the cut, times its weight.
-fn weighted(weights: &[i128], numbers: &[i128], c: usize) -> u128
-    requires weighed { AreWeighed weights.now numbers.now }
-    requires within { c < length weights.now }
-    ensures { result ≡ natural (slice_index_or weights.now c (pos 0)) * natural (slice_index_or numbers.now c (pos 0)) }
-{
-    if weights[c] == 0 {
-        return 0;
-    }
-    unsigned(weights[c]) * unsigned(numbers[c])
-}
-
-/// Writes for each node the weighted sum of the cuts' loads of it.
-pub(crate) fn weigh_loads(loads: &[Vec<i128>], weights: &[i128], sums: &mut [u128])
-    requires { AreWeighedLoads weights.now (map (λ v. v.items) loads.now) (length sums.old) }
+/// Writes for each node the weighted sum of the cuts' loads of it, and gives that of their totals, all by one pass over
+/// the weights.
+pub(crate) fn weigh(
+    totals: &[i128],
+    loads: &[Vec<i128>],
+    weights: &[i128],
+    sums: &mut [u128],
+) -> u128
+    requires totals { AreWeighed weights.now totals.now }
+    requires loads { AreWeighedLoads weights.now (map (λ v. v.items) loads.now) (length sums.old) }
+    ensures total { result ≡ weighted_by (naturals weights.now) (naturals totals.now) }
+    ensures total_limit { result ≤ most_gain }
     ensures value { (k : ℕ) → k < length sums.new → slice_index_or sums.new k 0
         ≡ weighted_by (naturals weights.now) (loads_of (map naturals (map (λ v. v.items) loads.now)) k) }
     ensures limit { (k : ℕ) → k < length sums.new → slice_index_or sums.new k 0 ≤ most_gain }
 {
     clear(sums);
+    let mut total = 0;
     for c in 0..weights.len() {
-        add_cut(sums, loads, weights, c);
+        total += add_cut(totals, loads, weights, c, sums);
     }
+    total
 }
 
 fn clear(sums: &mut [u128])
@@ -54,17 +40,28 @@ fn clear(sums: &mut [u128])
     }
 }
 
-// Adds the loads of the cut, times its weight.
-fn add_cut(sums: &mut [u128], loads: &[Vec<i128>], weights: &[i128], c: usize)
-    requires weighed { AreWeighedLoads weights.now (map (λ v. v.items) loads.now) (length sums.old) }
+// Adds the loads of the cut, times its weight, and gives its total, times its weight.
+fn add_cut(
+    totals: &[i128],
+    loads: &[Vec<i128>],
+    weights: &[i128],
+    c: usize,
+    sums: &mut [u128],
+) -> u128
+    requires totals { AreWeighed weights.now totals.now }
+    requires loads { AreWeighedLoads weights.now (map (λ v. v.items) loads.now) (length sums.old) }
     requires within { c < length weights.now }
     requires before { AreLoadsTo weights.now (map (λ v. v.items) loads.now) c sums.old }
-    ensures { AreLoadsTo weights.now (map (λ v. v.items) loads.now) (c + 1) sums.new }
+    ensures total { result
+        ≡ natural (slice_index_or weights.now c (pos 0)) * natural (slice_index_or totals.now c (pos 0)) }
+    ensures loads { AreLoadsTo weights.now (map (λ v. v.items) loads.now) (c + 1) sums.new }
 {
     if weights[c] == 0 {
-        return;
+        return 0;
     }
-    add_products(sums, unsigned(weights[c]), &loads[c]);
+    let weight = unsigned(weights[c]);
+    add_products(sums, weight, &loads[c]);
+    weight * unsigned(totals[c])
 }
 
 // Adds the products of the weight and the row's numbers.

@@ -46,7 +46,7 @@ returns-clause-value c =
     let by : ℕ → ℤ = λ k. get_or gains k (pos 0) in
     let long : length gains ≡ length c.args.fixed.now = search rules in
     let denom = passed c.args.denom c.unsigned-denom.result c.ranges.denom c.unsigned-denom.ensures.value in
-    let base_is = c.signed-base.ensures ∙ ap pos c.weighted_total.ensures.value in
+    let base_is = c.signed-base.ensures ∙ ap pos c.write_gains_by.ensures.total in
     let own = read (g d) gains c.inside.result.now c.args.branch.now.inside (length c.args.fixed.now) c.inside.ensures.value long
     c.requires.nodes.inside c.write_gains_by.ensures.value in
     let opened = read (g d) gains c.free.result.now c.args.branch.now.free (length c.args.fixed.now) c.free.ensures.value long
@@ -58,14 +58,16 @@ returns-clause-value c =
     ∙ sum_ints_same (λ k. int_min (pos 0) (by k)) (λ k. int_min (pos 0) (g d k)) c.free.result.now
     (λ i e low. ap (int_min (pos 0)) (opened i e low))
     ∙ ap₂ (λ (d : ℕ) (ks : List ℕ). sum_ints (λ k. int_min (pos 0) (g d k)) ks) denom c.free.ensures.value in
+    let total = c.write_gains_by.ensures.total_limit in
     parts_passed c.signed-base.result c.sum_of_gains-inside.result c.sum_of_losses-free.result
-    (base_within c.signed-base.result c.weighted_total.result c.signed-base.ensures c.weighted_total.ensures.limit)
+    (base_within c.signed-base.result c.write_gains_by.result c.signed-base.ensures total)
     c.sum_of_gains-inside.ensures.limit c.sum_of_losses-free.ensures.limit
     ∙ ap₂ (λ (x y : ℤ). x +ℤ y) (ap₂ (λ (x y : ℤ). x +ℤ y) base_is inside) free
 
 pub returns-clause-limit : goal.returns-clause-limit
 returns-clause-limit c =
-    let base = base_within c.signed-base.result c.weighted_total.result c.signed-base.ensures c.weighted_total.ensures.limit in
+    let total = c.write_gains_by.ensures.total_limit in
+    let base = base_within c.signed-base.result c.write_gains_by.result c.signed-base.ensures total in
     let inside = c.sum_of_gains-inside.ensures.limit in
     let free = c.sum_of_losses-free.ensures.limit in
     rw (parts_passed c.signed-base.result c.sum_of_gains-inside.result c.sum_of_losses-free.result base inside free)
