@@ -1,5 +1,5 @@
 -- What the parts of a pivot say of the rows that are kept.
-use Rattle.std.specs.Prelude.{◌≡◌, ◌≢◌, ℕ, ◌+◌, ◌<◌, ◌≤◌, Bool, true, List, ℤ, pos}
+use Rattle.std.specs.Prelude.{◌≡◌, ◌≢◌, ℕ, ◌+◌, ◌<◌, ◌≤◌, length, Bool, true, List, ℤ, pos}
 use Rattle.frac_rows.specs.Divisors.{reduced}
 use Rattle.frac_rows.specs.Rows.{number, right_side, pivoted, is_wide_row, AreNarrow}
 use Rattle.frac_rows.specs.Stored.{times, extended, Matrix, kept_row, whole_row}
@@ -41,6 +41,11 @@ pub record IsWideAfter (m : Matrix) (numbers : List ℤ) (r c : ℕ) : Type 0 wh
   pub within : i < m.height
   pub other : i ≢ r
   pub wide : is_wide_row (pivoted_whole m.columns (kept_row m numbers r) c (kept_row m numbers i)) ≡ true
+
+-- the numbers of all rows in the column c
+pub record AreEntering (m : Matrix) (numbers : List ℤ) (c : ℕ) (entering : List ℤ) : Type 0 where
+  pub one_each : length entering ≡ m.height
+  pub each : (i : ℕ) → i < m.height → number entering i ≡ number (whole_row m numbers i) c
 
 -- the right side and the number in the column c of a constraint row
 pub record IsCandidate (m : Matrix) (numbers : List ℤ) (c row : ℕ) (right in_column : ℤ) : Type 0 where

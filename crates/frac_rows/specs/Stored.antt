@@ -109,7 +109,8 @@ pub record IsStored (m : Matrix) (numbers : List ℤ) (basis : List ℕ) : Type 
 pub record AreFirst (rights : List ℤ) (n : ℕ) (numbers : List ℤ) : Type 0 where
   pub each : (i : ℕ) → i < n → piece (length rights + 2) numbers i ≡ own_numbers rights i
 
--- and room for the numbers of the next table
-pub record IsRoomy (m : Matrix) (numbers spare : List ℤ) (basis : List ℕ) : Type 0 where
+-- and room for the numbers of the next table, and for those of all rows in the column that enters
+pub record IsRoomy (m : Matrix) (numbers spare entering : List ℤ) (basis : List ℕ) : Type 0 where
   pub stored : IsStored m numbers basis
   pub room : length spare ≡ length numbers
+  pub one_each : length entering ≡ m.height

@@ -4,9 +4,10 @@ ghost use Rattle.std.specs.Prelude.{◌≡◌, ◌+◌, ◌*ℤ◌, ◌<◌, ◌
 ghost use Rattle.std.specs.Option.{option_map};
 ghost use Rattle.frac_rows.specs.Rows.{widest, is_sooner, leaving, sooner};
 ghost use Rattle.frac_rows.specs.Stored.{table_of, AreKept};
-ghost use Rattle.frac_rows.specs.Steps.{IsCandidate};
+ghost use Rattle.frac_rows.specs.Steps.{AreEntering, IsCandidate};
 
 use crate::columns::Columns;
+use crate::entering::Entering;
 use crate::multipliers::product;
 use crate::parts::part;
 
@@ -23,17 +24,17 @@ pub(crate) fn leaving(
     columns: &Columns,
     numbers: &[i64],
     basis: &[u32],
-    column: usize,
+    entering: &Entering<'_>,
 ) -> Option<usize>
     requires kept { AreKept columns.now numbers.now }
     requires one_each { length basis.now + 1 ≡ columns.now.height }
-    requires within { column < length columns.now.columns + columns.now.height }
-    ensures value { result ≡ leaving (table_of columns.now numbers.now basis.now) column }
+    requires entering { AreEntering columns.now numbers.now entering.now.column entering.now.numbers.now }
+    ensures value { result ≡ leaving (table_of columns.now numbers.now basis.now) entering.now.column }
     ensures row { IfSome result (λ r. r < length basis.now) }
 {
     let mut best = None;
     for i in 0..basis.len() {
-        best = sooner(columns, numbers, basis, column, i, best);
+        best = sooner(columns, numbers, basis, entering, i, best);
     }
     let candidate = best?;
     Some(candidate.row)
@@ -44,20 +45,21 @@ fn sooner(
     columns: &Columns,
     numbers: &[i64],
     basis: &[u32],
-    column: usize,
+    entering: &Entering<'_>,
     i: usize,
     best: Option<Candidate>,
 ) -> Option<Candidate>
     requires kept { AreKept columns.now numbers.now }
     requires one_each { length basis.now + 1 ≡ columns.now.height }
-    requires within { column < length columns.now.columns + columns.now.height }
+    requires entering { AreEntering columns.now numbers.now entering.now.column entering.now.numbers.now }
     requires row { i < length basis.now }
-    requires best { IfSome best (λ b. IsCandidate columns.now numbers.now column b.row b.right b.number) }
+    requires best { IfSome best (λ b. IsCandidate columns.now numbers.now entering.now.column b.row b.right b.number) }
     ensures value { option_map (λ b. b.row) result
-        ≡ sooner (table_of columns.now numbers.now basis.now) column i (option_map (λ b. b.row) best) }
-    ensures candidate { IfSome result (λ b. IsCandidate columns.now numbers.now column b.row b.right b.number) }
+        ≡ sooner (table_of columns.now numbers.now basis.now) entering.now.column i (option_map (λ b. b.row) best) }
+    ensures candidate { IfSome result
+        (λ b. IsCandidate columns.now numbers.now entering.now.column b.row b.right b.number) }
 {
-    let candidate = candidate_at(columns, numbers, column, i);
+    let candidate = candidate_at(columns, numbers, entering, i);
     if !(candidate.number > 0) {
         return best;
     }
@@ -71,19 +73,19 @@ fn sooner(
 }
 
 // The row as one that may leave.
-fn candidate_at(columns: &Columns, numbers: &[i64], column: usize, i: usize) -> Candidate
+fn candidate_at(columns: &Columns, numbers: &[i64], entering: &Entering<'_>, i: usize) -> Candidate
     requires kept { AreKept columns.now numbers.now }
-    requires within { column < length columns.now.columns + columns.now.height }
+    requires entering { AreEntering columns.now numbers.now entering.now.column entering.now.numbers.now }
     requires row { i + 1 < columns.now.height }
     ensures row { result.row ≡ i }
-    ensures candidate { IsCandidate columns.now numbers.now column i result.right result.number }
+    ensures candidate { IsCandidate columns.now numbers.now entering.now.column i result.right result.number }
 {
     let height = columns.height();
     let row = part(numbers, height + 1, i);
     Candidate {
         row: i,
         right: columns.entry(row, columns.variables() + height),
-        number: columns.entry(row, column),
+        number: entering.numbers[i],
     }
 }
 

@@ -1,8 +1,8 @@
 //! What is kept of one row after a pivot.
 
-ghost use Rattle.std.specs.Prelude.{◌≡◌, ◌≢◌, ◌+◌, ◌<◌, ◌≤◌, not, true, length, unsigned_abs, OnOk, OnErr, IsTrue};
+ghost use Rattle.std.specs.Prelude.{◌≡◌, ◌+◌, not, true, length, OnOk, OnErr, IsTrue};
 ghost use Rattle.frac_rows.specs.Divisors.{reduced};
-ghost use Rattle.frac_rows.specs.Rows.{widest, number, eliminated, pivoted, is_wide_row, AreNarrow};
+ghost use Rattle.frac_rows.specs.Rows.{number, eliminated, is_wide_row, AreNarrow};
 ghost use Rattle.frac_rows.specs.Stored.{extended};
 ghost use Rattle.frac_rows.specs.Steps.{pivoted_whole, is_wide_whole, IsDivision, Follows};
 
@@ -12,12 +12,11 @@ use crate::divisors::Divisor;
 use crate::multipliers::Multipliers;
 use crate::steps::{divide_by, reduce};
 
-/// Where a pivot is made: the column, and the base row's number there.
+/// Where a pivot meets a row: the column, and as multipliers the numbers of the base row and of this row in it.
 #[derive(Clone, Copy)]
 pub(crate) struct Turn {
     pub(crate) column: usize,
-    pub(crate) number: i64,
-    ghost number_limit: { unsigned_abs number ≤ widest },
+    pub(crate) multipliers: Multipliers,
 }
 
 /// Writes what is kept of the row after the pivot, and tells whether it was divided by the number that is expected to
@@ -35,19 +34,15 @@ pub(crate) fn next_row(
     requires room { length out.old ≡ length row.now }
     requires narrow { AreNarrow (extended columns.now.columns row.now) }
     requires narrow_base { AreNarrow (extended columns.now.columns base.now) }
-    requires within { turn.column < length columns.now.columns + columns.now.height + 1 }
-    requires number { turn.number ≡ number (extended columns.now.columns base.now) turn.column }
+    requires own { turn.multipliers.own ≡ number (extended columns.now.columns base.now) turn.column }
+    requires base { turn.multipliers.base ≡ number (extended columns.now.columns row.now) turn.column }
     ensures ok { OnOk result (Follows columns.now.columns base.now turn.column row.now out.new) }
     ensures err { OnErr result (is_wide_row (pivoted_whole columns.now.columns base.now turn.column row.now) ≡ true) }
 {
-    let multipliers = Multipliers {
-        own: turn.number,
-        base: columns.entry(row, turn.column),
-    };
-    if follow_by(columns, by, multipliers, row, base, out) {
+    if follow_by(columns, by, turn.multipliers, row, base, out) {
         return Ok(true);
     }
-    if follow_reduced(columns, multipliers, row, base, out) {
+    if follow_reduced(columns, turn.multipliers, row, base, out) {
         return Ok(false);
     }
     Err(Wide)

@@ -20,6 +20,7 @@ pub struct Rows {
     columns: Columns,
     numbers: Vec<i64>,
     spare: Vec<i64>,
+    entering: Vec<i64>,
     basis: Vec<u32>,
     denominator: u64,
 }
@@ -32,7 +33,7 @@ impl Model for Rows {
 
     ghost view = { λ s. table_of s.columns s.numbers.items s.basis.items };
 
-    ghost invariant = { λ s. IsRoomy s.columns s.numbers.items s.spare.items s.basis.items };
+    ghost invariant = { λ s. IsRoomy s.columns s.numbers.items s.spare.items s.entering.items s.basis.items };
 }
 
 impl Rows {
@@ -54,11 +55,13 @@ impl Rows {
         let margin = margin_of(&tops);
         let kept = first_rows(alloc, rights)?;
         let spare = kept.to_vec(alloc)?;
+        let entering = vec![in alloc; 0; height]?;
         let basis = slacks(alloc, variables, rights.len())?;
         Ok(Rows {
             columns: Columns::new(numbers, tops, margin, variables, height),
             numbers: kept,
             spare,
+            entering,
             basis,
             denominator: 1,
         })
@@ -111,6 +114,7 @@ impl Rows {
             &self.columns,
             &mut self.numbers,
             &mut self.spare,
+            &mut self.entering,
             &mut self.basis,
             self.denominator,
             row,
@@ -142,6 +146,7 @@ impl Rows {
             &self.columns,
             &mut self.numbers,
             &mut self.spare,
+            &mut self.entering,
             &mut self.basis,
             self.denominator,
         );

@@ -5,6 +5,7 @@ mod choices;
 mod columns;
 mod divisors;
 mod ended;
+mod entering;
 mod entries;
 mod follows;
 mod kept_rows;

@@ -1,14 +1,15 @@
 //! One pivot, and one step of a run.
 
-ghost use Rattle.std.specs.Prelude.{◌≡◌, ◌+◌, ◌-◌, ◌<◌, true, false, length, OnOk, OnErr, OnSome, IfSome, IsNone};
+ghost use Rattle.std.specs.Prelude.{◌≡◌, ◌+◌, ◌-◌, ◌^◌, ◌<◌, true, false, length, OnOk, OnErr, OnSome, IfSome, IsNone};
 ghost use Rattle.frac_rows.specs.Rows.{after_pivot, is_wide, first_negative};
 ghost use Rattle.frac_rows.specs.Runs.{step, goes, ends, ended_by};
 ghost use Rattle.frac_rows.specs.Stored.{whole_row, table_of, AreKept, IsStored};
+ghost use Rattle.frac_rows.specs.Steps.{AreEntering};
 
 use crate::choices::leaving;
 use crate::columns::Columns;
 use crate::divisors::Divisor;
-use crate::follows::Turn;
+use crate::entering::{Entering, write_entering};
 use crate::parts::part;
 use crate::tables::next_rows;
 use crate::{Ended, Wide};
@@ -19,6 +20,7 @@ pub(crate) fn pivot(
     columns: &Columns,
     numbers: &mut [i64],
     spare: &mut [i64],
+    entering: &mut [i64],
     basis: &mut [u32],
     denominator: u64,
     row: usize,
@@ -26,6 +28,7 @@ pub(crate) fn pivot(
 ) -> Result<u64, Wide>
     requires stored { IsStored columns.now numbers.old basis.old }
     requires room { length spare.old ≡ length numbers.old }
+    requires entering_room { length entering.old ≡ columns.now.height }
     requires row { row < length basis.old }
     requires column { column + 1 < length columns.now.columns + columns.now.height }
     ensures stored { IsStored columns.now numbers.new basis.new }
@@ -37,13 +40,44 @@ pub(crate) fn pivot(
     ensures same { OnErr result
         (table_of columns.now numbers.new basis.new ≡ table_of columns.now numbers.old basis.old) }
 {
-    let base = part(numbers, columns.height() + 1, row);
-    let number = columns.entry(base, column);
+    write_entering(columns, numbers, column, entering);
+    let entering = Entering {
+        column,
+        numbers: entering,
+    };
+    pivot_on(columns, numbers, spare, basis, &entering, denominator, row)
+}
+
+// The same pivot, where the column's numbers are known.
+fn pivot_on(
+    columns: &Columns,
+    numbers: &mut [i64],
+    spare: &mut [i64],
+    basis: &mut [u32],
+    entering: &Entering<'_>,
+    denominator: u64,
+    row: usize,
+) -> Result<u64, Wide>
+    requires stored { IsStored columns.now numbers.old basis.old }
+    requires room { length spare.old ≡ length numbers.old }
+    requires row { row < length basis.old }
+    requires column { entering.now.column + 1 < length columns.now.columns + columns.now.height }
+    requires fits { entering.now.column < 2 ^ 32 }
+    requires entering { AreEntering columns.now numbers.old entering.now.column entering.now.numbers.now }
+    ensures stored { IsStored columns.now numbers.new basis.new }
+    ensures ok { OnOk result (table_of columns.now numbers.new basis.new
+        ≡ after_pivot (table_of columns.now numbers.old basis.old) row entering.now.column) }
+    ensures narrow { OnOk result (is_wide (table_of columns.now numbers.new basis.new) ≡ false) }
+    ensures err { OnErr result
+        (is_wide (after_pivot (table_of columns.now numbers.old basis.old) row entering.now.column) ≡ true) }
+    ensures same { OnErr result
+        (table_of columns.now numbers.new basis.new ≡ table_of columns.now numbers.old basis.old) }
+{
     let by = Divisor::new(denominator);
-    let divided = next_rows(columns, &by, Turn { column, number }, row, numbers, spare)?;
+    let divided = next_rows(columns, &by, entering, row, numbers, spare)?;
     numbers.copy_from_slice(spare);
-    basis[row] = column as u32;
-    Ok(next_divisor(divided, number))
+    basis[row] = entering.column as u32;
+    Ok(next_divisor(divided, entering.numbers[row]))
 }
 
 // After a pivot by which all rows were divided alike, the number that was pivoted on divides all rows at the next one.
@@ -56,11 +90,13 @@ pub(crate) fn advance(
     columns: &Columns,
     numbers: &mut [i64],
     spare: &mut [i64],
+    entering: &mut [i64],
     basis: &mut [u32],
     denominator: u64,
 ) -> (Option<Ended>, u64)
     requires stored { IsStored columns.now numbers.old basis.old }
     requires room { length spare.old ≡ length numbers.old }
+    requires entering_room { length entering.old ≡ columns.now.height }
     ensures stored { IsStored columns.now numbers.new basis.new }
     ensures goes { IsNone result.0
         → step (table_of columns.now numbers.old basis.old) ≡ goes (table_of columns.now numbers.new basis.new) }
@@ -73,10 +109,15 @@ pub(crate) fn advance(
     let Some(column) = columns.first_negative(objective) else {
         return (Some(Ended::Best), denominator);
     };
-    let Some(row) = leaving(columns, numbers, basis, column) else {
+    write_entering(columns, numbers, column, entering);
+    let entering = Entering {
+        column,
+        numbers: entering,
+    };
+    let Some(row) = leaving(columns, numbers, basis, &entering) else {
         return (Some(Ended::Wide), denominator);
     };
-    match pivot(columns, numbers, spare, basis, denominator, row, column) {
+    match pivot_on(columns, numbers, spare, basis, &entering, denominator, row) {
         Ok(next) => (None, next),
         Err(Wide) => (Some(Ended::Wide), denominator),
     }

@@ -1,14 +1,15 @@
 //! All rows after a pivot.
 
 ghost use Rattle.std.specs.Prelude.{◌≡◌, ◌+◌, ◌<◌, ◌*◌, length, OnOk, OnErr};
-ghost use Rattle.frac_rows.specs.Rows.{number};
-ghost use Rattle.frac_rows.specs.Stored.{piece, whole_row, AreKept};
-ghost use Rattle.frac_rows.specs.Steps.{IsAfter, AreAfter, IsWideAfter};
+ghost use Rattle.frac_rows.specs.Stored.{AreKept};
+ghost use Rattle.frac_rows.specs.Steps.{IsAfter, AreAfter, AreEntering, IsWideAfter};
 
 use crate::Wide;
 use crate::columns::Columns;
 use crate::divisors::Divisor;
+use crate::entering::Entering;
 use crate::follows::{Turn, next_row};
+use crate::multipliers::Multipliers;
 use crate::parts::part;
 
 /// Writes what is kept of all rows after the pivot on the row `r`, and tells whether all of them were divided by the
@@ -16,7 +17,7 @@ use crate::parts::part;
 pub(crate) fn next_rows(
     columns: &Columns,
     by: &Option<Divisor>,
-    turn: Turn,
+    entering: &Entering<'_>,
     r: usize,
     numbers: &[i64],
     spare: &mut [i64],
@@ -24,17 +25,16 @@ pub(crate) fn next_rows(
     requires kept { AreKept columns.now numbers.now }
     requires room { length spare.old ≡ length numbers.now }
     requires row { r < columns.now.height }
-    requires column { turn.column < length columns.now.columns + columns.now.height + 1 }
-    requires number { turn.number ≡ number (whole_row columns.now numbers.now r) turn.column }
-    ensures ok { OnOk result (AreAfter columns.now numbers.now r turn.column columns.now.height spare.new) }
-    ensures err { OnErr result (IsWideAfter columns.now numbers.now r turn.column) }
+    requires entering { AreEntering columns.now numbers.now entering.now.column entering.now.numbers.now }
+    ensures ok { OnOk result (AreAfter columns.now numbers.now r entering.now.column columns.now.height spare.new) }
+    ensures err { OnErr result (IsWideAfter columns.now numbers.now r entering.now.column) }
 {
     let height = columns.height();
     let width = height + 1;
     let mut divided = true;
     for i in 0..height {
         let out = &mut spare[i * width..i * width + width];
-        divided = row_after(columns, by, turn, r, i, numbers, out)? && divided;
+        divided = row_after(columns, by, entering, r, i, numbers, out)? && divided;
     }
     Ok(divided)
 }
@@ -43,7 +43,7 @@ pub(crate) fn next_rows(
 fn row_after(
     columns: &Columns,
     by: &Option<Divisor>,
-    turn: Turn,
+    entering: &Entering<'_>,
     r: usize,
     i: usize,
     numbers: &[i64],
@@ -53,10 +53,9 @@ fn row_after(
     requires room { length out.old ≡ columns.now.height + 1 }
     requires row { r < columns.now.height }
     requires within { i < columns.now.height }
-    requires column { turn.column < length columns.now.columns + columns.now.height + 1 }
-    requires number { turn.number ≡ number (whole_row columns.now numbers.now r) turn.column }
-    ensures ok { OnOk result (IsAfter columns.now numbers.now r turn.column i out.new) }
-    ensures err { OnErr result (IsWideAfter columns.now numbers.now r turn.column) }
+    requires entering { AreEntering columns.now numbers.now entering.now.column entering.now.numbers.now }
+    ensures ok { OnOk result (IsAfter columns.now numbers.now r entering.now.column i out.new) }
+    ensures err { OnErr result (IsWideAfter columns.now numbers.now r entering.now.column) }
 {
     let width = columns.height() + 1;
     let row = part(numbers, width, i);
@@ -64,5 +63,13 @@ fn row_after(
         out.copy_from_slice(row);
         return Ok(true);
     }
+    let multipliers = Multipliers {
+        own: entering.numbers[r],
+        base: entering.numbers[i],
+    };
+    let turn = Turn {
+        column: entering.column,
+        multipliers,
+    };
     next_row(columns, by, turn, row, part(numbers, width, r), out)
 }

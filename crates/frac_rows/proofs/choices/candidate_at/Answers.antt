@@ -1,4 +1,4 @@
-use Rattle.std.proofs.Common.{◌≡◌, ◌+◌, ◌∙◌, length, FitsSigned, sym, ap, ap₂, rules}
+use Rattle.std.proofs.Common.{◌≡◌, ◌+◌, ◌∙◌, length, FitsSigned, sym, ap, ap₂, arith, rules}
 use Rattle.std.specs.Int.{w64}
 use Rattle.std.proofs.lemmas.Int.{to_z-of_z}
 use Rattle.frac_rows.specs.Rows.{number}
@@ -16,12 +16,12 @@ returns-clause-candidate c =
     ap length (sym is) ∙ c.part-row.ensures.long ∙ ap (λ h. h + 1) height in
     let last : c.variables.result + c.height-height.result ≡ length m.columns + m.height = ap₂ ◌+◌ c.variables.ensures height in
     let right : FitsSigned w64 c.entry.result = search rules in
-    let in_column : FitsSigned w64 c.entry-2.result = search rules in
-    rw (to_z-of_z w64 c.entry.result right, to_z-of_z w64 c.entry-2.result in_column)
+    let in_column : FitsSigned w64 (number c.args.entering.now.numbers.now c.args.i) = search rules in
+    rw (to_z-of_z w64 c.entry.result right, to_z-of_z w64 (number c.args.entering.now.numbers.now c.args.i) in_column)
     (record {
       constraint = c.requires.row;
       right_is =
           c.entry.ensures ∙ ap (λ r. number (extended m.columns r) (c.variables.result + c.height-height.result)) is
           ∙ right_side_at m c.args.numbers.now c.args.i (c.variables.result + c.height-height.result) long last;
-      number_is = c.entry-2.ensures ∙ ap (λ r. number (extended m.columns r) c.args.column) is;
+      number_is = c.requires.entering.each c.args.i (omega (arith, c.requires.row));
     })

@@ -41,8 +41,8 @@ returns-in_default-clause-ends c =
     let here = (goal.at.returns-in_default-clause-ends c).After-first_negative in
     step_best (table here) (found here ∙ c.in_default.is)
 
-pub leaving-requires-clause-within : goal.leaving-requires-clause-within
-leaving-requires-clause-within c = let w = within c in omega (arith, w)
+pub write_entering-requires-clause-within : goal.write_entering-requires-clause-within
+write_entering-requires-clause-within c = let w = within (goal.at.write_entering-requires-clause-within c).In-Some in omega (arith, w)
 
 pub returns-in_default-leaving-clause-ends : goal.returns-in_default-leaving-clause-ends
 unfolding table
@@ -50,8 +50,8 @@ returns-in_default-leaving-clause-ends c =
     let here = (goal.at.returns-in_default-leaving-clause-ends c).After-first_negative in
     step_stuck (table here) c.in-Some.column (found here ∙ c.in-Some.is) (sym c.leaving.ensures.value ∙ c.in_default-leaving.is)
 
-pub pivot-requires-clause-column : goal.pivot-requires-clause-column
-pivot-requires-clause-column c = within (goal.at.pivot-requires-clause-column c).In-Some
+pub pivot_on-requires-clause-column : goal.pivot_on-requires-clause-column
+pivot_on-requires-clause-column c = within (goal.at.pivot_on-requires-clause-column c).In-Some
 
 pub returns-in-Ok-clause-goes : goal.returns-in-Ok-clause-goes
 unfolding table
@@ -59,7 +59,7 @@ returns-in-Ok-clause-goes c = λ _.
     let here = (goal.at.returns-in-Ok-clause-goes c).After-first_negative in
     let after = c.in-Ok.ensures.ok in
     step_goes (table here) c.in-Some.column c.in-Some-leaving.row (found here ∙ c.in-Some.is) (sym c.leaving.ensures.value ∙ c.in-Some-leaving.is)
-    (ap is_wide (sym after) ∙ not_wide_table c.args.columns.now c.pivot.new.numbers c.pivot.new.basis c.pivot.ensures.stored.kept)
+    (ap is_wide (sym after) ∙ not_wide_table c.args.columns.now c.pivot_on.new.numbers c.pivot_on.new.basis c.pivot_on.ensures.stored.kept)
     ∙ ap goes (sym after)
 
 pub returns-in-Err-clause-ends : goal.returns-in-Err-clause-ends

@@ -11,6 +11,7 @@ invariant_of-result c = record {
       (rw c.deref.ensures.value at c.in_ok-tops.ensures.tops) c.in_ok-tops.ensures.limit
       c.requires.rights_limit c.in_ok-kept.ensures.long c.in_ok-kept.ensures.rows);
   room = omega (arith, c.in_ok-spare.ensures.len, c.in_ok-spare.spare.ok.0, c.deref-2.ensures.len, c.in_ok-kept.kept.ok.0);
+  one_each = rw c.new.ensures (omega (arith, c.in_ok-entering.ensures.len, c.in_ok-entering.entering.ok.0));
 }
 
 pub returns : goal.returns

@@ -1,0 +1,35 @@
+//! The column that enters, with the numbers of all rows in it.
+
+ghost use Rattle.std.specs.Prelude.{◌≡◌, ◌+◌, ◌^◌, ◌<◌, length};
+ghost use Rattle.frac_rows.specs.Stored.{AreKept};
+ghost use Rattle.frac_rows.specs.Steps.{AreEntering};
+
+use crate::columns::Columns;
+use crate::parts::part;
+
+/// A column that enters, and the number of each row in it.
+#[derive(Clone, Copy)]
+pub(crate) struct Entering<'a> {
+    pub(crate) column: usize,
+    pub(crate) numbers: &'a [i64],
+}
+
+/// Writes the numbers of all rows in the column. Each is a sum over a column whose numbers stand far apart, so a pivot
+/// works them out but once.
+pub(crate) fn write_entering(
+    columns: &Columns,
+    numbers: &[i64],
+    column: usize,
+    entering: &mut [i64],
+)
+    requires kept { AreKept columns.now numbers.now }
+    requires within { column < length columns.now.columns + columns.now.height + 1 }
+    requires room { length entering.old ≡ columns.now.height }
+    ensures entering { AreEntering columns.now numbers.now column entering.new }
+    ensures fits { column < 2 ^ 32 }
+{
+    let height = columns.height();
+    for i in 0..height {
+        entering[i] = columns.entry(part(numbers, height + 1, i), column);
+    }
+}
