@@ -61,7 +61,14 @@ class Sweeps(InFolder):
         rows = self.folder / words[words.index("--out") + 1] / "rows"
         command = [sys.executable, str(PLANNERS / "sweep"), *words]
         with subprocess.Popen(
-            command, cwd=self.folder, env=environment(hub), stderr=subprocess.PIPE, text=True, start_new_session=True
+            command,
+            cwd=self.folder,
+            env=environment(hub),
+            stderr=subprocess.PIPE,
+            text=True,
+            start_new_session=True,
+            # What a shell starts in the background ignores Ctrl-C, and so would the sweep.
+            preexec_fn=lambda: signal.signal(signal.SIGINT, signal.SIG_DFL),
         ) as process:
             until = time.monotonic() + 30
             while len(list(rows.glob("*.json"))) < 4 and time.monotonic() < until:
@@ -74,9 +81,11 @@ class Sweeps(InFolder):
     def stopped_and_resumed(self, *more: str) -> None:
         """A sweep that was stopped gives the table of one that was not, and does again nothing that was done."""
         total = len(self.read("table.csv").splitlines()) - 1
-        hub = self.program('[ "$1" = solve ] && sleep 0.1')
+        rows = self.folder / "broken/rows"
+        # Once four are done no other ends, however long the stop takes to come.
+        hub = self.program(f'[ "$1" = solve ] && [ "$(ls {rows} 2>/dev/null | grep -c json)" -ge 4 ] && exec sleep 60')
         self.stop(self.words("broken", *more), hub)
-        done = {path: path.read_text() for path in (self.folder / "broken/rows").glob("*.json")}
+        done = {path: path.read_text() for path in rows.glob("*.json")}
         for out in ("broken", "whole"):
             ended = self.script("sweep", *self.words(out, *more), "--jobs", "4")
             self.assertEqual((ended.returncode, ended.stdout), (0, ""))
@@ -84,7 +93,7 @@ class Sweeps(InFolder):
         self.assertEqual(self.unmeasured("broken"), self.unmeasured("whole"))
         self.assertEqual({row["outcome"] for row in self.table("whole/results.csv")}, {"accepted"})
         self.assertEqual(done, {path: path.read_text() for path in done})
-        self.assertEqual({path.suffix for path in (self.folder / "broken/rows").iterdir()}, {".json"})
+        self.assertEqual({path.suffix for path in rows.iterdir()}, {".json"})
 
     def test_stopped_and_resumed_by_threads(self) -> None:
         self.stopped_and_resumed("--plain")
