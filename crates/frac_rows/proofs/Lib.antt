@@ -6,6 +6,7 @@ pub mod Refined
 pub mod Divided
 pub mod SumsOfProducts
 pub mod WholeRows
+pub mod NextRows
 pub mod RoughRows
 pub mod OddGcds
 pub mod Pieces

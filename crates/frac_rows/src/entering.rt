@@ -1,10 +1,12 @@
 //! The column that enters, with the numbers of all rows in it.
 
 ghost use Rattle.std.specs.Prelude.{◌≡◌, ◌+◌, ◌^◌, ◌<◌, length};
+ghost use Rattle.frac_rows.specs.Rows.{number, AreNarrow};
 ghost use Rattle.frac_rows.specs.Stored.{AreKept};
 ghost use Rattle.frac_rows.specs.Steps.{AreEntering};
 
 use crate::columns::Columns;
+use crate::multipliers::Multipliers;
 use crate::parts::part;
 
 /// A column that enters, and the number of each row in it.
@@ -12,6 +14,22 @@ use crate::parts::part;
 pub(crate) struct Entering<'a> {
     pub(crate) column: usize,
     pub(crate) numbers: &'a [i64],
+}
+
+impl Entering<'_> {
+    /// What the row `i` and the base row `r` are multiplied by before the one is taken from the other.
+    pub(crate) fn multipliers(&self, r: usize, i: usize) -> Multipliers
+        requires narrow { AreNarrow self.now.numbers.now }
+        requires base_row { r < length self.now.numbers.now }
+        requires row { i < length self.now.numbers.now }
+        ensures own { result.own ≡ number self.now.numbers.now r }
+        ensures base { result.base ≡ number self.now.numbers.now i }
+    {
+        Multipliers {
+            own: self.numbers[r],
+            base: self.numbers[i],
+        }
+    }
 }
 
 /// Writes the numbers of all rows in the column. Each is a sum over a column whose numbers stand far apart, so a pivot

@@ -9,8 +9,8 @@ use crate::divisors::{Divisor, gcd_128};
 use crate::limits::WIDEST;
 use crate::multipliers::Multipliers;
 
-/// Writes what the row becomes, divided by a number that may divide it, and gives the greatest size of the quotients,
-/// unless it does not divide all of it or a quotient is beyond the limit.
+/// Writes what the row becomes, divided by a number that may divide it, and gives a size that no quotient exceeds,
+/// unless the number does not divide all of the row or a quotient is beyond the limit.
 pub(crate) fn divide_by(
     by: &Divisor,
     turn: Multipliers,

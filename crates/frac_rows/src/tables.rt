@@ -8,8 +8,7 @@ use crate::Wide;
 use crate::columns::Columns;
 use crate::divisors::Divisor;
 use crate::entering::Entering;
-use crate::follows::{Turn, next_row};
-use crate::multipliers::Multipliers;
+use crate::follows::{follow_by, follow_reduced};
 use crate::parts::part;
 
 /// Writes what is kept of all rows after the pivot on the row `r`, and tells whether all of them were divided by the
@@ -39,7 +38,8 @@ pub(crate) fn next_rows(
     Ok(divided)
 }
 
-// The row `i` after the pivot; the row `r` itself stays.
+// The row `i` after the pivot, divided by the number that is expected to divide it, else by its greatest common divisor;
+// the row `r` itself stays.
 fn row_after(
     columns: &Columns,
     by: &Option<Divisor>,
@@ -63,13 +63,13 @@ fn row_after(
         out.copy_from_slice(row);
         return Ok(true);
     }
-    let multipliers = Multipliers {
-        own: entering.numbers[r],
-        base: entering.numbers[i],
-    };
-    let turn = Turn {
-        column: entering.column,
-        multipliers,
-    };
-    next_row(columns, by, turn, row, part(numbers, width, r), out)
+    let multipliers = entering.multipliers(r, i);
+    let base = part(numbers, width, r);
+    if follow_by(columns, by, multipliers, row, base, out) {
+        return Ok(true);
+    }
+    if follow_reduced(columns, multipliers, row, base, out) {
+        return Ok(false);
+    }
+    Err(Wide)
 }
