@@ -8,7 +8,6 @@
 
 mod laws;
 mod rooms;
-mod set_lines;
 mod value_lines;
 mod written;
 

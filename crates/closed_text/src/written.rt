@@ -9,12 +9,12 @@ ghost use Rattle.kept_cuts.specs.Networks.{IsProved};
 ghost use Rattle.closed_text.specs.Texts.{kept_dual_items, network_top_items, network_items, network_text};
 
 use crate::DualRoom;
-use crate::set_lines::put_set_duals;
 use crate::value_lines::put_value_duals;
 use cert_format::{put_cut, put_top, put_tree};
 use hub_io::{Buffer, Failed, Sink};
 use hub_model::{Instance, signed};
 use kept_cuts::{KeptCut, KeptCuts, Network};
+use set_lines::put_set_duals;
 
 /// Writes the certificate of what a search of the instance found, in puts of about 8192 bytes each. It takes no memory.
 ///

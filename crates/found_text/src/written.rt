@@ -1,24 +1,23 @@
 //! The text of the certificate of what a search found, put part by part.
 
-ghost use Rattle.std.specs.Prelude.{◌≡◌, ◌<◌, ◌≤◌, pos};
+ghost use Rattle.std.specs.Prelude.{◌≡◌, ◌≤◌, pos};
 ghost use Rattle.hub_spec.specs.Plans.{IsHubSet};
-ghost use Rattle.hub_spec.specs.Separation.{IsOrder, minimal_dual, set_cut};
+ghost use Rattle.hub_spec.specs.Separation.{IsOrder, set_cut};
 ghost use Rattle.cert_spec.specs.Text.{cut_items, cuts_items};
 ghost use Rattle.hub_io.specs.Outside.{Puts};
 ghost use Rattle.hub_model.specs.Amounts.{natural};
-ghost use Rattle.pareto_cuts.specs.Scratches.{IsReadyFor};
 ghost use Rattle.search_steps.specs.Pools.{IsPoolOf, pool_cuts};
 ghost use Rattle.branch_tree.specs.Findings.{IsProved};
 ghost use Rattle.cert_format.specs.Puts.{PutsLines};
-ghost use Rattle.cert_format.specs.DualItems.{dual_items_from, all_dual_items};
 ghost use Rattle.found_text.specs.Texts.{found_top_items, found_items, found_text};
 
 use branch_tree::Found;
-use cert_format::{put_cut, put_dual, put_top, put_tree};
+use cert_format::{put_cut, put_top, put_tree};
 use cut_pool::Pool;
 use hub_io::{Buffer, Failed, Sink};
 use hub_model::{HubSet, Instance};
 use pareto_cuts::Scratch;
+use set_lines::put_set_duals;
 
 /// Writes the certificate of what a search of the instance found, in puts of about 8192 bytes each. It takes no memory.
 ///
@@ -133,58 +132,5 @@ fn put_set_cut<K: Sink>(
         (cut_items instance.now.size (c, set_cut instance.now set.now order.now)) }
 {
     put_cut(c, buffer, sink)?;
-    scratch.prepare(instance, set, order);
-    put_duals(instance, set, order, scratch, buffer, sink)
-}
-
-// Puts the lines of the cut's duals, for which the scratch is ready.
-fn put_duals<K: Sink>(
-    instance: &Instance,
-    set: &HubSet,
-    order: &[u32],
-    scratch: &mut Scratch,
-    buffer: &mut Buffer,
-    sink: &mut K,
-) -> Result<(), Failed>
-    requires room { instance.now.size ≤ scratch.old.room }
-    requires set { IsHubSet instance.now set.now }
-    requires order { IsOrder instance.now set.now order.now }
-    requires ready { IsReadyFor instance.now set.now order.now scratch.old }
-    ensures room { scratch.new.room ≡ scratch.old.room }
-    ensures lines { PutsLines K.taken K.faults sink.old sink.new buffer.old buffer.new result
-        (all_dual_items instance.now.size (minimal_dual instance.now set.now order.now)) }
-{
-    for i in 0..instance.size() {
-        put_origin(instance, set, order, i, scratch, buffer, sink)?;
-    }
-    Ok(())
-}
-
-// Puts the lines of the duals of the commodities from `i`. The scratch stays ready for the cut.
-fn put_origin<K: Sink>(
-    instance: &Instance,
-    set: &HubSet,
-    order: &[u32],
-    i: u32,
-    scratch: &mut Scratch,
-    buffer: &mut Buffer,
-    sink: &mut K,
-) -> Result<(), Failed>
-    requires room { instance.now.size ≤ scratch.old.room }
-    requires set { IsHubSet instance.now set.now }
-    requires order { IsOrder instance.now set.now order.now }
-    requires ready { IsReadyFor instance.now set.now order.now scratch.old }
-    requires origin { i < instance.now.size }
-    ensures room { scratch.new.room ≡ scratch.old.room }
-    ensures ready { IsReadyFor instance.now set.now order.now scratch.new }
-    ensures lines { PutsLines K.taken K.faults sink.old sink.new buffer.old buffer.new result
-        (dual_items_from instance.now.size (minimal_dual instance.now set.now order.now) i) }
-{
-    scratch.work_out(instance, set, order, i);
-    for j in 0..instance.size() {
-        scratch.make_dual(instance, set, order, i, j);
-        let (a, u) = scratch.dual();
-        put_dual(i, j, a, u, buffer, sink)?;
-    }
-    Ok(())
+    put_set_duals(instance, set, order, scratch, buffer, sink)
 }

@@ -11,4 +11,4 @@ returns-in_err-put_cut-clause-lines g c =
 pub returns-clause-lines : goal.returns-clause-lines
 returns-clause-lines g c =
     as_text (set_cut_text c.args.instance.now c.args.c c.args.set.now c.args.order.now)
-    (then_put c.put_cut.ensures (ap is_ok c.in_ok-put_cut.was) c.put_duals.ensures.lines)
+    (then_put c.put_cut.ensures (ap is_ok c.in_ok-put_cut.was) c.put_set_duals.ensures.lines)

@@ -5,7 +5,7 @@ use Rattle.cert_spec.specs.Text.{line_bytes}
 use Rattle.cert_format.proofs.Following.{HasPut}
 use Rattle.pareto_cuts.specs.Scratches.{IsReadyFor}
 use Rattle.cert_format.specs.DualItems.{dual_items_from}
-use Rattle.found_text.proofs.written.put_duals.Given as goal
+use Rattle.set_lines.proofs.duals.put_set_duals.Given as goal
 
 abbrev pub invariant-loop-i : goal.invariant-loop-i
 invariant-loop-i g l = record {

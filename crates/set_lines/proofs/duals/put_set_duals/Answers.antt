@@ -5,7 +5,7 @@ use Rattle.hub_spec.specs.Separation.{minimal_dual}
 use Rattle.cert_format.proofs.Following.{as_text, list_more, list_stop, list_end}
 use Rattle.cert_format.specs.DualItems.{dual_items_from}
 use Rattle.cert_format.proofs.CutLines.{texts_joined, origin_at}
-use Rattle.closed_text.proofs.set_lines.put_set_duals.Goals as goal
+use Rattle.set_lines.proofs.duals.put_set_duals.Goals as goal
 
 pub returns-in_err-put_set_origin-clause-lines : goal.returns-in_err-put_set_origin-clause-lines
 returns-in_err-put_set_origin-clause-lines g c =

@@ -1,4 +1,4 @@
-//! The lines of the duals of a hub set.
+//! The lines of the duals of a hub set, one commodity after another.
 
 ghost use Rattle.std.specs.Prelude.{◌≡◌, ◌<◌, ◌≤◌};
 ghost use Rattle.hub_spec.specs.Plans.{IsHubSet};
@@ -12,8 +12,9 @@ use hub_io::{Buffer, Failed, Sink};
 use hub_model::{HubSet, Instance};
 use pareto_cuts::Scratch;
 
-/// Puts the lines of the duals of all commodities by the hub set over the order. It takes no memory.
-pub(crate) fn put_set_duals<K: Sink>(
+/// Puts the lines of the duals of all commodities by the hub set over the order of the other candidates, origin by origin.
+/// It takes no memory; the scratch has room for the instance's nodes.
+pub fn put_set_duals<K: Sink>(
     instance: &Instance,
     set: &HubSet,
     order: &[u32],

@@ -4,7 +4,7 @@ use Rattle.cert_spec.specs.Text.{line_bytes}
 use Rattle.cert_format.proofs.Following.{HasPut}
 use Rattle.pareto_cuts.specs.Scratches.{HasDualsFrom}
 use Rattle.cert_format.specs.DualItems.{dual_items_from}
-use Rattle.found_text.proofs.written.put_origin.Given as goal
+use Rattle.set_lines.proofs.duals.put_set_origin.Given as goal
 
 abbrev pub invariant-loop-j : goal.invariant-loop-j
 invariant-loop-j g l = record {

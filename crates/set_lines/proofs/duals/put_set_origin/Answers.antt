@@ -8,7 +8,7 @@ use Rattle.cert_format.proofs.Amounts.{same_amount}
 use Rattle.cert_format.proofs.Written.{values_natural}
 use Rattle.cert_format.proofs.Following.{list_more, list_stop, list_end}
 use Rattle.cert_format.proofs.CutLines.{length_dual_items_from, dual_at}
-use Rattle.found_text.proofs.written.put_origin.Goals as goal
+use Rattle.set_lines.proofs.duals.put_set_origin.Goals as goal
 
 pub make_dual-requires-clause-room : goal.make_dual-requires-clause-room
 make_dual-requires-clause-room g c = omega (arith, c.loop-j.invariant.room, c.requires.room)
