@@ -8,6 +8,7 @@ from pathlib import Path
 from . import distances
 from .csv_tables import read_flows, read_nodes, table_text
 from .faults import Fault, Parser, at
+from .files import put_all
 from .quantities import FLOW
 from .sources import Source, read_ap, read_fixed, read_matrices, read_rows, read_two_files
 from .tokens import Tokens
@@ -144,7 +145,7 @@ def name_rows(source: Source) -> list[list[str]]:
 
 def solve_words(source: Source, layout: str, tail: bool, out: str) -> list[str]:
     """The words after the program's name with which it solves the instance."""
-    words = ["solve", layout, f"{out}.txt"]
+    words = ["optimize", layout, f"{out}.txt"]
     if source.fixed:
         words += ["--tail", "fixed"] if tail else ["--costs", f"{out}.costs.txt"]
     if source.factors and layout != "ap":
@@ -153,20 +154,13 @@ def solve_words(source: Source, layout: str, tail: bool, out: str) -> list[str]:
     return words
 
 
-def write_all(texts: dict[Path, str], inputs: list[Path]) -> None:
-    """Writes all the files, or none where one of them cannot be written or is one of the inputs."""
-    for path in texts:
-        if path.exists() and any(path.samefile(source) for source in inputs):
-            raise Fault(f"{path}: this is one of the files to read; choose another --out")
-    waiting = {path: path.with_name(path.name + ".part") for path in texts}
-    try:
-        for path, text in texts.items():
-            waiting[path].write_text(text, encoding="utf-8", newline="")
-        for path, part in waiting.items():
-            part.replace(path)
-    finally:
-        for part in waiting.values():
-            part.unlink(missing_ok=True)
+def converted(source: Source, layout: str, tail: bool, out: str) -> dict[Path, str]:
+    """The files of a source in a layout: the instance, the names, and the costs where it has them beside."""
+    instance = "".join(" ".join(line) + "\n" for line in instance_lines(source, layout, tail))
+    texts = {Path(f"{out}.txt"): instance, Path(f"{out}.names.csv"): table_text(name_rows(source))}
+    if source.fixed and not tail:
+        texts[Path(f"{out}.costs.txt")] = " ".join(source.fixed) + "\n"
+    return texts
 
 
 def main(words: list[str]) -> int:
@@ -185,10 +179,7 @@ def main(words: list[str]) -> int:
         raise Fault("--tail wants the layout ap and fixed costs")
     if layout != "ap":
         source = with_distances(source, getattr(args, "unit", "km"))
-    instance = "".join(" ".join(line) + "\n" for line in instance_lines(source, layout, args.tail))
-    texts = {Path(f"{args.out}.txt"): instance, Path(f"{args.out}.names.csv"): table_text(name_rows(source))}
-    if source.fixed and not args.tail:
-        texts[Path(f"{args.out}.costs.txt")] = " ".join(source.fixed) + "\n"
-    write_all(texts, [value for value in vars(args).values() if isinstance(value, Path)])
+    texts = converted(source, layout, args.tail, args.out)
+    put_all(texts, [value for value in vars(args).values() if isinstance(value, Path)])
     print("hub " + shlex.join(solve_words(source, layout, args.tail, args.out)))
     return 0

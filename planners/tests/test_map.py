@@ -2,11 +2,16 @@
 
 import random
 from itertools import combinations
+from unittest import SkipTest
+
+from .helper import INSTANCES, InFolder, lacks
+
+if lacks("numpy", "matplotlib"):
+    raise SkipTest(lacks("numpy", "matplotlib"))
 
 import numpy as np
 from matplotlib import pyplot
 
-from .helper import INSTANCES, InFolder
 from planning.certificate import Plan
 from planning.drawing import MOST_TRUNKS, picture
 from planning.instance import Instance
