@@ -8,6 +8,7 @@ from pathlib import Path
 from . import distances
 from .csv_tables import read_flows, read_nodes, table_text
 from .faults import Fault, Parser, at
+from .files import put_all
 from .quantities import FLOW
 from .sources import Source, read_ap, read_fixed, read_matrices, read_rows, read_two_files
 from .tokens import Tokens
@@ -51,15 +52,20 @@ def parser() -> Parser:
     matrices.add_argument("--distance-first", action="store_true", help="the one file has the distances first")
     rows = kinds.add_parser("rows", parents=[named], help="CAB data as rows `i j flow distance`")
     rows.add_argument("file", type=Path)
-    table = kinds.add_parser("csv", parents=[common], help="a CSV table of nodes and one of flows")
-    columns = "columns name, x and y or longitude and latitude, and fixed where there are costs"
-    table.add_argument("nodes", type=Path, help=columns)
-    columns = "columns origin, destination, amount; a pair without a row has no flow"
-    table.add_argument("flows", type=Path, help=columns)
-    table.add_argument("--delimiter", default=",", help="what stands between two cells (default: a comma)")
-    units = "of distances from longitude and latitude (default: km)"
-    table.add_argument("--unit", choices=["km", "miles"], default="km", help=units)
+    add_tables(kinds.add_parser("csv", parents=[common], help="a CSV table of nodes and one of flows"))
     return top
+
+
+def add_tables(words: argparse.ArgumentParser) -> None:
+    """Puts what `read_tables` reads on a command line."""
+    add = words.add_argument
+    columns = "a CSV table with the columns name, x and y or longitude and latitude, and fixed where there are costs"
+    add("node_table", type=Path, metavar="NODES", help=columns)
+    columns = "one with the columns origin, destination, amount; a pair without a row has no flow"
+    add("flow_table", type=Path, metavar="FLOWS", help=columns)
+    add("--delimiter", default=",", help="what stands between two cells (default: a comma)")
+    units = "of distances from longitude and latitude (default: km)"
+    add("--unit", choices=["km", "miles"], default="km", help=units)
 
 
 def read_source(args: argparse.Namespace) -> Source:
@@ -74,14 +80,19 @@ def read_source(args: argparse.Namespace) -> Source:
         return read_matrices(Tokens(args.flows), args.distance_first)
     if args.kind == "rows":
         return read_rows(Tokens(args.file))
-    if len(args.delimiter) != 1:
+    return read_tables(args.node_table, args.flow_table, args.delimiter)
+
+
+def read_tables(node_table: Path, flow_table: Path, delimiter: str = ",") -> Source:
+    """A table of nodes with their places, and one of flows."""
+    if len(delimiter) != 1:
         raise Fault("--delimiter wants one character")
-    nodes = read_nodes(args.nodes, args.delimiter)
+    nodes = read_nodes(node_table, delimiter)
     if not nodes.points and not nodes.places:
-        raise at(args.nodes, 1, "the columns 'x' and 'y', or 'longitude' and 'latitude'", "neither")
+        raise at(node_table, 1, "the columns 'x' and 'y', or 'longitude' and 'latitude'", "neither")
     if nodes.points and nodes.places:
-        raise at(args.nodes, 1, "'x' and 'y', or 'longitude' and 'latitude'", "both")
-    flows = read_flows(args.flows, nodes.names, args.delimiter)
+        raise at(node_table, 1, "'x' and 'y', or 'longitude' and 'latitude'", "both")
+    flows = read_flows(flow_table, nodes.names, delimiter)
     return Source(nodes.names, flows, points=nodes.points, places=nodes.places, fixed=nodes.fixed)
 
 
@@ -101,13 +112,16 @@ def chosen(source: Source, first: int | None, only: str | None) -> list[int]:
         if not 1 <= first <= source.size():
             raise Fault(f"--first wants 1 to {source.size()}, found {first}")
         return list(range(first))
-    if only is None:
-        return list(range(source.size()))
+    return list(range(source.size())) if only is None else listed(source, "--only", only)
+
+
+def listed(source: Source, option: str, words: str) -> list[int]:
+    """The nodes, from 0, of a list of names or numbers with commas between."""
     number = {str(i + 1): i for i in range(source.size())} | {name: i for i, name in enumerate(source.names)}
     nodes: list[int] = []
-    for word in only.split(","):
+    for word in words.split(","):
         if word.strip() not in number or number[word.strip()] in nodes:
-            raise Fault(f"--only wants names or numbers of nodes, each once, found '{word.strip()}'")
+            raise Fault(f"{option} wants names or numbers of nodes, each once, found '{word.strip()}'")
         nodes.append(number[word.strip()])
     return nodes
 
@@ -144,7 +158,7 @@ def name_rows(source: Source) -> list[list[str]]:
 
 def solve_words(source: Source, layout: str, tail: bool, out: str) -> list[str]:
     """The words after the program's name with which it solves the instance."""
-    words = ["solve", layout, f"{out}.txt"]
+    words = ["optimize", layout, f"{out}.txt"]
     if source.fixed:
         words += ["--tail", "fixed"] if tail else ["--costs", f"{out}.costs.txt"]
     if source.factors and layout != "ap":
@@ -153,20 +167,13 @@ def solve_words(source: Source, layout: str, tail: bool, out: str) -> list[str]:
     return words
 
 
-def write_all(texts: dict[Path, str], inputs: list[Path]) -> None:
-    """Writes all the files, or none where one of them cannot be written or is one of the inputs."""
-    for path in texts:
-        if path.exists() and any(path.samefile(source) for source in inputs):
-            raise Fault(f"{path}: this is one of the files to read; choose another --out")
-    waiting = {path: path.with_name(path.name + ".part") for path in texts}
-    try:
-        for path, text in texts.items():
-            waiting[path].write_text(text, encoding="utf-8", newline="")
-        for path, part in waiting.items():
-            part.replace(path)
-    finally:
-        for part in waiting.values():
-            part.unlink(missing_ok=True)
+def converted(source: Source, layout: str, tail: bool, out: str) -> dict[Path, str]:
+    """The files of a source in a layout: the instance, the names, and the costs where it has them beside."""
+    instance = "".join(" ".join(line) + "\n" for line in instance_lines(source, layout, tail))
+    texts = {Path(f"{out}.txt"): instance, Path(f"{out}.names.csv"): table_text(name_rows(source))}
+    if source.fixed and not tail:
+        texts[Path(f"{out}.costs.txt")] = " ".join(source.fixed) + "\n"
+    return texts
 
 
 def main(words: list[str]) -> int:
@@ -185,10 +192,7 @@ def main(words: list[str]) -> int:
         raise Fault("--tail wants the layout ap and fixed costs")
     if layout != "ap":
         source = with_distances(source, getattr(args, "unit", "km"))
-    instance = "".join(" ".join(line) + "\n" for line in instance_lines(source, layout, args.tail))
-    texts = {Path(f"{args.out}.txt"): instance, Path(f"{args.out}.names.csv"): table_text(name_rows(source))}
-    if source.fixed and not args.tail:
-        texts[Path(f"{args.out}.costs.txt")] = " ".join(source.fixed) + "\n"
-    write_all(texts, [value for value in vars(args).values() if isinstance(value, Path)])
+    texts = converted(source, layout, args.tail, args.out)
+    put_all(texts, [value for value in vars(args).values() if isinstance(value, Path)])
     print("hub " + shlex.join(solve_words(source, layout, args.tail, args.out)))
     return 0

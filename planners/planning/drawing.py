@@ -1,8 +1,8 @@
-"""The script `map`: a picture of a network with its hubs, trunks and spokes."""
+"""The picture of a network with its hubs, trunks and spokes."""
 
 from dataclasses import dataclass
+from io import BytesIO
 from math import sqrt
-from pathlib import Path
 
 import matplotlib
 
@@ -14,12 +14,9 @@ from matplotlib.axes import Axes
 from matplotlib.collections import LineCollection
 from matplotlib.lines import Line2D
 
-from .faults import Fault, Parser
 from .labels import Labels, Node
 from .loads import Links
-from .options import add_options, options_of
-from .places import positions
-from .tables import Named, read_named
+from .tables import Named
 
 HUB, NODE, TRUNK, SPOKE = "#c8401f", "#5b8db8", "#1f3b63", "#8c8c8c"
 FLOW_UNITS = 10**6
@@ -33,7 +30,6 @@ STRONG = 0.25
 """Names keep off trunks with at least this part of the strongest one's flow."""
 MOST_SIDE, LEAST_SIDE, LEGEND, TITLE = 7.5, 4.5, 2.3, 0.7
 """In inches: the longer side of the map, the least of each side, and the room beside and above it."""
-PICTURES = (".png", ".svg", ".pdf")
 
 
 @dataclass(frozen=True)
@@ -194,19 +190,14 @@ def readable(number: float) -> str:
     return f"{number:.6g}"
 
 
-def save(figure: pyplot.Figure, path: Path) -> None:
-    """Writes a picture; the same input gives the same bytes."""
+def picture_bytes(figure: pyplot.Figure, kind: str) -> bytes:
+    """A picture as a file of a kind, `.png`, `.svg` or `.pdf`; the same input gives the same bytes."""
+    held = BytesIO()
+    date = {".svg": {"Date": None}, ".pdf": {"CreationDate": None}}.get(kind)
     with matplotlib.rc_context({"svg.hashsalt": "hub"}):
-        figure.savefig(path, dpi=150, metadata={"Date": None} if path.suffix == ".svg" else None)
+        figure.savefig(held, format=kind[1:], dpi=150, metadata=date)
     pyplot.close(figure)
-
-
-def picture_path(text: str) -> Path:
-    """A file name that ends as a picture's."""
-    path = Path(text)
-    if path.suffix not in PICTURES:
-        raise Fault(f"--out wants a name that ends in one of {', '.join(PICTURES)}, found '{text}'")
-    return path
+    return held.getvalue()
 
 
 def paper_for(places: np.ndarray) -> tuple[pyplot.Figure, Axes]:
@@ -228,28 +219,3 @@ def picture(named: Named, places: np.ndarray, title: str, note: str) -> pyplot.F
     drawn.legend(axes, note)
     drawn.write_names(axes)
     return figure
-
-
-def main(words: list[str]) -> int:
-    """Draws a network."""
-    parser = Parser(prog="map", description="a picture of a network: nodes, hubs, trunks and spokes", epilog=EPILOG)
-    add_options(parser)
-    parser.add_argument("certificate", type=Path, help="what hub solve wrote for this instance with these options")
-    parser.add_argument(
-        "--names",
-        type=Path,
-        metavar="FILE",
-        help="a CSV table of the nodes in order: name, and x,y or longitude,latitude",
-    )
-    parser.add_argument("--title", default="", help="a line above the cost")
-    parser.add_argument("--out", required=True, help="the picture: a name that ends in .svg, .png or .pdf")
-    args = parser.parse_args(words)
-    path = picture_path(args.out)
-    named = read_named(options_of(args), args.certificate, args.names)
-    places, note = positions(named.network.instance, args.names)
-    save(picture(named, places, args.title, note), path)
-    return 0
-
-
-EPILOG = """A node's area tells its flow in and out, a line's width the flow both ways. Without places in the instance or
-the table of names, nodes are placed by their distances. A certificate that hub check does not accept is not drawn."""

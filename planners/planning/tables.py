@@ -7,6 +7,7 @@ from pathlib import Path
 from .certificate import read_plan
 from .csv_tables import read_nodes, table_text
 from .faults import Fault, Parser
+from .files import put_all
 from .instance import read_instance
 from .loads import FIXED_UNITS, Links, Network, network_of
 from .options import Options, add_options, options_of
@@ -119,24 +120,31 @@ def as_json(tables: dict[str, Table]) -> str:
     return json.dumps(objects, indent=1, ensure_ascii=False) + "\n"
 
 
+def as_csv(tables: dict[str, Table]) -> dict[str, str]:
+    """A CSV file for each table."""
+    return {f"{name}.csv": table_text(table) for name, table in tables.items()}
+
+
+def add_accepted(parser: Parser) -> None:
+    """Puts on a command line what `read_named` reads: an instance, a certificate and names."""
+    add_options(parser)
+    parser.add_argument("certificate", type=Path, help="what hub wrote for this instance with these options")
+    columns = "a CSV table of the nodes in order: name, and for places x,y or longitude,latitude"
+    parser.add_argument("--names", type=Path, metavar="FILE", help=columns)
+
+
 def main(words: list[str]) -> int:
     """Writes the tables of a network."""
     parser = Parser(prog="network", description=__doc__.split(": ")[1].strip(), epilog=EPILOG)
-    add_options(parser)
-    parser.add_argument("certificate", type=Path, help="what hub solve wrote for this instance with these options")
-    parser.add_argument(
-        "--names", type=Path, metavar="FILE", help="a CSV table of the nodes in order, with the column name"
-    )
+    add_accepted(parser)
     parser.add_argument("--format", choices=["csv", "json"], default="csv", help="default: csv")
     parser.add_argument("--out", type=Path, required=True, help="the folder for the CSV files, or the JSON file")
     args = parser.parse_args(words)
     tables = all_tables(read_named(options_of(args), args.certificate, args.names))
     if args.format == "json":
-        args.out.write_text(as_json(tables), encoding="utf-8")
-        return 0
-    args.out.mkdir(parents=True, exist_ok=True)
-    for name, table in tables.items():
-        (args.out / f"{name}.csv").write_text(table_text(table), encoding="utf-8", newline="")
+        put_all({args.out: as_json(tables)})
+    else:
+        put_all({args.out / name: text for name, text in as_csv(tables).items()})
     return 0
 
 

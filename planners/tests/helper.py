@@ -2,10 +2,13 @@
 
 import csv
 import os
+import stat
 import subprocess
 import sys
 import tempfile
 import unittest
+from collections.abc import Callable
+from importlib.util import find_spec
 from pathlib import Path
 
 PLANNERS = Path(__file__).resolve().parents[1]
@@ -13,6 +16,17 @@ INSTANCES = PLANNERS / "instances"
 sys.path.insert(0, str(PLANNERS))
 
 from planning.program import program  # noqa: E402
+
+
+def lacks(*packages: str) -> str:
+    """What a skipped test says of the packages that are not there; empty where all are."""
+    missing = [package for package in packages if find_spec(package) is None]
+    return f"no Python package {' and '.join(missing)} for {sys.executable}" if missing else ""
+
+
+def needs(*packages: str) -> Callable:
+    """Skips a test where one of these packages is not there."""
+    return unittest.skipIf(lacks(*packages), lacks(*packages))
 
 
 class InFolder(unittest.TestCase):
@@ -38,6 +52,12 @@ class InFolder(unittest.TestCase):
         """The rows of a table in the folder."""
         with (self.folder / name).open(encoding="utf-8", newline="") as file:
             return list(csv.DictReader(file))
+
+    def standin(self, name: str, text: str) -> str:
+        """Writes a program into the folder, a shell script, and tells its path."""
+        path = self.write(name, "#!/bin/sh\n" + text)
+        path.chmod(path.stat().st_mode | stat.S_IXUSR)
+        return str(path)
 
     def script(self, name: str, *words: str, hub: str = "") -> subprocess.CompletedProcess[str]:
         """Runs a script in the folder."""

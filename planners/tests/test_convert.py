@@ -23,16 +23,16 @@ class Kinds(InFolder):
     def test_ap_with_costs_as_a_file_and_as_a_tail(self) -> None:
         self.write("ap", AP)
         self.write("costs", "1200\n1300\n")
-        self.assertEqual(self.convert("ap", "ap", "--costs", "costs"), "hub solve ap made.txt --costs made.costs.txt")
+        self.assertEqual(self.convert("ap", "ap", "--costs", "costs"), "hub optimize ap made.txt --costs made.costs.txt")
         self.assertEqual(self.read("made.txt"), AP)
         self.assertEqual(self.read("made.costs.txt"), "1200 1300\n")
         self.assertEqual(self.read("made.names.csv"), "node,name,x,y\n1,1,38,62\n2,2,78,246\n")
-        self.assertEqual(self.convert("ap", "ap", "--costs", "costs", "--tail"), "hub solve ap made.txt --tail fixed")
+        self.assertEqual(self.convert("ap", "ap", "--costs", "costs", "--tail"), "hub optimize ap made.txt --tail fixed")
         self.assertEqual(self.read("made.txt"), AP + "1200 1300\n")
 
     def test_ap_with_a_tail_of_costs_into_a_matrix(self) -> None:
         self.write("ap", AP + "1200 1300\n")
-        words = "hub solve cab-matrix made.txt --costs made.costs.txt --collect 3 --trunk 0.75 --deliver 2"
+        words = "hub optimize cab-matrix made.txt --costs made.costs.txt --collect 3 --trunk 0.75 --deliver 2"
         self.assertEqual(self.convert("ap", "ap", "--to", "cab-matrix"), words)
         # The straight line between the places is 188.297.. long: the root of 40 * 40 + 184 * 184.
         self.assertEqual(self.read("made.txt"), "2\n3 4\n4 6\n0.000 188.297\n188.297 0.000\n")
@@ -47,7 +47,7 @@ class Kinds(InFolder):
         tail = "    2\r\n  3.000000\r\n  0.750000\r\n  2.000000\r\n"
         self.write("ap", "    3\r\n" + places + rows + tail)
         self.write("costs", "   7.1250\r\n   8.0000\r\n   9.0000\r\n")
-        self.assertEqual(self.convert("ap", "ap", "--costs", "costs"), "hub solve ap made.txt --costs made.costs.txt")
+        self.assertEqual(self.convert("ap", "ap", "--costs", "costs"), "hub optimize ap made.txt --costs made.costs.txt")
         words = self.read("made.txt").split()
         self.assertEqual(words[7:16], [flows[i] for i in (0, 2, 1, 1, 0, 2, 2, 1, 0)])
         self.assertEqual(words[16:], ["2", "3.000000", "0.750000", "2.000000"])
@@ -61,20 +61,20 @@ class Kinds(InFolder):
         self.write("distances", "2\n" + DISTANCES)
         self.write("names", GLOBE)
         for words in (["one"], ["turned", "--distance-first"], ["flows", "distances", "--names", "names"]):
-            self.assertEqual(self.convert("matrices", *words), "hub solve cab-matrix made.txt")
+            self.assertEqual(self.convert("matrices", *words), "hub optimize cab-matrix made.txt")
             self.assertEqual(self.read("made.txt"), whole)
         self.assertEqual(self.read("made.names.csv"), "node,name,longitude,latitude\n1,Null,0,0\n2,Quarter,90,0\n")
 
     def test_rows_with_and_without_a_size(self) -> None:
         for text in (ROWS, "2\n" + ROWS):
             self.write("rows", text)
-            self.assertEqual(self.convert("rows", "rows", "--to", "cab-rows"), "hub solve cab-rows made.txt")
+            self.assertEqual(self.convert("rows", "rows", "--to", "cab-rows"), "hub optimize cab-rows made.txt")
             self.assertEqual(self.read("made.txt"), "2\n" + ROWS)
 
     def test_tables_in_the_plane_and_on_the_globe(self) -> None:
         self.write("nodes", NODES)
         self.write("flows", TABLE)
-        self.assertEqual(self.convert("csv", "nodes", "flows", "--tail"), "hub solve ap made.txt --tail fixed")
+        self.assertEqual(self.convert("csv", "nodes", "flows", "--tail"), "hub optimize ap made.txt --tail fixed")
         self.assertEqual(self.read("made.txt"), "2\n0 0\n3 4\n0 2.5\n0 0\n0\n1 1 1\n7 8\n")
         self.write("globe", GLOBE.replace(",", ";"))
         self.write("flows", "origin;destination;amount\nNull;Quarter;1\n")

@@ -3,7 +3,6 @@
 import os
 import shutil
 import signal
-import stat
 import subprocess
 import sys
 import time
@@ -42,9 +41,7 @@ class Sweeps(InFolder):
 
     def program(self, before: str) -> str:
         """A program that does something before it is `hub`."""
-        path = self.write("slow-hub", f'#!/bin/sh\n{before}\nexec {program()} "$@"\n')
-        path.chmod(path.stat().st_mode | stat.S_IXUSR)
-        return str(path)
+        return self.standin("slow-hub", f'{before}\nexec {program()} "$@"\n')
 
     def words(self, out: str, *more: str) -> list[str]:
         """The words of a sweep into a folder."""
