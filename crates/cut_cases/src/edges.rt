@@ -1,0 +1,60 @@
+//! Rows of hub edges (`hub_edges`), and the minimal dual by a row (`dual_cuts`).
+
+ghost use Rattle.std.specs.Prelude.{◌<◌};
+ghost use Rattle.hub_spec.specs.Plans.{IsHubSet};
+ghost use Rattle.hub_spec.specs.Separation.{IsOrder};
+
+use dual_cuts::dual_of;
+use hub_edges::EdgeRow;
+use hub_model::{HubSet, Instance};
+use std::alloc::{AllocError, Global};
+
+/// The row of the commodity, with the commodity that it is of.
+pub fn row(alloc: Global, instance: &Instance, i: u32, j: u32) -> Result<String, AllocError>
+    requires from { i < instance.now.size }
+    requires to { j < instance.now.size }
+{
+    let row = EdgeRow::of(alloc, instance, i, j)?;
+    let from = row.from();
+    let to = row.to();
+    let entries = row.entries();
+    format!(in alloc; "from {from} to {to} {entries:?}")
+}
+
+/// The first entry inside the set.
+pub fn cheapest(
+    alloc: Global,
+    instance: &Instance,
+    set: &HubSet,
+    i: u32,
+    j: u32,
+) -> Result<String, AllocError>
+    requires set { IsHubSet instance.now set.now }
+    requires from { i < instance.now.size }
+    requires to { j < instance.now.size }
+{
+    let row = EdgeRow::of(alloc, instance, i, j)?;
+    let entry = row.cheapest_in(set);
+    format!(in alloc; "{entry:?}")
+}
+
+/// The minimal dual by the row.
+pub fn dual(
+    alloc: Global,
+    instance: &Instance,
+    set: &HubSet,
+    order: &[u32],
+    i: u32,
+    j: u32,
+) -> Result<String, AllocError>
+    requires set { IsHubSet instance.now set.now }
+    requires order { IsOrder instance.now set.now order.now }
+    requires from { i < instance.now.size }
+    requires to { j < instance.now.size }
+{
+    let row = EdgeRow::of(alloc, instance, i, j)?;
+    let dual = dual_of(alloc, &row, set, order)?;
+    let price = dual.a();
+    let values = dual.u();
+    format!(in alloc; "{price} {values:?}")
+}

@@ -1,0 +1,78 @@
+//! Instances, each by the numbers of a line.
+
+ghost use Rattle.std.specs.Prelude.{◌≡◌, ◌^◌, pos, ◌≤ℤ◌, None, IfOk, IfSome};
+
+use crate::words::{list, node, number};
+use hub_model::{Factors, Instance, Nodes, Order, Parts, Tail, Terms, is_node_list};
+use std::alloc::{AllocError, Global};
+
+/// The factors of a file.
+const AS_THEY_ARE: Factors = Factors {
+    collect: 1000,
+    trunk: 1000,
+    deliver: 1000,
+};
+
+/// The greatest fixed cost that options give, in 10^-6.
+const MOST_FIXED: u64 = 1_000_000_000_000_000_000;
+
+/// The instance of the line, if its numbers are within their limits.
+pub fn instance_of(alloc: Global, line: &str) -> Result<Option<Instance>, AllocError> {
+    let Some(parts) = parts(alloc, line)? else {
+        return Ok(None);
+    };
+    let Some(terms) = terms(alloc, line)? else {
+        return Ok(None);
+    };
+    Ok(Instance::build(alloc, parts, &terms, None).ok())
+}
+
+/// What a file of these numbers would give.
+fn parts(alloc: Global, line: &str) -> Result<Option<Parts>, AllocError>
+    ensures { IfOk result (λ taken. IfSome taken (λ parts. parts.costs ≡ None)) }
+{
+    let flows = list::<i128>(alloc, line, "flows")?;
+    let distances = list::<i128>(alloc, line, "distances")?;
+    Ok(Parts::new(node(line, "size"), flows, distances, AS_THEY_ARE, None, None))
+}
+
+/// The options: the candidates, the factors and the fixed cost of each node.
+fn terms(alloc: Global, line: &str) -> Result<Option<Terms>, AllocError> {
+    let candidates = list::<u32>(alloc, line, "candidates")?;
+    if !is_node_list(&candidates) {
+        return Ok(None);
+    }
+    Ok(Some(Terms {
+        order: Order::FlowFirst,
+        tail: Tail::Ignore,
+        divide: 1,
+        collect: Some(factor(line, "collect")),
+        trunk: Some(factor(line, "trunk")),
+        deliver: Some(factor(line, "deliver")),
+        fixed: Some(fixed(line)),
+        candidates: Some(Nodes::from_vec(candidates)),
+        no_self: false,
+    }))
+}
+
+/// The factor of this name, or 1000 where none is named within the limits.
+fn factor(line: &str, name: &str) -> i128
+    ensures least { pos 0 ≤ℤ result }
+    ensures most { result ≤ℤ pos (10 ^ 6) }
+{
+    match number(line, name) {
+        Some(factor) if factor <= 1_000_000 => factor as i128,
+        _ => 1000,
+    }
+}
+
+/// The fixed cost of each node, or 0 where none is named within the limits.
+fn fixed(line: &str) -> i128
+    ensures least { pos 0 ≤ℤ result }
+    ensures most { result ≤ℤ pos (10 ^ 18) }
+{
+    match number(line, "fixed") {
+        Some(cost) if cost <= MOST_FIXED => cost as i128,
+        _ => 0,
+    }
+}
