@@ -114,7 +114,7 @@ pub(crate) fn set_leaf(
 
 /// The kept cut with the best bound in a branch, if it is better than that of no cut, and the bound, in 10^-12 times the
 /// denominator.
-#[derive(Clone, Copy, Debug)]
+#[derive(Clone, Copy)]
 pub(crate) struct Choice {
     pub(crate) number: Option<u64>,
     pub(crate) bound: i128,
