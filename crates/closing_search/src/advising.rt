@@ -147,11 +147,25 @@ fn pass<R: Threads + Sync, A: Advice + Drop>(
         return Ok(false);
     }
     guide.advice.better(rt, alloc, wanted)?;
-    if guide.has_guess_below(wanted) {
-        let hubs = guide.guess(alloc, task.instance.candidates())?;
-        offer_nodes(alloc, task, &hubs, progress)?;
-    }
+    take_guess(alloc, task, guide, progress)?;
     Ok(true)
+}
+
+// Makes the guess the incumbent, if it is a hub set and costs less.
+fn take_guess<A: Advice + Drop>(
+    alloc: Global,
+    task: &Task,
+    guide: &Guide<A>,
+    progress: &mut Progress,
+) -> Result<(), AllocError>
+    requires { IsGoing task.now progress.old }
+    ensures { OnOk result (IsAt task.now progress.old progress.new) }
+{
+    if !guide.has_guess_below(signed(progress.cost)) {
+        return Ok(());
+    }
+    let hubs = guide.guess(alloc, task.instance.candidates())?;
+    offer_nodes(alloc, task, &hubs, progress)
 }
 
 // Makes the nodes the incumbent, if they are a hub set and cost less.

@@ -1,6 +1,7 @@
 //! The adviser of a search: it betters duals from node to node, and guesses at hub sets.
 
 ghost use Rattle.std.specs.Prelude.{◌≡◌, ◌<◌, ◌≤◌, length, IfOk, IfSome};
+ghost use denote.Param.Send.{IsSync};
 ghost use Rattle.price_passes.specs.Shapes.{cells, shape_of};
 
 use crate::guess::Guess;
@@ -186,6 +187,7 @@ impl Advice for Adviser {
         alloc: Global,
         wanted: i128,
     ) -> Result<(), AllocError>
+        requires { IsSync R.row }
         ensures { self.new ≡ self.old }
     {
         if self.node.is_full() {

@@ -1,5 +1,7 @@
 //! What a search asks.
 
+ghost use denote.Param.Send.{IsSync};
+
 use crate::Side;
 use std::alloc::{AllocError, Global};
 use std::thread::Threads;
@@ -16,13 +18,14 @@ pub trait Advice {
     fn enter(&mut self, sides: &[Side], hubs: &[bool]);
 
     /// Betters the values by one pass, and the guess, where the bound is to come to this. Where memory runs out, the pass
-    /// may have been made in part.
+    /// may have been made in part. Threads may share the handle.
     fn better<R: Threads + Sync>(
         &mut self,
         rt: &R,
         alloc: Global,
         wanted: i128,
-    ) -> Result<(), AllocError>;
+    ) -> Result<(), AllocError>
+        requires { IsSync R.row };
 
     /// Tells whether another pass is worth its time, where the bound is to come to this.
     fn goes_on(&self, wanted: i128) -> bool;
