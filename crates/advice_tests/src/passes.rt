@@ -1,7 +1,8 @@
 //! Small instances whose cheapest sets are known: by hand, and of the last one by going through all its sets outside.
 
 use hub_model::{Factors, Instance};
-use price_passes::{Adviser, Memory, Side};
+use price_passes::Adviser;
+use search_advice::{Advice, Side};
 use std::alloc::{AllocError, Global};
 use std::test::Fail;
 use std::thread::Threads;
@@ -109,11 +110,10 @@ fn goes_back<R: Threads + Sync>(
     instance: &Instance,
 ) -> Result<bool, AllocError> {
     let mut adviser = Adviser::new(alloc, instance, 1)?;
-    let mut memory = Memory::new(alloc, instance)?;
     let first = pass(rt, alloc, &mut adviser, &SEVEN_HUBS)?;
-    adviser.remember(&mut memory);
+    adviser.put_aside(alloc)?;
     let second = pass(rt, alloc, &mut adviser, &[])?;
-    adviser.recall(&memory);
+    adviser.go_back();
     Ok(first != second && adviser.values() == first.as_slice())
 }
 

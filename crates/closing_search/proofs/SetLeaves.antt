@@ -14,7 +14,8 @@ use Rattle.search_spec.proofs.SetCosts.{set_cut_serves, set_cost_by_sums}
 use Rattle.search_spec.proofs.Separated.{serves_reaches}
 use Rattle.value_cuts.specs.Values.{ValueRows, value_cut}
 use Rattle.value_cuts.proofs.ValueSums.{cut_is}
-use Rattle.closing_search.specs.SingleCuts.{AreLoads, ClosesBy}
+use Rattle.closing_search.specs.declared.leaves.OrderedSet.{OrderedSet}
+use Rattle.closing_search.specs.SingleCuts.{AreLoads, ClosesBy, IsOrderedSet}
 
 pub inside_set : (p : Problem) (b : Branching) → IsBranch p b → 1 ≤ length b.inside → IsHubSet p b.inside
 inside_set p b is some = record { some_hub = some; ascend = is.inside_ascends; are_candidates = is.inside_are }
@@ -27,7 +28,7 @@ reached_closes p cut hubs outside target reaches =
     let scaled = sum_by-times denominator (load cut) hubs in
     omega (arith, ints, reaches, gains, loads, scaled)
 
-pub set_closes : (p : Problem) (b : Branching) (hubs order : List ℕ) (cost target : ℕ) → IsProblem p → IsHubSet p hubs → IsOrder p hubs order
+set_closes : (p : Problem) (b : Branching) (hubs order : List ℕ) (cost target : ℕ) → IsProblem p → IsHubSet p hubs → IsOrder p hubs order
     → hubs ≡ b.inside → b.free ≡ [] → IsSetCost p hubs cost → target ≤ cost → ClosesBy p (set_cut p hubs order) target b
 set_closes p b hubs order cost target ok set is_order same none is_cost less =
     let cut = set_cut p hubs order in
@@ -38,11 +39,26 @@ set_closes p b hubs order cost target ok set is_order same none is_cost less =
     (reached_closes p cut hubs b.outside target lower))
 
 -- the set costs the total of its cut, and what its hubs cost
-pub cost_by_sums : (p : Problem) (hubs order : List ℕ) (sum opening : ℕ) → IsProblem p → IsHubSet p hubs → IsOrder p hubs order
-    → sum ≡ total (set_cut p hubs order) → opening ≡ opening_cost p hubs → IsSetCost p hubs (sum + opening)
-cost_by_sums p hubs order sum opening ok set is_order is_sum is_opening =
-    let by = set_cost_by_sums p hubs order ok set is_order in
-    subst (IsSetCost p hubs) (by.by_sums ∙ omega (arith, is_sum, is_opening)) by.is_cost
+cost_by_sums : (p : Problem) (hubs order : List ℕ) (sum : ℕ) → IsProblem p → IsHubSet p hubs → IsOrder p hubs order
+    → sum ≡ total (set_cut p hubs order) → IsSetCost p hubs (sum + opening_cost p hubs)
+cost_by_sums p hubs order sum ok set is_order is_sum =
+    let by = set_cost_by_sums p hubs order ok set is_order in subst (IsSetCost p hubs) (by.by_sums ∙ omega (arith, is_sum)) by.is_cost
+
+-- the same of a branch's hubs, from the sums of a bench
+pub inside_cost : (p q : Problem) (b : Branching) (inside : OrderedSet) (order loads : List ℕ) (sum : ℕ) → q ≡ p → order ≡ inside.order.items
+    → IsProblem p → IsOrderedSet p b inside → AreLoads q (set_cut q inside.set order) sum loads → IsSetCost p b.inside (sum + opening_cost p b.inside)
+inside_cost p q b inside order loads sum same same_order ok is are =
+    subst (λ (hs : List ℕ). IsSetCost p hs (sum + opening_cost p hs)) is.hubs
+    (cost_by_sums p inside.set inside.order.items sum ok is.is_set is.is_order
+    (are.is_total ∙ ap (λ (o : List ℕ). total (set_cut q inside.set o)) same_order
+    ∙ ap (λ (x : Problem). total (set_cut x inside.set inside.order.items)) same))
+
+-- the cut of the hubs closes what is not above their cost
+pub inside_closes : (p : Problem) (b : Branching) (inside : OrderedSet) (cost target : ℕ) → IsProblem p → IsOrderedSet p b inside → b.free ≡ []
+    → IsSetCost p b.inside cost → target ≤ cost → ClosesBy p (set_cut p inside.set inside.order.items) target b
+inside_closes p b inside cost target ok is none is_cost less =
+    set_closes p b inside.set inside.order.items cost target ok is.is_set is.is_order is.hubs none
+    (subst (λ (hs : List ℕ). IsSetCost p hs cost) (sym is.hubs) is_cost) less
 
 -- ---- the sums as they are worked out
 

@@ -1,5 +1,5 @@
 -- How the steps of a search follow one another.
-use Rattle.std.proofs.Common.{◌≡◌, ℕ, ◌+◌, ◌<◌, ◌≤◌, List, [], ◌∷◌, ◌++◌, length, Option, None, Some, IsSome, refl, sym, ap, subst, ◌∙◌, append-nil, arith}
+use Rattle.std.proofs.Common.{◌≡◌, ℕ, ◌+◌, ◌<◌, ◌≤◌, List, [], ◌∷◌, ◌++◌, length, Bool, true, false, Option, None, Some, IsSome, refl, sym, ap, subst, ◌∙◌, append-nil, arith}
 use Rattle.std.proofs.lemmas.List.{length_push, map_push}
 use Rattle.std.proofs.lemmas.List.Elements.{All-push}
 use Rattle.hub_spec.specs.Limits.{most_cuts, most_tree_lines}
@@ -20,7 +20,7 @@ use Rattle.kept_cuts.specs.Networks.{lines_of}
 use Rattle.closing_search.specs.declared.task.Task.{Task}
 use Rattle.closing_search.specs.declared.progress.Progress.{Progress}
 use Rattle.closing_search.specs.SingleCuts.{AreLoads}
-use Rattle.closing_search.specs.Progressing.{cuts_of, target_of, WalksTo, IsGoing, IsAt, IsEndLine, IsDone, IsHalved, IsOver}
+use Rattle.closing_search.specs.Progressing.{cuts_of, target_of, WalksTo, IsGoing, IsAt, IsEndLine, IsDone, IsHalved, IsAdvised, IsOver}
 use Rattle.closing_search.proofs.KeptSums.{kept_more}
 
 -- what is led to stays so
@@ -120,6 +120,12 @@ at_done t b before middle after at done = record {
   walks = λ first pending walks. done.walks first pending (at.walks first (b ∷ pending) walks);
   lines = omega (arith, at.lines, at.made, done.lines);
 }
+
+-- what advice comes to, told of what stood before the advice was taken
+pub at_advised : (t : Task) (b : Branching) (before middle after : Progress) (ended : Bool) → IsAt t before middle → IsAdvised t b middle after ended
+    → IsAdvised t b before after ended
+at_advised t b before middle after true at done = at_done t b before middle after at done
+at_advised t b before middle after false at more = (at_twice t before middle after at more.0, more.1)
 
 target_falls : (p : Problem) (before : Progress) (lower : ℕ) → lower ≤ target_of before → (first last : List Branching)
     → WalksTo p before first last → Walks p (cuts_of p before) lower first (lines_of before.lines.items) last

@@ -1,10 +1,13 @@
 -- One cut alone: its sums, and the bound of a branch by it.
 use Rattle.std.specs.Prelude.{◌≡◌, ℕ, ◌<◌, ◌≤◌, ℤ, pos, ◌≤ℤ◌, List, [], ◌∷◌, map, length, slice_index, Option, Some, None, IfSome}
 use Rattle.hub_spec.specs.Problem.{Problem, IsProblem}
+use Rattle.hub_spec.specs.Plans.{IsHubSet}
 use Rattle.hub_spec.specs.Cuts.{Cut, total, load, IsCut}
+use Rattle.hub_spec.specs.Separation.{IsOrder}
 use Rattle.hub_spec.specs.Trees.{Branching, leaf_bound, Closes}
 use Rattle.search_spec.specs.States.{denominator, whole_on}
 use Rattle.closing_search.specs.declared.leaves.Choice.{Choice}
+use Rattle.closing_search.specs.declared.leaves.OrderedSet.{OrderedSet}
 
 -- the fixed cost of each node of an instance
 pub record AreFixedCosts (p : Problem) (fixed : List ℤ) : Type 0 where
@@ -45,3 +48,9 @@ pub record IsChoice (p : Problem) (cuts : List Cut) (b : Branching) (choice : Ch
   pub most : IfSome choice.number (λ c. c ≤ length cuts)
   pub bound : choice.bound ≡ leaf_bound p cuts denominator (weights_on choice.number) b
   pub low : pos 0 ≤ℤ choice.bound
+
+-- the hubs of the branch, and an order of the other candidates
+pub record IsOrderedSet (p : Problem) (b : Branching) (inside : OrderedSet) : Type 0 where
+  pub hubs : inside.set ≡ b.inside
+  pub is_set : IsHubSet p inside.set
+  pub is_order : IsOrder p inside.set inside.order.items

@@ -1,14 +1,16 @@
 //! The leaves of the tree.
 
-ghost use Rattle.std.specs.Prelude.{◌≡◌, ◌≤◌, [], ◌∷◌, pos, length, ◌≤ℤ◌, ◌⊎◌, IfOk, IfSome, OnOk};
-ghost use Rattle.hub_spec.specs.Plans.{IsHubSet};
+ghost use Rattle.std.specs.Prelude.{◌≡◌, ◌≤◌, ◌+◌, [], ◌∷◌, pos, length, ◌≤ℤ◌, ◌⊎◌, IfOk, IfSome, OnOk};
+ghost use Rattle.hub_spec.specs.Limits.{most_cost};
+ghost use Rattle.hub_spec.specs.Problem.{opening_cost};
+ghost use Rattle.hub_spec.specs.Plans.{IsHubSet, IsSetCost};
 ghost use Rattle.hub_spec.specs.Trees.{IsBranch, leaf_of, leaf_bound, cut_at};
 ghost use Rattle.hub_model.specs.Lines.{tree_line_of};
 ghost use Rattle.leaf_bound.specs.Weighing.{most_bound, IsWithin};
 ghost use Rattle.search_spec.specs.States.{denominator, whole_on, rounded_up};
 ghost use Rattle.search_spec.specs.Findings.{IsSpent};
-ghost use Rattle.closing_search.specs.Progressing.{cuts_of, target_of, IsGoing, IsDone};
-ghost use Rattle.closing_search.specs.SingleCuts.{ClosesBy, weights_on, IsChoice};
+ghost use Rattle.closing_search.specs.Progressing.{cuts_of, target_of, IsGoing, IsAt, IsDone};
+ghost use Rattle.closing_search.specs.SingleCuts.{ClosesBy, weights_on, IsChoice, IsOrderedSet};
 
 use crate::bench::Bench;
 use crate::bounds::{DENOMINATOR, bare_bound, is_above, kept_bound};
@@ -101,20 +103,55 @@ pub(crate) fn set_leaf(
     ensures bench { bench.new.problem ≡ bench.old.problem }
     ensures done { OnOk result (IsDone task.now branch.now progress.old progress.new) }
 {
-    let set = HubSet::of(alloc, branch.inside())?;
-    let order = outside(alloc, task.instance, &set)?;
-    let total = bench.set_sums(&set, &order);
-    let cost = total + task.instance.opening_cost(set.members());
-    let hubs = set.copy(alloc)?;
-    offer(task, hubs, cost, progress);
-    let cut = KeptCut::Set(set, order);
+    let inside = ordered_set(alloc, task, branch)?;
+    let total = bench.set_sums(&inside.set, &inside.order);
+    offer_inside(alloc, task, branch, total, progress)?;
+    let cut = KeptCut::Set(inside.set, inside.order);
     let number = keep(alloc, task, cut, total, bench.loads(), progress)?;
     cut_leaf(alloc, task, branch, number, progress)
 }
 
+/// The hubs of a branch, with the other candidates in the order for their cut.
+#[derive(Drop)]
+pub(crate) struct OrderedSet {
+    pub(crate) set: HubSet,
+    pub(crate) order: Vec<u32>,
+}
+
+fn ordered_set(alloc: Global, task: &Task, branch: &Branch) -> Result<OrderedSet, AllocError>
+    requires branch { IsBranch task.now.instance.now branch.now }
+    requires some_inside { 1 ≤ length branch.now.inside }
+    ensures { IfOk result (IsOrderedSet task.now.instance.now branch.now) }
+{
+    let set = HubSet::of(alloc, branch.inside())?;
+    let order = outside(alloc, task.instance, &set)?;
+    Ok(OrderedSet { set, order })
+}
+
+// Makes the hubs of the branch the incumbent, if they cost less: the total of their cut, and what they cost to open.
+fn offer_inside(
+    alloc: Global,
+    task: &Task,
+    branch: &Branch,
+    total: u128,
+    progress: &mut Progress,
+) -> Result<(), AllocError>
+    requires going { IsGoing task.now progress.old }
+    requires set { IsHubSet task.now.instance.now branch.now.inside }
+    requires total { total ≤ most_cost }
+    requires cost { let p = task.now.instance.now in IsSetCost p branch.now.inside (total + opening_cost p branch.now.inside) }
+    ensures at { OnOk result (IsAt task.now progress.old progress.new) }
+    ensures reached { OnOk result (progress.new.cost ≤ total + opening_cost task.now.instance.now branch.now.inside) }
+{
+    let cost = total + task.instance.opening_cost(branch.inside());
+    let hubs = HubSet::of(alloc, branch.inside())?;
+    offer(task, hubs, cost, progress);
+    Ok(())
+}
+
 /// The kept cut with the best bound in a branch, if it is better than that of no cut, and the bound, in 10^-12 times the
 /// denominator.
-#[derive(Clone, Copy, Debug)]
+#[derive(Clone, Copy)]
 pub(crate) struct Choice {
     pub(crate) number: Option<u64>,
     pub(crate) bound: i128,

@@ -1,13 +1,12 @@
 //! A search of real size that follows no fixed rule, with the certificate of what it finds.
 //!
-//! `optimize` walks the tree of branches, the open child first. At a node, advice (`price_passes`) betters hub sets and
+//! `optimize` walks the tree of branches, the open child first. At a node, advice (`search_advice`) betters hub sets and
 //! values of the candidates for each commodity, and the cut of the values (`value_cuts`) is exact whatever they are. Near
 //! the optimum of the linear relaxation one such cut closes the root: no plan costs less than the incumbent. Where it
 //! does not, the search branches. A branch with nothing free ends on the cut of its own hubs. With a most number of nodes
 //! the search stops where two more are not allowed, and each branch that is left becomes a leaf.
 //!
-//! Workers side by side make the passes of the advice, and what the search finds is the same, whatever their number.
-//! Nothing of the advice is trusted. Each step keeps what `Progressing` of the specs says: the lines lead from the root
+//! Who calls hands in the advice (`price_passes`), of which nothing is trusted. Each step keeps what `Progressing` of the specs says: the lines lead from the root
 //! to the branches that are still to be filled (`tree_walks`), and the incumbent has its cost. `Bench` is what a search
 //! works with, `Progress` what it has. Costs are in 10^-12; nodes are `u32`, counted from 0, cuts are counted from 1.
 #![tactic(auto)]
@@ -15,6 +14,8 @@
 mod advising;
 mod bench;
 mod bounds;
+mod desk;
+mod guide;
 mod keeping;
 mod leaves;
 mod optimizing;

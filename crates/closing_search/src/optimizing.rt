@@ -7,13 +7,14 @@ ghost use Rattle.search_spec.specs.Findings.{AreWithin, IsSpent};
 ghost use Rattle.kept_cuts.specs.Networks.{IsProved};
 ghost use Rattle.closing_search.specs.Progressing.{IsGoing, IsDone, IsOver};
 
-use crate::bench::Bench;
+use crate::desk::Desk;
 use crate::progress::{Progress, target};
 use crate::task::{Task, fixed_costs};
 use crate::walking::node;
 use assign_sub::{assign, set_cost};
 use hub_model::{Branch, HubSet, Instance, Plan, unsigned};
 use kept_cuts::{KeptCuts, Network};
+use search_advice::Advice;
 use std::alloc::{AllocError, Global};
 use std::thread::Threads;
 
@@ -23,19 +24,18 @@ use std::thread::Threads;
 /// Only where two nodes more are not allowed the search stops, and then the bound may be below the cost. Else both are
 /// equal and the plan is optimal.
 ///
-/// The passes of its advice are made by so many workers, 1 to 64, each in a thread of its own where one can be made. What
-/// is found is the same for every number of workers and every schedule, as long as memory does not run out.
+/// Nothing of the advice is relied on. What is found is the same for equal advice; who advises may make passes by workers,
+/// in threads of their own.
 ///
 /// The answer is `AllocError` where memory runs out, and for a search that would have more cuts or tree lines than a
 /// certificate's text can have, 67,108,864 and 268,435,456.
-pub fn optimize<R: Threads + Sync>(
+pub fn optimize<R: Threads + Sync, A: Advice + Drop>(
     rt: &R,
     alloc: Global,
     instance: &Instance,
     nodes: Option<u64>,
-    workers: u32,
+    advice: A,
 ) -> Result<Network, AllocError>
-    requires workers { (1 ≤ workers) × (workers ≤ 64) }
     ensures proved { IfOk result (IsProved instance.now) }
     ensures within { IfOk result (λ found. found.bound ≤ found.cost) }
     ensures below { IfOk result (λ found. NoPlanBelow instance.now found.bound) }
@@ -50,25 +50,39 @@ pub fn optimize<R: Threads + Sync>(
         nodes,
     };
     let mut progress = begin(alloc, &task)?;
-    fill_tree(rt, alloc, &task, workers, &mut progress)?;
+    fill_tree(rt, alloc, &task, advice, &mut progress)?;
     finish(alloc, &task, progress)
 }
 
-// Handles the root, and all nodes below it.
-fn fill_tree<R: Threads + Sync>(
+// Handles the root, and all nodes below it, by this advice.
+fn fill_tree<R: Threads + Sync, A: Advice + Drop>(
     rt: &R,
     alloc: Global,
     task: &Task,
-    workers: u32,
+    advice: A,
     progress: &mut Progress,
 ) -> Result<(), AllocError>
     requires { IsGoing task.now progress.old }
     ensures { OnOk result (IsDone task.now (root task.now.instance.now) progress.old progress.new) }
 {
+    let mut desk = Desk::new(alloc, task.instance, advice)?;
+    walk(rt, alloc, task, &mut desk, progress)
+}
+
+// Handles the root, and all nodes below it, at this desk.
+fn walk<R: Threads + Sync, A: Advice + Drop>(
+    rt: &R,
+    alloc: Global,
+    task: &Task,
+    desk: &mut Desk<'_, A>,
+    progress: &mut Progress,
+) -> Result<(), AllocError>
+    requires going { IsGoing task.now progress.old }
+    requires bench { desk.old.bench.problem ≡ task.now.instance.now }
+    ensures { OnOk result (IsDone task.now (root task.now.instance.now) progress.old progress.new) }
+{
     let root = Branch::root(alloc, task.instance)?;
-    let depth = root.free().len() as u32 + 1;
-    let mut bench = Bench::new(alloc, task.instance, workers)?;
-    node(depth, rt, alloc, task, &mut bench, &root, progress)
+    node(rt, alloc, task, desk, &root, progress)
 }
 
 // No cut and no line, with the set of all candidates as the first incumbent.

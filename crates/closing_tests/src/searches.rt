@@ -4,6 +4,7 @@ use closing_search::optimize;
 use hub_demo::made_instance;
 use hub_model::{Factors, Instance};
 use hub_plain::{best_plan, plan_cost};
+use price_passes::Adviser;
 use std::alloc::{AllocError, Global};
 use std::test::Fail;
 use std::thread::Threads;
@@ -32,7 +33,7 @@ fn finds_the_least<R: Threads + Sync>(
     alloc: Global,
     instance: &Instance,
 ) -> Result<bool, AllocError> {
-    let found = optimize(rt, alloc, instance, None, 1)?;
+    let found = optimize(rt, alloc, instance, None, Adviser::new(alloc, instance, 1)?)?;
     let best = best_plan(alloc, instance)?;
     Ok(found.cost == plan_cost(instance, &best) && found.bound == found.cost)
 }
@@ -72,7 +73,13 @@ fn within<R: Threads + Sync>(
     instance: &Instance,
     nodes: Option<u64>,
 ) -> Result<(u128, u128, usize), AllocError> {
-    let found = optimize(rt, alloc, instance, nodes, 1)?;
+    let found = optimize(
+        rt,
+        alloc,
+        instance,
+        nodes,
+        Adviser::new(alloc, instance, 1)?,
+    )?;
     Ok((found.cost, found.bound, found.tree.len()))
 }
 

@@ -4,6 +4,7 @@ ghost use Rattle.std.specs.Prelude.{◌≡◌, ◌≤◌, None, IfOk};
 
 use closing_search::optimize;
 use hub_model::{Factors, Instance, Nodes, Parts, Terms, is_node_list};
+use price_passes::Adviser;
 use std::alloc::{AllocError, Global};
 use std::test::Fail;
 use std::thread::Threads;
@@ -86,7 +87,13 @@ fn found<R: Threads + Sync>(
 ) -> Result<(u128, u128, usize, Vec<u32>, Vec<i128>), AllocError>
     requires { (1 ≤ workers) × (workers ≤ 64) }
 {
-    let found = optimize(rt, alloc, instance, Some(3), workers)?;
+    let found = optimize(
+        rt,
+        alloc,
+        instance,
+        Some(3),
+        Adviser::new(alloc, instance, workers)?,
+    )?;
     let hubs = found.plan.hubs().to_vec(alloc)?;
     let totals = found.cuts.totals().to_vec(alloc)?;
     Ok((found.cost, found.bound, found.tree.len(), hubs, totals))

@@ -26,6 +26,7 @@ use hub_words::{Making, Search, Source};
 use kept_cuts::Network;
 use par_separate::{Crew, separate, workers_for};
 use pareto_cuts::Scratch;
+use price_passes::Adviser;
 use separators::Solo;
 use std::alloc::{AllocError, Global};
 use std::thread::Threads;
@@ -72,7 +73,8 @@ pub fn optimize<R: Threads + Sync, S: Shelf>(
     ensures stays { StaysShelf S.held S.faults S.sound shelf.old shelf.new }
 {
     let instance = read_instance(alloc, source, shelf)?;
-    let found = closing_search::optimize(rt, alloc, &instance, asked.nodes, asked.workers)?;
+    let adviser = Adviser::new(alloc, &instance, asked.workers)?;
+    let found = closing_search::optimize(rt, alloc, &instance, asked.nodes, adviser)?;
     Ok((instance, found))
 }
 

@@ -1,20 +1,21 @@
 //! The adviser of a search: it betters duals from node to node, and guesses at hub sets.
 
 ghost use Rattle.std.specs.Prelude.{◌≡◌, ◌<◌, ◌≤◌, length, IfOk, IfSome};
+ghost use denote.Param.Send.{IsSync};
 ghost use Rattle.price_passes.specs.Shapes.{cells, shape_of};
 
 use crate::guess::Guess;
 use crate::lengths::Lengths;
-use crate::memory::Memory;
+use crate::memory::Memories;
 use crate::moves::LocalSearch;
 use crate::node::Node;
 use crate::passes::Bench;
 use crate::progress::Progress;
-use crate::ramps::Side;
 use crate::rows::{copy, fill};
 use crate::state::State;
 use crate::tightening::Tightening;
 use hub_model::Instance;
+use search_advice::{Advice, Side};
 use std::alloc::{AllocError, Global};
 use std::marker::Model;
 use std::thread::Threads;
@@ -24,10 +25,9 @@ const EARLY_PASSES: usize = 3;
 
 /// Gives advice at the nodes of a search, one after another. It is seen as the shape of its instance.
 ///
-/// A search enters a node, and betters the duals there as long as that goes on. Where the bound comes near what is
-/// wanted, it tests the values itself, by their exact cut; where passes end before, it branches. Duals and prices go on
-/// from node to node, so that a child starts from its parent's; a [`Memory`] leads back to those of an earlier node.
-#[derive(Debug, Drop)]
+/// Duals and prices go on from node to node, so that a child starts from its parent's; a memory leads back to those that
+/// were put aside at an earlier node. Of what is put aside the first two are kept, and the others forgotten.
+#[derive(Drop)]
 pub struct Adviser {
     workers: u32,
     lengths: Lengths,
@@ -38,6 +38,7 @@ pub struct Adviser {
     bench: Bench,
     search: LocalSearch,
     tightening: Tightening,
+    memories: Memories,
 }
 
 impl Model for Adviser {
@@ -67,118 +68,8 @@ impl Adviser {
             bench: Bench::new(alloc, places)?,
             search: LocalSearch::new(alloc, size, places)?,
             tightening: Tightening::new(alloc, size, places)?,
+            memories: Memories::new(alloc),
         })
-    }
-
-    /// Goes to the node of a search with these sides. A guess is made from the hubs that are marked.
-    pub fn enter(&mut self, sides: &[Side], hubs: &[bool])
-        ensures { self.new ≡ self.old }
-    {
-        copy(sides, &mut self.node.sides);
-        self.progress.begin(self.node.is_root());
-        self.guess.clear();
-        self.node.mark_start(hubs, &mut self.guess.start);
-        self.node
-            .mark_movable(&self.guess.start, &mut self.guess.movable);
-        let cost = self
-            .search
-            .improve(&self.lengths, &self.guess.start, &self.guess.movable);
-        self.guess.offer(self.search.marks(), cost);
-        copy(self.search.marks(), &mut self.guess.start);
-        let limit = self.lengths.longest().wrapping_add(1);
-        self.search
-            .set_caps(&self.lengths, limit, &mut self.node.caps);
-    }
-
-    /// Betters the duals by one pass, and the guess, where the bound is to come to this, in 10^-12. Several
-    /// workers need memory for it; where that runs out, the pass may have been made in part.
-    pub fn better<R: Threads + Sync>(
-        &mut self,
-        rt: &R,
-        alloc: Global,
-        wanted: i128,
-    ) -> Result<(), AllocError>
-        ensures { self.new ≡ self.old }
-    {
-        if self.node.is_full() {
-            self.better_full();
-            return Ok(());
-        }
-        self.prepare();
-        self.state.pass(
-            rt,
-            alloc,
-            self.workers,
-            &self.lengths,
-            self.node.terms(),
-            &mut self.bench,
-        )?;
-        self.node.follow(self.state.loads());
-        let bound = self.state.bound(&self.lengths, &self.node.sides);
-        let bound = self.round(wanted, bound);
-        self.progress.note(bound);
-        Ok(())
-    }
-
-    /// The values, commodity by commodity: a number for each place, in the unit.
-    pub fn values(&self) -> &[u32]
-        ensures { length result.now ≡ cells self.now }
-    {
-        self.state.values()
-    }
-
-    /// The unit of the values, in 10^-6 by unit of flow.
-    pub fn unit(&self) -> u64
-        ensures { 1 ≤ result }
-    {
-        self.lengths.unit()
-    }
-
-    /// The hubs of the best set that was found at the node, marked by place; none if none was found.
-    pub fn guess(&self) -> &[bool] {
-        &self.guess.best
-    }
-
-    /// What the guess costs, about, in 10^-12.
-    pub fn cost_hint(&self) -> i128 {
-        self.guess.cost
-    }
-
-    /// The bound of the node by the cut of the values, about, in 10^-12.
-    pub fn bound_hint(&self) -> i128 {
-        self.progress.bound()
-    }
-
-    /// Tells whether another pass is worth its time, where the bound is to come to this, in 10^-12.
-    pub fn goes_on(&self, wanted: i128) -> bool {
-        self.progress.goes_on(wanted.min(self.guess.cost))
-    }
-
-    /// The free place to branch on, if any is free.
-    pub fn branch_place(&self) -> Option<usize>
-        ensures { IfSome result (λ k. k < self.now.places) }
-    {
-        let place = self.node.branch_place()?;
-        if place < self.state.places() {
-            Some(place)
-        } else {
-            None
-        }
-    }
-
-    /// Puts the duals and the prices into a memory, to go back to them.
-    pub fn remember(&self, memory: &mut Memory)
-        ensures { memory.new ≡ memory.old }
-    {
-        memory.take(&self.state, &self.node.prices);
-    }
-
-    /// Goes back to the duals and the prices of a memory.
-    pub fn recall(&mut self, memory: &Memory)
-        ensures { self.new ≡ self.old }
-    {
-        self.state.copy_from(memory.state());
-        copy(memory.prices(), &mut self.node.prices);
     }
 
     /// Sets ramps and caps for the next pass.
@@ -260,5 +151,111 @@ impl Adviser {
             self.node.terms(),
             self.state.loads(),
         );
+    }
+}
+
+impl Advice for Adviser {
+    fn unit(&self) -> u64
+        ensures { 1 ≤ result }
+    {
+        self.lengths.unit()
+    }
+
+    fn enter(&mut self, sides: &[Side], hubs: &[bool])
+        ensures { self.new ≡ self.old }
+    {
+        copy(sides, &mut self.node.sides);
+        self.progress.begin(self.node.is_root());
+        self.guess.clear();
+        self.node.mark_start(hubs, &mut self.guess.start);
+        self.node
+            .mark_movable(&self.guess.start, &mut self.guess.movable);
+        let cost = self
+            .search
+            .improve(&self.lengths, &self.guess.start, &self.guess.movable);
+        self.guess.offer(self.search.marks(), cost);
+        copy(self.search.marks(), &mut self.guess.start);
+        let limit = self.lengths.longest().wrapping_add(1);
+        self.search
+            .set_caps(&self.lengths, limit, &mut self.node.caps);
+    }
+
+    // Several workers need memory for a pass.
+    fn better<R: Threads + Sync>(
+        &mut self,
+        rt: &R,
+        alloc: Global,
+        wanted: i128,
+    ) -> Result<(), AllocError>
+        requires { IsSync R.row }
+        ensures { self.new ≡ self.old }
+    {
+        if self.node.is_full() {
+            self.better_full();
+            return Ok(());
+        }
+        self.prepare();
+        self.state.pass(
+            rt,
+            alloc,
+            self.workers,
+            &self.lengths,
+            self.node.terms(),
+            &mut self.bench,
+        )?;
+        self.node.follow(self.state.loads());
+        let bound = self.state.bound(&self.lengths, &self.node.sides);
+        let bound = self.round(wanted, bound);
+        self.progress.note(bound);
+        Ok(())
+    }
+
+    fn goes_on(&self, wanted: i128) -> bool {
+        self.progress.goes_on(wanted.min(self.guess.cost))
+    }
+
+    fn bound_hint(&self) -> i128 {
+        self.progress.bound()
+    }
+
+    fn values(&self) -> &[u32]
+        ensures { length result.now ≡ cells self.now }
+    {
+        self.state.values()
+    }
+
+    fn cost_hint(&self) -> i128 {
+        self.guess.cost
+    }
+
+    fn guess(&self) -> &[bool] {
+        &self.guess.best
+    }
+
+    fn branch_place(&self) -> Option<usize>
+        ensures { IfSome result (λ k. k < self.now.places) }
+    {
+        let place = self.node.branch_place()?;
+        if place < self.state.places() {
+            Some(place)
+        } else {
+            None
+        }
+    }
+
+    fn put_aside(&mut self, alloc: Global) -> Result<(), AllocError>
+        ensures { self.new ≡ self.old }
+    {
+        self.memories.put(alloc, &self.state, &self.node.prices)
+    }
+
+    fn go_back(&mut self)
+        ensures { self.new ≡ self.old }
+    {
+        self.memories.step_back();
+        if let Some(memory) = self.memories.next() {
+            self.state.copy_from(&memory.state);
+            copy(&memory.prices, &mut self.node.prices);
+        }
     }
 }

@@ -7,7 +7,7 @@ use std::alloc::{AllocError, Global};
 
 /// The new duals of an origin, its prices and values, and what they change: what the prices gain, weighed by the
 /// flows, and by place what is added to the load.
-#[derive(Debug, Drop)]
+#[derive(Drop)]
 pub(crate) struct OriginDuals {
     pub(crate) prices: Vec<u32>,
     pub(crate) values: Vec<u32>,

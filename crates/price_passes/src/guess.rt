@@ -5,7 +5,7 @@ use std::alloc::{AllocError, Global};
 
 /// Hub sets by marks: the best that was found at a node, the start set, the set that prices were rounded to last, and
 /// room to work with.
-#[derive(Debug, Drop)]
+#[derive(Drop)]
 pub(crate) struct Guess {
     pub(crate) best: Vec<bool>,
     pub(crate) cost: i128,

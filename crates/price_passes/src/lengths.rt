@@ -10,7 +10,7 @@ use std::alloc::{AllocError, Global};
 /// An instance's legs by unit of flow, its flows and its fixed costs, with the candidates counted from 0 as places.
 ///
 /// Rows over places have `width` numbers, those past the last place are `FAR`.
-#[derive(Debug, Drop)]
+#[derive(Drop)]
 pub struct Lengths {
     size: usize,
     places: usize,

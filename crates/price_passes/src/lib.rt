@@ -1,5 +1,5 @@
-//! Advice for a search: dual values of all commodities that make a good cut, hub sets that are cheap, and the place to
-//! branch on.
+//! Advice for a search (`Advice` of `search_advice`): dual values of all commodities that make a good cut, hub sets that
+//! are cheap, and the place to branch on.
 //!
 //! Nothing here is exact, and no caller relies on it: the values are made those of a cut elsewhere, where each price
 //! is lowered to what they allow, and costs and bounds are worked out anew. What is proved is that each call ends
@@ -17,8 +17,8 @@
 //! (prices and orders by loads), `places` (a commodity's legs and values), `network` and `oracle` (the best values at
 //! prices), `mixing` (a step), `origins` (the duals of one origin), `batches` (origins side by side), `state` and `passes`
 //! (all duals, and one pass), `routes` (shortest routes over a hub set), `tightening` (duals tight at a set), `moves` (a
-//! local search over sets), `node`, `guess` and `progress` (what is known at a node), `adviser` and `memory` (what
-//! callers use).
+//! local search over sets), `node`, `guess`, `progress` and `memory` (what is known at a node, and at nodes before),
+//! `adviser` (what callers use).
 #![tactic(auto)]
 
 mod adviser;
@@ -43,5 +43,3 @@ mod tightening;
 mod units;
 
 pub use adviser::Adviser;
-pub use memory::Memory;
-pub use ramps::Side;

@@ -1,58 +1,84 @@
-//! What an adviser knew at a node, to go back to it.
-
-ghost use Rattle.std.specs.Prelude.{◌≡◌, IfOk};
-ghost use Rattle.price_passes.specs.Shapes.{shape_of};
+//! What an adviser knew at nodes, to go back to it.
 
 use crate::rows::copy;
 use crate::state::State;
-use hub_model::Instance;
 use std::alloc::{AllocError, Global};
-use std::marker::Model;
+
+/// So many memories there are at most. Each takes four bytes for each commodity and place.
+const MOST_MEMORIES: usize = 2;
 
 /// The duals and the prices of an adviser.
-#[derive(Debug, Drop)]
-pub struct Memory {
-    state: State,
-    prices: Vec<i64>,
-}
-
-impl Model for Memory {
-    ghost use Rattle.price_passes.specs.Shapes.{Shape};
-
-    ghost Value = { Shape };
-
-    ghost view = { λ s. s.state };
+#[derive(Drop)]
+pub(crate) struct Memory {
+    pub(crate) state: State,
+    pub(crate) prices: Vec<i64>,
 }
 
 impl Memory {
-    /// A memory for an adviser of the instance, as yet of nothing.
-    #[tactic(auto, using(crate::proofs::SmallShapes::few_places))]
-    pub fn new(alloc: Global, instance: &Instance) -> Result<Memory, AllocError>
-        ensures { IfOk result (λ m. m ≡ shape_of instance.now) }
-    {
-        let size = instance.size() as usize;
-        let places = instance.candidates().len();
+    /// A memory of these duals and prices.
+    fn of(alloc: Global, state: &State, prices: &[i64]) -> Result<Memory, AllocError> {
         Ok(Memory {
-            state: State::new(alloc, size, places)?,
-            prices: vec![in alloc; 0; places]?,
+            state: state.copied(alloc)?,
+            prices: prices.to_vec(alloc)?,
         })
     }
 
     /// Makes these the duals and the prices, as far as the lists go.
-    pub(crate) fn take(&mut self, state: &State, prices: &[i64])
-        ensures { self.new ≡ self.old }
-    {
+    fn take(&mut self, state: &State, prices: &[i64]) {
         self.state.copy_from(state);
         copy(prices, &mut self.prices);
     }
+}
 
-    /// The duals.
-    pub(crate) fn state(&self) -> &State {
-        &self.state
+/// The memories of an adviser, and how often something has been put aside and not gone back to. What was put aside first has
+/// the first memory; past the last memory it is forgotten.
+#[derive(Drop)]
+pub(crate) struct Memories {
+    items: Vec<Memory>,
+    aside: usize,
+}
+
+impl Memories {
+    /// No memories. It takes no memory.
+    pub(crate) fn new(alloc: Global) -> Memories {
+        Memories {
+            items: Vec::new(alloc),
+            aside: 0,
+        }
     }
 
-    /// The prices by place.
-    pub(crate) fn prices(&self) -> &[i64] {
-        &self.prices
+    /// Puts the duals and the prices aside.
+    pub(crate) fn put(
+        &mut self,
+        alloc: Global,
+        state: &State,
+        prices: &[i64],
+    ) -> Result<(), AllocError> {
+        if self.aside < MOST_MEMORIES {
+            self.put_next(alloc, state, prices)?;
+        }
+        self.aside = self.aside.saturating_add(1);
+        Ok(())
+    }
+
+    /// Puts the duals and the prices into the first memory that is not in use, a new one if there is none.
+    fn put_next(&mut self, alloc: Global, state: &State, prices: &[i64]) -> Result<(), AllocError> {
+        if let Some(memory) = self.items.get_mut(self.aside) {
+            memory.take(state, prices);
+            return Ok(());
+        }
+        let memory = Memory::of(alloc, state, prices)?;
+        self.items.push(memory)?;
+        Ok(())
+    }
+
+    /// Leaves what was put aside last aside no longer.
+    pub(crate) fn step_back(&mut self) {
+        self.aside = self.aside.saturating_sub(1);
+    }
+
+    /// The first memory that is not in use, if there is one.
+    pub(crate) fn next(&self) -> Option<&Memory> {
+        self.items.get(self.aside)
     }
 }

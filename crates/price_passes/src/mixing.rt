@@ -8,7 +8,7 @@ use std::alloc::{AllocError, Global};
 pub(crate) const PARTS: u32 = 64;
 
 /// A place whose value the step changes, with its load before the step and what a unit of value adds to the load.
-#[derive(Clone, Copy, Debug)]
+#[derive(Clone, Copy)]
 struct Change {
     place: usize,
     old: u32,
@@ -41,7 +41,7 @@ impl Change {
 }
 
 /// The changes of a step of one commodity.
-#[derive(Debug, Drop)]
+#[derive(Drop)]
 pub(crate) struct Step {
     changes: Vec<Change>,
 }

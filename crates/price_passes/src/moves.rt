@@ -11,7 +11,7 @@ use std::alloc::{AllocError, Global};
 const MOST_ROUNDS: usize = 100;
 
 /// What a local search works with: the set, its routes, and the lengths when one of its hubs is closed.
-#[derive(Debug, Drop)]
+#[derive(Drop)]
 pub(crate) struct LocalSearch {
     marks: Vec<bool>,
     routes: SetRoutes,

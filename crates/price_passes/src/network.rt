@@ -16,7 +16,7 @@ const NEVER: u32 = u32::MAX;
 const MOST_WAYS: usize = 100_000;
 
 /// The two sides of copies, their arcs and what flows in them; with the room that was taken for them.
-#[derive(Debug, Drop)]
+#[derive(Drop)]
 pub(crate) struct Network {
     count: usize,
     width: usize,
@@ -29,7 +29,7 @@ pub(crate) struct Network {
 /// The copies of the places on one side.
 ///
 /// Of a search: how far each is, when it was reached (0: from the source), and the copy that it was reached from.
-#[derive(Debug, Drop)]
+#[derive(Drop)]
 struct Copies {
     capacities: Vec<u32>,
     potentials: Vec<u32>,

@@ -9,7 +9,7 @@ use std::alloc::{AllocError, Global};
 
 /// What finds the best dual of a commodity, and its values once they are found. The legs of the priced places stand in
 /// lists of their own.
-#[derive(Debug, Drop)]
+#[derive(Drop)]
 pub(crate) struct Oracle {
     network: Network,
     priced: Vec<usize>,

@@ -27,7 +27,7 @@ pub(crate) struct Start<'a> {
 }
 
 /// What the duals of an origin are bettered in: nothing that it holds between two origins counts.
-#[derive(Debug, Drop)]
+#[derive(Drop)]
 pub(crate) struct OriginScratch {
     oracle: Oracle,
     step: Step,

@@ -25,7 +25,7 @@ const MOST_WORKERS: u32 = 64;
 
 /// What a pass works with, besides the duals: the loads at the start of a batch and the order of the places at them,
 /// and what origins are bettered in one after another.
-#[derive(Debug, Drop)]
+#[derive(Drop)]
 pub(crate) struct Bench {
     scratch: OriginScratch,
     order: Vec<Turn>,

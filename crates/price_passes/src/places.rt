@@ -86,7 +86,7 @@ impl<'a> PlaceLegs<'a> {
 }
 
 /// The values of the places for a commodity, and its legs with the values added; `FAR` where a place has none as yet.
-#[derive(Debug, Drop)]
+#[derive(Drop)]
 pub(crate) struct PlaceValues {
     values: Vec<u32>,
     collect: Vec<u32>,

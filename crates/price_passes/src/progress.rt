@@ -14,7 +14,7 @@ const ROOT_BACK: usize = 6;
 const BACK: usize = 3;
 
 /// The best bound after each pass at a node, in 10^-12.
-#[derive(Debug, Drop)]
+#[derive(Drop)]
 pub(crate) struct Progress {
     is_root: bool,
     bound: i128,

@@ -5,7 +5,7 @@ use crate::rows::{FAR, at, fill, gather, row, row_mut, short};
 use std::alloc::{AllocError, Global};
 
 /// A shortest route: its first and its last hub, by place, and its length.
-#[derive(Clone, Copy, Debug)]
+#[derive(Clone, Copy)]
 pub(crate) struct Route {
     pub(crate) first: usize,
     pub(crate) last: usize,
@@ -27,7 +27,7 @@ pub(crate) const NO_ROUTE: Route = Route {
 };
 
 /// A way from a hub by a last hub, which is told by place, to a destination.
-#[derive(Clone, Copy, Debug)]
+#[derive(Clone, Copy)]
 struct Hop {
     last: u32,
     length: u32,
@@ -40,7 +40,7 @@ const NO_HOP: Hop = Hop {
 };
 
 /// The three shortest hops by different last hubs.
-#[derive(Clone, Copy, Debug)]
+#[derive(Clone, Copy)]
 struct Hops {
     first: Hop,
     second: Hop,
@@ -93,7 +93,7 @@ impl Hops {
 }
 
 /// The legs over the hubs of a set, in rows by origin or destination, and the shortest hops from each hub.
-#[derive(Debug, Drop)]
+#[derive(Drop)]
 pub(crate) struct SetRoutes {
     hubs: Vec<usize>,
     width: usize,

@@ -5,14 +5,14 @@ ghost use Rattle.hub_spec.specs.Limits.{most_nodes};
 ghost use Rattle.price_passes.specs.Shapes.{cells};
 
 use crate::lengths::Lengths;
-use crate::ramps::Side;
 use crate::rows::copy;
+use search_advice::Side;
 use std::alloc::{AllocError, Global};
 use std::marker::Model;
 
 /// The duals of all commodities in the small units: for each a price, and a value for each place; with the sums of
 /// both, weighed by the flows.
-#[derive(Debug, Drop)]
+#[derive(Drop)]
 pub struct State {
     pub(crate) size: usize,
     pub(crate) places: usize,
@@ -22,7 +22,7 @@ pub struct State {
 }
 
 /// The sum of the prices, and by place the sum of the values, each weighed by the flows.
-#[derive(Debug, Drop)]
+#[derive(Drop)]
 pub(crate) struct Sums {
     pub(crate) total: i64,
     pub(crate) loads: Vec<i64>,
@@ -80,6 +80,19 @@ impl State {
         self.sums.bound(lengths, sides)
     }
 
+    /// The same duals.
+    pub fn copied(&self, alloc: Global) -> Result<State, AllocError>
+        ensures { IfOk result (λ s. s ≡ self.now) }
+    {
+        Ok(State {
+            size: self.size,
+            places: self.places,
+            prices: self.prices.to_vec(alloc)?,
+            values: self.values.to_vec(alloc)?,
+            sums: self.sums.copied(alloc)?,
+        })
+    }
+
     /// Makes these the duals of another state, as far as both lists go.
     pub fn copy_from(&mut self, other: &State)
         ensures { self.new ≡ self.old }
@@ -96,6 +109,14 @@ impl Sums {
         Ok(Sums {
             total: 0,
             loads: vec![in alloc; 0; places]?,
+        })
+    }
+
+    /// The same sums.
+    fn copied(&self, alloc: Global) -> Result<Sums, AllocError> {
+        Ok(Sums {
+            total: self.total,
+            loads: self.loads.to_vec(alloc)?,
         })
     }
 

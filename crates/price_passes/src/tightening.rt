@@ -14,7 +14,7 @@ use crate::state::{State, Sums};
 use std::alloc::{AllocError, Global};
 
 /// What it takes to tighten duals: the routes over the set, the order of the other places, and the sums that come out.
-#[derive(Debug, Drop)]
+#[derive(Drop)]
 pub(crate) struct Tightening {
     marks: Vec<bool>,
     order: Vec<Turn>,

@@ -15,7 +15,7 @@ const MOST_TOTAL: u128 = 1 << 60;
 const MOST_FLOW: u128 = (1 << 32) - 1;
 
 /// The unit of lengths, the unit of flows, both in 10^-6, and the length of the longest route in that unit.
-#[derive(Clone, Copy, Debug)]
+#[derive(Clone, Copy)]
 pub(crate) struct Units {
     pub(crate) length: u64,
     pub(crate) flow: u64,

@@ -1,20 +1,14 @@
-use Rattle.closing_search.proofs.Steps.{at_twice, at_done}
+use Rattle.std.proofs.lemmas.Result.{IfOk-weaker}
+use Rattle.closing_search.specs.Progressing.{IsAdvised}
+use Rattle.closing_search.proofs.Steps.{at_advised}
 use Rattle.closing_search.proofs.advising.end_by_advice.Goals as goal
 
-pub returns-in_ok-cut_leaf-clause-advised : goal.returns-in_ok-cut_leaf-clause-advised
-returns-in_ok-cut_leaf-clause-advised g c =
+pub returns-clause-advised : goal.returns-clause-advised
+returns-clause-advised g c =
     let t = c.args.task.now in
+    let b = c.args.branch.now in
     let before = c.args.progress.now in
-    let advised = c.take_advice.new.progress in
-    let kept = c.keep.new.progress in
-    at_done t c.args.branch.now before kept c.cut_leaf.new.progress
-    (at_twice t before advised kept c.in_ok-take_advice.ensures.at c.in_ok-number.ensures.at) c.in_ok-cut_leaf.ensures
-
-pub returns-in_ok-stopped_leaf-clause-advised : goal.returns-in_ok-stopped_leaf-clause-advised
-returns-in_ok-stopped_leaf-clause-advised g c =
-    let t = c.args.task.now in
-    let before = c.args.progress.now in
-    let advised = c.take_advice.new.progress in
-    let kept = c.keep.new.progress in
-    at_done t c.args.branch.now before kept c.stopped_leaf.new.progress
-    (at_twice t before advised kept c.in_ok-take_advice.ensures.at c.in_ok-number.ensures.at) c.in_ok-stopped_leaf.ensures
+    let middle = c.take_advice.new.progress in
+    let after = c.end_by_values.new.progress in
+    IfOk-weaker c.end_by_values.result (IsAdvised t b middle after) (IsAdvised t b before after)
+    (λ ended. at_advised t b before middle after ended c.in_ok-take_advice.ensures) c.end_by_values.ensures.advised
