@@ -3,7 +3,7 @@
 import hashlib
 import json
 import shlex
-from collections.abc import Callable
+from collections.abc import Callable, Iterable
 from dataclasses import asdict, dataclass
 from pathlib import Path
 from tempfile import TemporaryDirectory
@@ -14,7 +14,7 @@ from .faults import Fault
 from .files import put_all
 from .measure import Ended, run
 from .options import Options, test_values
-from .program import command, judge, require
+from .program import NO_NETWORK, command, judge, require
 from .sources import Source
 from .tables import Named, read_named
 
@@ -22,8 +22,6 @@ INSTANCE, COSTS, NAMES = "instance.txt", "instance.costs.txt", "instance.names.c
 CERTIFICATE = "certificate.txt"
 ASKED = "study.json"
 """What was asked, by which a certificate is known as the answer to the same words again."""
-NO_NETWORK = 8
-"""The status with which `hub` says that no network keeps to the longest route."""
 
 
 @dataclass(frozen=True)
@@ -71,13 +69,14 @@ def is_answered(question: Question, folder: Path) -> bool:
     asked, certificate = folder / ASKED, folder / CERTIFICATE
     if not asked.is_file() or not certificate.is_file() or asked.read_text(encoding="utf-8") != question.asked():
         return False
-    if any((folder / name).read_text(encoding="utf-8") != text for name, text in question.texts.items()):
-        return False
+    for name, text in question.texts.items():
+        if not (folder / name).is_file() or (folder / name).read_text(encoding="utf-8") != text:
+            return False
     return judge(question.options(folder), certificate)[0] is not None
 
 
-def answer(question: Question, folder: Path, look: Callable[[], None] | None = None, stale: list[str] | None = None) -> None:
-    """Solves and checks, and puts files and certificate into the folder; files of these names there are then stale."""
+def answer(question: Question, folder: Path, look: Callable[[], None] | None = None, stale: Iterable[str] = ()) -> None:
+    """Solves and checks, and puts files and certificate into the folder; files of the stale names are removed then."""
     test_values(question.values | question.search)
     require(question.verb, [*question.values, *question.search])
     folder.mkdir(parents=True, exist_ok=True)
@@ -91,7 +90,7 @@ def answer(question: Question, folder: Path, look: Callable[[], None] | None = N
         verdict, said = judge(question.options(work), work / CERTIFICATE)
         if verdict is None:
             raise Fault(f"hub check did not accept what hub {question.verb} wrote: {said}")
-        for name in [ASKED, COSTS, *(stale or [])]:
+        for name in [ASKED, COSTS, *stale]:
             (folder / name).unlink(missing_ok=True)
         for name in [*question.texts, CERTIFICATE]:
             (work / name).replace(folder / name)
@@ -102,7 +101,7 @@ def failure(question: Question, ended: Ended) -> str:
     """Why there is no certificate."""
     said = ended.error or f"status {ended.status}"
     if ended.status == NO_NETWORK:
-        return f"no network keeps to --max-length {question.values.get('max-length', '')}: {said}"
+        return f"no network keeps to the longest route: {said}"
     return f"hub {question.verb} found no network: {said}"
 
 

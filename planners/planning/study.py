@@ -32,7 +32,7 @@ def parser() -> Parser:
     add_valued(group, OF_INSTANCE)
     several = "which nodes may be hubs: names or numbers with commas between"
     group.add_argument("--candidates", metavar="LIST", help=several)
-    group.add_argument("--no-self", action="store_true")
+    group.add_argument("--no-self", action="store_true", help="flows from a node to itself count as 0")
     group.add_argument("--nodes", dest="tree_nodes", metavar="N", help="stop the search at so many nodes, with a bound")
     add_valued(group, OF_SEARCH)
     group.add_argument("--solve", action="store_true", help="by hub solve, for up to some 25 nodes, not hub optimize")
@@ -88,6 +88,7 @@ def main(words: list[str]) -> int:
     return 0
 
 
-EPILOG = """FOLDER has then: instance.txt and what belongs to it, certificate.txt, check.txt (what hub check says), the tables
-of network, map.png, page.html, and study.json (the words of hub, for its folder). The same words go on where they were
-stopped: what is solved is checked, and not solved again. Where hub check does not accept, there is one line and no result."""
+EPILOG = """FOLDER has then: instance.txt and what belongs to it, certificate.txt, check.txt (what hub check says), the
+tables of network, map.png, page.html, and study.json (the words of hub, for its folder). The same words go on where
+they were stopped: what is solved is checked, and not solved again. Where hub check does not accept, there is one line
+and no result."""

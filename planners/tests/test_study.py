@@ -4,6 +4,7 @@ import os
 import pty
 import subprocess
 import sys
+import time
 
 from .helper import INSTANCES, PLANNERS, InFolder, environment, needs
 from planning.program import program
@@ -67,6 +68,23 @@ class Studies(InFolder):
         self.assertEqual(self.read("asked").split().count("solve"), 2)
         self.assertNotIn("instance.costs.txt", self.names("out"))
 
+    def test_stopped_and_taken_up_again(self) -> None:
+        asked = '[ "$4" = /dev/null ] || [ "$1" = check ] || exec sleep 60'
+        hub = self.standin("slow-hub", f'{asked}\nexec {program()} "$@"\n')
+        command = [sys.executable, str(PLANNERS / "study"), *WORDS, "--no-map", "--out", "out"]
+        with subprocess.Popen(
+            command, cwd=self.folder, env=environment(hub), stdout=subprocess.PIPE, stderr=subprocess.PIPE, text=True
+        ) as process:
+            until = time.monotonic() + 60
+            while not list(self.folder.glob("out/.at-work-*/certificate.txt")) and time.monotonic() < until:
+                time.sleep(0.05)
+            process.terminate()
+            told = process.communicate()
+        self.assertEqual((process.returncode, *told), (130, "", "study: stopped\n"))
+        self.assertEqual(self.names("out"), [])
+        self.assertEqual(self.script("study", *command[2:]).returncode, 0)
+        self.assertIn("certificate.txt", self.names("out"))
+
     def test_a_bound_is_an_answer(self) -> None:
         text = (INSTANCES / "towns-nodes.csv").read_text()
         flows = (INSTANCES / "towns-flows.csv").read_text()
@@ -98,7 +116,7 @@ class Studies(InFolder):
         for more, line in (
             (["nodes.csv", "wrong.csv", *words[2:]], column),
             ([*words, "--trunk", "4x"], "--trunk: wanted a factor, a number from 0 to 1000, found '4x'"),
-            ([*words, "--candidates", "North"], "--candidates wants names or numbers of nodes, each once, found 'North'"),
+            ([*words, "--candidates", "No"], "--candidates wants names or numbers of nodes, each once, found 'No'"),
             ([*words, "--workers", "0"], "--workers: wanted a number of workers, a number from 1 to 64, found '0'"),
             ([*words[:-1], "."], ".: the tables to read lie in this folder; choose another --out"),
         ):
@@ -109,10 +127,11 @@ class Studies(InFolder):
         words = [*WORDS, "--no-map", "--out", "out"]
         ended = self.script("study", *words)
         before = {name: self.read(f"out/{name}") for name in self.names("out")}
+        none = "hub: no network for 1 2"
         for body, line in (
             ("echo HUBCERT 1; exit 0", "hub check did not accept what hub optimize wrote: no Ended 2"),
             ("echo 'hub: out of memory' >&2; exit 5", "hub optimize found no network: hub: out of memory"),
-            ("echo 'hub: no network for 1 2' >&2; exit 8", "no network keeps to --max-length : hub: no network for 1 2"),
+            ("echo 'hub: no network for 1 2' >&2; exit 8", "no network keeps to the longest route: " + none),
             ("kill -KILL $$", "hub optimize found no network: status -9"),
         ):
             begin = '[ "$1" = optimize ] && [ "$4" != /dev/null ] && [ "$5" != /dev/null ] &&'
