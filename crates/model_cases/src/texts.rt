@@ -8,8 +8,12 @@ use worked_cases::{TWO_NODES_CERTIFICATE, TWO_NODES_OTHER_PLAN, TWO_NODES_PLAN, 
 const REFUSALS: [Refusal; 13] = [
     Refusal::Fault(InstanceFault::TooLong),
     Refusal::Fault(InstanceFault::BadNumber { at: 1 }),
-    Refusal::Fault(InstanceFault::Missing { what: Wanted::Token(2) }),
-    Refusal::Fault(InstanceFault::Missing { what: Wanted::Pair(0, 1) }),
+    Refusal::Fault(InstanceFault::Missing {
+        what: Wanted::Token(2),
+    }),
+    Refusal::Fault(InstanceFault::Missing {
+        what: Wanted::Pair(0, 1),
+    }),
     Refusal::Fault(InstanceFault::Extra { at: 3 }),
     Refusal::Fault(InstanceFault::Size { got: 201 }),
     Refusal::Fault(InstanceFault::Negative { at: 4 }),
@@ -30,16 +34,27 @@ pub fn refusals(alloc: Global) -> Result<String, AllocError> {
     Ok(text)
 }
 
-/// The line's text with a part replaced, where the text, the part and what stands for it are parted by slashes.
+/// The line's text with a part replaced: the text, the part and what stands for it, each behind a slash.
 pub fn with_part_replaced(alloc: Global, line: &str) -> Result<String, AllocError> {
-    let mut texts = line.split(" / ");
-    match (texts.next(), texts.next(), texts.next(), texts.next()) {
-        (Some(_), Some(text), Some(old), Some(new)) => changed(alloc, text, old, new),
-        _ => String::from_str(alloc, "no text"),
+    match three_of(line) {
+        Some((text, old, new)) => changed(alloc, text, old, new),
+        None => String::from_str(alloc, "no text"),
     }
+}
+
+fn three_of(line: &str) -> Option<(&str, &str, &str)> {
+    let (_, texts) = line.split_once(" / ")?;
+    let (text, parts) = texts.split_once(" / ")?;
+    let (old, new) = parts.split_once(" / ")?;
+    Some((text, old, new))
 }
 
 /// The certificate of two nodes with another plan, in lines.
 pub fn certificate(alloc: Global) -> Result<String, AllocError> {
-    changed(alloc, TWO_NODES_CERTIFICATE, TWO_NODES_PLAN, TWO_NODES_OTHER_PLAN)
+    changed(
+        alloc,
+        TWO_NODES_CERTIFICATE,
+        TWO_NODES_PLAN,
+        TWO_NODES_OTHER_PLAN,
+    )
 }
