@@ -2,13 +2,10 @@
 
 ghost use Rattle.std.specs.Prelude.{◌≡◌, ◌^◌, pos, ◌≤ℤ◌, None, IfOk, IfSome};
 
-use crate::words::{list, node, number, second};
+use crate::words::{behind, list, node, number};
 use hub_model::{Factors, Instance, Nodes, Order, Parts, Tail, Terms, is_node_list};
 use std::alloc::{AllocError, Global};
-use worked_cases::{
-    Case, EDGE_OF_TWO_CLOSED, LINE_OF_THREE, NoInstance, ONE_NODE, SECOND_OF_TWO, SHORTER_BACK,
-    THREE_COSTS, TWO_CLOSED, TWO_NODES, instance,
-};
+use worked_cases::{LINE_OF_THREE, NoInstance, THREE_COSTS, instance};
 
 /// The factors of a file.
 const AS_THEY_ARE: Factors = Factors {
@@ -20,18 +17,6 @@ const AS_THEY_ARE: Factors = Factors {
 // The greatest fixed cost that options give, in 10^-6.
 const MOST_FIXED: u64 = 1_000_000_000_000_000_000;
 
-/// The worked cases by name.
-const CASES: [(&str, Case); 8] = [
-    ("one_node", ONE_NODE),
-    ("two_nodes", TWO_NODES),
-    ("second_of_two", SECOND_OF_TWO),
-    ("shorter_back", SHORTER_BACK),
-    ("line_of_three", LINE_OF_THREE),
-    ("two_closed", TWO_CLOSED),
-    ("edge_of_two_closed", EDGE_OF_TWO_CLOSED),
-    ("three_costs", THREE_COSTS),
-];
-
 /// The instance of a line, as it stands, or what is wrong with it.
 pub fn told(alloc: Global, line: &str) -> Result<String, AllocError> {
     match instance_of(alloc, line) {
@@ -40,37 +25,33 @@ pub fn told(alloc: Global, line: &str) -> Result<String, AllocError> {
     }
 }
 
-/// The instance of a line: the worked case that its second word names, or that of its numbers.
+/// The instance of a line: the worked case that it names, or that of its numbers.
 pub fn instance_of(alloc: Global, line: &str) -> Result<Instance, NoInstance> {
-    match case_of(second(line)) {
-        Some(case) => instance(alloc, &case),
-        None => built(alloc, line),
+    match behind(line, " ") {
+        "line_of_three" => instance(alloc, &LINE_OF_THREE),
+        "three_costs" => instance(alloc, &THREE_COSTS),
+        _ => by_numbers(alloc, line),
     }
 }
 
-fn case_of(name: &str) -> Option<Case> {
-    for (named, case) in &CASES {
-        if *named == name {
-            return Some(*case);
-        }
-    }
-    None
+fn by_numbers(alloc: Global, line: &str) -> Result<Instance, NoInstance> {
+    let terms = terms(alloc, line)?;
+    built(alloc, &terms, line)
 }
 
 /// The instance of the line's numbers.
-fn built(alloc: Global, line: &str) -> Result<Instance, NoInstance> {
+fn built(alloc: Global, terms: &Terms, line: &str) -> Result<Instance, NoInstance> {
     let parts = parts(alloc, line)?;
-    let terms = terms(alloc, line)?;
-    Ok(Instance::build(alloc, parts, &terms, None)?)
+    Ok(Instance::build(alloc, parts, terms, None)?)
 }
 
 /// What a file of these numbers would give, without fixed costs.
 fn parts(alloc: Global, line: &str) -> Result<Parts, NoInstance>
     ensures { IfOk result (λ parts. parts.costs ≡ None) }
 {
-    let flows = list::<i128>(alloc, line, "flows")?;
-    let distances = list::<i128>(alloc, line, "distances")?;
-    let size = node(line, "size");
+    let flows = list::<i128>(alloc, line, " flows ")?;
+    let distances = list::<i128>(alloc, line, " distances ")?;
+    let size = node(line, " size ");
     match Parts::new(size, flows, distances, AS_THEY_ARE, listed(line), None) {
         Some(parts) => Ok(parts),
         None => Err(NoInstance::OutOfLimits),
@@ -79,7 +60,7 @@ fn parts(alloc: Global, line: &str) -> Result<Parts, NoInstance>
 
 /// The number of hubs that the file lists.
 fn listed(line: &str) -> Option<u32> {
-    let number = number(line, "listed")?;
+    let number = number(line, " listed ")?;
     u32::try_from(number).ok()
 }
 
@@ -90,18 +71,18 @@ fn terms(alloc: Global, line: &str) -> Result<Terms, NoInstance> {
         order: Order::FlowFirst,
         tail: Tail::Ignore,
         divide: 1,
-        collect: Some(factor(line, "collect")),
-        trunk: Some(factor(line, "trunk")),
-        deliver: Some(factor(line, "deliver")),
+        collect: Some(factor(line, " collect ")),
+        trunk: Some(factor(line, " trunk ")),
+        deliver: Some(factor(line, " deliver ")),
         fixed: fixed(line),
         candidates,
-        no_self: line.split_once("no_self").is_some(),
+        no_self: line.ends_with("no_self"),
     })
 }
 
 /// The candidates that are listed.
 fn candidates(alloc: Global, line: &str) -> Result<Option<Nodes>, NoInstance> {
-    let listed = list::<u32>(alloc, line, "candidates")?;
+    let listed = list::<u32>(alloc, line, " candidates ")?;
     if listed.is_empty() {
         return Ok(None);
     }
@@ -126,7 +107,7 @@ fn factor(line: &str, name: &str) -> i128
 fn fixed(line: &str) -> Option<i128>
     ensures { IfSome result (λ z. (pos 0 ≤ℤ z) × (z ≤ℤ pos (10 ^ 18))) }
 {
-    match number(line, "fixed") {
+    match number(line, " fixed ") {
         Some(cost) if cost <= MOST_FIXED => Some(cost as i128),
         _ => None,
     }

@@ -1,14 +1,14 @@
 //! Cases of `hub_model`, of `worked_cases` and of `hub_plain`, a line of standard input each. Each is printed, with its
 //! answer behind it; comments are printed as they are.
 //!
-//! A line `instance` makes the instance that the lines below it ask of, and tells it, or why there is none. It has the
-//! name of a worked case, or its numbers behind words, in any order: `size`, `flows` (10^-6), `distances` (10^-3), and where
-//! they are asked for `candidates`, `fixed` (10^-6), `listed`, `collect`, `trunk`, `deliver` (10^-3), `no_self`.
+//! The first line `instance` of a paragraph makes the instance that its lines ask of; each tells its instance, or why there
+//! is none. It has the name of a worked case, `line_of_three` or `three_costs`, or numbers behind words: `size`, `flows` (10^-6),
+//! `distances` (10^-3), and where they are asked for `candidates`, `fixed` (10^-6), `listed`, `collect`, `trunk`, `deliver`
+//! (10^-3), and `no_self` at the end.
 //!
-//! Of an instance: `routes` (the costs of all routes), `branch`, `branch open K`, `branch close K`, `best_plan`, `plan`.
-//! Of some hubs of it, `hubs H ..`: `opening`, `set_cost`, `copy`, `assign`, `cut_rows`, and with `from I to J`
-//! `least_route` and `dual`. Of none: `refusals`, `change / TEXT / PART / OTHER`, `change_certificate`, `copy_leaf` and
-//! `copy_numbers`.
+//! Of an instance: `routes` (the costs of all routes), the branches `root`, `open node K`, `close node K`, `best_plan`,
+//! `plan`. Of some hubs of it, `hubs H ..`: `opening`, `set_cost`, `copy`, `assign`, `cut_rows`, and with `from I to J`
+//! `least_route` and `dual`. Of none: `refusals`, `change TEXT`, `change_certificate`, `copy_leaf` and `copy_numbers`.
 #![tactic(auto)]
 
 mod copies;
@@ -29,22 +29,32 @@ fn main(rt: HostRuntime) -> io::Result<()> {
     tell(&rt, cases.as_str())
 }
 
+// Each paragraph has lines that ask of its first instance.
 fn tell(rt: &HostRuntime, cases: &str) -> io::Result<()> {
-    let mut instance = "";
-    for line in cases.lines() {
+    for paragraph in cases.split("\n\n") {
+        tell_lines(rt, paragraph, instance_line(paragraph))?;
+    }
+    Ok(())
+}
+
+fn instance_line(paragraph: &str) -> &str {
+    for line in paragraph.lines() {
         if first(line) == "instance" {
-            instance = line;
+            return line;
         }
+    }
+    ""
+}
+
+fn tell_lines(rt: &HostRuntime, paragraph: &str, instance: &str) -> io::Result<()> {
+    for line in paragraph.lines() {
         print(rt, instance, line)?;
     }
     Ok(())
 }
 
-// Prints the line with its answer; the instance is that of the line above.
+// Prints the line with its answer.
 fn print(rt: &HostRuntime, instance: &str, line: &str) -> io::Result<()> {
-    if line.is_empty() {
-        return Ok(());
-    }
     if line.starts_with("#") {
         return println!(rt; "{line}");
     }
@@ -56,7 +66,7 @@ fn answer(alloc: Global, instance: &str, line: &str) -> Result<String, AllocErro
     match first(line) {
         "instance" => instances::told(alloc, line),
         "refusals" => texts::refusals(alloc),
-        "change" => texts::with_part_replaced(alloc, line),
+        "change" => texts::in_figures(alloc, line),
         "change_certificate" => texts::certificate(alloc),
         "copy_leaf" => copies::leaf(alloc),
         "copy_numbers" => copies::numbers(alloc),
@@ -75,7 +85,7 @@ fn asked(alloc: Global, instance: &str, line: &str) -> Result<String, AllocError
 fn of_instance(alloc: Global, instance: &Instance, line: &str) -> Result<String, AllocError> {
     match first(line) {
         "routes" => routes::routes(alloc, instance),
-        "branch" => routes::branch(alloc, instance, line),
+        "root" | "open" | "close" => routes::branch(alloc, instance, line),
         "best_plan" => plain::best(alloc, instance),
         "plan" => plain::plan(alloc, instance),
         _ => plain::with_hubs(alloc, instance, line),

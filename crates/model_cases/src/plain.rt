@@ -31,7 +31,7 @@ pub fn plan(alloc: Global, instance: &Instance) -> Result<String, AllocError> {
 
 /// What is asked of the hubs that the line names.
 pub fn with_hubs(alloc: Global, instance: &Instance, line: &str) -> Result<String, AllocError> {
-    let hubs = list::<u32>(alloc, line, "hubs")?;
+    let hubs = list::<u32>(alloc, line, " hubs ")?;
     if !is_hub_set(instance, &hubs) {
         return String::from_str(alloc, "no hub set");
     }
@@ -49,7 +49,13 @@ fn of_hubs(
     match first(line) {
         "opening" => opening(alloc, instance, hubs),
         "set_cost" => cost_of(alloc, instance, hubs),
-        "least_route" => route(alloc, instance, hubs, node(line, "from"), node(line, "to")),
+        "least_route" => route(
+            alloc,
+            instance,
+            hubs,
+            node(line, " from "),
+            node(line, " to "),
+        ),
         _ => with_set(alloc, instance, hubs, line),
     }
 }
@@ -109,7 +115,13 @@ fn of_set(
     match first(line) {
         "copy" => copied(alloc, set),
         "assign" => assigned(alloc, instance, set),
-        "dual" => dual(alloc, instance, set, node(line, "from"), node(line, "to")),
+        "dual" => dual(
+            alloc,
+            instance,
+            set,
+            node(line, " from "),
+            node(line, " to "),
+        ),
         _ => cut_rows(alloc, instance, set),
     }
 }

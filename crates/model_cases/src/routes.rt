@@ -1,6 +1,6 @@
 //! Routes and branches of an instance.
 
-use crate::words::{node, second};
+use crate::words::{first, node};
 use hub_model::{Branch, Instance, route_cost};
 use std::alloc::{AllocError, Global};
 
@@ -23,9 +23,9 @@ pub fn routes(alloc: Global, instance: &Instance) -> Result<String, AllocError> 
 /// The root, or its child where the line's candidate is a hub or is closed.
 pub fn branch(alloc: Global, instance: &Instance, line: &str) -> Result<String, AllocError> {
     let root = Branch::root(alloc, instance)?;
-    match second(line) {
-        "open" => open(alloc, &root, node(line, "open")),
-        "close" => close(alloc, &root, node(line, "close")),
+    match first(line) {
+        "open" => open(alloc, &root, node(line, " node ")),
+        "close" => close(alloc, &root, node(line, " node ")),
         _ => format!(in alloc; "{root:?}"),
     }
 }

@@ -34,19 +34,9 @@ pub fn refusals(alloc: Global) -> Result<String, AllocError> {
     Ok(text)
 }
 
-/// The line's text with a part replaced: the text, the part and what stands for it, each behind a slash.
-pub fn with_part_replaced(alloc: Global, line: &str) -> Result<String, AllocError> {
-    match three_of(line) {
-        Some((text, old, new)) => changed(alloc, text, old, new),
-        None => String::from_str(alloc, "no text"),
-    }
-}
-
-fn three_of(line: &str) -> Option<(&str, &str, &str)> {
-    let (_, texts) = line.split_once(" / ")?;
-    let (text, parts) = texts.split_once(" / ")?;
-    let (old, new) = parts.split_once(" / ")?;
-    Some((text, old, new))
+/// The line with a two in figures, if it has one in a word.
+pub fn in_figures(alloc: Global, line: &str) -> Result<String, AllocError> {
+    changed(alloc, line, "two", "2")
 }
 
 /// The certificate of two nodes with another plan, in lines.
