@@ -4,6 +4,7 @@ ghost use Rattle.std.specs.Prelude.{◌<◌};
 ghost use Rattle.hub_spec.specs.Plans.{IsHubSet};
 ghost use Rattle.hub_spec.specs.Separation.{IsOrder};
 
+use crate::texts::{dual_told, sums_told};
 use hub_model::{HubSet, Instance};
 use pareto_cuts::{Scratch, cut_of, cut_sums, strong_dual, strong_dual_in};
 use std::alloc::{AllocError, Global};
@@ -23,9 +24,7 @@ pub fn dual(
     requires to { j < instance.now.size }
 {
     let dual = strong_dual(alloc, instance, i, j, set, order)?;
-    let price = dual.a();
-    let values = dual.u();
-    format!(in alloc; "{price} {values:?}")
+    dual_told(alloc, dual.a(), dual.u())
 }
 
 /// The dual that a scratch lends.
@@ -45,7 +44,7 @@ pub fn lent(
     let mut scratch = Scratch::new(alloc, instance)?;
     strong_dual_in(&mut scratch, instance, i, j, set, order);
     let (price, values) = scratch.dual();
-    format!(in alloc; "{price} {values:?}")
+    dual_told(alloc, price, values)
 }
 
 /// The total and the loads of the cut, without its duals.
@@ -61,20 +60,20 @@ pub fn sums(
     let mut loads = vec![in alloc; 7; instance.size() as usize]?;
     let mut scratch = Scratch::new(alloc, instance)?;
     let total = cut_sums(&mut scratch, instance, set, order, &mut loads);
-    format!(in alloc; "{total} {loads:?}")
+    sums_told(alloc, total, &loads)
 }
 
 /// The total and the loads of the cut, and all its duals.
 pub fn cut(
     alloc: Global,
     instance: &Instance,
-    set: HubSet,
+    set: &HubSet,
     order: &[u32],
 ) -> Result<String, AllocError>
-    requires set { IsHubSet instance.now set }
-    requires order { IsOrder instance.now set order.now }
+    requires set { IsHubSet instance.now set.now }
+    requires order { IsOrder instance.now set.now order.now }
 {
-    let cut = cut_of(alloc, instance, set, order)?;
+    let cut = cut_of(alloc, instance, set.copy(alloc)?, order)?;
     let total = cut.total();
     let loads = cut.loads();
     let duals = cut.rows();

@@ -33,7 +33,14 @@ fn parts(alloc: Global, line: &str) -> Result<Option<Parts>, AllocError>
 {
     let flows = list::<i128>(alloc, line, "flows")?;
     let distances = list::<i128>(alloc, line, "distances")?;
-    Ok(Parts::new(node(line, "size"), flows, distances, AS_THEY_ARE, None, None))
+    Ok(Parts::new(
+        node(line, "size"),
+        flows,
+        distances,
+        AS_THEY_ARE,
+        None,
+        None,
+    ))
 }
 
 /// The options: the candidates, the factors and the fixed cost of each node.

@@ -9,7 +9,7 @@ use std::alloc::{AllocError, Global};
 
 /// The legs between these hubs and these places of an order: to `size` destinations from `start` on, or, where an
 /// origin is named, from it.
-pub fn legs(alloc: Global, instance: &Instance, line: &str) -> Result<String, AllocError> {
+pub fn asked(alloc: Global, instance: &Instance, line: &str) -> Result<String, AllocError> {
     let hubs = list::<u32>(alloc, line, "hubs")?;
     let order = list::<u32>(alloc, line, "order")?;
     if !are_nodes(instance.size(), &hubs) || !are_nodes(instance.size(), &order) {
@@ -18,7 +18,14 @@ pub fn legs(alloc: Global, instance: &Instance, line: &str) -> Result<String, Al
     if line.starts_with("first") {
         return first_legs(alloc, instance, &hubs, &order, node(line, "from"));
     }
-    set_legs(alloc, instance, &hubs, &order, node(line, "start"), node(line, "count"))
+    set_legs(
+        alloc,
+        instance,
+        &hubs,
+        &order,
+        node(line, "start"),
+        node(line, "count"),
+    )
 }
 
 fn are_nodes(size: u32, nodes: &[u32]) -> bool

@@ -6,6 +6,7 @@ ghost use Rattle.hub_spec.specs.Plans.{IsHubSet};
 ghost use Rattle.hub_spec.specs.Separation.{IsOrder};
 ghost use Rattle.pareto_cuts.specs.UnitCosts.{AreDualsFrom};
 
+use crate::texts::{dual_told, sums_told};
 use crate::words::list;
 use hub_model::{HubSet, Instance};
 use pareto_cuts::{DualBuffer, OriginScratch, Scratch, Separation, SetTables};
@@ -32,7 +33,7 @@ pub fn sums(
         return String::from_str(alloc, "no loads");
     }
     let total = add(alloc, instance, set, order, i, &mut loads)?;
-    format!(in alloc; "{total} {loads:?}")
+    sums_told(alloc, total, &loads)
 }
 
 /// Whether more can be added to these loads.
@@ -109,5 +110,5 @@ fn lent(
     let mut buffer = DualBuffer::new(alloc, room)?;
     buffer.make(separation, duals, i, j as usize);
     let (price, values) = buffer.dual();
-    format!(in alloc; "{price} {values:?}")
+    dual_told(alloc, price, values)
 }

@@ -18,10 +18,22 @@ pub fn asked(alloc: Global, instance: &Instance, line: &str) -> Result<String, A
         return String::from_str(alloc, "no hub set");
     }
     let set = HubSet::of(alloc, &hubs)?;
+    of_set(alloc, instance, &set, line)
+}
+
+fn of_set(
+    alloc: Global,
+    instance: &Instance,
+    set: &HubSet,
+    line: &str,
+) -> Result<String, AllocError>
+    requires { IsHubSet instance.now set.now }
+{
     match first(line) {
-        "assign" => assigned(alloc, instance, &set),
-        "order" => ordered(alloc, instance, &set, line),
-        _ => over_order(alloc, instance, &set, line),
+        "assign" => assigned(alloc, instance, set),
+        "order" => ordered(alloc, instance, set, line),
+        "cheapest" => cheapest(alloc, instance, set, line),
+        _ => over_order(alloc, instance, set, line),
     }
 }
 
@@ -34,6 +46,23 @@ fn assigned(alloc: Global, instance: &Instance, set: &HubSet) -> Result<String, 
     let cost_again = assignment.cost;
     let routes = assignment.routes;
     format!(in alloc; "{cost} {cost_again} {routes:?}")
+}
+
+/// The first entry inside the set of the row of the line's commodity.
+fn cheapest(
+    alloc: Global,
+    instance: &Instance,
+    set: &HubSet,
+    line: &str,
+) -> Result<String, AllocError>
+    requires { IsHubSet instance.now set.now }
+{
+    let i = node(line, "from");
+    let j = node(line, "to");
+    if i >= instance.size() || j >= instance.size() {
+        return String::from_str(alloc, "no commodity");
+    }
+    edges::cheapest(alloc, instance, set, i, j)
 }
 
 /// The candidates outside the set by the line's point.
@@ -53,7 +82,7 @@ fn ordered(
     format!(in alloc; "{order:?}")
 }
 
-/// What is asked of the set and the ascending order of the candidates outside it.
+/// The set and the ascending order of the candidates outside it, and what is asked of them.
 fn over_order(
     alloc: Global,
     instance: &Instance,
@@ -63,15 +92,10 @@ fn over_order(
     requires { IsHubSet instance.now set.now }
 {
     let order = outside(alloc, instance, set)?;
-    match first(line) {
-        "sums" => cuts::sums(alloc, instance, set, &order),
-        "cut" => cuts::cut(alloc, instance, set.copy(alloc)?, &order),
-        _ => of_commodity(alloc, instance, set, &order, line),
-    }
+    of_order(alloc, instance, set, &order, line)
 }
 
-/// What is asked of a commodity besides.
-fn of_commodity(
+fn of_order(
     alloc: Global,
     instance: &Instance,
     set: &HubSet,
@@ -87,12 +111,12 @@ fn of_commodity(
         return String::from_str(alloc, "no commodity");
     }
     match first(line) {
-        "cheapest" => edges::cheapest(alloc, instance, set, i, j),
+        "sums" => cuts::sums(alloc, instance, set, order),
+        "cut" => cuts::cut(alloc, instance, set, order),
         "row_dual" => edges::dual(alloc, instance, set, order, i, j),
         "strong_dual" => cuts::dual(alloc, instance, set, order, i, j),
         "lent_dual" => cuts::lent(alloc, instance, set, order, i, j),
         "separation" => origins::separation(alloc, instance, set, order, i, j),
-        "origin" => origins::sums(alloc, instance, set, order, i, line),
-        _ => String::from_str(alloc, "no question"),
+        _ => origins::sums(alloc, instance, set, order, i, line),
     }
 }

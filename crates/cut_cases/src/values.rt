@@ -4,6 +4,7 @@ ghost use Rattle.std.specs.Prelude.{◌≡◌, ◌<◌, ◌≤◌, length, IfOk}
 ghost use Rattle.value_cuts.specs.Values.{AreValuesFor, allowed_price, node_value};
 ghost use Rattle.value_cuts.specs.HeldRows.{IsSameShape};
 
+use crate::texts::{dual_told, sums_told};
 use crate::words::{first, list, node};
 use hub_model::Instance;
 use std::alloc::{AllocError, Global};
@@ -64,7 +65,7 @@ fn priced(alloc: Global, tables: &CandidateLegs, values: &Values) -> Result<Stri
     let mut prices = vec![in alloc; 0; size * size]?;
     let mut loads = vec![in alloc; 7; size]?;
     let total = cut_sums(tables, values, &mut scratch, &mut prices, &mut loads);
-    format!(in alloc; "{total} {loads:?}")
+    sums_told(alloc, total, &loads)
 }
 
 /// The dual of the line's commodity.
@@ -119,25 +120,40 @@ fn dual(
     let mut dual = DualScratch::new(alloc, tables)?;
     dual.make(tables, i, j, unit, row, price);
     let (price, values) = dual.dual();
-    format!(in alloc; "{price} {values:?}")
+    dual_told(alloc, price, values)
 }
 
-/// The rows after those from the node 1 are set to 6 and that from the node 0 to it to 5, in a copy of the values.
+/// A copy of values that are written: 5 for the commodity from the node 0 to the node 1, 6 for those from the node 1.
 pub fn written(alloc: Global, instance: &Instance) -> Result<String, AllocError> {
     if instance.size() < 2 {
         return String::from_str(alloc, "too few nodes");
     }
     let mut values = Values::new(alloc, instance, 3)?;
-    fill(&mut values);
+    fill_row(&mut values, 0, 1, 5);
+    fill_origin(&mut values, 1, 6);
+    copied(alloc, &values)
+}
+
+/// Sets all values of the commodity to this one.
+fn fill_row(values: &mut Values, i: u32, j: u32, value: u32)
+    requires origin { i < values.old.size }
+    requires destination { j < values.old.size }
+    ensures { IsSameShape values.old values.new }
+{
+    values.row_mut(i, j).fill(value);
+}
+
+/// Sets all values of the commodities from `i` to this one.
+fn fill_origin(values: &mut Values, i: u32, value: u32)
+    requires { i < values.old.size }
+    ensures { IsSameShape values.old values.new }
+{
+    values.origin_rows_mut(i).fill(value);
+}
+
+fn copied(alloc: Global, values: &Values) -> Result<String, AllocError> {
     let copy = values.copy(alloc)?;
     let unit = copy.unit();
     let rows = copy.rows();
     format!(in alloc; "unit {unit} {rows:?}")
-}
-
-fn fill(values: &mut Values)
-    requires { 2 ≤ values.old.size }
-{
-    values.row_mut(0, 1).fill(5);
-    values.origin_rows_mut(1).fill(6);
 }

@@ -26,7 +26,7 @@ where
 /// The first number behind this name.
 pub fn number(line: &str, name: &str) -> Option<u64> {
     let (_, rest) = line.split_once(name)?;
-    rest.split_whitespace().next()?.parse().ok()
+    first(rest).parse().ok()
 }
 
 /// The node behind this name, or 0 where there is none.

@@ -1,13 +1,7 @@
-//! Copies of the small types that the solver is made of, but for plans, sets and branches.
+//! Copies of what a tree and a file are made of.
 
-use hub_model::{Dual, Mix, Numbers, TreeLine};
+use hub_model::{Mix, Numbers, TreeLine};
 use std::alloc::{AllocError, Global};
-
-/// A copy of a dual.
-pub fn dual(alloc: Global) -> Result<String, AllocError> {
-    let dual = Dual::new(9, vec![in alloc; (4, 2)]?).clone()?;
-    format!(in alloc; "{dual:?}")
-}
 
 /// A copy of a leaf, and a copy of its weights.
 pub fn leaf(alloc: Global) -> Result<String, AllocError> {

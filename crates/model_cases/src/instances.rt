@@ -2,15 +2,10 @@
 
 ghost use Rattle.std.specs.Prelude.{◌≡◌, ◌^◌, pos, ◌≤ℤ◌, None, IfOk, IfSome};
 
-use crate::words::{has, node, nodes, number, numbers};
-use hub_model::{
-    Factors, Instance, Nodes, Order, Parts, Tail, Terms, is_node_list,
-};
+use crate::words::{behind, list, node, number};
+use hub_model::{Factors, Instance, Nodes, Order, Parts, Tail, Terms, is_node_list};
 use std::alloc::{AllocError, Global};
-use worked_cases::{
-    Case, EDGE_OF_TWO_CLOSED, LINE_OF_THREE, NoInstance, ONE_NODE, SECOND_OF_TWO, SHORTER_BACK,
-    THREE_COSTS, TWO_CLOSED, TWO_NODES, instance,
-};
+use worked_cases::{LINE_OF_THREE, NoInstance, THREE_COSTS, instance};
 
 /// The factors of a file.
 const AS_THEY_ARE: Factors = Factors {
@@ -20,19 +15,7 @@ const AS_THEY_ARE: Factors = Factors {
 };
 
 // The greatest fixed cost that options give, in 10^-6.
-const MOST_FIXED: i128 = 1_000_000_000_000_000_000;
-
-/// The worked cases by name.
-const CASES: [(&str, Case); 8] = [
-    ("one_node", ONE_NODE),
-    ("two_nodes", TWO_NODES),
-    ("second_of_two", SECOND_OF_TWO),
-    ("shorter_back", SHORTER_BACK),
-    ("line_of_three", LINE_OF_THREE),
-    ("two_closed", TWO_CLOSED),
-    ("edge_of_two_closed", EDGE_OF_TWO_CLOSED),
-    ("three_costs", THREE_COSTS),
-];
+const MOST_FIXED: u64 = 1_000_000_000_000_000_000;
 
 /// The instance of a line, as it stands, or what is wrong with it.
 pub fn told(alloc: Global, line: &str) -> Result<String, AllocError> {
@@ -42,46 +25,33 @@ pub fn told(alloc: Global, line: &str) -> Result<String, AllocError> {
     }
 }
 
-/// The instance of a line: the worked case of its second word, or that of the numbers that it names.
+/// The instance of a line: the worked case that it names, or that of its numbers.
 pub fn instance_of(alloc: Global, line: &str) -> Result<Instance, NoInstance> {
-    for (name, case) in &CASES {
-        if has(line, name) {
-            return instance(alloc, case);
-        }
+    match behind(line, " ") {
+        "line_of_three" => instance(alloc, &LINE_OF_THREE),
+        "three_costs" => instance(alloc, &THREE_COSTS),
+        _ => by_numbers(alloc, line),
     }
-    built(alloc, line)
 }
 
-/// The instance of the line's numbers, where all nodes have one fixed cost or none is named.
-fn built(alloc: Global, line: &str) -> Result<Instance, NoInstance> {
-    if has(line, "tail") {
-        return with_tail(alloc, line);
-    }
-    let parts = parts(alloc, line)?;
+fn by_numbers(alloc: Global, line: &str) -> Result<Instance, NoInstance> {
     let terms = terms(alloc, line)?;
-    Ok(Instance::build(alloc, parts, &terms, None)?)
+    built(alloc, &terms, line)
 }
 
-/// The instance whose fixed costs stand in the tail of its file.
-fn with_tail(alloc: Global, line: &str) -> Result<Instance, NoInstance> {
-    let flows = numbers(alloc, line, "flows")?;
-    let distances = numbers(alloc, line, "distances")?;
-    let tail = numbers(alloc, line, "tail")?;
-    let size = node(line, "size");
-    let parts = Parts::new(size, flows, distances, AS_THEY_ARE, listed(line), Some(tail));
-    let Some(parts) = parts else {
-        return Err(NoInstance::OutOfLimits);
-    };
-    Ok(Instance::build(alloc, parts, &Terms::plain(), None)?)
+/// The instance of the line's numbers.
+fn built(alloc: Global, terms: &Terms, line: &str) -> Result<Instance, NoInstance> {
+    let parts = parts(alloc, line)?;
+    Ok(Instance::build(alloc, parts, terms, None)?)
 }
 
 /// What a file of these numbers would give, without fixed costs.
 fn parts(alloc: Global, line: &str) -> Result<Parts, NoInstance>
     ensures { IfOk result (λ parts. parts.costs ≡ None) }
 {
-    let flows = numbers(alloc, line, "flows")?;
-    let distances = numbers(alloc, line, "distances")?;
-    let size = node(line, "size");
+    let flows = list::<i128>(alloc, line, " flows ")?;
+    let distances = list::<i128>(alloc, line, " distances ")?;
+    let size = node(line, " size ");
     match Parts::new(size, flows, distances, AS_THEY_ARE, listed(line), None) {
         Some(parts) => Ok(parts),
         None => Err(NoInstance::OutOfLimits),
@@ -90,7 +60,7 @@ fn parts(alloc: Global, line: &str) -> Result<Parts, NoInstance>
 
 /// The number of hubs that the file lists.
 fn listed(line: &str) -> Option<u32> {
-    let number = number(line, "listed")?;
+    let number = number(line, " listed ")?;
     u32::try_from(number).ok()
 }
 
@@ -101,18 +71,18 @@ fn terms(alloc: Global, line: &str) -> Result<Terms, NoInstance> {
         order: Order::FlowFirst,
         tail: Tail::Ignore,
         divide: 1,
-        collect: Some(factor(line, "collect")),
-        trunk: Some(factor(line, "trunk")),
-        deliver: Some(factor(line, "deliver")),
+        collect: Some(factor(line, " collect ")),
+        trunk: Some(factor(line, " trunk ")),
+        deliver: Some(factor(line, " deliver ")),
         fixed: fixed(line),
         candidates,
-        no_self: has(line, "no_self"),
+        no_self: line.ends_with("no_self"),
     })
 }
 
 /// The candidates that are listed.
 fn candidates(alloc: Global, line: &str) -> Result<Option<Nodes>, NoInstance> {
-    let listed = nodes(alloc, line, "candidates")?;
+    let listed = list::<u32>(alloc, line, " candidates ")?;
     if listed.is_empty() {
         return Ok(None);
     }
@@ -128,7 +98,7 @@ fn factor(line: &str, name: &str) -> i128
     ensures most { result ≤ℤ pos (10 ^ 6) }
 {
     match number(line, name) {
-        Some(factor) if 0 <= factor && factor <= 1_000_000 => factor,
+        Some(factor) if factor <= 1_000_000 => factor as i128,
         _ => 1000,
     }
 }
@@ -137,8 +107,8 @@ fn factor(line: &str, name: &str) -> i128
 fn fixed(line: &str) -> Option<i128>
     ensures { IfSome result (λ z. (pos 0 ≤ℤ z) × (z ≤ℤ pos (10 ^ 18))) }
 {
-    match number(line, "fixed") {
-        Some(cost) if 0 <= cost && cost <= MOST_FIXED => Some(cost),
+    match number(line, " fixed ") {
+        Some(cost) if cost <= MOST_FIXED => Some(cost as i128),
         _ => None,
     }
 }

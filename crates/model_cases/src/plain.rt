@@ -3,7 +3,7 @@
 ghost use Rattle.std.specs.Prelude.{◌<◌};
 ghost use Rattle.hub_spec.specs.Plans.{IsHubSet};
 
-use crate::words::{first, node, nodes};
+use crate::words::{first, list, node};
 use hub_model::{HubSet, Instance};
 use hub_plain::{
     assign, best_plan, is_hub_set, is_plan, least_route, minimal_dual, outside, plan_cost,
@@ -31,15 +31,41 @@ pub fn plan(alloc: Global, instance: &Instance) -> Result<String, AllocError> {
 
 /// What is asked of the hubs that the line names.
 pub fn with_hubs(alloc: Global, instance: &Instance, line: &str) -> Result<String, AllocError> {
-    let hubs = nodes(alloc, line, "hubs")?;
+    let hubs = list::<u32>(alloc, line, " hubs ")?;
     if !is_hub_set(instance, &hubs) {
         return String::from_str(alloc, "no hub set");
     }
+    of_hubs(alloc, instance, &hubs, line)
+}
+
+fn of_hubs(
+    alloc: Global,
+    instance: &Instance,
+    hubs: &[u32],
+    line: &str,
+) -> Result<String, AllocError>
+    requires { IsHubSet instance.now hubs.now }
+{
     match first(line) {
-        "set_cost" => cost_of(alloc, instance, &hubs),
-        "least_route" => route(alloc, instance, &hubs, node(line, "from"), node(line, "to")),
-        _ => with_set(alloc, instance, &hubs, line),
+        "opening" => opening(alloc, instance, hubs),
+        "set_cost" => cost_of(alloc, instance, hubs),
+        "least_route" => route(
+            alloc,
+            instance,
+            hubs,
+            node(line, " from "),
+            node(line, " to "),
+        ),
+        _ => with_set(alloc, instance, hubs, line),
     }
+}
+
+/// What it costs to open the hubs.
+fn opening(alloc: Global, instance: &Instance, hubs: &[u32]) -> Result<String, AllocError>
+    requires { IsHubSet instance.now hubs.now }
+{
+    let cost = instance.opening_cost(hubs);
+    format!(in alloc; "{cost}")
 }
 
 fn cost_of(alloc: Global, instance: &Instance, hubs: &[u32]) -> Result<String, AllocError>
@@ -74,13 +100,36 @@ fn with_set(
 ) -> Result<String, AllocError>
     requires { IsHubSet instance.now hubs.now }
 {
-    let set = HubSet::of(alloc, hubs)?.copy(alloc)?;
+    let set = HubSet::of(alloc, hubs)?;
+    of_set(alloc, instance, &set, line)
+}
+
+fn of_set(
+    alloc: Global,
+    instance: &Instance,
+    set: &HubSet,
+    line: &str,
+) -> Result<String, AllocError>
+    requires { IsHubSet instance.now set.now }
+{
     match first(line) {
-        "assign" => assigned(alloc, instance, &set),
-        "dual" => dual(alloc, instance, &set, node(line, "from"), node(line, "to")),
-        "cut_rows" => cut_rows(alloc, instance, &set),
-        _ => String::from_str(alloc, "no question"),
+        "copy" => copied(alloc, set),
+        "assign" => assigned(alloc, instance, set),
+        "dual" => dual(
+            alloc,
+            instance,
+            set,
+            node(line, " from "),
+            node(line, " to "),
+        ),
+        _ => cut_rows(alloc, instance, set),
     }
+}
+
+fn copied(alloc: Global, set: &HubSet) -> Result<String, AllocError> {
+    let copy = set.copy(alloc)?;
+    let members = copy.members();
+    format!(in alloc; "{members:?}")
 }
 
 fn assigned(alloc: Global, instance: &Instance, set: &HubSet) -> Result<String, AllocError>

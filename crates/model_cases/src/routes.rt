@@ -1,5 +1,6 @@
 //! Routes and branches of an instance.
 
+use crate::words::{first, node};
 use hub_model::{Branch, Instance, route_cost};
 use std::alloc::{AllocError, Global};
 
@@ -19,20 +20,28 @@ pub fn routes(alloc: Global, instance: &Instance) -> Result<String, AllocError> 
     format!(in alloc; "{costs:?}")
 }
 
-/// What it costs to open all candidates.
-pub fn opening(alloc: Global, instance: &Instance) -> Result<String, AllocError> {
-    let cost = instance.opening_cost(instance.candidates());
-    format!(in alloc; "{cost}")
+/// The root, or its child where the line's candidate is a hub or is closed.
+pub fn branch(alloc: Global, instance: &Instance, line: &str) -> Result<String, AllocError> {
+    let root = Branch::root(alloc, instance)?;
+    match first(line) {
+        "open" => open(alloc, &root, node(line, " node ")),
+        "close" => close(alloc, &root, node(line, " node ")),
+        _ => format!(in alloc; "{root:?}"),
+    }
 }
 
-/// The children of the root on each candidate, open and closed, and then the root.
-pub fn branches(alloc: Global, instance: &Instance) -> Result<String, AllocError> {
-    let mut branches = Vec::new(alloc);
-    let root = Branch::root(alloc, instance)?;
-    for k in root.free() {
-        branches.push(root.open_child(alloc, *k)?)?;
-        branches.push(root.closed_child(alloc, *k)?)?;
+fn open(alloc: Global, root: &Branch, k: u32) -> Result<String, AllocError> {
+    if !root.free().contains(&k) {
+        return String::from_str(alloc, "not free");
     }
-    branches.push(root.clone()?)?;
-    format!(in alloc; "{branches:?}")
+    let child = root.open_child(alloc, k)?.clone()?;
+    format!(in alloc; "{child:?}")
+}
+
+fn close(alloc: Global, root: &Branch, k: u32) -> Result<String, AllocError> {
+    if !root.free().contains(&k) {
+        return String::from_str(alloc, "not free");
+    }
+    let child = root.closed_child(alloc, k)?;
+    format!(in alloc; "{child:?}")
 }

@@ -8,8 +8,12 @@ use worked_cases::{TWO_NODES_CERTIFICATE, TWO_NODES_OTHER_PLAN, TWO_NODES_PLAN, 
 const REFUSALS: [Refusal; 13] = [
     Refusal::Fault(InstanceFault::TooLong),
     Refusal::Fault(InstanceFault::BadNumber { at: 1 }),
-    Refusal::Fault(InstanceFault::Missing { what: Wanted::Token(2) }),
-    Refusal::Fault(InstanceFault::Missing { what: Wanted::Pair(0, 1) }),
+    Refusal::Fault(InstanceFault::Missing {
+        what: Wanted::Token(2),
+    }),
+    Refusal::Fault(InstanceFault::Missing {
+        what: Wanted::Pair(0, 1),
+    }),
     Refusal::Fault(InstanceFault::Extra { at: 3 }),
     Refusal::Fault(InstanceFault::Size { got: 201 }),
     Refusal::Fault(InstanceFault::Negative { at: 4 }),
@@ -30,16 +34,17 @@ pub fn refusals(alloc: Global) -> Result<String, AllocError> {
     Ok(text)
 }
 
-/// The line's text with a part replaced, where the text, the part and what stands for it are parted by slashes.
-pub fn with_part_replaced(alloc: Global, line: &str) -> Result<String, AllocError> {
-    let mut texts = line.split(" / ");
-    match (texts.next(), texts.next(), texts.next(), texts.next()) {
-        (Some(_), Some(text), Some(old), Some(new)) => changed(alloc, text, old, new),
-        _ => String::from_str(alloc, "no text"),
-    }
+/// The line with a two in figures, if it has one in a word.
+pub fn in_figures(alloc: Global, line: &str) -> Result<String, AllocError> {
+    changed(alloc, line, "two", "2")
 }
 
 /// The certificate of two nodes with another plan, in lines.
 pub fn certificate(alloc: Global) -> Result<String, AllocError> {
-    changed(alloc, TWO_NODES_CERTIFICATE, TWO_NODES_PLAN, TWO_NODES_OTHER_PLAN)
+    changed(
+        alloc,
+        TWO_NODES_CERTIFICATE,
+        TWO_NODES_PLAN,
+        TWO_NODES_OTHER_PLAN,
+    )
 }
