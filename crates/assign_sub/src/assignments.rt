@@ -9,8 +9,9 @@ ghost use Rattle.hub_plain.specs.Assignments.{AreLeastRoutes, plan_of};
 ghost use Rattle.leg_tables.specs.StopLegs.{AreLegsOf, AreFirstLegsOf};
 
 use crate::pairs::flow_between;
-use hub_model::{HubSet, Instance, signed};
+use hub_model::{Instance, signed};
 use leg_tables::{FirstLegs, SetLegs};
+use plan_model::HubSet;
 use std::alloc::{AllocError, Global};
 use unit_duals::Hops;
 

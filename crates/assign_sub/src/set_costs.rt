@@ -9,7 +9,8 @@ ghost use Rattle.unit_duals.specs.Limits.{most_leg};
 ghost use Rattle.assign_sub.specs.LeastLengths.{AreReaches, least_reach, least_length};
 
 use crate::pairs::{distance_between, flow_between};
-use hub_model::{HubSet, Instance, signed};
+use hub_model::{Instance, signed};
+use plan_model::HubSet;
 
 /// The most hubs that there may be: as many as nodes.
 const MOST_HUBS: usize = 200;

@@ -8,7 +8,7 @@ use Rattle.hub_spec.specs.Plans.{IsHubSet}
 use Rattle.hub_spec.specs.Cuts.{Cut}
 use Rattle.hub_spec.specs.Separation.{set_cut}
 use Rattle.hub_model.specs.Amounts.{natural}
-use Rattle.hub_model.specs.declared.tree_lines.TreeLine.{TreeLine}
+use Rattle.plan_model.specs.declared.tree_lines.TreeLine.{TreeLine}
 use Rattle.cut_pool.specs.Entries.{Sums, Entry, entry_of}
 use Rattle.search_spec.specs.Steps.{separated}
 use Rattle.search_spec.specs.Choices.{set_cost, rule_parts}

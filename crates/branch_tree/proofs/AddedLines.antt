@@ -4,8 +4,8 @@ use Rattle.std.proofs.lemmas.List.{length-map, length_push}
 use Rattle.hub_spec.specs.Problem.{Problem}
 use Rattle.hub_spec.specs.Plans.{IsHubSet}
 use Rattle.hub_spec.specs.Trees.{Tree, TreeLine, preorder}
-use Rattle.hub_model.specs.declared.tree_lines.TreeLine as model
-use Rattle.hub_model.specs.Lines.{tree_line_of}
+use Rattle.plan_model.specs.declared.tree_lines.TreeLine as model
+use Rattle.plan_model.specs.Lines.{tree_line_of}
 use Rattle.search_spec.specs.States.{State, Grown}
 use Rattle.search_steps.specs.Pools.{IsPoolOf, state_by}
 use Rattle.branch_tree.specs.declared.task.Task.{Task}

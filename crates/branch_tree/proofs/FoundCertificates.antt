@@ -9,7 +9,7 @@ use Rattle.hub_spec.specs.Cuts.{Cut}
 use Rattle.hub_spec.specs.Trees.{Tree, branch, leaf, empty, TreeLine, preorder, line_count}
 use Rattle.hub_spec.proofs.SumLemmas.{by_test}
 use Rattle.hub_model.specs.Amounts.{natural}
-use Rattle.hub_model.specs.Lines.{tree_line_of}
+use Rattle.plan_model.specs.Lines.{tree_line_of}
 use Rattle.search_spec.specs.States.{State, Grown, is_stopped, answer}
 use Rattle.search_spec.specs.Steps.{begun}
 use Rattle.search_spec.specs.Laws.{AreSound, IsStart}

@@ -12,8 +12,8 @@ use Rattle.hub_spec.specs.Separation.{IsOrder}
 use Rattle.hub_spec.specs.Trees.{preorder}
 use Rattle.hub_spec.proofs.Limits.{plan_cost_limit}
 use Rattle.hub_spec.proofs.Sets.{filter_same}
-use Rattle.hub_model.specs.declared.tree_lines.TreeLine as model
-use Rattle.hub_model.specs.Lines.{tree_line_of}
+use Rattle.plan_model.specs.declared.tree_lines.TreeLine as model
+use Rattle.plan_model.specs.Lines.{tree_line_of}
 use Rattle.cut_pool.specs.Entries.{Sums, Entry, PoolState, entry_of}
 use Rattle.search_spec.specs.States.{State, Grown, lesser, answer}
 use Rattle.search_spec.specs.Steps.{begun}

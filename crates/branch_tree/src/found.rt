@@ -3,7 +3,7 @@
 ghost use Rattle.std.specs.Prelude.{◌≡◌};
 
 use cut_pool::Pool;
-use hub_model::{Plan, TreeLine};
+use plan_model::{Plan, TreeLine};
 
 /// A plan with the cuts and the tree that bound what any plan costs: a certificate of the instance that was searched.
 ///

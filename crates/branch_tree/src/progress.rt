@@ -2,13 +2,14 @@
 
 ghost use Rattle.std.specs.Prelude.{◌≡◌, ◌+◌, OnOk};
 ghost use Rattle.hub_spec.specs.Trees.{branch_on};
-ghost use Rattle.hub_model.specs.Lines.{tree_line_of};
+ghost use Rattle.plan_model.specs.Lines.{tree_line_of};
 ghost use Rattle.search_spec.specs.Steps.{may_split};
 ghost use Rattle.branch_tree.specs.Progressing.{state_of, IsGoing, HasLine};
 
 use crate::task::Task;
 use cut_pool::Pool;
-use hub_model::{HubSet, MOST_TREE_LINES, TreeLine};
+use hub_model::MOST_TREE_LINES;
+use plan_model::{HubSet, TreeLine};
 use std::alloc::AllocError;
 
 /// The cuts and the lines of the tree, the incumbent with its cost, the nodes made, and after a stop the least that a

@@ -12,7 +12,8 @@ ghost use Rattle.branch_tree.specs.Progressing.{state_of, IsGoing, IsAt};
 
 use crate::progress::Progress;
 use crate::task::Task;
-use hub_model::{HubSet, MOST_CUTS, unsigned};
+use hub_model::{MOST_CUTS, unsigned};
+use plan_model::HubSet;
 use separators::Separator;
 use std::alloc::{AllocError, Global};
 

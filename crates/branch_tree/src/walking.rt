@@ -15,7 +15,7 @@ use crate::progress::{Progress, add_line, may_split, split_on};
 use crate::rounds::{RoundEnd, closes_cost, rounds};
 use crate::task::Task;
 use hub_fixing::Side;
-use hub_model::{Branch, TreeLine};
+use plan_model::{Branch, TreeLine};
 use search_steps::{nearest, node_fixings};
 use separators::Separator;
 use std::alloc::{AllocError, Global};

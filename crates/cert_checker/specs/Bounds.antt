@@ -4,7 +4,7 @@ use Rattle.hub_spec.specs.Limits.{most_cost}
 use Rattle.hub_spec.specs.Problem.{Problem, fixed_cost}
 use Rattle.hub_spec.specs.Cuts.{Cut, load}
 use Rattle.hub_spec.specs.Trees.{mixed_load}
-use Rattle.hub_model.specs.Mixtures.{Mixture}
+use Rattle.plan_model.specs.Mixtures.{Mixture}
 
 -- each cut's load of the node is within its limit
 abbrev pub AreLoadsWithin : List Cut → ℕ → Type 0

@@ -3,9 +3,9 @@ use Rattle.std.specs.Prelude.{◌≡◌, ℕ, ◌+◌, ◌≤◌, List, [], ◌�
 use Rattle.hub_spec.specs.Problem.{Problem}
 use Rattle.hub_spec.specs.Cuts.{Cut}
 use Rattle.hub_spec.specs.Trees.{Branching, root, open_child, closed_child, weight_sum, leaf_bound, Closes, TreeLine, branch_on, leaf_of, no_hub, IsClosed}
-use Rattle.hub_model.specs.Mixtures.{Mixture}
-use Rattle.hub_model.specs.Lines.{tree_line_of}
-use Rattle.hub_model.specs.declared.tree_lines.TreeLine as code
+use Rattle.plan_model.specs.Mixtures.{Mixture}
+use Rattle.plan_model.specs.Lines.{tree_line_of}
+use Rattle.plan_model.specs.declared.tree_lines.TreeLine as code
 use Rattle.cert_spec.specs.Conditions.{Claim, claim, Branch, CutNumber, Weight, Leaf, Empty}
 
 -- the conditions of one line of a branch's tree

@@ -8,7 +8,8 @@ ghost use Rattle.hub_spec.specs.Trees.{cut_at, mixed_total, mixed_load, leaf_bou
 ghost use Rattle.cert_checker.specs.Bounds.{AreLoadsWithin, loss};
 
 use crate::sums::SummedCut;
-use hub_model::{Branch, Instance, Mix};
+use hub_model::Instance;
+use plan_model::{Branch, Mix};
 
 /// The bound at a leaf of the branch with this mix of the cuts.
 pub(crate) fn leaf_bound(

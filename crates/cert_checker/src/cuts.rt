@@ -14,7 +14,8 @@ use crate::failures::Failure;
 use crate::kinds::Kind;
 use crate::lines::{cut_lines, last_dual_line};
 use crate::sums::SummedCut;
-use hub_model::{Dual, Instance, MOST_COST};
+use hub_model::{Instance, MOST_COST};
+use plan_model::Dual;
 use std::alloc::Global;
 use std::thread::Threads;
 

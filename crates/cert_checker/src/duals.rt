@@ -11,7 +11,8 @@ ghost use Rattle.cert_checker.specs.Duals.{AreValues, IsCovered, IsCoveredSingle
 use crate::failures::Failure;
 use crate::kinds::Kind;
 use crate::nodes::is_among;
-use hub_model::{Dual, Instance, MOST_NODES};
+use hub_model::{Instance, MOST_NODES};
+use plan_model::Dual;
 use rayon::prelude::*;
 use std::thread::Threads;
 

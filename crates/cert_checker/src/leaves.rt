@@ -14,7 +14,8 @@ use crate::bounds::leaf_bound;
 use crate::failures::Failure;
 use crate::kinds::Kind;
 use crate::sums::SummedCut;
-use hub_model::{Branch, Instance, Mix};
+use hub_model::Instance;
+use plan_model::{Branch, Mix};
 
 /// Tries the conditions of a leaf of the branch with this mix of the cuts, which stands at this line.
 pub(crate) fn check_leaf(

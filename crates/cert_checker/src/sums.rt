@@ -5,7 +5,7 @@ ghost use Rattle.hub_spec.specs.Cuts.{cut_by, value_at, total, load};
 ghost use Rattle.hub_spec.specs.Ranges.{IsAmount, IsDualInRange};
 ghost use Rattle.cert_checker.specs.Duals.{most_duals, most_sum};
 
-use hub_model::Dual;
+use plan_model::Dual;
 use std::alloc::{AllocError, Global};
 use std::marker::Model;
 

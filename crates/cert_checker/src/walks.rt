@@ -6,7 +6,7 @@ ghost use Rattle.hub_spec.specs.Cuts.{IsCut};
 ghost use Rattle.hub_spec.specs.Trees.{root, open_child, closed_child, IsClosed, IsBranch};
 ghost use Rattle.cert_spec.specs.Conditions.{claim, Branch as of_branch, Empty, AllHold};
 ghost use Rattle.hub_spec.specs.Ranges.{IsShort, IsLineInRange};
-ghost use Rattle.hub_model.specs.Lines.{tree_line_of};
+ghost use Rattle.plan_model.specs.Lines.{tree_line_of};
 ghost use Rattle.cert_checker.specs.Answers.{IsFailure};
 ghost use Rattle.cert_checker.specs.Walks.{coded_claims, children, IsStackAfter, root_claims};
 
@@ -15,7 +15,8 @@ use crate::kinds::Kind;
 use crate::leaves::check_leaf;
 use crate::nodes::is_among;
 use crate::sums::SummedCut;
-use hub_model::{Branch, Instance, TreeLine};
+use hub_model::Instance;
+use plan_model::{Branch, TreeLine};
 use std::alloc::{AllocError, Global};
 
 /// Tries the conditions of the lines of a tree, the first of which stands at this line. The branches that are still to

@@ -7,7 +7,7 @@ use Rattle.std.proofs.lemmas.List.FromFn.{get_or-enumerate_from, length-map-rang
 use Rattle.hub_spec.specs.Problem.{Problem, commodities}
 use Rattle.hub_spec.specs.Cuts.{Prices, Cut, cut_by}
 use Rattle.hub_spec.specs.Separation.{minimal_dual, set_cut}
-use Rattle.hub_model.specs.Prices.{natural_values}
+use Rattle.plan_model.specs.Prices.{natural_values}
 use Rattle.cert_spec.specs.Lines.{Item, says_cut, says_dual}
 use Rattle.cert_spec.specs.Text.{line_bytes, dual_items, cut_items}
 use Rattle.cert_format.specs.DualItems.{dual_items_from, all_dual_items}

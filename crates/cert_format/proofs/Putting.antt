@@ -19,9 +19,9 @@ use Rattle.hub_spec.proofs.Commodities.{length_commodities, commodity_at}
 use Rattle.cert_spec.specs.Lines.{Item, says_version, says_size, says_cost, says_bound, says_hubs, says_route, says_cuts, says_dual, says_nodes, says_tree, says_end, keyword, numbers}
 use Rattle.cert_spec.specs.Text.{line_bytes, route_items, dual_items, cut_items, top_items, cuts_items, tree_items, certificate_items, certificate_text}
 use Rattle.cert_spec.proofs.Items.{certificate_items-parts}
-use Rattle.hub_model.specs.Prices.{natural_values, signed_values}
-use Rattle.hub_model.specs.Lines.{tree_line_of}
-use Rattle.hub_model.specs.declared.tree_lines.TreeLine.{TreeLine}
+use Rattle.plan_model.specs.Prices.{natural_values, signed_values}
+use Rattle.plan_model.specs.Lines.{tree_line_of}
+use Rattle.plan_model.specs.declared.tree_lines.TreeLine.{TreeLine}
 use Rattle.cert_format.specs.Spaced.{words_line}
 use Rattle.cert_format.specs.Parts.{cut_of}
 use Rattle.cert_format.proofs.Written.{line_of}

@@ -7,8 +7,8 @@ use Rattle.std.proofs.lemmas.List.Elements.{All-from_recursion, recursion_from_A
 use Rattle.hub_spec.specs.Trees.{leaf_of}
 use Rattle.hub_spec.specs.Ranges.{IsShort, IsDualInRange, IsLineInRange}
 use Rattle.hub_model.specs.Amounts.{natural, IsNatural}
-use Rattle.hub_model.specs.Prices.{natural_values, AreSignedPrices}
-use Rattle.hub_model.specs.Mixtures.{natural_weights, IsSignedMixture}
+use Rattle.plan_model.specs.Prices.{natural_values, AreSignedPrices}
+use Rattle.plan_model.specs.Mixtures.{natural_weights, IsSignedMixture}
 use Rattle.cert_format.proofs.Amounts.{natural_pos}
 
 above_0 : (z : ℤ) → 1 ≤ natural z → pos 1 ≤ℤ z

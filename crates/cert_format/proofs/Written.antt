@@ -7,8 +7,8 @@ use Rattle.hub_spec.specs.Trees.{leaf_of}
 use Rattle.cert_spec.specs.Lines.{Item, says_hubs, says_dual, says_tree, keyword, numbers, value_numbers, weight_numbers, line_text}
 use Rattle.cert_spec.specs.Text.{line_bytes}
 use Rattle.hub_model.specs.Amounts.{natural, IsNatural}
-use Rattle.hub_model.specs.Prices.{natural_values, signed_values}
-use Rattle.hub_model.specs.Mixtures.{signed_weights}
+use Rattle.plan_model.specs.Prices.{natural_values, signed_values}
+use Rattle.plan_model.specs.Mixtures.{signed_weights}
 use Rattle.cert_format.proofs.Amounts.{natural_pos}
 use Rattle.cert_format.specs.Spaced.{spaced, words_text, words_line, spaced_node, spaced_value, spaced_weight}
 

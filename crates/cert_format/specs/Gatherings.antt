@@ -1,8 +1,8 @@
 -- What a gathering holds.
 use Rattle.std.specs.Prelude.{map}
-use Rattle.hub_model.specs.Prices.{natural_values}
-use Rattle.hub_model.specs.Mixtures.{natural_weights}
-use Rattle.hub_model.specs.Lines.{tree_line_of}
+use Rattle.plan_model.specs.Prices.{natural_values}
+use Rattle.plan_model.specs.Mixtures.{natural_weights}
+use Rattle.plan_model.specs.Lines.{tree_line_of}
 use Rattle.cert_format.specs.Parts.{cut_of}
 use Rattle.cert_format.specs.Gathered.{Gathered, Begun, no_line, dual_begun, leaf_begun, Standing}
 use Rattle.cert_format.specs.declared.begun.BegunLine.{BegunLine}

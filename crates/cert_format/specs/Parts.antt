@@ -8,8 +8,8 @@ use Rattle.hub_spec.specs.Trees.{preorder}
 use Rattle.hub_spec.specs.Certificates.{Proof}
 use Rattle.hub_spec.specs.Ranges.{IsInRange}
 use Rattle.hub_model.specs.Amounts.{natural, IsNatural}
-use Rattle.hub_model.specs.Lines.{tree_line_of}
-use Rattle.hub_model.specs.declared.tree_lines.TreeLine.{TreeLine}
+use Rattle.plan_model.specs.Lines.{tree_line_of}
+use Rattle.plan_model.specs.declared.tree_lines.TreeLine.{TreeLine}
 use Rattle.cert_format.specs.Growing.{tree_of}
 
 -- a cut by its duals

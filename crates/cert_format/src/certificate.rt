@@ -1,10 +1,10 @@
 ghost use Rattle.std.specs.Prelude.{◌≡◌, pos, map};
 ghost use Rattle.hub_spec.specs.Trees.{preorder};
 ghost use Rattle.hub_spec.specs.Ranges.{IsInRange};
-ghost use Rattle.hub_model.specs.Lines.{tree_line_of};
+ghost use Rattle.plan_model.specs.Lines.{tree_line_of};
 ghost use Rattle.cert_format.specs.Parts.{cut_of, proof_of, AreCertificateParts};
 
-use hub_model::{Dual, Plan, TreeLine};
+use plan_model::{Dual, Plan, TreeLine};
 use std::marker::Model;
 
 /// A certificate within the ranges of the grammar: a plan and its cost, and cuts with a tree that are to show that no

@@ -8,7 +8,8 @@ ghost use Rattle.cert_format.specs.Gathered.{with_dual};
 use crate::Certificate;
 use crate::begun::BegunLine;
 use cert_scan::Item;
-use hub_model::{Dual, Mix, Plan, TreeLine, signed};
+use hub_model::signed;
+use plan_model::{Dual, Mix, Plan, TreeLine};
 use std::alloc::{AllocError, Global};
 use std::mem;
 

@@ -5,14 +5,15 @@ ghost use Rattle.hub_spec.specs.Trees.{leaf_of};
 ghost use Rattle.cert_spec.specs.Lines.{says_hubs, says_route, says_cut, says_dual, says_tree};
 ghost use Rattle.hub_io.specs.Outside.{PutsThrough};
 ghost use Rattle.hub_model.specs.Amounts.{natural, IsNatural};
-ghost use Rattle.hub_model.specs.Prices.{natural_values};
-ghost use Rattle.hub_model.specs.Lines.{tree_line_of};
+ghost use Rattle.plan_model.specs.Prices.{natural_values};
+ghost use Rattle.plan_model.specs.Lines.{tree_line_of};
 ghost use Rattle.cert_format.specs.Spaced.{spaced_node, spaced_value, spaced_weight};
 ghost use Rattle.cert_format.specs.Puts.{PutsLine};
 
 use crate::spaced::{put_line, put_number, put_numbers, put_words};
 use hub_io::{Buffer, Failed, Sink};
-use hub_model::{Mix, TreeLine, unsigned};
+use hub_model::unsigned;
+use plan_model::{Mix, TreeLine};
 
 // Puts the line of the hubs.
 pub(crate) fn put_hubs<K: Sink>(

@@ -7,7 +7,7 @@ ghost use Rattle.cert_spec.specs.Lines.{says_version, says_size, says_cost, says
 ghost use Rattle.cert_spec.specs.Text.{route_items, dual_items, cut_items, top_items, cuts_items, tree_items, certificate_items, certificate_text};
 ghost use Rattle.hub_io.specs.Outside.{Puts};
 ghost use Rattle.hub_model.specs.Amounts.{natural, IsNatural};
-ghost use Rattle.hub_model.specs.Lines.{tree_line_of};
+ghost use Rattle.plan_model.specs.Lines.{tree_line_of};
 ghost use Rattle.cert_format.specs.Parts.{cut_of};
 ghost use Rattle.cert_format.specs.Puts.{PutsLines};
 
@@ -15,7 +15,8 @@ use crate::Certificate;
 use crate::lines::{put_cut, put_dual, put_hubs, put_route, put_tree_line};
 use crate::spaced::put_line;
 use hub_io::{Buffer, Failed, Sink};
-use hub_model::{Dual, Plan, TreeLine, unsigned};
+use hub_model::unsigned;
+use plan_model::{Dual, Plan, TreeLine};
 
 /// Puts the text of a certificate, in puts of about 8192 bytes each. It takes no memory but for those bytes.
 pub fn write_cert<K: Sink>(certificate: &Certificate, sink: &mut K) -> Result<(), Failed>

@@ -7,7 +7,7 @@ use Rattle.hub_spec.specs.Problem.{Problem, commodities}
 use Rattle.hub_spec.specs.Plans.{Plan}
 use Rattle.hub_spec.specs.Cuts.{Cut, cut_by}
 use Rattle.hub_spec.specs.Trees.{Tree, preorder}
-use Rattle.hub_model.specs.declared.tree_lines.TreeLine as model
+use Rattle.plan_model.specs.declared.tree_lines.TreeLine as model
 use Rattle.cert_spec.specs.Lines.{Item, says_cut}
 use Rattle.cert_spec.specs.Text.{line_bytes, cut_items, top_items, cuts_items, tree_items, certificate_text}
 use Rattle.cert_spec.proofs.Items.{certificate_items-parts}

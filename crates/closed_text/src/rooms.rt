@@ -2,7 +2,7 @@
 
 ghost use Rattle.std.specs.Prelude.{◌≡◌, ◌+◌, ◌*◌, ◌<◌, ◌≤◌, pos, length, IfOk};
 ghost use Rattle.hub_spec.specs.Separation.{AreListedValues};
-ghost use Rattle.hub_model.specs.Prices.{signed_values};
+ghost use Rattle.plan_model.specs.Prices.{signed_values};
 ghost use Rattle.value_cuts.specs.Values.{AreValuesFor};
 ghost use Rattle.value_cuts.specs.Prices.{ArePricesFrom};
 ghost use Rattle.kept_cuts.specs.Packed.{row_of, AreRowsFrom};

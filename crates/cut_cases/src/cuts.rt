@@ -5,8 +5,9 @@ ghost use Rattle.hub_spec.specs.Plans.{IsHubSet};
 ghost use Rattle.hub_spec.specs.Separation.{IsOrder};
 
 use crate::texts::{dual_told, sums_told};
-use hub_model::{HubSet, Instance};
+use hub_model::Instance;
 use pareto_cuts::{Scratch, cut_of, cut_sums, strong_dual, strong_dual_in};
+use plan_model::HubSet;
 use std::alloc::{AllocError, Global};
 
 /// The minimal dual of the commodity.

@@ -8,7 +8,8 @@ use crate::texts::dual_told;
 use crate::words::node;
 use dual_cuts::dual_of;
 use hub_edges::EdgeRow;
-use hub_model::{HubSet, Instance};
+use hub_model::Instance;
+use plan_model::HubSet;
 use std::alloc::{AllocError, Global};
 
 /// The row of the line's commodity.

@@ -8,8 +8,9 @@ ghost use Rattle.pareto_cuts.specs.UnitCosts.{AreDualsFrom};
 
 use crate::texts::{dual_told, sums_told};
 use crate::words::list;
-use hub_model::{HubSet, Instance};
+use hub_model::Instance;
 use pareto_cuts::{DualBuffer, OriginScratch, Scratch, Separation, SetTables};
+use plan_model::HubSet;
 use std::alloc::{AllocError, Global};
 
 /// More than this is not taken as a load: 2^120.

@@ -6,9 +6,10 @@ ghost use Rattle.hub_spec.specs.Separation.{IsOrder};
 use crate::words::{first, list, node};
 use crate::{cuts, edges, origins};
 use assign_sub::{assign, set_cost};
-use hub_model::{HubSet, Instance};
+use hub_model::Instance;
 use hub_plain::{is_hub_set, outside};
 use pareto_cuts::order_of;
+use plan_model::HubSet;
 use std::alloc::{AllocError, Global};
 
 /// What is asked of the hubs that the line names.

@@ -3,7 +3,7 @@
 ghost use Rattle.std.specs.Prelude.{◌≡◌, map, All, pos};
 ghost use Rattle.hub_model.specs.Amounts.{natural, IsNatural};
 
-use hub_model::HubSet;
+use plan_model::HubSet;
 use std::marker::Model;
 
 /// What a search keeps of a cut: its hub set, the sum of its prices and, for each node, the sum of its values.

@@ -3,7 +3,7 @@
 ghost use Rattle.std.specs.Prelude.{◌<◌, length};
 ghost use Rattle.cut_pool.specs.Ordered.{IsIndex, IsSplitAt};
 
-use hub_model::HubSet;
+use plan_model::HubSet;
 
 /// How many sets of the index come before these hubs.
 pub(crate) fn place_of(sets: &[HubSet], by_set: &[u32], hubs: &[u32]) -> usize

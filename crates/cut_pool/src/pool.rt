@@ -7,7 +7,7 @@ ghost use Rattle.cut_pool.specs.Shorts.{AreShortLoads};
 use crate::places::place_of;
 use crate::short_loads::{reserve_kept, with_cut};
 use crate::{CutSums, ShortLoads};
-use hub_model::HubSet;
+use plan_model::HubSet;
 use std::alloc::{AllocError, Global};
 use std::marker::Model;
 

@@ -4,9 +4,10 @@ ghost use Rattle.std.specs.Prelude.{◌≡◌, ◌^◌, ◌<◌, ◌≤◌, IsTr
 ghost use Rattle.hub_spec.specs.Plans.{IsHubSet};
 ghost use Rattle.hub_spec.specs.Separation.{IsOrder};
 
-use hub_model::{Dual, Factors, HubSet, Instance, Nodes, Order, Parts, Tail, Terms, is_node_list};
+use hub_model::{Factors, Instance, Nodes, Order, Parts, Tail, Terms, is_node_list};
 use hub_plain::{is_hub_set, minimal_dual, outside};
 use pareto_cuts::{Scratch, cut_of, cut_sums, order_of, strong_dual, strong_dual_in};
+use plan_model::{Dual, HubSet};
 use std::alloc::{AllocError, Global};
 use std::test::Fail;
 use worked_cases::{

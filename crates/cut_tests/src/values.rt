@@ -4,8 +4,9 @@ ghost use Rattle.std.specs.Prelude.{◌≡◌, ◌<◌, ◌≤◌, length, IfOk}
 ghost use Rattle.value_cuts.specs.Values.{AreValuesFor};
 ghost use Rattle.value_cuts.specs.HeldRows.{IsSameShape};
 
-use hub_model::{HubSet, Instance};
+use hub_model::Instance;
 use hub_plain::{is_hub_set, minimal_dual, outside};
+use plan_model::HubSet;
 use std::alloc::{AllocError, Global};
 use std::test::Fail;
 use value_cuts::{CandidateLegs, DualScratch, PriceScratch, Values, cut_sums, price};

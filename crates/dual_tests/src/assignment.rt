@@ -1,10 +1,9 @@
 //! Assignments worked out by hand, and those of the plain program on small instances.
 
 use assign_sub::{assign, set_cost};
-use hub_model::{
-    Factors, HubSet, Instance, Nodes, Order, Parts, Tail, Terms, is_cost_list, is_node_list,
-};
+use hub_model::{Factors, Instance, Nodes, Order, Parts, Tail, Terms, is_cost_list, is_node_list};
 use hub_plain::is_hub_set;
+use plan_model::HubSet;
 use std::alloc::{AllocError, Global};
 use std::test::Fail;
 use worked_cases::{

@@ -3,8 +3,9 @@
 ghost use Rattle.hub_spec.specs.Plans.{IsHubSet};
 
 use hub_edges::EdgeRow;
-use hub_model::{Factors, HubSet, Instance, Parts, Terms, is_cost_list};
+use hub_model::{Factors, Instance, Parts, Terms, is_cost_list};
 use hub_plain::{is_hub_set, least_route};
+use plan_model::HubSet;
 use std::alloc::{AllocError, Global};
 use std::test::Fail;
 use worked_cases::{

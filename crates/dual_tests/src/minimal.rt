@@ -7,10 +7,9 @@ ghost use Rattle.hub_spec.specs.Separation.{IsOrder};
 
 use dual_cuts::{Cut, dual_of};
 use hub_edges::EdgeRow;
-use hub_model::{
-    Dual, Factors, HubSet, Instance, Nodes, Order, Parts, Tail, Terms, is_cost_list, is_node_list,
-};
+use hub_model::{Factors, Instance, Nodes, Order, Parts, Tail, Terms, is_cost_list, is_node_list};
 use hub_plain::{is_hub_set, minimal_dual, outside};
+use plan_model::{Dual, HubSet};
 use std::alloc::{AllocError, Global};
 use std::test::Fail;
 use worked_cases::{

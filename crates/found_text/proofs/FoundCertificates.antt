@@ -9,8 +9,8 @@ use Rattle.hub_spec.specs.Trees.{Tree, preorder}
 use Rattle.hub_spec.specs.Certificates.{Proof}
 use Rattle.hub_spec.specs.Ranges.{IsInRange}
 use Rattle.hub_model.specs.Amounts.{natural, IsNatural}
-use Rattle.hub_model.specs.Lines.{tree_line_of}
-use Rattle.hub_model.specs.declared.tree_lines.TreeLine.{TreeLine}
+use Rattle.plan_model.specs.Lines.{tree_line_of}
+use Rattle.plan_model.specs.declared.tree_lines.TreeLine.{TreeLine}
 use Rattle.search_steps.specs.Pools.{pool_cuts}
 use Rattle.branch_tree.specs.declared.found.Found.{Found}
 use Rattle.branch_tree.specs.Views.{lines_of}

@@ -9,7 +9,7 @@ use Rattle.hub_spec.specs.Cuts.{Cut}
 use Rattle.hub_spec.specs.Trees.{Tree, preorder}
 use Rattle.hub_spec.specs.Separation.{set_cut}
 use Rattle.hub_model.specs.Amounts.{natural}
-use Rattle.hub_model.specs.declared.tree_lines.TreeLine as model
+use Rattle.plan_model.specs.declared.tree_lines.TreeLine as model
 use Rattle.cert_spec.specs.Lines.{Item}
 use Rattle.cert_spec.specs.Text.{line_bytes, top_items, cuts_items, tree_items, certificate_text}
 use Rattle.cert_spec.proofs.Items.{certificate_items-parts}

@@ -10,8 +10,9 @@ use crate::written::floored;
 use branch_tree::Found;
 use cert_format::Certificate;
 use cut_pool::Pool;
-use hub_model::{Dual, Instance, Plan, TreeLine};
+use hub_model::Instance;
 use pareto_cuts::cut_of;
+use plan_model::{Dual, Plan, TreeLine};
 use std::alloc::{AllocError, Global};
 
 /// The certificate of what a search of the instance found, with the duals of each cut made anew.

@@ -15,8 +15,9 @@ use branch_tree::Found;
 use cert_format::{put_cut, put_top, put_tree};
 use cut_pool::Pool;
 use hub_io::{Buffer, Failed, Sink};
-use hub_model::{HubSet, Instance};
+use hub_model::Instance;
 use pareto_cuts::Scratch;
+use plan_model::HubSet;
 use set_lines::put_set_duals;
 
 /// Writes the certificate of what a search of the instance found, in puts of about 8192 bytes each. It takes no memory.

@@ -4,7 +4,8 @@ ghost use Rattle.std.specs.Prelude.{◌≡◌, ◌<◌, ◌≤◌, length, map, 
 ghost use Rattle.hub_model.specs.Amounts.{natural, IsNatural};
 ghost use Rattle.frac_master.specs.Masters.{AreMasterNumbers, AreWithinTotals, master_of, candidates_of, at_nodes, greatest_number, most_scaled, halved, halvings};
 
-use hub_model::{Branch, unsigned};
+use hub_model::unsigned;
+use plan_model::Branch;
 
 /// The greatest scaled number.
 const MOST_SCALED: u128 = 4095;

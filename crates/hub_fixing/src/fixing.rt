@@ -6,8 +6,9 @@ ghost use Rattle.leaf_bound.specs.Numbers.{AreWeightingNumbers, IsBranchBelow, w
 ghost use Rattle.hub_fixing.specs.Fixing.{closes_by, fixings};
 
 use crate::sides::{Side, side_by};
-use hub_model::{Branch, MOST_NODES};
+use hub_model::MOST_NODES;
 use leaf_bound::{bound, threshold, write_gains};
+use plan_model::Branch;
 use std::alloc::{AllocError, Global};
 
 // Room for a number of each node.

@@ -9,7 +9,7 @@ use Rattle.hub_spec.specs.Trees.{Tree, line_count, preorder}
 use Rattle.hub_spec.specs.Certificates.{Proof}
 use Rattle.hub_spec.proofs.Preorders.{length-preorder}
 use Rattle.hub_spec.proofs.WeakDuality.{no_plan_below_bound}
-use Rattle.hub_model.specs.Lines.{tree_line_of}
+use Rattle.plan_model.specs.Lines.{tree_line_of}
 use Rattle.search_spec.specs.Findings.{AreWithin, IsSpent}
 use Rattle.cert_spec.specs.Text.{Spells}
 use Rattle.kept_cuts.specs.declared.network.Network.{Network}

@@ -10,7 +10,7 @@ use Rattle.hub_spec.specs.Certificates.{Proof}
 use Rattle.hub_spec.specs.Ranges.{IsInRange}
 use Rattle.hub_spec.proofs.Preorders.{length-preorder}
 use Rattle.hub_model.specs.Amounts.{natural}
-use Rattle.hub_model.specs.Lines.{tree_line_of}
+use Rattle.plan_model.specs.Lines.{tree_line_of}
 use Rattle.search_spec.specs.States.{answer}
 use Rattle.search_spec.proofs.FoundProofs.{certificate_in_range_lem}
 use Rattle.cert_spec.specs.Text.{certificate_text, Spells}

@@ -4,8 +4,8 @@ use Rattle.hub_spec.specs.Problem.{Problem}
 use Rattle.hub_spec.specs.Trees.{Tree, TreeLine, preorder}
 use Rattle.hub_spec.specs.Certificates.{Proof, Holds}
 use Rattle.hub_spec.specs.Ranges.{IsInRange}
-use Rattle.hub_model.specs.declared.tree_lines.TreeLine as model
-use Rattle.hub_model.specs.Lines.{tree_line_of}
+use Rattle.plan_model.specs.declared.tree_lines.TreeLine as model
+use Rattle.plan_model.specs.Lines.{tree_line_of}
 use Rattle.kept_cuts.specs.Kept.{kept_cuts, IsKeptFor}
 use Rattle.kept_cuts.specs.declared.network.Network.{Network}
 

@@ -5,7 +5,8 @@ ghost use Rattle.hub_spec.specs.Limits.{most_cost};
 ghost use Rattle.kept_cuts.specs.Kept.{kept_of, kept_at};
 
 use crate::PackedValues;
-use hub_model::{HubSet, signed};
+use hub_model::signed;
+use plan_model::HubSet;
 use std::alloc::{AllocError, Global};
 use std::marker::Model;
 

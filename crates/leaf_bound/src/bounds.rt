@@ -9,7 +9,8 @@ ghost use Rattle.leaf_bound.specs.Numbers.{AreWeightingNumbers, IsBranchBelow, w
 ghost use Rattle.leaf_bound.specs.Weighing.{most_bound, IsWithin};
 
 use crate::gains::{ROOM, sum_of_gains, sum_of_losses, write_gains_by};
-use hub_model::{Branch, signed, unsigned};
+use hub_model::{signed, unsigned};
+use plan_model::Branch;
 
 /// The bound of the branch under these weights, in 10^-12, times the denominator.
 ///

@@ -5,8 +5,9 @@ ghost use Rattle.hub_spec.specs.Plans.{IsHubSet};
 ghost use Rattle.hub_spec.specs.Separation.{IsOrder};
 
 use dual_lines::DualLine;
-use hub_model::{HubSet, Instance};
+use hub_model::Instance;
 use hub_plain::{is_hub_set, minimal_dual, outside};
+use plan_model::HubSet;
 use std::alloc::{AllocError, Global};
 use std::test::Fail;
 use worked_cases::{

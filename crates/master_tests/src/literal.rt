@@ -1,6 +1,6 @@
 // The master of a branch and its run, as they are done on paper: whole rows, made anew at each pivot.
 use frac_master::Ended;
-use hub_model::Branch;
+use plan_model::Branch;
 use std::alloc::{AllocError, Global};
 
 /// The numbers of a master.

@@ -5,7 +5,8 @@ ghost use Rattle.frac_master.specs.Masters.{AreMasterNumbers, candidates_of};
 
 use crate::literal::{Master, Read, advice};
 use frac_master::{Advice, Ended, Rows, advise, rows_of};
-use hub_model::{Branch, Factors};
+use hub_model::Factors;
+use plan_model::Branch;
 use std::alloc::{AllocError, Global};
 use std::test::Fail;
 use worked_cases::{Case, ONE_NODE, TWO_NODES, instance};

@@ -4,11 +4,12 @@ ghost use Rattle.std.specs.Prelude.{◌<◌};
 ghost use Rattle.hub_spec.specs.Plans.{IsHubSet};
 
 use crate::words::{first, list, node};
-use hub_model::{HubSet, Instance};
+use hub_model::Instance;
 use hub_plain::{
     assign, best_plan, is_hub_set, is_plan, least_route, minimal_dual, outside, plan_cost,
     set_cost, set_cut_rows,
 };
+use plan_model::HubSet;
 use std::alloc::{AllocError, Global};
 
 /// What an optimal plan costs, by its routes.

@@ -1,7 +1,8 @@
 //! Routes and branches of an instance.
 
 use crate::words::{first, node};
-use hub_model::{Branch, Instance, route_cost};
+use hub_model::{Instance, route_cost};
+use plan_model::Branch;
 use std::alloc::{AllocError, Global};
 
 /// The costs of all routes: from and to each node, by each two hubs.

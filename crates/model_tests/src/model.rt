@@ -3,9 +3,10 @@
 ghost use Rattle.std.specs.Prelude.{◌≡◌, ◌^◌, pos, ◌≤ℤ◌, None, IfOk, IfSome};
 
 use hub_model::{
-    Branch, Dual, Factors, HubSet, Instance, InstanceFault, Mix, Nodes, Numbers, Order, Parts,
-    Plan, Refusal, Tail, Terms, TreeLine, Wanted, is_cost_list, is_node_list, route_cost,
+    Factors, Instance, InstanceFault, Nodes, Numbers, Order, Parts, Refusal, Tail, Terms, Wanted,
+    is_cost_list, is_node_list, route_cost,
 };
+use plan_model::{Branch, Dual, HubSet, Mix, Plan, TreeLine};
 use std::alloc::{AllocError, Global};
 use std::test::Fail;
 

@@ -1,10 +1,10 @@
 //! Answers worked out by hand.
 
-use hub_model::HubSet;
 use hub_plain::{
     assign, best_plan, is_hub_set, is_plan, least_route, minimal_dual, outside, plan_cost,
     set_cost, set_cut_rows,
 };
+use plan_model::HubSet;
 use std::test::Fail;
 use worked_cases::{
     Case, EDGE_OF_TWO_CLOSED, LINE_OF_THREE, SHORTER_BACK, THREE_COSTS, TWO_CLOSED, TWO_NODES,

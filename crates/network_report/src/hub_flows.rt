@@ -6,7 +6,8 @@ ghost use Rattle.hub_spec.specs.Plans.{IsPlan};
 ghost use Rattle.network_report.specs.Parts.{collected_flow, delivered_flow};
 
 use crate::pairs::flow_between;
-use hub_model::{Instance, Plan};
+use hub_model::Instance;
+use plan_model::Plan;
 
 /// The most hubs that there may be: as many as nodes.
 pub(crate) const MOST_HUBS: usize = 200;

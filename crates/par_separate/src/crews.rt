@@ -7,7 +7,8 @@ ghost use Rattle.cut_pool.specs.Entries.{entry_of};
 ghost use Rattle.search_steps.specs.Pools.{IsSumsOf};
 
 use cut_pool::CutSums;
-use hub_model::{HubSet, Instance};
+use hub_model::Instance;
+use plan_model::HubSet;
 use separators::Separator;
 use std::alloc::{AllocError, Global};
 

@@ -5,7 +5,7 @@ use Rattle.std.proofs.lemmas.Int.{ints}
 use Rattle.std.proofs.lemmas.List.Elements.{All-map, All-weaker}
 use mir.Syntax.{w128}
 use Rattle.hub_spec.specs.Separation.{AreListedValues}
-use Rattle.hub_model.specs.Prices.{signed_values, AreSignedPrices}
+use Rattle.plan_model.specs.Prices.{signed_values, AreSignedPrices}
 
 nodes_kept : (u : List (ℕ × ℕ)) → map (λ (e : ℕ × ℕ). e.0) u ≡ map (λ (e : ℕ × ℤ). e.0) (signed_values u)
 nodes_kept [] = refl

@@ -4,8 +4,9 @@ ghost use Rattle.std.specs.Prelude.{◌≡◌, ◌+◌, ◌≤◌, vec_len, leng
 ghost use Rattle.hub_model.specs.Amounts.{IsNatural};
 ghost use Rattle.leaf_bound.specs.Numbers.{naturals, IsCost, AreWeightingNumbers, IsBranchBelow};
 
-use hub_model::{Branch, unsigned};
+use hub_model::unsigned;
 use leaf_bound::{bound, closes, gain};
+use plan_model::Branch;
 use std::alloc::{AllocError, Global};
 use std::test::Fail;
 use worked_cases::{TWO_NODES, instance};

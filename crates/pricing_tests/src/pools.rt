@@ -4,7 +4,8 @@ ghost use Rattle.std.specs.Prelude.{All, IsTrue};
 ghost use Rattle.hub_model.specs.Amounts.{IsNatural};
 
 use cut_pool::{CutSums, Pool};
-use hub_model::{HubSet, is_node_list};
+use hub_model::is_node_list;
+use plan_model::HubSet;
 use std::alloc::{AllocError, Global};
 use std::test::Fail;
 

@@ -10,7 +10,8 @@ ghost use Rattle.search_steps.specs.Weights.{AreFixedCosts, AreNodeWeights};
 
 use cut_pool::Pool;
 use frac_master::{Advice, ShortRows, advise_by_totals};
-use hub_model::{Branch, Instance};
+use hub_model::Instance;
+use plan_model::Branch;
 use std::alloc::{AllocError, Global};
 
 /// The fixed cost of each node, in 10^-12.

@@ -9,8 +9,9 @@ ghost use Rattle.search_steps.specs.Pools.{IsPoolOf, InEachState, InEachStateAt}
 ghost use Rattle.search_steps.specs.Weights.{AreFixedCosts, AreNodeWeights, pairs_of};
 
 use cut_pool::Pool;
-use hub_model::{Branch, Instance, signed};
+use hub_model::{Instance, signed};
 use leaf_bound::bound;
+use plan_model::Branch;
 
 /// The denominator of every leaf that a search makes, and so of a node's weights.
 pub(crate) const DENOMINATOR: i128 = 1_000_000;

@@ -10,7 +10,8 @@ ghost use Rattle.search_steps.specs.Weights.{AreFixedCosts, AreNodeWeights, pair
 use crate::bounding::DENOMINATOR;
 use cut_pool::Pool;
 use hub_fixing::{Side, fix};
-use hub_model::{Branch, Instance, signed};
+use hub_model::{Instance, signed};
+use plan_model::Branch;
 use std::alloc::{AllocError, Global};
 
 /// The free nodes of the branch, ascending, of which a side stays under these weights, each with that side: the child on

@@ -3,12 +3,12 @@
 ghost use Rattle.std.specs.Prelude.{◌≡◌, All, IfOk};
 ghost use Rattle.hub_spec.specs.Trees.{leaf_of};
 ghost use Rattle.hub_model.specs.Amounts.{IsNatural};
-ghost use Rattle.hub_model.specs.Lines.{tree_line_of};
+ghost use Rattle.plan_model.specs.Lines.{tree_line_of};
 ghost use Rattle.search_spec.specs.States.{denominator};
 ghost use Rattle.search_steps.specs.Weights.{pairs_of};
 
 use crate::bounding::DENOMINATOR;
-use hub_model::{Mix, TreeLine};
+use plan_model::{Mix, TreeLine};
 use std::alloc::{AllocError, Global};
 
 /// The leaf with these weights on the first cuts, in 10^-6: those above 0 are listed, by cut numbers from 1.

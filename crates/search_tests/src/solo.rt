@@ -4,8 +4,9 @@ ghost use Rattle.hub_spec.specs.Plans.{IsHubSet};
 ghost use Rattle.hub_spec.specs.Separation.{IsOrder};
 
 use cut_pool::CutSums;
-use hub_model::{HubSet, Instance};
+use hub_model::Instance;
 use hub_plain::{is_hub_set, outside};
+use plan_model::HubSet;
 use separators::{Separator, Solo};
 use std::alloc::{AllocError, Global};
 use std::process::Abort;

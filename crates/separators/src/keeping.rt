@@ -3,7 +3,8 @@
 ghost use Rattle.std.specs.Prelude.{◌≡◌, ◌^◌, ◌<◌, map, All, pos, IfOk};
 
 use cut_pool::CutSums;
-use hub_model::{HubSet, signed};
+use hub_model::signed;
+use plan_model::HubSet;
 use std::alloc::{AllocError, Global};
 
 /// The sums of a cut of the hub set, as a search keeps them: this total, and for each node its load, in 10^-12.

@@ -4,8 +4,9 @@ ghost use Rattle.std.specs.Prelude.{◌≡◌, IfOk};
 
 use crate::{Separator, kept_sums};
 use cut_pool::CutSums;
-use hub_model::{HubSet, Instance};
+use hub_model::Instance;
 use pareto_cuts::{Scratch, cut_sums};
+use plan_model::HubSet;
 use std::alloc::{AllocError, Global};
 use std::marker::Model;
 

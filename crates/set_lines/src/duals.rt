@@ -9,8 +9,9 @@ ghost use Rattle.cert_format.specs.DualItems.{dual_items_from, all_dual_items};
 
 use cert_format::put_dual;
 use hub_io::{Buffer, Failed, Sink};
-use hub_model::{HubSet, Instance};
+use hub_model::Instance;
 use pareto_cuts::Scratch;
+use plan_model::HubSet;
 
 /// Puts the lines of the duals of all commodities by the hub set over the order of the other candidates, origin by origin.
 /// It takes no memory; the scratch has room for the instance's nodes.

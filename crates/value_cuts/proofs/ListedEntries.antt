@@ -3,7 +3,7 @@ use Rattle.std.proofs.Common.{◌≡◌, ℕ, ◌+◌, ◌<◌, ◌≤◌, ℤ, 
 use Rattle.std.proofs.lemmas.List.{take_more, take_all}
 use Rattle.hub_spec.specs.Separation.{values_listed}
 use Rattle.hub_spec.proofs.SumLemmas.{by_test}
-use Rattle.hub_model.specs.Prices.{signed_values}
+use Rattle.plan_model.specs.Prices.{signed_values}
 
 -- these are the values of the first x candidates
 pub record AreListedUpTo (v : ℕ → ℕ) (ks : List ℕ) (x : ℕ) (u : List (ℕ × ℤ)) : Type 0 where

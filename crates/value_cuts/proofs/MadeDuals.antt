@@ -4,7 +4,7 @@ use Rattle.std.specs.List.Sorted.{IsStrictlyIncreasing}
 use Rattle.std.proofs.lemmas.Int.{ints}
 use mir.Syntax.{w128}
 use Rattle.hub_spec.specs.Separation.{values_listed}
-use Rattle.hub_model.specs.Prices.{signed_values, AreSignedPrices}
+use Rattle.plan_model.specs.Prices.{signed_values, AreSignedPrices}
 use Rattle.hub_plain.proofs.Entries.{entries_ascend, entries_positive}
 
 -- a signed number that is handed on, as the natural number that it is

@@ -5,7 +5,7 @@ use Rattle.std.proofs.lemmas.Result.{err_from_is_err_and}
 use Rattle.std.proofs.lemmas.List.Elements.{All-nil, All-cons, All-pop}
 use Rattle.hub_spec.specs.Trees.{root, Branching, IsBranch}
 use Rattle.hub_spec.proofs.ChildLists.{root_branch}
-use Rattle.hub_model.specs.Lines.{tree_line_of}
+use Rattle.plan_model.specs.Lines.{tree_line_of}
 use Rattle.cert_checker.specs.Walks.{line_claims, pending_after, walk_claims}
 use Rattle.cert_checker.proofs.Reductions.{reduces_itself, reduces_same, part_fails, part_holds, none_left}
 use Rattle.cert_checker.proofs.TreeWalks.{walk-none, walk-line, nil_from_length}

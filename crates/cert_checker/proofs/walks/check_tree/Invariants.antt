@@ -1,6 +1,6 @@
 use Rattle.std.proofs.Common.{◌+◌, [], ◌∷◌, map, reverse, drop, All}
 use Rattle.hub_spec.specs.Trees.{root, IsBranch}
-use Rattle.hub_model.specs.Lines.{tree_line_of}
+use Rattle.plan_model.specs.Lines.{tree_line_of}
 use Rattle.cert_checker.specs.Walks.{walk_claims}
 use Rattle.cert_checker.proofs.Reductions.{Reduces}
 use Rattle.cert_checker.proofs.walks.check_tree.Given as goal

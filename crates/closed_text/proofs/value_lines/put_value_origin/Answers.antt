@@ -2,7 +2,7 @@ use Rattle.std.proofs.Common.{◌<◌, ap, is_ok, is_err, sym, subst, ◌∙◌,
 use Rattle.hub_spec.specs.Problem.{Problem}
 use Rattle.cert_spec.specs.Lines.{says_version}
 use Rattle.hub_model.specs.Amounts.{natural}
-use Rattle.hub_model.specs.Prices.{natural_values}
+use Rattle.plan_model.specs.Prices.{natural_values}
 use Rattle.hub_plain.proofs.Entries.{entries_again}
 use Rattle.value_cuts.specs.Values.{AreValuesFor}
 use Rattle.cert_format.proofs.Amounts.{same_amount}

@@ -3,7 +3,7 @@ use Rattle.std.proofs.lemmas.List.{take_more, take_all}
 use mir.Syntax.{w128}
 use Rattle.hub_spec.specs.Cuts.{Prices}
 use Rattle.hub_model.specs.Amounts.{natural}
-use Rattle.hub_model.specs.Prices.{natural_values, signed_values}
+use Rattle.plan_model.specs.Prices.{natural_values, signed_values}
 use Rattle.hub_plain.proofs.Entries.{entries_again}
 use Rattle.pareto_cuts.proofs.LentDuals.{signed_listed}
 use Rattle.pareto_cuts.proofs.strong_duals.lent_dual.Goals as goal

@@ -3,7 +3,7 @@ use Rattle.std.specs.Int.{w128}
 use Rattle.std.proofs.lemmas.Int.{ints, to_z-of_z}
 use Rattle.std.proofs.lemmas.List.{take_all}
 use Rattle.hub_spec.specs.Trees.{leaf_of}
-use Rattle.hub_model.specs.Mixtures.{Mixture, signed_weights}
+use Rattle.plan_model.specs.Mixtures.{Mixture, signed_weights}
 use Rattle.leaf_bound.specs.Numbers.{naturals}
 use Rattle.search_steps.specs.Weights.{pairs_of}
 use Rattle.search_steps.proofs.LeafPairs.{pair_passed, pair_pushed, signed_mixture, mixture_weights}

@@ -4,7 +4,7 @@ use Rattle.hub_spec.specs.Cuts.{Prices}
 use Rattle.hub_spec.specs.Problem.{flow}
 use Rattle.hub_spec.specs.Separation.{values_listed}
 use Rattle.hub_model.specs.Amounts.{natural}
-use Rattle.hub_model.specs.Prices.{natural_values}
+use Rattle.plan_model.specs.Prices.{natural_values}
 use Rattle.hub_plain.proofs.Entries.{entries_again}
 use Rattle.value_cuts.specs.Values.{node_value, value_dual}
 use Rattle.value_cuts.proofs.MadeDuals.{signed_dual}

@@ -1,0 +1,4 @@
+pub mod Ascending
+pub mod Prices
+pub mod Mixtures
+pub mod Lines
