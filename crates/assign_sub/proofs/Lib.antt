@@ -1,4 +1,3 @@
-pub mod PairLimits
 pub mod HubNodes
 pub mod LeastSums
 pub mod UnitCosts

@@ -8,7 +8,6 @@ ghost use Rattle.hub_model.specs.Amounts.{natural};
 ghost use Rattle.hub_plain.specs.Assignments.{AreLeastRoutes, plan_of};
 ghost use Rattle.leg_tables.specs.StopLegs.{AreLegsOf, AreFirstLegsOf};
 
-use crate::pairs::flow_between;
 use hub_model::{Instance, signed};
 use leg_tables::{FirstLegs, SetLegs};
 use plan_model::HubSet;
@@ -101,7 +100,7 @@ fn route_of(
     ensures least { IsLeastRoute instance.now hubs.now (i, j) (result.first, result.last) }
     ensures cost { result.cost ≡ route_cost instance.now i j result.first result.last }
 {
-    let flow = flow_between(instance, i, j);
+    let flow = instance.flow_between(i, j);
     if flow == 0 {
         return PricedRoute {
             first: hubs[0],

@@ -7,7 +7,6 @@
 #![tactic(auto)]
 
 mod assignments;
-mod pairs;
 mod set_costs;
 
 pub use assignments::{Assignment, assign};

@@ -8,7 +8,6 @@ ghost use Rattle.hub_model.specs.Amounts.{natural, IsNatural};
 ghost use Rattle.unit_duals.specs.Limits.{most_leg};
 ghost use Rattle.assign_sub.specs.LeastLengths.{AreReaches, least_reach, least_length};
 
-use crate::pairs::{distance_between, flow_between};
 use hub_model::{Instance, signed};
 use plan_model::HubSet;
 
@@ -36,7 +35,7 @@ fn cost_of(instance: &Instance, hubs: &[u32]) -> u128
         set_reaches(instance, hubs, i, &mut reaches);
         for j in 0..n {
             let length = length_to(instance, hubs, i, &reaches, j);
-            total += flow_between(instance, i, j) as u128 * length as u128;
+            total += instance.flow_between(i, j) as u128 * length as u128;
         }
     }
     total
@@ -78,8 +77,8 @@ fn reach_by(instance: &Instance, i: u32, k: u32, m: u32) -> u64
     ensures value { let p = instance.now in result ≡ p.collect * distance p i k + p.trunk * distance p k m }
     ensures limit { result ≤ 2 * most_leg }
 {
-    instance.collect() * distance_between(instance, i, k)
-        + instance.trunk() * distance_between(instance, k, m)
+    instance.collect() * instance.distance_between(i, k)
+        + instance.trunk() * instance.distance_between(k, m)
 }
 
 /// The least length from `i` to `j`.
@@ -93,9 +92,9 @@ fn length_to(instance: &Instance, hubs: &[u32], i: u32, reaches: &[u64], j: u32)
     ensures { result ≡ least_length instance.now hubs.now i j }
 {
     let factor = instance.deliver();
-    let mut least = reaches[0] + factor * distance_between(instance, hubs[0], j);
+    let mut least = reaches[0] + factor * instance.distance_between(hubs[0], j);
     for y in 0..hubs.len() {
-        least = least.min(reaches[y] + factor * distance_between(instance, hubs[y], j));
+        least = least.min(reaches[y] + factor * instance.distance_between(hubs[y], j));
     }
     least
 }

@@ -24,12 +24,6 @@ distance_limit p i j ok row column =
     All-get_or (λ d. d ≤ most_distance) p.distances (i * p.size + j) 0
     (omega (arith, ok.distance_for_each_pair, mul-add-lt i p.size j p.size row column)) ok.distance_limit
 
-pub flow_limit : (p : Problem) (i j : ℕ) → IsProblem p → i < p.size → j < p.size → flow p i j ≤ most_flow
-unfolding flow
-flow_limit p i j ok row column =
-    All-get_or (λ w. w ≤ most_flow) p.flows (i * p.size + j) 0
-    (omega (arith, ok.flow_for_each_pair, mul-add-lt i p.size j p.size row column)) ok.flow_limit
-
 pub leg_limit : (factor d : ℕ) → factor ≤ most_factor → d ≤ most_distance → factor * d ≤ most_leg
 leg_limit factor d few near = omega (arith, mul-le factor d most_factor most_distance few near)
 

@@ -55,7 +55,7 @@ impl<'a> DualLine<'a> {
         let count = legs.places();
         let mut places = vec![in alloc; count as u32; nodes]?;
         set_places(instance, &mut places);
-        let carried = flow_between(instance, 0, 0);
+        let carried = instance.flow_between(0, 0);
         let step_cost = carried * legs.step();
         Ok(DualLine {
             legs,
@@ -95,7 +95,7 @@ impl<'a> DualLine<'a> {
             to: j,
             price: unsigned(a),
         };
-        self.carried = flow_between(self.legs.long().instance(), i, j);
+        self.carried = self.legs.long().instance().flow_between(i, j);
         self.step_cost = self.carried * self.legs.step();
         self.inverse = inverse_of(self.step_cost);
         self.are_candidates = true;
@@ -150,15 +150,4 @@ impl<'a> DualLine<'a> {
     {
         &self.listed
     }
-}
-
-/// The flow from `i` to `j`.
-#[tactic(auto, using(crate::proofs::CandidateTables::flow_limit), unfolding(hub_spec::specs::Problem::flow))]
-fn flow_between(instance: &Instance, i: u32, j: u32) -> u64
-    requires from { i < instance.now.size }
-    requires to { j < instance.now.size }
-    ensures value { result ≡ flow instance.now i j }
-    ensures limit { result ≤ most_flow }
-{
-    instance.flows()[i as usize * instance.size() as usize + j as usize]
 }

@@ -7,13 +7,9 @@ ghost use Rattle.hub_io.specs.Outside.{Rose};
 ghost use Rattle.hub_top.specs.declared.status.Status.TheVariants.{Memory, Write};
 ghost use Rattle.hub_top.specs.Texts.{memory_text};
 
-mod shelf;
-mod sink;
-
 use hub_io::{OpenGate, Sink};
 use hub_top::{Status, run};
-use shelf::DiskShelf;
-use sink::StreamSink;
+use machine_io::{DiskShelf, StreamSink};
 use std::alloc::AllocError;
 use std::env;
 use std::io::ErrorKind;

@@ -28,6 +28,12 @@ impl Folder {
         Ok(Folder { files })
     }
 
+    /// How many bytes the files have together.
+    pub(crate) fn bytes(&self) -> usize {
+        let lengths = self.files.iter().map(|(_, bytes)| bytes.len());
+        lengths.fold(0usize, |sum, length| sum.saturating_add(length))
+    }
+
     /// The same files in memory.
     pub(crate) fn copied(&self, alloc: Global) -> Result<Vec<MemFile>, AllocError> {
         let mut copied = Vec::new(alloc);

@@ -46,6 +46,9 @@ const CALLS: u64 = 40;
 // More puts on a stream than any case makes.
 const PUTS: u64 = 40;
 
+// More reads than there are ends of files in a run.
+const ENDS: usize = 16;
+
 // Where a text has at most so many bytes, a failing put takes each number of bytes in turn.
 const SHORT: usize = 700;
 
@@ -108,7 +111,8 @@ fn see_short_reads<R: Threads + Sync>(
 ) -> Result<(), Wrong> {
     for length in [1, 2, 7] {
         let mut faults = Faults::none(alloc);
-        faults.lengths = vec![in alloc; length; 300]?;
+        let reads = folder.bytes().saturating_add(ENDS);
+        faults.lengths = vec![in alloc; length; reads]?;
         if run_over(rt, alloc, words, folder, faults)? != *wanted {
             return Err(Wrong::Short(length));
         }

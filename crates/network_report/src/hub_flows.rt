@@ -5,7 +5,6 @@ ghost use Rattle.hub_spec.specs.Problem.{IsProblem};
 ghost use Rattle.hub_spec.specs.Plans.{IsPlan};
 ghost use Rattle.network_report.specs.Parts.{collected_flow, delivered_flow};
 
-use crate::pairs::flow_between;
 use hub_model::Instance;
 use plan_model::Plan;
 
@@ -33,7 +32,7 @@ impl HubFlows {
         let mut collected = [0; MOST_HUBS];
         let mut delivered = [0; MOST_HUBS];
         for (t, route) in plan.routes().iter().enumerate() {
-            let flow = flow_between(instance, t as u32 / n, t as u32 % n) as u128;
+            let flow = instance.flow_between(t as u32 / n, t as u32 % n) as u128;
             collected[route.0 as usize] += flow;
             delivered[route.1 as usize] += flow;
         }

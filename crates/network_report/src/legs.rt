@@ -5,7 +5,6 @@ ghost use Rattle.hub_spec.specs.Problem.{IsProblem};
 ghost use Rattle.hub_spec.specs.Plans.{IsPlan};
 ghost use Rattle.network_report.specs.Parts.{collection_leg, trunk_leg, delivery_leg, collection_cost, trunk_cost, delivery_cost};
 
-use crate::pairs::{distance_between, flow_between};
 use hub_model::Instance;
 use plan_model::Plan;
 
@@ -55,10 +54,10 @@ impl Legs {
         ensures delivery { result.delivery ≡ delivery_leg instance.now ((i, j), (route.0, route.1)) }
     {
         let (k, m) = route;
-        let flow = flow_between(instance, i, j) as u128;
-        let out = instance.collect() as u128 * distance_between(instance, i, k) as u128;
-        let across = instance.trunk() as u128 * distance_between(instance, k, m) as u128;
-        let back = instance.deliver() as u128 * distance_between(instance, m, j) as u128;
+        let flow = instance.flow_between(i, j) as u128;
+        let out = instance.collect() as u128 * instance.distance_between(i, k) as u128;
+        let across = instance.trunk() as u128 * instance.distance_between(k, m) as u128;
+        let back = instance.deliver() as u128 * instance.distance_between(m, j) as u128;
         Legs {
             collection: flow * out,
             trunk: flow * across,

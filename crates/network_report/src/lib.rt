@@ -16,7 +16,6 @@ ghost use Rattle.network_report.specs.Theorems.{PartsAddUp};
 mod hub_flows;
 mod legs;
 mod lines;
-mod pairs;
 
 use cert_format::Certificate;
 use hub_io::{Buffer, Failed, Sink};

@@ -80,15 +80,13 @@ impl DualScratch {
 }
 
 /// The flow from `i` to `j`.
-#[tactic(auto, using(crate::proofs::CandidateTables::flow_limit), unfolding(hub_spec::specs::Problem::flow))]
 fn flow_between(tables: &CandidateLegs, i: u32, j: u32) -> u64
     requires origin { i < tables.now.size }
     requires destination { j < tables.now.size }
     ensures value { result ≡ flow tables.now i j }
     ensures limit { result ≤ most_flow }
 {
-    let instance = tables.instance();
-    instance.flows()[i as usize * instance.size() as usize + j as usize]
+    tables.instance().flow_between(i, j)
 }
 
 /// Lists the candidates whose value times the flow is above 0.

@@ -105,17 +105,5 @@ fn leg(instance: &Instance, factor: u64, from: u32, to: u32) -> u64
     requires to { to < instance.now.size }
     ensures { result ≡ factor * distance instance.now from to }
 {
-    factor * distance_between(instance, from, to)
-}
-
-/// The distance between the nodes.
-#[tactic(auto, using(crate::proofs::CandidateTables::distance_limit), unfolding(hub_spec::specs::Problem::distance))]
-fn distance_between(instance: &Instance, from: u32, to: u32) -> u64
-    requires from { from < instance.now.size }
-    requires to { to < instance.now.size }
-    ensures value { result ≡ distance instance.now from to }
-    ensures limit { result ≤ most_distance }
-{
-    let nodes = instance.size() as usize;
-    instance.distances()[from as usize * nodes + to as usize]
+    factor * instance.distance_between(from, to)
 }

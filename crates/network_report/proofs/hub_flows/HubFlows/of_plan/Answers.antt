@@ -37,7 +37,7 @@ overflow_add-collected c =
     let so_far = c.loop-t.invariant.collected k in
     let fits = flow_fits c.args.instance.now c.args.plan.now c.routes-route-items.result.now c.loop-t.t c.requires c.routes-route-items.ensures (λ (x : Routed). nat_eq x.1.0 k) c.size-n.ensures.problem (omega arith) in
     let most = flow_limit c.args.instance.now (c.loop-t.t / c.size-n.result) (c.loop-t.t % c.size-n.result) c.size-n.ensures.problem in
-    omega (arith, so_far, fits, c.flow_between-flow.ensures, most)
+    omega (arith, so_far, fits, c.flow_between-flow.ensures.value, most)
 
 pub bounds-delivered-route : goal.bounds-delivered-route
 bounds-delivered-route c =
@@ -55,7 +55,7 @@ overflow_add-delivered c =
     let so_far = c.loop-t.invariant.delivered k in
     let fits = flow_fits c.args.instance.now c.args.plan.now c.routes-route-items.result.now c.loop-t.t c.requires c.routes-route-items.ensures (λ (x : Routed). nat_eq x.1.1 k) c.size-n.ensures.problem (omega arith) in
     let most = flow_limit c.args.instance.now (c.loop-t.t / c.size-n.result) (c.loop-t.t % c.size-n.result) c.size-n.ensures.problem in
-    omega (arith, so_far, fits, c.flow_between-flow.ensures, most)
+    omega (arith, so_far, fits, c.flow_between-flow.ensures.value, most)
 
 pub loop-t-preserved : goal.loop-t-preserved
 loop-t-preserved c = record {
@@ -63,14 +63,14 @@ loop-t-preserved c = record {
   room_delivered = length-set c.loop-t.delivered (get_or c.routes-route-items.result.now c.loop-t.t (0, 0)).1 _ ∙ c.loop-t.invariant.room_delivered;
   collected = λ k.
       let ends = ends_here c.args.instance.now c.args.plan.now c.routes-route-items.result.now c.loop-t.t c.requires c.routes-route-items.ensures c.size-n.ensures.problem (omega arith) in
-      let more = rw c.size-n.ensures.value at c.flow_between-flow.ensures in
+      let more = rw c.size-n.ensures.value at c.flow_between-flow.ensures.value in
       let hub = (get_or c.routes-route-items.result.now c.loop-t.t (0, 0)).0 in
       added_at c.loop-t.collected hub c.flow_between-flow.result k (omega (arith, ends.first, c.size-n.ensures.problem.size_limit, c.loop-t.invariant.room_collected))
       ∙ (λ x. c.loop-t.invariant.collected k x + cond (nat_eq hub k) (more x) 0)
       ∙ sym (flow_more c.args.instance.now c.args.plan.now c.routes-route-items.result.now c.loop-t.t c.requires c.routes-route-items.ensures (λ (x : Routed). nat_eq x.1.0 k) (omega arith));
   delivered = λ k.
       let ends = ends_here c.args.instance.now c.args.plan.now c.routes-route-items.result.now c.loop-t.t c.requires c.routes-route-items.ensures c.size-n.ensures.problem (omega arith) in
-      let more = rw c.size-n.ensures.value at c.flow_between-flow.ensures in
+      let more = rw c.size-n.ensures.value at c.flow_between-flow.ensures.value in
       let hub = (get_or c.routes-route-items.result.now c.loop-t.t (0, 0)).1 in
       added_at c.loop-t.delivered hub c.flow_between-flow.result k (omega (arith, ends.last, c.size-n.ensures.problem.size_limit, c.loop-t.invariant.room_delivered))
       ∙ (λ x. c.loop-t.invariant.delivered k x + cond (nat_eq hub k) (more x) 0)

@@ -1,5 +1,5 @@
 use Rattle.std.specs.Io.KnownBytes.{Keeps}
-use Rattle.hub_cli.proofs.shelf.read_some.Given as goal
+use Rattle.machine_io.proofs.shelf.read_some.Given as goal
 
 abbrev pub invariant-loop : goal.invariant-loop
 invariant-loop g l = Keeps (g.T.Read.remaining l.fn.reader) (g.T.Read.remaining l.reader)

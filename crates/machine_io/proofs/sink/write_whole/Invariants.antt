@@ -1,5 +1,5 @@
 use Rattle.hub_io.specs.Outside.{AppendsBut}
-use Rattle.hub_cli.proofs.sink.write_whole.Given as goal
+use Rattle.machine_io.proofs.sink.write_whole.Given as goal
 
 abbrev pub invariant-loop : goal.invariant-loop
 invariant-loop g l = AppendsBut (g.W.Write.contents l.fn.stream) (g.W.Write.contents l.stream) l.piece l.rest

@@ -23,6 +23,13 @@ impl<W: Write + Drop> StreamSink<W> {
     {
         StreamSink { stream, faults: 0 }
     }
+
+    /// The stream given back.
+    pub fn into_stream(self) -> W
+        ensures { W.contents result ≡ W.contents self.stream }
+    {
+        self.stream
+    }
 }
 
 impl<W: Write + Drop> Sink for StreamSink<W> {
@@ -58,55 +65,4 @@ fn write_whole<W: Write>(stream: &mut W, piece: &[u8]) -> bool
         }
     }
     false
-}
-
-#[cfg(test)]
-mod tests {
-    use super::StreamSink;
-    use hub_io::Sink;
-    use std::io::{self, Write};
-    use std::test::Fail;
-
-    // Takes two bytes at a time, seven in all, and then nothing.
-    #[derive(Drop)]
-    struct Narrow {
-        taken: [u8; 8],
-        count: usize,
-    }
-
-    impl Write for Narrow {
-        fn write(&mut self, piece: &[u8]) -> io::Result<usize> {
-            let room = 7usize.saturating_sub(self.count);
-            let count = piece.len().min(2).min(room);
-            for (slot, byte) in self
-                .taken
-                .iter_mut()
-                .skip(self.count)
-                .zip(piece.iter().take(count))
-            {
-                *slot = *byte;
-            }
-            self.count = self.count.saturating_add(count);
-            Ok(count)
-        }
-
-        fn flush(&mut self) -> io::Result<()> {
-            Ok(())
-        }
-    }
-
-    #[test]
-    fn a_stream_that_takes_nothing_of_a_piece_has_failed(rt: HostRuntime) -> Result<(), Fail> {
-        let mut sink = StreamSink::new(Narrow {
-            taken: [0; 8],
-            count: 0,
-        });
-        assert!(rt; sink.put(b"").is_ok());
-        assert!(rt; sink.put(b"abcde").is_ok());
-        assert_eq!(rt; sink.faults, 0);
-        assert!(rt; sink.put(b"fgh").is_err());
-        assert_eq!(rt; sink.faults, 1);
-        assert_eq!(rt; sink.stream.taken.as_slice(), b"abcdefg\0".as_slice());
-        Ok(())
-    }
 }

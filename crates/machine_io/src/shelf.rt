@@ -88,31 +88,3 @@ fn read_some<T: Read>(reader: &mut T, into: &mut [u8]) -> Option<usize>
     }
     None
 }
-
-#[cfg(test)]
-mod tests {
-    use super::DiskShelf;
-    use hub_io::{ReadEnd, Shelf, read_whole};
-    use std::fs;
-    use std::test::Fail;
-
-    #[test]
-    fn a_file_is_read_whole_and_each_fault_is_counted(rt: HostRuntime) -> Result<(), Fail> {
-        fs::write(&rt, "held.txt", "1;0,0")?;
-        let mut shelf = DiskShelf::new(&rt);
-        let mut into = [0u8; 4];
-        assert!(rt; shelf.read(&mut into).is_err(), "nothing is begun");
-        assert_eq!(rt; shelf.faults, 1);
-        let bytes = read_whole(rt.alloc(), &mut shelf, "held.txt", 5)
-            .ok()
-            .ok_or("read")?;
-        assert_eq!(rt; bytes.as_slice(), b"1;0,0".as_slice());
-        let long = read_whole(rt.alloc(), &mut shelf, "held.txt", 4);
-        assert_eq!(rt; long.err(), Some(ReadEnd::TooLong));
-        assert_eq!(rt; shelf.faults, 1);
-        let missing = read_whole(rt.alloc(), &mut shelf, "missing.txt", 5);
-        assert_eq!(rt; missing.err(), Some(ReadEnd::ReadFault));
-        assert_eq!(rt; shelf.faults, 2);
-        Ok(())
-    }
-}

@@ -1,9 +1,9 @@
 use Rattle.std.proofs.Common.{◌≡◌, ℕ, ◌-◌, ◌≤◌, List, length, take, drop, sym, ap, subst, ◌∙◌, arith, Bor}
 use Rattle.std.proofs.lemmas.List.{take_all, length-drop}
 use Rattle.hub_io.specs.Outside.{AppendsBut}
-use Rattle.hub_cli.proofs.Streams.{still_but, more_but}
-use Rattle.hub_cli.proofs.sink.write_whole.Goals as goal
-use Rattle.hub_cli.proofs.sink.write_whole.Goals.{in-Ok, in-Err}
+use Rattle.machine_io.proofs.Streams.{still_but, more_but}
+use Rattle.machine_io.proofs.sink.write_whole.Goals as goal
+use Rattle.machine_io.proofs.sink.write_whole.Goals.{in-Ok, in-Err}
 
 pub loop-preserved : goal.loop-preserved
 loop-preserved g c =
