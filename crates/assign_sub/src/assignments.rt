@@ -15,7 +15,7 @@ use std::alloc::{AllocError, Global};
 use unit_duals::Hops;
 
 /// What a hub set costs, in 10^-12, and for each commodity in order the first and the last hub of its route.
-#[derive(Debug, Drop)]
+#[derive(Drop)]
 pub struct Assignment {
     pub cost: i128,
     pub routes: Vec<(u32, u32)>,

@@ -9,7 +9,7 @@ use plan_model::{Plan, TreeLine};
 ///
 /// Cost and bound are in 10^-12. Cuts are numbered from 1 in the pool's order, and the lines are the tree's in preorder,
 /// the open child first.
-#[derive(Debug, Drop)]
+#[derive(Drop)]
 pub struct Found {
     pub(crate) cost: i128,
     pub(crate) bound: i128,

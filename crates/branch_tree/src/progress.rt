@@ -14,7 +14,7 @@ use std::alloc::AllocError;
 
 /// The cuts and the lines of the tree, the incumbent with its cost, the nodes made, and after a stop the least that a
 /// leaf of the stop says of every plan. Costs are in 10^-12.
-#[derive(Debug, Drop)]
+#[derive(Drop)]
 pub(crate) struct Progress {
     pub(crate) pool: Pool,
     pub(crate) lines: Vec<TreeLine>,

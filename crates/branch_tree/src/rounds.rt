@@ -20,7 +20,7 @@ use std::alloc::{AllocError, Global};
 
 /// What a round leaves: the weights on the first cuts, in 10^-6, the advice that it took, and whether another round may
 /// follow.
-#[derive(Debug, Drop)]
+#[derive(Drop)]
 pub(crate) struct RoundEnd {
     pub(crate) weights: Vec<i128>,
     pub(crate) advice: Advice,

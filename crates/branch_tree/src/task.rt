@@ -4,7 +4,7 @@ use hub_model::Instance;
 
 /// The instance that is searched, the fixed cost of each node, in 10^-12, and the most nodes of the tree, where they are
 /// limited.
-#[derive(Debug, Drop)]
+#[derive(Drop)]
 pub(crate) struct Task<'a> {
     pub(crate) instance: &'a Instance,
     pub(crate) fixed: Vec<i128>,

@@ -7,7 +7,7 @@ use crate::kinds::Kind;
 use std::alloc::{AllocError, AllocFailed};
 
 /// A condition that fails, with its line, or want of memory.
-#[derive(Clone, Copy, Debug, PartialEq, Eq)]
+#[derive(Clone, Copy, PartialEq, Eq)]
 pub(crate) enum Failure {
     Fails { kind: Kind, line: u64 },
     OutOfMemory,

@@ -10,7 +10,7 @@ use std::alloc::{AllocError, Global};
 use std::marker::Model;
 
 /// A cut by the duals of its commodities, with the sum of their prices and, by node, the sums of their values.
-#[derive(Debug, Drop)]
+#[derive(Drop)]
 pub(crate) struct SummedCut<'a> {
     duals: &'a [Dual],
     total: u128,

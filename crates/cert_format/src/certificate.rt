@@ -12,7 +12,7 @@ use std::marker::Model;
 ///
 /// Costs are in 10^-12, and nodes count from 0. A cut is its duals, one for each commodity in order, and a tree is its
 /// lines in preorder, the open child first.
-#[derive(Debug, Drop)]
+#[derive(Drop)]
 pub struct Certificate {
     size: u32,
     candidates: u32,

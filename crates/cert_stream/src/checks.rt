@@ -24,7 +24,7 @@ use std::alloc::{AllocError, Global};
 use tree_lines::{LeafSums, TreePath};
 
 /// The check of a certificate of an instance, of which some items have come. Amounts are in 10^-12.
-#[derive(Debug, Drop)]
+#[derive(Drop)]
 pub struct Checks<'a> {
     pub(crate) instance: &'a Instance,
     // The number of the line in which the next item stands, counted from 1.

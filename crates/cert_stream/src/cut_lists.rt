@@ -16,7 +16,7 @@ use std::alloc::{AllocError, Global};
 use std::marker::Model;
 
 /// The sums of each cut in the order of their numbers, of which the last may still lack duals.
-#[derive(Debug, Drop)]
+#[derive(Drop)]
 pub(crate) struct CutList {
     sums: Vec<CutSums>,
 }

@@ -11,7 +11,7 @@ use std::alloc::{AllocError, Global};
 use std::marker::Model;
 
 /// How many duals of a cut there are, and the sums of their prices and, by node, of their values, in 10^-12.
-#[derive(Debug, Drop)]
+#[derive(Drop)]
 pub(crate) struct CutSums {
     count: u32,
     total: u128,

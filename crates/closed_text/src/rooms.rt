@@ -17,7 +17,7 @@ use value_cuts::{CandidateLegs, DualScratch, PriceScratch, price};
 
 /// Room for the duals of an instance's cuts by values: the tables of its legs, the rows and the prices of an origin, and
 /// a dual.
-#[derive(Debug, Drop)]
+#[derive(Drop)]
 pub(crate) struct ValueRoom<'a> {
     tables: CandidateLegs<'a>,
     rows: Vec<u32>,
@@ -139,7 +139,7 @@ fn set_row_prices(
 }
 
 /// Room to make the duals of an instance's kept cuts in, taken once. It is seen as the instance that it is for.
-#[derive(Debug, Drop)]
+#[derive(Drop)]
 pub struct DualRoom<'a> {
     pub(crate) values: ValueRoom<'a>,
     pub(crate) sets: Scratch,

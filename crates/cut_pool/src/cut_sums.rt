@@ -9,7 +9,7 @@ use std::marker::Model;
 /// What a search keeps of a cut: its hub set, the sum of its prices and, for each node, the sum of its values.
 ///
 /// The sums are in 10^-12, and none is below 0.
-#[derive(Debug, Drop)]
+#[derive(Drop)]
 pub struct CutSums {
     set: HubSet,
     total: i128,

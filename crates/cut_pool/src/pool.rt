@@ -17,7 +17,7 @@ const MOST_KEPT: u64 = 4_294_967_295;
 /// The cuts of a search, numbered from 1 in the order in which they were added, no two of one hub set.
 ///
 /// A pool is seen as its entries, with how many more can be added for certain without memory.
-#[derive(Debug, Drop)]
+#[derive(Drop)]
 pub struct Pool {
     sets: Vec<HubSet>,
     orders: Vec<Vec<u32>>,
@@ -42,7 +42,7 @@ impl Model for Pool {
 }
 
 /// A cut that was not added, since memory was wanting, with its order.
-#[derive(Debug, Drop)]
+#[derive(Drop)]
 pub struct Refused {
     /// The cut.
     pub cut: CutSums,

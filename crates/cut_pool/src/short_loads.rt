@@ -17,7 +17,7 @@ const MOST_HALVINGS: u32 = 97;
 /// The loads of cuts in 32 bits: a row for each node, which has one number for each cut in the order of numbers.
 ///
 /// All loads are halved equally often, each halving rounded down, so that each of them fits 31 bits.
-#[derive(Debug, Drop)]
+#[derive(Drop)]
 pub struct ShortLoads {
     halvings: u32,
     rows: Vec<Vec<u32>>,

@@ -7,7 +7,7 @@ ghost use Rattle.dual_lines.specs.Covers.{IsCoveredAlone, IsCoveredBy, IsCovered
 use hub_model::Instance;
 
 /// A commodity and its price, in 10^-12.
-#[derive(Clone, Copy, Debug)]
+#[derive(Clone, Copy)]
 pub(crate) struct Priced {
     pub from: u32,
     pub to: u32,

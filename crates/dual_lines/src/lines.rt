@@ -19,7 +19,7 @@ use std::marker::Model;
 /// A commodity of an instance with a dual that is listed for it: its price and its values, in 10^-12.
 ///
 /// One after another may stand here. What the last one listed is taken back in time of its values alone.
-#[derive(Debug, Drop)]
+#[derive(Drop)]
 pub struct DualLine<'a> {
     legs: StepLegs<'a>,
     places: Vec<u32>,

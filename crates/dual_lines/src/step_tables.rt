@@ -14,7 +14,7 @@ use std::marker::Model;
 
 /// The legs of an instance's routes by way of its candidates in steps of one length, seen as the instance that they
 /// are of, with the step in 10^-6.
-#[derive(Debug, Drop)]
+#[derive(Drop)]
 pub(crate) struct StepLegs<'a> {
     long: CandidateLegs<'a>,
     step: u64,

@@ -14,7 +14,7 @@ use std::marker::Model;
 
 /// The legs of an instance's routes by way of its candidates, by unit of flow, seen as the instance that they
 /// are of. Each leg is at most 10^16, in 10^-6.
-#[derive(Debug, Drop)]
+#[derive(Drop)]
 pub(crate) struct CandidateLegs<'a> {
     instance: &'a Instance,
     places: usize,

@@ -13,7 +13,7 @@ use plan_model::Branch;
 use std::alloc::{AllocError, Global};
 
 /// What the last table of a master's run advises.
-#[derive(Clone, Debug, Drop)]
+#[derive(Clone, Drop)]
 pub struct Advice {
     /// The weight of each cut, in 10^-6 and rounded down; they are not below 0, and at most 10^6 together.
     pub weights: Vec<i128>,

@@ -19,7 +19,7 @@ use std::marker::Model;
 ///
 /// An entry is the first and the last hub of a route, and what the route costs, in 10^-12. Entries ascend by cost,
 /// then by first hub, then by last hub.
-#[derive(Debug, Drop)]
+#[derive(Drop)]
 pub struct EdgeRow<'a> {
     instance: &'a Instance,
     from: u32,

@@ -8,7 +8,7 @@ pub trait Gate: Sync {
 }
 
 /// Lets every worker pass at once.
-#[derive(Clone, Copy, Debug, Default)]
+#[derive(Clone, Copy, Default)]
 pub struct OpenGate;
 
 impl Gate for OpenGate {

@@ -6,7 +6,7 @@ use crate::{Failed, Shelf};
 use std::alloc::{AllocError, Global};
 
 /// A file in memory.
-#[derive(Debug, Drop)]
+#[derive(Drop)]
 pub struct MemFile {
     /// The name that `begin` takes.
     pub name: String,
@@ -27,7 +27,7 @@ impl MemFile {
 }
 
 // A byte of a file, both by their numbers, counted from 0.
-#[derive(Clone, Copy, Debug)]
+#[derive(Clone, Copy)]
 struct Place {
     file: usize,
     byte: usize,
@@ -38,7 +38,7 @@ struct Place {
 /// Calls of `begin` and `read` are counted together from 1, and those in a list fail and do nothing
 /// else. Besides them, `begin` fails at a name that isn't held, and `read` before anything was begun.
 /// Reads that give bytes are counted from 1 too, and the lengths of a list bound them in turn.
-#[derive(Debug, Drop)]
+#[derive(Drop)]
 pub struct MemShelf {
     files: Vec<MemFile>,
     failing: Vec<u64>,

@@ -19,7 +19,7 @@ pub struct Partial {
 ///
 /// It takes its room when it is made, and no memory later. A put past the room fails, and what fits
 /// is taken.
-#[derive(Debug, Drop)]
+#[derive(Drop)]
 pub struct MemSink {
     taken: Vec<u8>,
     room: usize,

@@ -11,7 +11,7 @@ pub enum Layout {
 }
 
 /// An instance as the words name it.
-#[derive(Debug, Drop)]
+#[derive(Drop)]
 pub struct Source<'a> {
     pub layout: Layout,
     /// The name of the instance file.
@@ -31,7 +31,7 @@ pub struct Search {
 }
 
 /// What is to be solved, and by which search.
-#[derive(Debug, Drop)]
+#[derive(Drop)]
 pub struct Solving<'a> {
     pub source: Source<'a>,
     pub search: Search,
@@ -47,7 +47,7 @@ pub struct Making {
 }
 
 /// A command that the words give.
-#[derive(Debug, Drop)]
+#[derive(Drop)]
 pub enum Command<'a> {
     /// Solve the instance by the rule of the search.
     Solve(Solving<'a>),

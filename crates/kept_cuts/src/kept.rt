@@ -11,7 +11,7 @@ use std::alloc::{AllocError, Global};
 use std::marker::Model;
 
 /// What the duals of a cut can be made from anew.
-#[derive(Debug, Drop)]
+#[derive(Drop)]
 pub enum KeptCut {
     /// Values of the candidates for each commodity.
     Values(PackedValues),
@@ -21,7 +21,7 @@ pub enum KeptCut {
 
 /// The cuts of a search, numbered from 1 in the order in which they were kept, each with its total and its load of each
 /// node.
-#[derive(Debug, Drop)]
+#[derive(Drop)]
 pub struct KeptCuts {
     cuts: Vec<KeptCut>,
     totals: Vec<i128>,

@@ -9,7 +9,7 @@ use plan_model::{Plan, TreeLine};
 ///
 /// Cost and bound are in 10^-12. The lines are the tree's in preorder, the open child first; their cuts are counted from
 /// 1. That it is a certificate of an instance is said by `IsProved` in the specs.
-#[derive(Debug, Drop)]
+#[derive(Drop)]
 pub struct Network {
     /// The cost of the plan, in 10^-12.
     pub cost: u128,

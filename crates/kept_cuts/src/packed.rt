@@ -11,14 +11,14 @@ use std::marker::Model;
 use value_cuts::Values;
 
 /// A number above 0 in a row of numbers, and where it stands, counted from 0.
-#[derive(Clone, Copy, Debug)]
+#[derive(Clone, Copy)]
 pub(crate) struct Item {
     at: u32,
     number: u32,
 }
 
 /// The values of all commodities, for each origin in a list of those above 0. It is seen as `Values` are.
-#[derive(Debug, Drop)]
+#[derive(Drop)]
 pub struct PackedValues {
     size: usize,
     places: usize,

@@ -11,7 +11,7 @@ use std::marker::Model;
 
 /// The legs from one origin to the stops, by unit of flow, with the room that was taken for them: so many stops there
 /// may be. A worker has its own.
-#[derive(Debug, Drop)]
+#[derive(Drop)]
 pub struct FirstLegs {
     room: usize,
     items: Vec<u64>,

@@ -13,7 +13,7 @@ use unit_duals::Legs;
 
 /// The legs of a hub set and an order, by unit of flow, with the room that was taken for them: so many destinations and
 /// so many stops there may be.
-#[derive(Debug, Drop)]
+#[derive(Drop)]
 pub struct SetLegs {
     room: usize,
     size: usize,

@@ -162,7 +162,7 @@ fn see_failing_puts<R: Threads + Sync>(
 }
 
 /// One of a run's two streams.
-#[derive(Clone, Copy, Debug, PartialEq, Eq)]
+#[derive(Clone, Copy, PartialEq, Eq)]
 enum Stream {
     Out,
     Err,

@@ -10,7 +10,7 @@ use std::thread::Threads;
 const ROOM: usize = 100_000;
 
 /// What a run ended with, what its two streams took, and how many calls of the shelf failed.
-#[derive(Debug, Drop, PartialEq, Eq)]
+#[derive(Drop, PartialEq, Eq)]
 pub struct Ran {
     pub status: Status,
     pub out: Vec<u8>,

@@ -8,7 +8,7 @@ use pareto_cuts::{OriginScratch, Separation};
 use std::alloc::{AllocError, Global};
 
 /// What the duals of all commodities from one origin add up to, in 10^-12.
-#[derive(Debug, Drop)]
+#[derive(Drop)]
 pub struct OriginSums {
     /// The sum of their prices.
     pub total: u128,
@@ -17,7 +17,7 @@ pub struct OriginSums {
 }
 
 /// The origins of a separation, as a crew's work: block i is origin i.
-#[derive(Debug, Drop)]
+#[derive(Drop)]
 pub(crate) struct Origins<'a> {
     pub(crate) separation: &'a Separation<'a>,
 }

@@ -13,7 +13,7 @@ use std::alloc::{AllocError, Global};
 use std::marker::Model;
 
 /// The dual that was made last, in room for so many nodes.
-#[derive(Debug, Drop)]
+#[derive(Drop)]
 pub struct DualBuffer {
     room: usize,
     by_node: Vec<u128>,

@@ -12,7 +12,7 @@ use unit_duals::UnitDuals;
 
 /// What the duals of one origin are worked out in, by unit of flow, with the room that was taken for it: so many
 /// destinations, and so many hubs and candidates of the order, there may be. A worker has its own.
-#[derive(Debug, Drop)]
+#[derive(Drop)]
 pub struct OriginScratch {
     first: FirstLegs,
     unit: UnitDuals,

@@ -17,7 +17,7 @@ use std::marker::Model;
 
 /// Room for the duals of an instance with so many nodes, or fewer: for one commodity (`strong_dual_in`), or for all of
 /// a hub set and an order, one origin after another (`prepare`, `work_out`, and then `make_dual`, `total`, `add_loads`).
-#[derive(Debug, Drop)]
+#[derive(Drop)]
 pub struct Scratch {
     tables: SetTables,
     origin: OriginScratch,

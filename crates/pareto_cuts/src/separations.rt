@@ -13,7 +13,7 @@ use std::marker::Model;
 
 /// A hub set and an order of the candidates outside it, with their tables, and the destinations: so many nodes from
 /// `start` on.
-#[derive(Debug, Drop)]
+#[derive(Drop)]
 pub struct Separation<'a> {
     instance: &'a Instance,
     candidates: &'a [u32],

@@ -19,7 +19,7 @@ use unit_duals::Tables;
 /// and candidates of the order, there may be.
 ///
 /// They are only read while the duals of origins are worked out, so several workers may share them.
-#[derive(Debug, Drop)]
+#[derive(Drop)]
 pub struct SetTables {
     legs: SetLegs,
     tables: Tables,

@@ -10,7 +10,7 @@ use std::marker::Model;
 
 /// The hubs of a plan, how many commodities have a route, and what the hubs and these routes cost, as the lines of the
 /// plan come.
-#[derive(Debug, Drop)]
+#[derive(Drop)]
 pub struct PlanSums {
     hubs: NodeMarks,
     routed: u32,

@@ -14,7 +14,7 @@ use std::marker::Model;
 ///
 /// It is seen as the number of nodes that it has room for, and takes more room where a larger instance comes. Otherwise
 /// a call takes memory for the loads of its result alone.
-#[derive(Debug, Drop)]
+#[derive(Drop)]
 pub struct Solo {
     room: u32,
     scratch: Scratch,

@@ -15,7 +15,7 @@ use std::marker::Model;
 ///
 /// The lines of a tree come in preorder, the open child first. So each branch that waits is the closed child of a step
 /// on the way, which goes into the open one.
-#[derive(Debug, Drop)]
+#[derive(Drop)]
 pub struct TreePath {
     trail: Trail,
     is_filled: bool,

@@ -15,7 +15,7 @@ use std::alloc::{AllocError, Global};
 use std::marker::Model;
 
 /// The sums of a leaf, as its pairs come: of the weights, and by these of the cuts' totals and of their loads by node.
-#[derive(Debug, Drop)]
+#[derive(Drop)]
 pub struct LeafSums {
     denom: u128,
     weight: u128,

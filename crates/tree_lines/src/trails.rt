@@ -11,7 +11,7 @@ use std::alloc::{AllocError, Global};
 use std::marker::Model;
 
 /// A step down a tree: the node that is branched on, and whether the step goes into the open child.
-#[derive(Clone, Copy, Debug)]
+#[derive(Clone, Copy)]
 pub(crate) struct Step {
     pub(crate) node: u32,
     pub(crate) opened: bool,
@@ -19,7 +19,7 @@ pub(crate) struct Step {
 
 /// The way from the root to a branch, seen with the last step first. No node stands twice on it, so it has at most as
 /// many steps as there are candidates.
-#[derive(Debug, Drop)]
+#[derive(Drop)]
 pub(crate) struct Trail {
     size: u32,
     candidates: Vec<u32>,

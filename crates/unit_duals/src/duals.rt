@@ -16,7 +16,7 @@ use std::marker::Model;
 /// of values, one for each destination; with the room that was taken for them.
 ///
 /// A worker has its own, and works out one origin after another.
-#[derive(Debug, Drop)]
+#[derive(Drop)]
 pub struct UnitDuals {
     room: usize,
     prices: Vec<u64>,

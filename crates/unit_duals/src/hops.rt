@@ -31,7 +31,7 @@ struct Hop {
 
 /// The best last hub for each first hub and destination, seen as the legs that they were found in, and the room that
 /// was taken for them: so many destinations and so many stops there may be.
-#[derive(Debug, Drop)]
+#[derive(Drop)]
 pub struct Hops {
     room: usize,
     size: usize,

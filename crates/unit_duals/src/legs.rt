@@ -9,7 +9,7 @@ use std::marker::Model;
 /// The legs of routes by unit of flow, in tables row by row.
 ///
 /// Stops are counted from 0: the places of an order come first, and then the hubs.
-#[derive(Debug, Drop)]
+#[derive(Drop)]
 pub struct Legs<'a> {
     size: usize,
     count: usize,

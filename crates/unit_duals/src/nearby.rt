@@ -13,7 +13,7 @@ use std::alloc::{AllocError, Global};
 
 /// Lists of destinations one after another: that of place `t` and the earlier place `e` has the number
 /// `t * count + e`, and stands from the start of its number to the next one's.
-#[derive(Debug, Drop)]
+#[derive(Drop)]
 pub(crate) struct NearLists {
     starts: Vec<u32>,
     nodes: Vec<u8>,

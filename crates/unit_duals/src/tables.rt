@@ -18,7 +18,7 @@ use std::marker::Model;
 /// destinations and so many stops they may have.
 ///
 /// They are only read while the values of origins are worked out, so several workers may share them.
-#[derive(Debug, Drop)]
+#[derive(Drop)]
 pub struct Tables {
     room: usize,
     size: usize,

@@ -14,7 +14,7 @@ use std::alloc::{AllocError, Global};
 use std::marker::Model;
 
 /// The dual that was made last, as a certificate lists it, in room for so many values.
-#[derive(Debug, Drop)]
+#[derive(Drop)]
 pub struct DualScratch {
     room: usize,
     a: i128,

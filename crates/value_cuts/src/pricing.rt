@@ -19,7 +19,7 @@ use std::marker::Model;
 
 /// What a price is found in: the first and the last ends of routes, with room for so many candidates. A worker has its
 /// own.
-#[derive(Debug, Drop)]
+#[derive(Drop)]
 pub struct PriceScratch {
     first: Vec<u64>,
     last: Vec<u64>,

@@ -17,7 +17,7 @@ use std::marker::Model;
 /// seen as the instance that they are of.
 ///
 /// They are only read, so several workers may share them. Each leg is at most 10^16, in 10^-6.
-#[derive(Debug, Drop)]
+#[derive(Drop)]
 pub struct CandidateLegs<'a> {
     instance: &'a Instance,
     places: usize,

@@ -15,7 +15,7 @@ use std::marker::Model;
 /// For each commodity a row of values by unit of flow, a value for each place, in a unit: so many times 10^-6.
 ///
 /// Any numbers may stand in the rows; what is above the ceiling of lengths counts as the ceiling.
-#[derive(Debug, Drop)]
+#[derive(Drop)]
 pub struct Values {
     size: usize,
     places: usize,
