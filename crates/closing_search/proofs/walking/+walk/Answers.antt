@@ -26,12 +26,15 @@ parted-child-requires g t c = λ _ within.
     ap (λ (x : Branching). length x.free + 1) child ∙ length-without c.branch_node-k.result b.free free in (
       search (rules, arith),
       (
-        within,
+        within.0,
         (
-          search rules,
+          within.1,
           (
-            c.in_ok-split_on.ensures.going,
-            (c.requires.bench, subst (IsBranch p) (sym child) (open_branch p b c.branch_node-k.result c.requires.branch free)),
+            search rules,
+            (
+              c.in_ok-split_on.ensures.going,
+              (c.requires.bench, subst (IsBranch p) (sym child) (open_branch p b c.branch_node-k.result c.requires.branch free)),
+            ),
           ),
         ),
       ),
@@ -47,14 +50,17 @@ parted-child-requires-2 g t c = λ _ within.
     ap (λ (x : Branching). length x.free + 1) child ∙ length-without c.branch_node-k.result b.free free in (
       search (rules, arith),
       (
-        within,
+        within.0,
         (
-          search rules,
+          within.1,
           (
-            c.in_ok-child.ensures.done.going,
+            search rules,
             (
-              c.in_ok-child.ensures.bench ∙ c.requires.bench,
-              subst (IsBranch p) (sym child) (closed_branch p b c.branch_node-k.result c.requires.branch free),
+              c.in_ok-child.ensures.done.going,
+              (
+                c.in_ok-child.ensures.bench ∙ c.requires.bench,
+                subst (IsBranch p) (sym child) (closed_branch p b c.branch_node-k.result c.requires.branch free),
+              ),
             ),
           ),
         ),
