@@ -52,15 +52,20 @@ def parser() -> Parser:
     matrices.add_argument("--distance-first", action="store_true", help="the one file has the distances first")
     rows = kinds.add_parser("rows", parents=[named], help="CAB data as rows `i j flow distance`")
     rows.add_argument("file", type=Path)
-    table = kinds.add_parser("csv", parents=[common], help="a CSV table of nodes and one of flows")
-    columns = "columns name, x and y or longitude and latitude, and fixed where there are costs"
-    table.add_argument("nodes", type=Path, help=columns)
-    columns = "columns origin, destination, amount; a pair without a row has no flow"
-    table.add_argument("flows", type=Path, help=columns)
-    table.add_argument("--delimiter", default=",", help="what stands between two cells (default: a comma)")
-    units = "of distances from longitude and latitude (default: km)"
-    table.add_argument("--unit", choices=["km", "miles"], default="km", help=units)
+    add_tables(kinds.add_parser("csv", parents=[common], help="a CSV table of nodes and one of flows"))
     return top
+
+
+def add_tables(words: argparse.ArgumentParser) -> None:
+    """Puts what `read_tables` reads on a command line."""
+    add = words.add_argument
+    columns = "a CSV table with the columns name, x and y or longitude and latitude, and fixed where there are costs"
+    add("node_table", type=Path, metavar="NODES", help=columns)
+    columns = "one with the columns origin, destination, amount; a pair without a row has no flow"
+    add("flow_table", type=Path, metavar="FLOWS", help=columns)
+    add("--delimiter", default=",", help="what stands between two cells (default: a comma)")
+    units = "of distances from longitude and latitude (default: km)"
+    add("--unit", choices=["km", "miles"], default="km", help=units)
 
 
 def read_source(args: argparse.Namespace) -> Source:
@@ -75,14 +80,19 @@ def read_source(args: argparse.Namespace) -> Source:
         return read_matrices(Tokens(args.flows), args.distance_first)
     if args.kind == "rows":
         return read_rows(Tokens(args.file))
-    if len(args.delimiter) != 1:
+    return read_tables(args.node_table, args.flow_table, args.delimiter)
+
+
+def read_tables(node_table: Path, flow_table: Path, delimiter: str = ",") -> Source:
+    """A table of nodes with their places, and one of flows."""
+    if len(delimiter) != 1:
         raise Fault("--delimiter wants one character")
-    nodes = read_nodes(args.nodes, args.delimiter)
+    nodes = read_nodes(node_table, delimiter)
     if not nodes.points and not nodes.places:
-        raise at(args.nodes, 1, "the columns 'x' and 'y', or 'longitude' and 'latitude'", "neither")
+        raise at(node_table, 1, "the columns 'x' and 'y', or 'longitude' and 'latitude'", "neither")
     if nodes.points and nodes.places:
-        raise at(args.nodes, 1, "'x' and 'y', or 'longitude' and 'latitude'", "both")
-    flows = read_flows(args.flows, nodes.names, args.delimiter)
+        raise at(node_table, 1, "'x' and 'y', or 'longitude' and 'latitude'", "both")
+    flows = read_flows(flow_table, nodes.names, delimiter)
     return Source(nodes.names, flows, points=nodes.points, places=nodes.places, fixed=nodes.fixed)
 
 
@@ -102,13 +112,16 @@ def chosen(source: Source, first: int | None, only: str | None) -> list[int]:
         if not 1 <= first <= source.size():
             raise Fault(f"--first wants 1 to {source.size()}, found {first}")
         return list(range(first))
-    if only is None:
-        return list(range(source.size()))
+    return list(range(source.size())) if only is None else listed(source, "--only", only)
+
+
+def listed(source: Source, option: str, words: str) -> list[int]:
+    """The nodes, from 0, of a list of names or numbers with commas between."""
     number = {str(i + 1): i for i in range(source.size())} | {name: i for i, name in enumerate(source.names)}
     nodes: list[int] = []
-    for word in only.split(","):
+    for word in words.split(","):
         if word.strip() not in number or number[word.strip()] in nodes:
-            raise Fault(f"--only wants names or numbers of nodes, each once, found '{word.strip()}'")
+            raise Fault(f"{option} wants names or numbers of nodes, each once, found '{word.strip()}'")
         nodes.append(number[word.strip()])
     return nodes
 

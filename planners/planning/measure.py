@@ -6,6 +6,7 @@ import resource
 import signal
 import subprocess
 import time
+from collections.abc import Callable
 from dataclasses import dataclass
 from pathlib import Path
 from threading import Event
@@ -49,8 +50,9 @@ def peak_so_far(process: int) -> int:
     return int(match[1]) if match else 0
 
 
-def run(words: list[str], out: Path, limit: float | None, stop: Event) -> Ended:
-    """Runs a program with its standard output into a file, until it ends or the limit in seconds is over."""
+def run(words: list[str], out: Path, limit: float | None, stop: Event, look: Callable[[], None] | None = None) -> Ended:
+    """Runs a program with its standard output into a file, until it ends or the limit in seconds is over; `look` is
+    called from time to time while it runs."""
     start = time.monotonic()
     with out.open("wb") as file, subprocess.Popen(
         words, stdin=subprocess.DEVNULL, stdout=file, stderr=subprocess.PIPE
@@ -61,6 +63,8 @@ def run(words: list[str], out: Path, limit: float | None, stop: Event) -> Ended:
                 seen = max(seen, peak_so_far(process.pid))
                 if stop.is_set():
                     raise Stopped("stopped")
+                if look:
+                    look()
                 if limit is not None and time.monotonic() - start > limit:
                     process.kill()
                     process.wait()

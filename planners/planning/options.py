@@ -5,10 +5,23 @@ from dataclasses import dataclass
 from pathlib import Path
 
 from .faults import Fault, Parser
-from .quantities import FACTOR, FIXED_COST, Quantity
+from .quantities import DISTANCE, FACTOR, FIXED_COST, SIZE, Quantity
 
+QUANTITIES = {
+    "collect": FACTOR,
+    "trunk": FACTOR,
+    "deliver": FACTOR,
+    "fixed": FIXED_COST,
+    "divide": Quantity("a divisor of distances", 0, 1, 1_000_000),
+    "hubs": Quantity("a number of hubs", 0, 1, SIZE.most),
+    "max-length": Quantity("the length of the longest route", 3, 0, 3 * DISTANCE.most),
+    "nodes": Quantity("a number of nodes of the tree", 0, 1, 10**18),
+    "workers": Quantity("a number of workers", 0, 1, 64),
+    "format": Quantity("a format of certificates", 0, 1, 9),
+}
+"""The options of hub whose value is a number, of the instance and of the search."""
 LAYOUTS = ["cab-matrix", "cab-rows", "ap"]
-VALUED = ["order", "tail", "divide", "collect", "trunk", "deliver", "fixed", "costs", "candidates"]
+VALUED = ["order", "tail", "divide", "collect", "trunk", "deliver", "fixed", "costs", "candidates", "hubs", "max-length"]
 """The names of the options that take a value."""
 
 
@@ -42,15 +55,39 @@ def add_options(parser: Parser) -> None:
     parser.add_argument("layout", choices=LAYOUTS, help="the layout of the instance")
     parser.add_argument("file", type=Path, help="the instance")
     group = parser.add_argument_group("options of the instance", "as for hub")
-    for name in VALUED:
-        group.add_argument(f"--{name}", metavar=name.upper())
+    add_valued(group, VALUED)
     group.add_argument("--no-self", action="store_true")
+
+
+def add_valued(group: argparse._ArgumentGroup, names: list[str]) -> None:
+    """Puts options of hub that take a value on a command line."""
+    for name in names:
+        group.add_argument(f"--{name}", metavar=name.upper().replace("-", "_"))
+
+
+def values_of(args: argparse.Namespace, names: list[str]) -> dict[str, str]:
+    """Those of these options that were given, with their values."""
+    found = {name: getattr(args, name.replace("-", "_"), None) for name in names}
+    return {name: value for name, value in found.items() if value is not None}
 
 
 def options_of(args: argparse.Namespace) -> Options:
     """What the command line says of the instance."""
-    values = {name: getattr(args, name) for name in VALUED if getattr(args, name) is not None}
-    return Options(args.layout, args.file, values, args.no_self)
+    return Options(args.layout, args.file, values_of(args, VALUED), args.no_self)
+
+
+def is_taken(name: str, text: str) -> bool:
+    """Whether `hub` takes a text as the number of this option; whole numbers are digits without a leading zero."""
+    quantity = QUANTITIES[name]
+    plain = quantity.places > 0 or (text.isascii() and text.isdecimal() and not text.startswith("0"))
+    return plain and quantity.read(text) is not None
+
+
+def test_values(values: dict[str, str]) -> None:
+    """A fault of the first option whose value `hub` would not take for a number."""
+    for name, text in values.items():
+        if name in QUANTITIES and not is_taken(name, text):
+            raise Fault(f"--{name}: wanted {QUANTITIES[name].wanted()}, found '{text}'")
 
 
 def given(values: dict[str, str], name: str, quantity: Quantity, default: int) -> int:

@@ -4,7 +4,9 @@ import os
 import re
 import shutil
 import subprocess
+from collections.abc import Iterable
 from dataclasses import dataclass
+from functools import cache
 from pathlib import Path
 
 from .faults import Fault
@@ -12,17 +14,49 @@ from .options import Options
 from .quantities import COST_PLACES, decimal
 
 
+NOT_IN_EACH = {"hubs": "1", "max-length": "1", "format": "1"}
+"""Options that not each version of `hub` has, with a value by which it is asked."""
+USAGE = 3
+"""The status with which `hub` refuses words, before it opens any file."""
+MOST_STATUS = 15
+"""A greater status, or a signal, is none of hub's."""
+
+
 def program() -> str:
-    """The program that HUB in the environment names, or the one of this repository."""
-    named = os.environ.get("HUB") or str(Path(__file__).resolve().parents[2] / "hub")
+    """The program that HUB in the environment names, or the one of this repository, or the one of the path."""
+    own = Path(__file__).resolve().parents[2] / "hub"
+    named = os.environ.get("HUB") or (str(own) if own.is_file() else "hub")
     found = shutil.which(named)
     if found is None:
         raise Fault(f"{named}: no such program; HUB in the environment may name another")
     return str(Path(found).resolve())
 
 
+@cache
+def refuses(name: str, verb: str, *words: str) -> bool:
+    """Whether this program takes these options of a command for no words of its own. The files are empty."""
+    files = ["/dev/null"] * (1 if verb in ("solve", "optimize") else 2)
+    asked = [name, verb, *words, "--", "cab-matrix", *files]
+    ended = subprocess.run(asked, capture_output=True, text=True, errors="replace", check=False)
+    if not 0 <= ended.returncode <= MOST_STATUS:
+        said = ended.stderr.strip().split("\n")[0] or f"status {ended.returncode}"
+        raise Fault(f"{name}: this program does not answer as hub does: {said}")
+    return ended.returncode == USAGE
+
+
+def require(verb: str, names: Iterable[str] = ()) -> None:
+    """A fault where this `hub` has not the command, or has not one of its options of these names."""
+    if refuses(program(), verb):
+        raise Fault(f"{program()}: this hub has no command {verb}")
+    for name in names:
+        if name in NOT_IN_EACH and refuses(program(), verb, f"--{name}={NOT_IN_EACH[name]}"):
+            raise Fault(f"{program()}: this hub has no option --{name} for {verb}")
+
+
 def command(verb: str, options: Options, *files: Path, extra: list[str] | None = None) -> list[str]:
     """The words of a command on an instance, with options of the command itself as extra ones."""
+    if verb == "resolve" or options.values.keys() & NOT_IN_EACH.keys():
+        require(verb, options.values)
     return [
         program(),
         verb,
@@ -41,6 +75,11 @@ class Verdict:
 
     cost: int
     bound: int
+
+    def line(self) -> str:
+        """The line of `hub check`."""
+        cost, bound = decimal(self.cost, COST_PLACES), decimal(self.bound, COST_PLACES)
+        return f"optimal {cost}" if self.is_optimal() else f"bounds {bound} {cost}"
 
     def is_optimal(self) -> bool:
         """Whether no plan costs less."""
@@ -78,12 +117,17 @@ def read_cost(text: str) -> int:
     return int(whole + part)
 
 
-def check(options: Options, certificate: Path) -> Verdict:
-    """The verdict on a certificate; a fault where `hub check` did not accept it."""
+def judge(options: Options, certificate: Path) -> tuple[Verdict | None, str]:
+    """The verdict on a certificate, or None where `hub check` did not accept it; and what it said."""
     ended = subprocess.run(command("check", options, certificate), capture_output=True, text=True, check=False)
     line = ended.stdout.strip()
-    verdict = verdict_of(ended.returncode, line)
+    said = line or ended.stderr.strip().split("\n")[0] or f"status {ended.returncode}"
+    return verdict_of(ended.returncode, line), said
+
+
+def check(options: Options, certificate: Path) -> Verdict:
+    """The verdict on a certificate; a fault where `hub check` did not accept it."""
+    verdict, said = judge(options, certificate)
     if verdict is None:
-        said = line or ended.stderr.strip().split("\n")[0] or f"status {ended.returncode}"
         raise Fault(f"{certificate}: hub check did not accept this certificate: {said}")
     return verdict

@@ -9,22 +9,13 @@ from pathlib import Path
 
 from .csv_tables import Row, read_table
 from .faults import Fault, at
-from .options import Options
-from .quantities import FACTOR, FIXED_COST, Quantity
+from .options import QUANTITIES, Options, is_taken
 
-WORKERS = Quantity("a number of workers", 0, 1, 64)
-NODES = Quantity("a number of nodes of the tree", 0, 1, 10**18)
-NUMBERS = {
-    "collect": FACTOR,
-    "trunk": FACTOR,
-    "deliver": FACTOR,
-    "fixed": FIXED_COST,
-    "workers": WORKERS,
-    "nodes": NODES,
-}
+NUMBERS = {name.replace("-", "_"): quantity for name, quantity in QUANTITIES.items() if name != "divide"}
+"""The columns of numbers."""
 COLUMNS = [*NUMBERS, "costs", "candidates"]
 """What a table may change."""
-OF_SOLVE = ("nodes", "workers")
+OF_SOLVE = ("nodes", "workers", "format")
 """Options of a search that are none of the instance."""
 
 
@@ -61,8 +52,7 @@ def tested(row: Row, column: str) -> str:
     """A cell that `hub` would take as the value of the option of this name."""
     text = row.cells[column]
     if column in NUMBERS:
-        whole = column in OF_SOLVE and not re.fullmatch("[1-9][0-9]*", text)
-        if whole or NUMBERS[column].read(text) is None:
+        if not is_taken(column.replace("_", "-"), text):
             raise row.fault(column, NUMBERS[column].wanted())
     elif column == "candidates":
         text = re.sub(r"[\s,]+", ",", text)
@@ -81,7 +71,7 @@ def read_scenarios(path: Path, base: Options, command: str) -> list[Scenario]:
         unknown = [column for column in row.cells if column not in (*COLUMNS, "name")]
         if unknown:
             raise at(path, 1, f"the columns name, {', '.join(COLUMNS)}", f"'{unknown[0]}'")
-        values = {column: tested(row, column) for column in COLUMNS if row.cells.get(column)}
+        values = {column.replace("_", "-"): tested(row, column) for column in COLUMNS if row.cells.get(column)}
         if "fixed" in values and "costs" in values:
             raise row.fault("costs", "no file beside a number in the column 'fixed'")
         solve_words = [f"--{name}={values.pop(name)}" for name in OF_SOLVE if name in values]

@@ -1,0 +1,29 @@
+"""What a planner gets to see of an accepted network, as files: the verdict, the tables, the map and the page."""
+
+import shlex
+from pathlib import Path
+
+from .options import Options
+from .solving import CERTIFICATE, INSTANCE, NAMES
+from .tables import Named, all_tables, as_csv
+
+CHECK, MAP, PAGE = "check.txt", "map.png", "page.html"
+RESULTS = [CHECK, MAP, PAGE, *(f"{name}.csv" for name in ("summary", "hubs", "routes", "trunks", "collection", "delivery"))]
+
+
+def all_results(named: Named, options: Options, folder: Path, title: str, with_map: bool) -> dict[str, str | bytes]:
+    """All files of a network whose instance, certificate and names lie in a folder."""
+    from .page import page_text
+    from .places import positions
+
+    places, note = positions(named.network.instance, folder / NAMES)
+    results: dict[str, str | bytes] = {CHECK: named.verdict.line() + "\n"}
+    results |= as_csv(all_tables(named))
+    if with_map:
+        from .drawing import picture, picture_bytes
+
+        results[MAP] = picture_bytes(picture(named, places, title, note), ".png")
+    inside = [word.replace(f"{folder}/", "") for word in options.words()]
+    words = shlex.join(["hub", "check", options.layout, INSTANCE, CERTIFICATE, *inside])
+    results[PAGE] = page_text(named, places, note, title, words)
+    return results

@@ -1,0 +1,111 @@
+"""A question to `hub`, and the folder that keeps its files and the certificate that answers it."""
+
+import hashlib
+import json
+import shlex
+from collections.abc import Callable
+from dataclasses import asdict, dataclass
+from pathlib import Path
+from tempfile import TemporaryDirectory
+from threading import Event
+
+from .convert import converted
+from .faults import Fault
+from .files import put_all
+from .measure import Ended, run
+from .options import Options, test_values
+from .program import command, judge, require
+from .sources import Source
+from .tables import Named, read_named
+
+INSTANCE, COSTS, NAMES = "instance.txt", "instance.costs.txt", "instance.names.csv"
+CERTIFICATE = "certificate.txt"
+ASKED = "study.json"
+"""What was asked, by which a certificate is known as the answer to the same words again."""
+NO_NETWORK = 8
+"""The status with which `hub` says that no network keeps to the longest route."""
+
+
+@dataclass(frozen=True)
+class Question:
+    """The texts of the files that `hub` reads, by name, and its words."""
+
+    texts: dict[str, str]
+    layout: str
+    values: dict[str, str]
+    """The options of the instance."""
+    no_self: bool
+    verb: str
+    """`optimize` or `solve`."""
+    search: dict[str, str]
+    """The options of the search."""
+
+    def options(self, folder: Path) -> Options:
+        """The instance where its files lie in this folder."""
+        costs = {"costs": str(folder / COSTS)} if COSTS in self.texts else {}
+        return Options(self.layout, folder / INSTANCE, costs | self.values, self.no_self)
+
+    def search_words(self) -> list[str]:
+        """The options of the search as words for `hub`."""
+        return [f"--{name}={value}" for name, value in self.search.items()]
+
+    def asked(self) -> str:
+        """What was asked, as a text: digests of the files, and the words for a reader in the folder."""
+        digests = {name: hashlib.sha256(text.encode()).hexdigest() for name, text in self.texts.items()}
+        options = self.options(Path())
+        first = [self.layout, INSTANCE, *options.words()]
+        words = {"solved": [self.verb, *first, *self.search_words()], "check": ["check", *first, CERTIFICATE]}
+        lines = {name: shlex.join(["hub", *rest]) for name, rest in words.items()}
+        return json.dumps({"files": digests, **lines}, indent=1) + "\n"
+
+
+def question_of(source: Source, layout: str, values: dict[str, str], no_self: bool, **search: str) -> Question:
+    """The question of a source; `search` has the command as `verb`, and its options."""
+    texts = {path.name: text for path, text in converted(source, layout, False, "instance").items()}
+    verb = search.pop("verb", "optimize")
+    return Question(texts, layout, values, no_self, verb, search)
+
+
+def is_answered(question: Question, folder: Path) -> bool:
+    """Whether the folder has the answer to this question already, and `hub check` accepts it."""
+    asked, certificate = folder / ASKED, folder / CERTIFICATE
+    if not asked.is_file() or not certificate.is_file() or asked.read_text(encoding="utf-8") != question.asked():
+        return False
+    if any((folder / name).read_text(encoding="utf-8") != text for name, text in question.texts.items()):
+        return False
+    return judge(question.options(folder), certificate)[0] is not None
+
+
+def answer(question: Question, folder: Path, look: Callable[[], None] | None = None, stale: list[str] | None = None) -> None:
+    """Solves and checks, and puts files and certificate into the folder; files of these names there are then stale."""
+    test_values(question.values | question.search)
+    require(question.verb, [*question.values, *question.search])
+    folder.mkdir(parents=True, exist_ok=True)
+    with TemporaryDirectory(prefix=".at-work-", dir=folder) as held:
+        work = Path(held)
+        put_all({work / name: text for name, text in question.texts.items()})
+        words = command(question.verb, question.options(work), extra=question.search_words())
+        ended = run(words, work / CERTIFICATE, None, Event(), look)
+        if ended.status not in (0, 1):
+            raise Fault(failure(question, ended))
+        verdict, said = judge(question.options(work), work / CERTIFICATE)
+        if verdict is None:
+            raise Fault(f"hub check did not accept what hub {question.verb} wrote: {said}")
+        for name in [ASKED, COSTS, *(stale or [])]:
+            (folder / name).unlink(missing_ok=True)
+        for name in [*question.texts, CERTIFICATE]:
+            (work / name).replace(folder / name)
+        put_all({folder / ASKED: question.asked()})
+
+
+def failure(question: Question, ended: Ended) -> str:
+    """Why there is no certificate."""
+    said = ended.error or f"status {ended.status}"
+    if ended.status == NO_NETWORK:
+        return f"no network keeps to --max-length {question.values.get('max-length', '')}: {said}"
+    return f"hub {question.verb} found no network: {said}"
+
+
+def answer_in(question: Question, folder: Path) -> Named:
+    """The network that the folder's certificate names, checked once more."""
+    return read_named(question.options(folder), folder / CERTIFICATE, folder / NAMES)

@@ -1,0 +1,93 @@
+"""The script `study`: from two tables to a network that is proved, with its tables, its map and its page."""
+
+import argparse
+import signal
+from dataclasses import replace
+from pathlib import Path
+
+from . import pythons
+from .convert import add_tables, listed, read_tables, with_distances
+from .faults import Fault, Parser
+from .files import put_all
+from .options import add_valued, values_of
+from .progress import Steps
+from .report_files import PAGE, RESULTS, all_results
+from .solving import Question, answer, answer_in, is_answered, question_of
+from .sources import Source
+from .sweep import stop_as_by_hand
+
+OF_INSTANCE = ["divide", "collect", "trunk", "deliver", "fixed", "hubs", "max-length"]
+OF_SEARCH = ["workers", "format"]
+
+
+def parser() -> Parser:
+    """The command line."""
+    words = Parser(prog="study", description=__doc__.split(": ")[1], epilog=EPILOG)
+    add_tables(words)
+    add = words.add_argument
+    add("--out", type=Path, required=True, metavar="FOLDER", help="the folder for all that comes out")
+    add("--title", default="", help="a line above the cost")
+    add("--no-map", action="store_true", help="draw no map.png, for which matplotlib is wanted")
+    group = words.add_argument_group("options of hub", "as for hub; --fixed takes the place of the costs in NODES")
+    add_valued(group, OF_INSTANCE)
+    several = "which nodes may be hubs: names or numbers with commas between"
+    group.add_argument("--candidates", metavar="LIST", help=several)
+    group.add_argument("--no-self", action="store_true")
+    group.add_argument("--nodes", dest="tree_nodes", metavar="N", help="stop the search at so many nodes, with a bound")
+    add_valued(group, OF_SEARCH)
+    group.add_argument("--solve", action="store_true", help="by hub solve, for up to some 25 nodes, not hub optimize")
+    return words
+
+
+def question_for(args: argparse.Namespace, source: Source) -> Question:
+    """What is asked of hub."""
+    values = values_of(args, OF_INSTANCE)
+    if "fixed" in values:
+        source = replace(source, fixed=None)
+    if args.candidates is not None:
+        nodes = sorted(node + 1 for node in listed(source, "--candidates", args.candidates))
+        values["candidates"] = ",".join(map(str, nodes))
+    search = {"verb": "solve" if args.solve else "optimize"} | values_of(args, OF_SEARCH)
+    if args.tree_nodes is not None:
+        search["nodes"] = args.tree_nodes
+    if source.points:
+        return question_of(source, "ap", values, args.no_self, **search)
+    return question_of(with_distances(source, args.unit), "cab-matrix", values, args.no_self, **search)
+
+
+def study(args: argparse.Namespace, steps: Steps) -> list[str]:
+    """Does all that is not done; what is told at the end."""
+    steps.begin("reading the tables")
+    question = question_for(args, read_tables(args.node_table, args.flow_table, args.delimiter))
+    inputs = [args.node_table, args.flow_table]
+    if any(path.resolve().parent == args.out.resolve() for path in inputs):
+        raise Fault(f"{args.out}: the tables to read lie in this folder; choose another --out")
+    steps.begin("looking for what is there")
+    if not is_answered(question, args.out):
+        steps.begin(f"hub {question.verb}")
+        answer(question, args.out, steps.look, stale=RESULTS)
+    steps.begin("tables, map and page")
+    named = answer_in(question, args.out)
+    results = all_results(named, question.options(args.out), args.out, args.title, not args.no_map)
+    put_all({args.out / name: content for name, content in results.items()})
+    names = ", ".join(named.names[hub] for hub in named.network.plan.hubs)
+    return [named.verdict.line(), f"hubs: {names}", str(args.out / PAGE)]
+
+
+def main(words: list[str]) -> int:
+    """Does a study."""
+    args = parser().parse_args(words)
+    pythons.want("numpy", *([] if args.no_map else ["matplotlib"]))
+    signal.signal(signal.SIGTERM, stop_as_by_hand)
+    steps = Steps(4)
+    try:
+        lines = study(args, steps)
+    finally:
+        steps.end()
+    print("\n".join(lines))
+    return 0
+
+
+EPILOG = """FOLDER has then: instance.txt and what belongs to it, certificate.txt, check.txt (what hub check says), the tables
+of network, map.png, page.html, and study.json (the words of hub, for its folder). The same words go on where they were
+stopped: what is solved is checked, and not solved again. Where hub check does not accept, there is one line and no result."""
