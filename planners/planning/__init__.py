@@ -1,1 +1,20 @@
-"""What the planners' scripts share: files in, exact numbers, the program `hub`, tables and pictures out."""
+"""Hub location beside the program `hub`: files in, exact numbers, tables and pictures out; and, from Python, `solve`.
+
+`solve(flows, distances, ..)` and `Problem` want numpy; what goes wrong is a `Fault` with one line. The scripts load no
+more of the package than they use, so these names are loaded when they are first asked for.
+"""
+
+from typing import Any
+
+from .faults import Fault
+
+__all__ = ["Fault", "Problem", "Result", "solve"]
+
+
+def __getattr__(name: str) -> Any:
+    """What is loaded when it is asked for."""
+    if name not in __all__:
+        raise AttributeError(f"module 'planning' has no attribute '{name}'")
+    from . import problem
+
+    return getattr(problem, name)

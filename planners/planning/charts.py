@@ -15,6 +15,9 @@ from .plot import Point
 SPREAD = 0.06
 """How far apart, in hubs, the lines of the lower picture are drawn."""
 
+LABELS = {"hubs": "number of hubs", "max_length": "length of the longest route", "fixed": "fixed cost of a hub"}
+"""What stands along the bottom, where it is not the column's name."""
+
 
 def draw(axes: tuple[Axes, Axes], lines: dict[str, list[Point]]) -> None:
     """Costs above, numbers of hubs below. What is not proved optimal is hollow, with a bar down to its bound."""
@@ -51,5 +54,7 @@ def chart(lines: dict[str, list[Point]], title: str, against: str) -> pyplot.Fig
     texts = ["proved optimal", "not proved; dotted down to the bound"]
     figure.legend(marks, texts, loc="lower center", ncols=2, frameon=False, fontsize=8)
     axes[0].set_title(title, fontsize=11)
-    axes[1].set_xlabel(against)
+    axes[1].set_xlabel(LABELS.get(against, against))
+    if against == "hubs":
+        axes[1].xaxis.set_major_locator(MaxNLocator(integer=True))
     return figure

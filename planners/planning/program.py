@@ -18,6 +18,8 @@ NOT_IN_EACH = {"hubs": "1", "max-length": "1", "format": "1"}
 """Options that not each version of `hub` has, with a value by which it is asked."""
 USAGE = 3
 """The status with which `hub` refuses words, before it opens any file."""
+NO_NETWORK = 8
+"""The status with which `hub` says that no network keeps to the longest route."""
 MOST_STATUS = 15
 """A greater status, or a signal, is none of hub's."""
 

@@ -9,7 +9,7 @@ from pathlib import Path
 
 from .csv_tables import Row, read_table
 from .faults import Fault, at
-from .options import QUANTITIES, Options, is_taken
+from .options import QUANTITIES, Options, is_costs, is_taken
 
 NUMBERS = {name.replace("-", "_"): quantity for name, quantity in QUANTITIES.items() if name != "divide"}
 """The columns of numbers."""
@@ -30,15 +30,17 @@ class Scenario:
     options: Options
     """The instance."""
     command: str
-    """The command of `hub` that solves it: `solve` or `optimize`."""
+    """The command of `hub` that solves it anew: `optimize` or `solve`."""
     solve_words: list[str]
+    goes_on: bool = False
+    """Whether it may be solved again from the certificate of the row before, from which it differs in fixed costs."""
 
     def key(self) -> str:
         """What tells whether two rows ask the same: the words and the bytes of the files."""
         costs = self.options.values.get("costs")
         files = [digest(self.options.file), digest(Path(costs)) if costs else ""]
         words = [word for word in self.options.words() if not word.startswith("--costs=")]
-        text = json.dumps([self.options.layout, files, sorted(words), self.command, self.solve_words])
+        text = json.dumps([self.options.layout, files, sorted(words), self.command, self.solve_words, self.goes_on])
         return hashlib.sha256(text.encode()).hexdigest()
 
 
@@ -64,8 +66,18 @@ def tested(row: Row, column: str) -> str:
     return text
 
 
-def read_scenarios(path: Path, base: Options, command: str) -> list[Scenario]:
-    """The rows of a table of scenarios of an instance, each to be solved by this command of `hub`."""
+def is_same_network(first: Options, second: Options) -> bool:
+    """Whether two options of one instance differ in fixed costs alone."""
+
+    def others(options: Options) -> dict[str, str]:
+        return {name: value for name, value in options.values.items() if not is_costs(name, value)}
+
+    return others(first) == others(second)
+
+
+def read_scenarios(path: Path, base: Options, command: str, again: bool = False) -> list[Scenario]:
+    """The rows of a table of scenarios of an instance, each to be solved by this command of `hub`; or again from the
+    certificate of the row before, where that may be and is asked for."""
     scenarios: list[Scenario] = []
     for row in read_table(path, []):
         unknown = [column for column in row.cells if column not in (*COLUMNS, "name")]
@@ -75,7 +87,9 @@ def read_scenarios(path: Path, base: Options, command: str) -> list[Scenario]:
         if "fixed" in values and "costs" in values:
             raise row.fault("costs", "no file beside a number in the column 'fixed'")
         solve_words = [f"--{name}={values.pop(name)}" for name in OF_SOLVE if name in values]
-        scenarios.append(Scenario(len(scenarios) + 1, row.cells, base.changed(values), command, solve_words))
+        options = base.changed(values)
+        goes_on = again and bool(scenarios) and is_same_network(scenarios[-1].options, options)
+        scenarios.append(Scenario(len(scenarios) + 1, row.cells, options, command, solve_words, goes_on))
     if not scenarios:
         raise Fault(f"{path}: wanted at least one row")
     return scenarios

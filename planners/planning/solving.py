@@ -14,7 +14,7 @@ from .faults import Fault
 from .files import put_all
 from .measure import Ended, run
 from .options import Options, test_values
-from .program import command, judge, require
+from .program import NO_NETWORK, command, judge, require
 from .sources import Source
 from .tables import Named, read_named
 
@@ -22,8 +22,6 @@ INSTANCE, COSTS, NAMES = "instance.txt", "instance.costs.txt", "instance.names.c
 CERTIFICATE = "certificate.txt"
 ASKED = "study.json"
 """What was asked, by which a certificate is known as the answer to the same words again."""
-NO_NETWORK = 8
-"""The status with which `hub` says that no network keeps to the longest route."""
 
 
 @dataclass(frozen=True)

@@ -13,7 +13,7 @@ from threading import Event
 
 from .faults import Fault, Parser
 from .options import add_options, options_of
-from .program import program
+from .program import program, require
 from .results import Result, Sweep
 from .scenarios import COLUMNS, Scenario, read_scenarios
 
@@ -58,7 +58,9 @@ def parser() -> Parser:
     words.add_argument(
         "--out", type=Path, required=True, metavar="FOLDER", help="the folder for results.csv and what is done so far"
     )
-    words.add_argument("--optimize", action="store_true", help="solve by hub optimize, for instances of real size")
+    words.add_argument("--solve", action="store_true", help="solve by hub solve, for up to some 25 nodes, not hub optimize")
+    again = "by hub resolve from the row before, where a row differs from it in fixed costs alone; tells the gain"
+    words.add_argument("--again", action="store_true", help=again)
     words.add_argument("--jobs", type=int, default=1, metavar="N", help="scenarios side by side (default: 1)")
     words.add_argument("--time-limit", type=float, metavar="S", help="seconds for each process of hub")
     words.add_argument("--keep", action="store_true", help="keep the certificates, as FOLDER/rows/ROW.cert")
@@ -79,7 +81,7 @@ class Threads:
         """Begins."""
         self.stopped = Event()
         self.pool = ThreadPoolExecutor(jobs)
-        self.tasks = [self.pool.submit(sweep.do, scenario, self.stopped) for scenario in pending]
+        self.tasks = [self.pool.submit(sweep.do_chain, chain, self.stopped) for chain in sweep.chains(pending)]
 
     def is_over(self) -> bool:
         """Whether all have ended."""
@@ -142,7 +144,7 @@ def do_all(sweep: Sweep, args: argparse.Namespace, words: list[str]) -> None:
     bar.show(bar.total - len(left))
     if not left:
         return
-    with_parallel = args.sshlogin or (not args.plain and shutil.which("parallel"))
+    with_parallel = args.sshlogin or (not args.plain and not args.again and shutil.which("parallel"))
     engine = Parallel(sweep, left, args, words) if with_parallel else Threads(sweep, left, args.jobs)
     try:
         while left:
@@ -168,6 +170,25 @@ def tell(sweep: Sweep, results: list[Result]) -> int:
     return 1 if missing else 0
 
 
+def ask(scenarios: list[Scenario], again: bool) -> None:
+    """A fault where this `hub` has not all that the rows want, before any of them is run."""
+    of_search = [word[2:].partition("=")[0] for scenario in scenarios for word in scenario.solve_words]
+    of_instance = [name for scenario in scenarios for name in scenario.options.values]
+    require(scenarios[0].command, dict.fromkeys([*of_instance, *of_search]))
+    if again:
+        require("resolve", dict.fromkeys(of_instance))
+
+
+def tell_gain(results: list[Result]) -> None:
+    """Says what solving again has gained, on the whole."""
+    again = [result for result in results if result.again_from]
+    if again:
+        took = sum(float(result.seconds) for result in again)
+        anew = sum(float(result.anew_seconds) for result in again)
+        text = f"{len(again)} rows were solved again in {took:.1f} s; as many like the last one anew take {anew:.1f} s"
+        print(f"sweep: {text}", file=sys.stderr)
+
+
 def stop_as_by_hand(*_: object) -> None:
     """Ends the script as Ctrl-C does, so that what it started is ended too."""
     raise KeyboardInterrupt
@@ -178,18 +199,22 @@ def main(words: list[str]) -> int:
     args = parser().parse_args(words)
     if args.jobs < 1 or (args.time_limit is not None and args.time_limit <= 0):
         raise Fault("--jobs and --time-limit want numbers above 0")
-    scenarios = read_scenarios(args.table, options_of(args), "optimize" if args.optimize else "solve")
+    if args.again and (args.sshlogin or args.row is not None):
+        raise Fault("--again takes one row after another on this machine, and no --sshlogin or --row")
+    scenarios = read_scenarios(args.table, options_of(args), "solve" if args.solve else "optimize", args.again)
     if args.row is not None and not 1 <= args.row <= len(scenarios):
         raise Fault(f"--row wants 1 to {len(scenarios)}, found {args.row}")
-    program()
+    ask(scenarios, args.again)
     signal.signal(signal.SIGTERM, stop_as_by_hand)
     sweep = Sweep(scenarios, args.out, args.time_limit, args.keep)
     (args.out / "rows").mkdir(parents=True, exist_ok=True)
     if args.row is not None:
-        sweep.do(scenarios[args.row - 1], Event())
+        sweep.do(scenarios[args.row - 1], Event(), args.keep)
         return 0
     do_all(sweep, args, words)
-    return tell(sweep, sweep.write_results())
+    results = sweep.write_results()
+    tell_gain(results)
+    return tell(sweep, results)
 
 
 EPILOG = f"""The table may have the columns {", ".join(COLUMNS)}, each as the option of hub of that name (an empty cell

@@ -9,7 +9,7 @@ import time
 import unittest
 from pathlib import Path
 
-from .helper import INSTANCES, PLANNERS, InFolder, environment
+from .helper import INSTANCES, PLANNERS, InFolder, environment, needs
 from planning.program import program
 
 MEASURED = ("seconds", "check_seconds", "peak_mib")
@@ -80,7 +80,7 @@ class Sweeps(InFolder):
         total = len(self.read("table.csv").splitlines()) - 1
         rows = self.folder / "broken/rows"
         # Once four are done no other ends, however long the stop takes to come.
-        hub = self.program(f'[ "$1" = solve ] && [ "$(ls {rows} 2>/dev/null | grep -c json)" -ge 4 ] && exec sleep 60')
+        hub = self.program(f'[ "$1" = optimize ] && [ "$(ls {rows} 2>/dev/null | grep -c json)" -ge 4 ] && exec sleep 60')
         self.stop(self.words("broken", *more), hub)
         done = {path: path.read_text() for path in rows.glob("*.json")}
         for out in ("broken", "whole"):
@@ -102,14 +102,14 @@ class Sweeps(InFolder):
 
     def test_optimize_comes_to_the_same_costs(self) -> None:
         self.write("table.csv", "trunk,fixed\n0.5,40000000\n0.25,40000000\n")
-        for out, more in (("solved", []), ("optimized", ["--optimize"])):
+        for out, more in (("solved", ["--solve"]), ("optimized", [])):
             ended = self.script("sweep", *self.words(out, *more))
             self.assertEqual((ended.returncode, ended.stdout), (0, ""))
         costs = [[row["cost"] for row in self.table(f"{out}/results.csv")] for out in ("solved", "optimized")]
         self.assertEqual(costs[0], costs[1])
         self.assertEqual(len(costs[0]), 2)
 
-    def test_rows_one_by_one_and_a_plot(self) -> None:
+    def test_rows_one_by_one(self) -> None:
         self.write("table.csv", "trunk,fixed\n0.5,40000000\n0.25,40000000\n")
         for row in ("1", "2"):
             ended = self.script("sweep", *self.words("out"), "--keep", "--row", row)
@@ -126,21 +126,86 @@ class Sweeps(InFolder):
             ]
             self.assertEqual(self.hub("check", *words).stdout, f"optimal {row['cost']}\n")
             text = self.read(words[2])
-            self.assertIn(f"\nhubs {row['hubs']}\n", text)
+            self.assertIn(f"\nhubs {row['open_hubs']}\n", text)
             self.assertIn(f"\nnodes {row['tree_nodes']}\n", text)
             self.assertEqual((row["bound"], row["gap"], row["verdict"]), (row["cost"], "0.000000", "optimal"))
-        for out in ("plot.svg", "again.svg"):
-            ended = self.script("plot-sweep", "out/results.csv", "--against", "trunk", "--by", "fixed", "--out", out)
-            self.assertEqual((ended.returncode, ended.stderr), (0, ""))
-        self.assertEqual(self.read("plot.svg"), self.read("again.svg"))
-        ended = self.script("plot-sweep", "out/results.csv", "--against", "fixed", "--out", "plot.png")
+
+    @needs("numpy", "matplotlib")
+    def test_plots(self) -> None:
+        columns = "row,trunk,fixed,hubs,max_length,outcome,cost,bound,number_of_hubs\n"
+        rows = "".join(f"{i},0.{i},{i % 2},{i},{100 * i},accepted,{50 - i}.5,{49 - i}.5,{i}\n" for i in range(1, 6))
+        self.write("results.csv", columns + rows + "6,0.7,0,6,1,no network for 1 2,,,\n")
+        for against, by in (("trunk", "fixed"), ("hubs", ""), ("max_length", "")):
+            for out in ("plot.svg", "again.svg"):
+                words = ["results.csv", "--against", against, "--by", by, "--out", out]
+                ended = self.script("plot-sweep", *words)
+                self.assertEqual((ended.returncode, ended.stderr), (0, ""))
+            self.assertEqual(self.read("plot.svg"), self.read("again.svg"))
+            self.assertIn("1 scenarios without a certificate", self.read("plot.svg"))
+        ended = self.script("plot-sweep", "results.csv", "--against", "fixed", "--out", "plot.png")
         self.assert_fault(
-            ended, "plot-sweep: out/results.csv: two scenarios have the same fixed; name what differs with --by"
+            ended, "plot-sweep: results.csv: two scenarios have the same fixed; name what differs with --by"
         )
+
+    def resolving(self) -> str:
+        """A program that stands for a hub with `resolve`: it wants the older certificate, and solves anew."""
+        return self.standin(
+            "resolving-hub",
+            '[ "$1" = resolve ] || exec {0} "$@"\nshift; count=$#; place=0\n'
+            'for word do shift; place=$((place + 1)); [ $place -eq $count ] || set -- "$@" "$word"; done\n'
+            '[ "$word" = /dev/null ] || grep -q HUBCERT "$word" || exit 6\n'
+            'echo "$word" >>{1}/olds\nexec {0} optimize "$@"\n'.format(program(), self.folder),
+        )
+
+    def test_again_from_the_row_before(self) -> None:
+        self.write("table.csv", "trunk,fixed\n0.5,20000000\n0.5,30000000\n0.5,40000000\n0.6,40000000\n0.6,20000000\n")
+        hub = self.resolving()
+        ended = self.script("sweep", *self.words("out", "--again", "--jobs", "2"), hub=hub)
+        self.assertEqual((ended.returncode, ended.stdout), (0, ""))
+        self.assertRegex(ended.stderr.splitlines()[-1], r"^sweep: 3 rows were solved again in [0-9.]+ s; as many like")
+        rows = self.table("out/results.csv")
+        self.assertEqual([row["again_from"] for row in rows], ["", "1", "2", "", "4"])
+        self.assertEqual([bool(row["gain"]) for row in rows], [False, True, True, False, True])
+        olds = {Path(line).name for line in self.read("olds").split()}
+        self.assertEqual(olds, {"null", "1.cert", "2.cert", "4.cert"})
+        self.assertEqual({path.suffix for path in (self.folder / "out/rows").iterdir()}, {".json"})
+        ended = self.script("sweep", *self.words("anew"))
+        self.assertEqual([row["cost"] for row in rows], [row["cost"] for row in self.table("anew/results.csv")])
+        self.assertNotIn("gain", self.table("anew/results.csv")[0])
+        # A row whose row before is done, and its certificate gone, is solved anew.
+        (self.folder / "out/rows/5.json").unlink()
+        ended = self.script("sweep", *self.words("out", "--again"), hub=hub)
+        self.assertEqual(self.table("out/results.csv")[4]["again_from"], "")
+        words = self.words("out", "--again", "--row", "2")
+        line = "sweep: --again takes one row after another on this machine, and no --sshlogin or --row"
+        self.assert_fault(self.script("sweep", *words, hub=hub), line)
+
+    def test_what_this_hub_has_not(self) -> None:
+        refused = 'case "$*" in *--hubs*|*--max-length*|*--format*|resolve*) exit 3;; esac'
+        hub = self.program(refused)
+        for table, more, what in (
+            ("hubs\n2\n", [], "option --hubs for optimize"),
+            ("max_length\n200\n", [], "option --max-length for optimize"),
+            ("format\n2\n", ["--solve"], "option --format for solve"),
+            ("fixed\n1\n2\n", ["--again"], "command resolve"),
+        ):
+            self.write("table.csv", table)
+            self.assert_fault(self.script("sweep", *self.words("out", *more), hub=hub), f"sweep: {hub}: this hub has no {what}")
+        self.assertFalse((self.folder / "out").exists())
+
+    def test_no_network_keeps_to_the_longest_route(self) -> None:
+        self.write("table.csv", "max_length\n10\n2000\n")
+        text = (
+            'short=; for word do shift; case "$word" in --max-length=10) short=1;; --max-length=*) ;; *) set -- "$@" "$word";;'
+            ' esac; done\n[ -z "$short" ] || { echo "hub: no network for 1 2" >&2; exit 8; }\n'
+        )
+        ended = self.script("sweep", *self.words("out", "--plain"), hub=self.program(text))
+        self.assertEqual((ended.returncode, ended.stderr.splitlines()[-1]), (1, "sweep: row 1: no network for 1 2"))
+        self.assertEqual([row["outcome"] for row in self.table("out/results.csv")], ["no network for 1 2", "accepted"])
 
     def test_a_process_stopped_from_outside_tells_nothing(self) -> None:
         self.write("table.csv", "trunk\n0.5\n0.6\n")
-        hub = self.program('case "$*" in "solve "*trunk=0.6*) kill -TERM $$;; esac')
+        hub = self.program('case "$*" in "optimize "*trunk=0.6*) kill -TERM $$;; esac')
         for more in (["--plain"], ["--row", "2"]):
             ended = self.script("sweep", *self.words("out", *more), hub=hub)
             self.assertEqual(ended.returncode, 2)
@@ -154,10 +219,10 @@ class Sweeps(InFolder):
     def test_what_has_no_accepted_certificate(self) -> None:
         self.write("table.csv", "name,trunk,candidates\nslow,0.5,\nfalse,0.6,\nfaulty,0.7,9\ngood,0.8,\n")
         hub = self.program(
-            'case "$*" in *trunk=0.5*) exec sleep 60;; "solve "*trunk=0.6*) echo HUBCERT 1; exit 0;; esac'
+            'case "$*" in *trunk=0.5*) exec sleep 60;; "optimize "*trunk=0.6*) echo HUBCERT 1; exit 0;; esac'
         )
         ended = self.script(
-            "sweep", *self.words("out", "--time-limit", "3", "--plain", "--jobs", "4"), "--fixed", "5", hub=hub
+            "sweep", *self.words("out", "--time-limit", "10", "--plain", "--jobs", "4"), "--fixed", "5", hub=hub
         )
         wanted = [
             "sweep: row 1: time limit",
@@ -169,10 +234,8 @@ class Sweeps(InFolder):
         self.assertEqual([bool(row["cost"]) for row in rows], [False, False, False, True])
         self.assertEqual(rows[1]["outcome"], "not accepted")
         # Only what a longer time can change is done again.
-        ended = self.script("sweep", *self.words("out", "--time-limit", "30", "--plain"), "--fixed", "5")
+        ended = self.script("sweep", *self.words("out", "--time-limit", "60", "--plain"), "--fixed", "5")
         self.assertEqual((ended.returncode, ended.stderr.splitlines()[-2:]), (1, wanted[1:]))
-        ended = self.script("plot-sweep", "out/results.csv", "--against", "trunk", "--out", "plot.png")
-        self.assertEqual((ended.returncode, ended.stderr), (0, ""))
 
     def test_faults_of_the_table(self) -> None:
         for text, line in (
@@ -194,8 +257,8 @@ class Sweeps(InFolder):
             ),
             (
                 "trunks\n1\n",
-                "table.csv:1: wanted the columns name, collect, trunk, deliver, fixed, workers, nodes, costs, candidates,"
-                " found 'trunks'",
+                "table.csv:1: wanted the columns name, collect, trunk, deliver, fixed, hubs, max_length, nodes, workers, format,"
+                " costs, candidates, found 'trunks'",
             ),
             ("trunk\n", "table.csv: wanted at least one row"),
         ):

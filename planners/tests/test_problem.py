@@ -1,0 +1,122 @@
+"""From Python: the page of examples, how numbers become text, what is refused, and the package once it is installed."""
+
+import doctest
+import os
+import re
+import shutil
+import subprocess
+import sys
+from decimal import Decimal
+from unittest import SkipTest
+
+from .helper import PLANNERS, InFolder, environment, lacks, needs
+
+if lacks("numpy"):
+    raise SkipTest(lacks("numpy"))
+
+import numpy as np
+
+import planning
+from planning.problem import exact_text
+from planning.program import program
+from planning.quantities import DISTANCE, FLOW
+
+FLOWS = np.array([[0, 0, 10], [0, 0, 0], [10, 0, 0]])
+DISTANCES = np.array([[0, 4, 8], [4, 0, 4], [8, 4, 0]])
+
+
+class Numbers(InFolder):
+    """Numbers as text."""
+
+    def test_exact_text(self) -> None:
+        for value, text in (
+            (0.1, "0.1"),
+            (np.float32(0.1), "0.1"),
+            (1e7, "10000000"),
+            (np.int64(3), "3"),
+            (Decimal("2.50"), "2.50"),
+            ("1e-3", "0.001"),
+            (2**53 / 2**30, "8388608"),
+        ):
+            self.assertEqual(exact_text(value, FLOW, "flows[0, 0]", False), text)
+        self.assertEqual(exact_text(0.12345, DISTANCE, "x", True), "0.123")
+        self.assertEqual(exact_text(0.9996, DISTANCE, "x", True), "1.000")
+
+    def test_what_is_refused(self) -> None:
+        for value, line in (
+            (float("nan"), "x: wanted a distance, a number from 0 to 10000000, found nan"),
+            (float("inf"), "x: wanted a distance, a number from 0 to 10000000, found inf"),
+            (-1, "x: wanted a distance, a number from 0 to 10000000, found -1"),
+            (1e300, "x: wanted a distance, a number from 0 to 10000000, found 1e+300"),
+            ("near", "x: wanted a distance, a number from 0 to 10000000, found near"),
+            (1e-300, "x: hub keeps 3 decimals, and 0." + 299 * "0" + "1 has more; round it, or say rounded=True"),
+            (1 / 3, "x: hub keeps 3 decimals, and 0.3333333333333333 has more; round it, or say rounded=True"),
+        ):
+            with self.assertRaises(planning.Fault) as caught:
+                exact_text(value, DISTANCE, "x", False)
+            self.assertEqual(str(caught.exception), line)
+        for words, line in (
+            ({"fixed": [1, 2]}, "fixed: wanted one number or 3 of them, found the shape (2,)"),
+            ({"candidates": [0, 3]}, "candidates: wanted nodes from 0 to 2, each once, found [0, 3]"),
+            ({"names": ["a", "b", "a"]}, "names: wanted 3 names, each once, found 2"),
+            ({"trunk": 0.0001}, "trunk: hub keeps 3 decimals, and 0.0001 has more; round it, or say rounded=True"),
+            ({"nodes": 0}, "--nodes: wanted a number of nodes of the tree, a number from 1 to 1000000000000000000, found '0'"),
+        ):
+            with self.assertRaises(planning.Fault) as caught:
+                planning.solve(FLOWS, DISTANCES, **words)
+            self.assertEqual(str(caught.exception), line)
+        with self.assertRaises(AttributeError):
+            planning.nothing
+
+
+class Examples(InFolder):
+    """The page of examples."""
+
+    def test_the_page(self) -> None:
+        text = (PLANNERS / "EXAMPLES.md").read_text(encoding="utf-8")
+        blocks = re.findall(r"^```python\n(.*?)^```$", text, re.DOTALL | re.MULTILINE)
+        self.assertGreater(len(blocks), 4)
+        (self.folder / "planners").symlink_to(PLANNERS)
+        examples = doctest.DocTestParser().get_doctest("\n".join(blocks), {}, "EXAMPLES.md", "EXAMPLES.md", 0)
+        told: list[str] = []
+        before, named = os.getcwd(), os.environ.get("HUB")
+        os.environ["HUB"] = program()
+        os.chdir(self.folder)
+        try:
+            doctest.DocTestRunner(verbose=False).run(examples, out=told.append)
+        finally:
+            os.chdir(before)
+            os.environ.pop("HUB") if named is None else os.environ.update(HUB=named)
+        if told:
+            self.fail("".join(told))
+
+
+@needs("pip", "setuptools", "wheel")
+class Installed(InFolder):
+    """The package as pip puts it in place, without a network."""
+
+    def test_it_solves_and_saves(self) -> None:
+        shutil.copytree(PLANNERS, self.folder / "planners", ignore=shutil.ignore_patterns("tests", "build", "*.egg-info"))
+        words = ["--no-index", "--no-deps", "--no-build-isolation", "--quiet", "--target", "site", "./planners"]
+        ended = subprocess.run(
+            [sys.executable, "-m", "pip", "install", *words], cwd=self.folder, capture_output=True, text=True
+        )
+        self.assertEqual(ended.returncode, 0, ended.stderr)
+        shutil.rmtree(self.folder / "planners")
+        text = (
+            "import planning, numpy as np\n"
+            "result = planning.solve(np.array([[0, 1], [1, 0]]), np.array([[0, 10], [10, 0]]), fixed=5)\n"
+            "result.save('saved', with_map=False)\n"
+            "print(planning.__file__, result.hubs, result.cost)\n"
+        )
+        ended = subprocess.run(
+            [sys.executable, "-c", text],
+            cwd=self.folder,
+            env=environment() | {"PYTHONPATH": str(self.folder / "site")},
+            capture_output=True,
+            text=True,
+        )
+        self.assertEqual(ended.stderr, "")
+        self.assertEqual(ended.stdout.split()[0], str(self.folder / "site/planning/__init__.py"))
+        self.assertIn("optimal ", self.read("saved/check.txt"))
+        self.assertIn("</html>", self.read("saved/page.html"))
