@@ -25,5 +25,6 @@ def main(words: list[str]) -> int:
     return 0
 
 
-EPILOG = """A node's area tells its flow in and out, a line's width the flow both ways. Without places in the instance or
-the table of names, nodes are placed by their distances. A certificate that hub check does not accept is not drawn."""
+EPILOG = """A node's area tells its flow in and out, a line's width the flow both ways. Without places in the instance
+or the table of names, nodes are placed by their distances. A certificate that hub check does not accept is not
+drawn."""

@@ -21,7 +21,8 @@ QUANTITIES = {
 }
 """The options of hub whose value is a number, of the instance and of the search."""
 LAYOUTS = ["cab-matrix", "cab-rows", "ap"]
-VALUED = ["order", "tail", "divide", "collect", "trunk", "deliver", "fixed", "costs", "candidates", "hubs", "max-length"]
+FACTORS = ["collect", "trunk", "deliver"]
+VALUED = ["order", "tail", "divide", *FACTORS, "fixed", "costs", "candidates", "hubs", "max-length"]
 """The names of the options that take a value."""
 
 
@@ -103,7 +104,7 @@ def given(values: dict[str, str], name: str, quantity: Quantity, default: int) -
 def factors(values: dict[str, str], default: tuple[int, int, int]) -> tuple[int, int, int]:
     """The factors of collection, trunk and delivery in thousandths."""
     collect, trunk, deliver = (
-        given(values, name, FACTOR, units) for name, units in zip(("collect", "trunk", "deliver"), default)
+        given(values, name, FACTOR, units) for name, units in zip(FACTORS, default)
     )
     return collect, trunk, deliver
 

@@ -129,5 +129,5 @@ def main(words: list[str]) -> int:
     return 0
 
 
-EPILOG = """The page needs nothing beside itself: click on a place for its routes and their costs, on a hub for its loads,
-choose origins, sort the tables. A certificate that hub check does not accept gets no page."""
+EPILOG = """The page needs nothing beside itself: click on a place for its routes and their costs, on a hub for its
+loads, choose origins, sort the tables. A certificate that hub check does not accept gets no page."""

@@ -25,8 +25,8 @@ from .tokens import Tokens
 
 
 def exact_text(value: Any, quantity: Quantity, which: str, rounded: bool) -> str:
-    """A number as decimal text: of a float the shortest that is read back as the same float. One with more decimals than
-    `hub` keeps is refused, or rounded to the nearest where that was asked."""
+    """A number as decimal text: of a float the shortest that is read back as the same float. One with more decimals
+    than `hub` keeps is refused, or rounded to the nearest where that was asked."""
     text = np.format_float_positional(value, trim="-") if isinstance(value, (float, np.floating)) else str(value)
     try:
         number = Decimal(text)

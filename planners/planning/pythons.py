@@ -11,7 +11,11 @@ SYSTEM = "/usr/bin/python3"
 """Where Debian's packages are found, whatever Python is first on the path."""
 TAKEN_OVER = "HUB_PYTHON_TAKEN_OVER"
 """Stands in the environment of a script that was handed to the system's Python, so that it is handed on once only."""
-ASK = "import sys, importlib.util as u; sys.exit(sys.version_info < (3, 11) or any(not u.find_spec(n) for n in sys.argv[1:]))"
+ASK = """
+import sys
+from importlib.util import find_spec
+sys.exit(sys.version_info < (3, 11) or any(find_spec(name) is None for name in sys.argv[1:]))
+"""
 
 
 def has(package: str) -> bool:

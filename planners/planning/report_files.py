@@ -8,7 +8,9 @@ from .solving import CERTIFICATE, INSTANCE, NAMES
 from .tables import Named, all_tables, as_csv
 
 CHECK, MAP, PAGE = "check.txt", "map.png", "page.html"
-RESULTS = [CHECK, MAP, PAGE, *(f"{name}.csv" for name in ("summary", "hubs", "routes", "trunks", "collection", "delivery"))]
+TABLES = ["summary", "hubs", "routes", "trunks", "collection", "delivery"]
+RESULTS = [CHECK, MAP, PAGE, *(f"{name}.csv" for name in TABLES)]
+"""All that `all_results` may give."""
 
 
 def all_results(named: Named, options: Options, folder: Path, title: str, with_map: bool) -> dict[str, str | bytes]:

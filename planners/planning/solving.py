@@ -3,7 +3,7 @@
 import hashlib
 import json
 import shlex
-from collections.abc import Callable
+from collections.abc import Callable, Iterable
 from dataclasses import asdict, dataclass
 from pathlib import Path
 from tempfile import TemporaryDirectory
@@ -74,8 +74,8 @@ def is_answered(question: Question, folder: Path) -> bool:
     return judge(question.options(folder), certificate)[0] is not None
 
 
-def answer(question: Question, folder: Path, look: Callable[[], None] | None = None, stale: list[str] | None = None) -> None:
-    """Solves and checks, and puts files and certificate into the folder; files of these names there are then stale."""
+def answer(question: Question, folder: Path, look: Callable[[], None] | None = None, stale: Iterable[str] = ()) -> None:
+    """Solves and checks, and puts files and certificate into the folder; files of the stale names are removed then."""
     test_values(question.values | question.search)
     require(question.verb, [*question.values, *question.search])
     folder.mkdir(parents=True, exist_ok=True)
@@ -89,7 +89,7 @@ def answer(question: Question, folder: Path, look: Callable[[], None] | None = N
         verdict, said = judge(question.options(work), work / CERTIFICATE)
         if verdict is None:
             raise Fault(f"hub check did not accept what hub {question.verb} wrote: {said}")
-        for name in [ASKED, COSTS, *(stale or [])]:
+        for name in [ASKED, COSTS, *stale]:
             (folder / name).unlink(missing_ok=True)
         for name in [*question.texts, CERTIFICATE]:
             (work / name).replace(folder / name)
@@ -100,7 +100,7 @@ def failure(question: Question, ended: Ended) -> str:
     """Why there is no certificate."""
     said = ended.error or f"status {ended.status}"
     if ended.status == NO_NETWORK:
-        return f"no network keeps to --max-length {question.values.get('max-length', '')}: {said}"
+        return f"no network keeps to the longest route: {said}"
     return f"hub {question.verb} found no network: {said}"
 
 

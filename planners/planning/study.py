@@ -88,6 +88,7 @@ def main(words: list[str]) -> int:
     return 0
 
 
-EPILOG = """FOLDER has then: instance.txt and what belongs to it, certificate.txt, check.txt (what hub check says), the tables
-of network, map.png, page.html, and study.json (the words of hub, for its folder). The same words go on where they were
-stopped: what is solved is checked, and not solved again. Where hub check does not accept, there is one line and no result."""
+EPILOG = """FOLDER has then: instance.txt and what belongs to it, certificate.txt, check.txt (what hub check says), the
+tables of network, map.png, page.html, and study.json (the words of hub, for its folder). The same words go on where
+they were stopped: what is solved is checked, and not solved again. Where hub check does not accept, there is one line
+and no result."""

@@ -58,7 +58,8 @@ def parser() -> Parser:
     words.add_argument(
         "--out", type=Path, required=True, metavar="FOLDER", help="the folder for results.csv and what is done so far"
     )
-    words.add_argument("--solve", action="store_true", help="solve by hub solve, for up to some 25 nodes, not hub optimize")
+    solve = "solve by hub solve, for up to some 25 nodes, not hub optimize"
+    words.add_argument("--solve", action="store_true", help=solve)
     again = "by hub resolve from the row before, where a row differs from it in fixed costs alone; tells the gain"
     words.add_argument("--again", action="store_true", help=again)
     words.add_argument("--jobs", type=int, default=1, metavar="N", help="scenarios side by side (default: 1)")

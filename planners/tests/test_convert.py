@@ -23,11 +23,13 @@ class Kinds(InFolder):
     def test_ap_with_costs_as_a_file_and_as_a_tail(self) -> None:
         self.write("ap", AP)
         self.write("costs", "1200\n1300\n")
-        self.assertEqual(self.convert("ap", "ap", "--costs", "costs"), "hub optimize ap made.txt --costs made.costs.txt")
+        words = "hub optimize ap made.txt --costs made.costs.txt"
+        self.assertEqual(self.convert("ap", "ap", "--costs", "costs"), words)
         self.assertEqual(self.read("made.txt"), AP)
         self.assertEqual(self.read("made.costs.txt"), "1200 1300\n")
         self.assertEqual(self.read("made.names.csv"), "node,name,x,y\n1,1,38,62\n2,2,78,246\n")
-        self.assertEqual(self.convert("ap", "ap", "--costs", "costs", "--tail"), "hub optimize ap made.txt --tail fixed")
+        words = "hub optimize ap made.txt --tail fixed"
+        self.assertEqual(self.convert("ap", "ap", "--costs", "costs", "--tail"), words)
         self.assertEqual(self.read("made.txt"), AP + "1200 1300\n")
 
     def test_ap_with_a_tail_of_costs_into_a_matrix(self) -> None:
@@ -47,7 +49,8 @@ class Kinds(InFolder):
         tail = "    2\r\n  3.000000\r\n  0.750000\r\n  2.000000\r\n"
         self.write("ap", "    3\r\n" + places + rows + tail)
         self.write("costs", "   7.1250\r\n   8.0000\r\n   9.0000\r\n")
-        self.assertEqual(self.convert("ap", "ap", "--costs", "costs"), "hub optimize ap made.txt --costs made.costs.txt")
+        words = "hub optimize ap made.txt --costs made.costs.txt"
+        self.assertEqual(self.convert("ap", "ap", "--costs", "costs"), words)
         words = self.read("made.txt").split()
         self.assertEqual(words[7:16], [flows[i] for i in (0, 2, 1, 1, 0, 2, 2, 1, 0)])
         self.assertEqual(words[16:], ["2", "3.000000", "0.750000", "2.000000"])

@@ -188,7 +188,8 @@ class InABrowser(Districts):
         for down in (True, False):
             head.click()
             wanted.sort(key=lambda row: Decimal(row[3]), reverse=down)
-            self.assertEqual([Decimal(row[3]) for row in self.rows("#trunk-table")], [Decimal(row[3]) for row in wanted])
+            found = [Decimal(row[3]) for row in self.rows("#trunk-table")]
+            self.assertEqual(found, [Decimal(row[3]) for row in wanted])
         hubs = [row["name"] for row in self.table("tables/hubs.csv")]
         self.assertEqual([row[0] for row in self.rows("#hub-table")], hubs)
 

@@ -60,7 +60,7 @@ class Numbers(InFolder):
             ({"candidates": [0, 3]}, "candidates: wanted nodes from 0 to 2, each once, found [0, 3]"),
             ({"names": ["a", "b", "a"]}, "names: wanted 3 names, each once, found 2"),
             ({"trunk": 0.0001}, "trunk: hub keeps 3 decimals, and 0.0001 has more; round it, or say rounded=True"),
-            ({"nodes": 0}, "--nodes: wanted a number of nodes of the tree, a number from 1 to 1000000000000000000, found '0'"),
+            ({"workers": 0}, "--workers: wanted a number of workers, a number from 1 to 64, found '0'"),
         ):
             with self.assertRaises(planning.Fault) as caught:
                 planning.solve(FLOWS, DISTANCES, **words)
@@ -96,7 +96,8 @@ class Installed(InFolder):
     """The package as pip puts it in place, without a network."""
 
     def test_it_solves_and_saves(self) -> None:
-        shutil.copytree(PLANNERS, self.folder / "planners", ignore=shutil.ignore_patterns("tests", "build", "*.egg-info"))
+        left_out = shutil.ignore_patterns("tests", "build", "*.egg-info")
+        shutil.copytree(PLANNERS, self.folder / "planners", ignore=left_out)
         words = ["--no-index", "--no-deps", "--no-build-isolation", "--quiet", "--target", "site", "./planners"]
         ended = subprocess.run(
             [sys.executable, "-m", "pip", "install", *words], cwd=self.folder, capture_output=True, text=True

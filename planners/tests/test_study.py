@@ -98,7 +98,7 @@ class Studies(InFolder):
         for more, line in (
             (["nodes.csv", "wrong.csv", *words[2:]], column),
             ([*words, "--trunk", "4x"], "--trunk: wanted a factor, a number from 0 to 1000, found '4x'"),
-            ([*words, "--candidates", "North"], "--candidates wants names or numbers of nodes, each once, found 'North'"),
+            ([*words, "--candidates", "No"], "--candidates wants names or numbers of nodes, each once, found 'No'"),
             ([*words, "--workers", "0"], "--workers: wanted a number of workers, a number from 1 to 64, found '0'"),
             ([*words[:-1], "."], ".: the tables to read lie in this folder; choose another --out"),
         ):
@@ -109,10 +109,11 @@ class Studies(InFolder):
         words = [*WORDS, "--no-map", "--out", "out"]
         ended = self.script("study", *words)
         before = {name: self.read(f"out/{name}") for name in self.names("out")}
+        none = "hub: no network for 1 2"
         for body, line in (
             ("echo HUBCERT 1; exit 0", "hub check did not accept what hub optimize wrote: no Ended 2"),
             ("echo 'hub: out of memory' >&2; exit 5", "hub optimize found no network: hub: out of memory"),
-            ("echo 'hub: no network for 1 2' >&2; exit 8", "no network keeps to --max-length : hub: no network for 1 2"),
+            ("echo 'hub: no network for 1 2' >&2; exit 8", "no network keeps to the longest route: " + none),
             ("kill -KILL $$", "hub optimize found no network: status -9"),
         ):
             begin = '[ "$1" = optimize ] && [ "$4" != /dev/null ] && [ "$5" != /dev/null ] &&'

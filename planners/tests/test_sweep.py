@@ -80,7 +80,8 @@ class Sweeps(InFolder):
         total = len(self.read("table.csv").splitlines()) - 1
         rows = self.folder / "broken/rows"
         # Once four are done no other ends, however long the stop takes to come.
-        hub = self.program(f'[ "$1" = optimize ] && [ "$(ls {rows} 2>/dev/null | grep -c json)" -ge 4 ] && exec sleep 60')
+        are_done = f'[ "$(ls {rows} 2>/dev/null | grep -c json)" -ge 4 ]'
+        hub = self.program(f'[ "$1" = optimize ] && {are_done} && exec sleep 60')
         self.stop(self.words("broken", *more), hub)
         done = {path: path.read_text() for path in rows.glob("*.json")}
         for out in ("broken", "whole"):
@@ -190,14 +191,15 @@ class Sweeps(InFolder):
             ("fixed\n1\n2\n", ["--again"], "command resolve"),
         ):
             self.write("table.csv", table)
-            self.assert_fault(self.script("sweep", *self.words("out", *more), hub=hub), f"sweep: {hub}: this hub has no {what}")
+            ended = self.script("sweep", *self.words("out", *more), hub=hub)
+            self.assert_fault(ended, f"sweep: {hub}: this hub has no {what}")
         self.assertFalse((self.folder / "out").exists())
 
     def test_no_network_keeps_to_the_longest_route(self) -> None:
         self.write("table.csv", "max_length\n10\n2000\n")
         text = (
-            'short=; for word do shift; case "$word" in --max-length=10) short=1;; --max-length=*) ;; *) set -- "$@" "$word";;'
-            ' esac; done\n[ -z "$short" ] || { echo "hub: no network for 1 2" >&2; exit 8; }\n'
+            'short=; for word do shift; case "$word" in --max-length=10) short=1;; --max-length=*) ;;'
+            ' *) set -- "$@" "$word";; esac; done\n[ -z "$short" ] || { echo "hub: no network for 1 2" >&2; exit 8; }\n'
         )
         ended = self.script("sweep", *self.words("out", "--plain"), hub=self.program(text))
         self.assertEqual((ended.returncode, ended.stderr.splitlines()[-1]), (1, "sweep: row 1: no network for 1 2"))
@@ -257,8 +259,8 @@ class Sweeps(InFolder):
             ),
             (
                 "trunks\n1\n",
-                "table.csv:1: wanted the columns name, collect, trunk, deliver, fixed, hubs, max_length, nodes, workers, format,"
-                " costs, candidates, found 'trunks'",
+                "table.csv:1: wanted the columns name, collect, trunk, deliver, fixed, hubs, max_length, nodes, workers,"
+                " format, costs, candidates, found 'trunks'",
             ),
             ("trunk\n", "table.csv: wanted at least one row"),
         ):

@@ -114,9 +114,13 @@ function sortable(columns, rows, foot = []) {
     return make("th", { class: isNumber ? "number" : "", scope: "col" },
       make("button", { type: "button", onclick: click }, title));
   });
-  const decimals = columns.map(([, isNumber], column) => isNumber ? decimalsOf(rows.map((row) => row.cells[column].text)) : 0);
-  const cell = ({ text, full = null }, column) =>
-    make("td", { class: columns[column][1] ? "number" : "", title: full }, columns[column][1] ? cut(text, decimals[column]) : text);
+  const decimals = columns.map(([, isNumber], column) =>
+    isNumber ? decimalsOf(rows.map((row) => row.cells[column].text)) : null);
+  const cell = ({ text, full = null }, column) => {
+    const isNumber = columns[column][1];
+    const shownText = isNumber ? cut(text, decimals[column]) : text;
+    return make("td", { class: isNumber ? "number" : "", title: full }, shownText);
+  };
   function fill() {
     const sorted = [...rows];
     if (order.column !== null) {
@@ -137,7 +141,8 @@ function sortable(columns, rows, foot = []) {
   const table = make("table", {}, make("thead", {}, make("tr", {}, ...heads)), body);
   if (foot.length) table.append(make("tfoot", {}, make("tr", {}, ...foot.map(cell))));
   if (rows.length <= MOST_ROWS) return [table];
-  return [table, make("p", { class: "small" }, `the first ${readable(MOST_ROWS)} of ${readable(rows.length)} rows, as sorted`)];
+  const told = `the first ${readable(MOST_ROWS)} of ${readable(rows.length)} rows, as sorted`;
+  return [table, make("p", { class: "small" }, told)];
 }
 
 // ---- the map: sizes and places
@@ -232,11 +237,13 @@ function addLine(layer, line, kind, widest, most, isFaint) {
   lines.push({ element: hit, line });
 }
 
+const KINDS = { spoke: "to and from a hub", trunk: "trunk",
+  first: "to the first hub", middle: "trunk", last: "from the last hub" };
+
 function linkText(line, kind) {
-  const what = { spoke: "to and from a hub", trunk: "trunk", first: "to the first hub", middle: "trunk", last: "from the last hub" }[kind];
   const [low, high] = [data.names[line.low], data.names[line.high]];
   const ways = [[low, high, line.there], [high, low, line.back]].filter(([, , flow]) => flow > 0);
-  return [what, ...ways.map(([start, stop, flow]) => `${start} → ${stop}: ${flowText(flow)}`)].join("\n");
+  return [KINDS[kind], ...ways.map(([start, stop, flow]) => `${start} → ${stop}: ${flowText(flow)}`)].join("\n");
 }
 
 function drawLines() {
@@ -278,7 +285,8 @@ const marks = [...nodes]
   });
 
 function nodeText(node) {
-  const text = [data.names[node] + (isHub.has(node) ? ", hub" : ""), `flow out ${flowText(out[node])}`, `flow in ${flowText(into[node])}`];
+  const text = [data.names[node] + (isHub.has(node) ? ", hub" : "")];
+  text.push(`flow out ${flowText(out[node])}`, `flow in ${flowText(into[node])}`);
   if (isHub.has(node)) {
     const row = data.hubRows[hubs.indexOf(node)];
     text.push(`collects ${readable(row.collected)}`, `delivers ${readable(row.delivered)}`);
@@ -290,8 +298,9 @@ function placeMarks() {
   for (const [node, mark] of marks) {
     const [x, y] = spot(node);
     const r = radius(node);
-    const state = (shown.place === node ? " selected" : "") + (shown.origins && !shown.origins.has(node) ? " unserved" : "");
-    mark.setAttribute("class", "node" + (isHub.has(node) ? " hub" : "") + state);
+    mark.setAttribute("class", isHub.has(node) ? "node hub" : "node");
+    mark.classList.toggle("selected", shown.place === node);
+    mark.classList.toggle("unserved", shown.origins !== null && !shown.origins.has(node));
     const shape = isHub.has(node) ? { x: x - r, y: y - r, width: 2 * r, height: 2 * r } : { cx: x, cy: y, r };
     for (const [key, value] of Object.entries(shape)) mark.setAttribute(key, value.toFixed(1));
   }
@@ -355,7 +364,8 @@ function bestBox(node, x, y, forced, hits) {
 function strongTrunks() {
   const drawnTrunks = lines.filter(({ element }) => /trunk|middle/.test(element.getAttribute("class")));
   const most = Math.max(...drawnTrunks.map(({ line }) => line.flow), 0);
-  return drawnTrunks.filter(({ line }) => line.flow >= most / 4).map(({ line }) => [...spot(line.low), ...spot(line.high)]);
+  return drawnTrunks.filter(({ line }) => line.flow >= most / 4)
+    .map(({ line }) => [...spot(line.low), ...spot(line.high)]);
 }
 
 // Whether a line from end to end lies on a box, by cutting it to the box.
@@ -409,10 +419,12 @@ function legend(someLeftOut, mostTrunk, trunks, spokes) {
   drawn("rect", { class: "node hub", x: 2, y: 2, width: 12, height: 12 }, square);
   entries.push(make("span", {}, square, "hub"));
   if (shown.place !== null) {
-    entries.push(line("first", 4, "to the first hub"), line("middle", 4, "trunk"), line("last", 4, "from the last hub"));
+    entries.push(...["first", "middle", "last"].map((kind) => line(kind, 4, KINDS[kind])));
   } else {
-    if (trunks) for (const flow of round(mostTrunk)) entries.push(line("trunk", Math.max(0.5, style.trunk * flow / mostTrunk), `trunk ${short(flow)}`));
-    if (spokes) entries.push(line("spoke", style.spoke, "to and from a hub" + (someLeftOut ? ` (from ${100 * style.share}% of a place's flow)` : "")));
+    for (const flow of trunks ? round(mostTrunk) : [])
+      entries.push(line("trunk", Math.max(0.5, style.trunk * flow / mostTrunk), `trunk ${short(flow)}`));
+    const part = someLeftOut ? ` (from ${100 * style.share}% of a place's flow)` : "";
+    if (spokes) entries.push(line("spoke", style.spoke, KINDS.spoke + part));
   }
   if (data.note) entries.push(make("span", {}, data.note));
   at("legend").replaceChildren(...entries);
@@ -452,14 +464,25 @@ const chosenPairsOfPlace = () => nodes.map((other) => shown.from ? [shown.place,
 
 function loads(hub) {
   const row = data.hubRows[hubs.indexOf(hub)];
-  const facts = [["collects, as first hub", row.collected], ["delivers, as last hub", row.delivered], ["fixed cost", row.fixed]];
-  const table = make("table", { id: "loads" }, make("tbody", {}, ...facts.map(([text, value]) =>
-    make("tr", {}, make("td", {}, text), make("td", { class: "number", title: readableWhole(value) }, readable(value))))));
+  const facts = [["collects, as first hub", row.collected], ["delivers, as last hub", row.delivered],
+    ["fixed cost", row.fixed]];
+  const table = make("table", { id: "loads" }, make("tbody", {}, ...facts.map(([text, value]) => {
+    const amount = make("td", { class: "number", title: readableWhole(value) }, readable(value));
+    return make("tr", {}, make("td", {}, text), amount);
+  })));
   const rows = data.trunkRows.filter(([start, stop]) => start === hub || stop === hub)
     .map(([start, stop, flow, cost]) => ({ cells: [name(start), name(stop), number(flow), number(cost)] }));
   const trunks = make("div", { class: "table", id: "loads-trunks" },
     ...sortable([["Trunk from", false], ["to", false], ["Flow", true], ["Cost", true]], rows));
   return rows.length ? [table, trunks] : [table];
+}
+
+// A click on the row of a route shows it alone, a second one all again.
+function showRoute(row, pair) {
+  const isNew = !row.classList.contains("shown");
+  for (const other of row.parentElement.children) other.classList.toggle("shown", isNew && other === row);
+  shown.route = isNew ? pair : null;
+  draw();
 }
 
 // The routes of these pairs; a click on one shows it alone. The other end comes first where one place is chosen.
@@ -470,16 +493,14 @@ function routeTable(pairs, withOrigin) {
     cost += units(costs[i][j]);
     const ends = withOrigin ? [name(i), name(j)] : [name(shown.from ? j : i)];
     const [k, m] = ways[i][j];
-    const click = (line) => {
-      for (const other of line.parentElement.children) other.classList.toggle("shown", other === line && !line.classList.contains("shown"));
-      shown.route = line.classList.contains("shown") ? [i, j] : null;
-      draw();
-    };
-    return { cells: [...ends, name(k), name(m), number(flows[i][j]), number(costs[i][j])], click: withOrigin ? null : click };
+    const cells = [...ends, name(k), name(m), number(flows[i][j]), number(costs[i][j])];
+    return { cells, click: withOrigin ? null : (line) => showRoute(line, [i, j]) };
   });
   const titles = withOrigin ? ["Origin", "Destination"] : [shown.from ? "Destination" : "Origin"];
-  const columns = [...titles.map((title) => [title, false]), ["First hub", false], ["Last hub", false], ["Flow", true], ["Cost", true]];
-  const sums = [{ text: "together" }, ...columns.slice(1, -2).map(() => ({ text: "" })), number(decimal(flow)), number(decimal(cost))];
+  const texts = [...titles, "First hub", "Last hub"].map((title) => [title, false]);
+  const columns = [...texts, ["Flow", true], ["Cost", true]];
+  const empty = columns.slice(1, -2).map(() => ({ text: "" }));
+  const sums = [{ text: "together" }, ...empty, number(decimal(flow)), number(decimal(cost))];
   return [make("div", { class: "table", id: "routes" }, ...sortable(columns, rows, sums))];
 }
 
@@ -489,13 +510,15 @@ function parts() {
   const colors = { collection: "#d07a00", trunk: "#1f3b63", delivery: "#2e8b57", fixed: "#c8401f" };
   const all = Number(data.total) || 1;
   const share = (cost) => (100 * Number(cost) / all).toFixed(1) + "%";
+  const decimals = decimalsOf([data.total]);
   at("bar").append(...data.parts.map(([part, cost]) =>
-    make("div", { style: `flex: ${Number(cost) / all} 0 0; background: ${colors[part]}`, title: `${part}: ${readable(cost)}` })));
+    make("div", { style: `flex: ${Number(cost) / all} 0 0; background: ${colors[part]}`, title: part })));
   at("amounts").append(
-    ...data.parts.map(([part, cost]) => make("span", { title: cost },
-      make("span", { class: "mark", style: `background: ${colors[part]}` }), `${part} ${readable(cost)} (${share(cost)})`)),
-    make("strong", { title: data.total }, `total ${readable(data.total)}`),
-    make("span", { title: data.bound }, `bound ${readable(data.bound)}`));
+    ...data.parts.map(([part, cost]) => make("span", { title: readableWhole(cost) },
+      make("span", { class: "mark", style: `background: ${colors[part]}` }),
+      `${part} ${cut(cost, decimals)} (${share(cost)})`)),
+    make("strong", { title: readableWhole(data.total) }, `total ${cut(data.total, decimals)}`),
+    make("span", { title: readableWhole(data.bound) }, `bound ${cut(data.bound, decimals)}`));
 }
 
 function tables() {
@@ -503,7 +526,8 @@ function tables() {
     cells: [name(hubs[place]), number(row.fixed), number(row.collected), number(row.delivered)],
     click: () => choose(hubs[place]),
   }));
-  at("hub-table").append(...sortable([["Hub", false], ["Fixed cost", true], ["Collects", true], ["Delivers", true]], hubRows));
+  const columns = [["Hub", false], ["Fixed cost", true], ["Collects", true], ["Delivers", true]];
+  at("hub-table").append(...sortable(columns, hubRows));
   const trunkRows = data.trunkRows.map(([start, stop, flow, cost]) =>
     ({ cells: [name(start), name(stop), number(flow), number(cost)] }));
   at("trunk-table").append(...sortable([["From", false], ["To", false], ["Flow", true], ["Cost", true]], trunkRows));
@@ -535,7 +559,8 @@ function chooseOrigins(chosen) {
 
 function startOrigins() {
   const list = at("chosen");
-  const options = nodes.map((node) => make("option", { value: node }, data.names[node] + (isHub.has(node) ? " (hub)" : "")));
+  const options = nodes.map((node) =>
+    make("option", { value: node }, data.names[node] + (isHub.has(node) ? " (hub)" : "")));
   list.append(...options);
   list.addEventListener("change", () => chooseOrigins([...list.selectedOptions].map((option) => Number(option.value))));
   at("all").addEventListener("click", () => {
@@ -597,7 +622,11 @@ function startZoom() {
   addEventListener("pointerup", () => {
     picture.classList.remove("moving");
     // The click that ends a move chooses nothing.
-    if (held && held.moved) addEventListener("click", (event) => event.stopPropagation(), { capture: true, once: true });
+    const stop = (event) => event.stopPropagation();
+    if (held && held.moved) {
+      addEventListener("click", stop, true);
+      setTimeout(() => removeEventListener("click", stop, true));
+    }
     held = null;
   });
   background.addEventListener("click", () => { if (shown.place !== null) choose(null); });
