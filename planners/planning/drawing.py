@@ -39,6 +39,8 @@ class Style:
     largest: float
     """The radius of the node with the most flow."""
     smallest: float
+    hub: float
+    """The least radius of a hub, which may have little flow of its own."""
     trunk: float
     """The width of the trunk with the most flow."""
     spoke: float
@@ -50,10 +52,10 @@ class Style:
 def style_for(size: int) -> Style:
     """Many nodes are drawn smaller, and without their weakest spokes."""
     if size <= 30:
-        return Style(11, 2.5, 8, 1.6, 8, 0)
+        return Style(11, 2.5, 2.5, 8, 1.6, 8, 0)
     if size <= 80:
-        return Style(8, 1.8, 6, 1.2, 7, 0.05)
-    return Style(6, 1.2, 5, 0.9, 6, 0.15)
+        return Style(8, 1.8, 3, 6, 1.2, 7, 0.05)
+    return Style(6, 1.2, 3, 5, 0.9, 6, 0.15)
 
 
 def both_ways(links: list[Links]) -> dict[tuple[int, int], float]:
@@ -90,6 +92,10 @@ class Map:
         most = self.flow.max() or 1
         return max(self.style.smallest, self.style.largest * sqrt(flow / most))
 
+    def radius_of(self, node: int) -> float:
+        """The radius of a node, by its flow; a hub's is never too small to be seen."""
+        return max(self.radius(self.flow[node]), self.style.hub if node in self.hubs else 0)
+
     def draw(self, axes: Axes) -> None:
         """Lines first, then marks, then names."""
         drawn = {pair: flow for pair, flow in self.spokes.items() if self.is_strong(pair, flow)}
@@ -102,7 +108,7 @@ class Map:
             hub = node in self.hubs
             axes.scatter(
                 *self.places[node],
-                s=(2 * self.radius(self.flow[node])) ** 2,
+                s=(2 * self.radius_of(node)) ** 2,
                 marker="s" if hub else "o",
                 color=HUB if hub else NODE,
                 edgecolors="white",
@@ -132,7 +138,7 @@ class Map:
         """Few names in any case; of many those that find room, hubs before others, the most flow first."""
         axes.figure.canvas.draw()
         nodes = [
-            Node(tuple(self.places[node]), self.radius(self.flow[node]), node in self.hubs) for node in range(self.size)
+            Node(tuple(self.places[node]), self.radius_of(node), node in self.hubs) for node in range(self.size)
         ]
         most = max(self.trunks.values(), default=0)
         strong = [self.places[list(pair)] for pair, flow in self.trunks.items() if flow >= STRONG * most]

@@ -69,8 +69,9 @@ def is_answered(question: Question, folder: Path) -> bool:
     asked, certificate = folder / ASKED, folder / CERTIFICATE
     if not asked.is_file() or not certificate.is_file() or asked.read_text(encoding="utf-8") != question.asked():
         return False
-    if any((folder / name).read_text(encoding="utf-8") != text for name, text in question.texts.items()):
-        return False
+    for name, text in question.texts.items():
+        if not (folder / name).is_file() or (folder / name).read_text(encoding="utf-8") != text:
+            return False
     return judge(question.options(folder), certificate)[0] is not None
 
 

@@ -8,7 +8,7 @@ from pathlib import Path
 def main() -> int:
     """The status is 0 where no test failed."""
     here = Path(__file__).resolve().parent
-    suite = unittest.defaultTestLoader.discover(str(here), top_level_directory=str(here.parent))
+    suite = unittest.defaultTestLoader.discover(str(here), top_level_dir=str(here.parent))
     result = unittest.TextTestRunner(verbosity=0).run(suite)
     for test, reason in result.skipped:
         print(f"planners: skipped {test.id()}: {reason}", file=sys.stderr)

@@ -4,6 +4,7 @@ import os
 import pty
 import subprocess
 import sys
+import time
 
 from .helper import INSTANCES, PLANNERS, InFolder, environment, needs
 from planning.program import program
@@ -66,6 +67,23 @@ class Studies(InFolder):
         self.assertEqual(self.script("study", *words, "--solve", "--fixed=5", hub=hub).returncode, 0)
         self.assertEqual(self.read("asked").split().count("solve"), 2)
         self.assertNotIn("instance.costs.txt", self.names("out"))
+
+    def test_stopped_and_taken_up_again(self) -> None:
+        asked = '[ "$4" = /dev/null ] || [ "$1" = check ] || exec sleep 60'
+        hub = self.standin("slow-hub", f'{asked}\nexec {program()} "$@"\n')
+        command = [sys.executable, str(PLANNERS / "study"), *WORDS, "--no-map", "--out", "out"]
+        with subprocess.Popen(
+            command, cwd=self.folder, env=environment(hub), stdout=subprocess.PIPE, stderr=subprocess.PIPE, text=True
+        ) as process:
+            until = time.monotonic() + 60
+            while not list(self.folder.glob("out/.at-work-*/certificate.txt")) and time.monotonic() < until:
+                time.sleep(0.05)
+            process.terminate()
+            told = process.communicate()
+        self.assertEqual((process.returncode, *told), (130, "", "study: stopped\n"))
+        self.assertEqual(self.names("out"), [])
+        self.assertEqual(self.script("study", *command[2:]).returncode, 0)
+        self.assertIn("certificate.txt", self.names("out"))
 
     def test_a_bound_is_an_answer(self) -> None:
         text = (INSTANCES / "towns-nodes.csv").read_text()
