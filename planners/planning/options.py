@@ -21,6 +21,24 @@ QUANTITIES = {
 }
 """The options of hub whose value is a number, of the instance and of the search."""
 LAYOUTS = ["cab-matrix", "cab-rows", "ap"]
+TOLD = {
+    "order": ("ORDER", "flow-first or distance-first, of cab-matrix"),
+    "tail": ("TAIL", "ignore or fixed, of ap"),
+    "divide": ("D", "divides the distances"),
+    "collect": ("X", "the factor of collection"),
+    "trunk": ("X", "the factor of the trunk"),
+    "deliver": ("X", "the factor of delivery"),
+    "fixed": ("X", "the fixed cost of every node"),
+    "costs": ("FILE", "a file with a fixed cost for each node"),
+    "candidates": ("LIST", "which nodes may be hubs: numbers with commas between"),
+    "hubs": ("P", "just so many hubs"),
+    "max-length": ("R", "no route is longer"),
+    "workers": ("W", "so many workers share the work"),
+    "format": ("F", "the format of the certificate"),
+}
+"""What the help of a script says of each option of hub that takes a value."""
+NOT_IN_EACH = {"hubs": "1", "max-length": "1", "format": "1"}
+"""Options that not each version of `hub` has, with a value by which it is asked."""
 FACTORS = ["collect", "trunk", "deliver"]
 VALUED = ["order", "tail", "divide", *FACTORS, "fixed", "costs", "candidates", "hubs", "max-length"]
 """The names of the options that take a value."""
@@ -57,13 +75,15 @@ def add_options(parser: Parser) -> None:
     parser.add_argument("file", type=Path, help="the instance")
     group = parser.add_argument_group("options of the instance", "as for hub")
     add_valued(group, VALUED)
-    group.add_argument("--no-self", action="store_true")
+    group.add_argument("--no-self", action="store_true", help="flows from a node to itself count as 0")
 
 
 def add_valued(group: argparse._ArgumentGroup, names: list[str]) -> None:
     """Puts options of hub that take a value on a command line."""
     for name in names:
-        group.add_argument(f"--{name}", metavar=name.upper().replace("-", "_"))
+        letter, what = TOLD[name]
+        later = "" if name not in NOT_IN_EACH else ", where this hub has the option"
+        group.add_argument(f"--{name}", metavar=letter, help=what + later)
 
 
 def values_of(args: argparse.Namespace, names: list[str]) -> dict[str, str]:

@@ -10,12 +10,10 @@ from functools import cache
 from pathlib import Path
 
 from .faults import Fault
-from .options import Options
+from .options import NOT_IN_EACH, Options
 from .quantities import COST_PLACES, decimal
 
 
-NOT_IN_EACH = {"hubs": "1", "max-length": "1", "format": "1"}
-"""Options that not each version of `hub` has, with a value by which it is asked."""
 USAGE = 3
 """The status with which `hub` refuses words, before it opens any file."""
 NO_NETWORK = 8

@@ -32,7 +32,7 @@ def parser() -> Parser:
     add_valued(group, OF_INSTANCE)
     several = "which nodes may be hubs: names or numbers with commas between"
     group.add_argument("--candidates", metavar="LIST", help=several)
-    group.add_argument("--no-self", action="store_true")
+    group.add_argument("--no-self", action="store_true", help="flows from a node to itself count as 0")
     group.add_argument("--nodes", dest="tree_nodes", metavar="N", help="stop the search at so many nodes, with a bound")
     add_valued(group, OF_SEARCH)
     group.add_argument("--solve", action="store_true", help="by hub solve, for up to some 25 nodes, not hub optimize")
