@@ -12,7 +12,7 @@ from .files import put_all
 from .loads import FIXED_UNITS, Network
 from .options import options_of
 from .program import short
-from .quantities import gap
+from .quantities import decimal, gap
 from .tables import Named, add_accepted, cost_text, flow_text, read_named
 
 if TYPE_CHECKING:
@@ -82,10 +82,10 @@ def verdict_text(named: Named) -> str:
     verdict = named.verdict
     if verdict.is_optimal():
         return f"Proved optimal: this network costs {short(verdict.cost)}, and none costs less."
-    part = gap(verdict.cost, verdict.bound)
+    part = decimal(int(gap(verdict.cost, verdict.bound).replace(".", "")), 4)
     return (
         f"Not proved optimal: this network costs {short(verdict.cost)}, and none costs less than"
-        f" {short(verdict.bound)}; the gap is {part} of the cost."
+        f" {short(verdict.bound)}; the gap is {part} % of the cost."
     )
 
 

@@ -360,9 +360,10 @@ function bestBox(node, x, y, forced, hits) {
   return best;
 }
 
-// The stronger trunks that are drawn, each by the places of its ends.
+// The stronger trunks that are drawn and not faint, each by the places of its ends.
 function strongTrunks() {
-  const drawnTrunks = lines.filter(({ element }) => /trunk|middle/.test(element.getAttribute("class")));
+  const kind = shown.place === null ? "trunk" : "middle";
+  const drawnTrunks = lines.filter(({ element }) => element.classList.contains(kind));
   const most = Math.max(...drawnTrunks.map(({ line }) => line.flow), 0);
   return drawnTrunks.filter(({ line }) => line.flow >= most / 4)
     .map(({ line }) => [...spot(line.low), ...spot(line.high)]);
