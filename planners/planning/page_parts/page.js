@@ -157,11 +157,8 @@ const style = size <= 30 ? { largest: 15, smallest: 4, trunk: 11, spoke: 2.2, te
 const MARGIN = 44;
 const SIDES = [[1, 0], [-1, 0], [0, 1], [0, -1], [1, 1], [1, -1], [-1, 1], [-1, -1]];
 const ALL_NAMED = 30;
-<<<<<<< HEAD
-=======
 // How far from its mark a name stands, in pixels, where there is room.
 const NEAR = 3;
->>>>>>> 7d9cfdc4a4515213b644529e64dad7e58608cdf0
 const canvas = document.createElement("canvas").getContext("2d");
 
 function frame() {
@@ -337,16 +334,12 @@ function placeNames() {
     const best = bestBox(node, x, y, forced, hits);
     if (best.hidden >= 1 && !forced) continue;
     taken.push(best.box);
-<<<<<<< HEAD
-    const [left, top, , bottom] = best.box;
-=======
     const [left, top, right, bottom] = best.box;
     if (best.away > NEAR) {
       // A name that stands farther away is led to.
       const [x2, y2] = [Math.min(right, Math.max(left, x)), Math.min(bottom, Math.max(top, y))];
       drawn("line", { class: "leader", x1: x, y1: y, x2, y2 }, layers.texts);
     }
->>>>>>> 7d9cfdc4a4515213b644529e64dad7e58608cdf0
     const attributes = { class: "name" + (isHub.has(node) ? " hub" : ""), x: left.toFixed(1),
       y: (bottom - (bottom - top) * 0.24).toFixed(1), "font-size": fontOf(node) };
     drawn("text", attributes, layers.texts).textContent = data.names[node];
@@ -360,22 +353,14 @@ function bestBox(node, x, y, forced, hits) {
   const wide = canvas.measureText(data.names[node]).width + 2;
   const high = fontOf(node) * 1.15;
   let best = { hidden: Infinity };
-<<<<<<< HEAD
-  for (const away of forced ? [3, 14, 26] : [3]) {
-=======
   for (const away of forced ? [NEAR, 14, 26] : [NEAR]) {
->>>>>>> 7d9cfdc4a4515213b644529e64dad7e58608cdf0
     for (const [across, up] of SIDES) {
       const reach = (radius(node) + away) * (across && up ? 0.75 : 1);
       const left = x + across * reach - wide * (1 - across) / 2;
       const top = y - up * reach - high * (1 + up) / 2;
       const box = [left, top, left + wide, top + high];
       const hidden = hits(box);
-<<<<<<< HEAD
-      if (hidden < best.hidden) best = { box, hidden };
-=======
       if (hidden < best.hidden) best = { box, hidden, away };
->>>>>>> 7d9cfdc4a4515213b644529e64dad7e58608cdf0
     }
     if (best.hidden === 0) break;
   }
