@@ -1,0 +1,102 @@
+//! Bounds of branches under weights on cuts, whether they close targets, and what they fix.
+
+ghost use Rattle.std.specs.Prelude.{◌≡◌, vec_len, map};
+ghost use Rattle.leaf_bound.specs.Numbers.{AreWeightingNumbers, IsBranchBelow};
+
+use crate::fields::{Lent, branch, cuts_of, numbers, parted};
+use crate::weighing::serve;
+use hub_fixing::fix;
+use leaf_bound::{bound, closes, gain};
+use plan_model::Branch;
+use std::alloc::{AllocError, Global};
+
+// The greatest target that there may be.
+const MOST_TARGET: i128 = 1_000_000_000_000_000_000_000_000_000_000;
+
+/// The bound of the line's branch, the gain of each node, and for each target whether the bound closes it, and else
+/// which candidates it fixes.
+pub(crate) fn told(alloc: Global, text: &str) -> Result<String, AllocError> {
+    let (signs, rest) = parted(text, ';');
+    let (targets, rest) = parted(rest, ';');
+    let (weights, rest) = parted(rest, ';');
+    let targets = numbers(alloc, targets)?;
+    let weights = numbers(alloc, weights)?;
+    let lent = cuts_of(alloc, rest)?;
+    match branch(alloc, signs.trim())? {
+        Some(branch) => weighed(alloc, &lent, &weights, &branch, &targets),
+        None => String::from_str(alloc, "no branch\n"),
+    }
+}
+
+// The same of these cuts, weights with the denominator behind them, and branch.
+fn weighed(
+    alloc: Global,
+    lent: &Lent,
+    weights: &[i128],
+    branch: &Branch,
+    targets: &[i128],
+) -> Result<String, AllocError> {
+    let [weights @ .., denom] = weights else {
+        return String::from_str(alloc, "no denominator\n");
+    };
+    if !serve(lent, weights, *denom, branch) {
+        return String::from_str(alloc, "no weighting\n");
+    }
+    let mut told = String::new(alloc);
+    tell_bound(alloc, &mut told, lent, weights, *denom, branch)?;
+    for target in targets {
+        tell_target(alloc, &mut told, lent, weights, *denom, branch, *target)?;
+    }
+    Ok(told)
+}
+
+fn tell_bound(
+    alloc: Global,
+    told: &mut String,
+    lent: &Lent,
+    weights: &[i128],
+    denom: i128,
+    branch: &Branch,
+) -> Result<(), AllocError>
+    requires numbers { AreWeightingNumbers lent.now.totals.items (map (λ v. v.items) lent.now.loads.items) lent.now.fixed.items weights.now denom }
+    requires nodes { IsBranchBelow (vec_len lent.now.fixed) branch.now }
+{
+    let Lent {
+        totals,
+        loads,
+        fixed,
+    } = lent;
+    let bound = bound(totals, loads, fixed, weights, denom, branch);
+    let mut gains = Vec::new(alloc);
+    for k in 0..fixed.len() as u32 {
+        gains.push(gain(totals, loads, fixed, weights, denom, k))?;
+    }
+    writeln!(told, "bound {bound}, gains {gains:?}")
+}
+
+fn tell_target(
+    alloc: Global,
+    told: &mut String,
+    lent: &Lent,
+    weights: &[i128],
+    denom: i128,
+    branch: &Branch,
+    target: i128,
+) -> Result<(), AllocError>
+    requires numbers { AreWeightingNumbers lent.now.totals.items (map (λ v. v.items) lent.now.loads.items) lent.now.fixed.items weights.now denom }
+    requires nodes { IsBranchBelow (vec_len lent.now.fixed) branch.now }
+{
+    let Lent {
+        totals,
+        loads,
+        fixed,
+    } = lent;
+    if target < 0 || target > MOST_TARGET {
+        return writeln!(told, "{target} is no target");
+    }
+    if closes(totals, loads, fixed, weights, denom, branch, target) {
+        return writeln!(told, "closes {target}");
+    }
+    let sides = fix(alloc, totals, loads, fixed, weights, denom, branch, target)?;
+    writeln!(told, "leaves {target} open, fixes {sides:?}")
+}
