@@ -9,10 +9,9 @@ ghost use Rattle.kept_cuts.specs.Kept.{kept_of, by_values};
 ghost use Rattle.closing_search.specs.SingleCuts.{AreLoads};
 ghost use Rattle.closing_search.specs.Benches.{IsPricingFor};
 
-use hub_model::Instance;
+use hub_model::{HubSet, Instance};
 use kept_cuts::{KeptCut, PackedValues};
 use pareto_cuts::Scratch;
-use plan_model::HubSet;
 use std::alloc::{AllocError, Global};
 use std::marker::Model;
 use value_cuts::{CandidateLegs, PriceScratch, Values};

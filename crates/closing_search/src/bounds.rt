@@ -11,8 +11,7 @@ ghost use Rattle.closing_search.specs.SingleCuts.{AreSumsOf, AreLoads, cut_bound
 
 use crate::progress::Progress;
 use crate::task::Task;
-use hub_model::signed;
-use plan_model::Branch;
+use hub_model::{Branch, signed};
 use std::alloc::{AllocError, Global};
 
 /// The denominator of every leaf.

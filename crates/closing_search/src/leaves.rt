@@ -5,7 +5,7 @@ ghost use Rattle.hub_spec.specs.Limits.{most_cost};
 ghost use Rattle.hub_spec.specs.Problem.{opening_cost};
 ghost use Rattle.hub_spec.specs.Plans.{IsHubSet, IsSetCost};
 ghost use Rattle.hub_spec.specs.Trees.{IsBranch, leaf_of, leaf_bound, cut_at};
-ghost use Rattle.plan_model.specs.Lines.{tree_line_of};
+ghost use Rattle.hub_model.specs.Lines.{tree_line_of};
 ghost use Rattle.leaf_bound.specs.Weighing.{most_bound, IsWithin};
 ghost use Rattle.search_spec.specs.States.{denominator, whole_on, rounded_up};
 ghost use Rattle.search_spec.specs.Findings.{IsSpent};
@@ -17,10 +17,9 @@ use crate::bounds::{DENOMINATOR, bare_bound, is_above, kept_bound};
 use crate::keeping::keep;
 use crate::progress::{Progress, end_with, lesser, offer, target};
 use crate::task::Task;
-use hub_model::unsigned;
+use hub_model::{Branch, HubSet, Mix, TreeLine, unsigned};
 use hub_plain::outside;
 use kept_cuts::KeptCut;
-use plan_model::{Branch, HubSet, Mix, TreeLine};
 use std::alloc::{AllocError, Global};
 
 /// So many of the newest kept cuts are tried at a branch before advice is asked for.

@@ -6,9 +6,10 @@
 //! does not, the search branches. A branch with nothing free ends on the cut of its own hubs. With a most number of nodes
 //! the search stops where two more are not allowed, and each branch that is left becomes a leaf.
 //!
-//! Who calls hands in the advice (`price_passes`), of which nothing is trusted. Each step keeps what `Progressing` of the specs says: the lines lead from the root
-//! to the branches that are still to be filled (`tree_walks`), and the incumbent has its cost. `Bench` is what a search
-//! works with, `Progress` what it has. Costs are in 10^-12; nodes are `u32`, counted from 0, cuts are counted from 1.
+//! Who calls hands in the advice, of which nothing is trusted. Each step keeps what `Progressing` of the specs says: the
+//! lines lead from the root to the branches that are still to be filled (`tree_walks`), and the incumbent has its cost.
+//! `Desk` is what a search works with, `Bench` for what is exact and `Guide` for advice; `Progress` is what it has. Costs
+//! are in 10^-12; nodes are `u32`, counted from 0, cuts are counted from 1.
 #![tactic(auto)]
 
 mod advising;

@@ -1,5 +1,4 @@
-use Rattle.std.proofs.Common.{List, sym, subst, ◌∙◌}
-use Rattle.std.specs.Prelude.{ℕ}
+use Rattle.std.proofs.Common.{sym, subst, ◌∙◌}
 use Rattle.hub_spec.specs.Plans.{IsHubSet}
 use Rattle.closing_search.proofs.SetLeaves.{inside_set}
 use Rattle.closing_search.proofs.leaves.ordered_set.Goals as goal

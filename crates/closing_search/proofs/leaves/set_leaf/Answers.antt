@@ -1,7 +1,6 @@
 use Rattle.std.proofs.Common.{◌≤◌, ◌+◌, sym, subst, ◌∙◌, arith}
 use Rattle.std.proofs.lemmas.Result.{on_ok_weaker}
-use Rattle.hub_spec.specs.Problem.{Problem, opening_cost}
-use Rattle.hub_spec.specs.Plans.{IsHubSet}
+use Rattle.hub_spec.specs.Problem.{opening_cost}
 use Rattle.hub_spec.specs.Cuts.{Cut}
 use Rattle.search_spec.proofs.Invariants.{lesser_least}
 use Rattle.closing_search.specs.Progressing.{target_of}
