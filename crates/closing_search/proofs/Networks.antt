@@ -16,7 +16,7 @@ use Rattle.hub_spec.proofs.Limits.{AreNodes, few_candidates, hubs_are_nodes, lea
 use Rattle.hub_spec.proofs.Preorders.{length-preorder}
 use Rattle.hub_spec.proofs.SetCosts.{plan_of_least, set_cost_is, one_set_cost}
 use Rattle.hub_spec.proofs.WeakDuality.{no_plan_below_bound}
-use Rattle.hub_model.specs.Lines.{tree_line_of}
+use Rattle.plan_model.specs.Lines.{tree_line_of}
 use Rattle.search_spec.specs.States.{lesser}
 use Rattle.search_spec.specs.Findings.{AreWithin, IsSpent}
 use Rattle.search_spec.proofs.Invariants.{lesser_least}

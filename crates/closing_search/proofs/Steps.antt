@@ -8,8 +8,8 @@ use Rattle.hub_spec.specs.Plans.{IsHubSet, IsSetCost}
 use Rattle.hub_spec.specs.Cuts.{Cut}
 use Rattle.hub_spec.specs.Trees.{Branching, root, open_child, closed_child, TreeLine, branch_on}
 use Rattle.hub_spec.specs.Ranges.{IsLineInRange}
-use Rattle.hub_model.specs.declared.tree_lines.TreeLine as model
-use Rattle.hub_model.specs.Lines.{tree_line_of}
+use Rattle.plan_model.specs.declared.tree_lines.TreeLine as model
+use Rattle.plan_model.specs.Lines.{tree_line_of}
 use Rattle.search_spec.specs.States.{lesser}
 use Rattle.search_spec.specs.Findings.{AreWithin, IsSpent}
 use Rattle.search_spec.proofs.Invariants.{lesser_less}

@@ -9,7 +9,8 @@ ghost use Rattle.kept_cuts.specs.Kept.{kept_of, by_values};
 ghost use Rattle.closing_search.specs.SingleCuts.{AreLoads};
 ghost use Rattle.closing_search.specs.Benches.{IsPricingFor};
 
-use hub_model::{HubSet, Instance};
+use hub_model::Instance;
+use plan_model::HubSet;
 use kept_cuts::{KeptCut, PackedValues};
 use pareto_cuts::Scratch;
 use std::alloc::{AllocError, Global};

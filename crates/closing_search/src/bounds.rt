@@ -11,7 +11,8 @@ ghost use Rattle.closing_search.specs.SingleCuts.{AreSumsOf, AreLoads, cut_bound
 
 use crate::progress::Progress;
 use crate::task::Task;
-use hub_model::{Branch, signed};
+use hub_model::signed;
+use plan_model::Branch;
 use std::alloc::{AllocError, Global};
 
 /// The denominator of every leaf.

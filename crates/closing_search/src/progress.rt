@@ -4,14 +4,15 @@ ghost use Rattle.std.specs.Prelude.{◌≡◌, ◌+◌, ◌≤◌, IsTrue, false
 ghost use Rattle.hub_spec.specs.Plans.{IsHubSet, IsSetCost};
 ghost use Rattle.hub_spec.specs.Trees.{IsBranch};
 ghost use Rattle.hub_spec.specs.Ranges.{IsLineInRange};
-ghost use Rattle.hub_model.specs.Lines.{tree_line_of};
+ghost use Rattle.plan_model.specs.Lines.{tree_line_of};
 ghost use Rattle.search_spec.specs.States.{lesser};
 ghost use Rattle.search_spec.specs.Findings.{AreWithin, IsSpent};
 ghost use Rattle.tree_walks.specs.Walks.{IsSoundLine};
 ghost use Rattle.closing_search.specs.Progressing.{cuts_of, target_of, IsGoing, IsAt, IsDone, IsHalved, IsEndLine};
 
 use crate::task::Task;
-use hub_model::{Branch, HubSet, MOST_TREE_LINES, TreeLine};
+use hub_model::MOST_TREE_LINES;
+use plan_model::{Branch, HubSet, TreeLine};
 use kept_cuts::KeptCuts;
 use std::alloc::AllocError;
 

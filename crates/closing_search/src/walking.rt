@@ -10,7 +10,7 @@ use crate::desk::Desk;
 use crate::leaves::{closing_cut, cut_leaf, set_leaf, stopped_leaf};
 use crate::progress::{Progress, end_with, split_on};
 use crate::task::Task;
-use hub_model::{Branch, TreeLine};
+use plan_model::{Branch, TreeLine};
 use search_advice::Advice;
 use std::alloc::{AllocError, Global};
 use std::thread::Threads;

@@ -14,8 +14,8 @@ use std::alloc::{AllocError, Global};
 
 /// The row of the line's commodity.
 pub fn asked(alloc: Global, instance: &Instance, line: &str) -> Result<String, AllocError> {
-    let i = node(line, "from");
-    let j = node(line, "to");
+    let i = node(line, " from ");
+    let j = node(line, " to ");
     if i >= instance.size() || j >= instance.size() {
         return String::from_str(alloc, "no commodity");
     }
@@ -29,23 +29,6 @@ fn told(alloc: Global, row: &EdgeRow) -> Result<String, AllocError> {
     let to = row.to();
     let entries = row.entries();
     format!(in alloc; "from {from} to {to} {entries:?}")
-}
-
-/// The first entry inside the set.
-pub fn cheapest(
-    alloc: Global,
-    instance: &Instance,
-    set: &HubSet,
-    i: u32,
-    j: u32,
-) -> Result<String, AllocError>
-    requires set { IsHubSet instance.now set.now }
-    requires from { i < instance.now.size }
-    requires to { j < instance.now.size }
-{
-    let row = EdgeRow::of(alloc, instance, i, j)?;
-    let entry = row.cheapest_in(set);
-    format!(in alloc; "{entry:?}")
 }
 
 /// The minimal dual by the row.

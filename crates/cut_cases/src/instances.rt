@@ -18,48 +18,50 @@ const MOST_FIXED: u64 = 1_000_000_000_000_000_000;
 
 /// The instance of the line, if its numbers are within their limits.
 pub fn instance_of(alloc: Global, line: &str) -> Result<Option<Instance>, AllocError> {
-    let Some(parts) = parts(alloc, line)? else {
-        return Ok(None);
-    };
-    let Some(terms) = terms(alloc, line)? else {
-        return Ok(None);
-    };
-    Ok(Instance::build(alloc, parts, &terms, None).ok())
+    let terms = terms(alloc, line)?;
+    built(alloc, &terms, line)
+}
+
+fn built(alloc: Global, terms: &Terms, line: &str) -> Result<Option<Instance>, AllocError> {
+    match parts(alloc, line)? {
+        Some(parts) => Ok(Instance::build(alloc, parts, terms, None).ok()),
+        None => Ok(None),
+    }
 }
 
 /// What a file of these numbers would give.
 fn parts(alloc: Global, line: &str) -> Result<Option<Parts>, AllocError>
     ensures { IfOk result (λ taken. IfSome taken (λ parts. parts.costs ≡ None)) }
 {
-    let flows = list::<i128>(alloc, line, "flows")?;
-    let distances = list::<i128>(alloc, line, "distances")?;
-    Ok(Parts::new(
-        node(line, "size"),
-        flows,
-        distances,
-        AS_THEY_ARE,
-        None,
-        None,
-    ))
+    let flows = list::<i128>(alloc, line, " flows ")?;
+    let distances = list::<i128>(alloc, line, " distances ")?;
+    let size = node(line, " size ");
+    Ok(Parts::new(size, flows, distances, AS_THEY_ARE, None, None))
 }
 
 /// The options: the candidates, the factors and the fixed cost of each node.
-fn terms(alloc: Global, line: &str) -> Result<Option<Terms>, AllocError> {
-    let candidates = list::<u32>(alloc, line, "candidates")?;
-    if !is_node_list(&candidates) {
-        return Ok(None);
-    }
-    Ok(Some(Terms {
+fn terms(alloc: Global, line: &str) -> Result<Terms, AllocError> {
+    let candidates = candidates(alloc, line)?;
+    Ok(Terms {
         order: Order::FlowFirst,
         tail: Tail::Ignore,
         divide: 1,
-        collect: Some(factor(line, "collect")),
-        trunk: Some(factor(line, "trunk")),
-        deliver: Some(factor(line, "deliver")),
-        fixed: Some(fixed(line)),
-        candidates: Some(Nodes::from_vec(candidates)),
+        collect: Some(factor(line, " collect ")),
+        trunk: Some(factor(line, " trunk ")),
+        deliver: Some(factor(line, " deliver ")),
+        fixed: fixed(line),
+        candidates,
         no_self: false,
-    }))
+    })
+}
+
+/// The candidates, if they are listed.
+fn candidates(alloc: Global, line: &str) -> Result<Option<Nodes>, AllocError> {
+    let listed = list::<u32>(alloc, line, " candidates ")?;
+    if !is_node_list(&listed) {
+        return Ok(None);
+    }
+    Ok(Some(Nodes::from_vec(listed)))
 }
 
 /// The factor of this name, or 1000 where none is named within the limits.
@@ -73,13 +75,12 @@ fn factor(line: &str, name: &str) -> i128
     }
 }
 
-/// The fixed cost of each node, or 0 where none is named within the limits.
-fn fixed(line: &str) -> i128
-    ensures least { pos 0 ≤ℤ result }
-    ensures most { result ≤ℤ pos (10 ^ 18) }
+/// The fixed cost of all nodes, if one is named within the limits.
+fn fixed(line: &str) -> Option<i128>
+    ensures { IfSome result (λ z. (pos 0 ≤ℤ z) × (z ≤ℤ pos (10 ^ 18))) }
 {
-    match number(line, "fixed") {
-        Some(cost) if cost <= MOST_FIXED => cost as i128,
-        _ => 0,
+    match number(line, " fixed ") {
+        Some(cost) if cost <= MOST_FIXED => Some(cost as i128),
+        _ => None,
     }
 }

@@ -1,23 +1,21 @@
 //! Cases of `hub_edges`, `unit_duals`, `leg_tables`, `assign_sub`, `dual_cuts`, `pareto_cuts` and `value_cuts`, a line of
 //! standard input each. Each is printed, with its answer behind it; comments are printed as they are.
 //!
-//! A line `instance` makes the instance that the lines below it ask of. It has numbers behind words: `size`, `candidates`,
-//! `flows` (10^-6), `distances` (10^-3), and where they are asked for `fixed` (10^-6), `collect`, `trunk`, `deliver` (10^-3).
+//! The line `instance` of a paragraph makes the instance that its lines ask of. It has numbers behind words: `size`,
+//! `candidates`, `flows` (10^-6), `distances` (10^-3), and where they are asked for `fixed` (10^-6), `collect`, `trunk`,
+//! `deliver` (10^-3).
 //!
-//! Of an instance: `row from I to J`, `set_legs` and `first_legs` (over `hubs` and `order`), `values`, and `value_sums` and
-//! `value_dual` (by a `row` of values in a `unit`). Of some hubs of it, `hubs H ..`: `assign`, `order` (by a `point`),
-//! `sums`, `cut`, `origin from I` (its sums, added to `loads`), and with `from I to J` the entry that is `cheapest` and the
-//! minimal dual by its row (`row_dual`), alone (`strong_dual`), lent by a scratch (`lent_dual`) and by the parts of one
-//! (`separation`). Of no instance: `unit_duals` of the legs of the line, and `made`, tables of made legs against plain
-//! loops.
+//! Of an instance: `row from I to J`, `set_legs` and `first_legs` (of three nodes), and by a `row` of values in a `unit`
+//! `value_sums` and `value_dual from I to J`. Of some hubs of it, `hubs H ..`: `assign`, `order` (by a `point`), `cut`, and
+//! with `from I to J` the minimal dual by its row (`row_dual`), by all commodities of its origin (`strong_dual`), and by
+//! the parts that work out an origin (`separation`). Of no instance: `unit_duals`, of legs from stop to stop (`trunk`), to
+//! the destinations (`last`) and from an origin (`first`).
 #![tactic(auto)]
 
 mod cuts;
 mod edges;
 mod instances;
 mod legs;
-mod loops;
-mod made;
 mod origins;
 mod sets;
 mod texts;
@@ -36,22 +34,32 @@ fn main(rt: HostRuntime) -> io::Result<()> {
     tell(&rt, cases.as_str())
 }
 
+// Each paragraph has lines that ask of its first instance.
 fn tell(rt: &HostRuntime, cases: &str) -> io::Result<()> {
-    let mut instance = "";
-    for line in cases.lines() {
+    for paragraph in cases.split("\n\n") {
+        tell_lines(rt, paragraph, instance_line(paragraph))?;
+    }
+    Ok(())
+}
+
+fn instance_line(paragraph: &str) -> &str {
+    for line in paragraph.lines() {
         if first(line) == "instance" {
-            instance = line;
+            return line;
         }
+    }
+    ""
+}
+
+fn tell_lines(rt: &HostRuntime, paragraph: &str, instance: &str) -> io::Result<()> {
+    for line in paragraph.lines() {
         print(rt, instance, line)?;
     }
     Ok(())
 }
 
-// Prints the line, with its answer where it asks; the instance is that of the line above.
+// Prints the line, with its answer where it asks.
 fn print(rt: &HostRuntime, instance: &str, line: &str) -> io::Result<()> {
-    if line.is_empty() {
-        return Ok(());
-    }
     if line.starts_with("#") || line.starts_with("instance") {
         return println!(rt; "{line}");
     }
@@ -62,7 +70,6 @@ fn print(rt: &HostRuntime, instance: &str, line: &str) -> io::Result<()> {
 fn answer(alloc: Global, instance: &str, line: &str) -> Result<String, AllocError> {
     match first(line) {
         "unit_duals" => units::duals(alloc, line),
-        "made" => made::tables(alloc, line),
         _ => asked(alloc, instance, line),
     }
 }
@@ -78,9 +85,9 @@ fn asked(alloc: Global, instance: &str, line: &str) -> Result<String, AllocError
 fn of_instance(alloc: Global, instance: &Instance, line: &str) -> Result<String, AllocError> {
     match first(line) {
         "row" => edges::asked(alloc, instance, line),
-        "set_legs" | "first_legs" => legs::asked(alloc, instance, line),
+        "set_legs" => legs::set_legs(alloc, instance),
+        "first_legs" => legs::first_legs(alloc, instance),
         "value_sums" | "value_dual" => values::asked(alloc, instance, line),
-        "values" => values::written(alloc, instance),
         _ => sets::asked(alloc, instance, line),
     }
 }

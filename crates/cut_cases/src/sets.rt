@@ -14,7 +14,7 @@ use std::alloc::{AllocError, Global};
 
 /// What is asked of the hubs that the line names.
 pub fn asked(alloc: Global, instance: &Instance, line: &str) -> Result<String, AllocError> {
-    let hubs = list::<u32>(alloc, line, "hubs")?;
+    let hubs = list::<u32>(alloc, line, " hubs ")?;
     if !is_hub_set(instance, &hubs) {
         return String::from_str(alloc, "no hub set");
     }
@@ -33,7 +33,6 @@ fn of_set(
     match first(line) {
         "assign" => assigned(alloc, instance, set),
         "order" => ordered(alloc, instance, set, line),
-        "cheapest" => cheapest(alloc, instance, set, line),
         _ => over_order(alloc, instance, set, line),
     }
 }
@@ -49,23 +48,6 @@ fn assigned(alloc: Global, instance: &Instance, set: &HubSet) -> Result<String, 
     format!(in alloc; "{cost} {cost_again} {routes:?}")
 }
 
-/// The first entry inside the set of the row of the line's commodity.
-fn cheapest(
-    alloc: Global,
-    instance: &Instance,
-    set: &HubSet,
-    line: &str,
-) -> Result<String, AllocError>
-    requires { IsHubSet instance.now set.now }
-{
-    let i = node(line, "from");
-    let j = node(line, "to");
-    if i >= instance.size() || j >= instance.size() {
-        return String::from_str(alloc, "no commodity");
-    }
-    edges::cheapest(alloc, instance, set, i, j)
-}
-
 /// The candidates outside the set by the line's point.
 fn ordered(
     alloc: Global,
@@ -75,7 +57,7 @@ fn ordered(
 ) -> Result<String, AllocError>
     requires { IsHubSet instance.now set.now }
 {
-    let point = list::<i128>(alloc, line, "point")?;
+    let point = list::<i128>(alloc, line, " point ")?;
     if point.len() != instance.size() as usize {
         return String::from_str(alloc, "no point");
     }
@@ -106,18 +88,15 @@ fn of_order(
     requires set { IsHubSet instance.now set.now }
     requires order { IsOrder instance.now set.now order.now }
 {
-    let i = node(line, "from");
-    let j = node(line, "to");
+    let i = node(line, " from ");
+    let j = node(line, " to ");
     if i >= instance.size() || j >= instance.size() {
         return String::from_str(alloc, "no commodity");
     }
     match first(line) {
-        "sums" => cuts::sums(alloc, instance, set, order),
         "cut" => cuts::cut(alloc, instance, set, order),
         "row_dual" => edges::dual(alloc, instance, set, order, i, j),
         "strong_dual" => cuts::dual(alloc, instance, set, order, i, j),
-        "lent_dual" => cuts::lent(alloc, instance, set, order, i, j),
-        "separation" => origins::separation(alloc, instance, set, order, i, j),
-        _ => origins::sums(alloc, instance, set, order, i, line),
+        _ => origins::separation(alloc, instance, set, order, i, j),
     }
 }

@@ -16,9 +16,9 @@ const MOST_LEG: u64 = 10_000_000_000_000_000;
 
 /// The prices and the values of an origin, by the legs of the line.
 pub fn duals(alloc: Global, line: &str) -> Result<String, AllocError> {
-    let trunk = list::<u64>(alloc, line, "trunk")?;
-    let last = list::<u64>(alloc, line, "last")?;
-    let first = list::<u64>(alloc, line, "first")?;
+    let trunk = list::<u64>(alloc, line, " trunk ")?;
+    let last = list::<u64>(alloc, line, " last ")?;
+    let first = list::<u64>(alloc, line, " first ")?;
     match legs_of(line, &trunk, &last) {
         Some(legs) if are_first(&legs, &first) => told(alloc, &legs, &first),
         _ => String::from_str(alloc, "no legs"),
@@ -26,7 +26,7 @@ pub fn duals(alloc: Global, line: &str) -> Result<String, AllocError> {
 }
 
 /// The number of this name, or the most that there may be.
-pub fn count(line: &str, name: &str) -> usize
+fn count(line: &str, name: &str) -> usize
     ensures { result ≤ 9 }
 {
     match number(line, name) {
@@ -36,14 +36,14 @@ pub fn count(line: &str, name: &str) -> usize
 }
 
 /// The legs for the line's destinations, places and hubs, if they are within their limits.
-pub fn legs_of<'a>(line: &str, trunk: &'a [u64], last: &'a [u64]) -> Option<Legs<'a>>
+fn legs_of<'a>(line: &str, trunk: &'a [u64], last: &'a [u64]) -> Option<Legs<'a>>
     ensures size { IfSome result (λ l. l.size ≤ 9) }
     ensures stops { IfSome result (λ l. l.count + l.hubs ≤ 9) }
     ensures hubs { IfSome result (λ l. 1 ≤ l.hubs) }
 {
-    let size = count(line, "size");
-    let places = count(line, "places");
-    let hubs = count(line, "hubs");
+    let size = count(line, " size ");
+    let places = count(line, " places ");
+    let hubs = count(line, " hubs ");
     let stops = places + hubs;
     if hubs == 0 || stops > ROOM || trunk.len() != stops * stops || last.len() != stops * size {
         return None;
@@ -61,7 +61,7 @@ fn are_legs(items: &[u64]) -> bool
 }
 
 /// Whether these may be the legs from an origin to the stops.
-pub fn are_first(legs: &Legs, first: &[u64]) -> bool
+fn are_first(legs: &Legs, first: &[u64]) -> bool
     ensures { IsTrue result → AreFirstLegs legs.now first.now }
 {
     first.len() == legs.stops() && are_legs(first)
@@ -80,7 +80,7 @@ fn told(alloc: Global, legs: &Legs, first: &[u64]) -> Result<String, AllocError>
 }
 
 /// The duals of the origin.
-pub fn worked_out(alloc: Global, legs: &Legs, first: &[u64]) -> Result<UnitDuals, AllocError>
+fn worked_out(alloc: Global, legs: &Legs, first: &[u64]) -> Result<UnitDuals, AllocError>
     requires some_hub { 1 ≤ legs.now.hubs }
     requires size { legs.now.size ≤ 9 }
     requires stops { legs.now.count + legs.now.hubs ≤ 9 }

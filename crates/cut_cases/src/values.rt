@@ -5,23 +5,25 @@ ghost use Rattle.value_cuts.specs.Values.{AreValuesFor, allowed_price, node_valu
 ghost use Rattle.value_cuts.specs.HeldRows.{IsSameShape};
 
 use crate::texts::{dual_told, sums_told};
-use crate::words::{first, list, node};
+use crate::words::{list, node};
 use hub_model::Instance;
 use std::alloc::{AllocError, Global};
 use value_cuts::{CandidateLegs, DualScratch, PriceScratch, Values, cut_sums, price};
 
-/// What is asked of one row of values in a unit.
+/// What is asked of one row of values in a unit, which has a value for each candidate.
 pub fn asked(alloc: Global, instance: &Instance, line: &str) -> Result<String, AllocError> {
-    let row = list::<u32>(alloc, line, "row")?;
-    if row.is_empty() {
+    let row = list::<u32>(alloc, line, " row ")?;
+    let i = node(line, " from ");
+    let j = node(line, " to ");
+    let n = instance.size();
+    if row.is_empty() || row.len() != instance.candidates().len() || i >= n || j >= n {
         return String::from_str(alloc, "no row");
     }
-    let unit = node(line, "unit");
-    match first(line) {
-        "value_sums" => with_row(alloc, instance, unit, &row),
-        "value_dual" => of_commodity(alloc, instance, unit, &row, line),
-        _ => String::from_str(alloc, "no question"),
+    let unit = node(line, " unit ");
+    if line.starts_with("value_dual") {
+        return of_commodity(alloc, instance, i, j, unit, &row);
     }
+    with_row(alloc, instance, unit, &row)
 }
 
 /// The sums of the cut that has this row for each commodity.
@@ -35,7 +37,15 @@ fn with_row(
 {
     let mut values = Values::new(alloc, instance, unit)?;
     fill_all(&mut values, row);
-    sums(alloc, instance, &values)
+    copied(alloc, instance, &values)
+}
+
+/// The sums of the cut of a copy of the values.
+fn copied(alloc: Global, instance: &Instance, values: &Values) -> Result<String, AllocError>
+    requires { AreValuesFor instance.now values.now }
+{
+    let copy = values.copy(alloc)?;
+    sums(alloc, instance, &copy)
 }
 
 /// Sets the rows of all commodities.
@@ -68,20 +78,20 @@ fn priced(alloc: Global, tables: &CandidateLegs, values: &Values) -> Result<Stri
     sums_told(alloc, total, &loads)
 }
 
-/// The dual of the line's commodity.
+/// The dual of the commodity.
 fn of_commodity(
     alloc: Global,
     instance: &Instance,
+    i: u32,
+    j: u32,
     unit: u32,
     row: &[u32],
-    line: &str,
-) -> Result<String, AllocError> {
-    let i = node(line, "from");
-    let j = node(line, "to");
+) -> Result<String, AllocError>
+    requires from { i < instance.now.size }
+    requires to { j < instance.now.size }
+    requires row { length row.now ≡ length instance.now.candidates }
+{
     let tables = CandidateLegs::new(alloc, instance)?;
-    if i >= instance.size() || j >= instance.size() || row.len() != tables.places() {
-        return String::from_str(alloc, "no commodity");
-    }
     let price = priced_alone(alloc, &tables, i, j, unit, row)?;
     dual(alloc, &tables, i, j, unit, row, price)
 }
@@ -121,39 +131,4 @@ fn dual(
     dual.make(tables, i, j, unit, row, price);
     let (price, values) = dual.dual();
     dual_told(alloc, price, values)
-}
-
-/// A copy of values that are written: 5 for the commodity from the node 0 to the node 1, 6 for those from the node 1.
-pub fn written(alloc: Global, instance: &Instance) -> Result<String, AllocError> {
-    if instance.size() < 2 {
-        return String::from_str(alloc, "too few nodes");
-    }
-    let mut values = Values::new(alloc, instance, 3)?;
-    fill_row(&mut values, 0, 1, 5);
-    fill_origin(&mut values, 1, 6);
-    copied(alloc, &values)
-}
-
-/// Sets all values of the commodity to this one.
-fn fill_row(values: &mut Values, i: u32, j: u32, value: u32)
-    requires origin { i < values.old.size }
-    requires destination { j < values.old.size }
-    ensures { IsSameShape values.old values.new }
-{
-    values.row_mut(i, j).fill(value);
-}
-
-/// Sets all values of the commodities from `i` to this one.
-fn fill_origin(values: &mut Values, i: u32, value: u32)
-    requires { i < values.old.size }
-    ensures { IsSameShape values.old values.new }
-{
-    values.origin_rows_mut(i).fill(value);
-}
-
-fn copied(alloc: Global, values: &Values) -> Result<String, AllocError> {
-    let copy = values.copy(alloc)?;
-    let unit = copy.unit();
-    let rows = copy.rows();
-    format!(in alloc; "unit {unit} {rows:?}")
 }

@@ -1,4 +1,4 @@
-//! What stands on a line behind the words that name it.
+//! What stands on a line behind a name. A name is given with the blanks around it.
 
 use std::alloc::{AllocError, Global};
 use std::str::FromStr;
@@ -9,35 +9,34 @@ where
     N::Err: Drop,
 {
     let mut list = Vec::new(alloc);
-    let mut is_named = false;
-    for word in line.split_whitespace() {
+    for word in behind(line, name).split_whitespace() {
         match word.parse::<N>() {
-            Ok(number) => {
-                if is_named {
-                    list.push(number)?;
-                }
-            }
-            Err(_) => is_named = word == name,
+            Ok(number) => list.push(number)?,
+            Err(_) => return Ok(list),
         }
     }
     Ok(list)
 }
 
-/// The first number behind this name.
+/// The number behind this name.
 pub fn number(line: &str, name: &str) -> Option<u64> {
-    let (_, rest) = line.split_once(name)?;
-    first(rest).parse().ok()
+    first(behind(line, name)).parse().ok()
 }
 
 /// The node behind this name, or 0 where there is none.
 pub fn node(line: &str, name: &str) -> u32 {
-    match number(line, name) {
-        Some(number) => u32::try_from(number).unwrap_or(0),
-        None => 0,
-    }
+    first(behind(line, name)).parse().unwrap_or(0)
 }
 
 /// The first word of the line.
 pub fn first(line: &str) -> &str {
     line.split_whitespace().next().unwrap_or("")
+}
+
+/// The line behind this name, if it has it.
+pub fn behind<'a>(line: &'a str, name: &str) -> &'a str {
+    match line.split_once(name) {
+        Some((_, rest)) => rest,
+        None => "",
+    }
 }

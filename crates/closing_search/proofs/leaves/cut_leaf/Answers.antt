@@ -1,6 +1,6 @@
 use Rattle.std.proofs.Common.{Some, refl, arith}
 use Rattle.std.proofs.lemmas.List.{length-map}
-use Rattle.hub_model.specs.Lines.{tree_line_of}
+use Rattle.plan_model.specs.Lines.{tree_line_of}
 use Rattle.kept_cuts.specs.Kept.{kept_cut}
 use Rattle.closing_search.specs.Progressing.{cuts_of, target_of}
 use Rattle.closing_search.proofs.Choices.{number_of, leaf_sound, leaf_in_range}

@@ -1,0 +1,41 @@
+//! Numbers as words of text.
+
+use std::alloc::{AllocError, Global};
+
+/// The nodes that the words name; a word that is no number is the greatest number.
+pub fn nodes(alloc: Global, text: &str) -> Result<Vec<u32>, AllocError> {
+    let mut nodes = Vec::new(alloc);
+    for word in text.split_whitespace() {
+        nodes.push(node(word))?;
+    }
+    Ok(nodes)
+}
+
+/// The node that a word names.
+pub fn node(word: &str) -> u32 {
+    word.parse().unwrap_or(u32::MAX)
+}
+
+/// The amounts that the words tell; a word that is no number is the greatest number.
+pub fn amounts(alloc: Global, text: &str) -> Result<Vec<u128>, AllocError> {
+    let mut amounts = Vec::new(alloc);
+    for word in text.split_whitespace() {
+        amounts.push(amount(word))?;
+    }
+    Ok(amounts)
+}
+
+/// The amount that a word tells.
+pub fn amount(word: &str) -> u128 {
+    word.parse().unwrap_or(u128::MAX)
+}
+
+/// The whole numbers that the words tell, in units of which so many are a whole one.
+pub fn scaled(alloc: Global, text: &str, units: u32) -> Result<Vec<i128>, AllocError> {
+    let mut scaled = Vec::new(alloc);
+    for word in text.split_whitespace() {
+        let number: u32 = word.parse().unwrap_or(u32::MAX);
+        scaled.push(number as i128 * units as i128)?;
+    }
+    Ok(scaled)
+}
