@@ -10,9 +10,9 @@ ghost use Rattle.closing_search.specs.SingleCuts.{AreLoads};
 ghost use Rattle.closing_search.specs.Benches.{IsPricingFor};
 
 use hub_model::Instance;
-use plan_model::HubSet;
 use kept_cuts::{KeptCut, PackedValues};
 use pareto_cuts::Scratch;
+use plan_model::HubSet;
 use std::alloc::{AllocError, Global};
 use std::marker::Model;
 use value_cuts::{CandidateLegs, PriceScratch, Values};

@@ -18,9 +18,9 @@ use crate::keeping::keep;
 use crate::progress::{Progress, end_with, lesser, offer, target};
 use crate::task::Task;
 use hub_model::unsigned;
-use plan_model::{Branch, HubSet, Mix, TreeLine};
 use hub_plain::outside;
 use kept_cuts::KeptCut;
+use plan_model::{Branch, HubSet, Mix, TreeLine};
 use std::alloc::{AllocError, Global};
 
 /// So many of the newest kept cuts are tried at a branch before advice is asked for.

@@ -12,8 +12,8 @@ ghost use Rattle.closing_search.specs.Progressing.{cuts_of, target_of, IsGoing, 
 
 use crate::task::Task;
 use hub_model::MOST_TREE_LINES;
-use plan_model::{Branch, HubSet, TreeLine};
 use kept_cuts::KeptCuts;
+use plan_model::{Branch, HubSet, TreeLine};
 use std::alloc::AllocError;
 
 /// The cuts and the lines of the tree, the incumbent with its cost, the nodes made, and after a stop the least that a
