@@ -1,0 +1,46 @@
+//! What a search finds.
+
+ghost use Rattle.std.specs.Prelude.{IfOk};
+ghost use Rattle.search_steps.specs.Pools.{IsPoolOf};
+ghost use Rattle.branch_tree.specs.Findings.{IsProved};
+
+use crate::instances::numbers;
+use crate::texts::tree_text;
+use branch_tree::{Found, search};
+use hub_model::Instance;
+use separators::Solo;
+use std::alloc::{AllocError, Global};
+
+/// What the search of the instance finds with the most nodes that the line names.
+pub(crate) fn found_of(alloc: Global, instance: &Instance, line: &str) -> Result<Found, AllocError>
+    ensures proved { IfOk result (IsProved instance.now) }
+    ensures pool { IfOk result (λ found. IsPoolOf instance.now found.pool.entries) }
+{
+    let nodes = most_nodes(alloc, line)?;
+    let mut separator = Solo::new(alloc, instance)?;
+    search(alloc, instance, nodes, &mut separator)
+}
+
+// The number behind the first word, or none for `all`.
+fn most_nodes(alloc: Global, line: &str) -> Result<Option<u64>, AllocError> {
+    let nodes = numbers(alloc, line, " ")?;
+    if nodes.is_empty() {
+        return Ok(None);
+    }
+    Ok(Some(nodes[0] as u64))
+}
+
+/// The cost, the bound, the hubs, the number of cuts and the tree.
+pub(crate) fn search_told(
+    alloc: Global,
+    instance: &Instance,
+    line: &str,
+) -> Result<String, AllocError> {
+    let found = found_of(alloc, instance, line)?;
+    let cost = found.cost();
+    let bound = found.bound();
+    let hubs = found.plan().hubs();
+    let cuts = found.pool().len();
+    let tree = tree_text(alloc, found.tree())?;
+    format!(in alloc; "cost {cost} bound {bound} hubs {hubs:?} cuts {cuts}\n{tree}")
+}

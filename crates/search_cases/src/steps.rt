@@ -1,0 +1,99 @@
+//! Fixed costs, leaves, and the sums of cuts.
+
+ghost use Rattle.std.specs.Prelude.{IfOk, IfSome};
+ghost use Rattle.hub_spec.specs.Plans.{IsHubSet};
+
+use crate::instances::{instance_of, numbers, scaled};
+use crate::texts::tree_text;
+use cut_pool::CutSums;
+use hub_model::Instance;
+use hub_plain::{is_hub_set, outside};
+use plan_model::HubSet;
+use search_steps::{fixed_costs, leaf_line};
+use separators::{Separator, Solo, kept_sums};
+use std::alloc::{AllocError, Global};
+
+/// The fixed costs of the nodes.
+pub(crate) fn fixed(alloc: Global, instance: &Instance) -> Result<String, AllocError> {
+    let costs = fixed_costs(alloc, instance)?;
+    format!(in alloc; "{costs:?}")
+}
+
+/// The leaf with the weights of the line.
+pub(crate) fn leaf(alloc: Global, line: &str) -> Result<String, AllocError> {
+    let weights = scaled(alloc, line, "leaf", 1)?;
+    let mut lines = Vec::new(alloc);
+    if weights.iter().all(|weight| *weight >= 0) {
+        lines.push(leaf_line(alloc, &weights)?)?;
+    }
+    tree_text(alloc, &lines)
+}
+
+/// The sums of the line, as a search keeps them.
+pub(crate) fn kept(alloc: Global, line: &str) -> Result<String, AllocError> {
+    let amounts = amounts(alloc, line)?;
+    let [total, loads @ ..] = amounts.as_slice() else {
+        return String::from_str(alloc, "no total");
+    };
+    if *total > MOST || loads.iter().any(|load| *load > MOST) {
+        return String::from_str(alloc, "above the limit");
+    }
+    let sums = kept_sums(alloc, HubSet::of(alloc, &[0])?, *total, loads)?;
+    sums_told(alloc, &sums)
+}
+
+// The greatest amount that is kept.
+const MOST: u128 = 1_000_000_000_000_000_000_000_000_000_000;
+
+// The amounts behind the first word; a word that is none is left out.
+fn amounts(alloc: Global, line: &str) -> Result<Vec<u128>, AllocError> {
+    let mut amounts = Vec::new(alloc);
+    for word in line.split_whitespace() {
+        if let Ok(amount) = word.parse() {
+            amounts.push(amount)?;
+        }
+    }
+    Ok(amounts)
+}
+
+/// The sums of the cut of the line's hubs, by a separator made for the line's instance.
+pub(crate) fn sums(alloc: Global, instance: &Instance, line: &str) -> Result<String, AllocError> {
+    let hubs = numbers(alloc, line, "sums")?;
+    match instance_of(alloc, line)? {
+        Some(other) => sums_by(alloc, &other, instance, &hubs),
+        None => String::from_str(alloc, "no other instance"),
+    }
+}
+
+// The sums of these hubs' cut, by a separator made for the other instance.
+fn sums_by(
+    alloc: Global,
+    other: &Instance,
+    instance: &Instance,
+    hubs: &[u32],
+) -> Result<String, AllocError> {
+    let Some(set) = set_of(alloc, instance, hubs)? else {
+        return String::from_str(alloc, "no hub set");
+    };
+    let order = outside(alloc, instance, &set)?;
+    let mut solo = Solo::new(alloc, other)?;
+    let sums = solo.separate(alloc, instance, set, &order)?;
+    sums_told(alloc, &sums)
+}
+
+// The set of these hubs, if the instance has such a set.
+fn set_of(alloc: Global, instance: &Instance, hubs: &[u32]) -> Result<Option<HubSet>, AllocError>
+    ensures { IfOk result (λ found. IfSome found (λ set. IsHubSet instance.now set)) }
+{
+    if !is_hub_set(instance, hubs) {
+        return Ok(None);
+    }
+    Ok(Some(HubSet::of(alloc, hubs)?))
+}
+
+fn sums_told(alloc: Global, sums: &CutSums) -> Result<String, AllocError> {
+    let hubs = sums.set().members();
+    let total = sums.total();
+    let loads = sums.loads();
+    format!(in alloc; "hubs {hubs:?} total {total} loads {loads:?}")
+}

@@ -1,0 +1,111 @@
+//! Texts as a sink in memory takes them.
+
+ghost use Rattle.search_steps.specs.Pools.{IsPoolOf};
+ghost use Rattle.branch_tree.specs.Findings.{IsProved};
+
+use crate::instances::numbers;
+use crate::searches::found_of;
+use branch_tree::Found;
+use cert_format::{put_tree, write_cert};
+use found_text::{certificate_of, write_found};
+use hub_io::{Buffer, Failed, MemSink, Partial, Sink};
+use hub_model::Instance;
+use pareto_cuts::Scratch;
+use plan_model::TreeLine;
+use std::alloc::{AllocError, Global};
+
+// More bytes than any case puts.
+const ROOM: usize = 10_000;
+
+/// The lines of a tree.
+pub(crate) fn tree_text(alloc: Global, lines: &[TreeLine]) -> Result<String, AllocError> {
+    let mut sink = MemSink::new(alloc, ROOM)?;
+    let done = put_whole_tree(lines, &mut sink);
+    told(alloc, done, &sink)
+}
+
+fn put_whole_tree(lines: &[TreeLine], sink: &mut MemSink) -> Result<(), Failed> {
+    let mut buffer = Buffer::new();
+    put_tree(lines, &mut buffer, sink)?;
+    buffer.finish(sink)
+}
+
+/// The text of what the search finds.
+pub(crate) fn text(alloc: Global, instance: &Instance, line: &str) -> Result<String, AllocError> {
+    let found = found_of(alloc, instance, line)?;
+    text_of(alloc, instance, &found, Vec::new(alloc))
+}
+
+/// The same where a put fails.
+pub(crate) fn failing(
+    alloc: Global,
+    instance: &Instance,
+    line: &str,
+) -> Result<String, AllocError> {
+    let mut failing = Vec::new(alloc);
+    if let [call, taken] = numbers(alloc, line, "failing")?.as_slice() {
+        failing.push(Partial {
+            call: *call as u64,
+            taken: *taken as usize,
+        })?;
+    }
+    let found = found_of(alloc, instance, "search all")?;
+    text_of(alloc, instance, &found, failing)
+}
+
+fn text_of(
+    alloc: Global,
+    instance: &Instance,
+    found: &Found,
+    failing: Vec<Partial>,
+) -> Result<String, AllocError>
+    requires proved { IsProved instance.now found.now }
+    requires pool { IsPoolOf instance.now found.now.pool.entries }
+{
+    let mut sink = MemSink::with_faults(alloc, ROOM, failing)?;
+    let done = put_found(alloc, instance, found, &mut sink)?;
+    told(alloc, done, &sink)
+}
+
+fn put_found(
+    alloc: Global,
+    instance: &Instance,
+    found: &Found,
+    sink: &mut MemSink,
+) -> Result<Result<(), Failed>, AllocError>
+    requires proved { IsProved instance.now found.now }
+    requires pool { IsPoolOf instance.now found.now.pool.entries }
+{
+    let mut scratch = Scratch::new(alloc, instance)?;
+    Ok(write_found(instance, found, &mut scratch, sink))
+}
+
+/// The text of the certificate that is made of what the search finds.
+pub(crate) fn made(alloc: Global, instance: &Instance, line: &str) -> Result<String, AllocError> {
+    let mut sink = MemSink::new(alloc, ROOM)?;
+    let done = put_made(alloc, instance, line, &mut sink)?;
+    told(alloc, done, &sink)
+}
+
+fn put_made(
+    alloc: Global,
+    instance: &Instance,
+    line: &str,
+    sink: &mut MemSink,
+) -> Result<Result<(), Failed>, AllocError> {
+    let found = found_of(alloc, instance, line)?;
+    let certificate = certificate_of(alloc, instance, &found)?;
+    Ok(write_cert(&certificate, sink))
+}
+
+// What the sink took, and that a put failed, if one did.
+fn told(alloc: Global, done: Result<(), Failed>, sink: &MemSink) -> Result<String, AllocError> {
+    let text = String::from_utf8_lossy(alloc, sink.taken())?;
+    match done {
+        Ok(()) => Ok(text),
+        Err(Failed) => {
+            let faults = sink.faults();
+            format!(in alloc; "failed, by {faults}, behind {text}")
+        }
+    }
+}

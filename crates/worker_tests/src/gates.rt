@@ -1,0 +1,69 @@
+//! A gate at which two workers wait for one another.
+
+use hub_io::Gate;
+use std::sync::atomic::AtomicU64;
+use std::sync::atomic::Ordering::SeqCst;
+use std::thread;
+
+/// At its first block each of two workers waits until the other has drawn so many. There are at most four blocks.
+#[derive(Drop)]
+pub struct Watch {
+    awaited: [u64; 2],
+    drawn: [AtomicU64; 2],
+    blocks: [AtomicU64; 4],
+    in_time: AtomicU64,
+    strangers: AtomicU64,
+}
+
+impl Watch {
+    pub(crate) fn new(awaited: [u64; 2]) -> Watch {
+        Watch {
+            awaited,
+            drawn: [AtomicU64::new(0), AtomicU64::new(0)],
+            blocks: [
+                AtomicU64::new(0),
+                AtomicU64::new(0),
+                AtomicU64::new(0),
+                AtomicU64::new(0),
+            ],
+            in_time: AtomicU64::new(0),
+            strangers: AtomicU64::new(0),
+        }
+    }
+
+    /// Whether neither waited in vain, and each of so many blocks passed once, by one of the two, and nothing else.
+    pub(crate) fn saw_all(&self, blocks: u64) -> bool {
+        self.in_time.load(SeqCst) == 2
+            && self.strangers.load(SeqCst) == 0
+            && self.blocks.iter().all(|times| times.load(SeqCst) <= 1)
+            && self.drawn[0]
+                .load(SeqCst)
+                .checked_add(self.drawn[1].load(SeqCst))
+                == Some(blocks)
+    }
+}
+
+impl Gate for Watch {
+    fn at(&self, worker: u32, block: u32) {
+        if worker > 1 || block > 3 {
+            self.strangers.fetch_add(1, SeqCst);
+            return;
+        }
+        let mine = worker as usize;
+        self.blocks[block as usize].fetch_add(1, SeqCst);
+        let is_first = self.drawn[mine].fetch_add(1, SeqCst) == 0;
+        if is_first && came(&self.drawn[1 - mine], self.awaited[mine]) {
+            self.in_time.fetch_add(1, SeqCst);
+        }
+    }
+}
+
+// Waits, by a counted number of turns, until so many were drawn. Now and then it lets another thread go first.
+fn came(drawn: &AtomicU64, least: u64) -> bool {
+    (0..100_000_000u32).any(|turn| {
+        if turn % 64 == 63 {
+            thread::yield_now();
+        }
+        drawn.load(SeqCst) >= least
+    })
+}
