@@ -1,15 +1,14 @@
 //! Certificates, a case a line of standard input: their texts scanned (`cert_scan`), read and written (`cert_format`),
 //! checked whole (`cert_checker`) and as they come (`cert_stream`, `stream_check`), and reported (`network_report`).
 //!
-//! Each line is printed back, and below it what the calls gave. A line that begins with `#` is only printed back, a
-//! `text` and an empty line are passed over. In a text `;` stands for the end of a line, and `~` for a carriage return. A
+//! Each line is printed back, and below it what the calls gave. A line that begins with `#` and an empty one are only
+//! printed back, an `instance` and a `text` only kept. In a text `;` stands for the end of a line, and `~` for a carriage return. A
 //! TEXT is the name of one, with changes behind it, as in `NAME / OLD -> NEW / OLD -> NEW`: the first OLD in it becomes
 //! NEW.
 //!
 //! - `text NAME LINES`: a text, or more of it
 //! - `items TEXT`: the items that a scan gives, and its fault
 //! - `fault TEXT`: the fault that a scan tells, and that of a reading
-//! - `places TEXT`: scans of the text cut in two at every place
 //! - `write CALL COUNT TEXT`: the text read and written again; put number CALL fails, with COUNT bytes of it taken
 //!   (0 0: none fails)
 //! - `instance COLLECT TRUNK DELIVER / CANDIDATES / FLOWS / DISTANCES / FIXED COSTS / HUBS LISTED`: the instance of the
@@ -36,18 +35,20 @@ mod texts;
 
 use hub_model::Instance;
 use instances::instance;
-use names::Names;
+use names::{instance_in, is_name, text_in};
 use std::alloc::Global;
 use std::io;
 use std::thread::Threads;
 
 fn main(rt: HostRuntime) -> io::Result<()> {
-    let mut names = Names::new(rt.alloc());
+    let mut kept = String::new(rt.alloc());
     for line in rt.lines(rt.alloc()) {
         let line = line?;
-        if !names.take(rt.alloc(), line.as_str())? {
-            println!(rt; "{line}")?;
-            answer(&rt, rt.alloc(), &names, line.as_str())?;
+        if is_name(line.as_str()) {
+            kept.push_str(line.as_str())?;
+            kept.push_str("\n")?;
+        } else {
+            answer(&rt, rt.alloc(), kept.as_str(), line.as_str())?;
         }
     }
     Ok(())
@@ -57,23 +58,17 @@ fn main(rt: HostRuntime) -> io::Result<()> {
 fn answer<R: Print + Threads + Sync>(
     rt: &R,
     alloc: Global,
-    names: &Names,
+    kept: &str,
     line: &str,
 ) -> io::Result<()> {
+    println!(rt; "{line}")?;
     let (word, rest) = line.split_once(' ').unwrap_or((line, ""));
     match word {
-        "#" | "instance" => Ok(()),
-        "write" => texts::write(rt, alloc, names, rest),
-        "items" | "fault" | "places" => of_text(rt, alloc, word, &names.text(alloc, rest)?),
-        _ => of_given(rt, alloc, names, word, rest),
-    }
-}
-
-fn of_text(rt: &impl Print, alloc: Global, word: &str, text: &str) -> io::Result<()> {
-    match word {
-        "items" => scans::items(rt, text),
-        "fault" => texts::faults(rt, alloc, text),
-        _ => scans::places(rt, alloc, text),
+        "" | "#" => Ok(()),
+        "write" => texts::write(rt, alloc, kept, rest),
+        "items" => scans::items(rt, &text_in(alloc, kept, rest)?),
+        "fault" => texts::faults(rt, alloc, &text_in(alloc, kept, rest)?),
+        _ => of_given(rt, alloc, kept, word, rest),
     }
 }
 
@@ -81,12 +76,12 @@ fn of_text(rt: &impl Print, alloc: Global, word: &str, text: &str) -> io::Result
 fn of_given<R: Print + Threads + Sync>(
     rt: &R,
     alloc: Global,
-    names: &Names,
+    kept: &str,
     word: &str,
     rest: &str,
 ) -> io::Result<()> {
-    match instance(alloc, names.instance())? {
-        Some(instance) => of_instance(rt, alloc, &instance, names, word, rest),
+    match instance(alloc, instance_in(kept))? {
+        Some(instance) => of_instance(rt, alloc, &instance, kept, word, rest),
         None => println!(rt; "  no instance"),
     }
 }
@@ -95,18 +90,18 @@ fn of_instance<R: Print + Threads + Sync>(
     rt: &R,
     alloc: Global,
     instance: &Instance,
-    names: &Names,
+    kept: &str,
     word: &str,
     rest: &str,
 ) -> io::Result<()> {
     match word {
-        "check" => checks::check(rt, alloc, instance, &names.text(alloc, rest)?),
-        "cuts" => streams::cut_anywhere(rt, alloc, instance, &names.text(alloc, rest)?),
-        "taken" => streams::taken(rt, alloc, instance, &names.text(alloc, rest)?),
-        "report" => reports::report(rt, alloc, instance, names, rest),
-        "reads" => shelves::by_reads(rt, alloc, instance, &names.text(alloc, rest)?),
-        "held" => shelves::failing(rt, alloc, instance, names, rest),
-        "name" => shelves::named(rt, alloc, instance, names, rest),
+        "check" => checks::check(rt, alloc, instance, &text_in(alloc, kept, rest)?),
+        "cuts" => streams::cut_anywhere(rt, alloc, instance, &text_in(alloc, kept, rest)?),
+        "taken" => streams::taken(rt, alloc, instance, &text_in(alloc, kept, rest)?),
+        "report" => reports::report(rt, alloc, instance, kept, rest),
+        "reads" => shelves::by_reads(rt, alloc, instance, &text_in(alloc, kept, rest)?),
+        "held" => shelves::failing(rt, alloc, instance, kept, rest),
+        "name" => shelves::named(rt, alloc, instance, kept, rest),
         _ => println!(rt; "  no such case"),
     }
 }

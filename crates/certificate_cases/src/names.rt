@@ -1,75 +1,51 @@
-//! What lines name: an instance, and texts.
+//! What lines name: an instance, and texts. The lines that name them are kept as they are.
 
 use std::alloc::{AllocError, Global};
 
-/// The instance of the lines that follow, and texts by name, as the lines spell them.
-#[derive(Drop)]
-pub struct Names {
-    instance: String,
-    texts: Vec<(String, String)>,
+/// Whether the line names something.
+pub fn is_name(line: &str) -> bool {
+    line.starts_with("instance ") || line.starts_with("text ")
 }
 
-impl Names {
-    /// No instance, and no text.
-    pub fn new(alloc: Global) -> Names {
-        Names {
-            instance: String::new(alloc),
-            texts: Vec::new(alloc),
-        }
-    }
-
-    /// Takes what the line names, and tells whether it is to be passed over then.
-    pub fn take(&mut self, alloc: Global, line: &str) -> Result<bool, AllocError> {
+/// The numbers of the instance that was named last.
+pub fn instance_in(kept: &str) -> &str {
+    let mut last = "";
+    for line in kept.lines() {
         if let Some(numbers) = line.strip_prefix("instance ") {
-            self.instance = String::from_str(alloc, numbers)?;
+            last = numbers;
         }
-        if let Some(rest) = line.strip_prefix("text ") {
-            let (name, lines) = rest.split_once(' ').unwrap_or((rest, ""));
-            self.add(alloc, name, lines)?;
-            return Ok(true);
-        }
-        Ok(line.is_empty())
     }
+    last
+}
 
-    // Adds to the text of that name.
-    fn add(&mut self, alloc: Global, name: &str, lines: &str) -> Result<(), AllocError> {
-        for (known, text) in self.texts.iter_mut() {
-            if known.as_str() == name {
-                return text.push_str(lines);
-            }
+/// The text of that name, with the changes behind it.
+pub fn text_in(alloc: Global, kept: &str, spelled: &str) -> Result<String, AllocError> {
+    let (name, changes) = spelled.split_once(" / ").unwrap_or((spelled, ""));
+    let mut text = joined(alloc, kept, name)?;
+    for change in changes.split(" / ") {
+        if let Some((old, new)) = change.split_once("->") {
+            text = text.replacen(alloc, old.trim(), new.trim(), 1)?;
         }
-        let name = String::from_str(alloc, name)?;
-        let text = String::from_str(alloc, lines)?;
-        self.texts.push((name, text))?;
-        Ok(())
     }
+    let lines = text.replace(alloc, ";", "\n")?;
+    lines.replace(alloc, "~", "\r")
+}
 
-    /// The numbers of the instance.
-    pub fn instance(&self) -> &str {
-        self.instance.as_str()
+// What the lines say of that name, one after another.
+fn joined(alloc: Global, kept: &str, name: &str) -> Result<String, AllocError> {
+    let mut text = String::new(alloc);
+    for line in kept.lines() {
+        text.push_str(part_of(line, name))?;
     }
+    Ok(text)
+}
 
-    /// The text of that name with the changes behind it.
-    pub fn text(&self, alloc: Global, spelled: &str) -> Result<String, AllocError> {
-        let (name, changes) = spelled.split_once(" / ").unwrap_or((spelled, ""));
-        let mut text = String::from_str(alloc, self.spelled(name))?;
-        for change in changes.split(" / ") {
-            if let Some((old, new)) = change.split_once("->") {
-                text = text.replacen(alloc, old.trim(), new.trim(), 1)?;
-            }
-        }
-        let lines = text.replace(alloc, ";", "\n")?;
-        lines.replace(alloc, "~", "\r")
-    }
-
-    // The text of that name, or none.
-    fn spelled(&self, name: &str) -> &str {
-        for (known, text) in &self.texts {
-            if known.as_str() == name {
-                return text.as_str();
-            }
-        }
-        ""
+// What the line says of that name.
+fn part_of<'a>(line: &'a str, name: &str) -> &'a str {
+    let named = line.strip_prefix("text ").unwrap_or("");
+    match named.split_once(' ') {
+        Some((of, part)) if of == name => part,
+        _ => "",
     }
 }
 

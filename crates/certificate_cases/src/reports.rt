@@ -2,7 +2,7 @@
 
 ghost use Rattle.hub_spec.specs.Certificates.{Holds};
 
-use crate::names::{Names, two_numbers};
+use crate::names::{text_in, two_numbers};
 use crate::sinks::sink;
 use cert_checker::{Verdict, check};
 use cert_format::{Certificate, read_cert};
@@ -17,11 +17,11 @@ pub fn report<R: Print + Threads + Sync>(
     rt: &R,
     alloc: Global,
     instance: &Instance,
-    names: &Names,
+    kept: &str,
     rest: &str,
 ) -> io::Result<()> {
     let (call, count, rest) = two_numbers(rest);
-    let text = names.text(alloc, rest)?;
+    let text = text_in(alloc, kept, rest)?;
     match read_cert(alloc, text.as_bytes()) {
         Ok(certificate) => judge(rt, alloc, instance, &certificate, call, count),
         Err(fault) => println!(rt; "  read: {fault}"),

@@ -1,7 +1,6 @@
 //! Texts scanned.
 
 use cert_scan::{Fault, Item, Scan};
-use std::alloc::{AllocError, Global};
 use std::io;
 
 /// The items of the text, a line each, and the fault at its end.
@@ -41,49 +40,4 @@ pub fn fault(text: &str) -> Option<Fault> {
         rest = &rest[taken..];
     }
     scan.finish()
-}
-
-/// Scans of the text cut in two at each place, and how many of them give other items or end otherwise than the scan of
-/// it whole.
-pub fn places(rt: &impl Print, alloc: Global, text: &str) -> io::Result<()> {
-    let places = text.len();
-    let others = others(alloc, text.as_bytes())?;
-    println!(rt; "  {places} places, {others} differ")
-}
-
-fn others(alloc: Global, bytes: &[u8]) -> Result<u64, AllocError> {
-    let whole = of_two(alloc, bytes, &[])?;
-    let mut others = 0u64;
-    for cut in 0..bytes.len() {
-        if of_two(alloc, &bytes[..cut], &bytes[cut..])? != whole {
-            others = others.saturating_add(1);
-        }
-    }
-    Ok(others)
-}
-
-// The items of two pieces, the fault at their end, and its line.
-fn of_two(
-    alloc: Global,
-    first: &[u8],
-    second: &[u8],
-) -> Result<(Vec<Item>, Option<Fault>, u64), AllocError> {
-    let mut scan = Scan::new();
-    let mut items = Vec::new(alloc);
-    run(&mut scan, first, &mut items)?;
-    run(&mut scan, second, &mut items)?;
-    Ok((items, scan.finish(), scan.line()))
-}
-
-fn run(scan: &mut Scan, bytes: &[u8], items: &mut Vec<Item>) -> Result<(), AllocError> {
-    let mut rest = bytes;
-    for _ in 0..=bytes.len() {
-        let (taken, item) = scan.run(rest);
-        let Some(item) = item else {
-            break;
-        };
-        items.push(item)?;
-        rest = &rest[taken..];
-    }
-    Ok(())
 }

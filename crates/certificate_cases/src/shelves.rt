@@ -1,7 +1,7 @@
 //! Certificates that a shelf holds.
 
 use crate::checks::tell;
-use crate::names::{Names, two_numbers};
+use crate::names::{text_in, two_numbers};
 use cert_checker::Ending;
 use hub_io::{MemFile, MemShelf};
 use hub_model::Instance;
@@ -43,11 +43,11 @@ pub fn failing(
     rt: &impl Print,
     alloc: Global,
     instance: &Instance,
-    names: &Names,
+    kept: &str,
     rest: &str,
 ) -> io::Result<()> {
     let (copies, most, rest) = two_numbers(rest);
-    let text = names.text(alloc, rest)?;
+    let text = text_in(alloc, kept, rest)?;
     let text = with_copies(alloc, &text, copies)?;
     for call in 1..100 {
         let end = end(alloc, instance, text.as_bytes(), call, most)?;
@@ -61,11 +61,18 @@ pub fn failing(
 
 // The text with so many copies of its one cut.
 fn with_copies(alloc: Global, text: &str, copies: u64) -> Result<String, AllocError> {
-    let mut cuts = format!(in alloc; "cuts {copies}\n")?;
+    let mut cuts = String::from_str(alloc, "cuts ")?;
+    add_number(&mut cuts, copies)?;
     for number in 1..=copies {
-        writeln!(cuts, "cut {number}\ndual 1 1 0")?;
+        cuts.push_str("cut ")?;
+        add_number(&mut cuts, number)?;
+        cuts.push_str("dual 1 1 0\n")?;
     }
     text.replacen(alloc, "cuts 1\ncut 1\ndual 1 1 0\n", &cuts, 1)
+}
+
+fn add_number(text: &mut String, number: u64) -> Result<(), AllocError> {
+    writeln!(text, "{number}")
 }
 
 // How the check of the bytes ends, where the call of this number is to fail, and each read gives at most so many bytes.
@@ -105,11 +112,11 @@ pub fn named(
     rt: &impl Print,
     alloc: Global,
     instance: &Instance,
-    names: &Names,
+    kept: &str,
     rest: &str,
 ) -> io::Result<()> {
     let (name, rest) = rest.split_once(' ').unwrap_or((rest, ""));
-    let text = names.text(alloc, rest)?;
+    let text = text_in(alloc, kept, rest)?;
     let mut shelf = shelf(alloc, text.as_bytes(), 0, 100)?;
     let ending = check_held(alloc, &mut shelf, name, instance);
     tell_end(rt, &(ending, shelf.faults()))?;

@@ -63,6 +63,7 @@ fn word_of(failure: Option<(Kind, u64)>) -> (&'static str, u64) {
     }
 }
 
+// Takes the items that a scan of the bytes gives, one by one.
 fn take_items<'a>(
     alloc: Global,
     instance: &'a Instance,
@@ -71,8 +72,9 @@ fn take_items<'a>(
     let mut scan = Scan::new();
     let mut checks = Checks::new(alloc, instance)?;
     for byte in bytes {
-        if let Some(item) = scan.step(*byte) {
-            checks.take(alloc, item)?;
+        match scan.step(*byte) {
+            Some(item) => checks.take(alloc, item)?,
+            None => {}
         }
     }
     Ok(checks)

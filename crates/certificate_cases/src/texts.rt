@@ -1,6 +1,6 @@
 //! Texts read as certificates, and written again.
 
-use crate::names::{Names, two_numbers};
+use crate::names::{text_in, two_numbers};
 use crate::scans::{fault, tell};
 use crate::sinks::sink;
 use cert_format::{Certificate, read_cert, write_cert};
@@ -17,9 +17,9 @@ pub fn faults(rt: &impl Print, alloc: Global, text: &str) -> io::Result<()> {
 }
 
 /// How much of the text is put again, once it is read.
-pub fn write(rt: &impl Print, alloc: Global, names: &Names, rest: &str) -> io::Result<()> {
+pub fn write(rt: &impl Print, alloc: Global, kept: &str, rest: &str) -> io::Result<()> {
     let (call, count, rest) = two_numbers(rest);
-    let text = names.text(alloc, rest)?;
+    let text = text_in(alloc, kept, rest)?;
     match read_cert(alloc, text.as_bytes()) {
         Ok(certificate) => put(rt, alloc, &certificate, text.as_bytes(), call, count),
         Err(fault) => println!(rt; "  read: {fault}"),

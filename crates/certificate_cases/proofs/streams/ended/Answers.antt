@@ -1,7 +1,6 @@
-use Rattle.std.proofs.Common.{◌++◌}
 use Rattle.certificate_cases.proofs.streams.ended.Goals as goal
 
 pub loop-piece-preserved : goal.loop-piece-preserved
 loop-piece-preserved c =
     let fed = c.loop-piece.invariant in
-    (fed.0 ++ c.in-Some.piece.now, c.in_ok-stream-2.ensures.fed fed.0 fed.1)
+    (_, c.in_ok-stream-2.ensures.fed fed.0 fed.1)
