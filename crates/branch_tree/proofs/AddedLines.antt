@@ -10,7 +10,7 @@ use Rattle.search_spec.specs.States.{State, Grown}
 use Rattle.search_steps.specs.Pools.{IsPoolOf, state_by}
 use Rattle.branch_tree.specs.declared.task.Task.{Task}
 use Rattle.branch_tree.specs.declared.progress.Progress.{Progress}
-use Rattle.branch_tree.specs.Views.{lines_of}
+use Rattle.kept_cuts.specs.Findings.{lines_of}
 use Rattle.branch_tree.specs.Progressing.{state_of, IsGoing, HasLine, IsAt, IsDone}
 
 lines_long : (lines : List model.TreeLine) → length (lines_of lines) ≡ length lines

@@ -1,6 +1,5 @@
 -- What the rule finds, with its certificate.
-use Rattle.std.proofs.Common.{◌≡◌, ℕ, ◌+◌, ◌^◌, ◌<◌, ◌≤◌, pos, ◌≤ℤ◌, List, length, Option, IsNone, refl, ap, sym, subst, ◌∙◌, length-append, arith}
-use Rattle.std.proofs.lemmas.Int.{ints}
+use Rattle.std.proofs.Common.{◌≡◌, ℕ, ◌+◌, ◌^◌, ◌<◌, ◌≤◌, List, length, Option, IsNone, refl, ap, sym, subst, ◌∙◌, length-append, arith}
 use Rattle.std.proofs.lemmas.List.{length-map}
 use Rattle.hub_spec.specs.Limits.{most_cuts}
 use Rattle.hub_spec.specs.Problem.{Problem, IsProblem}
@@ -8,7 +7,6 @@ use Rattle.hub_spec.specs.Plans.{plan_cost, NoPlanBelow}
 use Rattle.hub_spec.specs.Cuts.{Cut}
 use Rattle.hub_spec.specs.Trees.{Tree, branch, leaf, empty, TreeLine, preorder, line_count}
 use Rattle.hub_spec.proofs.SumLemmas.{by_test}
-use Rattle.hub_model.specs.Amounts.{natural}
 use Rattle.plan_model.specs.Lines.{tree_line_of}
 use Rattle.search_spec.specs.States.{State, Grown, is_stopped, answer}
 use Rattle.search_spec.specs.Steps.{begun}
@@ -21,8 +19,9 @@ use Rattle.search_spec.proofs.FoundProofs.{certificate_holds_lem, certificate_in
 use Rattle.search_spec.proofs.LeastRoutes.{certificate_is_one_lem}
 use Rattle.search_steps.specs.Advising.{master_advising}
 use Rattle.search_steps.proofs.MasterNumbers.{advising_sound}
-use Rattle.branch_tree.specs.declared.found.Found.{Found}
-use Rattle.branch_tree.specs.Findings.{parts_of, found_by, IsFound, proof_of, IsProved}
+use Rattle.kept_cuts.specs.Findings.{proof_of, IsProved}
+use Rattle.kept_cuts.specs.declared.found.Found.{Found}
+use Rattle.branch_tree.specs.Findings.{parts_of, found_by, IsFound}
 
 -- the state that a search begins with
 abbrev pub start_of : Problem → State
@@ -55,8 +54,8 @@ pub found_certificate : (p : Problem) (g : Grown) (found : Found) → IsFound p 
 found_certificate p g found is = record {
   size = λ i. p.size;
   candidates = λ i. length p.candidates;
-  cost = ap natural is.cost;
-  bound = ap natural is.bound;
+  cost = is.cost;
+  bound = is.bound;
   hubs = is.hubs;
   routes = is.routes;
   cuts = is.cuts;
@@ -71,6 +70,7 @@ found_is_proved p n found ok is =
     let certificate = found_certificate p g found is in
     let few : length k.cuts ≤ most_cuts = subst (λ (cs : List Cut). length cs ≤ most_cuts) (sym is.cuts) is.few_cuts in
     record {
+      fit = is.kept.fit;
       tree = g.tree;
       lines = is.lines;
       in_range = certificate_in_range_lem p g k ok proof certificate few is.few_lines;
@@ -85,19 +85,19 @@ found_certificate_is p n found ok is =
     let g = found_by p n in
     (certificate_is_one_lem p g (proof_of p found g.tree) (found_proof p n ok)).0 (found_certificate p g found is)
 
-pub found_paid : (p : Problem) (n : Option ℕ) (found : Found) → IsProblem p → IsFound p (found_by p n) found → found.cost ≡ pos (plan_cost p found.plan)
+pub found_paid : (p : Problem) (n : Option ℕ) (found : Found) → IsProblem p → IsFound p (found_by p n) found → found.cost ≡ plan_cost p found.plan
 found_paid p n found ok is =
     let g = found_by p n in
     let holds = certificate_holds_lem p g (proof_of p found g.tree) ok (found_proof p n ok) (found_certificate p g found is) in
-    is.cost ∙ ap pos (sym (ap natural is.cost) ∙ holds.cost)
+    holds.cost
 
-pub found_below : (p : Problem) (n : Option ℕ) (found : Found) → IsProblem p → IsFound p (found_by p n) found → NoPlanBelow p (natural found.bound)
+pub found_below : (p : Problem) (n : Option ℕ) (found : Found) → IsProblem p → IsFound p (found_by p n) found → NoPlanBelow p found.bound
 found_below p n found ok is =
-    subst (NoPlanBelow p) (sym (ap natural is.bound)) (answer_bounds_lem p (found_by p n) ok (found_proof p n ok))
+    subst (NoPlanBelow p) (sym is.bound) (answer_bounds_lem p (found_by p n) ok (found_proof p n ok))
 
-pub found_within : (p : Problem) (n : Option ℕ) (found : Found) → IsProblem p → IsFound p (found_by p n) found → found.bound ≤ℤ found.cost
+pub found_within : (p : Problem) (n : Option ℕ) (found : Found) → IsProblem p → IsFound p (found_by p n) found → found.bound ≤ found.cost
 found_within p n found ok is =
-    let low = (found_proof p n ok).within_cost in omega (arith, ints, is.bound, is.cost, low)
+    let low = (found_proof p n ok).within_cost in omega (arith, is.bound, is.cost, low)
 
 length-preorder : (t : Tree) → length (preorder t) ≡ line_count t
 length-preorder (branch k a b) = omega (arith, length-append (preorder a) (preorder b), length-preorder a, length-preorder b)
@@ -123,15 +123,15 @@ pub found_allowed : (p : Problem) (n : Option ℕ) (found : Found) → IsProblem
 found_allowed p n found ok is = subst (AreWithin n) (lines_made p n found ok is) (found_counted p n ok).allowed
 
 pub found_spent : (p : Problem) (n : Option ℕ) (found : Found) → IsProblem p → IsFound p (found_by p n) found
-    → natural found.bound < natural found.cost → IsSpent n (length found.tree.items)
+    → found.bound < found.cost → IsSpent n (length found.tree.items)
 found_spent p n found ok is less =
     let g = found_by p n in
     let stops = found_stopped p n ok in
-    let below : answer g.state < g.state.cost = omega (arith, less, ap natural is.bound, ap natural is.cost) in
+    let below : answer g.state < g.state.cost = omega (arith, less, is.bound, is.cost) in
     subst (IsSpent n) (lines_made p n found ok is)
     (by_test (is_stopped g.state) (λ stopped. stops.spent stopped) (λ going. absurd (omega (arith, below, stops.whole going))))
 
 pub found_enough_is : (p : Problem) (n : Option ℕ) (found : Found) → IsProblem p → IsFound p (found_by p n) found
     → IsEnough (2 ^ (length p.candidates + 1)) n → found.bound ≡ found.cost
 found_enough_is p n found ok is enough =
-    is.bound ∙ ap pos ((found_stopped p n ok).whole (found_enough p n ok enough)) ∙ sym is.cost
+    is.bound ∙ (found_stopped p n ok).whole (found_enough p n ok enough) ∙ sym is.cost

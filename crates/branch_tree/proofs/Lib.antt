@@ -1,4 +1,5 @@
 pub mod FoundCertificates
+pub mod KeptPools
 pub mod SetNumbers
 pub mod AddedLines
 pub mod AddedCuts

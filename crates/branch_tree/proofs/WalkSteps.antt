@@ -15,7 +15,7 @@ use Rattle.search_spec.proofs.Fixings.{AreFixings, fixings_are}
 use Rattle.search_steps.specs.Weights.{side_as, sides_as}
 use Rattle.branch_tree.specs.declared.task.Task.{Task}
 use Rattle.branch_tree.specs.declared.progress.Progress.{Progress}
-use Rattle.branch_tree.specs.Views.{lines_of}
+use Rattle.kept_cuts.specs.Findings.{lines_of}
 use Rattle.branch_tree.specs.Progressing.{state_of, HasLine, IsDone}
 use Rattle.branch_tree.specs.Walking.{AreOnFree}
 use Rattle.branch_tree.proofs.AddedLines.{line_kept, line_state}

@@ -1,6 +1,5 @@
 -- The start of a search, and its end.
-use Rattle.std.proofs.Common.{◌≡◌, ℕ, ◌≤◌, ℤ, pos, SFits, to_z, of_z, to_z-of_z, false, not, List, [], ◌∷◌, length, filter, Option, None, Some, Vec, Global, refl, ap, ap₂, sym, subst, ◌∙◌, rules, arith}
-use mir.Syntax.{w128}
+use Rattle.std.proofs.Common.{◌≡◌, ℕ, ◌≤◌, false, not, List, [], ◌∷◌, length, map, filter, None, Some, Vec, Global, refl, ap, ap₂, sym, subst, ◌∙◌, arith}
 use Rattle.std.specs.List.{AllZip}
 use Rattle.std.proofs.lemmas.List.{length-map}
 use Rattle.std.proofs.lemmas.List.Elements.{All-nil, All-cons, All-contains_itself}
@@ -14,20 +13,22 @@ use Rattle.hub_spec.proofs.Limits.{plan_cost_limit}
 use Rattle.hub_spec.proofs.Sets.{filter_same}
 use Rattle.plan_model.specs.declared.tree_lines.TreeLine as model
 use Rattle.plan_model.specs.Lines.{tree_line_of}
-use Rattle.cut_pool.specs.Entries.{Sums, Entry, PoolState, entry_of}
+use Rattle.cut_pool.specs.Entries.{Sums, Entry, entry_of}
 use Rattle.search_spec.specs.States.{State, Grown, lesser, answer}
 use Rattle.search_spec.specs.Steps.{begun}
 use Rattle.search_spec.specs.Choices.{others, has_node}
 use Rattle.search_spec.proofs.RuleParts.{has_when}
-use Rattle.search_steps.specs.Pools.{entry_cut, IsSumsOf, IsPoolOf, pool_sets, pool_cuts, state_by}
+use Rattle.search_steps.specs.Pools.{entry_cut, IsSumsOf, IsPoolOf, state_by}
 use Rattle.search_steps.specs.Weights.{AreFixedCosts}
 use Rattle.branch_tree.specs.declared.task.Task.{Task}
 use Rattle.branch_tree.specs.declared.progress.Progress.{Progress}
-use Rattle.branch_tree.specs.declared.found.Found.{Found}
-use Rattle.branch_tree.specs.Views.{lines_of}
+use Rattle.kept_cuts.specs.Kept.{hubs_of, kept_cuts}
+use Rattle.kept_cuts.specs.Findings.{lines_of}
+use Rattle.kept_cuts.specs.declared.found.Found.{Found}
 use Rattle.branch_tree.specs.Findings.{parts_of, IsFound}
 use Rattle.branch_tree.specs.Progressing.{state_of, IsGoing}
 use Rattle.branch_tree.proofs.FoundCertificates.{parts_sound, few_lines_of}
+use Rattle.branch_tree.proofs.KeptPools.{AreColumnsOf, kept_pool_sets, kept_pool_cuts, kept_pool}
 use Rattle.branch_tree.proofs.LeafSteps.{parts_ascending}
 use Rattle.branch_tree.proofs.AddedCuts.{HasCut, more_sets, more_cuts}
 
@@ -84,25 +85,13 @@ first_going t after sums set order costs cut is_set hubs none one =
 
 -- ---- the end
 
--- a number that goes through the signed numbers of 128 bits
-pub passed : (z : ℤ) (n : ℕ) → z ≡ pos n → n ≤ most_cost → to_z w128 (of_z w128 z) ≡ pos n
-passed z n is low =
-    let fits : SFits w128 z = rw is (small n low) in to_z-of_z fits ∙ is
-  where
-    small : (n : ℕ) → n ≤ most_cost → SFits w128 (pos n)
-    small n low = search (rules, arith)
-
-pub lesser_low : (n : ℕ) (o : Option ℕ) → lesser n o ≤ n
-lesser_low n None = omega arith
-lesser_low n (Some m) = omega arith
-
 -- what was found, by what the search has at the end
 pub record IsEnd (p : Problem) (s : Progress) (routes : List (ℕ × ℕ)) (found : Found) : Type 0 where
-  pub cost : found.cost ≡ pos s.cost
-  pub bound : found.bound ≡ pos (lesser s.cost s.stop)
+  pub cost : found.cost ≡ s.cost
+  pub bound : found.bound ≡ lesser s.cost s.stop
   pub plan : found.plan ≡ record { hubs = s.hubs; routes = routes }
   pub least : AllZip (IsLeastRoute p s.hubs) (commodities p.size) routes
-  pub pool : found.pool ≡ s.pool
+  pub cuts : AreColumnsOf s.pool.entries found.cuts
   pub tree : found.tree ≡ s.lines
 
 pub end_found : (t : Task) (s : Progress) (routes : List (ℕ × ℕ)) (found : Found) (g : Grown) → IsGoing t s → IsEnd t.instance.now s routes found
@@ -111,13 +100,13 @@ end_found t s routes found g going end state lines =
     let p = t.instance.now in
     let cuts = ap (λ (x : State). x.cuts) state in
     record {
-      cost = end.cost ∙ ap (λ (x : State). pos x.cost) state;
-      bound = end.bound ∙ ap (λ (x : State). pos (answer x)) state;
+      cost = end.cost ∙ ap (λ (x : State). x.cost) state;
+      bound = end.bound ∙ ap answer state;
       hubs = ap (λ (x : Plan). x.hubs) end.plan ∙ ap (λ (x : State). x.hubs) state;
       routes = subst (λ (x : Plan). AllZip (IsLeastRoute p x.hubs) (commodities p.size) x.routes) (sym end.plan) end.least;
-      pool = subst (λ (x : PoolState). IsPoolOf p x.entries) (sym end.pool) going.pool;
-      sets = ap (λ (x : PoolState). pool_sets x.entries) end.pool ∙ ap (λ (x : State). x.sets) state;
-      cuts = ap (λ (x : PoolState). pool_cuts p x.entries) end.pool ∙ cuts;
+      kept = kept_pool p s.pool.entries found.cuts going.pool end.cuts;
+      sets = ap (map hubs_of) end.cuts.cuts ∙ kept_pool_sets s.pool.entries ∙ ap (λ (x : State). map Some x.sets) state;
+      cuts = ap (kept_cuts p) end.cuts.cuts ∙ kept_pool_cuts p s.pool.entries ∙ cuts;
       lines = ap (λ (v : Vec model.TreeLine Global). lines_of v.items) end.tree ∙ lines;
       few_cuts = omega (arith, going.few_cuts, length-map s.pool.entries (entry_cut p), ap (λ (cs : List Cut). length cs) cuts);
       few_lines = few_lines_of g.tree (lines_of s.lines.items) most_tree_lines lines (omega (arith, going.few_lines, length-map s.lines.items tree_line_of));

@@ -1,4 +1,3 @@
-pub mod Views
 pub mod Findings
 pub mod Progressing
 pub mod Rounding

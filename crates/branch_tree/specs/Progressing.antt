@@ -10,7 +10,7 @@ use Rattle.search_steps.specs.Pools.{IsPoolOf, state_by}
 use Rattle.search_steps.specs.Weights.{AreFixedCosts}
 use Rattle.branch_tree.specs.declared.task.Task.{Task}
 use Rattle.branch_tree.specs.declared.progress.Progress.{Progress}
-use Rattle.branch_tree.specs.Views.{lines_of}
+use Rattle.kept_cuts.specs.Findings.{lines_of}
 use Rattle.branch_tree.specs.Findings.{parts_of}
 
 -- how the rule handles a branch with fewer free nodes than this depth

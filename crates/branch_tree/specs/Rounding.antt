@@ -8,7 +8,7 @@ use Rattle.search_steps.specs.Weights.{AreNodeWeights, pairs_of}
 use Rattle.branch_tree.specs.declared.task.Task.{Task}
 use Rattle.branch_tree.specs.declared.progress.Progress.{Progress}
 use Rattle.branch_tree.specs.declared.rounds.RoundEnd.{RoundEnd}
-use Rattle.branch_tree.specs.Views.{lines_of}
+use Rattle.kept_cuts.specs.Findings.{lines_of}
 use Rattle.branch_tree.specs.Progressing.{state_of, IsGoing}
 
 -- what the code's round leaves, with what the search has after it

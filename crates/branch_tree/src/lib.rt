@@ -10,7 +10,6 @@
 //! Costs are in 10^-12 and weights in 10^-6; nodes are `u32`, counted from 0, and cuts are counted from 1.
 #![tactic(auto)]
 
-mod found;
 mod laws;
 mod leaves;
 mod progress;
@@ -20,6 +19,5 @@ mod separating;
 mod task;
 mod walking;
 
-pub use found::Found;
 pub use laws::search_is_proved;
 pub use searching::search;

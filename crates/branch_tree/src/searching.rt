@@ -1,25 +1,24 @@
 //! The whole search.
 
-ghost use Rattle.std.specs.Prelude.{◌≡◌, ◌≤◌, ◌<◌, ◌+◌, ◌^◌, ◌≤ℤ◌, [], length, pos, IfOk};
+ghost use Rattle.std.specs.Prelude.{◌≡◌, ◌≤◌, ◌<◌, ◌+◌, ◌^◌, [], length, IfOk};
 ghost use Rattle.hub_spec.specs.Plans.{plan_cost, NoPlanBelow};
 ghost use Rattle.hub_spec.specs.Trees.{preorder};
-ghost use Rattle.hub_model.specs.Amounts.{natural};
 ghost use Rattle.search_spec.specs.States.{Grown, answer};
 ghost use Rattle.search_spec.specs.Steps.{begun};
 ghost use Rattle.search_spec.specs.Findings.{certificate_of, AreWithin, IsSpent, IsEnough};
 ghost use Rattle.search_steps.specs.Weights.{AreFixedCosts};
-ghost use Rattle.branch_tree.specs.Views.{lines_of};
+ghost use Rattle.kept_cuts.specs.Findings.{lines_of, proof_of, IsProved};
 ghost use Rattle.branch_tree.specs.Progressing.{state_of, IsGoing};
-ghost use Rattle.branch_tree.specs.Findings.{parts_of, found_by, IsFound, IsProved, proof_of};
+ghost use Rattle.branch_tree.specs.Findings.{parts_of, found_by, IsFound};
 
-use crate::found::Found;
 use crate::leaves::lesser;
 use crate::progress::Progress;
 use crate::task::Task;
 use crate::walking::node;
 use assign_sub::assign;
 use cut_pool::Pool;
-use hub_model::{Instance, signed, unsigned};
+use hub_model::{Instance, unsigned};
+use kept_cuts::Found;
 use plan_model::{Branch, HubSet, Plan};
 use search_steps::fixed_costs;
 use separators::Separator;
@@ -44,12 +43,12 @@ pub fn search<S: Separator>(
     ensures found { IfOk result (IsFound instance.now (found_by instance.now nodes)) }
     ensures certificate { let g = found_by instance.now nodes in IfOk result (λ found. proof_of instance.now found g.tree ≡ certificate_of instance.now g) }
     ensures proved { IfOk result (IsProved instance.now) }
-    ensures paid { IfOk result (λ found. found.cost ≡ pos (plan_cost instance.now found.plan)) }
-    ensures below { IfOk result (λ found. NoPlanBelow instance.now (natural found.bound)) }
-    ensures within { IfOk result (λ found. found.bound ≤ℤ found.cost) }
+    ensures paid { IfOk result (λ found. found.cost ≡ plan_cost instance.now found.plan) }
+    ensures below { IfOk result (λ found. NoPlanBelow instance.now found.bound) }
+    ensures within { IfOk result (λ found. found.bound ≤ found.cost) }
     ensures most { IfOk result (λ found. length found.tree.items + 1 ≤ 2 ^ (length instance.now.candidates + 1)) }
     ensures allowed { IfOk result (λ found. AreWithin nodes (length found.tree.items)) }
-    ensures spent { IfOk result (λ found. natural found.bound < natural found.cost → IsSpent nodes (length found.tree.items)) }
+    ensures spent { IfOk result (λ found. found.bound < found.cost → IsSpent nodes (length found.tree.items)) }
     ensures enough { IsEnough (2 ^ (length instance.now.candidates + 1)) nodes → IfOk result (λ found. found.bound ≡ found.cost) }
 {
     let fixed = fixed_costs(alloc, instance)?;
@@ -107,10 +106,10 @@ fn finish(alloc: Global, task: &Task, progress: Progress) -> Result<Found, Alloc
     let assignment = assign(alloc, task.instance, &progress.hubs)?;
     let hubs = progress.hubs.members().to_vec(alloc)?;
     Ok(Found {
-        cost: signed(progress.cost),
-        bound: signed(lesser(progress.cost, progress.stop)),
+        cost: progress.cost,
+        bound: lesser(progress.cost, progress.stop),
         plan: Plan::new(hubs, assignment.routes),
-        pool: progress.pool,
+        cuts: progress.pool.into_cuts(),
         tree: progress.lines,
     })
 }

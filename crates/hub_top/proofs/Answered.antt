@@ -79,11 +79,11 @@ stopped_status k gap = cond-false (nat_eq k.bound k.cost) Done Stopped (ne_eqb k
 
 pub solves_status : (p : Problem) (n : Option ℕ) (tells : Proof → Type 0) → Solves p n tells → Done ≡ rule_status p n
 unfolding rule_status
-solves_status p n tells h = sym (ap found_status (sym h.by_rule.is) ∙ done_status h.certificate h.no_gap)
+solves_status p n tells h = sym (ap found_status (sym h.by_rule) ∙ done_status h.certificate h.no_gap)
 
 pub stops_status : (p : Problem) (n : Option ℕ) (tells : Proof → Type 0) → Stops p n tells → Stopped ≡ rule_status p n
 unfolding rule_status
-stops_status p n tells h = sym (ap found_status (sym h.by_rule.is) ∙ stopped_status h.certificate h.gap)
+stops_status p n tells h = sym (ap found_status (sym h.by_rule) ∙ stopped_status h.certificate h.gap)
 
 pub solve_status : (files : Files) (x : Solving) (p : Problem) (status : Status) (text : List ℕ) → HoldsInstance files x.source p
     → Answers (solve x) status (Some files) text → status ≡ rule_status p x.search.nodes
@@ -123,17 +123,19 @@ optimize_status held x Memory text h = absurd h
 optimize_status held x Read text h = absurd h
 optimize_status held x Write text h = absurd h
 
--- and one alone where no number of nodes is given
-pub optimize_whole : (held : Option Files) (x : Solving) (status : Status) (text : List ℕ) → x.search.nodes ≡ None
-    → Answers (optimize x) status held text → status ≡ Done
-optimize_whole held x Done text none h = refl
-optimize_whole held x Stopped text none h = absurd (subst (λ (n : Option ℕ). IsSpent n (line_count h.bounds.certificate.tree)) none h.bounds.spent)
-optimize_whole held x No text none h = absurd h
-optimize_whole held x Usage text none h = absurd h
-optimize_whole held x Instance text none h = absurd h
-optimize_whole held x Memory text none h = absurd h
-optimize_whole held x Read text none h = absurd h
-optimize_whole held x Write text none h = absurd h
+-- and one alone where as many nodes are allowed as a whole tree has
+pub optimize_enough : (files : Files) (x : Solving) (p : Problem) (status : Status) (text : List ℕ) → HoldsInstance files x.source p
+    → IsEnoughFor p x.search.nodes → Answers (optimize x) status (Some files) text → status ≡ Done
+optimize_enough files x p Done text instance enough h = refl
+optimize_enough files x p Stopped text instance enough h =
+    let same : p ≡ h.problem = one_instance files x.source p h.problem instance h.instance in
+    absurd (h.bounds.not_enough (subst (λ (q : Problem). IsEnoughFor q x.search.nodes) same enough))
+optimize_enough files x p No text instance enough h = absurd h
+optimize_enough files x p Usage text instance enough h = absurd h
+optimize_enough files x p Instance text instance enough h = absurd h
+optimize_enough files x p Memory text instance enough h = absurd h
+optimize_enough files x p Read text instance enough h = absurd h
+optimize_enough files x p Write text instance enough h = absurd h
 
 pub demo_status : (held : Option Files) (m : Making) (search : Search) (status : Status) (text : List ℕ)
     → Answers (demo m search) status held text → status ≡ rule_status (made_problem m.seed m.size) search.nodes

@@ -13,7 +13,7 @@ use Rattle.hub_top.specs.Answers.{Answers, verdict_status, report_status, rule_s
 use Rattle.hub_top.specs.Outcomes.{Outcome, answered, usage, faulty, memory, read, status_of, ShelfFails, Quiet, MayComeTo, Written, whole, out_cut, err_cut}
 use Rattle.hub_top.specs.Completeness.{Completeness, EndsAs, EndsWith}
 use Rattle.hub_top.proofs.OneReading.{no_blame}
-use Rattle.hub_top.proofs.Answered.{answered_instance, solve_status, solve_enough, optimize_status, optimize_whole, check_status, report_status_is, make_status, demo_status, demo_enough}
+use Rattle.hub_top.proofs.Answered.{answered_instance, solve_status, solve_enough, optimize_status, optimize_enough, check_status, report_status_is, make_status, demo_status, demo_enough}
 
 -- an ending that is written whole has its status, and a sink that fails counts it
 written_status : {O E : Type 0} (out_taken : O → Option (List ℕ)) (out_faults : O → ℕ) (err_taken : E → Option (List ℕ)) (err_faults : E → ℕ)
@@ -119,8 +119,8 @@ module _ (asked : Option Request) (held : Option Files) (fails : Request → Typ
         (λ other text answers. solve_status files s p other text h answers);
     enough = λ files s p told is h many. told_ends files (solve s) s.source p (λ (x : Status). x ≡ Done) told is refl h
         (λ other text answers. solve_enough files s p other text h many answers);
-    optimized = λ files s p told is h none. told_ends files (optimize s) s.source p (λ (x : Status). x ≡ Done) told is refl h
-        (λ other text answers. optimize_whole (Some files) s other text none answers);
+    optimized = λ files s p told is h many. told_ends files (optimize s) s.source p (λ (x : Status). x ≡ Done) told is refl h
+        (λ other text answers. optimize_enough files s p other text h many answers);
     bounded = λ files s p told is h. told_ends files (optimize s) s.source p (λ (x : Status). (x ≡ Done) ⊎ (x ≡ Stopped)) told is refl h
         (λ other text answers. optimize_status (Some files) s other text answers);
     judged = λ files s certificate p bytes verdict told is h there why. told_ends files (check s certificate) s p (λ (x : Status). x ≡ verdict_status verdict) told is refl h

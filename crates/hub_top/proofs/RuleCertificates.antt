@@ -18,7 +18,7 @@ use Rattle.search_spec.proofs.FoundProofs.{certificate_holds_lem}
 use Rattle.search_steps.specs.Advising.{master_advising}
 use Rattle.search_steps.proofs.MasterNumbers.{advising_sound}
 use Rattle.branch_tree.specs.Findings.{found_by}
-use Rattle.hub_top.specs.Commands.{rule_certificate, IsByRule, Finds, Solves, Stops, IsEnoughFor}
+use Rattle.hub_top.specs.Commands.{rule_certificate, Finds, Solves, Stops, IsEnoughFor}
 
 -- ---- what the rule finds
 
@@ -71,15 +71,11 @@ rule_finds p n tells ok told =
       told = told;
       holds = holds;
       paid = sym holds.cost;
+      routes = (rule_is_certificate p n ok).routes;
       below = no_plan_below_bound p (rule_certificate p n) ok holds;
       allowed = subst (AreWithin n) lines counted.allowed;
+      most = subst (λ (m : ℕ). m + 1 ≤ 2 ^ (length p.candidates + 1)) lines counted.most;
     }
-
-rule_by_rule : (p : Problem) (n : Option ℕ) → IsProblem p → IsByRule p n (rule_certificate p n)
-rule_by_rule p n ok = record {
-  is = refl;
-  most = subst (λ (m : ℕ). m + 1 ≤ 2 ^ (length p.candidates + 1)) (sym (rule_lines p n ok)) (rule_counted p n ok).most;
-}
 
 pub rule_solves : (p : Problem) (n : Option ℕ) (tells : Proof → Type 0) → IsProblem p → tells (rule_certificate p n)
     → (rule_certificate p n).bound ≡ (rule_certificate p n).cost → Solves p n tells
@@ -89,7 +85,7 @@ rule_solves p n tells ok told closed =
     let holds = finds.holds in
     record {
       certificate = k;
-      by_rule = rule_by_rule p n ok;
+      by_rule = refl;
       finds = finds;
       no_gap = closed;
       optimal = record { is_plan = holds.plan; wanted = holds.wanted; least = subst (NoPlanBelow p) (closed ∙ holds.cost) finds.below };
@@ -109,7 +105,7 @@ rule_stops p n tells ok told gap =
     let closed : IsNone g.state.stop → ⊥ = λ none. absurd (omega (arith, gap, is.bound, is.cost, stops.whole none)) in
     record {
       certificate = k;
-      by_rule = rule_by_rule p n ok;
+      by_rule = refl;
       finds = rule_finds p n tells ok told;
       gap = gap;
       spent = subst (IsSpent n) (sym (rule_lines p n ok)) (stops.spent (none_or_some g.state.stop closed));

@@ -1,5 +1,5 @@
 -- What the code of a search found is told as the commands ask: `solve` by its text, `demo` by five lines.
-use Rattle.std.proofs.Common.{◌≡◌, ◌≢◌, ℕ, ℤ, pos, ◌<◌, ◌≤◌, List, length, Option, true, false, refl, sym, subst, ap, ◌∙◌, arith, nat_eq, cond, Result, Ok, Err}
+use Rattle.std.proofs.Common.{◌≡◌, ◌≢◌, ℕ, ◌<◌, ◌≤◌, List, length, Option, true, false, refl, sym, subst, ap, ◌∙◌, arith, nat_eq, cond, Result, Ok, Err}
 use Rattle.std.specs.Prelude.{IfOk}
 use Rattle.std.proofs.lemmas.List.{length-map}
 use Rattle.std.proofs.lemmas.Bool.{cond_both, eqb-true, eqb-false}
@@ -9,15 +9,15 @@ use Rattle.hub_spec.specs.Trees.{line_count, preorder}
 use Rattle.hub_spec.specs.Certificates.{Proof}
 use Rattle.hub_spec.specs.Ranges.{IsInRange}
 use Rattle.hub_spec.proofs.Preorders.{length-preorder}
-use Rattle.hub_model.specs.Amounts.{natural}
 use Rattle.plan_model.specs.Lines.{tree_line_of}
 use Rattle.search_spec.specs.States.{answer}
 use Rattle.search_spec.proofs.FoundProofs.{certificate_in_range_lem}
 use Rattle.cert_spec.specs.Text.{certificate_text, Spells}
-use Rattle.branch_tree.specs.declared.found.Found.{Found}
-use Rattle.branch_tree.specs.Findings.{found_by, IsFound, IsProved, proof_of}
-use Rattle.found_text.specs.Texts.{found_text}
-use Rattle.found_text.proofs.FoundLines.{found_text_certificate}
+use Rattle.kept_cuts.specs.declared.found.Found.{Found}
+use Rattle.kept_cuts.specs.Findings.{IsProved, proof_of}
+use Rattle.branch_tree.specs.Findings.{found_by, IsFound}
+use Rattle.proof_text.specs.Texts.{found_text}
+use Rattle.proof_text.proofs.FoundLines.{found_text_certificate}
 use Rattle.file_spec.specs.Instances.{made}
 use Rattle.hub_make.specs.Contents.{made_contents, made_problem}
 use Rattle.hub_words.specs.Requests.{Source, Solving, Making, Search, Request, solve, demo}
@@ -34,8 +34,8 @@ use Rattle.hub_top.proofs.RuleCertificates.{rule_proof, rule_is_certificate, rul
 status_is : (p : Problem) (n : Option ℕ) (found : Found) → IsSearched p n found → finding_status found ≡ found_status (rule_certificate p n)
 status_is p n found h =
     let is = rule_is_certificate p n h.problem in
-    ap (λ (b : ℕ). cond (nat_eq b (natural found.cost)) Done Stopped) (ap natural h.finding.bound ∙ sym is.bound)
-    ∙ ap (λ (c : ℕ). cond (nat_eq (rule_certificate p n).bound c) Done Stopped) (ap natural h.finding.cost ∙ sym is.cost)
+    ap (λ (b : ℕ). cond (nat_eq b found.cost) Done Stopped) (h.finding.bound ∙ sym is.bound)
+    ∙ ap (λ (c : ℕ). cond (nat_eq (rule_certificate p n).bound c) Done Stopped) (h.finding.cost ∙ sym is.cost)
 
 -- what holds with the status of the rule's certificate, by whether its bound is its cost
 by_status : (p : Problem) (n : Option ℕ) (found : Found) (P : Status → Type 0) → IsSearched p n found
@@ -79,7 +79,7 @@ lines_long p n found h =
 
 -- the five lines of what was found are those of the rule's certificate
 five_lines : (p : Problem) (n : Option ℕ) (found : Found) → IsSearched p n found
-    → lines.demo_text p.size (natural found.cost) (natural found.bound) found.plan.hubs (length found.tree.items) ≡ demo_text (rule_certificate p n)
+    → lines.demo_text p.size found.cost found.bound found.plan.hubs (length found.tree.items) ≡ demo_text (rule_certificate p n)
 five_lines p n found h =
     let k = rule_certificate p n in
     let is = rule_is_certificate p n h.problem in
@@ -89,13 +89,13 @@ five_lines p n found h =
 -- `demo` answers so
 pub demo_answers : (held : Option Files) (m : Making) (search : Search) (size : ℕ) (found : Found) → size ≡ (made_problem m.seed m.size).size
     → IsSearched (made_problem m.seed m.size) search.nodes found
-    → Answers (demo m search) (finding_status found) held (lines.demo_text size (natural found.cost) (natural found.bound) found.plan.hubs (length found.tree.items))
+    → Answers (demo m search) (finding_status found) held (lines.demo_text size found.cost found.bound found.plan.hubs (length found.tree.items))
 demo_answers held m search size found sized h =
     let p = made_problem m.seed m.size in
     let n = search.nodes in
-    let text = lines.demo_text size (natural found.cost) (natural found.bound) found.plan.hubs (length found.tree.items) in
+    let text = lines.demo_text size found.cost found.bound found.plan.hubs (length found.tree.items) in
     let told : Demonstrates text (rule_certificate p n) =
-    ap (λ (x : ℕ). lines.demo_text x (natural found.cost) (natural found.bound) found.plan.hubs (length found.tree.items)) sized ∙ five_lines p n found h in
+    ap (λ (x : ℕ). lines.demo_text x found.cost found.bound found.plan.hubs (length found.tree.items)) sized ∙ five_lines p n found h in
     by_status p n found (λ x. Answers (demo m search) x held text) h
     (λ closed. rule_solves p n (Demonstrates text) h.problem told closed)
     (λ gap. rule_stops p n (Demonstrates text) h.problem told gap)

@@ -1,8 +1,9 @@
 -- What each command does with the files that it names.
 use Rattle.std.specs.Prelude.{◌≡◌, ℕ, ◌+◌, ◌^◌, ◌<◌, ◌≤◌, List, length, Option, Some, None, ◌⊎◌}
+use Rattle.std.specs.List.{AllZip}
 use Rattle.hub_io.specs.Outside.{Files}
-use Rattle.hub_spec.specs.Problem.{Problem}
-use Rattle.hub_spec.specs.Plans.{IsOptimal, NoPlanBelow, plan_cost}
+use Rattle.hub_spec.specs.Problem.{Problem, commodities}
+use Rattle.hub_spec.specs.Plans.{IsOptimal, IsSetCost, IsLeastRoute, NoPlanBelow, plan_cost}
 use Rattle.hub_spec.specs.Trees.{line_count}
 use Rattle.hub_spec.specs.Certificates.{Proof, Holds}
 use Rattle.search_spec.specs.Findings.{AreWithin, IsSpent, IsEnough, certificate_of}
@@ -76,14 +77,16 @@ HasBlame files s on_costs fault = HoldsCostFault files s fault
 -- ---- what a search comes to
 
 -- what is told is a certificate that holds for the instance: its hubs and routes are a plan that costs exactly its cost,
--- and no nonempty set of candidates with any routing costs less than its bound; its tree has no more nodes than are
--- allowed
+-- each route is a least one through its hubs, and no nonempty set of candidates with any routing costs less than its
+-- bound; its tree has no more nodes than are allowed, and than a whole tree has
 pub record Finds (p : Problem) (nodes : Option ℕ) (tells : Proof → Type 0) (k : Proof) : Type 0 where
   pub told : tells k
   pub holds : Holds p k
   pub paid : plan_cost p k.plan ≡ k.cost
+  pub routes : AllZip (IsLeastRoute p k.plan.hubs) (commodities p.size) k.plan.routes
   pub below : NoPlanBelow p k.bound
   pub allowed : AreWithin nodes (line_count k.tree)
+  pub most : line_count k.tree + 1 ≤ 2 ^ (length p.candidates + 1)
 
 -- ---- what `solve` and `demo` come to
 
@@ -91,10 +94,9 @@ pub record Finds (p : Problem) (nodes : Option ℕ) (tells : Proof → Type 0) (
 abbrev pub rule_certificate : Problem → Option ℕ → Proof
 rule_certificate p nodes = certificate_of p (found_by p nodes)
 
--- it is the rule's, and its tree has no more nodes than a whole tree has
-pub record IsByRule (p : Problem) (nodes : Option ℕ) (k : Proof) : Type 0 where
-  pub is : k ≡ rule_certificate p nodes
-  pub most : line_count k.tree + 1 ≤ 2 ^ (length p.candidates + 1)
+-- it is the rule's
+abbrev pub IsByRule : Problem → Option ℕ → Proof → Type 0
+IsByRule p nodes k = k ≡ rule_certificate p nodes
 
 -- as many nodes are allowed as a whole tree over the instance's candidates has
 abbrev pub IsEnoughFor : Problem → Option ℕ → Type 0
@@ -131,6 +133,10 @@ pub record StopsInstance (held : Option Files) (s : Solving) (text : List ℕ) :
 
 -- ---- what `optimize` comes to
 
+-- it costs at most what all candidates as hubs cost
+abbrev pub IsAtMostAll : Problem → Proof → Type 0
+IsAtMostAll p k = (cost : ℕ) → IsSetCost p p.candidates cost → k.cost ≤ cost
+
 -- the text is a certificate's whose bound is its cost: no nonempty set of candidates with any routing costs less
 pub record Optimizes (p : Problem) (nodes : Option ℕ) (text : List ℕ) : Type 0 where
   pub certificate : Proof
@@ -138,12 +144,15 @@ pub record Optimizes (p : Problem) (nodes : Option ℕ) (text : List ℕ) : Type
   pub no_gap : certificate.bound ≡ certificate.cost
   pub optimal : IsOptimal p certificate.plan
 
--- its bound is below its cost, since two nodes more are not allowed
+-- its bound is below its cost, since two nodes more are not allowed, and fewer than a whole tree has; it costs at most
+-- what all candidates as hubs cost
 pub record Bounds (p : Problem) (nodes : Option ℕ) (text : List ℕ) : Type 0 where
   pub certificate : Proof
   pub finds : Finds p nodes (Spells text) certificate
   pub gap : certificate.bound < certificate.cost
   pub spent : IsSpent nodes (line_count certificate.tree)
+  pub not_enough : IsEnoughFor p nodes → ⊥
+  pub at_most : IsAtMostAll p certificate
 
 -- the files give an instance, which the text optimizes
 pub record OptimizesInstance (held : Option Files) (s : Solving) (text : List ℕ) : Type 0 where

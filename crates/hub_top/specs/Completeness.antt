@@ -32,9 +32,9 @@ pub record Completeness (asked : Option Request) (held : Option Files) (quiet : 
   -- and with as many nodes as a whole tree has it is solved
   pub enough : (files : Files) (s : Solving) (p : Problem) → held ≡ Some files → asked ≡ Some (solve s)
       → HoldsInstance files s.source p → IsEnoughFor p s.search.nodes → quiet → EndsWith Done status
-  -- `optimize` with an instance and no limit on the nodes
+  -- `optimize` with an instance and as many nodes as a whole tree has, or any number
   pub optimized : (files : Files) (s : Solving) (p : Problem) → held ≡ Some files → asked ≡ Some (optimize s)
-      → HoldsInstance files s.source p → s.search.nodes ≡ None → quiet → EndsWith Done status
+      → HoldsInstance files s.source p → IsEnoughFor p s.search.nodes → quiet → EndsWith Done status
   -- and with any limit: the bound is the cost, or it is below
   pub bounded : (files : Files) (s : Solving) (p : Problem) → held ≡ Some files → asked ≡ Some (optimize s)
       → HoldsInstance files s.source p → quiet → EndsAs (λ x. (x ≡ Done) ⊎ (x ≡ Stopped)) status

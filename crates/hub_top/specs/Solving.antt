@@ -1,15 +1,15 @@
 -- What a search of an instance found, as the top call has it.
-use Rattle.std.specs.Prelude.{◌≡◌, ℕ, ◌<◌, ◌≤◌, length, Option}
+use Rattle.std.specs.Prelude.{◌≡◌, ℕ, ◌+◌, ◌^◌, ◌<◌, ◌≤◌, length, Option}
+use Rattle.std.specs.List.{AllZip}
 use Rattle.hub_io.specs.Outside.{Files}
-use Rattle.hub_spec.specs.Problem.{Problem, IsProblem}
-use Rattle.branch_tree.specs.declared.found.Found.{Found}
-use Rattle.branch_tree.specs.Findings.{found_by, IsFound, IsProved, proof_of}
-use Rattle.kept_cuts.specs.declared.network.Network.{Network}
-use Rattle.kept_cuts.specs.Networks as networks
+use Rattle.hub_spec.specs.Problem.{Problem, IsProblem, commodities}
+use Rattle.hub_spec.specs.Plans.{IsSetCost, IsLeastRoute}
 use Rattle.search_spec.specs.Findings.{AreWithin, IsSpent}
+use Rattle.kept_cuts.specs.Findings.{IsProved, proof_of}
+use Rattle.kept_cuts.specs.declared.found.Found.{Found}
+use Rattle.branch_tree.specs.Findings.{found_by, IsFound}
 use Rattle.hub_words.specs.Requests.{Source}
-use Rattle.hub_top.specs.declared.answers.Solution.{Solution}
-use Rattle.hub_top.specs.Commands.{rule_certificate}
+use Rattle.hub_top.specs.Commands.{IsEnoughFor, rule_certificate}
 use Rattle.hub_top.specs.Told.{ToldInstance}
 
 -- it is what the rule finds with so many nodes at most
@@ -19,18 +19,22 @@ pub record IsSearched (p : Problem) (nodes : Option ℕ) (found : Found) : Type 
   pub proved : IsProved p found
   pub certificate : proof_of p found (found_by p nodes).tree ≡ rule_certificate p nodes
 
--- it is what the rule finds for the instance of the source, with room for its duals
-pub record IsSolution (held : Option Files) (s : Source) (nodes : Option ℕ) (solution : Solution) : Type 0 where
-  pub instance : ToldInstance held s solution.instance
-  pub searched : IsSearched solution.instance nodes solution.found
-  pub room : solution.instance.size ≤ solution.scratch.room
+-- it is what the rule finds for the instance of the source
+pub record IsSolution (held : Option Files) (s : Source) (nodes : Option ℕ) (p : Problem) (found : Found) : Type 0 where
+  pub instance : ToldInstance held s p
+  pub searched : IsSearched p nodes found
 
--- it is a proved network of the instance of the source, with no more nodes than are allowed; its bound is below its cost
--- only where two more are not
-pub record IsOptimum (held : Option Files) (s : Source) (nodes : Option ℕ) (p : Problem) (found : Network) : Type 0 where
+-- it is a proved network of the instance of the source, with least routes, that costs at most what all candidates do, with
+-- no more nodes than are allowed and than a whole tree has; its bound is below its cost only where two nodes more are not
+-- allowed, and fewer than a whole tree has
+pub record IsOptimum (held : Option Files) (s : Source) (nodes : Option ℕ) (p : Problem) (found : Found) : Type 0 where
   pub instance : ToldInstance held s p
   pub problem : IsProblem p
-  pub proved : networks.IsProved p found
+  pub proved : IsProved p found
+  pub routes : AllZip (IsLeastRoute p found.plan.hubs) (commodities p.size) found.plan.routes
+  pub at_most : (cost : ℕ) → IsSetCost p p.candidates cost → found.cost ≤ cost
   pub within : found.bound ≤ found.cost
+  pub most : length found.tree.items + 1 ≤ 2 ^ (length p.candidates + 1)
   pub allowed : AreWithin nodes (length found.tree.items)
   pub spent : found.bound < found.cost → IsSpent nodes (length found.tree.items)
+  pub enough : IsEnoughFor p nodes → found.bound ≡ found.cost

@@ -6,7 +6,7 @@ use Rattle.cert_spec.specs.Verdicts.{Verdict, optimal, bounds, Why, certificate_
 use Rattle.file_spec.specs.Faults.{Fault}
 use Rattle.hub_io.specs.Outside.{Files}
 use Rattle.hub_words.specs.Requests.{Source}
-use Rattle.hub_top.specs.Commands.{Solves, Stops, Blame, HasBlame}
+use Rattle.hub_top.specs.Commands.{Solves, Stops, Optimizes, Bounds, Blame, HasBlame}
 
 -- the verdict is the one on the text, and no other
 abbrev pub IsOneVerdict : Problem → List ℕ → Verdict → Type 0
@@ -21,6 +21,15 @@ SolvedIsOptimal = (p : Problem) (nodes : Option ℕ) (text : List ℕ) (solved :
 abbrev pub StoppedIsBounds : Type 0
 StoppedIsBounds = (p : Problem) (nodes : Option ℕ) (text : List ℕ) (stopped : Stops p nodes (Spells text)) → length text ≤ certificate_limit
     → IsOneVerdict p text (bounds stopped.certificate.bound stopped.certificate.cost)
+
+-- the same of a text of `optimize`
+abbrev pub OptimizedIsOptimal : Type 0
+OptimizedIsOptimal = (p : Problem) (nodes : Option ℕ) (text : List ℕ) (optimized : Optimizes p nodes text) → length text ≤ certificate_limit
+    → IsOneVerdict p text (optimal optimized.certificate.cost)
+
+abbrev pub BoundedIsBounds : Type 0
+BoundedIsBounds = (p : Problem) (nodes : Option ℕ) (text : List ℕ) (bounded : Bounds p nodes text) → length text ≤ certificate_limit
+    → IsOneVerdict p text (bounds bounded.certificate.bound bounded.certificate.cost)
 
 -- the text solves the instance with so many nodes at most, or stops
 abbrev pub Ends : Problem → Option ℕ → List ℕ → Type 0

@@ -1,15 +1,11 @@
 -- What a run of the code came to, as contracts see it.
-use Rattle.std.specs.Prelude.{◌≡◌, ℕ, ◌≤◌, List, length, nat_eq, if◌then◌else◌, Result, Ok, Err}
+use Rattle.std.specs.Prelude.{ℕ, List, length, nat_eq, if◌then◌else◌, Result, Ok, Err}
 use Rattle.hub_spec.specs.Certificates.{Holds}
-use Rattle.hub_model.specs.Amounts.{natural, IsNatural}
+use Rattle.hub_spec.specs.Ranges.{IsShort}
 use Rattle.hub_model.specs.Faults.{fault_of}
-use Rattle.search_steps.specs.Pools.{IsPoolOf}
-use Rattle.branch_tree.specs.declared.found.Found.{Found}
-use Rattle.branch_tree.specs.Findings.{IsProved}
-use Rattle.found_text.specs.Texts.{found_text}
-use Rattle.kept_cuts.specs.declared.network.Network.{Network}
-use Rattle.kept_cuts.specs.Networks as networks
-use Rattle.closed_text.specs.Texts.{network_text}
+use Rattle.kept_cuts.specs.declared.found.Found.{Found as Finding}
+use Rattle.kept_cuts.specs.Findings.{IsProved}
+use Rattle.proof_text.specs.Texts.{found_text}
 use Rattle.network_report.specs.Texts.{report_text}
 use Rattle.hub_demo.specs.Texts.{demo_text}
 use Rattle.cert_checker.specs.Shows.{verdict_of}
@@ -18,9 +14,9 @@ use Rattle.hub_top.specs.declared.status.Status.TheVariants.{Done, Stopped}
 use Rattle.hub_top.specs.declared.halts.Halt.{Halt}
 use Rattle.hub_top.specs.declared.halts.Halt.TheVariants as halts
 use Rattle.hub_top.specs.declared.answers.Answer.{Answer}
-use Rattle.hub_top.specs.declared.answers.Answer.TheVariants.{Solved, Judged, Reported, Made, Demonstrated}
+use Rattle.hub_top.specs.declared.answers.Answer.TheVariants.{Judged, Reported, Made, Demonstrated}
 use Rattle.hub_top.specs.declared.outcomes.Intended.{Intended}
-use Rattle.hub_top.specs.declared.outcomes.Intended.TheVariants.{Answered, Optimized, Usage, Halted}
+use Rattle.hub_top.specs.declared.outcomes.Intended.TheVariants.{Answered, Found, Usage, Halted}
 use Rattle.hub_top.specs.Texts.{verdict_text}
 use Rattle.hub_top.specs.Answers.{verdict_status}
 use Rattle.hub_top.specs.Outcomes.{Outcome, answered, usage, faulty, memory, read}
@@ -33,16 +29,11 @@ halted halts.Memory = memory
 halted halts.Read = read
 
 -- the status of what a search found
-abbrev pub finding_status : Found → Status
-finding_status found = if nat_eq (natural found.bound) (natural found.cost) then Done else Stopped
-
--- the same of a search that follows no rule
-abbrev pub network_status : Network → Status
-network_status found = if nat_eq found.bound found.cost then Done else Stopped
+abbrev pub finding_status : Finding → Status
+finding_status found = if nat_eq found.bound found.cost then Done else Stopped
 
 -- the status of an answer
 abbrev pub answer_status : Answer → Status
-answer_status (Solved solution) = finding_status solution.found
 answer_status (Judged ending) = verdict_status (verdict_of ending)
 answer_status (Reported instance certificate) = Done
 answer_status (Made text) = Done
@@ -50,23 +41,19 @@ answer_status (Demonstrated size found) = finding_status found
 
 -- its text
 abbrev pub answer_text : Answer → List ℕ
-answer_text (Solved solution) = found_text solution.instance solution.found
 answer_text (Judged ending) = verdict_text (verdict_of ending)
 answer_text (Reported instance certificate) = report_text instance certificate
 answer_text (Made text) = text.items
 answer_text (Demonstrated size found) =
-    demo_text size (natural found.cost) (natural found.bound) found.plan.hubs (length found.tree.items)
+    demo_text size found.cost found.bound found.plan.hubs (length found.tree.items)
 
--- cost and bound are amounts
-pub record HasAmounts (found : Found) : Type 0 where
-  pub cost : IsNatural found.cost
-  pub bound : IsNatural found.bound
+-- cost and bound have at most 30 digits
+pub record HasAmounts (found : Finding) : Type 0 where
+  pub cost : IsShort found.cost
+  pub bound : IsShort found.bound
 
--- what was found is proved of the instance, and there is room for its duals; a report is of a certificate that holds
+-- a report is of a certificate that holds, and five lines are of amounts
 abbrev pub IsWritable : Answer → Type 0
-IsWritable (Solved solution) =
-    (solution.instance.size ≤ solution.scratch.room) × IsProved solution.instance solution.found
-    × IsPoolOf solution.instance solution.found.pool.entries × HasAmounts solution.found
 IsWritable (Judged ending) = Unit {0}
 IsWritable (Reported instance certificate) = Holds instance certificate
 IsWritable (Made text) = Unit {0}
@@ -75,13 +62,14 @@ IsWritable (Demonstrated size found) = HasAmounts found
 -- what a run came to
 abbrev pub outcome : Intended → Outcome
 outcome (Answered answer) = answered (answer_status answer) (answer_text answer)
-outcome (Optimized instance found) = answered (network_status found) (network_text instance found)
+outcome (Found instance found) = answered (finding_status found) (found_text instance found)
 outcome Usage = usage
 outcome (Halted halt) = halted halt
 
+-- what was found is proved of the instance
 abbrev pub CanBeWritten : Intended → Type 0
 CanBeWritten (Answered answer) = IsWritable answer
-CanBeWritten (Optimized instance found) = networks.IsProved instance found
+CanBeWritten (Found instance found) = IsProved instance found
 CanBeWritten Usage = Unit {0}
 CanBeWritten (Halted halt) = Unit {0}
 

@@ -2,34 +2,22 @@
 
 ghost use Rattle.std.specs.Prelude.{◌≡◌};
 ghost use Rattle.hub_io.specs.Outside.{Puts};
-ghost use Rattle.hub_top.specs.Views.{HasAmounts, IsWritable, answer_status, answer_text, finding_status};
-ghost use Rattle.hub_top.specs.declared.answers.Answer.TheVariants.{Demonstrated, Solved};
+ghost use Rattle.hub_top.specs.Views.{IsWritable, answer_status, answer_text, finding_status};
+ghost use Rattle.hub_top.specs.declared.answers.Answer.TheVariants.{Demonstrated};
 
 use crate::Status;
 use crate::verdict_lines::{put_ending, status_of_ending};
-use branch_tree::Found;
 use cert_checker::Ending;
 use cert_format::Certificate;
-use found_text::write_found;
 use hub_demo::put_demo;
 use hub_io::{Failed, Sink};
-use hub_model::Instance;
+use hub_model::{Instance, signed};
+use kept_cuts::Found;
 use network_report::report;
-use pareto_cuts::Scratch;
-
-/// What a search of an instance found, with room for its duals, which are made anew as they are written.
-#[derive(Drop)]
-pub struct Solution {
-    pub instance: Instance,
-    pub found: Found,
-    pub scratch: Scratch,
-}
 
 /// What a command answers, before it is written.
 #[derive(Drop)]
 pub enum Answer {
-    /// `solve`: the certificate of what was found.
-    Solved(Solution),
     /// `check`, and `report` of bytes that do not certify: the line of a verdict.
     Judged(Ending),
     /// `report`: the report of a certificate that holds for the instance.
@@ -42,22 +30,20 @@ pub enum Answer {
 
 /// The status with which the command ends, once its answer was written.
 pub fn status_of_answer(answer: &Answer) -> Status
-    requires { IsWritable answer.now }
     ensures { result ≡ answer_status answer.now }
 {
     match answer {
-        Answer::Solved(solution) => status_of_finding(&solution.found),
         Answer::Judged(ending) => status_of_ending(ending),
         Answer::Reported(..) | Answer::Made(_) => Status::Done,
         Answer::Demonstrated(_, found) => status_of_finding(found),
     }
 }
 
-fn status_of_finding(found: &Found) -> Status
-    requires { HasAmounts found.now }
+/// The status of what a search found: whether its bound is its cost.
+pub fn status_of_finding(found: &Found) -> Status
     ensures { result ≡ finding_status found.now }
 {
-    if found.bound() == found.cost() {
+    if found.bound == found.cost {
         Status::Done
     } else {
         Status::Stopped
@@ -70,7 +56,6 @@ pub fn put_answer<K: Sink>(answer: Answer, sink: &mut K) -> Result<(), Failed>
     ensures { Puts K.taken K.faults sink.old sink.new result (answer_text answer) }
 {
     match answer {
-        Answer::Solved(solution) => put_solution(solution, sink),
         Answer::Judged(ending) => put_ending(&ending, sink),
         Answer::Reported(instance, certificate) => report(&instance, &certificate, sink),
         Answer::Made(text) => sink.put(&text),
@@ -78,29 +63,11 @@ pub fn put_answer<K: Sink>(answer: Answer, sink: &mut K) -> Result<(), Failed>
     }
 }
 
-fn put_solution<K: Sink>(solution: Solution, sink: &mut K) -> Result<(), Failed>
-    requires { IsWritable (Solved solution) }
-    ensures { Puts K.taken K.faults sink.old sink.new result (answer_text (Solved solution)) }
-{
-    let Solution {
-        instance,
-        found,
-        mut scratch,
-    } = solution;
-    write_found(&instance, &found, &mut scratch, sink)
-}
-
 fn put_finding<K: Sink>(size: u32, found: &Found, sink: &mut K) -> Result<(), Failed>
     requires { IsWritable (Demonstrated size found.now) }
     ensures { Puts K.taken K.faults sink.old sink.new result (answer_text (Demonstrated size found.now)) }
 {
-    let nodes = found.tree().len() as u64;
-    put_demo(
-        size,
-        found.cost(),
-        found.bound(),
-        found.plan().hubs(),
-        nodes,
-        sink,
-    )
+    let nodes = found.tree.len() as u64;
+    let hubs = found.plan.hubs();
+    put_demo(size, signed(found.cost), signed(found.bound), hubs, nodes, sink)
 }

@@ -1,6 +1,13 @@
-//! What a text that `solve` writes is to a check, that a search has one text, and that files have one fault.
+//! What a text that `solve` or `optimize` writes is to a check, that a search has one text, and that files have one fault.
 
-ghost use Rattle.hub_top.specs.Theorems.{OneBlame, OneText, SolvedIsOptimal, StoppedIsBounds};
+ghost use Rattle.hub_top.specs.Theorems.{
+  BoundedIsBounds,
+  OneBlame,
+  OneText,
+  OptimizedIsOptimal,
+  SolvedIsOptimal,
+  StoppedIsBounds,
+};
 
 /// The verdict on a text that solves an instance, and has at most 2^30 bytes, is optimal with its cost, and no other.
 pub fn solved_is_optimal()
@@ -11,6 +18,17 @@ pub fn solved_is_optimal()
 /// and no other.
 pub fn stopped_is_bounds()
     ensures { StoppedIsBounds }
+{}
+
+/// The verdict on a text that optimizes an instance, and has at most 2^30 bytes, is optimal with its cost, and no other.
+pub fn optimized_is_optimal()
+    ensures { OptimizedIsOptimal }
+{}
+
+/// The verdict on a text with which `optimize` stops, and that has at most 2^30 bytes, is bounds with its bound and cost,
+/// and no other.
+pub fn bounded_is_bounds()
+    ensures { BoundedIsBounds }
 {}
 
 /// An instance and a number of nodes have one text, whatever the workers.

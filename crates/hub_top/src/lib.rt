@@ -22,6 +22,9 @@ mod texts;
 mod top;
 mod verdict_lines;
 
-pub use laws::{one_blame, one_text, solved_is_optimal, stopped_is_bounds};
+pub use laws::{
+    bounded_is_bounds, one_blame, one_text, optimized_is_optimal, solved_is_optimal,
+    stopped_is_bounds,
+};
 pub use status::Status;
 pub use top::run;

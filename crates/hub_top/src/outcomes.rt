@@ -2,21 +2,22 @@
 
 ghost use Rattle.std.specs.Prelude.{◌≡◌, ◌⊎◌};
 ghost use Rattle.hub_io.specs.Outside.{Puts};
-ghost use Rattle.kept_cuts.specs.Networks.{IsProved};
-ghost use Rattle.closed_text.specs.Texts.{network_text};
+ghost use Rattle.kept_cuts.specs.Findings.{IsProved};
+ghost use Rattle.proof_text.specs.Lenders.{IsLenderFor};
+ghost use Rattle.proof_text.specs.Texts.{found_text};
 ghost use Rattle.hub_top.specs.Texts.{usage_text};
 ghost use Rattle.hub_top.specs.Outcomes.{IsTold, Written, err_text, memory, status_of};
-ghost use Rattle.hub_top.specs.Views.{CanBeWritten, IsWritable, answer_status, answer_text, halted, network_status, outcome};
+ghost use Rattle.hub_top.specs.Views.{CanBeWritten, IsWritable, answer_status, answer_text, finding_status, halted, outcome};
 ghost use Rattle.hub_top.specs.declared.status.Status.TheVariants.{Usage};
 
 use crate::Status;
-use crate::answers::{Answer, put_answer, status_of_answer};
+use crate::answers::{Answer, put_answer, status_of_answer, status_of_finding};
 use crate::halts::Halt;
 use crate::texts::{put_fault, put_memory, put_read, put_usage};
-use closed_text::{DualRoom, write_network};
 use hub_io::{Failed, Sink};
 use hub_model::Instance;
-use kept_cuts::Network;
+use kept_cuts::Found;
+use proof_text::{DualLender, write_found};
 use std::alloc::Global;
 
 /// What a run came to, before anything is written.
@@ -24,8 +25,8 @@ use std::alloc::Global;
 pub enum Intended {
     /// The answer of a command.
     Answered(Answer),
-    /// The certificate of what `optimize` found for the instance, once there is room to make its duals in.
-    Optimized(Instance, Network),
+    /// The certificate of what `solve` or `optimize` found for the instance, once there is room to make its duals in.
+    Found(Instance, Found),
     /// The words are no command.
     Usage,
     /// A command has no answer.
@@ -46,8 +47,8 @@ pub fn write<O: Sink, E: Sink>(
 {
     match intended {
         Intended::Answered(answer) => write_answer(answer, out),
-        Intended::Optimized(instance, found) => match DualRoom::new(alloc, &instance) {
-            Ok(mut room) => write_certificate(&instance, &found, &mut room, out),
+        Intended::Found(instance, found) => match DualLender::new(alloc, &instance) {
+            Ok(mut lender) => write_certificate(&instance, &found, &mut lender, out),
             Err(_) => write_halt(&Halt::Memory, err),
         },
         Intended::Usage => write_usage(err),
@@ -66,19 +67,19 @@ fn write_answer<O: Sink>(answer: Answer, out: &mut O) -> Status
     }
 }
 
-/// Writes the certificate of what `optimize` found.
+/// Writes the certificate of what a search found.
 fn write_certificate<O: Sink>(
     instance: &Instance,
-    found: &Network,
-    room: &mut DualRoom,
+    found: &Found,
+    lender: &mut DualLender,
     out: &mut O,
 ) -> Status
-    requires room { room.old ≡ instance.now }
+    requires lender { IsLenderFor instance.now lender.old }
     requires proved { IsProved instance.now found.now }
-    ensures { IsTold O.taken O.faults out.old out.new result (network_status found.now) (network_text instance.now found.now) }
+    ensures { IsTold O.taken O.faults out.old out.new result (finding_status found.now) (found_text instance.now found.now) }
 {
-    match write_network(instance, found, room, out) {
-        Ok(()) => status_of_network(found),
+    match write_found(instance, found, lender, out) {
+        Ok(()) => status_of_finding(found),
         Err(_) => Status::Write,
     }
 }
@@ -98,16 +99,6 @@ fn write_halt<E: Sink>(halt: &Halt, err: &mut E) -> Status
     match put_halt(halt, err) {
         Ok(()) => status_of_halt(halt),
         Err(_) => Status::Write,
-    }
-}
-
-fn status_of_network(found: &Network) -> Status
-    ensures { result ≡ network_status found.now }
-{
-    if found.bound == found.cost {
-        Status::Done
-    } else {
-        Status::Stopped
     }
 }
 

@@ -14,25 +14,23 @@ ghost use Rattle.hub_top.specs.Outcomes.{FailsFor, StaysShelf};
 ghost use Rattle.hub_top.specs.Halts.{Halts, IsOfSource};
 ghost use Rattle.hub_top.specs.Solving.{IsSearched, IsSolution, IsOptimum};
 
-use crate::answers::Solution;
 use crate::halts::Halt;
 use crate::instances::read_instance;
-use branch_tree::{Found, search};
+use branch_tree::search;
 use cut_pool::CutSums;
 use hub_demo::made_instance;
 use hub_io::{Gate, Shelf};
 use hub_model::Instance;
 use hub_words::{Making, Search, Source};
-use kept_cuts::Network;
+use kept_cuts::Found;
 use par_separate::{Crew, separate, workers_for};
-use pareto_cuts::Scratch;
 use plan_model::HubSet;
 use price_passes::Adviser;
 use separators::Solo;
 use std::alloc::{AllocError, Global};
 use std::thread::Threads;
 
-/// What the search rule finds for the instance that the source names.
+/// What the search rule finds for the instance that the source names, with the instance.
 pub fn solve<R: Threads + Sync, S: Shelf, G: Gate>(
     rt: &R,
     alloc: Global,
@@ -40,22 +38,17 @@ pub fn solve<R: Threads + Sync, S: Shelf, G: Gate>(
     asked: Search,
     shelf: &mut S,
     gate: &G,
-) -> Result<Solution, Halt>
+) -> Result<(Instance, Found), Halt>
     requires sources { AreSources (source_of source.now) }
     requires asked { IsSearch (search_seen asked) }
-    ensures solved { IfOk result (IsSolution (S.held shelf.old) (source_of source.now) asked.nodes) }
+    ensures solved { IfOk result (λ r. IsSolution (S.held shelf.old) (source_of source.now) asked.nodes r.0 r.1) }
     ensures halted { IfErr result (Halts (IsOfSource (S.held shelf.old) (source_of source.now))
         (FailsFor S.held S.faults S.sound shelf.old shelf.new (λ files. LacksSource files (source_of source.now)))) }
     ensures stays { StaysShelf S.held S.faults S.sound shelf.old shelf.new }
 {
     let instance = read_instance(alloc, source, shelf)?;
     let found = find(rt, alloc, &instance, asked, gate)?;
-    let scratch = Scratch::new(alloc, &instance)?;
-    Ok(Solution {
-        instance,
-        found,
-        scratch,
-    })
+    Ok((instance, found))
 }
 
 /// What the search without a rule finds for the instance that the source names, with the instance.
@@ -65,7 +58,7 @@ pub fn optimize<R: Threads + Sync, S: Shelf>(
     source: &Source<'_>,
     asked: Search,
     shelf: &mut S,
-) -> Result<(Instance, Network), Halt>
+) -> Result<(Instance, Found), Halt>
     requires sources { AreSources (source_of source.now) }
     requires asked { IsSearch (search_seen asked) }
     ensures optimized { IfOk result (λ r. IsOptimum (S.held shelf.old) (source_of source.now) asked.nodes r.0 r.1) }

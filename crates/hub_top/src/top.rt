@@ -35,7 +35,7 @@ use std::thread::Threads;
 /// - `means`: what each status says of the words, the files, the faults and what `out` took.
 /// - `complete`: where no fault rose, words that are no command end with status 3, a fault of the instance with 4, `solve`
 ///   and `demo` with 0 or 1 as the search rule says, and with 0 where enough nodes are allowed, `optimize` with 0 or 1, and
-///   with 0 where its nodes are not limited, `check` with 0, 1 or 2 by the verdict on the certificate's bytes, `report` with
+///   with 0 where enough nodes are allowed, `check` with 0, 1 or 2 by the verdict on the certificate's bytes, `report` with
 ///   0 or 2 by it, and `make` with 0; or it is want of memory.
 /// - `headline`: the headline, whose three sentences stand with their meaning in `specs/Headline.antt`.
 pub fn run<R: Threads + Sync, S: Shelf, O: Sink, E: Sink, G: Gate>(
@@ -106,12 +106,13 @@ fn answer<R: Threads + Sync, S: Shelf, G: Gate>(
 {
     match command {
         Command::Solve(solving) => {
-            let solution = solve(rt, alloc, &solving.source, solving.search, shelf, gate)?;
-            Ok(Intended::Answered(Answer::Solved(solution)))
+            let (instance, found) =
+                solve(rt, alloc, &solving.source, solving.search, shelf, gate)?;
+            Ok(Intended::Found(instance, found))
         }
         Command::Optimize(solving) => {
             let (instance, found) = optimize(rt, alloc, &solving.source, solving.search, shelf)?;
-            Ok(Intended::Optimized(instance, found))
+            Ok(Intended::Found(instance, found))
         }
         Command::Check(source, certificate) => {
             let ending = check(alloc, source, certificate, shelf)?;

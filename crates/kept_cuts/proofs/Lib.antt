@@ -2,3 +2,4 @@ pub mod Amounts
 pub mod KeptCutLaws
 pub mod KeptMore
 pub mod Packing
+pub mod NodeLoads

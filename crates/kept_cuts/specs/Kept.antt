@@ -1,5 +1,5 @@
 -- The cuts that a search keeps, by what their duals are made from.
-use Rattle.std.specs.Prelude.{◌≡◌, ℕ, ◌-◌, List, [], map, All}
+use Rattle.std.specs.Prelude.{◌≡◌, ℕ, ◌-◌, List, [], map, All, Option, Some, None}
 use Rattle.std.specs.List.{range_with_len, slice_index_or}
 use Rattle.hub_spec.specs.Problem.{Problem}
 use Rattle.hub_spec.specs.Plans.{IsHubSet}
@@ -23,6 +23,11 @@ kept_of (Set hubs order) = by_set hubs order.items
 abbrev pub kept_cut : Problem → Kept → Cut
 kept_cut p (by_values rows) = value_cut p rows
 kept_cut p (by_set hubs order) = set_cut p hubs order
+
+-- the hub set that it is of, if it is one of a set
+abbrev pub hubs_of : Kept → Option (List ℕ)
+hubs_of (by_values rows) = None
+hubs_of (by_set hubs order) = Some hubs
 
 abbrev pub kept_cuts : Problem → List Kept → List Cut
 kept_cuts p kept = map (kept_cut p) kept

@@ -2,5 +2,5 @@ pub mod Kept
 pub mod KeptParts
 pub mod Packed
 pub mod PackedParts
-pub mod Networks
+pub mod Findings
 pub mod Theorems

@@ -1,20 +1,19 @@
 //! What a search finds.
 
 ghost use Rattle.std.specs.Prelude.{IfOk};
-ghost use Rattle.search_steps.specs.Pools.{IsPoolOf};
-ghost use Rattle.branch_tree.specs.Findings.{IsProved};
+ghost use Rattle.kept_cuts.specs.Findings.{IsProved};
 
 use crate::instances::numbers;
 use crate::texts::tree_text;
-use branch_tree::{Found, search};
+use branch_tree::search;
 use hub_model::Instance;
+use kept_cuts::Found;
 use separators::Solo;
 use std::alloc::{AllocError, Global};
 
 /// What the search of the instance finds with the most nodes that the line names.
 pub(crate) fn found_of(alloc: Global, instance: &Instance, line: &str) -> Result<Found, AllocError>
-    ensures proved { IfOk result (IsProved instance.now) }
-    ensures pool { IfOk result (λ found. IsPoolOf instance.now found.pool.entries) }
+    ensures { IfOk result (IsProved instance.now) }
 {
     let nodes = most_nodes(alloc, line)?;
     let mut separator = Solo::new(alloc, instance)?;
@@ -37,10 +36,10 @@ pub(crate) fn search_told(
     line: &str,
 ) -> Result<String, AllocError> {
     let found = found_of(alloc, instance, line)?;
-    let cost = found.cost();
-    let bound = found.bound();
-    let hubs = found.plan().hubs();
-    let cuts = found.pool().len();
-    let tree = tree_text(alloc, found.tree())?;
+    let cost = found.cost;
+    let bound = found.bound;
+    let hubs = found.plan.hubs();
+    let cuts = found.cuts.len();
+    let tree = tree_text(alloc, &found.tree)?;
     format!(in alloc; "cost {cost} bound {bound} hubs {hubs:?} cuts {cuts}\n{tree}")
 }

@@ -1,17 +1,15 @@
 //! Texts as a sink in memory takes them.
 
-ghost use Rattle.search_steps.specs.Pools.{IsPoolOf};
-ghost use Rattle.branch_tree.specs.Findings.{IsProved};
+ghost use Rattle.kept_cuts.specs.Findings.{IsProved};
 
 use crate::instances::numbers;
 use crate::searches::found_of;
-use branch_tree::Found;
 use cert_format::{put_tree, write_cert};
-use found_text::{certificate_of, write_found};
 use hub_io::{Buffer, Failed, MemSink, Partial, Sink};
 use hub_model::Instance;
-use pareto_cuts::Scratch;
+use kept_cuts::Found;
 use plan_model::TreeLine;
+use proof_text::{DualLender, certificate_of, write_found};
 use std::alloc::{AllocError, Global};
 
 // More bytes than any case puts.
@@ -59,8 +57,7 @@ fn text_of(
     found: &Found,
     failing: Vec<Partial>,
 ) -> Result<String, AllocError>
-    requires proved { IsProved instance.now found.now }
-    requires pool { IsPoolOf instance.now found.now.pool.entries }
+    requires { IsProved instance.now found.now }
 {
     let mut sink = MemSink::with_faults(alloc, ROOM, failing)?;
     let done = put_found(alloc, instance, found, &mut sink)?;
@@ -73,11 +70,10 @@ fn put_found(
     found: &Found,
     sink: &mut MemSink,
 ) -> Result<Result<(), Failed>, AllocError>
-    requires proved { IsProved instance.now found.now }
-    requires pool { IsPoolOf instance.now found.now.pool.entries }
+    requires { IsProved instance.now found.now }
 {
-    let mut scratch = Scratch::new(alloc, instance)?;
-    Ok(write_found(instance, found, &mut scratch, sink))
+    let mut lender = DualLender::new(alloc, instance)?;
+    Ok(write_found(instance, found, &mut lender, sink))
 }
 
 /// The text of the certificate that is made of what the search finds.

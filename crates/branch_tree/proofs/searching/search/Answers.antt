@@ -5,7 +5,7 @@ use Rattle.hub_spec.proofs.ChildLists.{root_branch}
 use Rattle.hub_spec.proofs.Limits.{few_candidates}
 use Rattle.search_spec.specs.States.{Grown}
 use Rattle.search_spec.specs.Steps.{node}
-use Rattle.branch_tree.specs.Views.{lines_of}
+use Rattle.kept_cuts.specs.Findings.{lines_of}
 use Rattle.branch_tree.specs.Findings.{parts_of, found_by}
 use Rattle.branch_tree.specs.Progressing.{state_of}
 use Rattle.branch_tree.proofs.FoundCertificates as found

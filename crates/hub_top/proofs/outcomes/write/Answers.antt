@@ -1,7 +1,7 @@
 use Rattle.std.proofs.Common.{refl, inl, inr}
 use Rattle.hub_top.specs.Outcomes.{answered, usage, memory}
-use Rattle.hub_top.specs.Views.{answer_status, answer_text, network_status, halted}
-use Rattle.closed_text.specs.Texts.{network_text}
+use Rattle.hub_top.specs.Views.{answer_status, answer_text, finding_status, halted}
+use Rattle.proof_text.specs.Texts.{found_text}
 use Rattle.hub_top.proofs.Writing.{written_out, written_err, halt_puts_nothing}
 use Rattle.hub_top.proofs.outcomes.write.Goals as goal
 
@@ -12,13 +12,13 @@ returns-in-Answered g c =
 
 pub returns-in-Ok : goal.returns-in-Ok
 returns-in-Ok g c =
-    let p = c.in-Optimized.instance in
-    let found = c.in-Optimized.found in
-    rw c.in-Optimized.is
-    (inl (written_out _ _ _ _ _ _ _ _ (answered (network_status found) (network_text p found)) refl c.write_certificate.ensures))
+    let p = c.in-Found.instance in
+    let found = c.in-Found.found in
+    rw c.in-Found.is
+    (inl (written_out _ _ _ _ _ _ _ _ (answered (finding_status found) (found_text p found)) refl c.write_certificate.ensures))
 
-pub returns-in-Optimized : goal.returns-in-Optimized
-returns-in-Optimized g c = inr (written_err _ _ _ _ _ _ _ _ memory refl c.write_halt.ensures)
+pub returns-in-Found : goal.returns-in-Found
+returns-in-Found g c = inr (written_err _ _ _ _ _ _ _ _ memory refl c.write_halt.ensures)
 
 pub returns-in-Usage : goal.returns-in-Usage
 returns-in-Usage g c = rw c.in-Usage.is (inl (written_err _ _ _ _ _ _ _ _ usage refl c.write_usage.ensures))

@@ -5,12 +5,12 @@ use Rattle.hub_top.proofs.Searched.{demo_answers, made_size, solve_answers}
 use Rattle.hub_top.proofs.Optimized.{optimize_answers}
 use Rattle.hub_top.proofs.top.answer.Goals as goal
 
-pub returns-in_ok-solution-in-Solve-clause-may : goal.returns-in_ok-solution-in-Solve-clause-may
-returns-in_ok-solution-in-Solve-clause-may g c =
+pub returns-in_ok-instance-in-Solve-clause-may : goal.returns-in_ok-instance-in-Solve-clause-may
+returns-in_ok-instance-in-Solve-clause-may g c =
     let s = solving_of c.in-Solve.solving in
-    let solution = c.in_ok-solution-in-Solve.solution in
-    let solved = c.in_ok-solution-in-Solve.ensures.solved in
-    (solve s, rw c.in-Solve.is refl, solve_answers (g.S.Shelf.held c.args.shelf.now) s solution.instance solution.found solved.instance solved.searched)
+    let r = c.in_ok-instance-in-Solve in
+    let solved = c.in_ok-instance-in-Solve.ensures.solved in
+    (solve s, rw c.in-Solve.is refl, solve_answers (g.S.Shelf.held c.args.shelf.now) s r.instance r.found solved.instance solved.searched)
 
 pub returns-in_ok-found-in-Demo-clause-may : goal.returns-in_ok-found-in-Demo-clause-may
 returns-in_ok-found-in-Demo-clause-may g c =

@@ -1,0 +1,49 @@
+-- The cuts of a pool as a finding keeps them.
+use Rattle.std.proofs.Common.{◌≡◌, ℕ, List, [], ◌∷◌, length, map, Some, All, Option, refl, sym, ap, ap₂, subst, ◌∙◌}
+use Rattle.std.proofs.lemmas.List.Elements.{All-nil, All-cons}
+use Rattle.hub_spec.specs.Problem.{Problem}
+use Rattle.hub_spec.specs.Cuts.{Cut, total}
+use Rattle.cut_pool.specs.Entries.{Entry}
+use Rattle.kept_cuts.specs.Kept.{Kept, by_set, hubs_of, kept_cuts, KeptList, IsKeptFor, node_loads, AreKeptFor}
+use Rattle.kept_cuts.proofs.NodeLoads.{loads_are}
+use Rattle.search_steps.specs.Pools.{entry_cut, IsSumsOf, IsPoolOf, pool_sets, pool_cuts}
+
+-- the entry as a kept cut
+abbrev pub kept_entry : Entry → Kept
+kept_entry e = by_set e.hubs e.order
+
+-- the columns are those of the entries
+pub record AreColumnsOf (entries : List Entry) (k : KeptList) : Type 0 where
+  pub cuts : k.cuts ≡ map kept_entry entries
+  pub totals : k.totals ≡ map (λ e. e.total) entries
+  pub loads : k.loads ≡ map (λ e. e.loads) entries
+
+pub kept_pool_sets : (entries : List Entry) → map hubs_of (map kept_entry entries) ≡ map Some (pool_sets entries)
+kept_pool_sets [] = refl
+kept_pool_sets (e ∷ es) = ap (λ (xs : List (Option (List ℕ))). Some e.hubs ∷ xs) (kept_pool_sets es)
+
+pub kept_pool_cuts : (p : Problem) (entries : List Entry) → kept_cuts p (map kept_entry entries) ≡ pool_cuts p entries
+kept_pool_cuts p [] = refl
+kept_pool_cuts p (e ∷ es) = ap (λ (xs : List Cut). entry_cut p e ∷ xs) (kept_pool_cuts p es)
+
+fit : (p : Problem) (entries : List Entry) → IsPoolOf p entries → All (IsKeptFor p) (map kept_entry entries)
+fit p [] are = All-nil (IsKeptFor p)
+fit p (e ∷ es) (is, are) = All-cons (IsKeptFor p) (kept_entry e) (map kept_entry es) (is.set, is.order) (fit p es are)
+
+totals : (p : Problem) (entries : List Entry) → IsPoolOf p entries → map (λ e. e.total) entries ≡ map total (pool_cuts p entries)
+totals p [] are = refl
+totals p (e ∷ es) (is, are) = ap₂ (λ (x : ℕ) (xs : List ℕ). x ∷ xs) is.is_total (totals p es are)
+
+loads : (p : Problem) (entries : List Entry) → IsPoolOf p entries → map (λ e. e.loads) entries ≡ map (node_loads p.size) (pool_cuts p entries)
+loads p [] are = refl
+loads p (e ∷ es) (is, are) =
+    ap₂ (λ (x : List ℕ) (xs : List (List ℕ)). x ∷ xs) (loads_are p.size (entry_cut p e) e.loads is.one_load_each is.are_loads) (loads p es are)
+
+pub kept_pool : (p : Problem) (entries : List Entry) (k : KeptList) → IsPoolOf p entries → AreColumnsOf entries k → AreKeptFor p k
+kept_pool p entries k are same =
+    let cuts : kept_cuts p k.cuts ≡ pool_cuts p entries = ap (kept_cuts p) same.cuts ∙ kept_pool_cuts p entries in
+    record {
+      fit = subst (All (IsKeptFor p)) (sym same.cuts) (fit p entries are);
+      are_totals = same.totals ∙ totals p entries are ∙ sym (ap (map total) cuts);
+      are_loads = same.loads ∙ loads p entries are ∙ sym (ap (map (node_loads p.size)) cuts);
+    }

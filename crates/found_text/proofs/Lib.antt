@@ -1,3 +1,0 @@
-pub mod PoolCuts
-pub mod FoundLines
-pub mod FoundCertificates

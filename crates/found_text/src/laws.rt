@@ -1,8 +1,0 @@
-//! What the text is the text of.
-
-ghost use Rattle.found_text.specs.Texts.{FoundTextIsCertificate};
-
-/// The text of a finding is that of its certificate, with each tree that has the lines which were found.
-pub fn found_text_is_certificate()
-    ensures { FoundTextIsCertificate }
-{}

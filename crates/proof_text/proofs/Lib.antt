@@ -1,0 +1,4 @@
+pub mod Lending
+pub mod FoundLines
+pub mod FoundCertificates
+pub mod CutRows

@@ -1,0 +1,18 @@
+use Rattle.std.proofs.Common.{◌≡◌, ◌+◌, ◌*◌, take}
+use Rattle.hub_spec.specs.Problem.{commodities}
+use Rattle.kept_cuts.specs.Kept.{kept_of}
+use Rattle.proof_text.specs.Lenders.{kept_dual, IsReady, HasDuals}
+use Rattle.proof_text.proofs.CutRows.{AreDualsOf}
+use Rattle.proof_text.proofs.certificates.duals_of.Given as goal
+
+abbrev pub invariant-loop-j : goal.invariant-loop-j
+invariant-loop-j l = record {
+  duals : AreDualsOf (kept_dual l.instance (kept_of l.kept)) (take (l.i * l.instance.size + l.j) (commodities l.instance.size)) l.duals.items;
+  has : HasDuals l.instance (kept_of l.kept) l.i l.lender;
+}
+
+abbrev pub invariant-loop-i : goal.invariant-loop-i
+invariant-loop-i l = record {
+  duals : AreDualsOf (kept_dual l.instance (kept_of l.kept)) (take (l.i * l.instance.size) (commodities l.instance.size)) l.duals.items;
+  ready : IsReady l.instance (kept_of l.kept) l.lender;
+}

@@ -1,0 +1,70 @@
+-- What duals of kept cuts are made in, and which they are.
+use Rattle.std.specs.Prelude.{◌≡◌, ℕ, List}
+use Rattle.hub_spec.specs.Problem.{Problem}
+use Rattle.hub_spec.specs.Cuts.{Prices}
+use Rattle.hub_spec.specs.Separation.{minimal_dual}
+use Rattle.value_cuts.specs.Values.{ValueRows, row_for, value_dual}
+use Rattle.value_cuts.specs.Prices.{ArePricesFrom}
+use Rattle.pareto_cuts.specs.Scratches.{ScratchParts, IsReadyFor, HasDualsFrom}
+use Rattle.kept_cuts.specs.Kept.{Kept, by_values, by_set}
+use Rattle.kept_cuts.specs.Packed.{AreRowsFrom}
+
+-- the dual of the commodity by its row of the values
+abbrev pub commodity_dual : Problem → ValueRows → ℕ × ℕ → Prices
+commodity_dual p w c = value_dual p w.unit (row_for w c) c
+
+-- the dual of the commodity in a kept cut
+abbrev pub kept_dual : Problem → Kept → ℕ × ℕ → Prices
+kept_dual p (by_values rows) c = commodity_dual p rows c
+kept_dual p (by_set hubs order) c = minimal_dual p hubs order c
+
+-- ---- duals by values
+
+-- the problem that there is room for, the rows and the prices that were worked out last, an origin's, and the dual that
+-- was made last
+pub record RoomState : Type 0 where
+  pub problem : Problem
+  pub rows : List ℕ
+  pub prices : List ℕ
+  pub dual : Prices
+
+-- the rows and the prices are those of the commodities from i
+pub record HasPricesFrom (p : Problem) (w : ValueRows) (i : ℕ) (s : RoomState) : Type 0 where
+  pub rows : AreRowsFrom w i s.rows
+  pub prices : ArePricesFrom p w i s.prices p.size
+
+-- ---- duals of any kept cut
+
+-- room for duals by values, and for those of a hub set
+pub record LenderState : Type 0 where
+  pub values : RoomState
+  pub sets : ScratchParts
+
+-- the lender is for this problem
+abbrev pub IsLenderFor : Problem → LenderState → Type 0
+IsLenderFor p s = s.values.problem ≡ p
+
+-- what has to be worked out of a cut before its duals is: the legs of its hub set
+abbrev pub HasLegsOf : Problem → Kept → LenderState → Type 0
+HasLegsOf p (by_values rows) s = Unit {0}
+HasLegsOf p (by_set hubs order) s = IsReadyFor p hubs order s.sets
+
+-- the lender is for the problem, and ready for the cut
+pub record IsReady (p : Problem) (kept : Kept) (s : LenderState) : Type 0 where
+  pub lender : IsLenderFor p s
+  pub legs : HasLegsOf p kept s
+
+-- what has to be worked out before the duals of the commodities from i is
+abbrev pub HasRowOf : Problem → Kept → ℕ → LenderState → Type 0
+HasRowOf p (by_values rows) i s = HasPricesFrom p rows i s.values
+HasRowOf p (by_set hubs order) i s = HasDualsFrom p hubs order i s.sets
+
+-- the lender is for the problem, and ready for the duals of the cut from i
+pub record HasDuals (p : Problem) (kept : Kept) (i : ℕ) (s : LenderState) : Type 0 where
+  pub lender : IsLenderFor p s
+  pub row : HasRowOf p kept i s
+
+-- the dual that was made last of a cut like this
+abbrev pub made_dual : Kept → LenderState → Prices
+made_dual (by_values rows) s = s.values.dual
+made_dual (by_set hubs order) s = s.sets.dual

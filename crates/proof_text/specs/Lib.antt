@@ -1,0 +1,4 @@
+pub mod Lenders
+pub mod LenderParts
+pub mod Texts
+pub mod Certificates

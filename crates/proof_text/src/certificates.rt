@@ -1,0 +1,115 @@
+//! The certificate of what a search found, with all of its duals.
+
+ghost use Rattle.std.specs.Prelude.{◌≡◌, IfOk, All, map};
+ghost use Rattle.cert_format.specs.Parts.{cut_of};
+ghost use Rattle.kept_cuts.specs.Kept.{kept_of, kept_cut, kept_cuts, IsKeptFor};
+ghost use Rattle.kept_cuts.specs.Findings.{IsProved};
+ghost use Rattle.proof_text.specs.Certificates.{IsCertificateOf};
+ghost use Rattle.proof_text.specs.Lenders.{IsLenderFor, made_dual};
+
+use crate::DualLender;
+use cert_format::Certificate;
+use hub_model::{Instance, signed};
+use kept_cuts::{Found, KeptCut, KeptCuts};
+use plan_model::{Dual, Plan, TreeLine};
+use std::alloc::{AllocError, Global};
+
+/// The certificate of what a search of the instance found, with the duals of each cut made anew.
+pub fn certificate_of(
+    alloc: Global,
+    instance: &Instance,
+    found: &Found,
+) -> Result<Certificate, AllocError>
+    requires proved { IsProved instance.now found.now }
+    ensures { IfOk result (IsCertificateOf instance.now found.now) }
+{
+    let size = instance.size();
+    let candidates = instance.candidates().len() as u32;
+    let cost = signed(found.cost);
+    let bound = signed(found.bound);
+    let plan = plan_again(alloc, &found.plan)?;
+    let cuts = rows_of(alloc, instance, &found.cuts)?;
+    let tree = lines_again(alloc, &found.tree)?;
+    Ok(Certificate::new(size, candidates, cost, bound, plan, cuts, tree))
+}
+
+// The duals of each cut.
+fn rows_of(
+    alloc: Global,
+    instance: &Instance,
+    cuts: &KeptCuts,
+) -> Result<Vec<Vec<Dual>>, AllocError>
+    requires { All (IsKeptFor instance.now) cuts.now.cuts }
+    ensures { IfOk result (λ rows. map cut_of rows.items ≡ kept_cuts instance.now cuts.now.cuts) }
+{
+    let mut lender = DualLender::new(alloc, instance)?;
+    let mut all = Vec::with_capacity(alloc, cuts.len() as usize)?;
+    for place in 0..cuts.len() {
+        let kept = cuts.cut(place + 1);
+        all.push(duals_of(alloc, instance, kept, &mut lender)?)?;
+    }
+    Ok(all)
+}
+
+// The duals of the cut, one for each commodity in order.
+fn duals_of(
+    alloc: Global,
+    instance: &Instance,
+    kept: &KeptCut,
+    lender: &mut DualLender,
+) -> Result<Vec<Dual>, AllocError>
+    requires lender { IsLenderFor instance.now lender.old }
+    requires fits { IsKeptFor instance.now (kept_of kept.now) }
+    ensures lender { IsLenderFor instance.now lender.new }
+    ensures cut { IfOk result (λ duals. cut_of duals ≡ kept_cut instance.now (kept_of kept.now)) }
+{
+    let n = instance.size();
+    let mut duals = Vec::with_capacity(alloc, n as usize * n as usize)?;
+    lender.begin(instance, kept);
+    for i in 0..n {
+        lender.work_out(instance, kept, i);
+        for j in 0..n {
+            lender.make(instance, kept, i, j);
+            duals.push(lent_dual(alloc, lender, kept)?)?;
+        }
+    }
+    Ok(duals)
+}
+
+// The dual that was made last of the cut, in a type of its own.
+fn lent_dual(alloc: Global, lender: &DualLender, kept: &KeptCut) -> Result<Dual, AllocError>
+    ensures { IfOk result (λ dual. dual ≡ made_dual (kept_of kept.now) lender.now) }
+{
+    let (a, u) = lender.dual(kept);
+    Ok(Dual::new(a, u.to_vec(alloc)?))
+}
+
+// The same plan again.
+fn plan_again(alloc: Global, plan: &Plan) -> Result<Plan, AllocError>
+    ensures { IfOk result (λ again. again ≡ plan.now) }
+{
+    let hubs = plan.hubs().to_vec(alloc)?;
+    let routes = plan.routes().to_vec(alloc)?;
+    Ok(Plan::new(hubs, routes))
+}
+
+// The same lines again.
+fn lines_again(alloc: Global, lines: &[TreeLine]) -> Result<Vec<TreeLine>, AllocError>
+    ensures { IfOk result (λ again. again.items ≡ lines.now) }
+{
+    let mut again = Vec::with_capacity(alloc, lines.len())?;
+    for line in lines {
+        again.push(line_again(alloc, line)?)?;
+    }
+    Ok(again)
+}
+
+fn line_again(alloc: Global, line: &TreeLine) -> Result<TreeLine, AllocError>
+    ensures { IfOk result (λ again. again ≡ line.now) }
+{
+    match line {
+        TreeLine::BranchOn(k) => Ok(TreeLine::BranchOn(*k)),
+        TreeLine::Leaf(mix) => Ok(TreeLine::Leaf(mix.copy(alloc)?)),
+        TreeLine::Empty => Ok(TreeLine::Empty),
+    }
+}

@@ -1,0 +1,98 @@
+//! Duals of kept cuts, lent one at a time.
+
+ghost use Rattle.std.specs.Prelude.{◌≡◌, ◌<◌, pos, IfOk};
+ghost use Rattle.hub_spec.specs.Separation.{AreListedValues};
+ghost use Rattle.plan_model.specs.Prices.{signed_values};
+ghost use Rattle.kept_cuts.specs.Kept.{kept_of, IsKeptFor};
+ghost use Rattle.proof_text.specs.Lenders.{kept_dual, IsLenderFor, IsReady, HasDuals, made_dual};
+
+use crate::value_rooms::ValueRoom;
+use hub_model::Instance;
+use kept_cuts::KeptCut;
+use pareto_cuts::Scratch;
+use std::alloc::{AllocError, Global};
+use std::marker::Model;
+
+/// Room to make the duals of an instance's kept cuts in, taken once, from which one dual at a time is lent.
+///
+/// It is told the cut first, then an origin, then each destination; no call takes memory.
+#[derive(Drop)]
+pub struct DualLender<'a> {
+    values: ValueRoom<'a>,
+    sets: Scratch,
+}
+
+impl<'a> Model for DualLender<'a> {
+    ghost use Rattle.std.specs.Prelude.{◌≤◌};
+    ghost use Rattle.proof_text.specs.Lenders.{LenderState};
+
+    ghost Value = { LenderState };
+
+    ghost view = { λ s. record { values = s.values; sets = s.sets } };
+
+    ghost invariant = { λ s. s.values.problem.size ≤ s.sets.room };
+}
+
+impl<'a> DualLender<'a> {
+    /// Room for the instance.
+    pub fn new(alloc: Global, instance: &'a Instance) -> Result<DualLender<'a>, AllocError>
+        ensures { IfOk result (IsLenderFor instance.now) }
+    {
+        Ok(DualLender {
+            values: ValueRoom::new(alloc, instance)?,
+            sets: Scratch::new(alloc, instance)?,
+        })
+    }
+
+    /// Makes ready for the duals of the cut.
+    pub(crate) fn begin(&mut self, instance: &Instance, kept: &KeptCut)
+        requires lender { IsLenderFor instance.now self.old }
+        requires fits { IsKeptFor instance.now (kept_of kept.now) }
+        ensures ready { IsReady instance.now (kept_of kept.now) self.new }
+    {
+        match kept {
+            KeptCut::Values(_) => {}
+            KeptCut::Set(set, order) => self.sets.prepare(instance, set, order),
+        }
+    }
+
+    /// Works out what the duals of all commodities from `i` are made from.
+    pub(crate) fn work_out(&mut self, instance: &Instance, kept: &KeptCut, i: u32)
+        requires fits { IsKeptFor instance.now (kept_of kept.now) }
+        requires ready { IsReady instance.now (kept_of kept.now) self.old }
+        requires origin { i < instance.now.size }
+        ensures duals { HasDuals instance.now (kept_of kept.now) i self.new }
+    {
+        match kept {
+            KeptCut::Values(values) => self.values.set_prices(values, i),
+            KeptCut::Set(set, order) => self.sets.work_out(instance, set, order, i),
+        }
+    }
+
+    /// Makes the dual of the commodity from `i` to `j`.
+    pub(crate) fn make(&mut self, instance: &Instance, kept: &KeptCut, i: u32, j: u32)
+        requires fits { IsKeptFor instance.now (kept_of kept.now) }
+        requires duals { HasDuals instance.now (kept_of kept.now) i self.old }
+        requires origin { i < instance.now.size }
+        requires destination { j < instance.now.size }
+        ensures duals { HasDuals instance.now (kept_of kept.now) i self.new }
+        ensures made { made_dual (kept_of kept.now) self.new ≡ kept_dual instance.now (kept_of kept.now) (i, j) }
+    {
+        match kept {
+            KeptCut::Values(values) => self.values.make_dual(values, i, j),
+            KeptCut::Set(set, order) => self.sets.make_dual(instance, set, order, i, j),
+        }
+    }
+
+    /// The price of the dual that was made last of the cut, and its nodes with their values, ascending.
+    pub(crate) fn dual(&self, kept: &KeptCut) -> (i128, &[(u32, i128)])
+        ensures price { result.0 ≡ pos (made_dual (kept_of kept.now) self.now).a }
+        ensures values { result.1.now ≡ signed_values (made_dual (kept_of kept.now) self.now).u }
+        ensures listed { AreListedValues (made_dual (kept_of kept.now) self.now).u }
+    {
+        match kept {
+            KeptCut::Values(_) => self.values.dual(),
+            KeptCut::Set(..) => self.sets.dual(),
+        }
+    }
+}

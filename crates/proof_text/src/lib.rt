@@ -1,0 +1,23 @@
+//! What a search found, as a certificate: written as its text, or made as a value.
+//!
+//! A search keeps of each cut what its duals can be made from anew: a hub set with an order, or values of the candidates.
+//! A [`DualLender`] is room that is taken once; it lends one dual of a kept cut at a time. [`write_found`] puts the text
+//! through it, so that at no time more than one dual is held; [`certificate_of`] makes the whole certificate with all
+//! duals, for those that read it again. [`found_text_is_certificate`] says that the text that is put is that
+//! certificate's. Costs are in 10^-12.
+//!
+//! In order: `value_rooms` (duals by values), `lenders` (duals of any kept cut), `dual_lines` (the lines of a cut's duals),
+//! `written` (the text), `certificates` (the value), `laws`.
+#![tactic(auto)]
+
+mod certificates;
+mod dual_lines;
+mod laws;
+mod lenders;
+mod value_rooms;
+mod written;
+
+pub use certificates::certificate_of;
+pub use laws::found_text_is_certificate;
+pub use lenders::DualLender;
+pub use written::write_found;
