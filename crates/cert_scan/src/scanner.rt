@@ -15,7 +15,7 @@ ghost use Rattle.cert_scan.specs.Scans.{
 };
 ghost use Rattle.cert_scan.specs.Parts.{items_of};
 ghost use Rattle.cert_scan.specs.Given.{IsGiven};
-ghost use Rattle.cert_scan.specs.Scanned.{HasScanned, IsLost, AreCountable, Tells};
+ghost use Rattle.cert_scan.specs.Scanned.{HasScanned, IsLost, AreCountable, Tells, IsLineAtHand};
 ghost use Rattle.cert_scan.specs.Runs.{Runs, HasNoLineEnd};
 ghost use Rattle.cert_scan.specs.declared.items.Item.{Item as ItemOf};
 
@@ -145,7 +145,9 @@ impl Scan {
 
     /// The number of the line in which the next byte stands, counted from 1; once a line was bad, that of the bad line.
     pub fn line(&self) -> u64
-        ensures { result ≡ self.now.line }
+        ensures value { result ≡ self.now.line }
+        ensures at_hand { (bytes : List ℕ) (given : List ItemOf) → HasScanned bytes given self.now → AreCountable bytes
+            → IsLineAtHand bytes result }
     {
         self.line
     }
