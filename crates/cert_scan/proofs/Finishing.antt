@@ -15,7 +15,7 @@ use Rattle.cert_spec.proofs.OneText.{one_certificate_lem}
 use Rattle.cert_spec.proofs.TextOrFault.{each_is_text_or_fault_lem}
 use Rattle.cert_scan.specs.Scans.{fault_at, fault_by}
 use Rattle.cert_scan.specs.Parts.{parts_of, items_of}
-use Rattle.cert_scan.specs.Scanned.{HasScanned, AreCountable, fault_of, Tells}
+use Rattle.cert_scan.specs.Scanned.{HasScanned, AreCountable, fault_of, Tells, IsLineAtHand}
 use Rattle.cert_scan.proofs.StagesAt.{stage_at}
 use Rattle.cert_scan.proofs.Tracks.{Tracks, HasFailed, ArePlain, scanned_tracks}
 use Rattle.cert_scan.specs.declared.items.Item.{Item}
@@ -206,3 +206,63 @@ scanned_items bytes given scan k h spells =
       | inl w ↦ w.1.items ∙ ap items_of (one_certificate_lem bytes w.1.proof k w.1.spells spells)
       | inr f ↦ absurd ((each_is_text_or_fault_lem bytes).not_both k f.some.0 spells f.some.1)
     ]
+
+-- ---- the line at hand
+
+-- whole lines and what has come of one more have as many parts
+length-parts : (first last : grammar.Stage) (lines : List Line) (sofar : List ℕ) → IsStage first → Leads first lines last → ArePlain sofar
+    → length (parts (flat_map line_bytes lines ++ sofar)) ≡ length lines + 1
+length-parts first last [] sofar s h plain = ap length (slice_split_none (λ b. nat_eq b 10) sofar plain)
+length-parts first last (line ∷ lines) sofar s h plain =
+    let rest = flat_map line_bytes lines ++ sofar in
+    let split : parts (flat_map line_bytes (line ∷ lines) ++ sofar) ≡ line_text line ∷ parts rest =
+    ap parts (append_assoc (line_bytes line) (flat_map line_bytes lines) sofar ∙ append_assoc (line_text line) (10 ∷ []) rest)
+    ∙ parts_line (line_text line) rest (line_has_no_feed first line s h.0) in
+    let more = length-parts (after first line) last lines sofar (stage_after first line s h.0) h.1 plain in
+    omega (arith, ap length split, more)
+
+-- a scan that has not failed tells no bad line
+told_ended : (line : ℕ) (told : Fault) (position : Position) → (position ≡ Failed → ⊥) → fault_at line position ≡ Some told → Ended line ≡ told
+told_ended line told (Start Nothing) h e = cc
+told_ended line told Failed h e = absurd (h refl)
+told_ended line told position h e = cc
+
+no_bad_line : {bytes : List ℕ} {given : List Item} {n line : ℕ} (position : Position) (h : Tracks bytes given n line position) → (position ≡ Failed → ⊥) → line ≡ length h.lines + 1
+    → (bad : ℕ) → IsTextFault bytes (bad_line bad) → ⊥
+unfolding Outcome
+no_bad_line {bytes = bytes} {line = line} position h good same bad f = elim (outcome_at position h) [
+  | inl w ↦ (each_is_text_or_fault_lem bytes).not_both w.1.proof (bad_line bad) w.1.spells f
+  | inr told ↦ (let end : IsTextFault bytes (ended line) =
+      subst (λ x. IsTextFault bytes (fault_of x)) (sym (told_ended line told.told position good told.is)) (told.fault same) in
+      let both : ended line ≡ bad_line bad = (each_is_text_or_fault_lem bytes).one_fault (ended line) (bad_line bad) end f in
+      cc)
+]
+
+line_good : {bytes : List ℕ} {given : List Item} {n line : ℕ} (position : Position) (h : Tracks bytes given n line position) → ArePlain h.sofar → (position ≡ Failed → ⊥)
+    → line ≡ length h.lines + 1 → IsLineAtHand bytes line
+line_good {bytes = bytes} position h plain good same =
+    let here = length-parts want_version (stage_at h.nodes h.stage) h.lines h.sofar tt h.lead plain in
+    record {
+      good = λ none. omega (arith, same, length-slice_split (λ b. nat_eq b 10) bytes, ap (λ b. length (parts b)) h.front, here);
+      bad = λ bad f. absurd (no_bad_line position h good same bad f);
+    }
+
+same_line : (a b : ℕ) → bad_line a ≡ bad_line b → a ≡ b
+same_line a b e = cc
+
+line_of : {bytes : List ℕ} {given : List Item} {n line : ℕ} (position : Position) (h : Tracks bytes given n line position) → line ≡ length h.lines + 1 → IsLineAtHand bytes line
+line_of (Start s) h same = line_good (Start s) h h.now.plain (λ e. cc) same
+line_of (Keyword head matched) h same = line_good (Keyword head matched) h h.now.plain (λ e. cc) same
+line_of (Number place value) h same = line_good (Number place value) h h.now.plain (λ e. cc) same
+line_of Spoiled h same = line_good Spoiled h h.now.plain (λ e. cc) same
+line_of {bytes = bytes} Failed h same = record {
+  good = λ none. absurd (none (length h.lines + 1) (bad_fault h));
+  bad = λ bad f. same ∙ same_line (length h.lines + 1) bad
+      ((each_is_text_or_fault_lem bytes).one_fault (bad_line (length h.lines + 1)) (bad_line bad) (bad_fault h) f);
+}
+
+-- the number of the line at hand
+pub scanned_line : (bytes : List ℕ) (given : List Item) (scan : Scan) → HasScanned bytes given scan → AreCountable bytes → IsLineAtHand bytes scan.line
+scanned_line bytes given scan h few =
+    let t = scanned_tracks bytes given scan h in
+    line_of scan.position t (t.line_is few)

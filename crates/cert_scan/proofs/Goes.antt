@@ -33,6 +33,10 @@ goes_append a b c xs ys g h first next = record {
   items = given_all-append a xs ys ∙ (λ i. first.items i ++ given_all (first.scan i) ys) ∙ ap (λ l. g ++ l) next.items;
 }
 
+pub nil_front : (xs ys : List Item) → xs ++ ys ≡ [] → xs ≡ []
+nil_front [] ys e = refl
+nil_front (x ∷ xs) ys e = cc
+
 -- a scan at a position
 abbrev pub state : ℕ → ℕ → Position → Scan
 state n line position = record { n = n; line = line; position = position }

@@ -1,6 +1,7 @@
 pub mod Goes
 pub mod Climbs
 pub mod StagesAt
+pub mod Passing
 pub mod Accepts
 pub mod Described
 pub mod Outcomes
@@ -9,6 +10,7 @@ pub mod Here
 pub mod OneByte
 pub mod Tracks
 pub mod Finishing
+pub mod OnTime
 pub mod Stepping
 pub mod PairRuns
 pub mod ShortDigits

@@ -9,7 +9,7 @@ use Rattle.cert_scan.specs.Scans.{new_scan, given_by, stepped, scanned, given_al
 use Rattle.cert_scan.specs.Given.{IsGiven}
 use Rattle.cert_scan.specs.Scanned.{HasScanned, IsLost}
 use Rattle.cert_scan.specs.Runs.{SpellsOn, HasNoLineEnd, Runs}
-use Rattle.cert_scan.proofs.Goes.{scanned-append, given_all-append, state, moved}
+use Rattle.cert_scan.proofs.Goes.{scanned-append, given_all-append, nil_front, state, moved}
 use Rattle.cert_scan.proofs.Tracks.{scanned_given}
 use Rattle.cert_scan.specs.declared.items.Item.{Item}
 use Rattle.cert_scan.specs.declared.bytes.Move.{Move}
@@ -88,10 +88,6 @@ pub record HasRun (old : Scan) (bytes : List ℕ) (taken : ℕ) (new : Scan) : T
 take_nothing : (k : ℕ) → take {A = ℕ} k [] ≡ []
 take_nothing zero = refl
 take_nothing (suc k) = refl
-
-nil_front : (xs ys : List Item) → xs ++ ys ≡ [] → xs ≡ []
-nil_front [] ys e = refl
-nil_front (x ∷ xs) ys e = cc
 
 take-add : (k m : ℕ) (bytes : List ℕ) → take (k + m) bytes ≡ take k bytes ++ take m (drop k bytes)
 take-add zero m bytes = let none : 0 + m ≡ m = omega arith in ap (λ x. take x bytes) none

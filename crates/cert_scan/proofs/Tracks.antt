@@ -15,10 +15,12 @@ use Rattle.cert_spec.proofs.Stages.{stage_after}
 use Rattle.cert_scan.specs.Moves.{moved_by}
 use Rattle.cert_scan.specs.Scans.{new_scan, given_by, nodes_by, line_by, stepped, scanned, given_all}
 use Rattle.cert_scan.specs.Parts.{parts_of}
+use Rattle.cert_scan.specs.Pieces.{pieces_of}
 use Rattle.cert_scan.specs.Given.{IsBegun, IsGiven}
 use Rattle.cert_scan.specs.Scanned.{HasScanned}
 use Rattle.cert_scan.proofs.Goes.{scanned-append, state}
 use Rattle.cert_scan.proofs.StagesAt.{stage_at, NamesNodes}
+use Rattle.cert_scan.proofs.Passing.{pass_all_goes, line_pieces_text}
 use Rattle.cert_scan.proofs.Accepts.{accepts}
 use Rattle.cert_scan.proofs.Here.{begun_none, begun_nothing, described_begun, Here, Whole, Goes_on, AfterAt, After}
 use Rattle.cert_scan.proofs.OneByte.{moves}
@@ -183,7 +185,9 @@ none_there : (nodes : ℕ) (stage : Stage) (part : List ℕ) (end : Scan) → Na
 none_there nodes stage part end names s e failed item is =
     let ends = accepts nodes 0 stage item names s is.wanted in
     let bytes : line_bytes item ≡ part ++ 10 ∷ [] = ap (λ b. b ++ 10 ∷ []) (sym is.text) in
-    let start : Start ends.stage ≡ end.position = ap (λ x. x.position) (sym ends.goes.scan ∙ ap (scanned (state nodes 0 (Start stage))) bytes ∙ e) in
+    let goes = pass_all_goes (state nodes 0 (Start stage)) (state ends.nodes ends.line (Start ends.stage)) (pieces_of item) ends.passes in
+    let start : Start ends.stage ≡ end.position =
+    ap (λ x. x.position) (sym goes.scan ∙ ap (scanned (state nodes 0 (Start stage))) (line_pieces_text item ∙ bytes) ∙ e) in
     cc
 
 none_empty : (sofar : List ℕ) (byte : ℕ) → sofar ++ byte ∷ [] ≢ []

@@ -1,5 +1,5 @@
 -- The bytes that have come, the items that were given, and the scan that they leave.
-use Rattle.std.specs.Prelude.{◌≡◌, ℕ, ◌-◌, ◌^◌, ◌<◌, ◌↔◌, List, length, Option, None, IfSome, ◌⊎◌}
+use Rattle.std.specs.Prelude.{◌≡◌, ℕ, ◌+◌, ◌-◌, ◌^◌, ◌<◌, ◌↔◌, List, length, count_by, nat_eq, Option, None, IfSome, ◌⊎◌}
 use Rattle.hub_spec.specs.Certificates.{Proof}
 use Rattle.cert_spec.specs.Text.{Spells}
 use Rattle.cert_spec.specs.Grammar.{TextFault, bad_line, ended, IsTextFault}
@@ -32,3 +32,13 @@ fault_of (Ended line) = ended line
 pub record Tells (bytes : List ℕ) (fault : Option Fault) : Type 0 where
   pub whole : (fault ≡ None) ↔ ((k : Proof) × Spells bytes k)
   pub of_grammar : IfSome fault (λ f. IsTextFault bytes (fault_of f))
+
+-- how many line feeds the bytes have
+abbrev pub line_feeds : List ℕ → ℕ
+line_feeds bytes = count_by (λ b. nat_eq b 10) bytes
+
+-- the number of the line in which the next byte stands, behind so many line feeds, as long as no line was bad; then that
+-- of the bad line
+pub record IsLineAtHand (bytes : List ℕ) (line : ℕ) : Type 0 where
+  pub good : ((bad : ℕ) → IsTextFault bytes (bad_line bad) → ⊥) → line ≡ line_feeds bytes + 1
+  pub bad : (bad : ℕ) → IsTextFault bytes (bad_line bad) → line ≡ bad

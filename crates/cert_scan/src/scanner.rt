@@ -15,7 +15,8 @@ ghost use Rattle.cert_scan.specs.Scans.{
 };
 ghost use Rattle.cert_scan.specs.Parts.{items_of};
 ghost use Rattle.cert_scan.specs.Given.{IsGiven};
-ghost use Rattle.cert_scan.specs.Scanned.{HasScanned, IsLost, AreCountable, Tells};
+ghost use Rattle.cert_scan.specs.Scanned.{HasScanned, IsLost, AreCountable, Tells, IsLineAtHand};
+ghost use Rattle.cert_scan.specs.Pieces.{AreOnTime};
 ghost use Rattle.cert_scan.specs.Runs.{Runs, HasNoLineEnd};
 ghost use Rattle.cert_scan.specs.declared.items.Item.{Item as ItemOf};
 
@@ -50,8 +51,9 @@ impl Scan {
 
     /// Takes the next byte, and gives the item that is told with it, if one is.
     ///
-    /// The items given so far are those of whole lines and the first ones of the line that stands. Once a line is not
-    /// as wanted, no item comes.
+    /// It is told with the byte that ends it: the items given so far are those of the pieces of the text that have come
+    /// whole. They are those of whole lines and the first ones of the line that stands. Once a line is not as wanted, no
+    /// item comes.
     pub fn step(&mut self, byte: u8) -> Option<Item>
         ensures given { result ≡ given_by self.old byte }
         ensures after { self.new ≡ stepped self.old byte }
@@ -59,6 +61,8 @@ impl Scan {
             → HasScanned (bytes ++ byte ∷ []) (given ++ option_to_list result) self.new }
         ensures in_order { (bytes : List ℕ) (given : List ItemOf) → HasScanned bytes given self.old
             → IsGiven (given ++ option_to_list result) }
+        ensures on_time { (bytes : List ℕ) (given : List ItemOf) → HasScanned bytes given self.old
+            → AreOnTime (bytes ++ byte ∷ []) (given ++ option_to_list result) }
         ensures lost { IsLost self.old → (result ≡ None) × IsLost self.new }
     {
         self.advance(byte)
@@ -73,6 +77,8 @@ impl Scan {
             → HasScanned (front ++ take result.0 bytes.now) (given ++ option_to_list result.1) self.new }
         ensures in_order { (front : List ℕ) (given : List ItemOf) → HasScanned front given self.old
             → IsGiven (given ++ option_to_list result.1) }
+        ensures on_time { (front : List ℕ) (given : List ItemOf) → HasScanned front given self.old
+            → AreOnTime (front ++ take result.0 bytes.now) (given ++ option_to_list result.1) }
     {
         self.take_run(bytes)
     }
@@ -145,7 +151,9 @@ impl Scan {
 
     /// The number of the line in which the next byte stands, counted from 1; once a line was bad, that of the bad line.
     pub fn line(&self) -> u64
-        ensures { result ≡ self.now.line }
+        ensures value { result ≡ self.now.line }
+        ensures at_hand { (bytes : List ℕ) (given : List ItemOf) → HasScanned bytes given self.now → AreCountable bytes
+            → IsLineAtHand bytes result }
     {
         self.line
     }

@@ -11,3 +11,4 @@ pub mod MayCome
 pub mod Taking
 pub mod Whole
 pub mod Ends
+pub mod Refusing

@@ -1,14 +1,15 @@
 //! The check of bytes that come piece by piece.
 
-ghost use Rattle.std.specs.Prelude.{◌≡◌, ℕ, ◌≤◌, ◌<◌, ◌++◌, List, [], length, take, IfOk};
-ghost use Rattle.cert_spec.specs.Verdicts.{Why};
+ghost use Rattle.std.specs.Prelude.{◌≡◌, ℕ, ◌≤◌, ◌<◌, ◌++◌, List, [], length, take, IfOk, IsOk, OnErr};
+ghost use Rattle.cert_spec.specs.Verdicts.{Why, certificate_limit};
 ghost use Rattle.cert_checker.specs.Shows.{verdict_of};
 ghost use Rattle.cert_scan.specs.declared.items.Item.{Item as ItemOf};
 ghost use Rattle.hub_spec.specs.Certificates.{Proof};
 ghost use Rattle.hub_spec.specs.Ranges.{IsInRange};
 ghost use Rattle.cert_scan.specs.Parts.{items_of};
+ghost use Rattle.cert_scan.specs.Scans.{given_all};
 ghost use Rattle.cert_stream.specs.Taken.{HasTaken, EndsAs};
-ghost use Rattle.cert_stream.specs.Fed.{HasCome, HasFed};
+ghost use Rattle.cert_stream.specs.Fed.{HasCome, HasFed, items_in, items_behind, BeginsCut, CountsTree};
 
 use crate::checks::Checks;
 use cert_checker::{Ending, MOST_CERTIFICATE_BYTES};
@@ -43,10 +44,17 @@ impl<'a> Stream<'a> {
     }
 
     /// Takes the next bytes. Memory is taken for the sums of cuts alone: where there is none, the check is given up.
+    ///
+    /// So it succeeds but where the piece ends a line that begins a cut, and always once the text has told how many lines its
+    /// tree has, or with a piece that is not looked at.
     pub fn feed(mut self, alloc: Global, piece: &[u8]) -> Result<Stream<'a>, AllocError>
         requires { (bytes : List ℕ) × HasFed bytes self }
         ensures fed { (bytes : List ℕ) → HasFed bytes self.entry → IfOk result (λ stream. HasFed (bytes ++ piece.now) stream) }
         ensures instance { IfOk result (λ stream. stream.checks.instance ≡ self.entry.checks.instance) }
+        ensures refused { (bytes : List ℕ) → HasFed bytes self.entry → OnErr result (BeginsCut (items_behind bytes piece.now)) }
+        ensures counted { (bytes : List ℕ) → HasFed bytes self.entry → CountsTree (items_in bytes) → IsOk result }
+        ensures too_long { (bytes : List ℕ) → HasFed bytes self.entry → certificate_limit < length (bytes ++ piece.now)
+            → IsOk result }
     {
         if self.is_too_long {
             return Ok(self);
@@ -67,6 +75,7 @@ impl<'a> Stream<'a> {
         ensures room { self.new.room ≡ self.old.room }
         ensures short { self.new.is_too_long ≡ self.old.is_too_long }
         ensures instance { self.new.checks.instance ≡ self.old.checks.instance }
+        ensures refused { OnErr result (BeginsCut (given_all self.old.scan piece.now)) }
     {
         let mut at = 0;
         while at < piece.len() {
@@ -86,6 +95,7 @@ impl<'a> Stream<'a> {
         ensures room { self.new.room ≡ self.old.room }
         ensures short { self.new.is_too_long ≡ self.old.is_too_long }
         ensures instance { self.new.checks.instance ≡ self.old.checks.instance }
+        ensures refused { OnErr result (BeginsCut (given_all self.old.scan bytes.now)) }
     {
         let (count, given) = self.scan.run(bytes);
         match given {

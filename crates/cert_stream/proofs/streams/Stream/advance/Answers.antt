@@ -1,7 +1,9 @@
 use Rattle.std.proofs.Common.{◌-◌, ◌++◌, length, take, drop, ap, sym, subst, ◌∙◌, append_assoc, length-drop, rules, arith}
 use Rattle.std.proofs.Math.Seq.{take-add}
 use Rattle.std.proofs.lemmas.List.{take_all}
-use Rattle.cert_stream.specs.Fed.{HasCome}
+use Rattle.cert_scan.specs.Scans.{given_all}
+use Rattle.cert_stream.specs.Fed.{HasCome, BeginsCut}
+use Rattle.cert_stream.proofs.Refusing.{on_err, later_begins_cut}
 use Rattle.cert_stream.proofs.streams.Stream.advance.Goals as goal
 
 pub take_next-requires-clause-come : goal.take_next-requires-clause-come
@@ -34,3 +36,11 @@ pub returns-clause-come : goal.returns-clause-come
 returns-clause-come c = λ bytes given h.
     let w = c.loop-at.invariant.come bytes given h in
     (w.0, subst (λ l. HasCome (bytes ++ l) w.0 c.loop-at.self) (take_all c.loop-at.at c.args.piece.now (omega arith)) w.1)
+
+pub returns-in_err-at-clause-refused : goal.returns-in_err-at-clause-refused
+returns-in_err-at-clause-refused c =
+    let begun = c.requires.2 in
+    let w = c.loop-at.invariant.come c.requires.0 c.requires.1 begun in
+    on_err c.from_residual.result (BeginsCut (given_all c.args.self.now.scan c.args.piece.now))
+    (later_begins_cut c.requires.0 c.args.piece.now c.loop-at.at c.args.self.now.scan c.loop-at.self.scan begun.scanned.reached w.1.scanned.reached
+    c.in_err-at.ensures.refused)

@@ -1,5 +1,7 @@
 use Rattle.std.proofs.Common.{Bool, ◌-◌, ◌++◌, length, sym, subst, ◌∙◌, length-append, arith}
-use Rattle.cert_stream.specs.Fed.{HasFedUnless}
+use Rattle.cert_scan.specs.Scans.{given_all}
+use Rattle.cert_stream.specs.Fed.{HasFedUnless, BeginsCut, items_behind}
+use Rattle.cert_stream.proofs.Refusing.{on_err, no_cut_once_counted}
 use Rattle.cert_stream.specs.declared.streams.Stream.{Stream}
 use Rattle.cert_stream.proofs.streams.Stream.feed.Goals as goal
 
@@ -22,3 +24,21 @@ returns-clause-fed c = λ bytes h.
     } in
     subst (λ (b : Bool). HasFedUnless b (bytes ++ piece) t) (sym (c.in_ok-advance.ensures.short ∙ c.if-self.false))
     (omega (arith, f.0, length-append bytes piece, c.in_ok-advance.ensures.room), (r.0, record { scanned = r.1.scanned; taken = r.1.taken }))
+
+pub returns-in_err-advance-clause-refused : goal.returns-in_err-advance-clause-refused
+returns-in_err-advance-clause-refused c = λ bytes h.
+    let f = subst (λ (b : Bool). HasFedUnless b bytes c.args.self) c.if-self.false h in
+    on_err c.from_residual.result (BeginsCut (items_behind bytes c.args.piece.now))
+    (subst (λ s. BeginsCut (given_all s c.args.piece.now)) (sym f.1.1.scanned.reached) c.in_err-advance.ensures.refused)
+
+pub returns-in_err-advance-clause-counted : goal.returns-in_err-advance-clause-counted
+returns-in_err-advance-clause-counted c = λ bytes h counts.
+    let f = subst (λ (b : Bool). HasFedUnless b bytes c.args.self) c.if-self.false h in
+    let cut : BeginsCut (items_behind bytes c.args.piece.now) =
+    subst (λ s. BeginsCut (given_all s c.args.piece.now)) (sym f.1.1.scanned.reached) c.in_err-advance.ensures.refused in
+    absurd (no_cut_once_counted bytes c.args.piece.now counts cut)
+
+pub returns-in_err-advance-clause-too_long : goal.returns-in_err-advance-clause-too_long
+returns-in_err-advance-clause-too_long c = λ bytes h long.
+    let f = subst (λ (b : Bool). HasFedUnless b bytes c.args.self) c.if-self.false h in
+    absurd (omega (arith, f.0, length-append bytes c.args.piece.now))

@@ -1,7 +1,12 @@
-use Rattle.std.proofs.Common.{◌++◌, [], ◌∷◌, take, ap, subst, ◌∙◌, append-nil}
+use Rattle.std.proofs.Common.{◌++◌, [], ◌∷◌, take, ap, subst, ◌∙◌, append-nil, ⊎_elim}
+use Rattle.std.proofs.lemmas.Bool.{false≢true}
 use Rattle.std.specs.Prelude.{option_to_list}
+use Rattle.cert_scan.specs.Scans.{given_all}
 use Rattle.cert_scan.specs.Given.{IsGiven}
 use Rattle.cert_scan.specs.Scanned.{HasScanned}
+use Rattle.cert_scan.specs.Runs.{Runs}
+use Rattle.cert_stream.specs.Fed.{BeginsCut}
+use Rattle.cert_stream.proofs.Refusing.{on_err, run_begins_cut}
 use Rattle.cert_stream.proofs.streams.Stream.take_next.Goals as goal
 
 pub returns-in-None-clause-come : goal.returns-in-None-clause-come
@@ -26,3 +31,11 @@ returns-in_ok-take-in-Some-clause-come c = λ front given h.
             (subst (λ o. IsGiven (given ++ option_to_list o)) c.in-Some.is (c.run-count.ensures.in_order front given h.scanned));
       },
     )
+
+pub returns-in_err-take-in-Some-clause-refused : goal.returns-in_err-take-in-Some-clause-refused
+returns-in_err-take-in-Some-clause-refused c =
+    let old = c.args.self.now.scan in
+    let bytes = c.args.bytes.now in
+    let runs = subst (λ o. Runs old bytes c.run-count.result.0 o c.run-count.new.self) c.in-Some.is c.run-count.ensures.runs in
+    on_err c.from_residual.result (BeginsCut (given_all old bytes))
+    (⊎_elim (run_begins_cut old c.run-count.new.self bytes c.run-count.result.0 c.in-Some.item runs) (λ ok. absurd (false≢true ok)) c.in_err-take-in-Some.ensures.no_memory)

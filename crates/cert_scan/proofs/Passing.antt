@@ -1,0 +1,161 @@
+-- Pieces of a text that lead a scan on, each giving what it tells with its last byte.
+use Rattle.std.proofs.Common.{◌≡◌, ℕ, ◌+◌, ◌-◌, ◌<◌, ◌≤◌, List, [], ◌∷◌, ◌++◌, length, take, drop, map, flat_map, decimal, nat_le, Option, refl, sym, ap, ◌∙◌, subst, append_assoc, append-nil, arith, suc}
+use Rattle.std.specs.Prelude.{option_to_list}
+use Rattle.std.specs.List.{join_with_byte}
+use Rattle.std.proofs.lemmas.Bool.{cond_both, leb-true, leb-false}
+use Rattle.std.proofs.lemmas.List.{length-append, take_all, take-append-le, take-append-drop}
+use Rattle.std.proofs.lemmas.List.Concat.{flat_map-append}
+use Rattle.hub_spec.specs.Trees.{branch_on, leaf_of, no_hub}
+use Rattle.cert_spec.specs.Lines.{Item as Line, says_version, says_size, says_cost, says_bound, says_hubs, says_route, says_cuts, says_cut, says_dual, says_nodes, says_tree, says_end, keyword, numbers, value_numbers, weight_numbers, line_text}
+use Rattle.cert_spec.specs.Text.{certificate_items, certificate_text, line_bytes}
+use Rattle.cert_scan.specs.Scans.{scanned, given_all}
+use Rattle.cert_scan.specs.Parts.{none_left, parts_of, hub_parts, value_parts, weight_parts}
+use Rattle.cert_scan.specs.Pieces.{Piece, told_hubs, told_values, told_weights, told_numbers, told_keyword, word_piece, number_pieces, pieces_of, bytes_of, told_by, PiecesAreText, whole_within}
+use Rattle.cert_scan.proofs.Goes.{Goes, goes_append, given_all-append, nil_front}
+use Rattle.cert_scan.specs.declared.items.Item.{Item}
+use Rattle.cert_scan.specs.declared.items.Item.TheVariants.{Hub, DualPair, Dual, Leaf, LeafPair}
+use Rattle.cert_scan.specs.declared.scanner.Scan.{Scan}
+
+-- the bytes of a piece lead from a to b, and what it tells is given with the last of them
+pub record Passes (a : Scan) (p : Piece) (b : Scan) : Type 0 where
+  pub front : List ℕ
+  pub last : ℕ
+  pub split : p.bytes ≡ front ++ last ∷ []
+  pub quiet : given_all a front ≡ []
+  pub goes : Goes a p.bytes (option_to_list p.tells) b
+
+-- those of pieces one after another
+abbrev pub PassAll : Scan → List Piece → Scan → Type 0
+PassAll a [] b = a ≡ b
+PassAll a (p ∷ pieces) b = (mid : Scan) × Passes a p mid × PassAll mid pieces b
+
+pub pass_all-append : (a b c : Scan) (ps qs : List Piece) → PassAll a ps b → PassAll b qs c → PassAll a (ps ++ qs) c
+pass_all-append a b c [] qs h k = subst (λ s. PassAll s qs c) (sym h) k
+pass_all-append a b c (p ∷ ps) qs h k = (h.0, h.1, pass_all-append h.0 b c ps qs h.2 k)
+
+pub pass_all_goes : (a b : Scan) (ps : List Piece) → PassAll a ps b → Goes a (bytes_of ps) (told_by ps) b
+pass_all_goes a b [] h = record { scan = h; items = refl }
+pass_all_goes a b (p ∷ ps) h = goes_append a h.0 b p.bytes (bytes_of ps) (option_to_list p.tells) (told_by ps) h.1.goes (pass_all_goes h.0 b ps h.2)
+
+-- ---- what is given by the first bytes
+
+take-append-add : (xs ys : List ℕ) (n : ℕ) → take (length xs + n) (xs ++ ys) ≡ xs ++ take n ys
+take-append-add [] ys n = let e : 0 + n ≡ n = omega arith in ap (λ k. take k ys) e
+take-append-add (x ∷ xs) ys n =
+    let e : length (x ∷ xs) + n ≡ suc (length xs + n) = omega arith in ap (λ k. take k (x ∷ (xs ++ ys))) e ∙ ap (λ l. x ∷ l) (take-append-add xs ys n)
+
+take_past : (xs ys : List ℕ) (n : ℕ) → length xs ≤ n → take n (xs ++ ys) ≡ xs ++ take (n - length xs) ys
+take_past xs ys n h = let e : n ≡ length xs + (n - length xs) = omega arith in ap (λ k. take k (xs ++ ys)) e ∙ take-append-add xs ys (n - length xs)
+
+-- nothing before the last byte of a piece has come
+open_gives : (a b : Scan) (p : Piece) (rest : List ℕ) (count : ℕ) → Passes a p b → count < length p.bytes → given_all a (take count (p.bytes ++ rest)) ≡ []
+open_gives a b p rest count h low =
+    let fits : count ≤ length h.front = omega (arith, ap length h.split, length-append h.front (h.last ∷ [])) in
+    let front : take count (p.bytes ++ rest) ≡ take count h.front =
+    take-append-le count p.bytes rest (omega arith) ∙ ap (take count) h.split ∙ take-append-le count h.front (h.last ∷ []) fits in
+    let all : given_all a (take count h.front) ++ given_all (scanned a (take count h.front)) (drop count h.front) ≡ [] =
+    sym (given_all-append a (take count h.front) (drop count h.front)) ∙ ap (given_all a) (take-append-drop count h.front) ∙ h.quiet in
+    ap (given_all a) front ∙ nil_front (given_all a (take count h.front)) _ all
+
+-- so many bytes give the items of the pieces that lie whole within them
+pub pieces_give : (a b : Scan) (ps : List Piece) (count : ℕ) → PassAll a ps b → given_all a (take count (bytes_of ps)) ≡ told_by (whole_within count ps)
+pieces_give a b [] count h = ap (given_all a) (take_all count [] (omega arith))
+pieces_give a b (p ∷ ps) count h =
+    cond_both (nat_le (length p.bytes) count) (p ∷ whole_within (count - length p.bytes) ps) [] (λ w. given_all a (take count (p.bytes ++ bytes_of ps)) ≡ told_by w)
+    (λ e. (let more = pieces_give h.0 b ps (count - length p.bytes) h.2 in
+    let rest = take (count - length p.bytes) (bytes_of ps) in
+    ap (given_all a) (take_past p.bytes (bytes_of ps) count (leb-true (length p.bytes) count e)) ∙ given_all-append a p.bytes rest
+    ∙ (λ i. h.1.goes.items i ++ given_all (h.1.goes.scan i) rest) ∙ ap (λ g. option_to_list p.tells ++ g) more))
+    (λ e. open_gives a h.0 p (bytes_of ps) count h.1 (leb-false (length p.bytes) count e))
+
+-- ---- the pieces of lines are their bytes, and tell their items
+
+numbers_of : List (ℕ × Option Item) → List ℕ
+numbers_of ts = map (λ (t : ℕ × Option Item). t.0) ts
+
+hubs_told : (hubs : List ℕ) → numbers_of (told_hubs hubs) ≡ map (λ k. k + 1) hubs
+unfolding numbers_of
+hubs_told [] = refl
+hubs_told (k ∷ rest) = ap (λ l. (k + 1) ∷ l) (hubs_told rest)
+
+values_told : (u : List (ℕ × ℕ)) → numbers_of (told_values u) ≡ value_numbers u
+unfolding numbers_of
+values_told [] = refl
+values_told (e ∷ rest) = ap (λ l. (e.0 + 1) ∷ e.1 ∷ l) (values_told rest)
+
+weights_told : (w : List (ℕ × ℕ)) → numbers_of (told_weights w) ≡ weight_numbers w
+unfolding numbers_of
+weights_told [] = refl
+weights_told (e ∷ rest) = ap (λ l. e.0 ∷ e.1 ∷ l) (weights_told rest)
+
+numbers_told : (line : Line) → numbers_of (told_numbers line) ≡ numbers line
+unfolding numbers_of
+numbers_told says_version = refl
+numbers_told (says_size n q) = refl
+numbers_told (says_cost c) = refl
+numbers_told (says_bound b) = refl
+numbers_told (says_hubs hubs) = hubs_told hubs
+numbers_told (says_route commodity route) = refl
+numbers_told (says_cuts all) = refl
+numbers_told (says_cut number) = refl
+numbers_told (says_dual commodity dual) = ap (λ l. (commodity.0 + 1) ∷ (commodity.1 + 1) ∷ dual.a ∷ l) (values_told dual.u)
+numbers_told (says_nodes all) = refl
+numbers_told (says_tree (branch_on k)) = refl
+numbers_told (says_tree (leaf_of denom weights)) = ap (λ l. denom ∷ l) (weights_told weights)
+numbers_told (says_tree no_hub) = refl
+numbers_told says_end = refl
+
+words_text : (word : List ℕ) (ts : List (ℕ × Option Item)) (tells : Option Item)
+    → bytes_of (word_piece word ts tells ∷ number_pieces ts) ≡ join_with_byte 32 (word ∷ map decimal (numbers_of ts)) ++ 10 ∷ []
+unfolding numbers_of
+words_text word [] tells = append-nil (word ++ 10 ∷ [])
+words_text word (t ∷ rest) tells =
+    append_assoc word (32 ∷ []) (bytes_of (word_piece (decimal t.0) rest t.1 ∷ number_pieces rest)) ∙ ap (λ l. word ++ 32 ∷ l) (words_text (decimal t.0) rest t.1)
+    ∙ sym (append_assoc word (32 ∷ join_with_byte 32 (decimal t.0 ∷ map decimal (numbers_of rest))) (10 ∷ []))
+
+pub line_pieces_text : (line : Line) → bytes_of (pieces_of line) ≡ line_bytes line
+unfolding line_text
+line_pieces_text line =
+    words_text (keyword line) (told_numbers line) (told_keyword line) ∙ ap (λ ns. join_with_byte 32 (keyword line ∷ map decimal ns) ++ 10 ∷ []) (numbers_told line)
+
+hubs_tell : (hubs : List ℕ) → told_by (number_pieces (told_hubs hubs)) ≡ hub_parts hubs
+hubs_tell [] = refl
+hubs_tell (k ∷ rest) = ap (λ l. Hub k (none_left rest) ∷ l) (hubs_tell rest)
+
+values_tell : (u : List (ℕ × ℕ)) → told_by (number_pieces (told_values u)) ≡ value_parts u
+values_tell [] = refl
+values_tell (e ∷ rest) = ap (λ l. DualPair e.0 e.1 (none_left rest) ∷ l) (values_tell rest)
+
+weights_tell : (w : List (ℕ × ℕ)) → told_by (number_pieces (told_weights w)) ≡ weight_parts w
+weights_tell [] = refl
+weights_tell (e ∷ rest) = ap (λ l. LeafPair e.0 e.1 (none_left rest) ∷ l) (weights_tell rest)
+
+line_pieces_tell : (line : Line) → told_by (pieces_of line) ≡ parts_of line
+line_pieces_tell says_version = refl
+line_pieces_tell (says_size n q) = refl
+line_pieces_tell (says_cost c) = refl
+line_pieces_tell (says_bound b) = refl
+line_pieces_tell (says_hubs hubs) = hubs_tell hubs
+line_pieces_tell (says_route commodity route) = refl
+line_pieces_tell (says_cuts all) = refl
+line_pieces_tell (says_cut number) = refl
+line_pieces_tell (says_dual commodity dual) = ap (λ l. Dual commodity.0 commodity.1 dual.a (none_left dual.u) ∷ l) (values_tell dual.u)
+line_pieces_tell (says_nodes all) = refl
+line_pieces_tell (says_tree (branch_on k)) = refl
+line_pieces_tell (says_tree (leaf_of denom weights)) = ap (λ l. Leaf denom (none_left weights) ∷ l) (weights_tell weights)
+line_pieces_tell (says_tree no_hub) = refl
+line_pieces_tell says_end = refl
+
+pub lines_text : (lines : List Line) → bytes_of (flat_map pieces_of lines) ≡ flat_map line_bytes lines
+lines_text [] = refl
+lines_text (line ∷ lines) =
+    flat_map-append (λ (p : Piece). p.bytes) (pieces_of line) (flat_map pieces_of lines) ∙ (λ i. line_pieces_text line i ++ lines_text lines i)
+
+lines_tell : (lines : List Line) → told_by (flat_map pieces_of lines) ≡ flat_map parts_of lines
+lines_tell [] = refl
+lines_tell (line ∷ lines) =
+    flat_map-append (λ (p : Piece). option_to_list p.tells) (pieces_of line) (flat_map pieces_of lines) ∙ (λ i. line_pieces_tell line i ++ lines_tell lines i)
+
+pub pieces_are_text_lem : PiecesAreText
+unfolding certificate_text
+pieces_are_text_lem k = record { text = lines_text (certificate_items k); items = lines_tell (certificate_items k) }

@@ -1,0 +1,206 @@
+-- A check asks for memory where a cut begins, and no cut begins behind the number of the tree's lines.
+use Rattle.std.proofs.Common.{◌≡◌, ℕ, ◌-◌, List, [], ◌∷◌, ◌++◌, length, take, drop, flat_map, false, Some, nat_eq, inl, inr, refl, sym, ap, subst, ◌∙◌, append_assoc, append-nil, arith}
+use Rattle.std.specs.Prelude.{All, Contains, Result, Ok, Err, OnErr}
+use Rattle.std.proofs.lemmas.Bool.{cond_both}
+use Rattle.std.proofs.lemmas.List.{take-append-drop, take_rest}
+use Rattle.std.proofs.lemmas.List.Elements.{All-nil, All-cons, All-head, All-tail, All-append, All-map, All-weaker, All-contains, Contains-append_right, Contains-append_cases}
+use Rattle.hub_spec.specs.Problem.{commodity_at}
+use Rattle.hub_spec.specs.Trees.{TreeLine, branch_on, leaf_of, no_hub}
+use Rattle.cert_spec.specs.Lines.{Item as Line, says_version, says_size, says_cost, says_bound, says_hubs, says_route, says_cuts, says_cut, says_dual, says_nodes, says_tree, says_end}
+use Rattle.cert_spec.specs.Grammar.{Shape, Stage, want_version, want_end, want_nothing, want_hubs, want_nodes, want_dual, want_tree, Wants, places_after, after, after_tree, Leads}
+use Rattle.cert_scan.specs.Scans.{new_scan, scanned, given_all}
+use Rattle.cert_scan.specs.Parts.{parts_of, hub_parts, value_parts, weight_parts, tree_parts, none_left, open_values, open_weights}
+use Rattle.cert_scan.specs.Given.{IsBegun}
+use Rattle.cert_scan.specs.Runs.{Runs}
+use Rattle.cert_scan.specs.declared.items.Item.{Item}
+use Rattle.cert_scan.specs.declared.items.Item.TheVariants.{Hub, Cut, Dual, DualPair, Nodes, Branch, Leaf, LeafPair, Empty, End}
+use Rattle.cert_scan.specs.declared.scanner.Scan.{Scan}
+use Rattle.cert_scan.proofs.Goes.{scanned-append, given_all-append}
+use Rattle.cert_scan.proofs.Tracks.{scanned_given}
+use Rattle.cert_stream.specs.Steps.{IsCut}
+use Rattle.cert_stream.specs.Fed.{items_in, items_behind, BeginsCut, CountsTree}
+
+-- what holds, holds where an error is returned
+pub on_err : {X Y : Type 0} (r : Result X Y) (P : Type 0) → P → OnErr r P
+on_err (Ok x) P h = tt
+on_err (Err e) P h = h
+
+-- it tells how many lines the tree has
+abbrev IsCount : Item → Type 0
+IsCount (Nodes all) = Unit {0}
+IsCount other = ⊥
+
+abbrev IsNoCut : Item → Type 0
+IsNoCut i = IsCut i → ⊥
+
+abbrev IsNoCount : Item → Type 0
+IsNoCount i = IsCount i → ⊥
+
+-- it is one of a line that lists
+abbrev IsOfList : Item → Type 0
+IsOfList (Hub k last) = Unit {0}
+IsOfList (Dual i j a last) = Unit {0}
+IsOfList (DualPair k u last) = Unit {0}
+IsOfList (Leaf denom last) = Unit {0}
+IsOfList (LeafPair c w last) = Unit {0}
+IsOfList other = ⊥
+
+list_no_cut : (i : Item) → IsOfList i → IsNoCut i
+list_no_cut (Cut number) h = λ is. h
+list_no_cut other h = λ is. is
+
+list_no_count : (i : Item) → IsOfList i → IsNoCount i
+list_no_count (Nodes all) h = λ is. h
+list_no_count other h = λ is. is
+
+-- ---- the items of lists
+
+each : {X : Type 0} (P : X → Type 0) → ((x : X) → P x) → (xs : List X) → All P xs
+each P h [] = All-nil P
+each P h (x ∷ xs) = All-cons P x xs (h x) (each P h xs)
+
+hubs_of_list : (hubs : List ℕ) → All IsOfList (hub_parts hubs)
+hubs_of_list [] = All-nil IsOfList
+hubs_of_list (k ∷ rest) = All-cons IsOfList (Hub k (none_left rest)) (hub_parts rest) tt (hubs_of_list rest)
+
+values_of_list : (u : List (ℕ × ℕ)) → All IsOfList (value_parts u)
+values_of_list [] = All-nil IsOfList
+values_of_list (e ∷ rest) = All-cons IsOfList (DualPair e.0 e.1 (none_left rest)) (value_parts rest) tt (values_of_list rest)
+
+weights_of_list : (weights : List (ℕ × ℕ)) → All IsOfList (weight_parts weights)
+weights_of_list [] = All-nil IsOfList
+weights_of_list (e ∷ rest) = All-cons IsOfList (LeafPair e.0 e.1 (none_left rest)) (weight_parts rest) tt (weights_of_list rest)
+
+-- what is given of a line whose end has not come is of a list
+begun_of_list : (stage : Stage) (given : List Item) → IsBegun stage given → All IsOfList given
+begun_of_list (want_hubs s) given h =
+    subst (All IsOfList) (sym h.are) (All-map IsOfList (λ (k : ℕ). Hub k false) h.hubs (each (λ (k : ℕ). IsOfList (Hub k false)) (λ k. tt) h.hubs))
+begun_of_list (want_dual s all x t) given (inl none) = subst (All IsOfList) (sym none) (All-nil IsOfList)
+begun_of_list (want_dual s all x t) given (inr h) =
+    subst (All IsOfList) (sym h.are) (All-cons IsOfList (Dual (commodity_at s.size t).0 (commodity_at s.size t).1 h.dual.a false) (open_values h.dual.u) tt
+    (All-map IsOfList (λ (e : ℕ × ℕ). DualPair e.0 e.1 false) h.dual.u (each (λ (e : ℕ × ℕ). IsOfList (DualPair e.0 e.1 false)) (λ e. tt) h.dual.u)))
+begun_of_list (want_tree s places left) given (inl none) = subst (All IsOfList) (sym none) (All-nil IsOfList)
+begun_of_list (want_tree s places left) given (inr h) =
+    subst (All IsOfList) (sym h.are) (All-cons IsOfList (Leaf h.denom false) (open_weights h.weights) tt
+    (All-map IsOfList (λ (e : ℕ × ℕ). LeafPair e.0 e.1 false) h.weights (each (λ (e : ℕ × ℕ). IsOfList (LeafPair e.0 e.1 false)) (λ e. tt) h.weights)))
+begun_of_list stage given h = subst (All IsOfList) (sym h) (All-nil IsOfList)
+
+-- ---- the lines of the tree
+
+-- the number of the tree's lines has come
+abbrev IsInTree : Stage → Type 0
+IsInTree (want_tree s places left) = Unit {0}
+IsInTree want_end = Unit {0}
+IsInTree want_nothing = Unit {0}
+IsInTree stage = ⊥
+
+tree_no_cut : (line : TreeLine) → All IsNoCut (tree_parts line)
+tree_no_cut (branch_on k) = All-cons IsNoCut (Branch k) [] (λ is. is) (All-nil IsNoCut)
+tree_no_cut (leaf_of denom weights) =
+    All-cons IsNoCut (Leaf denom (none_left weights)) (weight_parts weights) (λ is. is) (All-weaker IsOfList IsNoCut list_no_cut (weight_parts weights) (weights_of_list weights))
+tree_no_cut no_hub = All-cons IsNoCut Empty [] (λ is. is) (All-nil IsNoCut)
+
+in_tree_after : (s : Shape) (places left : ℕ) → IsInTree (after_tree s places left)
+in_tree_after s places left = cond_both (nat_eq left 0) want_end (want_tree s places left) IsInTree (λ e. tt) (λ e. tt)
+
+in_tree_line : (stage : Stage) (line : Line) → IsInTree stage → Wants stage line → All IsNoCut (parts_of line) × IsInTree (after stage line)
+in_tree_line (want_tree s places left) (says_tree line) h w = (tree_no_cut line, in_tree_after s (places_after places line) (left - 1))
+in_tree_line (want_tree s places left) line h w = absurd w
+in_tree_line want_end says_end h w = (All-cons IsNoCut End [] (λ is. is) (All-nil IsNoCut), tt)
+in_tree_line want_end line h w = absurd w
+in_tree_line want_nothing line h w = absurd w
+in_tree_line stage line h w = absurd h
+
+tree_lines_no_cut : (stage : Stage) (lines : List Line) (last : Stage) (more : List Item) → IsInTree stage → Leads stage lines last → IsBegun last more
+    → All IsNoCut (flat_map parts_of lines ++ more)
+tree_lines_no_cut stage [] last more h lead begun = All-weaker IsOfList IsNoCut list_no_cut more (begun_of_list last more begun)
+tree_lines_no_cut stage (line ∷ lines) last more h lead begun =
+    let step = in_tree_line stage line h lead.0 in
+    subst (All IsNoCut) (sym (append_assoc (parts_of line) (flat_map parts_of lines) more))
+    (All-append IsNoCut (parts_of line) (flat_map parts_of lines ++ more) step.0 (tree_lines_no_cut (after stage line) lines last more step.1 lead.1 begun))
+
+-- ---- all lines
+
+-- no cut begins behind the number of the tree's lines
+abbrev InTurn : List Item → Type 0
+InTurn [] = Unit {0}
+InTurn (i ∷ items) = (IsCount i → All IsNoCut items) × InTurn items
+
+in_turn-append : (xs ys : List Item) → All IsNoCount xs → InTurn ys → InTurn (xs ++ ys)
+in_turn-append [] ys h k = k
+in_turn-append (x ∷ xs) ys h k = ((λ is. absurd (All-head IsNoCount x xs h is)), in_turn-append xs ys (All-tail IsNoCount x xs h) k)
+
+list_in_turn : (xs ys : List Item) → All IsOfList xs → InTurn ys → InTurn (xs ++ ys)
+list_in_turn xs ys h k = in_turn-append xs ys (All-weaker IsOfList IsNoCount list_no_count xs h) k
+
+tree_in_turn : (line : TreeLine) (rest : List Item) → InTurn rest → InTurn (tree_parts line ++ rest)
+tree_in_turn (branch_on k) rest h = ((λ is. absurd is), h)
+tree_in_turn (leaf_of denom weights) rest h = ((λ is. absurd is), list_in_turn (weight_parts weights) rest (weights_of_list weights) h)
+tree_in_turn no_hub rest h = ((λ is. absurd is), h)
+
+line_in_turn : (line : Line) (stage : Stage) (rest : List Item) → Wants stage line → InTurn rest → (IsInTree (after stage line) → All IsNoCut rest)
+    → InTurn (parts_of line ++ rest)
+line_in_turn says_version stage rest w h none = h
+line_in_turn (says_size n q) stage rest w h none = ((λ is. absurd is), h)
+line_in_turn (says_cost c) stage rest w h none = ((λ is. absurd is), h)
+line_in_turn (says_bound b) stage rest w h none = ((λ is. absurd is), h)
+line_in_turn (says_hubs hubs) stage rest w h none = list_in_turn (hub_parts hubs) rest (hubs_of_list hubs) h
+line_in_turn (says_route commodity route) stage rest w h none = ((λ is. absurd is), h)
+line_in_turn (says_cuts all) stage rest w h none = ((λ is. absurd is), h)
+line_in_turn (says_cut number) stage rest w h none = ((λ is. absurd is), h)
+line_in_turn (says_dual commodity dual) stage rest w h none = ((λ is. absurd is), list_in_turn (value_parts dual.u) rest (values_of_list dual.u) h)
+line_in_turn (says_nodes all) (want_nodes s) rest w h none = ((λ is. none tt), h)
+line_in_turn (says_nodes all) stage rest w h none = absurd w
+line_in_turn (says_tree line) stage rest w h none = tree_in_turn line rest h
+line_in_turn says_end stage rest w h none = ((λ is. absurd is), h)
+
+lines_in_turn : (stage : Stage) (lines : List Line) (last : Stage) (more : List Item) → Leads stage lines last → IsBegun last more
+    → InTurn (flat_map parts_of lines ++ more)
+lines_in_turn stage [] last more lead begun = subst InTurn (append-nil more) (list_in_turn more [] (begun_of_list last more begun) tt)
+lines_in_turn stage (line ∷ lines) last more lead begun =
+    subst InTurn (sym (append_assoc (parts_of line) (flat_map parts_of lines) more))
+    (line_in_turn line stage (flat_map parts_of lines ++ more) lead.0 (lines_in_turn (after stage line) lines last more lead.1 begun)
+    (λ h. tree_lines_no_cut (after stage line) lines last more h lead.1 begun))
+
+no_cut_behind : (xs ys : List Item) (all number : ℕ) → InTurn (xs ++ ys) → Contains xs (Nodes all) → Contains ys (Cut number) → ⊥
+no_cut_behind [] ys all number h counts cut = absurd (omega (arith, counts.1))
+no_cut_behind (x ∷ xs) ys all number h counts cut =
+    let behind : IsNoCount x = λ is. All-contains IsNoCut (xs ++ ys) (Cut number) (h.0 is) (Contains-append_right xs ys (Cut number) cut) tt in
+    elim (Contains-append_cases (x ∷ []) xs (Nodes all) counts) [
+      | inl here ↦ All-contains IsNoCount (x ∷ []) (Nodes all) (All-cons IsNoCount x [] behind (All-nil IsNoCount)) here tt
+      | inr later ↦ no_cut_behind xs ys all number h.1 later cut
+    ]
+
+-- once the number of the tree's lines has come, no piece begins a cut
+pub no_cut_once_counted : (bytes piece : List ℕ) → CountsTree (items_in bytes) → BeginsCut (items_behind bytes piece) → ⊥
+no_cut_once_counted bytes piece counts cut =
+    let all = scanned_given (bytes ++ piece) (given_all new_scan (bytes ++ piece)) (scanned new_scan (bytes ++ piece)) (record { reached = refl; gives = refl }) in
+    let in_turn : InTurn (given_all new_scan (bytes ++ piece)) = subst InTurn (sym all.are) (lines_in_turn want_version all.lines all.stage all.more all.lead all.begun) in
+    no_cut_behind (items_in bytes) (items_behind bytes piece) counts.0 cut.0 (subst InTurn (given_all-append new_scan bytes piece) in_turn) counts.1 cut.1
+
+-- ---- the item that is refused
+
+cut_number : (i : Item) → IsCut i → (number : ℕ) × (i ≡ Cut number)
+cut_number (Cut number) h = (number, refl)
+cut_number other h = absurd h
+
+-- it is one that the bytes give
+pub run_begins_cut : (old new : Scan) (bytes : List ℕ) (taken : ℕ) (i : Item) → Runs old bytes taken (Some i) new → IsCut i → BeginsCut (given_all old bytes)
+run_begins_cut old new bytes taken i r is =
+    let cut = cut_number i is in
+    let later = given_all (scanned old (take taken bytes)) (drop taken bytes) in
+    let all : given_all old bytes ≡ Cut cut.0 ∷ later =
+    ap (given_all old) (sym (take-append-drop taken bytes)) ∙ given_all-append old (take taken bytes) (drop taken bytes)
+    ∙ ap (λ g. g ++ later) (r.given ∙ ap (λ x. x ∷ []) cut.1) in
+    (cut.0, subst (λ g. Contains g (Cut cut.0)) (sym all) (0, omega arith, refl))
+
+-- and so one that the whole piece gives
+pub later_begins_cut : (bytes piece : List ℕ) (at : ℕ) (old now : Scan) → scanned new_scan bytes ≡ old → scanned new_scan (bytes ++ take at piece) ≡ now
+    → BeginsCut (given_all now (take (length piece - at) (drop at piece))) → BeginsCut (given_all old piece)
+later_begins_cut bytes piece at old now first second cut =
+    let there : scanned old (take at piece) ≡ now = ap (λ s. scanned s (take at piece)) (sym first) ∙ sym (scanned-append new_scan bytes (take at piece)) ∙ second in
+    let rest = take (length piece - at) (drop at piece) in
+    let all : given_all old piece ≡ given_all old (take at piece) ++ given_all now rest =
+    ap (given_all old) (sym (take-append-drop at piece)) ∙ given_all-append old (take at piece) (drop at piece)
+    ∙ (λ i. given_all old (take at piece) ++ given_all (there i) (sym (take_rest piece at) i)) in
+    (cut.0, subst (λ g. Contains g (Cut cut.0)) (sym all) (Contains-append_right (given_all old (take at piece)) (given_all now rest) (Cut cut.0) cut.1))
