@@ -1,5 +1,5 @@
 -- What a search found, as a certificate that holds.
-use Rattle.std.proofs.Common.{◌≡◌, ℕ, ◌<◌, ◌≤◌, pos, List, [], ◌∷◌, length, map, All, Option, None, Some, IsSome, is_some, true≢false, refl, sym, ap, subst, ◌∙◌, arith}
+use Rattle.std.proofs.Common.{◌≡◌, ℕ, ◌+◌, ◌^◌, ◌<◌, ◌≤◌, pos, List, [], ◌∷◌, length, map, All, Option, None, Some, IsSome, IsNone, is_some, true≢false, refl, sym, ap, subst, ◌∙◌, arith}
 use Rattle.std.specs.List.{AllZip}
 use Rattle.std.proofs.lemmas.List.{length-map}
 use Rattle.std.proofs.lemmas.List.Elements.{All-nil, All-cons, All-weaker, All-map, All-contains_itself}
@@ -18,7 +18,7 @@ use Rattle.hub_spec.proofs.SetCosts.{plan_of_least, set_cost_is, one_set_cost}
 use Rattle.hub_spec.proofs.WeakDuality.{no_plan_below_bound}
 use Rattle.plan_model.specs.Lines.{tree_line_of}
 use Rattle.search_spec.specs.States.{lesser}
-use Rattle.search_spec.specs.Findings.{AreWithin, IsSpent}
+use Rattle.search_spec.specs.Findings.{AreWithin, IsSpent, IsEnough}
 use Rattle.search_spec.proofs.Invariants.{lesser_least}
 use Rattle.tree_walks.specs.Walks.{Walks}
 use Rattle.tree_walks.proofs.Walking.{is_tree}
@@ -148,13 +148,22 @@ module _ (t : Task) (s : Progress) (found : Network) (over : IsOver t s) (is : I
       spent_when n cost None made spent less = absurd (omega (arith, less))
       spent_when n cost (Some low) made spent less = spent refl
 
-  pub found_whole : t.nodes ≡ None → found.bound ≡ found.cost
-  found_whole none =
-      is.bound ∙ whole_when t.nodes s.cost s.stop s.made none over.going.spent ∙ sym is.cost
+  pub found_most : length found.tree.items + 1 ≤ 2 ^ (length t.instance.now.candidates + 1)
+  found_most = omega (arith, found_made, over.most)
+
+  pub found_enough : IsEnough (2 ^ (length t.instance.now.candidates + 1)) t.nodes → found.bound ≡ found.cost
+  found_enough enough =
+      is.bound ∙ whole_when s.cost s.stop (over.enough enough) ∙ sym is.cost
     where
-      whole_when : (n : Option ℕ) (cost : ℕ) (stop : Option ℕ) (made : ℕ) → n ≡ None → (IsSome stop → IsSpent n made) → lesser cost stop ≡ cost
-      whole_when n cost None made none spent = refl
-      whole_when n cost (Some low) made none spent = absurd (subst (λ (o : Option ℕ). IsSpent o made) none (spent refl))
+      whole_when : (cost : ℕ) (stop : Option ℕ) → IsNone stop → lesser cost stop ≡ cost
+      whole_when cost None none = refl
+      whole_when cost (Some low) none = absurd (true≢false none)
+
+  pub found_whole : t.nodes ≡ None → found.bound ≡ found.cost
+  found_whole none = found_enough (subst (IsEnough (2 ^ (length t.instance.now.candidates + 1))) (sym none) tt)
+
+  pub found_at_most : (cost : ℕ) → IsSetCost t.instance.now t.instance.now.candidates cost → found.cost ≤ cost
+  found_at_most cost is_cost = omega (arith, is.cost, over.going.at_most cost is_cost)
 
 -- the cost of a hub set is within the limit of costs
 pub set_cost_within : (p : Problem) (hubs : List ℕ) (cost : ℕ) → IsProblem p → IsSetCost p hubs cost → cost ≤ most_cost
@@ -189,6 +198,7 @@ begun_going t s ok costs cuts lines hubs is_cost made stop =
       in_range = rw lines (All-nil (IsLineInRange p.size));
       hubs = all_set p s.hubs ok hubs;
       cost = is_cost;
+      at_most = λ most is_most. omega (arith, one_set_cost p p.candidates s.cost most (subst (λ (hs : List ℕ). IsSetCost p hs s.cost) hubs is_cost) is_most);
       cost_limit = set_cost_within p s.hubs s.cost ok is_cost;
       made = omega (arith, made);
       allowed = rw made (within_one t.nodes);

@@ -1,5 +1,5 @@
 -- How the steps of a search follow one another.
-use Rattle.std.proofs.Common.{◌≡◌, ℕ, ◌+◌, ◌<◌, ◌≤◌, List, [], ◌∷◌, ◌++◌, length, Bool, true, false, Option, None, Some, IsSome, refl, sym, ap, subst, ◌∙◌, append-nil, arith}
+use Rattle.std.proofs.Common.{◌≡◌, ℕ, zero, suc, ◌+◌, ◌-◌, ◌^◌, ◌<◌, ◌≤◌, List, [], ◌∷◌, ◌++◌, length, Bool, true, false, Option, None, Some, IsSome, IsNone, refl, sym, ap, subst, ◌∙◌, append-nil, pow_pos, arith}
 use Rattle.std.proofs.lemmas.List.{length_push, map_push}
 use Rattle.std.proofs.lemmas.List.Elements.{All-push}
 use Rattle.hub_spec.specs.Limits.{most_cuts, most_tree_lines}
@@ -11,8 +11,10 @@ use Rattle.hub_spec.specs.Ranges.{IsLineInRange}
 use Rattle.plan_model.specs.declared.tree_lines.TreeLine as model
 use Rattle.plan_model.specs.Lines.{tree_line_of}
 use Rattle.search_spec.specs.States.{lesser}
-use Rattle.search_spec.specs.Findings.{AreWithin, IsSpent}
+use Rattle.search_spec.specs.Findings.{AreWithin, IsSpent, IsEnough}
 use Rattle.search_spec.proofs.Invariants.{lesser_less}
+use Rattle.search_spec.proofs.Leaves.{double}
+use Rattle.search_spec.proofs.Parting.{length-without}
 use Rattle.tree_walks.specs.Walks.{IsSoundLine, filled, Walks}
 use Rattle.tree_walks.proofs.Walking.{goes_on, stays}
 use Rattle.kept_cuts.specs.Kept.{Kept, kept_cut, IsKeptFor, AreKeptFor}
@@ -65,6 +67,7 @@ line_going t before after line count going has few in_range more less within = r
       (All-push (IsLineInRange t.instance.now.size) (lines_of before.lines.items) (tree_line_of line) going.in_range in_range);
   hubs = rw has.hubs going.hubs;
   cost = rw (has.hubs, has.cost) going.cost;
+  at_most = rw has.cost going.at_most;
   cost_limit = rw has.cost going.cost_limit;
   made = omega (arith, has.made, less, going.made, line_more before after line count has);
   allowed = subst (AreWithin t.nodes) (sym has.made) within;
@@ -83,6 +86,8 @@ line_done t b before after line going end sound in_range few has =
       walks = λ first pending walks. subst (WalksTo p after first) (end b pending)
           (line_walks p before after line before.made b first pending has sound walks);
       lines = omega (arith, line_more before after line before.made has, has.made);
+      most = omega (arith, has.made, double (length b.free), pow_pos (length b.free));
+      enough = λ room none. subst (λ (o : Option ℕ). IsNone o) (sym has.stop) none;
     }
 
 pub line_halved : (t : Task) (b : Branching) (k : ℕ) (before after : Progress) (line : model.TreeLine) → IsGoing t before
@@ -92,12 +97,14 @@ pub line_halved : (t : Task) (b : Branching) (k : ℕ) (before after : Progress)
 line_halved t b k before after line going is sound node within few has =
     let p = t.instance.now in
     record {
+      free = sound;
       going = line_going t before after line (before.made + 2) going has few (subst (IsLineInRange p.size) (sym is) node) (omega arith) (omega arith) within;
       walks = λ first pending walks. subst (λ (l : TreeLine). WalksTo p after first (filled b l pending)) is
           (line_walks p before after line (before.made + 2) b first pending has
           (subst (IsSoundLine p (cuts_of p before) (target_of before) b) (sym is) sound) walks);
       lines = line_more before after line (before.made + 2) has;
       made = has.made;
+      stop = has.stop;
     }
 
 -- ---- no line more
@@ -119,6 +126,9 @@ at_done t b before middle after at done = record {
   going = done.going;
   walks = λ first pending walks. done.walks first pending (at.walks first (b ∷ pending) walks);
   lines = omega (arith, at.lines, at.made, done.lines);
+  most = omega (arith, at.made, done.most);
+  enough = λ room none. done.enough (subst (λ (made : ℕ). IsEnough (made + 2 ^ (length b.free + 1) - 1) t.nodes) (sym at.made) room)
+      (subst (λ (o : Option ℕ). IsNone o) (sym at.stop) none);
 }
 
 -- what advice comes to, told of what stood before the advice was taken
@@ -155,6 +165,7 @@ offer_at t before after going has set is_cost =
         in_range = rw has.lines going.in_range;
         hubs = set;
         cost = is_cost;
+        at_most = λ most is_most. omega (arith, has.cost, going.at_most most is_most);
         cost_limit = omega (arith, has.cost, going.cost_limit);
         made = rw (has.lines, has.made) going.made;
         allowed = rw has.made going.allowed;
@@ -193,6 +204,7 @@ cut_at_step t before after cut sum loads going has fits sums few =
         in_range = rw has.lines going.in_range;
         hubs = rw has.hubs going.hubs;
         cost = rw (has.hubs, has.cost) going.cost;
+        at_most = rw has.cost going.at_most;
         cost_limit = rw has.cost going.cost_limit;
         made = rw (has.lines, has.made) going.made;
         allowed = rw has.made going.allowed;
@@ -218,6 +230,7 @@ stop_going t before low going spent = record {
   in_range = going.in_range;
   hubs = going.hubs;
   cost = going.cost;
+  at_most = going.at_most;
   cost_limit = going.cost_limit;
   made = going.made;
   allowed = going.allowed;
@@ -232,34 +245,69 @@ pub stop_below : (cost r : ℕ) (o : Option ℕ) → lesser cost (Some (lesser r
 stop_below cost r None = omega arith
 stop_below cost r (Some m) = omega arith
 
-pub stop_done : (t : Task) (b : Branching) (before after : Progress) (r : ℕ) → IsDone t b (record before { stop = Some (lesser r before.stop) }) after
-    → IsDone t b before after
-stop_done t b before after r done =
+two_free : (f : ℕ) → 1 ≤ f → 4 ≤ 2 ^ (f + 1)
+two_free zero some = absurd (omega arith)
+two_free (suc f) some = let one : suc f ≡ f + 1 = omega arith in omega (arith, double (suc f), ap (λ (m : ℕ). 2 ^ m) one, double f, pow_pos f)
+
+-- where two nodes more are not allowed, no branch with a free node may have a whole tree
+too_few : {G : Type 0} (n : Option ℕ) (made free : ℕ) → IsEnough (made + 2 ^ (free + 1) - 1) n → IsSpent n made → 1 ≤ free → G
+too_few None made free room spent some = absurd spent
+too_few (Some n) made free room spent some = absurd (omega (arith, room, spent, two_free free some))
+
+pub stop_done : (t : Task) (b : Branching) (before after : Progress) (r : ℕ) → IsSpent t.nodes before.made → (IsNone before.stop → 1 ≤ length b.free)
+    → IsDone t b (record before { stop = Some (lesser r before.stop) }) after → IsDone t b before after
+stop_done t b before after r spent due done =
     let p = t.instance.now in
     record {
       going = done.going;
       walks = λ first pending walks. done.walks first pending
           (target_falls p before (lesser before.cost (Some (lesser r before.stop))) (stop_falls before.cost r before.stop) first (b ∷ pending) walks);
       lines = done.lines;
+      most = done.most;
+      enough = λ room none. too_few t.nodes before.made (length b.free) room spent (due none);
     }
 
 -- ---- children
 
+enough_less : (n : Option ℕ) (fewer more : ℕ) → fewer ≤ more → IsEnough more n → IsEnough fewer n
+enough_less None fewer more less enough = tt
+enough_less (Some n) fewer more less enough = omega (arith, less, enough)
+
 pub halved_done : (t : Task) (b : Branching) (k : ℕ) (before begun middle after : Progress) → IsHalved t b k before begun
     → IsDone t (open_child b k) begun middle → IsDone t (closed_child b k) middle after → IsDone t b before after
-halved_done t b k before begun middle after halved opened closed = record {
-  going = closed.going;
-  walks = λ first pending walks. closed.walks first pending (opened.walks first (closed_child b k ∷ pending) (halved.walks first pending walks));
-  lines = omega (arith, halved.lines, halved.made, opened.lines, closed.lines);
-}
+halved_done t b k before begun middle after halved opened closed =
+    let f = length b.free in
+    let fewer = length-without k b.free halved.free in
+    let power : 2 ^ (length (open_child b k).free + 1) ≡ 2 ^ f = ap (λ (m : ℕ). 2 ^ m) fewer in
+    let twice = double f in
+    let some : 2 ≤ 2 ^ f = omega (arith, power, double (length (open_child b k).free), pow_pos (length (open_child b k).free)) in
+    record {
+      going = closed.going;
+      walks = λ first pending walks. closed.walks first pending (opened.walks first (closed_child b k ∷ pending) (halved.walks first pending walks));
+      lines = omega (arith, halved.lines, halved.made, opened.lines, closed.lines);
+      most = omega (arith, halved.made, opened.most, closed.most, power, twice);
+      enough = λ room none.
+          closed.enough
+          (enough_less t.nodes (middle.made + 2 ^ (length (closed_child b k).free + 1) - 1) (before.made + 2 ^ (f + 1) - 1)
+          (omega (arith, halved.made, opened.most, power, twice)) room)
+          (opened.enough
+          (enough_less t.nodes (begun.made + 2 ^ (length (open_child b k).free + 1) - 1) (before.made + 2 ^ (f + 1) - 1)
+          (omega (arith, halved.made, some, power, twice)) room)
+          (subst (λ (o : Option ℕ). IsNone o) (sym halved.stop) none));
+    }
 
 -- ---- the end
 
-pub is_over : (t : Task) (begun after : Progress) → begun.lines.items ≡ [] → begun.made ≡ 1 → IsDone t (root t.instance.now) begun after → IsOver t after
-is_over t begun after none one done =
+pub is_over : (t : Task) (begun after : Progress) → begun.lines.items ≡ [] → begun.made ≡ 1 → IsNone begun.stop
+    → IsDone t (root t.instance.now) begun after → IsOver t after
+is_over t begun after none one going done =
     let p = t.instance.now in
     record {
       going = done.going;
       walks = done.walks (root p ∷ []) [] (rw none refl);
       lines = omega (arith, done.lines, ap length none, one);
+      most = omega (arith, done.most, one);
+      enough = λ enough.
+          done.enough
+          (enough_less t.nodes (begun.made + 2 ^ (length p.candidates + 1) - 1) (2 ^ (length p.candidates + 1)) (omega (arith, one)) enough) going;
     }

@@ -1,5 +1,5 @@
 -- What a search has at each step, and what a step keeps.
-use Rattle.std.specs.Prelude.{◌≡◌, ℕ, ◌+◌, ◌*◌, ◌≤◌, Bool, true, false, List, [], ◌∷◌, length, All, IsSome}
+use Rattle.std.specs.Prelude.{◌≡◌, ℕ, ◌+◌, ◌-◌, ◌*◌, ◌^◌, ◌≤◌, Bool, true, false, List, [], ◌∷◌, length, All, Contains, IsSome, IsNone}
 use Rattle.hub_spec.specs.Limits.{most_cost, most_cuts, most_tree_lines}
 use Rattle.hub_spec.specs.Problem.{Problem}
 use Rattle.hub_spec.specs.Plans.{IsHubSet, IsSetCost}
@@ -7,7 +7,7 @@ use Rattle.hub_spec.specs.Cuts.{Cut}
 use Rattle.hub_spec.specs.Trees.{Branching, root, open_child, closed_child, TreeLine}
 use Rattle.hub_spec.specs.Ranges.{IsLineInRange}
 use Rattle.search_spec.specs.States.{lesser}
-use Rattle.search_spec.specs.Findings.{AreWithin, IsSpent}
+use Rattle.search_spec.specs.Findings.{AreWithin, IsSpent, IsEnough}
 use Rattle.tree_walks.specs.Walks.{filled, Walks}
 use Rattle.kept_cuts.specs.Kept.{kept_cuts, AreKeptFor}
 use Rattle.kept_cuts.specs.Networks.{lines_of}
@@ -27,7 +27,8 @@ target_of s = lesser s.cost s.stop
 abbrev pub WalksTo : Problem → Progress → List Branching → List Branching → Type 0
 WalksTo p s first last = Walks p (cuts_of p s) (target_of s) first (lines_of s.lines.items) last
 
--- what holds at each step: of the task, of the cuts, the lines and the incumbent, and of the nodes
+-- what holds at each step: of the task, of the cuts, the lines and the incumbent, which costs at most what all candidates
+-- cost, and of the nodes
 pub record IsGoing (t : Task) (s : Progress) : Type 0 where
   pub costs : AreFixedCosts t.instance.now t.fixed.items
   pub kept : AreKeptFor t.instance.now s.cuts
@@ -36,6 +37,7 @@ pub record IsGoing (t : Task) (s : Progress) : Type 0 where
   pub in_range : All (IsLineInRange t.instance.now.size) (lines_of s.lines.items)
   pub hubs : IsHubSet t.instance.now s.hubs
   pub cost : IsSetCost t.instance.now s.hubs s.cost
+  pub at_most : (all : ℕ) → IsSetCost t.instance.now t.instance.now.candidates all → s.cost ≤ all
   pub cost_limit : s.cost ≤ most_cost
   pub made : s.made ≤ 2 * length s.lines.items + 1
   pub allowed : AreWithin t.nodes s.made
@@ -53,28 +55,40 @@ pub record IsAt (t : Task) (before after : Progress) : Type 0 where
 abbrev pub IsEndLine : TreeLine → Type 0
 IsEndLine line = (b : Branching) (pending : List Branching) → filled b line pending ≡ pending
 
--- the branch has been filled, with a line for each node that was made, and one for the branch itself
+-- a whole tree of the branch is allowed: 2 ^ (free nodes + 1) - 1 nodes, of which the branch itself is made
+abbrev pub MayBeWhole : Task → Branching → Progress → Type 0
+MayBeWhole t b s = IsEnough (s.made + 2 ^ (length b.free + 1) - 1) t.nodes
+
+-- the branch has been filled, with a line for each node that was made, and one for the branch itself: no more than a whole
+-- tree has, and without a stop where a whole tree is allowed
 pub record IsDone (t : Task) (b : Branching) (before after : Progress) : Type 0 where
   pub going : IsGoing t after
   pub walks : (first pending : List Branching)
       → WalksTo t.instance.now before first (b ∷ pending) → WalksTo t.instance.now after first pending
   pub lines : length after.lines.items + before.made ≡ length before.lines.items + after.made + 1
+  pub most : after.made + 2 ≤ before.made + 2 ^ (length b.free + 1)
+  pub enough : MayBeWhole t b before → IsNone before.stop → IsNone after.stop
 
--- in the place of the branch its two children on the node are to be filled
+-- in the place of the branch its two children on the free node are to be filled
 pub record IsHalved (t : Task) (b : Branching) (k : ℕ) (before after : Progress) : Type 0 where
+  pub free : Contains b.free k
   pub going : IsGoing t after
   pub walks : (first pending : List Branching) → WalksTo t.instance.now before first (b ∷ pending)
       → WalksTo t.instance.now after first (open_child b k ∷ closed_child b k ∷ pending)
   pub lines : length after.lines.items ≡ length before.lines.items + 1
   pub made : after.made ≡ before.made + 2
+  pub stop : after.stop ≡ before.stop
 
 -- advice was taken: the branch has been filled, or the search goes on, and two nodes more are allowed
 abbrev pub IsAdvised : Task → Branching → Progress → Progress → Bool → Type 0
 IsAdvised t b before after true = IsDone t b before after
 IsAdvised t b before after false = IsAt t before after × AreWithin t.nodes (after.made + 2)
 
--- the lines lead from the root to the end, one for each node
+-- the lines lead from the root to the end, one for each node; no more than a whole tree has, and no stop came where as many
+-- are allowed
 pub record IsOver (t : Task) (s : Progress) : Type 0 where
   pub going : IsGoing t s
   pub walks : WalksTo t.instance.now s (root t.instance.now ∷ []) []
   pub lines : length s.lines.items ≡ s.made
+  pub most : s.made + 1 ≤ 2 ^ (length t.instance.now.candidates + 1)
+  pub enough : IsEnough (2 ^ (length t.instance.now.candidates + 1)) t.nodes → IsNone s.stop

@@ -42,6 +42,7 @@ pub(crate) fn end_by_advice<R: Threads + Sync, A: Advice + Drop>(
     requires going { IsGoing task.now progress.old }
     requires bench { desk.old.bench.problem ≡ task.now.instance.now }
     requires branch { IsBranch task.now.instance.now branch.now }
+    requires some_free { 1 ≤ length branch.now.free }
     ensures bench { desk.new.bench.problem ≡ desk.old.bench.problem }
     ensures advised { IfOk result (λ ended. IsAdvised task.now branch.now progress.old progress.new ended) }
 {
@@ -63,6 +64,7 @@ fn end_by_values(
     requires going { IsGoing task.now progress.old }
     requires bench { bench.old.problem ≡ task.now.instance.now }
     requires branch { IsBranch task.now.instance.now branch.now }
+    requires some_free { 1 ≤ length branch.now.free }
     ensures bench { bench.new.problem ≡ bench.old.problem }
     ensures advised { IfOk result (λ ended. IsAdvised task.now branch.now progress.old progress.new ended) }
 {

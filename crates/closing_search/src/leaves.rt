@@ -1,6 +1,6 @@
 //! The leaves of the tree.
 
-ghost use Rattle.std.specs.Prelude.{◌≡◌, ◌≤◌, ◌+◌, [], ◌∷◌, pos, length, ◌≤ℤ◌, ◌⊎◌, IfOk, IfSome, OnOk};
+ghost use Rattle.std.specs.Prelude.{◌≡◌, ◌≤◌, ◌+◌, [], ◌∷◌, pos, length, ◌≤ℤ◌, ◌⊎◌, IsNone, IfOk, IfSome, OnOk};
 ghost use Rattle.hub_spec.specs.Limits.{most_cost};
 ghost use Rattle.hub_spec.specs.Problem.{opening_cost};
 ghost use Rattle.hub_spec.specs.Plans.{IsHubSet, IsSetCost};
@@ -190,7 +190,7 @@ fn better_of(best: Choice, other: Choice) -> Choice
     }
 }
 
-/// Ends the branch with the leaf that a stop makes of it.
+/// Ends the branch with the leaf that a stop makes of it: the first stop comes only where a node is free.
 pub(crate) fn stopped_leaf(
     alloc: Global,
     task: &Task,
@@ -200,6 +200,7 @@ pub(crate) fn stopped_leaf(
     requires going { IsGoing task.now progress.old }
     requires branch { IsBranch task.now.instance.now branch.now }
     requires spent { IsSpent task.now.nodes progress.old.made }
+    requires due { IsNone progress.old.stop → 1 ≤ length branch.now.free }
     ensures { OnOk result (IsDone task.now branch.now progress.old progress.new) }
 {
     let choice = best_choice(task, branch, progress);

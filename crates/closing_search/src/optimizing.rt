@@ -1,9 +1,11 @@
 //! The whole search.
 
-ghost use Rattle.std.specs.Prelude.{◌≡◌, ◌≤◌, ◌<◌, [], ◌∷◌, length, map, pos, None, IfOk, OnOk};
-ghost use Rattle.hub_spec.specs.Plans.{NoPlanBelow};
+ghost use Rattle.std.specs.Prelude.{◌≡◌, ℕ, ◌+◌, ◌^◌, ◌≤◌, ◌<◌, [], ◌∷◌, length, map, pos, None, IsNone, IfOk, OnOk};
+ghost use Rattle.std.specs.List.{AllZip};
+ghost use Rattle.hub_spec.specs.Problem.{commodities};
+ghost use Rattle.hub_spec.specs.Plans.{IsSetCost, IsLeastRoute, NoPlanBelow};
 ghost use Rattle.hub_spec.specs.Trees.{root};
-ghost use Rattle.search_spec.specs.Findings.{AreWithin, IsSpent};
+ghost use Rattle.search_spec.specs.Findings.{AreWithin, IsSpent, IsEnough};
 ghost use Rattle.kept_cuts.specs.Networks.{IsProved};
 ghost use Rattle.closing_search.specs.Progressing.{IsGoing, IsDone, IsOver};
 
@@ -20,10 +22,11 @@ use std::alloc::{AllocError, Global};
 use std::thread::Threads;
 
 /// A plan with the cuts and the tree that bound what any plan costs. `nodes` is the most nodes of the tree, the root among
-/// them; with `None` they are not limited.
+/// them; with `None` they are not limited. The routes are least ones through the hubs of the plan, and it costs at most
+/// what all candidates as hubs cost, since the search begins with them.
 ///
 /// Only where two nodes more are not allowed the search stops, and then the bound may be below the cost. Else both are
-/// equal and the plan is optimal.
+/// equal and the plan is optimal. So many nodes as a whole tree has, 2^(q + 1) - 1 for q candidates, are always enough.
 ///
 /// Nothing of the advice is relied on. What is found is the same for equal advice; who advises may make passes by workers,
 /// in threads of their own.
@@ -38,10 +41,14 @@ pub fn optimize<R: Threads + Sync, A: Advice + Drop>(
     advice: A,
 ) -> Result<Network, AllocError>
     ensures proved { IfOk result (IsProved instance.now) }
+    ensures routes { IfOk result (λ found. AllZip (IsLeastRoute instance.now found.plan.hubs) (commodities instance.now.size) found.plan.routes) }
+    ensures at_most { IfOk result (λ found. (cost : ℕ) → IsSetCost instance.now instance.now.candidates cost → found.cost ≤ cost) }
     ensures within { IfOk result (λ found. found.bound ≤ found.cost) }
     ensures below { IfOk result (λ found. NoPlanBelow instance.now found.bound) }
+    ensures most { IfOk result (λ found. length found.tree.items + 1 ≤ 2 ^ (length instance.now.candidates + 1)) }
     ensures allowed { IfOk result (λ found. AreWithin nodes (length found.tree.items)) }
     ensures spent { IfOk result (λ found. found.bound < found.cost → IsSpent nodes (length found.tree.items)) }
+    ensures enough { IsEnough (2 ^ (length instance.now.candidates + 1)) nodes → IfOk result (λ found. found.bound ≡ found.cost) }
     ensures whole { nodes ≡ None → IfOk result (λ found. found.bound ≡ found.cost) }
 {
     let fixed = fixed_costs(alloc, instance)?;
@@ -92,6 +99,7 @@ fn begin(alloc: Global, task: &Task) -> Result<Progress, AllocError>
     ensures going { IfOk result (IsGoing task.now) }
     ensures no_line { IfOk result (λ s. s.lines.items ≡ []) }
     ensures one_node { IfOk result (λ s. s.made ≡ 1) }
+    ensures no_stop { IfOk result (λ s. IsNone s.stop) }
 {
     let hubs = HubSet::of(alloc, task.instance.candidates())?;
     let cost = unsigned(set_cost(task.instance, &hubs));
@@ -109,10 +117,15 @@ fn begin(alloc: Global, task: &Task) -> Result<Progress, AllocError>
 fn finish(alloc: Global, task: &Task, progress: Progress) -> Result<Network, AllocError>
     requires { IsOver task.now progress }
     ensures proved { IfOk result (IsProved task.now.instance.now) }
+    ensures routes { let p = task.now.instance.now in
+        IfOk result (λ found. AllZip (IsLeastRoute p found.plan.hubs) (commodities p.size) found.plan.routes) }
+    ensures at_most { let p = task.now.instance.now in IfOk result (λ found. (cost : ℕ) → IsSetCost p p.candidates cost → found.cost ≤ cost) }
     ensures within { IfOk result (λ found. found.bound ≤ found.cost) }
     ensures below { IfOk result (λ found. NoPlanBelow task.now.instance.now found.bound) }
+    ensures most { IfOk result (λ found. length found.tree.items + 1 ≤ 2 ^ (length task.now.instance.now.candidates + 1)) }
     ensures allowed { IfOk result (λ found. AreWithin task.now.nodes (length found.tree.items)) }
     ensures spent { IfOk result (λ found. found.bound < found.cost → IsSpent task.now.nodes (length found.tree.items)) }
+    ensures enough { IsEnough (2 ^ (length task.now.instance.now.candidates + 1)) task.now.nodes → IfOk result (λ found. found.bound ≡ found.cost) }
     ensures whole { task.now.nodes ≡ None → IfOk result (λ found. found.bound ≡ found.cost) }
 {
     let assignment = assign(alloc, task.instance, &progress.hubs)?;

@@ -51,6 +51,6 @@ returns c =
     let s = c.args.progress.now in
     let after = c.end_with.new.progress in
     on_ok_weaker c.end_with.result
-    (λ done. stop_done t b s after c.rounded_up.result
+    (λ done. stop_done t b s after c.rounded_up.result c.requires.spent c.requires.due
     (subst (λ (low : ℕ). IsDone t b (record s { stop = Some low }) after) c.lesser.ensures done))
     c.end_with.ensures
