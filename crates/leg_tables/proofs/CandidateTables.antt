@@ -6,9 +6,11 @@ use Rattle.hub_spec.specs.Limits.{most_distance, most_factor}
 use Rattle.hub_spec.specs.Problem.{Problem, distance, greatest, IsProblem}
 use Rattle.hub_spec.proofs.Limits.{few_candidates}
 use Rattle.unit_duals.specs.Cells.{cell, IsTable}
+use Rattle.unit_duals.specs.Raised.{IsRowSet}
 use Rattle.unit_duals.specs.Lengths.{IsLegRow}
 use Rattle.unit_duals.specs.Limits.{most_leg, most_length}
 use Rattle.unit_duals.proofs.TableCells.{table_more, cell_within, row_within}
+use Rattle.unit_duals.proofs.SetStretches.{table_row}
 use Rattle.unit_duals.proofs.LegRows.{leg_row}
 use Rattle.leg_tables.specs.CandidateLegs.{candidate_at, collection_length, trunk_length, delivery_length, length_ceiling, IsLegTable}
 use Rattle.leg_tables.proofs.LegLimits.{distance_limit, leg_limit}
@@ -26,6 +28,26 @@ pub leg_more : (n : ℕ) (leg : ℕ → ℕ → ℕ) (table : List ℕ) (rows t 
 leg_more n leg table rows t x at v row column place long is so_far =
     subst (λ (z : ℕ). IsTable n (λ t x v. v ≡ leg t x) (set table z v) (t * n + (x + 1))) (sym place)
     (table_more n (λ t x v. v ≡ leg t x) table t x v (t * n + (x + 1)) column (omega (arith, long, cell_within t x n rows row column)) is (omega arith) so_far)
+
+-- a row of collection more, whose stops are the candidates
+pub collect_row : (p : Problem) (i factor q : ℕ) (ks table after : List ℕ) → q ≡ length ks → ks ≡ p.candidates → factor ≡ p.collect
+    → IsRowSet q i q (λ x. factor * distance p i (slice_index ks x)) table after
+    → IsTable (length p.candidates) (λ i x v. v ≡ collection_length p i x) table (i * length p.candidates)
+    → IsTable (length p.candidates) (λ i x v. v ≡ collection_length p i x) after ((i + 1) * length p.candidates)
+collect_row p i factor q ks table after all same is row so_far =
+    let n = length p.candidates in
+    table_row n i ((i + 1) * n) (λ i x v. v ≡ collection_length p i x) (λ x. factor * distance p i (candidate_at p x)) table after (omega arith)
+    (λ x below. ap (λ (f : ℕ). f * distance p i (candidate_at p x)) is)
+    (subst (λ (ms : List ℕ). IsRowSet (length ms) i (length ms) (λ x. factor * distance p i (slice_index ms x)) table after) same
+    (subst (λ (m : ℕ). IsRowSet m i m (λ x. factor * distance p i (slice_index ks x)) table after) all row)) so_far
+
+-- the trunk between stops that are the candidates
+pub between_table : (p : Problem) (q : ℕ) (ks table : List ℕ) → q ≡ length ks → ks ≡ p.candidates
+    → IsTable q (λ x y v. v ≡ p.trunk * distance p (slice_index ks x) (slice_index ks y)) table (length table)
+    → IsTable (length p.candidates) (λ x y v. v ≡ trunk_length p x y) table (length table)
+between_table p q ks table all same is =
+    subst (λ (ms : List ℕ). IsTable (length ms) (λ x y v. v ≡ p.trunk * distance p (slice_index ms x) (slice_index ms y)) table (length table)) same
+    (subst (λ (m : ℕ). IsTable m (λ x y v. v ≡ p.trunk * distance p (slice_index ks x) (slice_index ks y)) table (length table)) all is)
 
 -- a whole table
 pub leg_table : (rows n : ℕ) (leg : ℕ → ℕ → ℕ) (table items : List ℕ) (q : ℕ) → q ≡ n → items ≡ table → length table ≡ rows * n

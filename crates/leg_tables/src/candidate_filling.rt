@@ -7,6 +7,7 @@ ghost use Rattle.unit_duals.specs.Limits.{most_length};
 ghost use Rattle.unit_duals.specs.Cells.{IsTable};
 ghost use Rattle.leg_tables.specs.CandidateLegs.{candidate_at, collection_length, trunk_length, delivery_length, length_ceiling};
 
+use crate::filling::{set_row, set_trunk};
 use hub_model::Instance;
 
 /// The number of candidates.
@@ -50,29 +51,20 @@ pub(crate) fn set_collect(instance: &Instance, table: &mut [u64])
     ensures { IsTable (length instance.now.candidates) (λ i x v. v ≡ collection_length instance.now i x)
         table.new (length table.new) }
 {
-    let places = places_of(instance);
+    let factor = instance.collect();
+    let candidates = instance.candidates();
     for i in 0..instance.size() {
-        for x in 0..places {
-            let to = candidate(instance, x);
-            table[i as usize * places + x] = leg(instance, instance.collect(), i, to);
-        }
+        set_row(instance, factor, i, candidates, &[], table, i as usize);
     }
 }
 
 /// Sets the legs of trunk: a row for each place.
-pub(crate) fn set_trunk(instance: &Instance, table: &mut [u64])
+pub(crate) fn set_between(instance: &Instance, table: &mut [u64])
     requires { length table.old ≡ length instance.now.candidates * length instance.now.candidates }
     ensures { IsTable (length instance.now.candidates) (λ x y v. v ≡ trunk_length instance.now x y)
         table.new (length table.new) }
 {
-    let places = places_of(instance);
-    for x in 0..places {
-        let from = candidate(instance, x);
-        for y in 0..places {
-            let to = candidate(instance, y);
-            table[x * places + y] = leg(instance, instance.trunk(), from, to);
-        }
-    }
+    set_trunk(instance, instance.candidates(), &[], table);
 }
 
 /// Sets the legs of delivery: a row for each destination.

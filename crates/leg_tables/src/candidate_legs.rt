@@ -9,7 +9,7 @@ ghost use Rattle.unit_duals.specs.Lengths.{IsLegRow};
 ghost use Rattle.leg_tables.specs.CandidateLegs.{collection_length, trunk_length, delivery_length, length_ceiling, IsLegTable};
 
 use crate::candidate_filling::{
-    ceiling_of, farthest_of, places_of, set_collect, set_deliver, set_trunk,
+    ceiling_of, farthest_of, places_of, set_between, set_collect, set_deliver,
 };
 use hub_model::Instance;
 use std::alloc::{AllocError, Global};
@@ -52,7 +52,7 @@ impl<'a> CandidateLegs<'a> {
         let mut trunk = vec![in alloc; 0; places * places]?;
         let mut deliver = vec![in alloc; 0; nodes * places]?;
         set_collect(instance, &mut collect);
-        set_trunk(instance, &mut trunk);
+        set_between(instance, &mut trunk);
         set_deliver(instance, &mut deliver);
         let farthest = farthest_of(instance);
         Ok(CandidateLegs {

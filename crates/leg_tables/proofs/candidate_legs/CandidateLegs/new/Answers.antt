@@ -14,8 +14,8 @@ invariant_of-result c =
     ap₂ (λ (a b : ℕ). a * b) c.places_of-places.ensures.value c.places_of-places.ensures.value in
     let collect_long : length c.set_collect.new.table ≡ p.size * length p.candidates =
     omega (arith, c.set_collect.auto.table, c.deref_mut.ensures.len, c.in_ok-collect.ensures.len, nodes_places) in
-    let trunk_long : length c.set_trunk.new.table ≡ length p.candidates * length p.candidates =
-    omega (arith, c.set_trunk.auto.table, c.deref_mut-2.ensures.len, c.in_ok-trunk.ensures.len, places_places) in
+    let trunk_long : length c.set_between.new.table ≡ length p.candidates * length p.candidates =
+    omega (arith, c.set_between.auto.table, c.deref_mut-2.ensures.len, c.in_ok-trunk.ensures.len, places_places) in
     let deliver_long : length c.set_deliver.new.table ≡ p.size * length p.candidates =
     omega (arith, c.set_deliver.auto.table, c.deref_mut-3.ensures.len, c.in_ok-deliver.ensures.len, nodes_places) in
     record {
@@ -25,8 +25,8 @@ invariant_of-result c =
       ceiling = c.ceiling_of.ensures.value;
       collect = leg_table p.size (length p.candidates) (collection_length p) c.set_collect.new.table _ q c.places_of-places.ensures.value
           (with_items_is c.in_ok-collect.collect c.set_collect.new.table (omega (arith, c.set_collect.auto.table, c.deref_mut.ensures.len))) collect_long c.set_collect.ensures;
-      trunk = leg_table (length p.candidates) (length p.candidates) (trunk_length p) c.set_trunk.new.table _ q c.places_of-places.ensures.value
-          (with_items_is c.in_ok-trunk.trunk c.set_trunk.new.table (omega (arith, c.set_trunk.auto.table, c.deref_mut-2.ensures.len))) trunk_long c.set_trunk.ensures;
+      trunk = leg_table (length p.candidates) (length p.candidates) (trunk_length p) c.set_between.new.table _ q c.places_of-places.ensures.value
+          (with_items_is c.in_ok-trunk.trunk c.set_between.new.table (omega (arith, c.set_between.auto.table, c.deref_mut-2.ensures.len))) trunk_long c.set_between.ensures;
       deliver = leg_table p.size (length p.candidates) (delivery_length p) c.set_deliver.new.table _ q c.places_of-places.ensures.value
           (with_items_is c.in_ok-deliver.deliver c.set_deliver.new.table (omega (arith, c.set_deliver.auto.table, c.deref_mut-3.ensures.len))) deliver_long c.set_deliver.ensures;
     }
