@@ -15,7 +15,6 @@ ghost use Rattle.cert_stream.specs.Steps.{
 
 use crate::checks::Checks;
 use cert_checker::Kind;
-use hub_model::signed;
 use std::alloc::{AllocError, Global};
 
 impl<'a> Checks<'a> {
@@ -34,7 +33,7 @@ impl<'a> Checks<'a> {
         requires dual { MayDual self.old commodity a }
         ensures { DualGoesOn last (dual_with self.old commodity (record { a = a; u = [] })) self.new }
     {
-        self.dual.begin(commodity.0, commodity.1, signed(a));
+        self.dual.begin(commodity.0, commodity.1, a);
         if !last {
             return;
         }
@@ -48,7 +47,7 @@ impl<'a> Checks<'a> {
             (dual_with self.old self.old.dual.commodity
             (record { a = self.old.dual.dual.a; u = self.old.dual.dual.u ++ (k, u) ∷ [] })) self.new }
     {
-        self.dual.list(k, signed(u));
+        self.dual.list(k, u);
         if !last {
             return;
         }

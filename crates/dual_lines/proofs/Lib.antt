@@ -1,4 +1,3 @@
-pub mod CandidateTables
 pub mod UnitCovers
 pub mod SetPlaces
 pub mod HeldLines

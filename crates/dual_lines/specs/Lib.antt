@@ -1,6 +1,4 @@
 pub mod Lines
-pub mod Legs
-pub mod LegParts
 pub mod Covers
 pub mod Units
 pub mod Steps

@@ -2,7 +2,7 @@
 use Rattle.std.specs.Prelude.{◌≡◌, ℕ, ◌+◌, ◌*◌, ◌^◌, ◌<◌, ◌≤◌, List, length, slice_index, All}
 use Rattle.hub_spec.specs.Problem.{Problem}
 use Rattle.unit_duals.specs.Cells.{cell}
-use Rattle.dual_lines.specs.Legs.{candidate_at, collection_length, trunk_length, delivery_length}
+use Rattle.leg_tables.specs.CandidateLegs.{candidate_at, collection_length, trunk_length, delivery_length}
 
 -- of a leg, and of a value
 abbrev pub most_steps : ℕ

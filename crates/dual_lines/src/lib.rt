@@ -2,7 +2,7 @@
 //!
 //! A certificate lists for a commodity a price and values of nodes; it is a feasible dual where no route by way of
 //! candidates costs less than the price, with the values of its hubs added. `lines` has the dual that is listed, and
-//! tells whether it holds. `tables` are the instance's legs, made once by `filling`; a place is the number of a
+//! tells whether it holds. The instance's legs are those of `leg_tables`, made once; a place is the number of a
 //! candidate in their order, from 0, and `places` writes and clears what a dual lists by place.
 //!
 //! `steps` tests in small numbers, told in steps of one length, with the price rounded up and the values rounded down:
@@ -12,13 +12,11 @@
 #![tactic(auto)]
 
 mod amounts;
-mod filling;
 mod lines;
 mod places;
 mod step_tables;
 mod stepping;
 mod steps;
-mod tables;
 mod units;
 
 pub use lines::DualLine;

@@ -1,18 +1,17 @@
 //! The dual of a commodity, listed value by value and then tested.
 
-ghost use Rattle.std.specs.Prelude.{◌≡◌, ℕ, ◌+◌, ◌<◌, ◌≤◌, ◌↔◌, [], ◌∷◌, ◌++◌, pos, ◌≤ℤ◌, IsTrue, IfOk, All};
+ghost use Rattle.std.specs.Prelude.{◌≡◌, ℕ, ◌+◌, ◌<◌, ◌≤◌, ◌↔◌, [], ◌∷◌, ◌++◌, IsTrue, IfOk, All};
 ghost use Rattle.hub_spec.specs.Limits.{most_flow};
 ghost use Rattle.hub_spec.specs.Problem.{flow};
 ghost use Rattle.hub_spec.specs.Cuts.{IsDual};
 ghost use Rattle.hub_spec.specs.Ranges.{IsAmount, IsDualInRange};
-ghost use Rattle.hub_model.specs.Amounts.{natural, IsNatural};
 
 use crate::amounts::Priced;
 use crate::places::{clear, put_steps, set_places};
 use crate::step_tables::StepLegs;
 use crate::steps::{is_covered, value_in_steps};
 use crate::units::inverse_of;
-use hub_model::{Instance, unsigned};
+use hub_model::Instance;
 use std::alloc::{AllocError, Global};
 use std::marker::Model;
 
@@ -76,12 +75,11 @@ impl<'a> DualLine<'a> {
     }
 
     /// Begins the dual of the commodity from `i` to `j` with this price, as yet without values.
-    pub fn begin(&mut self, i: u32, j: u32, a: i128)
+    pub fn begin(&mut self, i: u32, j: u32, a: u128)
         requires from { i < self.old.problem.size }
         requires to { j < self.old.problem.size }
-        requires least { IsNatural a }
-        requires most { IsAmount (natural a) }
-        ensures { self.new ≡ record self.old { commodity = (i, j); dual = record { a = natural a; u = [] } } }
+        requires most { IsAmount a }
+        ensures { self.new ≡ record self.old { commodity = (i, j); dual = record { a = a; u = [] } } }
     {
         clear(
             &self.listed,
@@ -93,7 +91,7 @@ impl<'a> DualLine<'a> {
         self.line = Priced {
             from: i,
             to: j,
-            price: unsigned(a),
+            price: a,
         };
         self.carried = self.legs.long().instance().flow_between(i, j);
         self.step_cost = self.carried * self.legs.step();
@@ -102,19 +100,18 @@ impl<'a> DualLine<'a> {
     }
 
     /// Lists the value of a node after those of lower nodes.
-    pub fn list(&mut self, k: u32, u: i128)
+    pub fn list(&mut self, k: u32, u: u128)
         requires node { k < self.old.problem.size }
         requires above { All (λ e. e.0 < k) self.old.dual.u }
-        requires least { pos 1 ≤ℤ u }
-        requires most { IsAmount (natural u) }
+        requires least { 1 ≤ u }
+        requires most { IsAmount u }
         ensures { self.new ≡ record self.old {
-          dual = record { a = self.old.dual.a; u = self.old.dual.u ++ (k, natural u) ∷ [] };
+          dual = record { a = self.old.dual.a; u = self.old.dual.u ++ (k, u) ∷ [] };
         } }
     {
-        let amount = unsigned(u);
-        let value = value_in_steps(amount, self.step_cost, self.inverse);
-        self.listed.push_reserved((k, amount));
-        self.amounts[k as usize] = amount;
+        let value = value_in_steps(u, self.step_cost, self.inverse);
+        self.listed.push_reserved((k, u));
+        self.amounts[k as usize] = u;
         let placed = put_steps(&self.places, k, value, &mut self.steps);
         self.are_candidates = self.are_candidates && placed;
     }

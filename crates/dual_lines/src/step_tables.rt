@@ -3,12 +3,12 @@
 ghost use Rattle.std.specs.Prelude.{◌≡◌, ℕ, ◌+◌, ◌*◌, ◌<◌, ◌≤◌, length, slice_index, IfOk};
 ghost use Rattle.hub_spec.specs.Limits.{most_nodes};
 ghost use Rattle.unit_duals.specs.Cells.{cell};
-ghost use Rattle.dual_lines.specs.Legs.{collection_length, trunk_length, delivery_length};
+ghost use Rattle.leg_tables.specs.CandidateLegs.{collection_length, trunk_length, delivery_length};
 ghost use Rattle.dual_lines.specs.Steps.{most_step, IsStepRow};
 
 use crate::stepping::{in_steps, step_of};
-use crate::tables::CandidateLegs;
 use hub_model::Instance;
+use leg_tables::CandidateLegs;
 use std::alloc::{AllocError, Global};
 use std::marker::Model;
 
@@ -40,7 +40,7 @@ impl<'a> StepLegs<'a> {
         ensures { IfOk result (λ t. t.problem ≡ instance.now) }
     {
         let long = CandidateLegs::new(alloc, instance)?;
-        let step = step_of(instance);
+        let step = step_of(instance, long.farthest());
         let collect = in_steps(alloc, long.collection_table(), step)?;
         let trunk = in_steps(alloc, long.trunk_table(), step)?;
         let deliver = in_steps(alloc, long.delivery_table(), step)?;

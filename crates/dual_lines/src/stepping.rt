@@ -15,8 +15,8 @@ pub(crate) const MOST_STEPS: u64 = 1_000_000_000;
 /// The greatest step: with any flow it fits 64 bits.
 const MOST_STEP: u64 = 1_800_000;
 
-/// The step for an instance, in 10^-6.
-pub(crate) fn step_of(instance: &Instance) -> u64
+/// The step for an instance with this greatest distance, in 10^-6.
+pub(crate) fn step_of(instance: &Instance, farthest: u64) -> u64
     ensures { result ≤ most_step }
 {
     let (collect, trunk, deliver) = (instance.collect(), instance.trunk(), instance.deliver());
@@ -24,7 +24,7 @@ pub(crate) fn step_of(instance: &Instance) -> u64
     let distances = common_divisor(instance.distances());
     let exact = factors.max(1).wrapping_mul(distances.max(1));
     let factor = collect.max(trunk).max(deliver);
-    let longest = factor.wrapping_mul(greatest(instance.distances()));
+    let longest = factor.wrapping_mul(farthest);
     let least = longest.div_ceil(MOST_STEPS);
     finest(exact, least).max(least).min(MOST_STEP)
 }
@@ -69,15 +69,6 @@ fn finest(step: u64, least: u64) -> u64 {
         }
     }
     finest
-}
-
-/// The greatest of the numbers, or 0.
-fn greatest(numbers: &[u64]) -> u64 {
-    let mut most = 0;
-    for number in numbers {
-        most = most.max(*number);
-    }
-    most
 }
 
 /// The greatest common divisor of the numbers, or 0.

@@ -7,7 +7,7 @@ ghost use Rattle.std.specs.Prelude.{◌≡◌, ℕ, ◌+◌, ◌*◌, ◌^◌, �
 ghost use Rattle.hub_spec.specs.Limits.{most_flow};
 ghost use Rattle.hub_spec.specs.Problem.{flow};
 ghost use Rattle.hub_spec.specs.Ranges.{IsAmount};
-ghost use Rattle.dual_lines.specs.Legs.{delivery_length};
+ghost use Rattle.leg_tables.specs.CandidateLegs.{delivery_length};
 ghost use Rattle.dual_lines.specs.Covers.{IsCoveredFirst};
 ghost use Rattle.dual_lines.specs.Steps.{most_steps, AreStepValues, AreStepEnds, IsCoveredInSteps};
 

@@ -9,12 +9,12 @@ ghost use Rattle.hub_spec.specs.Limits.{most_flow};
 ghost use Rattle.hub_spec.specs.Problem.{flow};
 ghost use Rattle.hub_spec.specs.Ranges.{IsAmount};
 ghost use Rattle.unit_duals.specs.Limits.{most_leg};
-ghost use Rattle.dual_lines.specs.Legs.{candidate_at};
+ghost use Rattle.leg_tables.specs.CandidateLegs.{candidate_at};
 ghost use Rattle.dual_lines.specs.Covers.{IsCoveredFirst};
 ghost use Rattle.dual_lines.specs.Units.{most_unit, AreUnits, IsNearestFirst, IsNearestLast, AreNearEnds, IsCoveredInUnits};
 
 use crate::amounts::{Priced, is_covered_by_amounts, is_covered_first};
-use crate::tables::CandidateLegs;
+use leg_tables::CandidateLegs;
 
 /// What a price or a value by unit of flow is cut to. No route is as long.
 const MOST_UNIT: u64 = 100_000_000_000_000_000;

@@ -2,8 +2,8 @@
 use Rattle.std.proofs.Common.{◌≡◌, ℕ, ◌+◌, ◌*◌, ◌/◌, ◌%◌, ◌<◌, ◌≤◌, List, length, set, slice_index, All, ⊎_elim, sym, subst, arith}
 use Rattle.std.proofs.lemmas.Bool.{cases_lt}
 use Rattle.std.proofs.lemmas.List.Elements.{All-from_get_or}
-use Rattle.std.proofs.lemmas.Nat.{mul-le, mul-add-lt, div-add-mod', div_below, mod_below}
-use Rattle.unit_duals.specs.Cells.{cell, IsTable}
+use Rattle.std.proofs.lemmas.Nat.{mul-le, div-add-mod', div_below, mod_below}
+use Rattle.unit_duals.specs.Cells.{cell}
 use Rattle.unit_duals.specs.Raised.{IsRowSet}
 use Rattle.unit_duals.proofs.SetRows.{row_set_more}
 

@@ -1,3 +1,4 @@
 pub mod StopLegs
+pub mod CandidateLegs
 pub mod LegParts
 pub mod Theorems

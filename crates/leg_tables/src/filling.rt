@@ -71,7 +71,7 @@ pub(crate) fn set_first(instance: &Instance, hubs: &[u32], order: &[u32], i: u32
 }
 
 /// Sets row `t` of a table to what this factor makes of the distances from a node to the stops.
-fn set_row(
+pub(crate) fn set_row(
     instance: &Instance,
     factor: u64,
     from: u32,

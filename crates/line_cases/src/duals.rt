@@ -4,7 +4,7 @@ ghost use Rattle.std.specs.Prelude.{◌≡◌, ◌<◌, []};
 
 use crate::numbers::amounts;
 use dual_lines::DualLine;
-use hub_model::{Instance, signed};
+use hub_model::Instance;
 use std::alloc::Global;
 use std::io;
 
@@ -42,7 +42,7 @@ fn list(line: &mut DualLine<'_>, size: u32, numbers: &[u128], raised: u128)
     if let [i, j, price, values @ ..] = numbers {
         let price = price.saturating_add(raised);
         if *i < size as u128 && *j < size as u128 && price < ABOVE_ALL {
-            line.begin(*i as u32, *j as u32, signed(price));
+            line.begin(*i as u32, *j as u32, price);
             list_values(line, size, values);
         }
     }
@@ -59,7 +59,7 @@ fn list_values(line: &mut DualLine<'_>, size: u32, values: &[u128])
         let k = values[2 * at];
         let value = values[2 * at + 1];
         if k >= next && k < size as u128 && value >= 1 && value < ABOVE_ALL {
-            line.list(k as u32, signed(value));
+            line.list(k as u32, value);
             next = k + 1;
         }
     }

@@ -5,9 +5,10 @@ use Rattle.hub_spec.specs.Problem.{Problem, IsProblem}
 use Rattle.hub_spec.proofs.SumLemmas.{by_test}
 use Rattle.unit_duals.specs.Leasts.{least_of}
 use Rattle.unit_duals.proofs.LeastNumbers.{least_of_le, least_of_le_start}
-use Rattle.value_cuts.specs.Values.{route_length, length_ceiling, candidate_at, valued_length, allowed_price}
-use Rattle.value_cuts.specs.Legs.{collection_length, trunk_length, delivery_length, AreEnds}
-use Rattle.value_cuts.proofs.CandidateTables.{candidate_node}
+use Rattle.leg_tables.specs.CandidateLegs.{candidate_at, collection_length, trunk_length, delivery_length, length_ceiling}
+use Rattle.value_cuts.specs.Values.{route_length, valued_length, allowed_price}
+use Rattle.value_cuts.specs.Ends.{AreEnds}
+use Rattle.leg_tables.proofs.CandidateTables.{candidate_node}
 use Rattle.value_cuts.proofs.ValueDuals.{price_within, price_below, price_above, length_alone, length_by_two}
 
 -- a number that is above neither the start nor any of the numbers is not above the least

@@ -1,7 +1,6 @@
 pub mod NodeValues
 pub mod ValueDuals
 pub mod ValueSums
-pub mod CandidateTables
 pub mod Ends
 pub mod LeastLengths
 pub mod AddedValues

@@ -1,6 +1,5 @@
 pub mod Values
-pub mod Legs
-pub mod LegParts
+pub mod Ends
 pub mod Prices
 pub mod HeldRows
 pub mod HeldDuals

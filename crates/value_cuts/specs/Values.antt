@@ -1,21 +1,14 @@
 -- Duals of any values that are listed for the candidates: the price is lowered to what the values allow.
-use Rattle.std.specs.Prelude.{◌≡◌, ℕ, ◌+◌, ◌*◌, min, List, length, map, zip, slice_index, slice_range, nat_eq, if◌then◌else◌}
-use Rattle.hub_spec.specs.Problem.{Problem, flow, distance, commodities, greatest}
+use Rattle.std.specs.Prelude.{◌≡◌, ℕ, ◌+◌, ◌*◌, min, List, length, map, zip, slice_range, nat_eq, if◌then◌else◌}
+use Rattle.hub_spec.specs.Problem.{Problem, flow, distance, commodities}
 use Rattle.hub_spec.specs.Cuts.{Prices, value_at, Cut, cut_by}
 use Rattle.hub_spec.specs.Separation.{values_listed}
 use Rattle.unit_duals.specs.Leasts.{least_of}
+use Rattle.leg_tables.specs.CandidateLegs.{candidate_at, length_ceiling}
 
 -- what a unit of flow costs from i to j by way of k first and m last, in 10^-6
 unfoldable pub route_length : Problem → ℕ → ℕ → ℕ → ℕ → ℕ
 route_length p i j k m = p.collect * distance p i k + p.trunk * distance p k m + p.deliver * distance p m j
-
--- what it costs where each leg is as long as the greatest distance
-unfoldable pub length_ceiling : Problem → ℕ
-length_ceiling p = (p.collect + p.trunk + p.deliver) * greatest p.distances
-
--- the candidate at a place, counted from 0
-abbrev pub candidate_at : Problem → ℕ → ℕ
-candidate_at p x = slice_index p.candidates x
 
 -- the value of a node by unit of flow, of a row that lists the candidates' values by place in this unit: at most the
 -- ceiling, and 0 for a node that is no candidate

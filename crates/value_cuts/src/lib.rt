@@ -4,23 +4,21 @@
 //! commodity is lowered to what its values allow, so that its dual is feasible by construction, and the duals of all
 //! commodities are a cut of the instance, within its sums (`laws`). Nothing of the advice is trusted.
 //!
-//! `CandidateLegs` are an instance's tables, made once; `Values` is where the advice stands, a row of small numbers for
-//! each commodity. `pricing` finds the prices, `sums` the total and the loads of the cut, `duals` lends its duals one
-//! by one as a certificate lists them. A place is the number of a candidate in their order, from 0. Lengths and values
-//! by unit of flow are in 10^-6, costs in 10^-12.
+//! `CandidateLegs` are an instance's tables, made once (`leg_tables`); `Values` is where the advice stands, a row of
+//! small numbers for each commodity. `pricing` finds the prices, `sums` the total and the loads of the cut, `duals` lends
+//! its duals one by one as a certificate lists them. A place is the number of a candidate in their order, from 0.
+//! Lengths and values by unit of flow are in 10^-6, costs in 10^-12.
 #![tactic(auto)]
 
 mod duals;
-mod filling;
 mod laws;
 mod pricing;
 mod sums;
-mod tables;
 mod values;
 
 pub use duals::DualScratch;
 pub use laws::{no_greater_price, value_cut_is_cut, value_cut_is_in_range, value_dual_is_dual};
+pub use leg_tables::CandidateLegs;
 pub use pricing::{PriceScratch, price, set_origin_prices, set_prices};
 pub use sums::{cut_sums, sums_of};
-pub use tables::CandidateLegs;
 pub use values::Values;

@@ -7,7 +7,6 @@ ghost use Rattle.std.specs.Borrow.{sem};
 ghost use Rattle.value_cuts.specs.HeldRows.{no_values, IsSameShape};
 ghost use Rattle.value_cuts.specs.Lending.{LendsRows, LendsFrom};
 
-use crate::filling::places_of;
 use hub_model::Instance;
 use std::alloc::{AllocError, Global};
 use std::marker::Model;
@@ -36,12 +35,13 @@ impl Model for Values {
 
 impl Values {
     /// Values in this unit for the instance's commodities and candidates, all 0.
+    #[tactic(auto, using(leg_tables::proofs::CandidateTables::few_places))]
     pub fn new(alloc: Global, instance: &Instance, unit: u32) -> Result<Values, AllocError>
         ensures none { IfOk result (λ v. v ≡ no_values instance.now.size (length instance.now.candidates) unit) }
         ensures fit { IfOk result (AreValuesFor instance.now) }
     {
         let size = instance.size() as usize;
-        let places = places_of(instance);
+        let places = instance.candidates().len();
         Ok(Values {
             size,
             places,

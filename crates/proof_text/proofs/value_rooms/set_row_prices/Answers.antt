@@ -16,7 +16,7 @@ loop-j-preserved c =
     let same = c.size-j-end.ensures.value ∙ ap (λ (q : Problem). q.size) c.instance.ensures.value in
     let inside : j < w.size = omega (arith, c.loop-j-test.true, same, c.requires.values.size) in
     let row : c.row_at-row.result.now ≡ row_for w (i, j) =
-    c.row_at-row.ensures.row ∙ ap (λ (q : ℕ). row_of q rows j) (c.places.ensures ∙ sym c.requires.values.places)
+    c.row_at-row.ensures.row ∙ ap (λ (q : ℕ). row_of q rows j) (c.places.ensures.value ∙ sym c.requires.values.places)
     ∙ c.requires.rows.each j inside in
     let is : c.price.result ≡ row_price p w (i, j) =
     c.price.ensures.price ∙ ap₂ (λ (u : ℕ) (r : List ℕ). allowed_price p (i, j) (node_value p u r)) c.unit-unit.ensures row in

@@ -3,7 +3,8 @@ use Rattle.std.proofs.lemmas.Nat.{mul-le}
 use Rattle.hub_spec.specs.Limits.{most_flow}
 use Rattle.hub_spec.specs.Problem.{Problem}
 use Rattle.unit_duals.specs.Limits.{most_length}
-use Rattle.value_cuts.specs.Values.{candidate_at, node_value}
+use Rattle.leg_tables.specs.CandidateLegs.{candidate_at}
+use Rattle.value_cuts.specs.Values.{node_value}
 use Rattle.value_cuts.proofs.NodeValues.{worked_value}
 use Rattle.value_cuts.proofs.ListedEntries.{listed_more, listed_same}
 use Rattle.value_cuts.proofs.MadeDuals.{as_natural}

@@ -4,8 +4,8 @@ use mir.Syntax.{w64}
 use Rattle.unit_duals.specs.Limits.{most_length}
 use Rattle.unit_duals.specs.Leasts.{least_of}
 use Rattle.unit_duals.proofs.LeastNumbers.{least_of_le_start}
-use Rattle.value_cuts.specs.Values.{length_ceiling}
-use Rattle.value_cuts.specs.Legs.{trunk_length, delivery_length, most_end}
+use Rattle.leg_tables.specs.CandidateLegs.{trunk_length, delivery_length, length_ceiling}
+use Rattle.value_cuts.specs.Ends.{most_end}
 use Rattle.value_cuts.proofs.LeastLengths.{least_start, least_kept, least_lowered, least_is_price}
 use Rattle.value_cuts.proofs.pricing.least_length.Goals as goal
 use Rattle.value_cuts.proofs.pricing.least_length.Goals.{then-end-nearest, else-end-nearest}

@@ -1,10 +1,7 @@
-use Rattle.std.proofs.Common.{ℕ, ◌*◌, ◌≡◌, length, SFits, to_z-of_z, ap, ◌∙◌, rules, arith}
-use mir.Syntax.{w128}
+use Rattle.std.proofs.Common.{ℕ, ◌*◌, ◌≡◌, length, ap, ◌∙◌, arith}
 use Rattle.std.proofs.lemmas.List.{with_items_is}
 use Rattle.hub_spec.specs.Problem.{Problem, flow}
-use Rattle.hub_spec.specs.Ranges.{IsAmount}
-use Rattle.hub_model.specs.Amounts.{natural}
-use Rattle.dual_lines.specs.Legs.{candidate_at}
+use Rattle.leg_tables.specs.CandidateLegs.{candidate_at}
 use Rattle.dual_lines.proofs.HeldLines.{range_begun, amounts_begun, steps_begun, candidates_begun, places_lent, steps_lent}
 use Rattle.dual_lines.proofs.lines.DualLine.begin.Goals as goal
 
@@ -12,9 +9,6 @@ pub invariant_of-self : goal.invariant_of-self
 invariant_of-self c =
     let p = c.self.inside.legs.problem in
     let none = c.clear-2.ensures.items in
-    let fits : SFits w128 c.args.a = search (rules, arith) in
-    let price : c.unsigned.result ≡ natural c.args.a = c.unsigned.ensures.value ∙ ap natural (to_z-of_z fits) in
-    let low : IsAmount c.unsigned.result = omega (arith, price, c.requires.most) in
     let same : c.self.inside.legs.problem.size ≡ c.args.self.now.problem.size = ap (λ (q : Problem). q.size) (ap (λ d. d.problem) c.self.view_is) in
     let amounts_are = with_items_is c.self.inside.amounts c.clear.new.amounts (omega (arith, c.clear.auto.amounts, c.deref_mut.ensures.len)) in
     let steps_are = with_items_is c.self.inside.steps c.clear.new.steps (omega (arith, c.clear.auto.steps, c.deref_mut-2.ensures.len)) in
@@ -28,7 +22,7 @@ invariant_of-self c =
     record {
       from = omega (arith, same, c.requires.from);
       to = omega (arith, same, c.requires.to);
-      range = rw none (range_begun p.size c.unsigned.result low);
+      range = rw none (range_begun p.size c.args.a c.requires.most);
       carried = c.flow_between-self-inside.ensures.value ∙ ap (λ (q : Problem). flow q c.args.i c.args.j) (c.instance.ensures.value ∙ c.long.ensures);
       carried_limit = c.flow_between-self-inside.ensures.limit;
       cost = ap (λ (n : ℕ). c.flow_between-self-inside.result * n) c.step.ensures.value;

@@ -1,19 +1,10 @@
-use Rattle.std.proofs.Common.{◌≡◌, ℕ, ◌<◌, ◌≤◌, List, IsTrue, ◌↔◌, true, false, All, length, slice_index, SFits, to_z-of_z, ap, pos, negsuc, ◌≤ℤ◌, sym, subst, ◌∙◌, rules, arith}
-use mir.Syntax.{w128}
+use Rattle.std.proofs.Common.{◌≡◌, ℕ, ◌<◌, List, IsTrue, ◌↔◌, true, false, All, length, slice_index, ap, sym, subst, ◌∙◌, rules, arith}
 use Rattle.std.proofs.lemmas.List.{with_items_is}
-use Rattle.std.specs.Prelude.{ℤ}
-use Rattle.std.proofs.lemmas.Int.{ints}
-use Rattle.hub_spec.specs.Ranges.{IsAmount}
-use Rattle.hub_model.specs.Amounts.{natural}
 use Rattle.dual_lines.specs.Lines.{ListedDual}
 use Rattle.dual_lines.specs.LineParts.{HasPlace}
 use Rattle.dual_lines.proofs.HeldLines.{range_listed, amounts_listed, steps_listed, candidates_listed, few_listed}
 use Rattle.dual_lines.proofs.lines.DualLine.list.Goals as goal
 use Rattle.dual_lines.proofs.lines.DualLine.list.Goals.{then-self, else-self}
-
-above : (z : ℤ) → pos 1 ≤ℤ z → 1 ≤ natural z
-above (pos n) h = omega (arith, ints)
-above (negsuc n) h = omega (arith, ints)
 
 pub push_reserved-requires : goal.push_reserved-requires
 push_reserved-requires c =
@@ -27,14 +18,10 @@ invariant_of-self c =
     let s = c.self.inside in
     let p = s.legs.problem in
     let k = c.args.k in
-    let v = c.unsigned-amount.result in
+    let v = c.args.u in
     let u = s.listed.items in
     let fresh = subst (λ (d : ListedDual). All (λ (e : ℕ × ℕ). e.0 < k) d.dual.u) (sym c.self.view_is) c.requires.above in
     let node : k < p.size = subst (λ (d : ListedDual). k < d.problem.size) (sym c.self.view_is) c.requires.node in
-    let fits : SFits w128 c.args.u = search (rules, arith) in
-    let value : v ≡ natural c.args.u = c.unsigned-amount.ensures.value ∙ ap natural (to_z-of_z fits) in
-    let some : 1 ≤ v = omega (arith, value, above c.args.u c.requires.least) in
-    let low : IsAmount v = omega (arith, value, c.requires.most) in
     let steps_are = with_items_is s.steps c.put_steps-placed.new.steps (omega (arith, c.put_steps-placed.auto.steps, c.deref_mut.ensures.len)) in
     let places = c.deref.ensures.value in
     let units = c.deref_mut.ensures.value in
@@ -51,7 +38,7 @@ invariant_of-self c =
     record {
       from = c.self.invariant.from;
       to = c.self.invariant.to;
-      range = rw c.push_reserved.ensures.items (range_listed p.size s.line.price u k v node fresh some low c.self.invariant.range);
+      range = rw c.push_reserved.ensures.items (range_listed p.size s.line.price u k v node fresh c.requires.least c.requires.most c.self.invariant.range);
       carried = c.self.invariant.carried;
       carried_limit = c.self.invariant.carried_limit;
       cost = c.self.invariant.cost;
