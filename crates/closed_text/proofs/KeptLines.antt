@@ -14,8 +14,8 @@ use Rattle.cert_spec.proofs.Items.{certificate_items-parts}
 use Rattle.cert_format.proofs.CutLines.{cut_text, cut_at, cut_text_by, set_cut_text, three_texts}
 use Rattle.value_cuts.specs.Values.{value_cut}
 use Rattle.kept_cuts.specs.Kept.{Kept, by_values, by_set, KeptList, kept_cut, kept_cuts, kept_at}
-use Rattle.kept_cuts.specs.Networks.{lines_of, proof_of}
-use Rattle.kept_cuts.specs.declared.network.Network.{Network}
+use Rattle.kept_cuts.specs.Findings.{lines_of, proof_of}
+use Rattle.kept_cuts.specs.declared.found.Found.{Found as Network}
 use Rattle.closed_text.specs.Rooms.{commodity_dual}
 use Rattle.closed_text.specs.Texts.{kept_dual_items, network_top_items, network_items, network_text}
 

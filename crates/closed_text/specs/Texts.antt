@@ -7,8 +7,8 @@ use Rattle.cert_spec.specs.Lines.{Item}
 use Rattle.cert_spec.specs.Text.{top_items, cuts_items, tree_items, line_bytes, certificate_text}
 use Rattle.cert_format.specs.DualItems.{all_dual_items}
 use Rattle.kept_cuts.specs.Kept.{Kept, by_values, by_set, kept_cuts}
-use Rattle.kept_cuts.specs.Networks.{lines_of, proof_of}
-use Rattle.kept_cuts.specs.declared.network.Network.{Network}
+use Rattle.kept_cuts.specs.Findings.{lines_of, proof_of}
+use Rattle.kept_cuts.specs.declared.found.Found.{Found as Network}
 use Rattle.closed_text.specs.Rooms.{commodity_dual}
 
 -- the lines of a kept cut's duals

@@ -5,7 +5,7 @@ ghost use Rattle.cert_spec.specs.Text.{cut_items, cuts_items};
 ghost use Rattle.hub_io.specs.Outside.{Puts};
 ghost use Rattle.cert_format.specs.Puts.{PutsLines};
 ghost use Rattle.kept_cuts.specs.Kept.{kept_of, kept_cut, kept_cuts, IsKeptFor};
-ghost use Rattle.kept_cuts.specs.Networks.{IsProved};
+ghost use Rattle.kept_cuts.specs.Findings.{IsProved};
 ghost use Rattle.closed_text.specs.Texts.{kept_dual_items, network_top_items, network_items, network_text};
 
 use crate::DualRoom;
@@ -13,7 +13,7 @@ use crate::value_lines::put_value_duals;
 use cert_format::{put_cut, put_top, put_tree};
 use hub_io::{Buffer, Failed, Sink};
 use hub_model::{Instance, signed};
-use kept_cuts::{KeptCut, KeptCuts, Network};
+use kept_cuts::{Found as Network, KeptCut, KeptCuts};
 use set_lines::put_set_duals;
 
 /// Writes the certificate of what a search of the instance found, in puts of about 8192 bytes each. It takes no memory.

@@ -4,7 +4,7 @@ ghost use Rattle.std.specs.Prelude.{◌≡◌, ◌≤◌, ◌<◌, [], ◌∷◌
 ghost use Rattle.hub_spec.specs.Plans.{NoPlanBelow};
 ghost use Rattle.hub_spec.specs.Trees.{root};
 ghost use Rattle.search_spec.specs.Findings.{AreWithin, IsSpent};
-ghost use Rattle.kept_cuts.specs.Networks.{IsProved};
+ghost use Rattle.kept_cuts.specs.Findings.{IsProved};
 ghost use Rattle.closing_search.specs.Progressing.{IsGoing, IsDone, IsOver};
 
 use crate::desk::Desk;
@@ -13,7 +13,7 @@ use crate::task::{Task, fixed_costs};
 use crate::walking::node;
 use assign_sub::{assign, set_cost};
 use hub_model::{Instance, unsigned};
-use kept_cuts::{KeptCuts, Network};
+use kept_cuts::{Found as Network, KeptCuts};
 use plan_model::{Branch, HubSet, Plan};
 use search_advice::Advice;
 use std::alloc::{AllocError, Global};

@@ -12,8 +12,8 @@ use Rattle.hub_spec.proofs.WeakDuality.{no_plan_below_bound}
 use Rattle.plan_model.specs.Lines.{tree_line_of}
 use Rattle.search_spec.specs.Findings.{AreWithin, IsSpent}
 use Rattle.cert_spec.specs.Text.{Spells}
-use Rattle.kept_cuts.specs.declared.network.Network.{Network}
-use Rattle.kept_cuts.specs.Networks.{IsProved, proof_of, lines_of}
+use Rattle.kept_cuts.specs.declared.found.Found.{Found as Network}
+use Rattle.kept_cuts.specs.Findings.{IsProved, proof_of, lines_of}
 use Rattle.closed_text.specs.Texts.{network_text}
 use Rattle.closed_text.proofs.KeptLines.{network_text_certificate}
 use Rattle.hub_words.specs.Requests.{Source, Solving, optimize}

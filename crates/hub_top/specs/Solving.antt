@@ -4,8 +4,8 @@ use Rattle.hub_io.specs.Outside.{Files}
 use Rattle.hub_spec.specs.Problem.{Problem, IsProblem}
 use Rattle.branch_tree.specs.declared.found.Found.{Found}
 use Rattle.branch_tree.specs.Findings.{found_by, IsFound, IsProved, proof_of}
-use Rattle.kept_cuts.specs.declared.network.Network.{Network}
-use Rattle.kept_cuts.specs.Networks as networks
+use Rattle.kept_cuts.specs.declared.found.Found.{Found as Network}
+use Rattle.kept_cuts.specs.Findings as networks
 use Rattle.search_spec.specs.Findings.{AreWithin, IsSpent}
 use Rattle.hub_words.specs.Requests.{Source}
 use Rattle.hub_top.specs.declared.answers.Solution.{Solution}

@@ -7,8 +7,8 @@ use Rattle.search_steps.specs.Pools.{IsPoolOf}
 use Rattle.branch_tree.specs.declared.found.Found.{Found}
 use Rattle.branch_tree.specs.Findings.{IsProved}
 use Rattle.found_text.specs.Texts.{found_text}
-use Rattle.kept_cuts.specs.declared.network.Network.{Network}
-use Rattle.kept_cuts.specs.Networks as networks
+use Rattle.kept_cuts.specs.declared.found.Found.{Found as Network}
+use Rattle.kept_cuts.specs.Findings as networks
 use Rattle.closed_text.specs.Texts.{network_text}
 use Rattle.network_report.specs.Texts.{report_text}
 use Rattle.hub_demo.specs.Texts.{demo_text}

@@ -2,7 +2,7 @@
 
 ghost use Rattle.std.specs.Prelude.{◌≡◌, ◌⊎◌};
 ghost use Rattle.hub_io.specs.Outside.{Puts};
-ghost use Rattle.kept_cuts.specs.Networks.{IsProved};
+ghost use Rattle.kept_cuts.specs.Findings.{IsProved};
 ghost use Rattle.closed_text.specs.Texts.{network_text};
 ghost use Rattle.hub_top.specs.Texts.{usage_text};
 ghost use Rattle.hub_top.specs.Outcomes.{IsTold, Written, err_text, memory, status_of};
@@ -16,7 +16,7 @@ use crate::texts::{put_fault, put_memory, put_read, put_usage};
 use closed_text::{DualRoom, write_network};
 use hub_io::{Failed, Sink};
 use hub_model::Instance;
-use kept_cuts::Network;
+use kept_cuts::Found as Network;
 use std::alloc::Global;
 
 /// What a run came to, before anything is written.

@@ -23,7 +23,7 @@ use hub_demo::made_instance;
 use hub_io::{Gate, Shelf};
 use hub_model::Instance;
 use hub_words::{Making, Search, Source};
-use kept_cuts::Network;
+use kept_cuts::Found as Network;
 use par_separate::{Crew, separate, workers_for};
 use pareto_cuts::Scratch;
 use plan_model::HubSet;

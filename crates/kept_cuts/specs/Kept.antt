@@ -19,6 +19,20 @@ abbrev pub kept_of : KeptCut → Kept
 kept_of (Values rows) = by_values rows
 kept_of (Set hubs order) = by_set hubs order.items
 
+-- the hub set that a kept cut is of; no hubs where it is of none
+abbrev pub kept_hubs : Kept → List ℕ
+kept_hubs (by_set hubs order) = hubs
+kept_hubs _ = []
+
+-- the order of the other candidates that it is over; none where it is of no hub set
+abbrev pub kept_order : Kept → List ℕ
+kept_order (by_set hubs order) = order
+kept_order _ = []
+
+-- it is of a hub set
+abbrev pub IsOfSet : Kept → Type 0
+IsOfSet kept = kept ≡ by_set (kept_hubs kept) (kept_order kept)
+
 -- the cut of it
 abbrev pub kept_cut : Problem → Kept → Cut
 kept_cut p (by_values rows) = value_cut p rows
@@ -37,6 +51,11 @@ pub record KeptList : Type 0 where
   pub cuts : List Kept
   pub totals : List ℕ
   pub loads : List (List ℕ)
+
+-- kept cuts with their sums, and how many more can be put for certain
+pub record Stored : Type 0 where
+  pub kept : KeptList
+  pub spare : ℕ
 
 -- the kept cut of this number, counted from 1
 abbrev pub kept_at : List Kept → ℕ → Kept

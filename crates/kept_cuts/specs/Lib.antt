@@ -1,6 +1,6 @@
 pub mod Kept
-pub mod KeptParts
+pub mod StoreParts
 pub mod Packed
 pub mod PackedParts
-pub mod Networks
+pub mod Findings
 pub mod Theorems

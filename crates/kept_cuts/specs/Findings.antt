@@ -7,14 +7,14 @@ use Rattle.hub_spec.specs.Ranges.{IsInRange}
 use Rattle.plan_model.specs.declared.tree_lines.TreeLine as model
 use Rattle.plan_model.specs.Lines.{tree_line_of}
 use Rattle.kept_cuts.specs.Kept.{kept_cuts, IsKeptFor}
-use Rattle.kept_cuts.specs.declared.network.Network.{Network}
+use Rattle.kept_cuts.specs.declared.found.Found.{Found}
 
 -- the lines that these stand for
 abbrev pub lines_of : List model.TreeLine → List TreeLine
 lines_of lines = map tree_line_of lines
 
 -- the certificate that this is with the tree of its lines
-abbrev pub proof_of : Problem → Network → Tree → Proof
+abbrev pub proof_of : Problem → Found → Tree → Proof
 proof_of p found tree = record {
   size = p.size;
   candidates = length p.candidates;
@@ -27,7 +27,7 @@ proof_of p found tree = record {
 
 -- its cuts fit, and its lines are those of a tree with which it is a certificate of the problem, within the ranges of a
 -- certificate
-pub record IsProved (p : Problem) (found : Network) : Type 0 where
+pub record IsProved (p : Problem) (found : Found) : Type 0 where
   pub fit : All (IsKeptFor p) found.cuts.cuts
   pub tree : Tree
   pub lines : lines_of found.tree.items ≡ preorder tree
