@@ -1,10 +1,10 @@
 -- The cuts of a pool as a finding keeps them.
-use Rattle.std.proofs.Common.{◌≡◌, ℕ, List, [], ◌∷◌, length, map, Some, All, Option, refl, sym, ap, ap₂, subst, ◌∙◌}
+use Rattle.std.proofs.Common.{◌≡◌, ℕ, List, [], ◌∷◌, length, map, All, refl, sym, ap, ap₂, subst, ◌∙◌}
 use Rattle.std.proofs.lemmas.List.Elements.{All-nil, All-cons}
 use Rattle.hub_spec.specs.Problem.{Problem}
 use Rattle.hub_spec.specs.Cuts.{Cut, total}
 use Rattle.cut_pool.specs.Entries.{Entry}
-use Rattle.kept_cuts.specs.Kept.{Kept, by_set, hubs_of, kept_cuts, KeptList, IsKeptFor, node_loads, AreKeptFor}
+use Rattle.kept_cuts.specs.Kept.{Kept, by_set, IsOfSet, kept_hubs, kept_cuts, KeptList, IsKeptFor, node_loads, AreKeptFor}
 use Rattle.kept_cuts.proofs.NodeLoads.{loads_are}
 use Rattle.search_steps.specs.Pools.{entry_cut, IsSumsOf, IsPoolOf, pool_sets, pool_cuts}
 
@@ -18,9 +18,13 @@ pub record AreColumnsOf (entries : List Entry) (k : KeptList) : Type 0 where
   pub totals : k.totals ≡ map (λ e. e.total) entries
   pub loads : k.loads ≡ map (λ e. e.loads) entries
 
-pub kept_pool_sets : (entries : List Entry) → map hubs_of (map kept_entry entries) ≡ map Some (pool_sets entries)
+pub kept_pool_sets : (entries : List Entry) → map kept_hubs (map kept_entry entries) ≡ pool_sets entries
 kept_pool_sets [] = refl
-kept_pool_sets (e ∷ es) = ap (λ (xs : List (Option (List ℕ))). Some e.hubs ∷ xs) (kept_pool_sets es)
+kept_pool_sets (e ∷ es) = ap (λ (xs : List (List ℕ)). e.hubs ∷ xs) (kept_pool_sets es)
+
+pub kept_pool_of_sets : (entries : List Entry) → All IsOfSet (map kept_entry entries)
+kept_pool_of_sets [] = All-nil IsOfSet
+kept_pool_of_sets (e ∷ es) = All-cons IsOfSet (kept_entry e) (map kept_entry es) refl (kept_pool_of_sets es)
 
 pub kept_pool_cuts : (p : Problem) (entries : List Entry) → kept_cuts p (map kept_entry entries) ≡ pool_cuts p entries
 kept_pool_cuts p [] = refl

@@ -1,5 +1,5 @@
 -- The start of a search, and its end.
-use Rattle.std.proofs.Common.{◌≡◌, ℕ, ◌≤◌, false, not, List, [], ◌∷◌, length, map, filter, None, Some, Vec, Global, refl, ap, ap₂, sym, subst, ◌∙◌, arith}
+use Rattle.std.proofs.Common.{◌≡◌, ℕ, ◌≤◌, false, not, List, [], ◌∷◌, length, map, filter, All, None, Some, Vec, Global, refl, ap, ap₂, sym, subst, ◌∙◌, arith}
 use Rattle.std.specs.List.{AllZip}
 use Rattle.std.proofs.lemmas.List.{length-map}
 use Rattle.std.proofs.lemmas.List.Elements.{All-nil, All-cons, All-contains_itself}
@@ -22,13 +22,13 @@ use Rattle.search_steps.specs.Pools.{entry_cut, IsSumsOf, IsPoolOf, state_by}
 use Rattle.search_steps.specs.Weights.{AreFixedCosts}
 use Rattle.branch_tree.specs.declared.task.Task.{Task}
 use Rattle.branch_tree.specs.declared.progress.Progress.{Progress}
-use Rattle.kept_cuts.specs.Kept.{hubs_of, kept_cuts}
+use Rattle.kept_cuts.specs.Kept.{IsOfSet, kept_hubs, kept_cuts}
 use Rattle.kept_cuts.specs.Findings.{lines_of}
 use Rattle.kept_cuts.specs.declared.found.Found.{Found}
 use Rattle.branch_tree.specs.Findings.{parts_of, IsFound}
 use Rattle.branch_tree.specs.Progressing.{state_of, IsGoing}
 use Rattle.branch_tree.proofs.FoundCertificates.{parts_sound, few_lines_of}
-use Rattle.branch_tree.proofs.KeptPools.{AreColumnsOf, kept_pool_sets, kept_pool_cuts, kept_pool}
+use Rattle.branch_tree.proofs.KeptPools.{AreColumnsOf, kept_pool_sets, kept_pool_of_sets, kept_pool_cuts, kept_pool}
 use Rattle.branch_tree.proofs.LeafSteps.{parts_ascending}
 use Rattle.branch_tree.proofs.AddedCuts.{HasCut, more_sets, more_cuts}
 
@@ -105,7 +105,8 @@ end_found t s routes found g going end state lines =
       hubs = ap (λ (x : Plan). x.hubs) end.plan ∙ ap (λ (x : State). x.hubs) state;
       routes = subst (λ (x : Plan). AllZip (IsLeastRoute p x.hubs) (commodities p.size) x.routes) (sym end.plan) end.least;
       kept = kept_pool p s.pool.entries found.cuts going.pool end.cuts;
-      sets = ap (map hubs_of) end.cuts.cuts ∙ kept_pool_sets s.pool.entries ∙ ap (λ (x : State). map Some x.sets) state;
+      of_sets = subst (All IsOfSet) (sym end.cuts.cuts) (kept_pool_of_sets s.pool.entries);
+      sets = ap (map kept_hubs) end.cuts.cuts ∙ kept_pool_sets s.pool.entries ∙ ap (λ (x : State). x.sets) state;
       cuts = ap (kept_cuts p) end.cuts.cuts ∙ kept_pool_cuts p s.pool.entries ∙ cuts;
       lines = ap (λ (v : Vec model.TreeLine Global). lines_of v.items) end.tree ∙ lines;
       few_cuts = omega (arith, going.few_cuts, length-map s.pool.entries (entry_cut p), ap (λ (cs : List Cut). length cs) cuts);

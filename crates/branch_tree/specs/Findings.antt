@@ -1,5 +1,5 @@
 -- What a search found: what the rule finds, and a certificate.
-use Rattle.std.specs.Prelude.{◌≡◌, ℕ, ◌≤◌, length, map, Option, Some}
+use Rattle.std.specs.Prelude.{◌≡◌, ℕ, ◌≤◌, length, map, All, Option}
 use Rattle.std.specs.List.{AllZip}
 use Rattle.hub_spec.specs.Limits.{most_cuts, most_tree_lines}
 use Rattle.hub_spec.specs.Problem.{Problem, IsProblem, commodities}
@@ -8,7 +8,7 @@ use Rattle.hub_spec.specs.Trees.{preorder, line_count}
 use Rattle.search_spec.specs.States.{Parts, Grown, answer}
 use Rattle.search_spec.specs.Choices.{rule_parts, rule}
 use Rattle.search_steps.specs.Advising.{master_advising}
-use Rattle.kept_cuts.specs.Kept.{hubs_of, kept_cuts, AreKeptFor}
+use Rattle.kept_cuts.specs.Kept.{IsOfSet, kept_hubs, kept_cuts, AreKeptFor}
 use Rattle.kept_cuts.specs.Findings.{lines_of, IsProved}
 use Rattle.kept_cuts.specs.declared.found.Found.{Found}
 
@@ -27,7 +27,8 @@ pub record IsFound (p : Problem) (g : Grown) (found : Found) : Type 0 where
   pub hubs : found.plan.hubs ≡ g.state.hubs
   pub routes : AllZip (IsLeastRoute p found.plan.hubs) (commodities p.size) found.plan.routes
   pub kept : AreKeptFor p found.cuts
-  pub sets : map hubs_of found.cuts.cuts ≡ map Some g.state.sets
+  pub of_sets : All IsOfSet found.cuts.cuts
+  pub sets : map kept_hubs found.cuts.cuts ≡ g.state.sets
   pub cuts : kept_cuts p found.cuts.cuts ≡ g.state.cuts
   pub lines : lines_of found.tree.items ≡ preorder g.tree
   pub few_cuts : length g.state.cuts ≤ most_cuts

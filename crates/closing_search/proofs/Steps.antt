@@ -18,7 +18,7 @@ use Rattle.search_spec.proofs.Parting.{length-without}
 use Rattle.tree_walks.specs.Walks.{IsSoundLine, filled, Walks}
 use Rattle.tree_walks.proofs.Walking.{goes_on, stays}
 use Rattle.kept_cuts.specs.Kept.{Kept, kept_cut, IsKeptFor, AreKeptFor}
-use Rattle.kept_cuts.specs.Networks.{lines_of}
+use Rattle.kept_cuts.specs.Findings.{lines_of}
 use Rattle.closing_search.specs.declared.task.Task.{Task}
 use Rattle.closing_search.specs.declared.progress.Progress.{Progress}
 use Rattle.closing_search.specs.SingleCuts.{AreLoads}

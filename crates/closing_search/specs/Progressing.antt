@@ -10,7 +10,7 @@ use Rattle.search_spec.specs.States.{lesser}
 use Rattle.search_spec.specs.Findings.{AreWithin, IsSpent, IsEnough}
 use Rattle.tree_walks.specs.Walks.{filled, Walks}
 use Rattle.kept_cuts.specs.Kept.{kept_cuts, AreKeptFor}
-use Rattle.kept_cuts.specs.Networks.{lines_of}
+use Rattle.kept_cuts.specs.Findings.{lines_of}
 use Rattle.closing_search.specs.declared.task.Task.{Task}
 use Rattle.closing_search.specs.declared.progress.Progress.{Progress}
 use Rattle.closing_search.specs.SingleCuts.{AreFixedCosts}

@@ -6,7 +6,7 @@ ghost use Rattle.hub_spec.specs.Problem.{commodities};
 ghost use Rattle.hub_spec.specs.Plans.{IsSetCost, IsLeastRoute, NoPlanBelow};
 ghost use Rattle.hub_spec.specs.Trees.{root};
 ghost use Rattle.search_spec.specs.Findings.{AreWithin, IsSpent, IsEnough};
-ghost use Rattle.kept_cuts.specs.Networks.{IsProved};
+ghost use Rattle.kept_cuts.specs.Findings.{IsProved};
 ghost use Rattle.closing_search.specs.Progressing.{IsGoing, IsDone, IsOver};
 
 use crate::desk::Desk;
@@ -15,7 +15,7 @@ use crate::task::{Task, fixed_costs};
 use crate::walking::node;
 use assign_sub::{assign, set_cost};
 use hub_model::{Instance, unsigned};
-use kept_cuts::{KeptCuts, Network};
+use kept_cuts::{Found, KeptCuts};
 use plan_model::{Branch, HubSet, Plan};
 use search_advice::Advice;
 use std::alloc::{AllocError, Global};
@@ -39,7 +39,7 @@ pub fn optimize<R: Threads + Sync, A: Advice + Drop>(
     instance: &Instance,
     nodes: Option<u64>,
     advice: A,
-) -> Result<Network, AllocError>
+) -> Result<Found, AllocError>
     ensures proved { IfOk result (IsProved instance.now) }
     ensures routes { IfOk result (λ found. AllZip (IsLeastRoute instance.now found.plan.hubs) (commodities instance.now.size) found.plan.routes) }
     ensures at_most { IfOk result (λ found. (cost : ℕ) → IsSetCost instance.now instance.now.candidates cost → found.cost ≤ cost) }
@@ -114,7 +114,7 @@ fn begin(alloc: Global, task: &Task) -> Result<Progress, AllocError>
 }
 
 // The incumbent with its least routes, and what no plan costs less than.
-fn finish(alloc: Global, task: &Task, progress: Progress) -> Result<Network, AllocError>
+fn finish(alloc: Global, task: &Task, progress: Progress) -> Result<Found, AllocError>
     requires { IsOver task.now progress }
     ensures proved { IfOk result (IsProved task.now.instance.now) }
     ensures routes { let p = task.now.instance.now in
@@ -130,7 +130,7 @@ fn finish(alloc: Global, task: &Task, progress: Progress) -> Result<Network, All
 {
     let assignment = assign(alloc, task.instance, &progress.hubs)?;
     let hubs = progress.hubs.members().to_vec(alloc)?;
-    Ok(Network {
+    Ok(Found {
         cost: progress.cost,
         bound: target(&progress),
         plan: Plan::new(hubs, assignment.routes),

@@ -1,62 +1,66 @@
 -- Entries and what stands side by side.
-use Rattle.std.proofs.Common.{◌≡◌, ◌≢◌, ℕ, ◌-◌, Bool, true, false, not, List, [], ◌∷◌, ◌++◌, length, map, get_or, All, refl, sym, ap, ap₂, ◌∙◌, pos, Vec, arith}
-use Rattle.std.specs.Prelude.{ℤ, bytes_eq}
+use Rattle.std.proofs.Common.{◌≡◌, ◌≢◌, ℕ, ◌-◌, ◌<◌, Bool, true, false, not, List, [], ◌∷◌, ◌++◌, length, map, get_or, All, refl, sym, ap, ap₂, subst, ◌∙◌, arith}
+use Rattle.std.specs.Prelude.{bytes_eq}
 use Rattle.std.proofs.lemmas.Slice.Eq.{bytes_eq-Decides}
 use Rattle.std.proofs.lemmas.List.{length-map, get_or-map}
 use Rattle.std.proofs.lemmas.List.Elements.{All-get_or, All-head, All-tail}
-use Rattle.hub_model.specs.Amounts.{natural, IsNatural}
-use Rattle.hub_model.proofs.Signs.{pos-natural}
+use Rattle.kept_cuts.specs.Kept.{Kept, by_set, kept_of, kept_hubs, kept_order, IsOfSet}
+use Rattle.kept_cuts.specs.declared.kept.KeptCut.{KeptCut}
 use Rattle.cut_pool.specs.Entries.{Entry, entry_at, IsNumber, Lacks}
-use Rattle.cut_pool.specs.Kept.{entries_of}
+use Rattle.cut_pool.specs.Kept.{sets_of, entries_of}
 
 -- the lists are as long as one another
-pub record AreBeside (hs os : List (List ℕ)) (ts : List ℕ) (ls : List (List ℕ)) : Type 0 where
-  pub orders : length os ≡ length hs
-  pub totals : length ts ≡ length hs
-  pub loads : length ls ≡ length hs
+pub record AreBeside (ks : List Kept) (ts : List ℕ) (ls : List (List ℕ)) : Type 0 where
+  pub totals : length ts ≡ length ks
+  pub loads : length ls ≡ length ks
 
--- each list is a column of the entries
-pub record AreColumns (es : List Entry) (hs os : List (List ℕ)) (ts : List ℕ) (ls : List (List ℕ)) : Type 0 where
-  pub hubs : map (λ e. e.hubs) es ≡ hs
-  pub orders : map (λ e. e.order) es ≡ os
+-- each list is a column of the entries, or two of them
+pub record AreColumns (es : List Entry) (ks : List Kept) (ts : List ℕ) (ls : List (List ℕ)) : Type 0 where
+  pub hubs : map (λ e. e.hubs) es ≡ sets_of ks
+  pub orders : map (λ e. e.order) es ≡ map kept_order ks
   pub totals : map (λ e. e.total) es ≡ ts
   pub loads : map (λ e. e.loads) es ≡ ls
 
-beside_rest : (h o : List ℕ) (t : ℕ) (l : List ℕ) (hs os : List (List ℕ)) (ts : List ℕ) (ls : List (List ℕ))
-    → AreBeside (h ∷ hs) (o ∷ os) (t ∷ ts) (l ∷ ls) → AreBeside hs os ts ls
-beside_rest h o t l hs os ts ls a =
-    record { orders = omega (arith, a.orders); totals = omega (arith, a.totals); loads = omega (arith, a.loads) }
+beside_rest : (k : Kept) (t : ℕ) (l : List ℕ) (ks : List Kept) (ts : List ℕ) (ls : List (List ℕ))
+    → AreBeside (k ∷ ks) (t ∷ ts) (l ∷ ls) → AreBeside ks ts ls
+beside_rest k t l ks ts ls a = record { totals = omega (arith, a.totals); loads = omega (arith, a.loads) }
 
-pub columns : (hs os : List (List ℕ)) (ts : List ℕ) (ls : List (List ℕ)) → AreBeside hs os ts ls → AreColumns (entries_of hs os ts ls) hs os ts ls
-columns [] [] [] [] a = record { hubs = refl; orders = refl; totals = refl; loads = refl }
-columns [] (o ∷ os) ts ls a = absurd (omega (arith, a.orders))
-columns [] [] (t ∷ ts) ls a = absurd (omega (arith, a.totals))
-columns [] [] [] (l ∷ ls) a = absurd (omega (arith, a.loads))
-columns (h ∷ hs) [] ts ls a = absurd (omega (arith, a.orders))
-columns (h ∷ hs) (o ∷ os) [] ls a = absurd (omega (arith, a.totals))
-columns (h ∷ hs) (o ∷ os) (t ∷ ts) [] a = absurd (omega (arith, a.loads))
-columns (h ∷ hs) (o ∷ os) (t ∷ ts) (l ∷ ls) a =
-    let c = columns hs os ts ls (beside_rest h o t l hs os ts ls a) in
+pub columns : (ks : List Kept) (ts : List ℕ) (ls : List (List ℕ)) → AreBeside ks ts ls → AreColumns (entries_of ks ts ls) ks ts ls
+columns [] [] [] a = record { hubs = refl; orders = refl; totals = refl; loads = refl }
+columns [] (t ∷ ts) ls a = absurd (omega (arith, a.totals))
+columns [] [] (l ∷ ls) a = absurd (omega (arith, a.loads))
+columns (k ∷ ks) [] ls a = absurd (omega (arith, a.totals))
+columns (k ∷ ks) (t ∷ ts) [] a = absurd (omega (arith, a.loads))
+columns (k ∷ ks) (t ∷ ts) (l ∷ ls) a =
+    let c = columns ks ts ls (beside_rest k t l ks ts ls a) in
     record {
-      hubs = ap (λ (xs : List (List ℕ)). h ∷ xs) c.hubs;
-      orders = ap (λ (xs : List (List ℕ)). o ∷ xs) c.orders;
+      hubs = ap (λ (xs : List (List ℕ)). kept_hubs k ∷ xs) c.hubs;
+      orders = ap (λ (xs : List (List ℕ)). kept_order k ∷ xs) c.orders;
       totals = ap (λ (xs : List ℕ). t ∷ xs) c.totals;
       loads = ap (λ (xs : List (List ℕ)). l ∷ xs) c.loads;
     }
 
-pub entries_push : (hs os : List (List ℕ)) (ts : List ℕ) (ls : List (List ℕ)) (h o : List ℕ) (t : ℕ) (l : List ℕ) → AreBeside hs os ts ls
-    → entries_of (hs ++ h ∷ []) (os ++ o ∷ []) (ts ++ t ∷ []) (ls ++ l ∷ [])
-    ≡ entries_of hs os ts ls ++ record { hubs = h; order = o; total = t; loads = l } ∷ []
-entries_push [] [] [] [] h o t l a = refl
-entries_push [] (y ∷ os) ts ls h o t l a = absurd (omega (arith, a.orders))
-entries_push [] [] (y ∷ ts) ls h o t l a = absurd (omega (arith, a.totals))
-entries_push [] [] [] (y ∷ ls) h o t l a = absurd (omega (arith, a.loads))
-entries_push (x ∷ hs) [] ts ls h o t l a = absurd (omega (arith, a.orders))
-entries_push (x ∷ hs) (y ∷ os) [] ls h o t l a = absurd (omega (arith, a.totals))
-entries_push (x ∷ hs) (y ∷ os) (z ∷ ts) [] h o t l a = absurd (omega (arith, a.loads))
-entries_push (x ∷ hs) (y ∷ os) (z ∷ ts) (w ∷ ls) h o t l a =
-    ap (λ (es : List Entry). record { hubs = x; order = y; total = z; loads = w } ∷ es)
-    (entries_push hs os ts ls h o t l (beside_rest x y z w hs os ts ls a))
+pub entries_push : (ks : List Kept) (ts : List ℕ) (ls : List (List ℕ)) (k : Kept) (t : ℕ) (l : List ℕ) → AreBeside ks ts ls
+    → entries_of (ks ++ k ∷ []) (ts ++ t ∷ []) (ls ++ l ∷ [])
+    ≡ entries_of ks ts ls ++ record { hubs = kept_hubs k; order = kept_order k; total = t; loads = l } ∷ []
+entries_push [] [] [] k t l a = refl
+entries_push [] (y ∷ ts) ls k t l a = absurd (omega (arith, a.totals))
+entries_push [] [] (y ∷ ls) k t l a = absurd (omega (arith, a.loads))
+entries_push (x ∷ ks) [] ls k t l a = absurd (omega (arith, a.totals))
+entries_push (x ∷ ks) (y ∷ ts) [] k t l a = absurd (omega (arith, a.loads))
+entries_push (x ∷ ks) (y ∷ ts) (z ∷ ls) k t l a =
+    ap (λ (es : List Entry). record { hubs = kept_hubs x; order = kept_order x; total = y; loads = z } ∷ es)
+    (entries_push ks ts ls k t l (beside_rest x y z ks ts ls a))
+
+-- cuts of hub sets are those of the hub sets and orders of their entries
+pub cuts_of_entries : (ks : List Kept) (ts : List ℕ) (ls : List (List ℕ)) → AreBeside ks ts ls → All IsOfSet ks
+    → ks ≡ map (λ e. by_set e.hubs e.order) (entries_of ks ts ls)
+cuts_of_entries [] ts ls a all = refl
+cuts_of_entries (k ∷ ks) [] ls a all = absurd (omega (arith, a.totals))
+cuts_of_entries (k ∷ ks) (t ∷ ts) [] a all = absurd (omega (arith, a.loads))
+cuts_of_entries (k ∷ ks) (t ∷ ts) (l ∷ ls) a all =
+    ap₂ (λ (x : Kept) (xs : List Kept). x ∷ xs) (All-head IsOfSet k ks all)
+    (cuts_of_entries ks ts ls (beside_rest k t l ks ts ls a) (All-tail IsOfSet k ks all))
 
 pub length-column : {X : Type 0} (f : Entry → X) (es : List Entry) (xs : List X) → map f es ≡ xs → length es ≡ length xs
 length-column f es xs e = sym (length-map es f) ∙ ap length e
@@ -67,6 +71,24 @@ pub column_at : {X : Type 0} (f : Entry → X) (es : List Entry) (xs : List X) (
 column_at f es xs c d e number =
     ap (λ ys. get_or ys (c - 1) d) (sym e)
     ∙ get_or-map f es (c - 1) (record { hubs = []; order = []; total = 0; loads = [] }) d (omega (arith, number.least, number.most))
+
+-- ---- a kept cut that is read
+
+module _ (cuts : List KeptCut) (ks : List Kept) (i : ℕ) (x : KeptCut) (same : map kept_of cuts ≡ ks) (within : i < length ks)
+    (read : x ≡ get_or cuts i x) where
+  kept_there : kept_of x ≡ get_or ks i (kept_of x)
+  kept_there =
+      ap kept_of read ∙ sym (get_or-map kept_of cuts i x (kept_of x) (omega (arith, within, ap length same, length-map cuts kept_of)))
+      ∙ ap (λ (ys : List Kept). get_or ys i (kept_of x)) same
+
+  pub of_set_there : All IsOfSet ks → IsOfSet (kept_of x)
+  of_set_there all = subst IsOfSet (sym kept_there) (All-get_or IsOfSet ks i (kept_of x) within all)
+
+  pub set_there : (d : List ℕ) → kept_hubs (kept_of x) ≡ get_or (sets_of ks) i d
+  set_there d = ap kept_hubs kept_there ∙ sym (get_or-map kept_hubs ks i (kept_of x) d within)
+
+  pub order_there : (d : List ℕ) → kept_order (kept_of x) ≡ get_or (map kept_order ks) i d
+  order_there d = ap kept_order kept_there ∙ sym (get_or-map kept_order ks i (kept_of x) d within)
 
 -- ---- hub sets that no entry has
 
@@ -84,19 +106,7 @@ sets_from_lacks es sets hubs e lacks = λ k d within same.
     ap (λ (ys : List (List ℕ)). get_or ys k d) (sym e) ∙ get_or-map (λ e. e.hubs) es k none d (omega (arith, long)) in
     All-get_or (λ e. e.hubs ≢ hubs) es k none (omega (arith, long)) lacks (sym at ∙ same)
 
--- ---- amounts that are not below 0
-
-pub signed_naturals : (zs : List ℤ) → All IsNatural zs → zs ≡ map pos (map natural zs)
-signed_naturals [] h = refl
-signed_naturals (z ∷ zs) h =
-    ap₂ (λ x xs. x ∷ xs) (sym (pos-natural z (All-head IsNatural z zs h))) (signed_naturals zs (All-tail IsNatural z zs h))
-
-pub signed_lists : {Z : Type 0} (vs : List (Vec ℤ Z)) → All (λ v. All IsNatural v.items) vs
-    → map (λ v. v.items) vs ≡ map (λ xs. map pos xs) (map (λ v. map natural v.items) vs)
-signed_lists [] h = refl
-signed_lists (v ∷ vs) h =
-    ap₂ (λ (x : List ℤ) (xs : List (List ℤ)). x ∷ xs) (signed_naturals v.items (All-head (λ v. All IsNatural v.items) v vs h))
-    (signed_lists vs (All-tail (λ v. All IsNatural v.items) v vs h))
+-- ---- one map after another
 
 pub map-map : {X Y W : Type 0} (g : Y → W) (f : X → Y) (xs : List X) → map g (map f xs) ≡ map (λ x. g (f x)) xs
 map-map g f [] = refl
@@ -119,16 +129,3 @@ pub other_members : (xs ys : List ℕ) (other : Bool) → other ≡ not (bytes_e
 other_members xs ys other is test = λ same.
     let e : false ≡ true = sym (to_not (bytes_eq xs ys) (sym is ∙ test)) ∙ (bytes_eq-Decides xs ys).1 same in
     cc
-
--- ---- the loads as rows
-
-pub length-row : {Z : Type 0} (rows : List (Vec ℤ Z)) (es : List Entry) (c : ℕ) (row : Vec ℤ Z)
-    → map (λ v. v.items) rows ≡ map (λ e. map pos e.loads) es → IsNumber es c → row ≡ get_or rows (c - 1) row
-    → length row.items ≡ length (entry_at es c).loads
-length-row {Z} rows es c row same number read =
-    let long : length rows ≡ length es = sym (length-map rows (λ v. v.items)) ∙ ap length same ∙ length-map es (λ e. map pos e.loads) in
-    let items : row.items ≡ map pos (entry_at es c).loads =
-    ap (λ (v : Vec ℤ Z). v.items) read
-    ∙ sym (get_or-map (λ v. v.items) rows (c - 1) row [] (omega (arith, long, number.least, number.most)))
-    ∙ column_at (λ e. map pos e.loads) es (map (λ v. v.items) rows) c [] (sym same) number in
-    ap length items ∙ length-map (entry_at es c).loads pos

@@ -14,7 +14,7 @@ pub record Entry : Type 0 where
   pub total : ℕ
   pub loads : List ℕ
 
--- the entries in the order of their numbers, and how many more can be added for certain without memory
+-- the entries in the order of their numbers, and how many more can be added for certain
 pub record PoolState : Type 0 where
   pub entries : List Entry
   pub spare : ℕ

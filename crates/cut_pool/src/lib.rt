@@ -2,7 +2,8 @@
 //!
 //! `CutSums` is what is kept of a cut: its hub set, its total and its load of each node. `Pool` numbers cuts from 1 in
 //! the order in which they are added, and `Pool::find` gives the number of a hub set's cut by a binary search. A pool
-//! keeps no duals. Totals and loads are `i128` in 10^-12, never below 0. Nodes are `u32`, counted from 0.
+//! keeps no duals: its cuts stand in a `CutStore`, each as its hub set and its order, and `Pool::into_cuts` gives them to a
+//! finding. Totals and loads are `i128` in 10^-12, never below 0. Nodes are `u32`, counted from 0.
 //!
 //! Beside them it keeps `ShortLoads`, where it can: the loads in 32 bits, with a row for each node, for whoever reads
 //! the loads of one node in all cuts and needs few digits of them.
@@ -11,6 +12,7 @@
 mod cut_sums;
 mod places;
 mod pool;
+mod set_cuts;
 mod short_loads;
 
 pub use cut_sums::CutSums;

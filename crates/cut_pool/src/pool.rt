@@ -1,12 +1,15 @@
 //! Cuts under their numbers.
 
 ghost use Rattle.std.specs.Prelude.{◌≡◌, ℕ, ◌+◌, ◌<◌, ◌≤◌, [], ◌∷◌, ◌++◌, length, map, pos, slice_index, IfSome, IfNone, IsOk, IfOk, OnOk, OnErr, IfErr};
+ghost use Rattle.kept_cuts.specs.Kept.{by_set};
 ghost use Rattle.cut_pool.specs.Entries.{entry_of, entry_at, IsNumber, IsNumberOf, Lacks};
 ghost use Rattle.cut_pool.specs.Shorts.{AreShortLoads};
 
 use crate::places::place_of;
+use crate::set_cuts::{order_of, set_of};
 use crate::short_loads::{reserve_kept, with_cut};
 use crate::{CutSums, ShortLoads};
+use kept_cuts::{CutStore, KeptCut, KeptCuts};
 use plan_model::HubSet;
 use std::alloc::{AllocError, Global};
 use std::marker::Model;
@@ -16,14 +19,12 @@ const MOST_KEPT: u64 = 4_294_967_295;
 
 /// The cuts of a search, numbered from 1 in the order in which they were added, no two of one hub set.
 ///
-/// A pool is seen as its entries, with how many more can be added for certain without memory.
+/// A pool is seen as its entries, with how many more can be added for certain.
 #[derive(Drop)]
 pub struct Pool {
-    sets: Vec<HubSet>,
-    orders: Vec<Vec<u32>>,
-    totals: Vec<i128>,
-    loads: Vec<Vec<i128>>,
-    // The places of the sets, from 0, in the order of their members.
+    // Each is one of a hub set.
+    cuts: CutStore,
+    // The places of the cuts, from 0, in the order of the members of their hub sets.
     by_set: Vec<u32>,
     // The loads in 32 bits, until they are given up.
     short: Option<ShortLoads>,
@@ -57,18 +58,16 @@ impl Pool {
         ensures succeeds { IsOk result }
     {
         Ok(Pool {
-            sets: Vec::new(alloc),
-            orders: Vec::new(alloc),
-            totals: Vec::new(alloc),
-            loads: Vec::new(alloc),
+            cuts: CutStore::new(alloc),
             by_set: Vec::new(alloc),
             short: Some(ShortLoads::new(alloc)),
         })
     }
 
-    /// Takes memory for this many more cuts, so that adding them succeeds.
+    /// Takes memory for this many more cuts, so that adding them is sure to succeed.
     ///
-    /// A pool has at most 2^32 - 1 cuts: more are refused as want of memory.
+    /// As they are added, memory may still be asked for the short loads, which are given up where it is wanting. A pool
+    /// has at most 2^32 - 1 cuts: more are refused as want of memory.
     pub fn reserve(&mut self, cuts: u64) -> Result<(), AllocError>
         ensures entries { self.new.entries ≡ self.old.entries }
         ensures spare { OnOk result (cuts ≤ self.new.spare) }
@@ -78,28 +77,24 @@ impl Pool {
         if cuts <= self.spare() {
             return Ok(());
         }
-        if cuts > MOST_KEPT - self.sets.len() as u64 {
+        if cuts > MOST_KEPT - self.cuts.len() as u64 {
             return Err(AllocError);
         }
         let more = cuts as usize;
-        self.sets.reserve(more)?;
-        self.orders.reserve(more)?;
-        self.totals.reserve(more)?;
-        self.loads.reserve(more)?;
+        self.cuts.reserve(more)?;
         self.by_set.reserve(more)?;
         reserve_kept(&mut self.short, more)
     }
 
-    // How many more cuts can be added for certain without memory.
+    // How many more cuts can be added for certain.
     fn spare(&self) -> u64
         ensures { result ≡ self.now.spare }
     {
-        let room = (self.sets.capacity() - self.sets.len())
-            .min(self.orders.capacity() - self.orders.len())
-            .min(self.totals.capacity() - self.totals.len())
-            .min(self.loads.capacity() - self.loads.len())
+        let room = self
+            .cuts
+            .spare()
             .min(self.by_set.capacity() - self.by_set.len());
-        (MOST_KEPT - self.sets.len() as u64).min(room as u64)
+        (MOST_KEPT - self.cuts.len() as u64).min(room as u64)
     }
 
     /// The number of the cut of this hub set, if there is one. It takes no memory.
@@ -111,12 +106,12 @@ impl Pool {
         ensures none { IfNone result (Lacks self.now.entries set.now) }
     {
         let hubs = set.members();
-        let at = place_of(&self.sets, &self.by_set, hubs);
+        let at = place_of(self.cuts.cuts(), &self.by_set, hubs);
         if at == self.by_set.len() {
             return None;
         }
         let place = self.by_set[at];
-        if self.sets[place as usize].members() != hubs {
+        if set_of(&self.cuts.cuts()[place as usize]).members() != hubs {
             return None;
         }
         Some(u64::from(place) + 1)
@@ -125,7 +120,8 @@ impl Pool {
     /// Adds the cut of a hub set that has none yet, with the order of the other candidates that it was worked out over,
     /// and gives its number, the next one.
     ///
-    /// Cut and order come back where memory is wanting, or where the pool has all the cuts that it can number.
+    /// Cut and order come back where memory is wanting, or where the pool has all the cuts that it can number. With room
+    /// for one more it is sure to succeed: the short loads may still ask for memory, and are given up where it is wanting.
     pub fn add(&mut self, cut: CutSums, order: Vec<u32>) -> Result<u64, Refused>
         requires { Lacks self.old.entries cut.hubs }
         ensures number { IfOk result (λ c. c ≡ length self.old.entries + 1) }
@@ -139,16 +135,13 @@ impl Pool {
         if self.reserve(1).is_err() {
             return Err(Refused { cut, order });
         }
-        let place = self.sets.len() as u32;
-        let at = place_of(&self.sets, &self.by_set, cut.set().members());
+        let place = self.cuts.len() as u32;
+        let at = place_of(self.cuts.cuts(), &self.by_set, cut.set().members());
         // It succeeds, since there is room.
         let _ = self.by_set.insert(at, place);
         let (set, total, loads) = cut.into_parts();
         self.short = with_cut(self.short.take(), place == 0, &loads);
-        self.sets.push_reserved(set);
-        self.orders.push_reserved(order);
-        self.totals.push_reserved(total);
-        self.loads.push_reserved(loads);
+        self.cuts.put(KeptCut::Set(set, order), total, loads);
         Ok(u64::from(place) + 1)
     }
 
@@ -156,7 +149,7 @@ impl Pool {
     pub fn len(&self) -> u64
         ensures { result ≡ length self.now.entries }
     {
-        self.sets.len() as u64
+        self.cuts.len() as u64
     }
 
     /// The total of cut `c`, in 10^-12.
@@ -164,7 +157,7 @@ impl Pool {
         requires { IsNumber self.now.entries c }
         ensures { result ≡ pos (entry_at self.now.entries c).total }
     {
-        self.totals[(c - 1) as usize]
+        self.cuts.totals()[(c - 1) as usize]
     }
 
     /// The load of node `k` in cut `c`, in 10^-12.
@@ -173,7 +166,7 @@ impl Pool {
         requires node { k < length (entry_at self.now.entries c).loads }
         ensures { result ≡ pos (slice_index (entry_at self.now.entries c).loads k) }
     {
-        self.loads[(c - 1) as usize][k as usize]
+        self.cuts.loads()[(c - 1) as usize][k as usize]
     }
 
     /// The hub set of cut `c`.
@@ -181,7 +174,7 @@ impl Pool {
         requires { IsNumber self.now.entries c }
         ensures { result.now ≡ (entry_at self.now.entries c).hubs }
     {
-        &self.sets[(c - 1) as usize]
+        set_of(&self.cuts.cuts()[(c - 1) as usize])
     }
 
     /// The order of the candidates outside the hub set that cut `c` was worked out over.
@@ -189,21 +182,21 @@ impl Pool {
         requires { IsNumber self.now.entries c }
         ensures { result.now ≡ (entry_at self.now.entries c).order }
     {
-        &self.orders[(c - 1) as usize]
+        order_of(&self.cuts.cuts()[(c - 1) as usize])
     }
 
     /// The total of each cut, in 10^-12, in the order of their numbers.
     pub fn totals(&self) -> &[i128]
         ensures { result.now ≡ map (λ e. pos e.total) self.now.entries }
     {
-        &self.totals
+        self.cuts.totals()
     }
 
     /// The loads of each cut, in 10^-12, in the order of their numbers.
     pub fn loads(&self) -> &[Vec<i128>]
         ensures { map (λ v. v.items) result.now ≡ map (λ e. map pos e.loads) self.now.entries }
     {
-        &self.loads
+        self.cuts.loads()
     }
 
     /// The loads in 32 bits, if they are kept: a row for each node, with one number for each cut.
@@ -214,5 +207,14 @@ impl Pool {
         ensures { IfSome result (λ s. AreShortLoads self.now.entries s.now) }
     {
         self.short.as_ref()
+    }
+
+    /// The cuts, as a finding has them. It takes no memory.
+    pub fn into_cuts(self) -> KeptCuts
+        ensures cuts { result.cuts ≡ map (λ e. by_set e.hubs e.order) self.entries }
+        ensures totals { result.totals ≡ map (λ e. e.total) self.entries }
+        ensures loads { result.loads ≡ map (λ e. e.loads) self.entries }
+    {
+        KeptCuts::of(self.cuts)
     }
 }

@@ -1,5 +1,5 @@
 -- The cuts that a search keeps, by what their duals are made from.
-use Rattle.std.specs.Prelude.{◌≡◌, ℕ, ◌-◌, List, [], map, All, Option, Some, None}
+use Rattle.std.specs.Prelude.{◌≡◌, ℕ, ◌-◌, List, [], map, All}
 use Rattle.std.specs.List.{range_with_len, slice_index_or}
 use Rattle.hub_spec.specs.Problem.{Problem}
 use Rattle.hub_spec.specs.Plans.{IsHubSet}
@@ -19,15 +19,24 @@ abbrev pub kept_of : KeptCut → Kept
 kept_of (Values rows) = by_values rows
 kept_of (Set hubs order) = by_set hubs order.items
 
+-- the hub set that a kept cut is of; no hubs where it is of none
+abbrev pub kept_hubs : Kept → List ℕ
+kept_hubs (by_set hubs order) = hubs
+kept_hubs _ = []
+
+-- the order of the other candidates that it is over; none where it is of no hub set
+abbrev pub kept_order : Kept → List ℕ
+kept_order (by_set hubs order) = order
+kept_order _ = []
+
+-- it is of a hub set
+abbrev pub IsOfSet : Kept → Type 0
+IsOfSet kept = kept ≡ by_set (kept_hubs kept) (kept_order kept)
+
 -- the cut of it
 abbrev pub kept_cut : Problem → Kept → Cut
 kept_cut p (by_values rows) = value_cut p rows
 kept_cut p (by_set hubs order) = set_cut p hubs order
-
--- the hub set that it is of, if it is one of a set
-abbrev pub hubs_of : Kept → Option (List ℕ)
-hubs_of (by_values rows) = None
-hubs_of (by_set hubs order) = Some hubs
 
 abbrev pub kept_cuts : Problem → List Kept → List Cut
 kept_cuts p kept = map (kept_cut p) kept
@@ -42,6 +51,11 @@ pub record KeptList : Type 0 where
   pub cuts : List Kept
   pub totals : List ℕ
   pub loads : List (List ℕ)
+
+-- kept cuts with their sums, and how many more can be put for certain
+pub record Stored : Type 0 where
+  pub kept : KeptList
+  pub spare : ℕ
 
 -- the kept cut of this number, counted from 1
 abbrev pub kept_at : List Kept → ℕ → Kept

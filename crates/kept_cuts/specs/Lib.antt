@@ -1,5 +1,5 @@
 pub mod Kept
-pub mod KeptParts
+pub mod StoreParts
 pub mod Packed
 pub mod PackedParts
 pub mod Findings

@@ -4,7 +4,7 @@ ghost use Rattle.std.specs.Prelude.{◌≡◌, ◌+◌, ◌-◌, ◌<◌, ◌≤
 ghost use Rattle.hub_spec.specs.Limits.{most_cost};
 ghost use Rattle.kept_cuts.specs.Kept.{kept_of, kept_at};
 
-use crate::PackedValues;
+use crate::{CutStore, PackedValues};
 use hub_model::signed;
 use plan_model::HubSet;
 use std::alloc::{AllocError, Global};
@@ -23,20 +23,15 @@ pub enum KeptCut {
 /// node.
 #[derive(Drop)]
 pub struct KeptCuts {
-    cuts: Vec<KeptCut>,
-    totals: Vec<i128>,
-    loads: Vec<Vec<i128>>,
+    store: CutStore,
 }
 
 impl Model for KeptCuts {
     ghost use Rattle.kept_cuts.specs.Kept.{KeptList};
-    ghost use Rattle.kept_cuts.specs.KeptParts.{list_of, AreColumns};
 
     ghost Value = { KeptList };
 
-    ghost view = { list_of };
-
-    ghost invariant = { AreColumns };
+    ghost view = { λ s. s.store.kept };
 }
 
 impl KeptCuts {
@@ -45,10 +40,15 @@ impl KeptCuts {
         ensures { result ≡ record { cuts = []; totals = []; loads = [] } }
     {
         KeptCuts {
-            cuts: Vec::new(alloc),
-            totals: Vec::new(alloc),
-            loads: Vec::new(alloc),
+            store: CutStore::new(alloc),
         }
+    }
+
+    /// The cuts of a store, numbered as they stand there. It takes no memory.
+    pub fn of(store: CutStore) -> KeptCuts
+        ensures { result ≡ store.kept }
+    {
+        KeptCuts { store }
     }
 
     /// Keeps the cut with these sums, under the next number. Where memory runs out nothing is kept.
@@ -70,20 +70,16 @@ impl KeptCuts {
         ensures refused { OnErr result (self.new ≡ self.old) }
     {
         let row = signed_row(alloc, loads)?;
-        self.cuts.reserve(1)?;
-        self.totals.reserve(1)?;
-        self.loads.reserve(1)?;
-        self.cuts.push_reserved(cut);
-        self.totals.push_reserved(signed(total));
-        self.loads.push_reserved(row);
-        Ok(self.cuts.len() as u64)
+        self.store.reserve(1)?;
+        self.store.put(cut, signed(total), row);
+        Ok(self.store.len() as u64)
     }
 
     /// How many there are.
     pub fn len(&self) -> u64
         ensures { result ≡ length self.now.cuts }
     {
-        self.cuts.len() as u64
+        self.store.len() as u64
     }
 
     /// The cut of this number, counted from 1.
@@ -92,7 +88,7 @@ impl KeptCuts {
         requires most { c ≤ length self.now.cuts }
         ensures { kept_of result.now ≡ kept_at self.now.cuts c }
     {
-        &self.cuts[(c - 1) as usize]
+        &self.store.cuts()[(c - 1) as usize]
     }
 
     /// The total of each, in 10^-12, in the order of their numbers.
@@ -100,7 +96,7 @@ impl KeptCuts {
         ensures value { result.now ≡ map pos self.now.totals }
         ensures long { length result.now ≡ length self.now.cuts }
     {
-        &self.totals
+        self.store.totals()
     }
 
     /// The load of each node in each, in 10^-12, in the order of their numbers.
@@ -108,7 +104,7 @@ impl KeptCuts {
         ensures value { map (λ v. v.items) result.now ≡ map (map pos) self.now.loads }
         ensures long { length result.now ≡ length self.now.cuts }
     {
-        &self.loads
+        self.store.loads()
     }
 }
 

@@ -1,7 +1,7 @@
 use Rattle.std.proofs.Common.{◌≡◌, List, refl, ap, ◌∙◌, rules}
 use Rattle.std.specs.Prelude.{ℕ}
 use Rattle.hub_spec.specs.Plans.{Plan}
-use Rattle.kept_cuts.specs.declared.network.Network.{Network}
+use Rattle.kept_cuts.specs.declared.found.Found.{Found as Network}
 use Rattle.closing_search.proofs.Networks.{IsFoundOf, found_of, found_proved, found_at_most, found_within, found_below, found_most, found_allowed, found_spent, found_enough, found_whole}
 use Rattle.closing_search.proofs.optimizing.finish.Goals as goal
 use Rattle.closing_search.proofs.optimizing.finish.Goals.{After-drop-progress-2}

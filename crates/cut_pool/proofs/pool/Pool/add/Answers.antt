@@ -1,13 +1,16 @@
-use Rattle.std.proofs.Common.{◌≡◌, ◌+◌, ◌≤◌, ◌==◌, ◌++◌, ◌∷◌, [], length, map, All, cond, true, false, Result, Ok, Err, is_ok, is_err, OnOk, pos, to_z, of_z, FitsSigned, ap, subst, sym, rules, ◌∙◌, arith}
+use Rattle.std.proofs.Common.{◌≡◌, ◌+◌, ◌≤◌, ◌==◌, ◌++◌, ◌∷◌, [], length, map, All, cond, true, false, Result, Ok, Err, is_ok, is_err, OnOk, to_z, of_z, FitsSigned, ap, subst, sym, rules, ◌∙◌, arith}
 use Rattle.std.specs.Int.{w128}
 use Rattle.std.specs.List.{insert}
 use Rattle.std.proofs.lemmas.Int.{to_z-of_z}
 use Rattle.hub_model.specs.Amounts.{natural, IsNatural}
 use Rattle.hub_model.proofs.Signs.{natural-pos, pos_least}
+use Rattle.kept_cuts.specs.Kept.{by_set, IsOfSet}
+use Rattle.kept_cuts.specs.StoreParts.{free}
 use Rattle.cut_pool.specs.Entries.{PoolState, entry_of, Lacks}
-use Rattle.cut_pool.specs.PoolParts.{free, spare_of, state_of}
+use Rattle.cut_pool.specs.Kept.{sets_of}
+use Rattle.cut_pool.specs.PoolParts.{spare_of, state_of}
 use Rattle.cut_pool.specs.Ordered.{IsSplitAt}
-use Rattle.cut_pool.proofs.Grown.{HasGrown, spare_number, spare_index, pool_more, entries_more, spare_more}
+use Rattle.cut_pool.proofs.Grown.{HasGrown, spare_number, spare_place, spare_index, pool_more, entries_more, spare_more}
 use Rattle.cut_pool.proofs.Entered.{length-entries}
 use Rattle.cut_pool.proofs.ShortRows.{short_more}
 use Rattle.cut_pool.proofs.pool.Pool.add.Goals as goal
@@ -23,85 +26,83 @@ room c =
     on_ok_at c.reserve.result (sym c.is_err.ensures.value ∙ c.if-is_err.false) c.reserve.ensures.spare in
     subst (λ (p : PoolState). 1 ≤ p.spare) (sym c.self.view_is) more
 
+pub put-requires-clause-spare : goal.put-requires-clause-spare
+put-requires-clause-spare c =
+    let more : 1 ≤ c.reserve.new.self.spare =
+    on_ok_at c.reserve.result (sym c.is_err.ensures.value ∙ c.if-is_err.false) c.reserve.ensures.spare in
+    spare_place c.self.inside (subst (λ (p : PoolState). 1 ≤ p.spare) (sym c.self.view_is) more)
+
+pub put-requires-clause-loads : goal.put-requires-clause-loads
+put-requires-clause-loads c = subst (All IsNatural) (sym c.into_parts-set.ensures.loads) (pos_least c.args.cut.loads)
+
 inserted : (c : After-from) → is_ok c.insert.result ≡ true
 inserted c = c.insert.ensures.succeeds (spare_index c.self.inside (room c))
 
-lent : (c : After-from) → c.deref-3.result.now ≡ map pos c.args.cut.loads
-lent c = c.deref-3.ensures.value ∙ c.into_parts-set.ensures.loads
-
 grown : (c : After-from)
-    → HasGrown c.self.inside
-    (record {
-      sets = c.push_reserved.new.self;
-      orders = c.push_reserved-2.new.self;
-      totals = c.push_reserved-3.new.self;
-      loads = c.push_reserved-4.new.self;
-      by_set = c.insert.new.self;
-      short = c.with_cut.result;
-    })
-    c.args.cut c.args.order c.into_parts-set.result.2 c.place_of-at.result
+    → HasGrown c.self.inside (record { cuts = c.put.new.self; by_set = c.insert.new.self; short = c.with_cut.result }) c.args.cut c.args.order.items
+    c.place_of-at.result
 grown c =
     let s = c.self.inside in
     let fits : FitsSigned w128 c.into_parts-set.result.1 = search rules in
-    let total : to_z w128 (of_z w128 c.into_parts-set.result.1) ≡ pos c.args.cut.total =
-    to_z-of_z w128 c.into_parts-set.result.1 fits ∙ c.into_parts-set.ensures.total in
-    let place : c.len-place.result ≡ length s.sets.items = c.len-place.ensures ∙ s.sets.ok.0 in
+    let total : natural (to_z w128 (of_z w128 c.into_parts-set.result.1)) ≡ c.args.cut.total =
+    ap natural (to_z-of_z w128 c.into_parts-set.result.1 fits ∙ c.into_parts-set.ensures.total) in
+    let loads : map natural c.into_parts-set.result.2.items ≡ c.args.cut.loads =
+    ap (map natural) c.into_parts-set.ensures.loads ∙ natural-pos c.args.cut.loads in
+    let hubs = c.into_parts-set.ensures.set in
+    let place : c.len-place.result ≡ length s.cuts.kept.cuts = c.len-place.ensures in
     record {
-      sets = c.push_reserved.ensures.items ∙ ap (λ set. s.sets.items ++ set ∷ []) c.into_parts-set.ensures.set;
-      orders = c.push_reserved-2.ensures.items;
-      totals = c.push_reserved-3.ensures.items ∙ ap (λ z. s.totals.items ++ z ∷ []) total;
-      all_loads = c.push_reserved-4.ensures.items;
-      amounts = c.into_parts-set.ensures.loads;
+      kept = c.put.ensures.kept
+          ∙ (λ i. record {
+            cuts = s.cuts.kept.cuts ++ by_set (hubs i) c.args.order.items ∷ [];
+            totals = s.cuts.kept.totals ++ total i ∷ [];
+            loads = s.cuts.kept.loads ++ loads i ∷ [];
+          });
       index = c.insert.ensures.items
           ∙ ap (λ b. cond b (insert s.by_set.items c.place_of-at.result c.len-place.result) s.by_set.items) (inserted c)
           ∙ ap (insert s.by_set.items c.place_of-at.result) place;
       short = short_more (state_of s).entries (entry_of c.args.cut c.args.order.items) s.short c.take.result c.with_cut.result (c.len-place.result == 0)
-          (map natural c.deref-3.result.now) c.self.invariant.short c.take.ensures.value c.with_cut.ensures
+          (map natural c.deref-2.result.now) c.self.invariant.short c.take.ensures.value c.with_cut.ensures
           (ap (λ n. n == 0) (place ∙ sym (length-entries s c.self.invariant)))
-          (ap (map natural) (lent c) ∙ natural-pos c.args.cut.loads);
+          (ap (map natural) c.deref-2.ensures.value ∙ loads);
     }
 
 entries_before : (c : After-from) → (state_of c.self.inside).entries ≡ c.args.self.now.entries
 entries_before c = ap (λ (p : PoolState). p.entries) c.self.view_is ∙ c.reserve.ensures.entries
 
+pub place_of-at-requires-clause-of_sets : goal.place_of-at-requires-clause-of_sets
+place_of-at-requires-clause-of_sets c = subst (All IsOfSet) (sym c.cuts.ensures.value) c.self.invariant.of_sets
+
+pub place_of-at-requires-clause-index : goal.place_of-at-requires-clause-index
+place_of-at-requires-clause-index c = rw (c.cuts.ensures.value, c.deref.ensures.value) c.self.invariant.index
+
 pub invariant_of-self : goal.invariant_of-self
 invariant_of-self c =
+    let s = c.self.inside in
     let members : c.members.result.now ≡ c.args.cut.hubs = c.members.ensures.value ∙ c.set.ensures in
-    let split : IsSplitAt c.self.inside.sets.items c.self.inside.by_set.items c.args.cut.hubs c.place_of-at.result =
-    rw (← c.deref.ensures.value, ← c.deref-2.ensures.value, ← members) c.place_of-at.ensures in
-    let lacks : Lacks (state_of c.self.inside).entries c.args.cut.hubs = rw (entries_before c) c.requires in
-    pool_more _ _ c.args.cut c.args.order c.into_parts-set.result.2 c.place_of-at.result c.self.invariant (grown c) split lacks
-    (spare_number c.self.inside (room c))
+    let split : IsSplitAt (sets_of s.cuts.kept.cuts) s.by_set.items c.args.cut.hubs c.place_of-at.result =
+    rw (← c.cuts.ensures.value, ← c.deref.ensures.value, ← members) c.place_of-at.ensures in
+    let lacks : Lacks (state_of s).entries c.args.cut.hubs = rw (entries_before c) c.requires in
+    pool_more _ _ c.args.cut c.args.order.items c.place_of-at.result c.self.invariant (grown c) split lacks (spare_number s (room c))
 
 pub returns-clause-number : goal.returns-clause-number
 returns-clause-number c =
-    let s = c.self.inside in
-    ap (λ n. n + 1)
-    (c.from.ensures ∙ c.len-place.ensures ∙ s.sets.ok.0 ∙ sym (length-entries s c.self.invariant) ∙ ap length (entries_before c))
+    ap (λ n. n + 1) (c.from.ensures ∙ c.len-place.ensures ∙ sym (length-entries c.self.inside c.self.invariant) ∙ ap length (entries_before c))
 
 pub returns-clause-added : goal.returns-clause-added
 returns-clause-added c =
-    entries_more _ _ c.args.cut c.args.order c.into_parts-set.result.2 c.place_of-at.result c.self.invariant (grown c)
+    entries_more _ _ c.args.cut c.args.order.items c.place_of-at.result c.self.invariant (grown c)
     ∙ ap (λ es. es ++ entry_of c.args.cut c.args.order.items ∷ []) (entries_before c)
 
 pub returns-clause-spare : goal.returns-clause-spare
 returns-clause-spare c =
     let s = c.self.inside in
-    let sets : free s.sets ≤ free c.push_reserved.new.self + 1 = omega (arith, c.push_reserved.ensures.len, c.push_reserved.ensures.capacity) in
-    let orders : free s.orders ≤ free c.push_reserved-2.new.self + 1 =
-    omega (arith, c.push_reserved-2.ensures.len, c.push_reserved-2.ensures.capacity) in
-    let totals : free s.totals ≤ free c.push_reserved-3.new.self + 1 =
-    omega (arith, c.push_reserved-3.ensures.len, c.push_reserved-3.ensures.capacity) in
-    let loads : free s.loads ≤ free c.push_reserved-4.new.self + 1 =
-    omega (arith, c.push_reserved-4.ensures.len, c.push_reserved-4.ensures.capacity) in
     let len : c.insert.new.self.len ≡ s.by_set.len + 1 =
     c.insert.ensures.len ∙ ap (λ b. cond b (s.by_set.len + 1) s.by_set.len) (inserted c) in
-    let by_set : free s.by_set ≤ free c.insert.new.self + 1 = omega (arith, len, c.insert.ensures.capacity) in
+    let index : free s.by_set ≤ free c.insert.new.self + 1 = omega (arith, len, c.insert.ensures.capacity) in
     let more =
-    spare_more _ _ c.args.cut c.args.order c.into_parts-set.result.2 c.place_of-at.result c.self.invariant (grown c) sets orders totals loads by_set in
+    spare_more _ _ c.args.cut c.args.order.items c.place_of-at.result c.self.invariant (grown c) c.put.ensures.spare index in
     let before : spare_of s ≡ c.reserve.new.self.spare = ap (λ (p : PoolState). p.spare) c.self.view_is in
     omega (arith, c.reserve.ensures.kept, before, more)
 
 pub with_cut-requires : goal.with_cut-requires
-with_cut-requires c =
-    subst (All IsNatural) (sym (c.deref-3.ensures.value ∙ c.into_parts-set.ensures.loads)) (pos_least c.args.cut.loads)
+with_cut-requires c = subst (All IsNatural) (sym (c.deref-2.ensures.value ∙ c.into_parts-set.ensures.loads)) (pos_least c.args.cut.loads)

@@ -5,5 +5,4 @@ use Rattle.cut_pool.proofs.pool.Pool.len.Goals as goal
 
 pub returns : goal.returns
 returns c =
-    c.len.ensures ∙ c.self.inside.sets.ok.0 ∙ sym (length-entries c.self.inside c.self.invariant)
-    ∙ ap (λ (p : PoolState). length p.entries) c.self.view_is
+    c.len.ensures ∙ sym (length-entries c.self.inside c.self.invariant) ∙ ap (λ (p : PoolState). length p.entries) c.self.view_is

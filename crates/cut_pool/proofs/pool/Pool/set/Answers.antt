@@ -1,15 +1,26 @@
 use Rattle.std.proofs.Common.{sym, ap, subst, ◌∙◌, arith}
 use Rattle.cut_pool.specs.Entries.{PoolState, entry_at, IsNumber}
-use Rattle.cut_pool.proofs.Entered.{place_within, set_read}
+use Rattle.cut_pool.proofs.Entered.{place_within, of_set_read, set_read}
 use Rattle.cut_pool.proofs.pool.Pool.set.Goals as goal
 
-pub index-requires : goal.index-requires
-index-requires c =
+pub offset_bounds-cuts-c : goal.offset_bounds-cuts-c
+offset_bounds-cuts-c c =
     let number = subst (λ (p : PoolState). IsNumber p.entries c.args.c) (sym c.self.view_is) c.requires in
-    omega (arith, place_within c.self.inside c.self.invariant c.args.c number, c.self.inside.sets.ok.0)
+    omega (arith, place_within c.self.inside c.self.invariant c.args.c number, c.self.invariant.most)
+
+pub bounds-cuts-c : goal.bounds-cuts-c
+bounds-cuts-c c =
+    let number = subst (λ (p : PoolState). IsNumber p.entries c.args.c) (sym c.self.view_is) c.requires in
+    omega (arith, place_within c.self.inside c.self.invariant c.args.c number, c.cuts.ensures.long)
+
+pub set_of-requires : goal.set_of-requires
+set_of-requires c =
+    let number = subst (λ (p : PoolState). IsNumber p.entries c.args.c) (sym c.self.view_is) c.requires in
+    of_set_read c.self.inside c.self.invariant c.args.c number c.cuts.result.now c.index-cuts-c.result c.cuts.ensures.value c.index-cuts-c.is
 
 pub returns : goal.returns
 returns c =
     let number = subst (λ (p : PoolState). IsNumber p.entries c.args.c) (sym c.self.view_is) c.requires in
-    set_read c.self.inside c.self.invariant c.args.c number c.index.result.now c.index.ensures
+    c.set_of.ensures
+    ∙ set_read c.self.inside c.self.invariant c.args.c number c.cuts.result.now c.index-cuts-c.result c.cuts.ensures.value c.index-cuts-c.is
     ∙ ap (λ (p : PoolState). (entry_at p.entries c.args.c).hubs) c.self.view_is

@@ -1,0 +1,28 @@
+-- What the columns of a store stand for.
+use Rattle.std.specs.Prelude.{◌≡◌, ℕ, ◌-◌, min, length, map, All, Vec, vec_len, vec_capacity}
+use Rattle.hub_model.specs.Amounts.{natural, IsNatural}
+use Rattle.kept_cuts.specs.Kept.{KeptList, Stored, kept_of}
+use Rattle.kept_cuts.specs.declared.store.CutStore.TheInside.{Inside}
+
+-- the cuts and their sums
+abbrev pub list_of : Inside → KeptList
+list_of s = record {
+  cuts = map kept_of s.cuts.items;
+  totals = map natural s.totals.items;
+  loads = map (λ v. map natural v.items) s.loads.items;
+}
+
+-- how many more items have a place
+abbrev pub free : {X Z : Type 0} → Vec X Z → ℕ
+free v = vec_capacity v - vec_len v
+
+-- with how many more cuts have a place in each column
+abbrev pub stored_of : Inside → Stored
+stored_of s = record { kept = list_of s; spare = min (min (free s.cuts) (free s.totals)) (free s.loads) }
+
+-- as many totals and rows of loads as cuts, none below 0
+pub record AreColumns (s : Inside) : Type 0 where
+  pub totals : length s.totals.items ≡ length s.cuts.items
+  pub loads : length s.loads.items ≡ length s.cuts.items
+  pub natural_totals : All IsNatural s.totals.items
+  pub natural_loads : All (λ v. All IsNatural v.items) s.loads.items
