@@ -16,6 +16,7 @@ pub mod RunSteps
 pub mod FirstRows
 pub mod TableFacts
 pub mod Solutions
+pub mod LeavingRows
 pub mod RunMoves
 pub mod RunLaws
 pub mod BestTables

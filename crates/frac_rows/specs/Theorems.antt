@@ -1,8 +1,8 @@
 -- What is proved of tables and runs; each statement is the contract of the public function of its name.
-use Rattle.std.specs.Prelude.{◌≡◌, ◌≢◌, ◌↔◌, ℕ, ◌+◌, ◌-◌, ◌<◌, ◌≤◌, List, length, take, slice_index, All, ℤ, pos, ◌*ℤ◌, ◌≤ℤ◌, ◌<ℤ◌, unsigned_abs}
+use Rattle.std.specs.Prelude.{◌≡◌, ◌≢◌, ◌↔◌, ℕ, ◌+◌, ◌-◌, ◌<◌, ◌≤◌, List, length, take, slice_index, None, Some, All, Contains, ℤ, pos, ◌*ℤ◌, ◌≤ℤ◌, ◌<ℤ◌, unsigned_abs}
 use Rattle.std.specs.Int.{◌∣◌}
 use Rattle.frac_rows.specs.Divisors.{divisor_of}
-use Rattle.frac_rows.specs.Rows.{Table, number, right_side, row_at, objective, after_pivot, IsTable, AreNarrow}
+use Rattle.frac_rows.specs.Rows.{Table, number, right_side, row_at, objective, after_pivot, leaving, IsTable, AreNarrow}
 use Rattle.frac_rows.specs.Runs.{run}
 use Rattle.frac_rows.specs.Starts.{start}
 use Rattle.frac_rows.specs.Stored.{dot}
@@ -13,6 +13,29 @@ abbrev pub GreatestDivisor : Type 0
 GreatestDivisor = (row : List ℤ)
     → All (λ x. divisor_of row ∣ unsigned_abs x) row
     × ((d : ℕ) → All (λ x. d ∣ unsigned_abs x) row → d ∣ divisor_of row)
+
+-- ---- the row that leaves
+
+-- the row i may leave where the column c enters: it is a constraint row with a number above 0 there
+pub record MayLeave (t : Table) (c i : ℕ) : Type 0 where
+  pub constraint : i < length t.basis
+  pub above : pos 0 <ℤ number (row_at t i) c
+
+-- The row r may leave. Of the rows that may, none has a lesser ratio of its right side over its number in the column,
+-- and none with the same ratio has a lesser basic column.
+pub record IsLeastRatio (t : Table) (c r : ℕ) : Type 0 where
+  pub may_leave : MayLeave t c r
+  pub ratio : (i : ℕ) → MayLeave t c i
+      → (right_side (row_at t r) *ℤ number (row_at t i) c) ≤ℤ (right_side (row_at t i) *ℤ number (row_at t r) c)
+  pub tie : (i : ℕ) → MayLeave t c i
+      → right_side (row_at t r) *ℤ number (row_at t i) c ≡ right_side (row_at t i) *ℤ number (row_at t r) c
+      → slice_index t.basis r ≤ slice_index t.basis i
+
+-- such a row leaves, and none exactly where no row may
+abbrev pub LeavingIsLeast : Type 0
+LeavingIsLeast = (t : Table) (c : ℕ)
+    → ((r : ℕ) → leaving t c ≡ Some r → IsLeastRatio t c r)
+    × ((leaving t c ≡ None) ↔ ((i : ℕ) → MayLeave t c i → ⊥))
 
 -- ---- solutions
 

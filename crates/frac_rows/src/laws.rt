@@ -1,6 +1,6 @@
 //! What holds of all tables and runs.
 
-ghost use Rattle.frac_rows.specs.Theorems.{GreatestDivisor, FirstIsTable, SameSolutions, RightsStay, BasisStays, BestIsBest};
+ghost use Rattle.frac_rows.specs.Theorems.{GreatestDivisor, FirstIsTable, LeavingIsLeast, SameSolutions, RightsStay, BasisStays, BestIsBest};
 
 /// The number by which a row is divided is the greatest common divisor of its numbers.
 pub fn greatest_divisor()
@@ -10,6 +10,11 @@ pub fn greatest_divisor()
 /// The table before the first pivot is one for which the other laws hold.
 pub fn first_is_table()
     ensures { FirstIsTable }
+{}
+
+/// The row that leaves has the least ratio of right side over number, and of those the least basic column.
+pub fn leaving_is_least()
+    ensures { LeavingIsLeast }
 {}
 
 /// A pivot changes no solution.

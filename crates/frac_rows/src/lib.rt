@@ -25,6 +25,7 @@ mod widths;
 pub use ended::{Ended, Wide};
 pub use kept_rows::Rows;
 pub use laws::{
-    basis_stays, best_is_best, first_is_table, greatest_divisor, rights_stay, same_solutions,
+    basis_stays, best_is_best, first_is_table, greatest_divisor, leaving_is_least, rights_stay,
+    same_solutions,
 };
 pub use limits::{MOST_PIVOTS, WIDEST};
