@@ -20,4 +20,8 @@ pub mod LeavingRows
 pub mod RunMoves
 pub mod RunLaws
 pub mod BestTables
+pub mod ListProducts
+pub mod Places
+pub mod BasicSolutions
+pub mod LastSolutions
 pub mod FirstTables

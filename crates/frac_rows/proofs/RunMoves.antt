@@ -1,5 +1,5 @@
 -- What a step of a run does where it goes on, and what is kept through a run.
-use Rattle.std.proofs.Common.{◌≡◌, ℕ, zero, suc, ◌+◌, ◌<◌, Bool, true, false, [], length, set, All, ℤ, Option, Some, None, refl, sym, ap, subst, ◌∙◌, arith}
+use Rattle.std.proofs.Common.{◌≡◌, ℕ, zero, suc, ◌+◌, ◌<◌, Bool, true, false, [], length, set, All, Option, Some, None, refl, sym, ap, subst, ◌∙◌, arith}
 use Rattle.std.proofs.lemmas.List.Elements.{All-set, All-from_get_or}
 use Rattle.frac_rows.specs.Rows.{Table, objective, after_pivot, is_wide, entering, leaving, IsTable}
 use Rattle.frac_rows.specs.Runs.{Step, goes, ends, unless_wide, step_at, step_by, step, run_on}
