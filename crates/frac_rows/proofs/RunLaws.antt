@@ -38,7 +38,7 @@ product_not_above e x h low =
     let other = products_low (neg_ℤ e) x (omega (arith, ints)) low in
     omega (arith, ints, other, neg_ℤ-*ℤ e x)
 
-low_from_product : (g : ℕ) (x : ℤ) → 1 ≤ g → pos 0 ≤ℤ (pos g *ℤ x) → pos 0 ≤ℤ x
+pub low_from_product : (g : ℕ) (x : ℤ) → 1 ≤ g → pos 0 ≤ℤ (pos g *ℤ x) → pos 0 ≤ℤ x
 low_from_product g x g_low h =
     by_lt_z {P = pos 0 ≤ℤ x} x (pos 0) (λ less. let more = times-lt g x (pos 0) g_low less in absurd (omega (arith, ints, more, h, *ℤ-zero (pos g)))) (λ le. le)
 
@@ -89,7 +89,7 @@ rights_row base row c long above of_base of_row ratio =
     (λ less. omega (arith, ints, product_low p (right_side row) above of_row, product_not_above e (right_side base) less of_base)) in
     low_from_product new.0 (right_side (pivoted base c row)) new.1 (rw new.2 whole)
 
-right_at : (t : Table) (i : ℕ) → IsTable t → AreRightsLow t → i ≤ length t.basis → pos 0 ≤ℤ right_side (row_at t i)
+pub right_at : (t : Table) (i : ℕ) → IsTable t → AreRightsLow t → i ≤ length t.basis → pos 0 ≤ℤ right_side (row_at t i)
 right_at t i table low within = All-get_or (λ row. pos 0 ≤ℤ right_side row) t.rows i [] (omega (arith, table.one_objective)) low
 
 -- no row with a number above 0 has a lesser ratio than the one that leaves; the objective row has none above 0

@@ -1,8 +1,8 @@
 -- What is proved of tables and runs; each statement is the contract of the public function of its name.
-use Rattle.std.specs.Prelude.{◌≡◌, ◌≢◌, ◌↔◌, ℕ, ◌+◌, ◌-◌, ◌<◌, ◌≤◌, List, length, take, slice_index, All, ℤ, pos, ◌*ℤ◌, ◌≤ℤ◌, ◌<ℤ◌, unsigned_abs}
+use Rattle.std.specs.Prelude.{◌≡◌, ◌≢◌, ◌↔◌, ℕ, ◌+◌, ◌-◌, ◌<◌, ◌≤◌, List, length, take, slice_index, None, Some, All, Contains, ℤ, pos, ◌*ℤ◌, ◌≤ℤ◌, ◌<ℤ◌, unsigned_abs}
 use Rattle.std.specs.Int.{◌∣◌}
 use Rattle.frac_rows.specs.Divisors.{divisor_of}
-use Rattle.frac_rows.specs.Rows.{Table, number, right_side, row_at, objective, after_pivot, IsTable, AreNarrow}
+use Rattle.frac_rows.specs.Rows.{Table, number, right_side, row_at, objective, after_pivot, leaving, IsTable, AreNarrow}
 use Rattle.frac_rows.specs.Runs.{run}
 use Rattle.frac_rows.specs.Starts.{start}
 use Rattle.frac_rows.specs.Stored.{dot}
@@ -13,6 +13,29 @@ abbrev pub GreatestDivisor : Type 0
 GreatestDivisor = (row : List ℤ)
     → All (λ x. divisor_of row ∣ unsigned_abs x) row
     × ((d : ℕ) → All (λ x. d ∣ unsigned_abs x) row → d ∣ divisor_of row)
+
+-- ---- the row that leaves
+
+-- the row i may leave where the column c enters: it is a constraint row with a number above 0 there
+pub record MayLeave (t : Table) (c i : ℕ) : Type 0 where
+  pub constraint : i < length t.basis
+  pub above : pos 0 <ℤ number (row_at t i) c
+
+-- The row r may leave. Of the rows that may, none has a lesser ratio of its right side over its number in the column,
+-- and none with the same ratio has a lesser basic column.
+pub record IsLeastRatio (t : Table) (c r : ℕ) : Type 0 where
+  pub may_leave : MayLeave t c r
+  pub ratio : (i : ℕ) → MayLeave t c i
+      → (right_side (row_at t r) *ℤ number (row_at t i) c) ≤ℤ (right_side (row_at t i) *ℤ number (row_at t r) c)
+  pub tie : (i : ℕ) → MayLeave t c i
+      → right_side (row_at t r) *ℤ number (row_at t i) c ≡ right_side (row_at t i) *ℤ number (row_at t r) c
+      → slice_index t.basis r ≤ slice_index t.basis i
+
+-- such a row leaves, and none exactly where no row may
+abbrev pub LeavingIsLeast : Type 0
+LeavingIsLeast = (t : Table) (c : ℕ)
+    → ((r : ℕ) → leaving t c ≡ Some r → IsLeastRatio t c r)
+    × ((leaving t c ≡ None) ↔ ((i : ℕ) → MayLeave t c i → ⊥))
 
 -- ---- solutions
 
@@ -39,6 +62,11 @@ SameSolutions = (t : Table) (r c : ℕ) (values : List ℤ) (denom : ℕ) → Is
 
 -- ---- what a run keeps
 
+-- values solve a table exactly where they solve the table that its run ends with
+abbrev pub SolutionsStay : Type 0
+SolutionsStay = (t : Table) (values : List ℤ) (denom : ℕ) → IsTable t
+    → IsSolution t values denom ↔ IsSolution (run t).table values denom
+
 -- no right side is below 0, that of the objective row among them
 abbrev pub AreRightsLow : Table → Type 0
 AreRightsLow t = All (λ row. pos 0 ≤ℤ right_side row) t.rows
@@ -62,6 +90,10 @@ pub record IsOfObjective (t : Table) : Type 0 where
   pub own : pos 0 <ℤ number (objective t) (length (objective t) - 2)
   pub others : (i : ℕ) → i < length t.basis → number (row_at t i) (length (objective t) - 2) ≡ pos 0
 
+-- so it stays through a run
+abbrev pub ObjectiveStays : Type 0
+ObjectiveStays = (t : Table) → IsTable t → IsOfObjective t → IsOfObjective (run t).table
+
 -- a solution in which no value is below 0, but v's may be
 pub record IsAdmissible (t : Table) (values : List ℤ) (denom : ℕ) : Type 0 where
   pub solution : IsSolution t values denom
@@ -74,6 +106,49 @@ BestIsBest = (t : Table) (values : List ℤ) (denom : ℕ)
     → IsTable t → IsOfObjective t → (run t).ended ≡ Best → IsAdmissible t values denom
     → (number (objective (run t).table) (length (objective t) - 2) *ℤ number values (length (objective t) - 2))
     ≤ℤ (pos denom *ℤ right_side (objective (run t).table))
+
+-- ---- basic solutions
+
+-- The basic solution: each basic column has its row's right side over the row's own number there, v the objective row's,
+-- and every other column 0. All values are divided by one denominator.
+pub record IsBasicSolution (t : Table) (values : List ℤ) (denom : ℕ) : Type 0 where
+  pub above : 1 ≤ denom
+  pub one_each : length values + 1 ≡ length (objective t)
+  pub basic : (i : ℕ) → i < length t.basis
+      → number (row_at t i) (slice_index t.basis i) *ℤ number values (slice_index t.basis i)
+      ≡ pos denom *ℤ right_side (row_at t i)
+  pub worth : number (objective t) (length (objective t) - 2) *ℤ number values (length (objective t) - 2)
+      ≡ pos denom *ℤ right_side (objective t)
+  pub others : (c : ℕ) → c + 2 < length (objective t) → (Contains t.basis c → ⊥) → number values c ≡ pos 0
+
+-- there is one, where each row has its basic column to itself and the objective row has v
+abbrev pub SomeBasicSolution : Type 0
+SomeBasicSolution = (t : Table) → IsTable t → IsBasic t → IsOfObjective t
+    → (values : List ℤ) × (denom : ℕ) × IsBasicSolution t values denom
+
+-- and it solves the table
+abbrev pub BasicSolves : Type 0
+BasicSolves = (t : Table) (values : List ℤ) (denom : ℕ) → IsTable t → IsBasic t → IsOfObjective t
+    → IsBasicSolution t values denom → IsSolution t values denom
+
+-- However a run ends, the last table's basic solution is an admissible one of the table that the run began with.
+abbrev pub LastIsAdmissible : Type 0
+LastIsAdmissible = (t : Table) (values : List ℤ) (denom : ℕ)
+    → IsTable t → IsBasic t → IsOfObjective t → AreRightsLow t
+    → IsBasicSolution (run t).table values denom → IsAdmissible t values denom
+
+-- an admissible solution, and none gives v a greater value
+pub record IsOptimal (t : Table) (values : List ℤ) (denom : ℕ) : Type 0 where
+  pub admissible : IsAdmissible t values denom
+  pub greatest : (others : List ℤ) (other_denom : ℕ) → IsAdmissible t others other_denom
+      → (pos denom *ℤ number others (length (objective t) - 2))
+      ≤ℤ (pos other_denom *ℤ number values (length (objective t) - 2))
+
+-- Where the run ends with a best table, that solution is optimal.
+abbrev pub LastIsOptimal : Type 0
+LastIsOptimal = (t : Table) (values : List ℤ) (denom : ℕ)
+    → IsTable t → IsBasic t → IsOfObjective t → AreRightsLow t → (run t).ended ≡ Best
+    → IsBasicSolution (run t).table values denom → IsOptimal t values denom
 
 -- ---- the table before the first pivot
 
