@@ -85,6 +85,10 @@ pub record IsBasic (t : Table) : Type 0 where
 abbrev pub BasisStays : Type 0
 BasisStays = (t : Table) → IsTable t → IsBasic t → IsBasic (run t).table
 
+-- where it is so, there is no more than one row of the least ratio, so that such a row leaves
+abbrev pub LeastLeaves : Type 0
+LeastLeaves = (t : Table) (c r : ℕ) → IsBasic t → IsLeastRatio t c r → leaving t c ≡ Some r
+
 -- v has a number above 0 in the objective row, and none in the others
 pub record IsOfObjective (t : Table) : Type 0 where
   pub own : pos 0 <ℤ number (objective t) (length (objective t) - 2)
