@@ -18,7 +18,7 @@ pub fn leaving_is_least()
     ensures { LeavingIsLeast }
 {}
 
-/// Where each constraint row has its basic column to itself, such a row is the one that leaves.
+/// Where each constraint row has its basic column to itself, only one row has the least ratio, and it leaves.
 pub fn least_leaves()
     ensures { LeastLeaves }
 {}
