@@ -3,7 +3,7 @@ use Rattle.std.proofs.Common.{◌≡◌, ℕ, zero, suc, ◌+◌, ◌-◌, ◌*�
 use Rattle.std.specs.Prelude.{slice_index}
 use Rattle.std.proofs.Math.IntN.{*ℤ-zero, pos-*ℤ-pos}
 use Rattle.std.proofs.lemmas.Int.{ints}
-use Rattle.std.proofs.lemmas.List.{length-map, length-drop, length-take-le, map-append, append_assoc, take-append-drop, get_or-map, get_or-take, get_or_past, get_or-append-add}
+use Rattle.std.proofs.lemmas.List.{length-map, length-drop, length-take-le, map-append, append_assoc, take-append-drop, take_at, get_or-map, get_or-take, get_or_past, get_or-append-add}
 use Rattle.std.proofs.lemmas.List.Elements.{All-get_or}
 use Rattle.std.proofs.lemmas.List.FromFn.{fill_by_all}
 use Rattle.hub_spec.specs.Trees.{Branching}
@@ -21,6 +21,7 @@ use Rattle.frac_master.specs.Advice.{whole_weight, advised_weight, advised_scale
 use Rattle.frac_master.specs.Theorems.{IsScaledMix, mixed_worth, IsLastMix}
 use Rattle.frac_master.proofs.IntegerSums.{dot_joined}
 use Rattle.frac_master.proofs.MasterColumns.{length-master_columns, length-rights_of}
+use Rattle.frac_master.proofs.LastTables.{last_width}
 use Rattle.frac_master.proofs.BasicSolutions.{IsFeasible, feasible_last, natural_again, weight_is}
 use Rattle.frac_master.proofs.MasterRows.{right_of_free, right_of_sum, start_right, master_row, master_constraints, master_width, master_feasible}
 use Rattle.frac_master.proofs.MixedRows.{columns_of_master, rights_of_master, of_variables, mix_values, length-mix_values, in_free_row, in_sum_row, in_objective_row}
@@ -96,6 +97,13 @@ module _ (m : MasterNumbers) (b : Branching) (xs : List ℕ) (denom : ℕ) (solu
       ap (dot (start_row columns rights i)) (sym parts) ∙ solves in
       omega (arith, ints, joined, own, right, all)
 
+  -- the values of the variables
+  pub front_is : take (length m.totals + length b.free) (map pos xs) ≡ map pos (take (length m.totals) xs ++ take (length b.free) (drop (length m.totals) xs))
+  front_is =
+      ap (take (cuts + n)) parts
+      ∙ take_at (mix_values weights surpluses) behind (cuts + n) (length-mix_values m b weights surpluses weights_long surpluses_long)
+      ∙ sym (map-append pos weights surpluses)
+
   pub is_mix : IsTable (master m b) → IsScaledMix m b (take (length m.totals) xs) (take (length b.free) (drop (length m.totals) xs)) denom
   is_mix table = record {
     one_each = weights_long;
@@ -147,10 +155,6 @@ module _ (m : MasterNumbers) (b : Branching) (table : IsTable (master m b)) (val
       subst (λ zs. IsSolution (master m b) zs denom) (sym again)
       (solves_first (master m b) values denom table (solved_by (run (master m b)).table values denom feasible.pivotal is))
 
-  -- the last table is as wide as the first
-  same_width : length (objective (run (master m b)).table) ≡ length (objective (master m b))
-  same_width = omega (arith, is.one_each, first_solved.one_each, length-map xs pos, length-map values natural)
-
   worth_reached : advised_scale (run (master m b)).table
       *ℤ mixed_worth m b (take (length m.totals) xs) (take (length b.free) (drop (length m.totals) xs))
       ≡ pos denom *ℤ right_side (objective (run (master m b)).table)
@@ -158,7 +162,7 @@ module _ (m : MasterNumbers) (b : Branching) (table : IsTable (master m b)) (val
   worth_reached =
       let u = (run (master m b)).table in
       let v : number values (length (objective u) - 2) ≡ mixed_worth m b (take (length m.totals) xs) (take (length b.free) (drop (length m.totals) xs)) =
-      ap₂ (λ zs w. number zs (w - 2)) (sym again) same_width ∙ v_is m b xs denom first_solved table in
+      ap₂ (λ zs w. number zs (w - 2)) (sym again) (last_width (master m b) table) ∙ v_is m b xs denom first_solved table in
       ap (λ z. number (objective u) (length (objective u) - 2) *ℤ z) (sym v) ∙ is.worth
 
   are_advised : (advice m b).weights ≡ map (λ w. whole_weight * w / denom) (take (length m.totals) xs)
@@ -171,12 +175,17 @@ module _ (m : MasterNumbers) (b : Branching) (table : IsTable (master m b)) (val
       sym (fill_by_all (advised_weight u) (map share (take cuts xs)) cuts 0 (length-map (take cuts xs) share ∙ size)
       (λ c low.
       get_or-map share (take cuts xs) c 0 0 (omega (arith, size)) ∙ ap share (get_or-take cuts xs c 0 low)
-      ∙ ap share (get_or-map natural values c (pos 0) 0 (omega (arith, is.one_each, same_width, master_width m b)))
-      ∙ sym (weight_is u values denom feasible is c (omega (arith, same_width, master_width m b)))))
+      ∙ ap share (get_or-map natural values c (pos 0) 0 (omega (arith, is.one_each, last_width (master m b) table, master_width m b)))
+      ∙ sym (weight_is u values denom feasible is c (omega (arith, last_width (master m b) table, master_width m b)))))
 
   pub last_mix_is : IsLastMix m b (take (length m.totals) (map natural values)) (take (length b.free) (drop (length m.totals) (map natural values))) denom
   last_mix_is = record {
     above = is.above;
+    basic = record {
+      values = values;
+      solution = is;
+      variables = ap (take (length m.totals + length b.free)) (sym again) ∙ front_is m b xs denom first_solved;
+    };
     mix = is_mix m b xs denom first_solved table;
     worth = worth_reached;
     advised = are_advised;

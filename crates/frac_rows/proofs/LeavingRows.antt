@@ -5,10 +5,11 @@ use Rattle.std.proofs.Math.IntN.{*ℤ_comm}
 use Rattle.std.proofs.lemmas.Int.{ints, by_lt_z}
 use Rattle.std.proofs.lemmas.Bool.{cases_Bool, cases_eq, cond-true, cond-false, and_parts, and_cases, or_cases, or_parts, not-true, not-false, ltb-true, ltb-false}
 use Rattle.frac_rows.specs.Rows.{Table, number, right_side, row_at, leaves_before, sooner, leaving_of, leaving}
-use Rattle.frac_rows.specs.Theorems.{MayLeave, IsLeastRatio, LeavingIsLeast}
+use Rattle.frac_rows.specs.Theorems.{MayLeave, IsLeastRatio, LeavingIsLeast, IsBasic, LeastLeaves}
 use Rattle.frac_rows.proofs.Integers.{times-le, times-lt, *ℤ_left_comm}
 use Rattle.frac_rows.proofs.Ratios.{is_less_ratio}
 use Rattle.frac_rows.proofs.Solutions.{positive_size}
+use Rattle.frac_rows.proofs.Places.{IsOnce}
 
 -- ---- ratios
 
@@ -246,3 +247,29 @@ none_leaves t c (Some r) e none = absurd (none r (least_from t c r (leaving_firs
 pub leaving_is_least : LeavingIsLeast
 leaving_is_least t c =
     ((λ r e. least_from t c r (leaving_first t c r e)), ((λ e. none_may t c e), (λ none. none_leaves t c (leaving t c) refl none)))
+
+-- ---- where each row has its basic column to itself
+
+pub once_basic : (t : Table) → IsBasic t → IsOnce t.basis
+once_basic t basic r s low_r low_s e =
+    ⊎_elim (λ same. sym same)
+    (λ other.
+    let none = basic.others r s low_r (omega arith) other in
+    let own = basic.own s low_s in
+    let more : pos 0 <ℤ number (row_at t s) (get_or t.basis r 0) = subst (λ c. pos 0 <ℤ number (row_at t s) c) (sym e) own in
+    absurd (omega (arith, ints, none, more)))
+    (cases_eq s r)
+
+least_by : (t : Table) (c r : ℕ) (o : Option ℕ) → IsBasic t → IsLeastRatio t c r → leaving t c ≡ o → leaving t c ≡ Some r
+least_by t c r None basic least e = absurd (none_may t c e r least.may_leave)
+least_by t c r (Some s) basic least e =
+    let first = least_from t c s (leaving_first t c s e) in
+    let on = first.ratio r least.may_leave in
+    let back = least.ratio s first.may_leave in
+    let low = first.tie r least.may_leave (omega (arith, ints, on, back)) in
+    let high = least.tie s first.may_leave (omega (arith, ints, on, back)) in
+    let same : get_or t.basis s 0 ≡ get_or t.basis r 0 = omega (arith, low, high) in
+    e ∙ ap Some (once_basic t basic s r first.may_leave.constraint least.may_leave.constraint same)
+
+pub least_leaves : LeastLeaves
+least_leaves t c r basic least = least_by t c r (leaving t c) basic least refl

@@ -16,12 +16,12 @@ pub mod RunSteps
 pub mod FirstRows
 pub mod TableFacts
 pub mod Solutions
+pub mod Places
 pub mod LeavingRows
 pub mod RunMoves
 pub mod RunLaws
 pub mod BestTables
 pub mod ListProducts
-pub mod Places
 pub mod BasicSolutions
 pub mod LastSolutions
 pub mod FirstTables

@@ -31,7 +31,7 @@ pub record IsLeastRatio (t : Table) (c r : ℕ) : Type 0 where
       → right_side (row_at t r) *ℤ number (row_at t i) c ≡ right_side (row_at t i) *ℤ number (row_at t r) c
       → slice_index t.basis r ≤ slice_index t.basis i
 
--- such a row leaves, and none exactly where no row may
+-- the row that leaves is such a row, and none leaves exactly where no row may
 abbrev pub LeavingIsLeast : Type 0
 LeavingIsLeast = (t : Table) (c : ℕ)
     → ((r : ℕ) → leaving t c ≡ Some r → IsLeastRatio t c r)
@@ -84,6 +84,10 @@ pub record IsBasic (t : Table) : Type 0 where
 -- so it stays through a run
 abbrev pub BasisStays : Type 0
 BasisStays = (t : Table) → IsTable t → IsBasic t → IsBasic (run t).table
+
+-- where each constraint row has its basic column to itself, only one row has the least ratio, and it leaves
+abbrev pub LeastLeaves : Type 0
+LeastLeaves = (t : Table) (c r : ℕ) → IsBasic t → IsLeastRatio t c r → leaving t c ≡ Some r
 
 -- v has a number above 0 in the objective row, and none in the others
 pub record IsOfObjective (t : Table) : Type 0 where

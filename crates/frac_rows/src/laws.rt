@@ -1,6 +1,6 @@
 //! What holds of all tables and runs.
 
-ghost use Rattle.frac_rows.specs.Theorems.{GreatestDivisor, FirstIsTable, LeavingIsLeast, SameSolutions, SolutionsStay, RightsStay, BasisStays, ObjectiveStays};
+ghost use Rattle.frac_rows.specs.Theorems.{GreatestDivisor, FirstIsTable, LeavingIsLeast, LeastLeaves, SameSolutions, SolutionsStay, RightsStay, BasisStays, ObjectiveStays};
 ghost use Rattle.frac_rows.specs.Theorems.{BestIsBest, SomeBasicSolution, BasicSolves, LastIsAdmissible, LastIsOptimal};
 
 /// The number by which a row is divided is the greatest common divisor of its numbers.
@@ -16,6 +16,11 @@ pub fn first_is_table()
 /// The row that leaves has the least ratio of right side over number, and of those the least basic column.
 pub fn leaving_is_least()
     ensures { LeavingIsLeast }
+{}
+
+/// Where each constraint row has its basic column to itself, only one row has the least ratio, and it leaves.
+pub fn least_leaves()
+    ensures { LeastLeaves }
 {}
 
 /// A pivot changes no solution.

@@ -26,7 +26,7 @@ pub use ended::{Ended, Wide};
 pub use kept_rows::Rows;
 pub use laws::{
     basic_solves, basis_stays, best_is_best, first_is_table, greatest_divisor, last_is_admissible,
-    last_is_optimal, leaving_is_least, objective_stays, rights_stay, same_solutions,
+    last_is_optimal, least_leaves, leaving_is_least, objective_stays, rights_stay, same_solutions,
     solutions_stay, some_basic_solution,
 };
 pub use limits::{MOST_PIVOTS, WIDEST};
