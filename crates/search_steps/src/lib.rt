@@ -9,7 +9,7 @@
 //! of that definition mean are laws: `greatest_is_one`, `nearest_is_one` and `picked_is_one`.
 //!
 //! Costs, totals, loads and fixed costs are in 10^-12, bounds in 10^-12 times 10^6. Nodes are `u32`, counted from 0. The
-//! calls that take a pool also take `fixed`, the fixed cost of each node, which `fixed_costs` lists once for a search.
+//! calls that take a pool also take `fixed`, the fixed cost of each node, which the search's `search_core::Task` has.
 #![tactic(auto)]
 
 mod advising;
@@ -19,7 +19,7 @@ mod laws;
 mod leaves;
 mod picking;
 
-pub use advising::{fixed_costs, node_advice};
+pub use advising::node_advice;
 pub use bounding::{closes, is_better, weights_bound};
 pub use deciding::node_fixings;
 pub use laws::{advising_is_sound, greatest_is_one, nearest_is_one, picked_is_one};
