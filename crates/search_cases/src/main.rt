@@ -1,7 +1,8 @@
 //! What searches find, a case a line of standard input.
 //!
-//! Of `search_steps` the fixed costs and a leaf, of `separators` the sums of cuts, of `branch_tree` whole searches, and
-//! of `proof_text` the texts of what they found, also where a put fails. The other steps are taken by each search.
+//! Of `search_core` the fixed costs of a task, of `search_steps` a leaf, of `separators` the sums of cuts, of `branch_tree`
+//! whole searches, and of `proof_text` the texts of what they found, also where a put fails. The other steps are taken by
+//! each search.
 //!
 //! Nodes are counted from 0, and from 1 in certificates. A line is one of these:
 //!

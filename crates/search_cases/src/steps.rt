@@ -9,13 +9,15 @@ use cut_pool::CutSums;
 use hub_model::Instance;
 use hub_plain::{is_hub_set, outside};
 use plan_model::HubSet;
-use search_steps::{fixed_costs, leaf_line};
+use search_core::Task;
+use search_steps::leaf_line;
 use separators::{Separator, Solo, kept_sums};
 use std::alloc::{AllocError, Global};
 
 /// The fixed costs of the nodes.
 pub(crate) fn fixed(alloc: Global, instance: &Instance) -> Result<String, AllocError> {
-    let costs = fixed_costs(alloc, instance)?;
+    let task = Task::new(alloc, instance, None)?;
+    let costs = task.fixed.as_slice();
     format!(in alloc; "{costs:?}")
 }
 

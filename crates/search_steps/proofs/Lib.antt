@@ -3,4 +3,5 @@ pub mod Weighed
 pub mod MasterNumbers
 pub mod Sides
 pub mod Points
+pub mod Choosing
 pub mod LeafPairs

@@ -17,9 +17,10 @@ use Rattle.frac_master.specs.Theorems.{IsMaster, IsMixed}
 use Rattle.frac_master.proofs.MasterTables.{weights_are_a_mix}
 use Rattle.search_spec.specs.States.{denominator}
 use Rattle.cut_pool.specs.Entries.{Entry}
+use Rattle.search_core.specs.Tasks.{AreFixedCosts}
 use Rattle.search_steps.specs.Pools.{IsSumsOf, IsPoolOf, pool_cuts, state_by}
 use Rattle.search_steps.specs.Advising.{node_loads, master_numbers, told_by, master_advising}
-use Rattle.search_steps.specs.Weights.{AreFixedCosts, AreNodeWeights}
+use Rattle.search_steps.specs.Weights.{AreNodeWeights}
 use Rattle.search_steps.specs.Theorems.{AdvisingIsSound}
 use Rattle.search_steps.proofs.PoolNumbers.{lent_totals, lent_loads, naturals_totals, naturals_loads, loads_least, loads_below, loads_costs, fixed_naturals, fixed_long}
 use Rattle.search_steps.proofs.Weighed.{below_size, branch_below}

@@ -29,7 +29,7 @@ rising ks up i (suc d) low =
     let same : get_or ks (i + suc d) 0 ≡ get_or ks (i + d + 1) 0 = ap (λ j. get_or ks j 0) (omega arith) in
     omega (arith, before, more, same)
 
-not_falling : (ks : List ℕ) → IsStrictlyIncreasing ks → (i j : ℕ) → i ≤ j → j < length ks → get_or ks i 0 ≤ get_or ks j 0
+pub not_falling : (ks : List ℕ) → IsStrictlyIncreasing ks → (i j : ℕ) → i ≤ j → j < length ks → get_or ks i 0 ≤ get_or ks j 0
 not_falling ks up i j less low =
     let same : i + (j - i) ≡ j = omega arith in
     subst (λ n. get_or ks i 0 ≤ get_or ks n 0) same (rising ks up i (j - i) (omega arith))

@@ -1,13 +1,13 @@
 -- The numbers that a pool lends are those of its entries' cuts.
-use Rattle.std.proofs.Common.{◌≡◌, ℕ, ◌+◌, ◌/◌, ◌^◌, ◌<◌, ◌≤◌, slice_index, ℤ, pos, List, [], ◌∷◌, ◌++◌, length, take, map, get_or, All, refl, sym, ap, ap₂, ◌∙◌, arith}
+use Rattle.std.proofs.Common.{◌≡◌, ℕ, ◌/◌, ◌^◌, ◌<◌, ◌≤◌, slice_index, ℤ, pos, List, [], ◌∷◌, length, map, get_or, All, refl, sym, ap, ap₂, ◌∙◌, arith}
 use Rattle.std.specs.List.{AllZip}
 use Rattle.std.proofs.lemmas.Int.{ints}
-use Rattle.std.proofs.lemmas.List.{length-map, map-append, take_more}
+use Rattle.std.proofs.lemmas.List.{length-map}
 use Rattle.std.proofs.lemmas.Grind.{same_number_lists}
 use Rattle.std.proofs.lemmas.List.FromFn.{get_or-map-range_with_len, length-map-range_with_len}
 use Rattle.std.proofs.lemmas.List.Elements.{All-head, All-tail, All-weaker, All-map, All-from_get_or}
 use Rattle.hub_spec.specs.Limits.{most_cost}
-use Rattle.hub_spec.specs.Problem.{Problem, IsProblem, fixed_cost, commodities}
+use Rattle.hub_spec.specs.Problem.{Problem, IsProblem, commodities}
 use Rattle.hub_spec.specs.Plans.{IsHubSet}
 use Rattle.hub_spec.specs.Cuts.{total, load}
 use Rattle.hub_spec.specs.Separation.{IsOrder, IsSetCut, set_cut}
@@ -20,9 +20,9 @@ use Rattle.leaf_bound.specs.Theorems.{AreLoadsOf}
 use Rattle.frac_master.specs.Masters.{AreShortRows, AreWithinTotals, halved}
 use Rattle.cut_pool.specs.Entries.{Entry}
 use Rattle.cut_pool.specs.Shorts.{Shorts, AreShortLoads}
+use Rattle.search_core.specs.Tasks.{AreFixedCosts}
 use Rattle.search_steps.specs.Pools.{entry_cut, IsSumsOf, IsPoolOf, pool_cuts}
 use Rattle.search_steps.specs.Advising.{node_loads}
-use Rattle.search_steps.specs.Weights.{AreFixedCosts}
 
 -- the totals and the loads as a pool lends them
 abbrev pub lent_totals : List Entry → List ℤ
@@ -148,10 +148,3 @@ fixed_naturals p fixed are = ap naturals are.costs ∙ natural-pos p.fixed_costs
 
 pub fixed_long : (p : Problem) (fixed : List ℤ) → AreFixedCosts p fixed → length fixed ≡ p.size
 fixed_long p fixed are = ap length are.costs ∙ length-map p.fixed_costs pos ∙ are.problem.cost_for_each_node
-
-pub next_cost : (p : Problem) (k : ℕ) (costs : List ℤ) (z : ℤ) → k < length p.fixed_costs → z ≡ pos (fixed_cost p k)
-    → costs ≡ map pos (take k p.fixed_costs) → costs ++ z ∷ [] ≡ map pos (take (k + 1) p.fixed_costs)
-unfolding fixed_cost
-next_cost p k costs z low is so_far =
-    ap₂ (λ (xs : List ℤ) (x : ℤ). xs ++ x ∷ []) so_far is
-    ∙ sym (ap (map pos) (take_more p.fixed_costs k 0 low) ∙ map-append pos (take k p.fixed_costs) (get_or p.fixed_costs k 0 ∷ []))

@@ -19,8 +19,9 @@ use Rattle.search_spec.specs.States.{State}
 use Rattle.search_spec.specs.Steps.{bound_at, closes_at, better}
 use Rattle.hub_fixing.specs.Fixing.{closes_by}
 use Rattle.cut_pool.specs.Entries.{Entry}
+use Rattle.search_core.specs.Tasks.{AreFixedCosts}
 use Rattle.search_steps.specs.Pools.{entry_cut, IsPoolOf, pool_cuts, state_by}
-use Rattle.search_steps.specs.Weights.{AreFixedCosts, AreNodeWeights, pairs_of}
+use Rattle.search_steps.specs.Weights.{AreNodeWeights, pairs_of}
 use Rattle.search_steps.proofs.PoolNumbers.{lent_totals, lent_loads, totals_costs, loads_costs, naturals_totals, loads_zip, fixed_naturals, fixed_long}
 
 -- the numbers are those that the pool lends, with the fixed costs, and the weights are a node's

@@ -1,6 +1,5 @@
 -- What a node of the search has in code, and what it stands for.
-use Rattle.std.specs.Prelude.{◌≡◌, ℕ, ◌≤◌, ℤ, pos, List, map, length, sum, All}
-use Rattle.hub_spec.specs.Problem.{Problem, IsProblem}
+use Rattle.std.specs.Prelude.{ℕ, ◌≤◌, ℤ, List, map, length, sum, All}
 use Rattle.hub_model.specs.Amounts.{IsNatural}
 use Rattle.leaf_bound.specs.Numbers.{naturals}
 use Rattle.leaf_bound.specs.Theorems.{weight_pairs}
@@ -8,11 +7,6 @@ use Rattle.search_spec.specs.States.{denominator}
 use Rattle.search_spec.specs.Steps as steps
 use Rattle.hub_fixing.specs.declared.sides.Side.{Side}
 use Rattle.hub_fixing.specs.declared.sides.Side.TheVariants.{In, Out}
-
--- the fixed cost of each node of an instance
-pub record AreFixedCosts (p : Problem) (fixed : List ℤ) : Type 0 where
-  pub problem : IsProblem p
-  pub costs : fixed ≡ map pos p.fixed_costs
 
 -- weights on the first of n cuts: none is below 0, and together they are at most 10^6
 pub record AreNodeWeights (n : ℕ) (weights : List ℤ) : Type 0 where

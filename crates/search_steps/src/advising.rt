@@ -4,29 +4,16 @@ ghost use Rattle.std.specs.Prelude.{◌≡◌, length, map, pos, IfOk, IfSome};
 ghost use Rattle.hub_spec.specs.Trees.{IsBranch};
 ghost use Rattle.frac_master.specs.Advice.{advice_of_code};
 ghost use Rattle.frac_master.specs.Masters.{AreShortRows};
+ghost use Rattle.search_core.specs.Tasks.{AreFixedCosts};
 ghost use Rattle.search_steps.specs.Pools.{IsPoolOf, InEachState};
 ghost use Rattle.search_steps.specs.Advising.{told_by, master_advising};
-ghost use Rattle.search_steps.specs.Weights.{AreFixedCosts, AreNodeWeights};
+ghost use Rattle.search_steps.specs.Weights.{AreNodeWeights};
 
 use cut_pool::Pool;
 use frac_master::{Advice, ShortRows, advise_by_totals};
 use hub_model::Instance;
 use plan_model::Branch;
 use std::alloc::{AllocError, Global};
-
-/// The fixed cost of each node, in 10^-12.
-///
-/// The answer is `AllocError` where memory runs out.
-pub fn fixed_costs(alloc: Global, instance: &Instance) -> Result<Vec<i128>, AllocError>
-    ensures { IfOk result (λ costs. AreFixedCosts instance.now costs.items) }
-{
-    let size = instance.size();
-    let mut costs = Vec::with_capacity(alloc, size as usize)?;
-    for k in 0..size {
-        costs.push(instance.fixed(k))?;
-    }
-    Ok(costs)
-}
 
 /// What the master of the branch advises, by the cuts of the pool. No load of a cut is above its total.
 ///

@@ -5,16 +5,15 @@ ghost use Rattle.hub_spec.specs.Limits.{most_cost};
 ghost use Rattle.hub_spec.specs.Trees.{IsBranch};
 ghost use Rattle.leaf_bound.specs.Weighing.{most_bound, IsWithin};
 ghost use Rattle.search_spec.specs.Steps.{bound_at, better, closes_at};
+ghost use Rattle.search_core.specs.Tasks.{AreFixedCosts};
 ghost use Rattle.search_steps.specs.Pools.{IsPoolOf, InEachState, InEachStateAt};
-ghost use Rattle.search_steps.specs.Weights.{AreFixedCosts, AreNodeWeights, pairs_of};
+ghost use Rattle.search_steps.specs.Weights.{AreNodeWeights, pairs_of};
 
 use cut_pool::Pool;
 use hub_model::{Instance, signed};
 use leaf_bound::bound;
 use plan_model::Branch;
-
-/// The denominator of every leaf that a search makes, and so of a node's weights.
-pub(crate) const DENOMINATOR: i128 = 1_000_000;
+use search_core::WHOLE_WEIGHT;
 
 /// The bound of the branch under these weights, in 10^-12, times 10^6.
 pub fn weights_bound(
@@ -36,7 +35,7 @@ pub fn weights_bound(
         pool.loads(),
         fixed,
         weights,
-        DENOMINATOR,
+        WHOLE_WEIGHT as i128,
         branch,
     )
 }
@@ -88,7 +87,7 @@ pub fn closes(
         loads,
         fixed,
         weights,
-        DENOMINATOR,
+        WHOLE_WEIGHT as i128,
         branch,
         signed(cost),
     )

@@ -4,14 +4,15 @@ ghost use Rattle.std.specs.Prelude.{◌≡◌, ◌≤◌, false, length, IfOk};
 ghost use Rattle.hub_spec.specs.Limits.{most_cost};
 ghost use Rattle.hub_spec.specs.Trees.{IsBranch};
 ghost use Rattle.search_spec.specs.Steps.{closes_at, fixings};
+ghost use Rattle.search_core.specs.Tasks.{AreFixedCosts};
 ghost use Rattle.search_steps.specs.Pools.{IsPoolOf, InEachStateAt};
-ghost use Rattle.search_steps.specs.Weights.{AreFixedCosts, AreNodeWeights, pairs_of, sides_as};
+ghost use Rattle.search_steps.specs.Weights.{AreNodeWeights, pairs_of, sides_as};
 
-use crate::bounding::DENOMINATOR;
 use cut_pool::Pool;
 use hub_fixing::{Side, fix};
 use hub_model::{Instance, signed};
 use plan_model::Branch;
+use search_core::WHOLE_WEIGHT;
 use std::alloc::{AllocError, Global};
 
 /// The free nodes of the branch, ascending, of which a side stays under these weights, each with that side: the child on
@@ -44,7 +45,7 @@ pub fn node_fixings(
         loads,
         fixed,
         weights,
-        DENOMINATOR,
+        WHOLE_WEIGHT as i128,
         branch,
         target,
     )

@@ -7,8 +7,8 @@ ghost use Rattle.plan_model.specs.Lines.{tree_line_of};
 ghost use Rattle.search_spec.specs.States.{denominator};
 ghost use Rattle.search_steps.specs.Weights.{pairs_of};
 
-use crate::bounding::DENOMINATOR;
 use plan_model::{Mix, TreeLine};
+use search_core::WHOLE_WEIGHT;
 use std::alloc::{AllocError, Global};
 
 /// The leaf with these weights on the first cuts, in 10^-6: those above 0 are listed, by cut numbers from 1.
@@ -24,5 +24,5 @@ pub fn leaf_line(alloc: Global, weights: &[i128]) -> Result<TreeLine, AllocError
             pairs.push((place as i128 + 1, *weight))?;
         }
     }
-    Ok(TreeLine::Leaf(Mix::new(DENOMINATOR, pairs)))
+    Ok(TreeLine::Leaf(Mix::new(WHOLE_WEIGHT as i128, pairs)))
 }

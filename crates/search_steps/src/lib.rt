@@ -5,10 +5,11 @@
 //! other weights and for a point; `is_better` tells whether their bound is above that of the present ones, and `closes`
 //! whether the bound of weights closes the incumbent's cost. `pick` and `nearest` choose by the point the hub set that is
 //! separated and the node that is branched on, `node_fixings` lists the free nodes that the bounds decide, and
-//! `leaf_line` writes a leaf. Each is proved equal to the step of its name in the search's definition.
+//! `leaf_line` writes a leaf. Each is proved equal to the step of its name in the search's definition, and what the choices
+//! of that definition mean are laws: `greatest_is_one`, `nearest_is_one` and `picked_is_one`.
 //!
 //! Costs, totals, loads and fixed costs are in 10^-12, bounds in 10^-12 times 10^6. Nodes are `u32`, counted from 0. The
-//! calls that take a pool also take `fixed`, the fixed cost of each node, which `fixed_costs` lists once for a search.
+//! calls that take a pool also take `fixed`, the fixed cost of each node, which the search's `search_core::Task` has.
 #![tactic(auto)]
 
 mod advising;
@@ -18,9 +19,9 @@ mod laws;
 mod leaves;
 mod picking;
 
-pub use advising::{fixed_costs, node_advice};
+pub use advising::node_advice;
 pub use bounding::{closes, is_better, weights_bound};
 pub use deciding::node_fixings;
-pub use laws::advising_is_sound;
+pub use laws::{advising_is_sound, greatest_is_one, nearest_is_one, picked_is_one};
 pub use leaves::leaf_line;
 pub use picking::{nearest, pick};
