@@ -15,7 +15,7 @@ use Rattle.search_spec.specs.Choices.{set_cost, rule_parts}
 use Rattle.search_spec.proofs.SetCosts.{set_cost_by_sums}
 use Rattle.search_spec.proofs.StepCases.{separated_cheaper, separated_dearer}
 use Rattle.search_steps.specs.Pools.{entry_cut, IsSumsOf, IsPoolOf, pool_sets, pool_cuts, state_by}
-use Rattle.branch_tree.specs.declared.task.Task.{Task}
+use Rattle.search_core.specs.declared.tasks.Task.{Task}
 use Rattle.branch_tree.specs.declared.progress.Progress.{Progress}
 use Rattle.kept_cuts.specs.Findings.{lines_of}
 use Rattle.branch_tree.specs.Findings.{parts_of}

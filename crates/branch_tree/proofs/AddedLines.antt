@@ -8,7 +8,7 @@ use Rattle.plan_model.specs.declared.tree_lines.TreeLine as model
 use Rattle.plan_model.specs.Lines.{tree_line_of}
 use Rattle.search_spec.specs.States.{State, Grown}
 use Rattle.search_steps.specs.Pools.{IsPoolOf, state_by}
-use Rattle.branch_tree.specs.declared.task.Task.{Task}
+use Rattle.search_core.specs.declared.tasks.Task.{Task}
 use Rattle.branch_tree.specs.declared.progress.Progress.{Progress}
 use Rattle.kept_cuts.specs.Findings.{lines_of}
 use Rattle.branch_tree.specs.Progressing.{state_of, IsGoing, HasLine, IsAt, IsDone}

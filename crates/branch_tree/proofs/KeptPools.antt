@@ -1,6 +1,6 @@
 -- The cuts of a pool as a finding keeps them.
 use Rattle.std.proofs.Common.{◌≡◌, ℕ, List, [], ◌∷◌, length, map, All, refl, sym, ap, ap₂, subst, ◌∙◌}
-use Rattle.std.proofs.lemmas.List.Elements.{All-nil, All-cons}
+use Rattle.std.proofs.lemmas.List.Elements.{All-nil, All-cons, All-head, All-tail}
 use Rattle.hub_spec.specs.Problem.{Problem}
 use Rattle.hub_spec.specs.Cuts.{Cut, total}
 use Rattle.cut_pool.specs.Entries.{Entry}
@@ -32,16 +32,21 @@ kept_pool_cuts p (e ∷ es) = ap (λ (xs : List Cut). entry_cut p e ∷ xs) (kep
 
 fit : (p : Problem) (entries : List Entry) → IsPoolOf p entries → All (IsKeptFor p) (map kept_entry entries)
 fit p [] are = All-nil (IsKeptFor p)
-fit p (e ∷ es) (is, are) = All-cons (IsKeptFor p) (kept_entry e) (map kept_entry es) (is.set, is.order) (fit p es are)
+fit p (e ∷ es) are =
+    let is = All-head (IsSumsOf p) e es are in
+    All-cons (IsKeptFor p) (kept_entry e) (map kept_entry es) (is.set, is.order) (fit p es (All-tail (IsSumsOf p) e es are))
 
 totals : (p : Problem) (entries : List Entry) → IsPoolOf p entries → map (λ e. e.total) entries ≡ map total (pool_cuts p entries)
 totals p [] are = refl
-totals p (e ∷ es) (is, are) = ap₂ (λ (x : ℕ) (xs : List ℕ). x ∷ xs) is.is_total (totals p es are)
+totals p (e ∷ es) are =
+    ap₂ (λ (x : ℕ) (xs : List ℕ). x ∷ xs) (All-head (IsSumsOf p) e es are).is_total (totals p es (All-tail (IsSumsOf p) e es are))
 
 loads : (p : Problem) (entries : List Entry) → IsPoolOf p entries → map (λ e. e.loads) entries ≡ map (node_loads p.size) (pool_cuts p entries)
 loads p [] are = refl
-loads p (e ∷ es) (is, are) =
-    ap₂ (λ (x : List ℕ) (xs : List (List ℕ)). x ∷ xs) (loads_are p.size (entry_cut p e) e.loads is.one_load_each is.are_loads) (loads p es are)
+loads p (e ∷ es) are =
+    let is = All-head (IsSumsOf p) e es are in
+    ap₂ (λ (x : List ℕ) (xs : List (List ℕ)). x ∷ xs) (loads_are p.size (entry_cut p e) e.loads is.one_load_each is.are_loads)
+    (loads p es (All-tail (IsSumsOf p) e es are))
 
 pub kept_pool : (p : Problem) (entries : List Entry) (k : KeptList) → IsPoolOf p entries → AreColumnsOf entries k → AreKeptFor p k
 kept_pool p entries k are same =

@@ -12,7 +12,7 @@ use Rattle.search_spec.specs.Laws.{GoesOn}
 use Rattle.search_spec.specs.Choices.{rule_parts, rule, nearest_half, all_closed, all_decided}
 use Rattle.search_spec.proofs.StepCases.{rounds_over, rounds_more, node_is, handled_barren, handled_stopped, handled_full, handled_on, explored_is, parted_only, parted_full, parted_split, halved_is, fixed_full, fixed_one}
 use Rattle.search_steps.specs.Pools.{InEachStateAt}
-use Rattle.branch_tree.specs.declared.task.Task.{Task}
+use Rattle.search_core.specs.declared.tasks.Task.{Task}
 use Rattle.branch_tree.specs.declared.progress.Progress.{Progress}
 use Rattle.branch_tree.specs.Findings.{parts_of, found_by}
 use Rattle.branch_tree.specs.Progressing.{handling, state_of}

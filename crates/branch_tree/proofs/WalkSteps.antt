@@ -13,7 +13,7 @@ use Rattle.search_spec.specs.States.{denominator, State, Grown}
 use Rattle.search_spec.specs.Steps.{two_more, Side, stays_open, stays_closed, child_on, fixings, with_leaf}
 use Rattle.search_spec.proofs.Fixings.{AreFixings, fixings_are}
 use Rattle.search_steps.specs.Weights.{side_as, sides_as}
-use Rattle.branch_tree.specs.declared.task.Task.{Task}
+use Rattle.search_core.specs.declared.tasks.Task.{Task}
 use Rattle.branch_tree.specs.declared.progress.Progress.{Progress}
 use Rattle.kept_cuts.specs.Findings.{lines_of}
 use Rattle.branch_tree.specs.Progressing.{state_of, HasLine, IsDone}

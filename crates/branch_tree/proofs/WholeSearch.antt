@@ -19,8 +19,8 @@ use Rattle.search_spec.specs.Steps.{begun}
 use Rattle.search_spec.specs.Choices.{others, has_node}
 use Rattle.search_spec.proofs.RuleParts.{has_when}
 use Rattle.search_steps.specs.Pools.{entry_cut, IsSumsOf, IsPoolOf, state_by}
-use Rattle.search_steps.specs.Weights.{AreFixedCosts}
-use Rattle.branch_tree.specs.declared.task.Task.{Task}
+use Rattle.search_core.specs.Tasks.{AreFixedCosts}
+use Rattle.search_core.specs.declared.tasks.Task.{Task}
 use Rattle.branch_tree.specs.declared.progress.Progress.{Progress}
 use Rattle.kept_cuts.specs.Kept.{IsOfSet, kept_hubs, kept_cuts}
 use Rattle.kept_cuts.specs.Findings.{lines_of}

@@ -7,8 +7,8 @@ use Rattle.hub_spec.specs.Trees.{TreeLine, preorder}
 use Rattle.search_spec.specs.States.{State, Grown, Handling}
 use Rattle.search_spec.specs.Steps.{node}
 use Rattle.search_steps.specs.Pools.{IsPoolOf, state_by}
-use Rattle.search_steps.specs.Weights.{AreFixedCosts}
-use Rattle.branch_tree.specs.declared.task.Task.{Task}
+use Rattle.search_core.specs.Tasks.{AreFixedCosts}
+use Rattle.search_core.specs.declared.tasks.Task.{Task}
 use Rattle.branch_tree.specs.declared.progress.Progress.{Progress}
 use Rattle.kept_cuts.specs.Findings.{lines_of}
 use Rattle.branch_tree.specs.Findings.{parts_of}

@@ -16,7 +16,6 @@ mod progress;
 mod rounds;
 mod searching;
 mod separating;
-mod task;
 mod walking;
 
 pub use laws::search_is_proved;

@@ -6,10 +6,9 @@ ghost use Rattle.plan_model.specs.Lines.{tree_line_of};
 ghost use Rattle.search_spec.specs.Steps.{may_split};
 ghost use Rattle.branch_tree.specs.Progressing.{state_of, IsGoing, HasLine};
 
-use crate::task::Task;
 use cut_pool::Pool;
-use hub_model::MOST_TREE_LINES;
 use plan_model::{HubSet, TreeLine};
+use search_core::Task;
 use std::alloc::AllocError;
 
 /// The cuts and the lines of the tree, the incumbent with its cost, the nodes made, and after a stop the least that a
@@ -28,11 +27,7 @@ pub(crate) struct Progress {
 pub(crate) fn add_line(progress: &mut Progress, line: TreeLine) -> Result<(), AllocError>
     ensures { OnOk result (HasLine progress.old progress.new (tree_line_of line) progress.old.made progress.old.stop) }
 {
-    if progress.lines.len() >= MOST_TREE_LINES {
-        return Err(AllocError);
-    }
-    progress.lines.push(line)?;
-    Ok(())
+    search_core::add_line(&mut progress.lines, line)
 }
 
 /// Adds the line of a branch on the node, which makes two nodes more.
@@ -50,8 +45,5 @@ pub(crate) fn may_split(task: &Task, progress: &Progress) -> bool
     requires { IsGoing task.now progress.now }
     ensures { result ≡ may_split task.now.nodes (state_of task.now.instance.now progress.now) }
 {
-    match task.nodes {
-        None => true,
-        Some(most) => progress.made + 2 <= most,
-    }
+    task.allows_two(progress.made)
 }

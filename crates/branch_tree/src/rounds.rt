@@ -10,10 +10,10 @@ ghost use Rattle.branch_tree.specs.Rounding.{round_as, IsRound};
 
 use crate::progress::Progress;
 use crate::separating::{number_of, separate};
-use crate::task::Task;
 use frac_master::Advice;
 use pareto_cuts::order_of;
 use plan_model::{Branch, HubSet};
+use search_core::Task;
 use search_steps::{closes, is_better, node_advice, pick};
 use separators::Separator;
 use std::alloc::{AllocError, Global};

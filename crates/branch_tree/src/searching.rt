@@ -6,21 +6,19 @@ ghost use Rattle.hub_spec.specs.Trees.{preorder};
 ghost use Rattle.search_spec.specs.States.{Grown, answer};
 ghost use Rattle.search_spec.specs.Steps.{begun};
 ghost use Rattle.search_spec.specs.Findings.{certificate_of, AreWithin, IsSpent, IsEnough};
-ghost use Rattle.search_steps.specs.Weights.{AreFixedCosts};
+ghost use Rattle.search_core.specs.Tasks.{AreFixedCosts};
 ghost use Rattle.kept_cuts.specs.Findings.{lines_of, proof_of, IsProved};
 ghost use Rattle.branch_tree.specs.Progressing.{state_of, IsGoing};
 ghost use Rattle.branch_tree.specs.Findings.{parts_of, found_by, IsFound};
 
-use crate::leaves::lesser;
 use crate::progress::Progress;
-use crate::task::Task;
 use crate::walking::node;
 use assign_sub::assign;
 use cut_pool::Pool;
 use hub_model::{Instance, unsigned};
 use kept_cuts::Found;
 use plan_model::{Branch, HubSet, Plan};
-use search_steps::fixed_costs;
+use search_core::{Task, fixed_costs, lesser};
 use separators::Separator;
 use std::alloc::{AllocError, Global};
 

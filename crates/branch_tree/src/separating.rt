@@ -11,9 +11,9 @@ ghost use Rattle.branch_tree.specs.Findings.{parts_of};
 ghost use Rattle.branch_tree.specs.Progressing.{state_of, IsGoing, IsAt};
 
 use crate::progress::Progress;
-use crate::task::Task;
 use hub_model::{MOST_CUTS, unsigned};
 use plan_model::HubSet;
+use search_core::Task;
 use separators::Separator;
 use std::alloc::{AllocError, Global};
 

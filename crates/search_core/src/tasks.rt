@@ -50,8 +50,8 @@ impl<'a> Task<'a> {
     }
 }
 
-// The fixed cost of each node.
-fn fixed_costs(alloc: Global, instance: &Instance) -> Result<Vec<i128>, AllocError>
+/// The fixed cost of each node of an instance, in 10^-12.
+pub fn fixed_costs(alloc: Global, instance: &Instance) -> Result<Vec<i128>, AllocError>
     ensures { IfOk result (λ costs. AreFixedCosts instance.now costs.items) }
 {
     let size = instance.size();

@@ -10,8 +10,8 @@ use Rattle.branch_tree.proofs.AddedLines.{line_done, line_at, done_as}
 use Rattle.branch_tree.proofs.LeafSteps.{found_leaf, new_leaf, one_more}
 use Rattle.branch_tree.proofs.leaves.full_leaf.Goals as goal
 
-pub whole_line-requires-2 : goal.whole_line-requires-2
-whole_line-requires-2 g c =
+pub whole_leaf-requires-2 : goal.whole_leaf-requires-2
+whole_leaf-requires-2 g c =
     let more = one_more c.args.task.now c.args.progress.now c.separate.new.progress c.in_ok-set.set c.in_ok-order.order.items c.in_ok-separate.ensures.at in
     omega (arith, more, c.len.ensures)
 

@@ -1,12 +1,14 @@
-use Rattle.std.proofs.Common.{ℕ, Option, sym, ap}
+use Rattle.std.proofs.Common.{◌≡◌, ℕ, Option, Some, None, refl, ◌∙◌}
+use Rattle.search_spec.specs.States.{State}
 use Rattle.search_spec.specs.Steps.{may_split}
+use Rattle.search_core.specs.Tasks.{allows_two}
 use Rattle.branch_tree.specs.Progressing.{state_of}
 use Rattle.branch_tree.proofs.progress.may_split.Goals as goal
 
-pub returns-in-None : goal.returns-in-None
+splits : (n : Option ℕ) (s : State) → allows_two n s.made ≡ may_split n s
 unfolding may_split
-returns-in-None c = ap (λ (n : Option ℕ). may_split n (state_of c.args.task.now.instance.now c.args.progress.now)) (sym c.in-None.is)
+splits None s = refl
+splits (Some n) s = refl
 
-pub returns-in-Some : goal.returns-in-Some
-unfolding may_split
-returns-in-Some c = ap (λ (n : Option ℕ). may_split n (state_of c.args.task.now.instance.now c.args.progress.now)) (sym c.in-Some.is)
+pub returns : goal.returns
+returns c = c.allows_two.ensures.is ∙ splits c.args.task.now.nodes (state_of c.args.task.now.instance.now c.args.progress.now)
