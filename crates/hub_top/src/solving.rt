@@ -23,7 +23,7 @@ use hub_io::{Gate, Shelf};
 use hub_model::Instance;
 use hub_words::{Making, Search, Source};
 use kept_cuts::Found;
-use par_separate::{Crew, separate, workers_for};
+use par_separate::{Crew, separate_sums, workers_for};
 use plan_model::HubSet;
 use price_passes::Adviser;
 use separators::Solo;
@@ -111,6 +111,6 @@ fn find<R: Threads + Sync, G: Gate>(
     >
         requires { IsSync R.row × IsSync G.row × IsHubSet i.now set × IsOrder i.now set order.now × (1 ≤ workers) × (workers ≤ 64) }
         ensures { IfOk result (λ c. (c.hubs ≡ set) × IsSumsOf i.entry.now (entry_of c order.entry.now)) }
-    { separate(rt, alloc, i, set, order, workers, gate) };
+    { separate_sums(rt, alloc, i, set, order, workers, gate) };
     search(alloc, instance, asked.nodes, &mut Crew { cut })
 }

@@ -1,2 +1,3 @@
 pub mod OriginZips
 pub mod AddedOrigins
+pub mod JoinedOrigins

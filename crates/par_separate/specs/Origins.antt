@@ -1,5 +1,8 @@
--- What an origin adds to the sums of a cut.
-use Rattle.std.specs.Prelude.{◌≡◌, ℕ, ◌<◌, length, slice_index}
+-- What an origin adds to a cut: its duals, and what these add to the sums.
+use Rattle.std.specs.Prelude.{◌≡◌, ℕ, ◌<◌, List, length, map, slice_index}
+use Rattle.std.specs.List.{range_with_len}
+use Rattle.hub_spec.specs.Cuts.{Prices}
+use Rattle.hub_spec.specs.Separation.{minimal_dual}
 use Rattle.pareto_cuts.specs.Separations.{SetSeparation, origin_total, origin_load}
 use Rattle.par_separate.specs.declared.origins.OriginSums.{OriginSums}
 
@@ -11,6 +14,11 @@ least_shared = 50
 pub record IsWhole (s : SetSeparation) : Type 0 where
   pub first : s.start ≡ 0
   pub all : s.legs.size ≡ s.problem.size
+
+-- the minimal duals of the commodities from i to each node, in order
+abbrev pub AreMinimalDualsFrom : SetSeparation → ℕ → List Prices → Type 0
+AreMinimalDualsFrom s i duals =
+    duals ≡ map (λ j. minimal_dual s.problem s.hubs s.order (i, j)) (range_with_len 0 s.problem.size)
 
 -- the sums of the minimal duals of all commodities from i
 pub record AreSumsFrom (s : SetSeparation) (i : ℕ) (sums : OriginSums) : Type 0 where

@@ -15,7 +15,7 @@ use std::alloc::{AllocError, Global};
 /// Separates by a closure, which may start threads.
 ///
 /// A search knows no threads, and what starts them is made where the program's handle is: there the closure calls
-/// `separate` by as many workers as `workers_for` says. It may be asked where the closure can be called at each set and
+/// `separate_sums` by as many workers as `workers_for` says. It may be asked where the closure can be called at each set and
 /// order, and what it answers has the sums of their cut.
 #[derive(Drop)]
 pub struct Crew<F: Drop> {

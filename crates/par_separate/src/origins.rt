@@ -16,13 +16,13 @@ pub struct OriginSums {
     pub loads: Vec<u128>,
 }
 
-/// The origins of a separation, as a crew's work: block i is origin i.
+/// The origins of a separation as a crew's work, for the sums of each: block i is origin i.
 #[derive(Drop)]
-pub(crate) struct Origins<'a> {
+pub(crate) struct SumsByOrigin<'a> {
     pub(crate) separation: &'a Separation<'a>,
 }
 
-impl<'a> Job<OriginSums> for Origins<'a> {
+impl<'a> Job<OriginSums> for SumsByOrigin<'a> {
     type Scratch = OriginScratch;
 
     ghost answer = { λ job i sums. AreSumsFrom job.separation.now i sums };

@@ -3,14 +3,16 @@
 ghost use Rattle.std.specs.Prelude.{◌≡◌, ◌≤◌, [], nat_lt, if◌then◌else◌, IfOk};
 ghost use Rattle.claim_board.specs.Places.{hand_of, IsSeatOf};
 ghost use Rattle.crew.specs.Crops.{IsCropOf};
-ghost use Rattle.par_separate.specs.Origins.{IsWhole, AreSumsFrom, least_shared};
+ghost use Rattle.par_separate.specs.Origins.{IsWhole, AreMinimalDualsFrom, AreSumsFrom, least_shared};
 
 use crate::OriginSums;
-use crate::origins::Origins;
+use crate::origin_duals::DualsByOrigin;
+use crate::origins::SumsByOrigin;
 use claim_board::{Board, Seat};
 use crew::Crop;
 use hub_io::Gate;
 use pareto_cuts::Separation;
+use plan_model::Dual;
 use std::alloc::{AllocError, Global};
 
 // The least number of nodes at which workers are worth their start.
@@ -27,12 +29,38 @@ pub fn workers_for(size: u32, workers: u32) -> u32
     if size < LEAST_SHARED { 1 } else { workers }
 }
 
-/// The work of one worker: draws origins until none is left, and adds up the duals of each. It passes the gate after
-/// each draw that gave it an origin, before the origin's duals.
+/// The work of one worker: draws origins until none is left, and makes the duals of each. It passes the gate after each
+/// draw that gave it an origin, before the origin's duals.
 ///
-/// The separation is to all nodes, and the board's blocks are its origins. The crop has the seat, ended, and the sums of
-/// the origins in the seat's list, in the list's order.
+/// The separation is to all nodes, and the board's blocks are its origins. The crop has the seat, ended, and the duals of
+/// the origins in the seat's list, in the list's order: for each origin those to each node in order.
 pub fn work<G: Gate>(
+    alloc: Global,
+    board: &Board,
+    seat: Seat,
+    separation: &Separation,
+    worker: u32,
+    gate: &G,
+) -> Result<Crop<Vec<Dual>>, AllocError>
+    requires seat { IsSeatOf board.now seat × ((hand_of seat).drawn ≡ []) }
+    requires origins { board.now.blocks ≤ separation.now.problem.size }
+    requires whole { IsWhole separation.now }
+    ensures { IfOk result (IsCropOf (λ i duals. AreMinimalDualsFrom separation.now i duals.items) board.now (hand_of seat).share) }
+{
+    crew::work(
+        alloc,
+        board,
+        seat,
+        &DualsByOrigin { separation },
+        worker,
+        gate,
+    )
+}
+
+/// The same for the sums alone: a worker keeps what an origin's duals add up to, and none of them.
+///
+/// The crop has the seat, ended, and the sums of the origins in the seat's list, in the list's order.
+pub fn work_on_sums<G: Gate>(
     alloc: Global,
     board: &Board,
     seat: Seat,
@@ -45,5 +73,12 @@ pub fn work<G: Gate>(
     requires whole { IsWhole separation.now }
     ensures { IfOk result (IsCropOf (AreSumsFrom separation.now) board.now (hand_of seat).share) }
 {
-    crew::work(alloc, board, seat, &Origins { separation }, worker, gate)
+    crew::work(
+        alloc,
+        board,
+        seat,
+        &SumsByOrigin { separation },
+        worker,
+        gate,
+    )
 }
