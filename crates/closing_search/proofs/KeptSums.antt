@@ -1,5 +1,5 @@
 -- The sums of kept cuts.
-use Rattle.std.proofs.Common.{◌≡◌, ℕ, suc, ◌+◌, ◌-◌, ◌<◌, ◌≤◌, ℤ, pos, List, [], ◌∷◌, ◌++◌, length, map, get_or, take, drop, slice_range, refl, sym, ap, ap₂, subst, ◌∙◌, arith}
+use Rattle.std.proofs.Common.{◌≡◌, ℕ, ◌+◌, ◌-◌, ◌<◌, ◌≤◌, ℤ, pos, List, [], ◌∷◌, ◌++◌, length, map, get_or, take, drop, slice_range, sym, ap, ap₂, subst, ◌∙◌, arith}
 use Rattle.std.proofs.Math.Seq.{drop-cons}
 use Rattle.std.proofs.lemmas.List.{length-map, get_or-map, map_push, take-map, drop-map}
 use Rattle.std.proofs.lemmas.List.Elements.{All-push, All-get_or}
@@ -9,6 +9,7 @@ use Rattle.hub_spec.specs.Cuts.{Cut, cut_by, total, load, IsCut}
 use Rattle.hub_spec.specs.Trees.{cut_at}
 use Rattle.kept_cuts.specs.Kept.{Kept, by_set, kept_cut, kept_cuts, IsKeptFor, KeptList, node_loads, AreKeptFor}
 use Rattle.kept_cuts.proofs.KeptCutLaws.{kept_is_cut}
+use Rattle.kept_cuts.proofs.NodeLoads.{loads_are}
 use Rattle.closing_search.specs.SingleCuts.{AreLoads, AreSumsOf}
 
 pub map-slice_range : {X Y : Type 0} (f : X → Y) (xs : List X) (a b : ℕ) → map f (slice_range xs a b) ≡ slice_range (map f xs) a b
@@ -18,20 +19,6 @@ pub one_item : {X : Type 0} (xs : List X) (i : ℕ) (d : X) → i < length xs �
 one_item xs i d low =
     let one : i + 1 - i ≡ 1 = omega arith in
     ap (λ (n : ℕ). take n (drop i xs)) one ∙ ap (take 1) (drop-cons xs i d low)
-
-pub same_lists : (xs ys : List ℕ) → length xs ≡ length ys → ((k : ℕ) → k < length xs → get_or xs k 0 ≡ get_or ys k 0) → xs ≡ ys
-same_lists [] [] long same = refl
-same_lists [] (y ∷ ys) long same = absurd (omega (arith, long))
-same_lists (x ∷ xs) [] long same = absurd (omega (arith, long))
-same_lists (x ∷ xs) (y ∷ ys) long same =
-    ap₂ (λ (z : ℕ) (zs : List ℕ). z ∷ zs) (same 0 (omega arith))
-    (same_lists xs ys (omega (arith, long)) (λ k low. same (suc k) (omega (arith, low))))
-
-pub loads_are : (p : Problem) (cut : Cut) (sum : ℕ) (loads : List ℕ) → AreLoads p cut sum loads → loads ≡ node_loads p.size cut
-loads_are p cut sum loads are =
-    same_lists loads (node_loads p.size cut) (are.long ∙ sym (length-map-range_with_len (load cut) 0 p.size))
-    (λ k low. let node : k < p.size = omega (arith, low, are.long) in
-    are.are_loads k node ∙ sym (get_or-map-range_with_len (load cut) 0 p.size k k 0 node (omega arith)))
 
 pub kept_at_number : (p : Problem) (k : KeptList) (c : ℕ) → IsProblem p → AreKeptFor p k → 1 ≤ c → c ≤ length k.cuts
     → AreSumsOf p (cut_at (kept_cuts p k.cuts) c) (slice_range (map pos k.totals) (c - 1) (c - 1 + 1))
@@ -74,6 +61,6 @@ kept_more p k l cut sum loads are fits sums is =
       fit = All-push (IsKeptFor p) k.cuts cut are.fit fits;
       are_totals = ap₂ (λ (xs : List ℕ) (x : ℕ). xs ++ x ∷ []) are.are_totals sums.is_total
           ∙ sym (ap (map total) (map_push (kept_cut p) k.cuts cut) ∙ map_push total (kept_cuts p k.cuts) (kept_cut p cut));
-      are_loads = ap₂ (λ (xs : List (List ℕ)) (x : List ℕ). xs ++ x ∷ []) are.are_loads (loads_are p (kept_cut p cut) sum loads sums)
+      are_loads = ap₂ (λ (xs : List (List ℕ)) (x : List ℕ). xs ++ x ∷ []) are.are_loads (loads_are p.size (kept_cut p cut) loads sums.long sums.are_loads)
           ∙ sym (ap (map (node_loads p.size)) (map_push (kept_cut p) k.cuts cut) ∙ map_push (node_loads p.size) (kept_cuts p k.cuts) (kept_cut p cut));
     })

@@ -3,4 +3,4 @@ pub mod KeptSums
 pub mod Steps
 pub mod Choices
 pub mod SetLeaves
-pub mod Networks
+pub mod Findings

@@ -1,9 +1,9 @@
 -- The bound of a branch by one cut alone, and by none.
-use Rattle.std.proofs.Common.{◌≡◌, ℕ, ◌+◌, ◌<◌, ◌≤◌, ℤ, pos, ◌≤ℤ◌, List, [], ◌∷◌, ◌++◌, length, map, take, get_or, All, Contains, refl, sym, ap, ap₂, subst, ◌∙◌, true≢false, arith}
+use Rattle.std.proofs.Common.{◌≡◌, ℕ, ◌+◌, ◌<◌, ◌≤◌, ℤ, pos, ◌≤ℤ◌, List, [], ◌∷◌, length, map, get_or, All, Contains, refl, sym, ap, subst, ◌∙◌, true≢false, arith}
 use Rattle.std.specs.List.{AllZip}
 use Rattle.std.specs.Int.{int_min}
 use Rattle.std.proofs.lemmas.Int.{ints, clamps}
-use Rattle.std.proofs.lemmas.List.{length-map, take_more, map-append}
+use Rattle.std.proofs.lemmas.List.{length-map}
 use Rattle.std.proofs.lemmas.List.Elements.{All-nil, All-cons, All-weaker, All-map, All-from_get_or, All-contains}
 use Rattle.hub_spec.specs.Limits.{most_cost, most_fixed_cost}
 use Rattle.hub_spec.specs.Sums.{sum_ints}
@@ -22,16 +22,8 @@ use Rattle.leaf_bound.specs.Numbers.{naturals, IsCost, AreWeightingNumbers, IsBr
 use Rattle.leaf_bound.specs.Theorems.{IsWeightingOf}
 use Rattle.leaf_bound.proofs.LeafWeights.{leaf_has_bound}
 use Rattle.search_spec.specs.States.{denominator}
-use Rattle.closing_search.specs.SingleCuts.{AreFixedCosts, AreLoads, AreSumsOf, cut_bound}
-
--- ---- fixed costs
-
-pub next_cost : (p : Problem) (k : ℕ) (costs : List ℤ) (z : ℤ) → k < length p.fixed_costs → z ≡ pos (fixed_cost p k)
-    → costs ≡ map pos (take k p.fixed_costs) → costs ++ z ∷ [] ≡ map pos (take (k + 1) p.fixed_costs)
-unfolding fixed_cost
-next_cost p k costs z low is so_far =
-    ap₂ (λ (xs : List ℤ) (x : ℤ). xs ++ x ∷ []) so_far is
-    ∙ sym (ap (map pos) (take_more p.fixed_costs k 0 low) ∙ map-append pos (take k p.fixed_costs) (get_or p.fixed_costs k 0 ∷ []))
+use Rattle.search_core.specs.Tasks.{AreFixedCosts}
+use Rattle.closing_search.specs.SingleCuts.{AreLoads, AreSumsOf, cut_bound}
 
 -- ---- the loads of a cut are within their limit, at each node
 

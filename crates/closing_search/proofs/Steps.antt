@@ -19,7 +19,7 @@ use Rattle.tree_walks.specs.Walks.{IsSoundLine, filled, Walks}
 use Rattle.tree_walks.proofs.Walking.{goes_on, stays}
 use Rattle.kept_cuts.specs.Kept.{Kept, kept_cut, IsKeptFor, AreKeptFor}
 use Rattle.kept_cuts.specs.Findings.{lines_of}
-use Rattle.closing_search.specs.declared.task.Task.{Task}
+use Rattle.search_core.specs.declared.tasks.Task.{Task}
 use Rattle.closing_search.specs.declared.progress.Progress.{Progress}
 use Rattle.closing_search.specs.SingleCuts.{AreLoads}
 use Rattle.closing_search.specs.Progressing.{cuts_of, target_of, WalksTo, IsGoing, IsAt, IsEndLine, IsDone, IsHalved, IsAdvised, IsOver}
@@ -56,13 +56,13 @@ spent_on None made more less spent = spent
 spent_on (Some most) made more less spent = omega (arith, less, spent)
 
 line_going : (t : Task) (before after : Progress) (line : model.TreeLine) (count : ℕ) → IsGoing t before → HasLine before after line count
-    → length before.lines.items < most_tree_lines → IsLineInRange t.instance.now.size (tree_line_of line) → before.made ≤ count
+    → length after.lines.items ≤ most_tree_lines → IsLineInRange t.instance.now.size (tree_line_of line) → before.made ≤ count
     → count ≤ before.made + 2 → AreWithin t.nodes count → IsGoing t after
 line_going t before after line count going has few in_range more less within = record {
   costs = going.costs;
   kept = subst (AreKeptFor t.instance.now) (sym has.cuts) going.kept;
   few_cuts = rw has.cuts going.few_cuts;
-  few_lines = omega (arith, few, line_more before after line count has);
+  few_lines = few;
   in_range = rw (has.lines, map_push tree_line_of before.lines.items line)
       (All-push (IsLineInRange t.instance.now.size) (lines_of before.lines.items) (tree_line_of line) going.in_range in_range);
   hubs = rw has.hubs going.hubs;
@@ -77,7 +77,7 @@ line_going t before after line count going has few in_range more less within = r
 
 pub line_done : (t : Task) (b : Branching) (before after : Progress) (line : model.TreeLine) → IsGoing t before → IsEndLine (tree_line_of line)
     → IsSoundLine t.instance.now (cuts_of t.instance.now before) (target_of before) b (tree_line_of line)
-    → IsLineInRange t.instance.now.size (tree_line_of line) → length before.lines.items < most_tree_lines
+    → IsLineInRange t.instance.now.size (tree_line_of line) → length after.lines.items ≤ most_tree_lines
     → HasLine before after line before.made → IsDone t b before after
 line_done t b before after line going end sound in_range few has =
     let p = t.instance.now in
@@ -92,7 +92,7 @@ line_done t b before after line going end sound in_range few has =
 
 pub line_halved : (t : Task) (b : Branching) (k : ℕ) (before after : Progress) (line : model.TreeLine) → IsGoing t before
     → tree_line_of line ≡ branch_on k → IsSoundLine t.instance.now (cuts_of t.instance.now before) (target_of before) b (branch_on k)
-    → k < t.instance.now.size → AreWithin t.nodes (before.made + 2) → length before.lines.items < most_tree_lines
+    → k < t.instance.now.size → AreWithin t.nodes (before.made + 2) → length after.lines.items ≤ most_tree_lines
     → HasLine before after line (before.made + 2) → IsHalved t b k before after
 line_halved t b k before after line going is sound node within few has =
     let p = t.instance.now in

@@ -11,9 +11,9 @@ use Rattle.search_spec.specs.Findings.{AreWithin, IsSpent, IsEnough}
 use Rattle.tree_walks.specs.Walks.{filled, Walks}
 use Rattle.kept_cuts.specs.Kept.{kept_cuts, AreKeptFor}
 use Rattle.kept_cuts.specs.Findings.{lines_of}
-use Rattle.closing_search.specs.declared.task.Task.{Task}
+use Rattle.search_core.specs.Tasks.{AreFixedCosts}
+use Rattle.search_core.specs.declared.tasks.Task.{Task}
 use Rattle.closing_search.specs.declared.progress.Progress.{Progress}
-use Rattle.closing_search.specs.SingleCuts.{AreFixedCosts}
 
 -- the cuts of a search
 abbrev pub cuts_of : Problem → Progress → List Cut

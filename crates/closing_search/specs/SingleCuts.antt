@@ -1,6 +1,6 @@
 -- One cut alone: its sums, and the bound of a branch by it.
 use Rattle.std.specs.Prelude.{◌≡◌, ℕ, ◌<◌, ◌≤◌, ℤ, pos, ◌≤ℤ◌, List, [], ◌∷◌, map, length, slice_index, Option, Some, None, IfSome}
-use Rattle.hub_spec.specs.Problem.{Problem, IsProblem}
+use Rattle.hub_spec.specs.Problem.{Problem}
 use Rattle.hub_spec.specs.Plans.{IsHubSet}
 use Rattle.hub_spec.specs.Cuts.{Cut, total, load, IsCut}
 use Rattle.hub_spec.specs.Separation.{IsOrder}
@@ -8,11 +8,6 @@ use Rattle.hub_spec.specs.Trees.{Branching, leaf_bound, Closes}
 use Rattle.search_spec.specs.States.{denominator, whole_on}
 use Rattle.closing_search.specs.declared.leaves.Choice.{Choice}
 use Rattle.closing_search.specs.declared.leaves.OrderedSet.{OrderedSet}
-
--- the fixed cost of each node of an instance
-pub record AreFixedCosts (p : Problem) (fixed : List ℤ) : Type 0 where
-  pub problem : IsProblem p
-  pub costs : fixed ≡ map pos p.fixed_costs
 
 -- the total of a cut of the problem, and its load of each node
 pub record AreLoads (p : Problem) (cut : Cut) (sum : ℕ) (loads : List ℕ) : Type 0 where

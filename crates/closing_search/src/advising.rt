@@ -14,12 +14,12 @@ use crate::guide::Guide;
 use crate::keeping::keep;
 use crate::leaves::{cut_leaf, stopped_leaf};
 use crate::progress::{Progress, may_split, offer, target};
-use crate::task::Task;
 use assign_sub::set_cost;
 use hub_model::{signed, unsigned};
 use hub_plain::is_hub_set;
 use plan_model::{Branch, HubSet};
 use search_advice::Advice;
+use search_core::Task;
 use std::alloc::{AllocError, Global};
 use std::thread::Threads;
 

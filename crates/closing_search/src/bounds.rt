@@ -7,21 +7,16 @@ ghost use Rattle.hub_spec.specs.Limits.{most_cost};
 ghost use Rattle.leaf_bound.specs.Weighing.{most_bound, IsWithin};
 ghost use Rattle.search_spec.specs.States.{denominator};
 ghost use Rattle.closing_search.specs.Progressing.{cuts_of, IsGoing};
-ghost use Rattle.closing_search.specs.SingleCuts.{AreSumsOf, AreLoads, cut_bound, ClosesBy, AreFixedCosts};
+ghost use Rattle.closing_search.specs.SingleCuts.{AreSumsOf, AreLoads, cut_bound, ClosesBy};
+ghost use Rattle.search_core.specs.Tasks.{AreFixedCosts};
 
 use crate::progress::Progress;
-use crate::task::Task;
 use hub_model::signed;
 use plan_model::Branch;
+use search_core::{Task, WHOLE_WEIGHT};
 use std::alloc::{AllocError, Global};
 
-/// The denominator of every leaf.
-pub(crate) const DENOMINATOR: u128 = 1_000_000;
-
-// The whole weight.
-const WHOLE: i128 = 1_000_000;
-
-/// The bound of the branch by the cut of this total and these loads alone, in 10^-12 times the denominator.
+/// The bound of the branch by the cut of this total and these loads alone, in 10^-12 times the whole weight.
 pub(crate) fn single_bound(
     task: &Task,
     branch: &Branch,
@@ -35,7 +30,8 @@ pub(crate) fn single_bound(
         → result ≡ cut_bound task.now.instance.now cut branch.now }
     ensures limit { IsWithin most_bound result }
 {
-    leaf_bound::bound(totals, loads, &task.fixed, &[WHOLE], WHOLE, branch)
+    let whole = WHOLE_WEIGHT as i128;
+    leaf_bound::bound(totals, loads, &task.fixed, &[whole], whole, branch)
 }
 
 /// The bound of the branch by no cut.
@@ -45,7 +41,7 @@ pub(crate) fn bare_bound(task: &Task, branch: &Branch) -> i128
     ensures bound { result ≡ leaf_bound task.now.instance.now [] denominator [] branch.now }
     ensures limit { IsWithin most_bound result }
 {
-    leaf_bound::bound(&[], &[], &task.fixed, &[], WHOLE, branch)
+    leaf_bound::bound(&[], &[], &task.fixed, &[], WHOLE_WEIGHT as i128, branch)
 }
 
 /// The bound of the branch by the kept cut of this number alone.
@@ -90,7 +86,7 @@ pub(crate) fn is_above(bound: i128, target: u128) -> bool
     requires target { target ≤ most_cost }
     ensures { IsTrue result → Closes denominator target bound }
 {
-    bound > leaf_bound::threshold(WHOLE, signed(target))
+    bound > leaf_bound::threshold(WHOLE_WEIGHT as i128, signed(target))
 }
 
 // The same amounts, signed.

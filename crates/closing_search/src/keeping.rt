@@ -7,9 +7,9 @@ ghost use Rattle.closing_search.specs.SingleCuts.{AreLoads};
 ghost use Rattle.closing_search.specs.Progressing.{cuts_of, IsGoing, IsAt};
 
 use crate::progress::Progress;
-use crate::task::Task;
 use hub_model::MOST_CUTS;
 use kept_cuts::KeptCut;
+use search_core::Task;
 use std::alloc::{AllocError, Global};
 
 /// Keeps the cut of these sums, and gives its number.

@@ -7,20 +7,19 @@ ghost use Rattle.hub_spec.specs.Plans.{IsHubSet, IsSetCost};
 ghost use Rattle.hub_spec.specs.Trees.{IsBranch, leaf_of, leaf_bound, cut_at};
 ghost use Rattle.plan_model.specs.Lines.{tree_line_of};
 ghost use Rattle.leaf_bound.specs.Weighing.{most_bound, IsWithin};
-ghost use Rattle.search_spec.specs.States.{denominator, whole_on, rounded_up};
+ghost use Rattle.search_spec.specs.States.{denominator};
 ghost use Rattle.search_spec.specs.Findings.{IsSpent};
 ghost use Rattle.closing_search.specs.Progressing.{cuts_of, target_of, IsGoing, IsAt, IsDone};
 ghost use Rattle.closing_search.specs.SingleCuts.{ClosesBy, weights_on, IsChoice, IsOrderedSet};
 
 use crate::bench::Bench;
-use crate::bounds::{DENOMINATOR, bare_bound, is_above, kept_bound};
+use crate::bounds::{bare_bound, is_above, kept_bound};
 use crate::keeping::keep;
-use crate::progress::{Progress, end_with, lesser, offer, target};
-use crate::task::Task;
-use hub_model::unsigned;
+use crate::progress::{Progress, end_with, offer, target};
 use hub_plain::outside;
 use kept_cuts::KeptCut;
 use plan_model::{Branch, HubSet, Mix, TreeLine};
+use search_core::{Task, WHOLE_WEIGHT, lesser, rounded_up, whole_leaf};
 use std::alloc::{AllocError, Global};
 
 /// So many of the newest kept cuts are tried at a branch before advice is asked for.
@@ -41,7 +40,7 @@ pub(crate) fn cut_leaf(
         ClosesBy p (cut_at (cuts_of p progress.old) number) (target_of progress.old) branch.now }
     ensures { OnOk result (IsDone task.now branch.now progress.old progress.new) }
 {
-    let line = whole_line(alloc, number)?;
+    let line = whole_leaf(alloc, number)?;
     end_with(task, branch, line, progress)
 }
 
@@ -51,20 +50,9 @@ fn leaf_line(alloc: Global, number: Option<u64>) -> Result<TreeLine, AllocError>
     ensures { IfOk result (λ line. tree_line_of line ≡ leaf_of denominator (weights_on number)) }
 {
     match number {
-        None => Ok(TreeLine::Leaf(Mix::new(DENOMINATOR as i128, Vec::new(alloc)))),
-        Some(number) => whole_line(alloc, number),
+        None => Ok(TreeLine::Leaf(Mix::new(WHOLE_WEIGHT as i128, Vec::new(alloc)))),
+        Some(number) => whole_leaf(alloc, number),
     }
-}
-
-// The leaf with the whole weight on the cut of this number.
-fn whole_line(alloc: Global, number: u64) -> Result<TreeLine, AllocError>
-    requires { 1 ≤ number }
-    ensures { IfOk result (λ line. tree_line_of line ≡ leaf_of denominator (whole_on number)) }
-{
-    let whole = DENOMINATOR as i128;
-    let mut weights = Vec::new(alloc);
-    weights.push((number as i128, whole))?;
-    Ok(TreeLine::Leaf(Mix::new(whole, weights)))
 }
 
 /// The number of a kept cut that closes the target in the branch, alone, if one of the newest does.
@@ -151,7 +139,7 @@ fn offer_inside(
 }
 
 /// The kept cut with the best bound in a branch, if it is better than that of no cut, and the bound, in 10^-12 times the
-/// denominator.
+/// whole weight.
 #[derive(Clone, Copy)]
 pub(crate) struct Choice {
     pub(crate) number: Option<u64>,
@@ -207,15 +195,4 @@ pub(crate) fn stopped_leaf(
     let line = leaf_line(alloc, choice.number)?;
     progress.stop = Some(lesser(rounded_up(choice.bound), progress.stop));
     end_with(task, branch, line, progress)
-}
-
-// The bound, in 10^-12 times the denominator, in 10^-12 and rounded up; 0 for one below 0.
-fn rounded_up(bound: i128) -> u128
-    requires { IsWithin most_bound bound }
-    ensures { result ≡ rounded_up bound }
-{
-    if bound < 0 {
-        return 0;
-    }
-    unsigned(bound).div_ceil(DENOMINATOR)
 }

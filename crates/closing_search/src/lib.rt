@@ -21,7 +21,6 @@ mod keeping;
 mod leaves;
 mod optimizing;
 mod progress;
-mod task;
 mod walking;
 
 pub use optimizing::optimize;

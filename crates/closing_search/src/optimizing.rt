@@ -1,23 +1,24 @@
 //! The whole search.
 
-ghost use Rattle.std.specs.Prelude.{◌≡◌, ℕ, ◌+◌, ◌^◌, ◌≤◌, ◌<◌, [], ◌∷◌, length, map, pos, None, IsNone, IfOk, OnOk};
+ghost use Rattle.std.specs.Prelude.{◌≡◌, ℕ, ◌+◌, ◌^◌, ◌≤◌, ◌<◌, [], ◌∷◌, length, None, IsNone, IfOk, OnOk};
 ghost use Rattle.std.specs.List.{AllZip};
 ghost use Rattle.hub_spec.specs.Problem.{commodities};
 ghost use Rattle.hub_spec.specs.Plans.{IsSetCost, IsLeastRoute, NoPlanBelow};
 ghost use Rattle.hub_spec.specs.Trees.{root};
 ghost use Rattle.search_spec.specs.Findings.{AreWithin, IsSpent, IsEnough};
 ghost use Rattle.kept_cuts.specs.Findings.{IsProved};
+ghost use Rattle.search_core.specs.Tasks.{AreFixedCosts};
 ghost use Rattle.closing_search.specs.Progressing.{IsGoing, IsDone, IsOver};
 
 use crate::desk::Desk;
 use crate::progress::{Progress, target};
-use crate::task::{Task, fixed_costs};
 use crate::walking::node;
 use assign_sub::{assign, set_cost};
 use hub_model::{Instance, unsigned};
 use kept_cuts::{Found, KeptCuts};
 use plan_model::{Branch, HubSet, Plan};
 use search_advice::Advice;
+use search_core::Task;
 use std::alloc::{AllocError, Global};
 use std::thread::Threads;
 
@@ -51,12 +52,7 @@ pub fn optimize<R: Threads + Sync, A: Advice + Drop>(
     ensures enough { IsEnough (2 ^ (length instance.now.candidates + 1)) nodes → IfOk result (λ found. found.bound ≡ found.cost) }
     ensures whole { nodes ≡ None → IfOk result (λ found. found.bound ≡ found.cost) }
 {
-    let fixed = fixed_costs(alloc, instance)?;
-    let task = Task {
-        instance,
-        fixed,
-        nodes,
-    };
+    let task = Task::new(alloc, instance, nodes)?;
     let mut progress = begin(alloc, &task)?;
     fill_tree(rt, alloc, &task, advice, &mut progress)?;
     finish(alloc, &task, progress)
@@ -95,7 +91,7 @@ fn walk<R: Threads + Sync, A: Advice + Drop>(
 
 // No cut and no line, with the set of all candidates as the first incumbent.
 fn begin(alloc: Global, task: &Task) -> Result<Progress, AllocError>
-    requires { task.now.fixed.items ≡ map pos task.now.instance.now.fixed_costs }
+    requires { AreFixedCosts task.now.instance.now task.now.fixed.items }
     ensures going { IfOk result (IsGoing task.now) }
     ensures no_line { IfOk result (λ s. s.lines.items ≡ []) }
     ensures one_node { IfOk result (λ s. s.made ≡ 1) }

@@ -5,15 +5,13 @@ ghost use Rattle.hub_spec.specs.Plans.{IsHubSet, IsSetCost};
 ghost use Rattle.hub_spec.specs.Trees.{IsBranch};
 ghost use Rattle.hub_spec.specs.Ranges.{IsLineInRange};
 ghost use Rattle.plan_model.specs.Lines.{tree_line_of};
-ghost use Rattle.search_spec.specs.States.{lesser};
 ghost use Rattle.search_spec.specs.Findings.{AreWithin, IsSpent};
 ghost use Rattle.tree_walks.specs.Walks.{IsSoundLine};
 ghost use Rattle.closing_search.specs.Progressing.{cuts_of, target_of, IsGoing, IsAt, IsDone, IsHalved, IsEndLine};
 
-use crate::task::Task;
-use hub_model::MOST_TREE_LINES;
 use kept_cuts::KeptCuts;
 use plan_model::{Branch, HubSet, TreeLine};
+use search_core::{Task, add_line, lesser};
 use std::alloc::AllocError;
 
 /// The cuts and the lines of the tree, the incumbent with its cost, the nodes made, and after a stop the least that a
@@ -26,16 +24,6 @@ pub(crate) struct Progress {
     pub(crate) cost: u128,
     pub(crate) made: u64,
     pub(crate) stop: Option<u128>,
-}
-
-/// The lesser of a number and another, if there is another.
-pub(crate) fn lesser(number: u128, other: Option<u128>) -> u128
-    ensures { result ≡ lesser number other }
-{
-    match other {
-        None => number,
-        Some(other) => number.min(other),
-    }
 }
 
 /// What a leaf is to close, in 10^-12: the incumbent's cost, or the least of it and of what a stop left.
@@ -58,10 +46,7 @@ pub(crate) fn end_with(
     requires in_range { IsLineInRange task.now.instance.now.size (tree_line_of line) }
     ensures { OnOk result (IsDone task.now branch.now progress.old progress.new) }
 {
-    if progress.lines.len() >= MOST_TREE_LINES {
-        return Err(AllocError);
-    }
-    progress.lines.push(line)?;
+    add_line(&mut progress.lines, line)?;
     Ok(())
 }
 
@@ -78,10 +63,7 @@ pub(crate) fn split_on(
     requires allowed { AreWithin task.now.nodes (progress.old.made + 2) }
     ensures { OnOk result (IsHalved task.now branch.now k progress.old progress.new) }
 {
-    if progress.lines.len() >= MOST_TREE_LINES {
-        return Err(AllocError);
-    }
-    progress.lines.push(TreeLine::BranchOn(k))?;
+    add_line(&mut progress.lines, TreeLine::BranchOn(k))?;
     progress.made += 2;
     Ok(())
 }
@@ -92,10 +74,7 @@ pub(crate) fn may_split(task: &Task, progress: &Progress) -> bool
     ensures may { IsTrue result → AreWithin task.now.nodes (progress.now.made + 2) }
     ensures spent { result ≡ false → IsSpent task.now.nodes progress.now.made }
 {
-    match task.nodes {
-        None => true,
-        Some(most) => progress.made + 2 <= most,
-    }
+    task.allows_two(progress.made)
 }
 
 /// Makes the set the incumbent, if it costs less.

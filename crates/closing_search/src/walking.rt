@@ -9,9 +9,9 @@ use crate::advising::{branch_node, end_by_advice};
 use crate::desk::Desk;
 use crate::leaves::{closing_cut, cut_leaf, set_leaf, stopped_leaf};
 use crate::progress::{Progress, end_with, split_on};
-use crate::task::Task;
 use plan_model::{Branch, TreeLine};
 use search_advice::Advice;
+use search_core::Task;
 use std::alloc::{AllocError, Global};
 use std::thread::Threads;
 

@@ -1,13 +1,13 @@
 use Rattle.std.proofs.Common.{◌≡◌, List, refl, ap, ◌∙◌, rules}
 use Rattle.std.specs.Prelude.{ℕ}
 use Rattle.hub_spec.specs.Plans.{Plan}
-use Rattle.kept_cuts.specs.declared.found.Found.{Found as Network}
-use Rattle.closing_search.proofs.Networks.{IsFoundOf, found_of, found_proved, found_at_most, found_within, found_below, found_most, found_allowed, found_spent, found_enough, found_whole}
+use Rattle.kept_cuts.specs.declared.found.Found.{Found}
+use Rattle.closing_search.proofs.Findings.{IsFoundOf, found_of, found_proved, found_at_most, found_within, found_below, found_most, found_allowed, found_spent, found_enough, found_whole}
 use Rattle.closing_search.proofs.optimizing.finish.Goals as goal
 use Rattle.closing_search.proofs.optimizing.finish.Goals.{After-drop-progress-2}
 
-abbrev network : After-drop-progress-2 → Network
-network c = record {
+abbrev finding : After-drop-progress-2 → Found
+finding c = record {
   cost = c.args.progress.cost;
   bound = c.target.result;
   plan = c.new.result;
@@ -15,41 +15,41 @@ network c = record {
   tree = c.args.progress.lines;
 }
 
-is_found : (c : After-drop-progress-2) → IsFoundOf c.args.task.now c.args.progress (network c)
+is_found : (c : After-drop-progress-2) → IsFoundOf c.args.task.now c.args.progress (finding c)
 is_found c =
     let s = c.args.progress in
     let routes = c.in_ok-assignment.assignment.routes.items in
     let taken : c.in_ok-hubs.hubs.items ≡ c.members.result.now = search rules in
-    found_of c.args.task.now s (network c) routes refl c.target.ensures
+    found_of c.args.task.now s (finding c) routes refl c.target.ensures
     (c.new.ensures ∙ ap (λ (hs : List ℕ). let x : Plan = record { hubs = hs; routes = routes } in x) (taken ∙ c.members.ensures.value))
     c.in_ok-assignment.ensures.routes refl refl
 
 pub returns-clause-proved : goal.returns-clause-proved
-returns-clause-proved c = found_proved c.args.task.now c.args.progress (network c) c.requires (is_found c)
+returns-clause-proved c = found_proved c.args.task.now c.args.progress (finding c) c.requires (is_found c)
 
 pub returns-clause-routes : goal.returns-clause-routes
 returns-clause-routes c = (is_found c).routes
 
 pub returns-clause-at_most : goal.returns-clause-at_most
-returns-clause-at_most c = found_at_most c.args.task.now c.args.progress (network c) c.requires (is_found c)
+returns-clause-at_most c = found_at_most c.args.task.now c.args.progress (finding c) c.requires (is_found c)
 
 pub returns-clause-within : goal.returns-clause-within
-returns-clause-within c = found_within c.args.task.now c.args.progress (network c) c.requires (is_found c)
+returns-clause-within c = found_within c.args.task.now c.args.progress (finding c) c.requires (is_found c)
 
 pub returns-clause-below : goal.returns-clause-below
-returns-clause-below c = found_below c.args.task.now c.args.progress (network c) c.requires (is_found c)
+returns-clause-below c = found_below c.args.task.now c.args.progress (finding c) c.requires (is_found c)
 
 pub returns-clause-most : goal.returns-clause-most
-returns-clause-most c = found_most c.args.task.now c.args.progress (network c) c.requires (is_found c)
+returns-clause-most c = found_most c.args.task.now c.args.progress (finding c) c.requires (is_found c)
 
 pub returns-clause-allowed : goal.returns-clause-allowed
-returns-clause-allowed c = found_allowed c.args.task.now c.args.progress (network c) c.requires (is_found c)
+returns-clause-allowed c = found_allowed c.args.task.now c.args.progress (finding c) c.requires (is_found c)
 
 pub returns-clause-spent : goal.returns-clause-spent
-returns-clause-spent c = found_spent c.args.task.now c.args.progress (network c) c.requires (is_found c)
+returns-clause-spent c = found_spent c.args.task.now c.args.progress (finding c) c.requires (is_found c)
 
 pub returns-clause-enough : goal.returns-clause-enough
-returns-clause-enough c enough = found_enough c.args.task.now c.args.progress (network c) c.requires (is_found c) enough
+returns-clause-enough c enough = found_enough c.args.task.now c.args.progress (finding c) c.requires (is_found c) enough
 
 pub returns-clause-whole : goal.returns-clause-whole
-returns-clause-whole c none = found_whole c.args.task.now c.args.progress (network c) c.requires (is_found c) none
+returns-clause-whole c none = found_whole c.args.task.now c.args.progress (finding c) c.requires (is_found c) none

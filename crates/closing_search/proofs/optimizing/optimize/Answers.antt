@@ -1,3 +1,7 @@
+use Rattle.std.proofs.Common.{◌≤◌, subst}
+use Rattle.std.specs.Prelude.{ℕ, IfOk}
+use Rattle.hub_spec.specs.Problem.{Problem}
+use Rattle.hub_spec.specs.Plans.{IsSetCost, NoPlanBelow}
 use Rattle.closing_search.proofs.Steps.{is_over}
 use Rattle.closing_search.proofs.optimizing.optimize.Goals as goal
 
@@ -5,3 +9,12 @@ pub finish-requires : goal.finish-requires
 finish-requires g c =
     is_over _ c.in_ok-progress.progress c.fill_tree.new.progress c.in_ok-progress.ensures.no_line c.in_ok-progress.ensures.one_node
     c.in_ok-progress.ensures.no_stop c.in_ok-fill_tree.ensures
+
+pub returns-clause-at_most : goal.returns-clause-at_most
+returns-clause-at_most g c =
+    subst (λ (p : Problem). IfOk c.finish.result (λ found. (cost : ℕ) → IsSetCost p p.candidates cost → found.cost ≤ cost))
+    c.in_ok-task.ensures.instance c.finish.ensures.at_most
+
+pub returns-clause-below : goal.returns-clause-below
+returns-clause-below g c =
+    subst (λ (p : Problem). IfOk c.finish.result (λ found. NoPlanBelow p found.bound)) c.in_ok-task.ensures.instance c.finish.ensures.below

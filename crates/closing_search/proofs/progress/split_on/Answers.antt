@@ -1,4 +1,4 @@
-use Rattle.std.proofs.Common.{refl, arith}
+use Rattle.std.proofs.Common.{refl}
 use Rattle.std.proofs.lemmas.List.Elements.{All-contains}
 use Rattle.std.specs.Prelude.{Contains}
 use Rattle.hub_spec.proofs.Mixes.{candidate_is_node}
@@ -14,5 +14,5 @@ returns c =
     line_halved c.args.task.now b k c.args.progress.now _ _ going refl c.requires.free
     (candidate_is_node p k going.costs.problem (All-contains (Contains p.candidates) b.free k c.requires.branch.free_are c.requires.free))
     c.requires.allowed
-    (omega (arith, c.len.ensures, c.if-len-ge-MOST_TREE_LINES.false))
-    (record { cuts = refl; lines = c.in_ok-push.ensures.items; hubs = refl; cost = refl; made = refl; stop = refl })
+    c.in_ok-add_line.ensures.few
+    (record { cuts = refl; lines = c.in_ok-add_line.ensures.added; hubs = refl; cost = refl; made = refl; stop = refl })

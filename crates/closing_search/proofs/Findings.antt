@@ -23,15 +23,16 @@ use Rattle.search_spec.proofs.Invariants.{lesser_least}
 use Rattle.tree_walks.specs.Walks.{Walks}
 use Rattle.tree_walks.proofs.Walking.{is_tree}
 use Rattle.kept_cuts.specs.Kept.{Kept, kept_cut, kept_cuts, IsKeptFor}
-use Rattle.kept_cuts.specs.declared.found.Found.{Found as Network}
+use Rattle.kept_cuts.specs.declared.found.Found.{Found}
 use Rattle.kept_cuts.specs.Findings.{lines_of, proof_of, IsProved}
 use Rattle.kept_cuts.proofs.KeptCutLaws.{kept_is_cut, kept_in_range}
-use Rattle.closing_search.specs.declared.task.Task.{Task}
+use Rattle.search_core.specs.Tasks.{AreFixedCosts}
+use Rattle.search_core.specs.declared.tasks.Task.{Task}
 use Rattle.closing_search.specs.declared.progress.Progress.{Progress}
 use Rattle.closing_search.specs.Progressing.{target_of, IsGoing, IsOver}
 
--- the network is what the search has at its end, with the least routes of the incumbent
-pub record IsFoundOf (t : Task) (s : Progress) (found : Network) : Type 0 where
+-- the finding is what the search has at its end, with the least routes of the incumbent
+pub record IsFoundOf (t : Task) (s : Progress) (found : Found) : Type 0 where
   pub cost : found.cost ≡ s.cost
   pub bound : found.bound ≡ target_of s
   pub hubs : found.plan.hubs ≡ s.hubs
@@ -40,12 +41,12 @@ pub record IsFoundOf (t : Task) (s : Progress) (found : Network) : Type 0 where
   pub lines : found.tree.items ≡ s.lines.items
 
 -- its tree
-record HasTree (p : Problem) (found : Network) : Type 0 where
+record HasTree (p : Problem) (found : Found) : Type 0 where
   tree : Tree
   lines : preorder tree ≡ lines_of found.tree.items
   sound : IsSound p (kept_cuts p found.cuts.cuts) found.bound (root p) tree
 
-found_tree : (t : Task) (s : Progress) (found : Network) → IsOver t s → IsFoundOf t s found → HasTree t.instance.now found
+found_tree : (t : Task) (s : Progress) (found : Found) → IsOver t s → IsFoundOf t s found → HasTree t.instance.now found
 found_tree t s found over is =
     let p = t.instance.now in
     let walk : Walks p (kept_cuts p found.cuts.cuts) found.bound (root p ∷ []) (lines_of found.tree.items) [] =
@@ -53,7 +54,7 @@ found_tree t s found over is =
     let tree = is_tree p (kept_cuts p found.cuts.cuts) found.bound (root p) (lines_of found.tree.items) walk in
     record { tree = tree.0; lines = tree.1; sound = tree.2 }
 
-module _ (t : Task) (s : Progress) (found : Network) (over : IsOver t s) (is : IsFoundOf t s found) where
+module _ (t : Task) (s : Progress) (found : Found) (over : IsOver t s) (is : IsFoundOf t s found) where
   found_set : IsHubSet t.instance.now found.plan.hubs
   found_set = subst (IsHubSet t.instance.now) (sym is.hubs) over.going.hubs
 
@@ -185,13 +186,14 @@ no_stop : (o : Option ℕ) (n : Option ℕ) (made : ℕ) → o ≡ None → IsSo
 no_stop None n made none some = absurd (true≢false (sym some))
 no_stop (Some m) n made none some = absurd (true≢false (ap is_some none))
 
-pub begun_going : (t : Task) (s : Progress) → IsProblem t.instance.now → t.fixed.items ≡ map pos t.instance.now.fixed_costs
+pub begun_going : (t : Task) (s : Progress) → AreFixedCosts t.instance.now t.fixed.items
     → s.cuts ≡ record { cuts = []; totals = []; loads = [] } → s.lines.items ≡ [] → s.hubs ≡ t.instance.now.candidates
     → IsSetCost t.instance.now s.hubs s.cost → s.made ≡ 1 → s.stop ≡ None → IsGoing t s
-begun_going t s ok costs cuts lines hubs is_cost made stop =
+begun_going t s costs cuts lines hubs is_cost made stop =
     let p = t.instance.now in
+    let ok = costs.problem in
     record {
-      costs = record { problem = ok; costs = costs };
+      costs = costs;
       kept = rw cuts (record { fit = All-nil (IsKeptFor p); are_totals = refl; are_loads = refl });
       few_cuts = rw cuts (omega arith);
       few_lines = rw lines (omega arith);
@@ -207,7 +209,7 @@ begun_going t s ok costs cuts lines hubs is_cost made stop =
 
 -- ---- the end
 
-pub found_of : (t : Task) (s : Progress) (found : Network) (routes : List (ℕ × ℕ)) → found.cost ≡ s.cost → found.bound ≡ target_of s
+pub found_of : (t : Task) (s : Progress) (found : Found) (routes : List (ℕ × ℕ)) → found.cost ≡ s.cost → found.bound ≡ target_of s
     → found.plan ≡ record { hubs = s.hubs; routes = routes } → AllZip (IsLeastRoute t.instance.now s.hubs) (commodities t.instance.now.size) routes
     → found.cuts ≡ s.cuts → found.tree.items ≡ s.lines.items → IsFoundOf t s found
 found_of t s found routes cost bound plan least cuts lines =
