@@ -69,5 +69,12 @@ fn put_finding<K: Sink>(size: u32, found: &Found, sink: &mut K) -> Result<(), Fa
 {
     let nodes = found.tree.len() as u64;
     let hubs = found.plan.hubs();
-    put_demo(size, signed(found.cost), signed(found.bound), hubs, nodes, sink)
+    put_demo(
+        size,
+        signed(found.cost),
+        signed(found.bound),
+        hubs,
+        nodes,
+        sink,
+    )
 }

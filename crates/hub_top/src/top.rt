@@ -106,8 +106,7 @@ fn answer<R: Threads + Sync, S: Shelf, G: Gate>(
 {
     match command {
         Command::Solve(solving) => {
-            let (instance, found) =
-                solve(rt, alloc, &solving.source, solving.search, shelf, gate)?;
+            let (instance, found) = solve(rt, alloc, &solving.source, solving.search, shelf, gate)?;
             Ok(Intended::Found(instance, found))
         }
         Command::Optimize(solving) => {

@@ -37,5 +37,5 @@ returns-clause-cut c =
     let kept = kept_of c.args.kept.now in
     let square : c.loop-i.i * p.size ≡ p.size * p.size = ap (λ (m : ℕ). m * p.size) (omega arith) in
     let whole = subst (λ (cs : List (ℕ × ℕ)). AreDualsOf (kept_dual p kept) cs c.loop-i.duals.items)
-        (take_all (c.loop-i.i * p.size) (commodities p.size) (omega (arith, square, length_commodities p.size))) c.loop-i.invariant.duals in
+    (take_all (c.loop-i.i * p.size) (commodities p.size) (omega (arith, square, length_commodities p.size))) c.loop-i.invariant.duals in
     ap cut_by (duals_are (kept_dual p kept) (commodities p.size) c.loop-i.duals.items whole) ∙ sym (kept_cut_is p kept)
