@@ -1,13 +1,13 @@
 -- The items that begin a cut, or count the lines of the tree, in the lines of the bytes that give them.
-use Rattle.std.proofs.Common.{◌≡◌, ℕ, ◌+◌, ◌-◌, ◌<◌, ◌≤◌, List, [], ◌∷◌, ◌++◌, length, take, drop, flat_map, ◌⊎◌, inl, inr, ⊎_elim, refl, sym, ap, subst, ◌∙◌, append_assoc, length-append, lt_of_not-le, arith}
+use Rattle.std.proofs.Common.{◌≡◌, ℕ, ◌+◌, ◌<◌, ◌≤◌, List, [], ◌∷◌, ◌++◌, length, take, drop, flat_map, ⊎_elim, refl, sym, ap, subst, ◌∙◌, append_assoc, length-append, lt_of_not-le, arith}
 use Rattle.std.specs.Prelude.{All, Contains}
 use Rattle.std.proofs.lemmas.List.{take_at, take-append-le, take-append-drop, drop_more}
 use Rattle.std.proofs.lemmas.List.Concat.{flat_map-append}
 use Rattle.std.proofs.lemmas.List.Elements.{All-head, All-tail, All-contains, Contains-append_left, Contains-append_right, Contains-push}
 use Rattle.cert_spec.specs.Lines.{Item as Line, says_cut, says_nodes}
 use Rattle.cert_spec.specs.Text.{line_bytes}
-use Rattle.cert_spec.specs.Grammar.{Stage, want_version, Wants, after, Leads}
-use Rattle.cert_scan.specs.Scans.{new_scan, scanned, given_all}
+use Rattle.cert_spec.specs.Grammar.{Stage, want_version, after, Leads}
+use Rattle.cert_scan.specs.Scans.{new_scan, scanned}
 use Rattle.cert_scan.specs.Parts.{parts_of}
 use Rattle.cert_scan.specs.declared.items.Item.{Item}
 use Rattle.cert_scan.specs.declared.items.Item.TheVariants.{Cut, Nodes}
@@ -16,7 +16,7 @@ use Rattle.cert_scan.proofs.StagesAt.{stage_at}
 use Rattle.cert_scan.proofs.Tracks.{scanned_tracks}
 use Rattle.cert_scan.proofs.OnTime.{lines_give}
 use Rattle.cert_stream.specs.Steps.{IsCut}
-use Rattle.cert_stream.specs.Fed.{BeginsCut, HasLine, EndsCutLine, HasTreeCount}
+use Rattle.cert_stream.specs.Fed.{BeginsCut, EndsCutLine, HasTreeCount}
 use Rattle.cert_stream.proofs.Refusing.{items_in, items_behind, CountsTree, IsNoCut, begun_no_cut, cut_or_none}
 
 -- ---- an item that begins a cut, among those of lines
@@ -113,8 +113,14 @@ ends_behind bytes piece front number stage given rest lead before text =
     ap items_in bytes_are ∙ items_of_lines (front ++ says_cut number ∷ []) stage behind lead in
     let parts : flat_map parts_of (front ++ says_cut number ∷ []) ≡ (items_in bytes ++ given) ++ Cut number ∷ [] =
     flat_map-append parts_of front (says_cut number ∷ []) ∙ ap (λ g. g ++ Cut number ∷ []) before in
-    omega (arith, ap length items, length-append (flat_map parts_of (front ++ says_cut number ∷ [])) (items_behind (flat_map line_bytes (front ++ says_cut number ∷ [])) behind),
-    ap length parts, length-append (items_in bytes ++ given) (Cut number ∷ []), length-append (items_in bytes) given)))
+    omega (
+      arith,
+      ap length items,
+      length-append (flat_map parts_of (front ++ says_cut number ∷ [])) (items_behind (flat_map line_bytes (front ++ says_cut number ∷ [])) behind),
+      ap length parts,
+      length-append (items_in bytes ++ given) (Cut number ∷ []),
+      length-append (items_in bytes) given,
+    )))
 
 contains_split : (xs : List Item) (x : Item) (c : Contains xs x) → xs ≡ take c.0 xs ++ x ∷ drop (c.0 + 1) xs
 contains_split xs x c = sym (take-append-drop c.0 xs) ∙ ap (λ l. take c.0 xs ++ l) (drop_more xs c.0 x c.1 ∙ ap (λ y. y ∷ drop (c.0 + 1) xs) c.2)
