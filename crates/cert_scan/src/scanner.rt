@@ -1,5 +1,5 @@
 //! A scan of the bytes of a text.
-ghost use Rattle.std.specs.Prelude.{◌≡◌, ℕ, ◌++◌, ◌≤◌, List, [], ◌∷◌, length, take, None, IfSome, option_to_list};
+ghost use Rattle.std.specs.Prelude.{◌≡◌, ℕ, ◌-◌, ◌++◌, ◌≤◌, List, [], ◌∷◌, length, take, None, IfSome, option_to_list};
 ghost use Rattle.hub_spec.specs.Certificates.{Proof};
 ghost use Rattle.cert_spec.specs.Text.{Spells};
 ghost use Rattle.cert_scan.specs.Scans.{
@@ -70,7 +70,7 @@ impl Scan {
 
     /// Takes bytes up to the one that gives an item, and with it, or all where none does: how many, and the item.
     ///
-    /// It does what `step` does with each of them.
+    /// It does what `step` does with each of them. The item comes with the last byte that it takes, and not with one before.
     pub fn run(&mut self, bytes: &[u8]) -> (usize, Option<Item>)
         ensures runs { Runs self.old bytes.now result.0 result.1 self.new }
         ensures scanned { (front : List ℕ) (given : List ItemOf) → HasScanned front given self.old
@@ -79,6 +79,8 @@ impl Scan {
             → IsGiven (given ++ option_to_list result.1) }
         ensures on_time { (front : List ℕ) (given : List ItemOf) → HasScanned front given self.old
             → AreOnTime (front ++ take result.0 bytes.now) (given ++ option_to_list result.1) }
+        ensures not_sooner { (front : List ℕ) (given : List ItemOf) → HasScanned front given self.old
+            → AreOnTime (front ++ take (result.0 - 1) bytes.now) given }
     {
         self.take_run(bytes)
     }
