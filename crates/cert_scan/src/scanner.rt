@@ -52,8 +52,7 @@ impl Scan {
     /// Takes the next byte, and gives the item that is told with it, if one is.
     ///
     /// It is told with the byte that ends it: the items given so far are those of the pieces of the text that have come
-    /// whole. They are those of whole lines and the first ones of the line that stands. Once a line is not as wanted, no
-    /// item comes.
+    /// whole, of whole lines and the first ones of the line that stands. Once a line is not as wanted, no item comes.
     pub fn step(&mut self, byte: u8) -> Option<Item>
         ensures given { result ≡ given_by self.old byte }
         ensures after { self.new ≡ stepped self.old byte }
@@ -70,7 +69,7 @@ impl Scan {
 
     /// Takes bytes up to the one that gives an item, and with it, or all where none does: how many, and the item.
     ///
-    /// It does what `step` does with each of them. The item comes with the last byte that it takes, and not with one before.
+    /// It does what `step` does with each of them: the item comes with the last byte taken, and with none before.
     pub fn run(&mut self, bytes: &[u8]) -> (usize, Option<Item>)
         ensures runs { Runs self.old bytes.now result.0 result.1 self.new }
         ensures scanned { (front : List ℕ) (given : List ItemOf) → HasScanned front given self.old

@@ -45,8 +45,8 @@ impl<'a> Stream<'a> {
 
     /// Takes the next bytes. Memory is taken for the sums of cuts alone: where there is none, the check is given up.
     ///
-    /// So it is given up only with a piece in which a line ends that begins a cut, and never once the text has told how many
-    /// lines its tree has, nor with a piece that is not looked at.
+    /// So it is given up only with a piece in which a line ends that begins a cut, and never once the text has told how
+    /// many lines its tree has, nor with a piece that is not looked at.
     pub fn feed(mut self, alloc: Global, piece: &[u8]) -> Result<Stream<'a>, AllocError>
         requires { (bytes : List ℕ) × HasFed bytes self }
         ensures fed { (bytes : List ℕ) → HasFed bytes self.entry → IfOk result (λ stream. HasFed (bytes ++ piece.now) stream) }
