@@ -34,19 +34,19 @@ use Rattle.cert_scan.specs.declared.stages.Stage.TheVariants.{Version, Size, Cos
 use Rattle.cert_scan.specs.declared.scanner.Scan.{Scan}
 
 -- pieces lead to the start of a line, where this is wanted
-pub record Ends (a : Scan) (pieces : List Piece) (wanted : grammar.Stage) : Type 0 where
+pub record Ends (a : Scan) (pieces : List Piece) (behind_it : grammar.Stage) : Type 0 where
   pub nodes : ℕ
   pub line : ℕ
   pub stage : Stage
   pub passes : PassAll a pieces (state nodes line (Start stage))
-  pub behind : IsAt nodes stage wanted
+  pub behind : IsAt nodes stage behind_it
 
 -- the number at a place is the last of the line, and tells this
-record TakesLast (n : ℕ) (place : Place) (m : ℕ) (item : Option Item) (wanted : grammar.Stage) : Type 0 where
+record TakesLast (n : ℕ) (place : Place) (m : ℕ) (item : Option Item) (behind_it : grammar.Stage) : Type 0 where
   short : m < 10 ^ 30
   stage : Stage
   taken : taken_by n place m true ≡ move (Start stage) item
-  behind : IsAt (nodes_by n item) stage wanted
+  behind : IsAt (nodes_by n item) stage behind_it
 
 -- another one stands behind it, at the next place
 record TakesNext (n : ℕ) (place : Place) (m : ℕ) (item : Option Item) (next : Place) : Type 0 where
@@ -56,9 +56,9 @@ record TakesNext (n : ℕ) (place : Place) (m : ℕ) (item : Option Item) (next 
 
 -- the numbers may stand at this place and those behind it, and tell these items
 Reads : ℕ → Place → List (ℕ × Option Item) → grammar.Stage → Type 0
-Reads n place [] wanted = ⊥
-Reads n place (t ∷ []) wanted = TakesLast n place t.0 t.1 wanted
-Reads n place (t ∷ u ∷ rest) wanted = (next : Place) × TakesNext n place t.0 t.1 next × Reads n next (u ∷ rest) wanted
+Reads n place [] behind_it = ⊥
+Reads n place (t ∷ []) behind_it = TakesLast n place t.0 t.1 behind_it
+Reads n place (t ∷ u ∷ rest) behind_it = (next : Place) × TakesNext n place t.0 t.1 next × Reads n next (u ∷ rest) behind_it
 
 -- ---- pieces
 
@@ -93,31 +93,31 @@ keyword_passes a b word t rest items scan = record {
   goes = record { scan = scan; items = items };
 }
 
-ends_more : (a b : Scan) (p : Piece) (pieces : List Piece) (wanted : grammar.Stage) → Passes a p b → Ends b pieces wanted → Ends a (p ∷ pieces) wanted
-ends_more a b p pieces wanted first more = record { nodes = more.nodes; line = more.line; stage = more.stage; passes = (b, first, more.passes); behind = more.behind }
+ends_more : (a b : Scan) (p : Piece) (pieces : List Piece) (behind_it : grammar.Stage) → Passes a p b → Ends b pieces behind_it → Ends a (p ∷ pieces) behind_it
+ends_more a b p pieces behind_it first more = record { nodes = more.nodes; line = more.line; stage = more.stage; passes = (b, first, more.passes); behind = more.behind }
 
-ends_numbers : (n line : ℕ) (place : Place) (ts : List (ℕ × Option Item)) (wanted : grammar.Stage) → Reads n place ts wanted
-    → Ends (state n line (Number place None)) (number_pieces ts) wanted
+ends_numbers : (n line : ℕ) (place : Place) (ts : List (ℕ × Option Item)) (behind_it : grammar.Stage) → Reads n place ts behind_it
+    → Ends (state n line (Number place None)) (number_pieces ts) behind_it
 unfolding Reads
-ends_numbers n line place [] wanted h = absurd h
-ends_numbers n line place (t ∷ []) wanted h = record {
+ends_numbers n line place [] behind_it h = absurd h
+ends_numbers n line place (t ∷ []) behind_it h = record {
   nodes = nodes_by n t.1;
   line = line_by line (Start h.stage);
   stage = h.stage;
   passes = (state (nodes_by n t.1) (line_by line (Start h.stage)) (Start h.stage), last_passes n line place t.0 t.1 h.stage h.short h.taken, refl);
   behind = h.behind;
 }
-ends_numbers n line place (t ∷ u ∷ rest) wanted h =
-    ends_more (state n line (Number place None)) (state n line (Number h.0 None)) (word_piece (decimal t.0) (u ∷ rest) t.1) (number_pieces (u ∷ rest)) wanted
-    (next_passes n line place t.0 t.1 u rest h.0 h.1) (ends_numbers n line h.0 (u ∷ rest) wanted h.2)
+ends_numbers n line place (t ∷ u ∷ rest) behind_it h =
+    ends_more (state n line (Number place None)) (state n line (Number h.0 None)) (word_piece (decimal t.0) (u ∷ rest) t.1) (number_pieces (u ∷ rest)) behind_it
+    (next_passes n line place t.0 t.1 u rest h.0 h.1) (ends_numbers n line h.0 (u ∷ rest) behind_it h.2)
 
 -- a line of a keyword and numbers
-ends_line : (n line : ℕ) (stage : Stage) (place : Place) (word : List ℕ) (t : ℕ × Option Item) (rest : List (ℕ × Option Item)) (wanted : grammar.Stage)
+ends_line : (n line : ℕ) (stage : Stage) (place : Place) (word : List ℕ) (t : ℕ × Option Item) (rest : List (ℕ × Option Item)) (behind_it : grammar.Stage)
     → given_all (state n line (Start stage)) (word ++ 32 ∷ []) ≡ [] → scanned (state n line (Start stage)) (word ++ 32 ∷ []) ≡ state n line (Number place None)
-    → Reads n place (t ∷ rest) wanted → Ends (state n line (Start stage)) (word_piece word (t ∷ rest) None ∷ number_pieces (t ∷ rest)) wanted
-ends_line n line stage place word t rest wanted items scan h =
-    ends_more (state n line (Start stage)) (state n line (Number place None)) (word_piece word (t ∷ rest) None) (number_pieces (t ∷ rest)) wanted
-    (keyword_passes (state n line (Start stage)) (state n line (Number place None)) word t rest items scan) (ends_numbers n line place (t ∷ rest) wanted h)
+    → Reads n place (t ∷ rest) behind_it → Ends (state n line (Start stage)) (word_piece word (t ∷ rest) None ∷ number_pieces (t ∷ rest)) behind_it
+ends_line n line stage place word t rest behind_it items scan h =
+    ends_more (state n line (Start stage)) (state n line (Number place None)) (word_piece word (t ∷ rest) None) (number_pieces (t ∷ rest)) behind_it
+    (keyword_passes (state n line (Start stage)) (state n line (Number place None)) word t rest items scan) (ends_numbers n line place (t ∷ rest) behind_it h)
 
 -- a test that holds
 allows : (test last : Bool) (next : Move) → test ≡ true → allowed test last next ≡ next
@@ -130,16 +130,16 @@ does_follow : (n before value : ℕ) → before < value → value ≤ n → foll
 does_follow n before value low high = and_from (nat_lt before value) (nat_le value n) (lt-ltb before value low) (le-leb value n high)
 
 -- a number that is the last of the line
-last_number : (n : ℕ) (place : Place) (m : ℕ) (item : Option Item) (stage : Stage) (wanted : grammar.Stage) → m < 10 ^ 30 → taken_by n place m true ≡ move (Start stage) item
-    → IsAt (nodes_by n item) stage wanted → Reads n place ((m, item) ∷ []) wanted
+last_number : (n : ℕ) (place : Place) (m : ℕ) (item : Option Item) (stage : Stage) (behind_it : grammar.Stage) → m < 10 ^ 30 → taken_by n place m true ≡ move (Start stage) item
+    → IsAt (nodes_by n item) stage behind_it → Reads n place ((m, item) ∷ []) behind_it
 unfolding Reads
-last_number n place m item stage wanted short e at = record { short = short; stage = stage; taken = e; behind = at }
+last_number n place m item stage behind_it short e at = record { short = short; stage = stage; taken = e; behind = at }
 
 -- a number with another one behind it
-next_number : (n : ℕ) (place : Place) (m : ℕ) (item : Option Item) (u : ℕ × Option Item) (rest : List (ℕ × Option Item)) (next : Place) (wanted : grammar.Stage) → m < 10 ^ 30
-    → taken_by n place m false ≡ move (Number next None) item → nodes_by n item ≡ n → Reads n next (u ∷ rest) wanted → Reads n place ((m, item) ∷ u ∷ rest) wanted
+next_number : (n : ℕ) (place : Place) (m : ℕ) (item : Option Item) (u : ℕ × Option Item) (rest : List (ℕ × Option Item)) (next : Place) (behind_it : grammar.Stage) → m < 10 ^ 30
+    → taken_by n place m false ≡ move (Number next None) item → nodes_by n item ≡ n → Reads n next (u ∷ rest) behind_it → Reads n place ((m, item) ∷ u ∷ rest) behind_it
 unfolding Reads
-next_number n place m item u rest next wanted short e same more = (next, record { short = short; taken = e; same = same }, more)
+next_number n place m item u rest next behind_it short e same more = (next, record { short = short; taken = e; same = same }, more)
 
 -- the number of a node, less one, is the node
 node_back : (k : ℕ) → k + 1 - 1 ≡ k
@@ -193,22 +193,22 @@ value_is n e h =
 abbrev value_move : ℕ → DualAt → ℕ → ℕ → ℕ → Bool → Move
 value_move n d k number v last = open_by last (pair_item k v last) (ValueNode d number) (stage_after_dual n d)
 
-reads_values : (n : ℕ) (d : DualAt) (before : ℕ) (e : ℕ × ℕ) (rest : List (ℕ × ℕ)) (high : ℕ) (wanted : grammar.Stage) → n ≤ most_nodes → IsAt n (stage_after_dual n d) wanted
-    → Climbs (is_value n) node_of before (e ∷ rest) high → Reads n (ValueNode d before) (told_values (e ∷ rest)) wanted
-reads_values n d before e [] high wanted few at h =
+reads_values : (n : ℕ) (d : DualAt) (before : ℕ) (e : ℕ × ℕ) (rest : List (ℕ × ℕ)) (high : ℕ) (behind_it : grammar.Stage) → n ≤ most_nodes → IsAt n (stage_after_dual n d) behind_it
+    → Climbs (is_value n) node_of before (e ∷ rest) high → Reads n (ValueNode d before) (told_values (e ∷ rest)) behind_it
+reads_values n d before e [] high behind_it few at h =
     let v = value_is n e h.1 in
-    next_number n (ValueNode d before) (e.0 + 1) None (e.1, Some (pair_item e.0 e.1 true)) [] (ValueAmount d (e.0 + 1)) wanted (omega (arith, v.node))
+    next_number n (ValueNode d before) (e.0 + 1) None (e.1, Some (pair_item e.0 e.1 true)) [] (ValueAmount d (e.0 + 1)) behind_it (omega (arith, v.node))
     (allows (follows n before (e.0 + 1)) false (more_by false (ValueAmount d (e.0 + 1))) (does_follow n before (e.0 + 1) (omega (arith, h.0)) (omega (arith, v.node)))) refl
-    (last_number n (ValueAmount d (e.0 + 1)) e.1 (Some (pair_item e.0 e.1 true)) (stage_after_dual n d) wanted v.short
+    (last_number n (ValueAmount d (e.0 + 1)) e.1 (Some (pair_item e.0 e.1 true)) (stage_after_dual n d) behind_it v.short
     (allows (nat_le 1 e.1) true (value_move n d (e.0 + 1 - 1) (e.0 + 1) e.1 true) (le-leb 1 e.1 v.some) ∙ ap (λ x. value_move n d x (e.0 + 1) e.1 true) (node_back e.0)) at)
-reads_values n d before e (f ∷ rest) high wanted few at h =
+reads_values n d before e (f ∷ rest) high behind_it few at h =
     let v = value_is n e h.1 in
-    next_number n (ValueNode d before) (e.0 + 1) None (e.1, Some (pair_item e.0 e.1 false)) (told_values (f ∷ rest)) (ValueAmount d (e.0 + 1)) wanted (omega (arith, v.node))
+    next_number n (ValueNode d before) (e.0 + 1) None (e.1, Some (pair_item e.0 e.1 false)) (told_values (f ∷ rest)) (ValueAmount d (e.0 + 1)) behind_it (omega (arith, v.node))
     (allows (follows n before (e.0 + 1)) false (more_by false (ValueAmount d (e.0 + 1))) (does_follow n before (e.0 + 1) (omega (arith, h.0)) (omega (arith, v.node)))) refl
     (next_number n (ValueAmount d (e.0 + 1)) e.1 (Some (pair_item e.0 e.1 false)) (f.0 + 1, None) ((f.1, Some (pair_item f.0 f.1 (none_left rest))) ∷ told_values rest)
-    (ValueNode d (e.0 + 1)) wanted v.short
+    (ValueNode d (e.0 + 1)) behind_it v.short
     (allows (nat_le 1 e.1) false (value_move n d (e.0 + 1 - 1) (e.0 + 1) e.1 false) (le-leb 1 e.1 v.some) ∙ ap (λ x. value_move n d x (e.0 + 1) e.1 false) (node_back e.0))
-    refl (reads_values n d (e.0 + 1) f rest high wanted few at h.2))
+    refl (reads_values n d (e.0 + 1) f rest high behind_it few at h.2))
 
 abbrev pub is_weight : ℕ × ℕ → Bool
 is_weight e = nat_le 1 e.0 && (is_short e.0 && (nat_le 1 e.1 && is_short e.1))
@@ -229,21 +229,21 @@ weight_is e h =
 abbrev weight_move : TreeAt → ℕ → ℕ → Bool → Move
 weight_move t c w last = open_by last (weight_item c w last) (WeightCut t c) (stage_after_filled t)
 
-reads_weights : (n : ℕ) (t : TreeAt) (before : ℕ) (e : ℕ × ℕ) (rest : List (ℕ × ℕ)) (high : ℕ) (wanted : grammar.Stage) → IsAt n (stage_after_filled t) wanted
-    → Climbs is_weight node_of (before + 1) (e ∷ rest) high → Reads n (WeightCut t before) (told_weights (e ∷ rest)) wanted
-reads_weights n t before e [] high wanted at h =
+reads_weights : (n : ℕ) (t : TreeAt) (before : ℕ) (e : ℕ × ℕ) (rest : List (ℕ × ℕ)) (high : ℕ) (behind_it : grammar.Stage) → IsAt n (stage_after_filled t) behind_it
+    → Climbs is_weight node_of (before + 1) (e ∷ rest) high → Reads n (WeightCut t before) (told_weights (e ∷ rest)) behind_it
+reads_weights n t before e [] high behind_it at h =
     let v = weight_is e h.1 in
-    next_number n (WeightCut t before) e.0 None (e.1, Some (weight_item e.0 e.1 true)) [] (WeightAmount t e.0) wanted v.cut
+    next_number n (WeightCut t before) e.0 None (e.1, Some (weight_item e.0 e.1 true)) [] (WeightAmount t e.0) behind_it v.cut
     (allows (nat_lt before e.0) false (more_by false (WeightAmount t e.0)) (lt-ltb before e.0 (omega (arith, h.0)))) refl
-    (last_number n (WeightAmount t e.0) e.1 (Some (weight_item e.0 e.1 true)) (stage_after_filled t) wanted v.short
+    (last_number n (WeightAmount t e.0) e.1 (Some (weight_item e.0 e.1 true)) (stage_after_filled t) behind_it v.short
     (allows (nat_le 1 e.1) true (weight_move t e.0 e.1 true) (le-leb 1 e.1 v.some)) at)
-reads_weights n t before e (f ∷ rest) high wanted at h =
+reads_weights n t before e (f ∷ rest) high behind_it at h =
     let v = weight_is e h.1 in
-    next_number n (WeightCut t before) e.0 None (e.1, Some (weight_item e.0 e.1 false)) (told_weights (f ∷ rest)) (WeightAmount t e.0) wanted v.cut
+    next_number n (WeightCut t before) e.0 None (e.1, Some (weight_item e.0 e.1 false)) (told_weights (f ∷ rest)) (WeightAmount t e.0) behind_it v.cut
     (allows (nat_lt before e.0) false (more_by false (WeightAmount t e.0)) (lt-ltb before e.0 (omega (arith, h.0)))) refl
     (next_number n (WeightAmount t e.0) e.1 (Some (weight_item e.0 e.1 false)) (f.0, None) ((f.1, Some (weight_item f.0 f.1 (none_left rest))) ∷ told_weights rest)
-    (WeightCut t e.0) wanted v.short (allows (nat_le 1 e.1) false (weight_move t e.0 e.1 false) (le-leb 1 e.1 v.some)) refl
-    (reads_weights n t e.0 f rest high wanted at h.2))
+    (WeightCut t e.0) behind_it v.short (allows (nat_le 1 e.1) false (weight_move t e.0 e.1 false) (le-leb 1 e.1 v.some)) refl
+    (reads_weights n t e.0 f rest high behind_it at h.2))
 
 -- ---- lines
 
@@ -263,15 +263,15 @@ reads_route : (n : ℕ) (c : Commodity) (k m : ℕ) → n ≤ most_nodes → IsC
     → Reads n (RouteFrom c) ((c.from + 1, None) ∷ (c.to + 1, None) ∷ (k + 1, None) ∷ (m + 1, Some (route_item c.from c.to k m)) ∷ [])
     (grammar.after_route (shape n) (number_of n c + 1))
 reads_route n c k m few h first last =
-    let wanted = grammar.after_route (shape n) (number_of n c + 1) in
+    let behind_it = grammar.after_route (shape n) (number_of n c + 1) in
     let told : ℕ × Option Item = (m + 1, Some (route_item c.from c.to k m)) in
-    next_number n (RouteFrom c) (c.from + 1) None (c.to + 1, None) ((k + 1, None) ∷ told ∷ []) (RouteTo c) wanted (omega (arith, h.from))
+    next_number n (RouteFrom c) (c.from + 1) None (c.to + 1, None) ((k + 1, None) ∷ told ∷ []) (RouteTo c) behind_it (omega (arith, h.from))
     (allows (nat_eq (c.from + 1) (c.from + 1)) false (more_by false (RouteTo c)) (eq-eqb (c.from + 1) (c.from + 1) refl)) refl
-    (next_number n (RouteTo c) (c.to + 1) None (k + 1, None) (told ∷ []) (RouteFirst c) wanted (omega (arith, h.to))
+    (next_number n (RouteTo c) (c.to + 1) None (k + 1, None) (told ∷ []) (RouteFirst c) behind_it (omega (arith, h.to))
     (allows (nat_eq (c.to + 1) (c.to + 1)) false (more_by false (RouteFirst c)) (eq-eqb (c.to + 1) (c.to + 1) refl)) refl
-    (next_number n (RouteFirst c) (k + 1) None told [] (RouteLast c (k + 1 - 1)) wanted (omega arith)
+    (next_number n (RouteFirst c) (k + 1) None told [] (RouteLast c (k + 1 - 1)) behind_it (omega arith)
     (allows (within (k + 1) n) false (more_by false (RouteLast c (k + 1 - 1))) (is_within (k + 1) n (omega arith) (omega arith))) refl
-    (last_number n (RouteLast c (k + 1 - 1)) (m + 1) (Some (route_item c.from c.to k m)) (stage_after_route n c) wanted (omega arith)
+    (last_number n (RouteLast c (k + 1 - 1)) (m + 1) (Some (route_item c.from c.to k m)) (stage_after_route n c) behind_it (omega arith)
     (allows (within (m + 1) n) true (route_move n c (k + 1 - 1) (m + 1 - 1)) (is_within (m + 1) n (omega arith) (omega arith))
     ∙ (λ i. route_move n c (node_back k i) (node_back m i))) (route_at n c h))))
 
@@ -287,27 +287,27 @@ reads_cut n all before size low few =
     (and_from (nat_eq (before + 1) (before + 1)) (nat_le (before + 1) most_cuts) (eq-eqb (before + 1) (before + 1) refl) (le-leb (before + 1) most_cuts (omega arith))))
     (record { is = ap (grammar.want_dual (shape n) all before) (omega arith); names = first_commodity n size.0 })
 
-reads_price : (n : ℕ) (d : DualAt) (a : ℕ) (u : List (ℕ × ℕ)) (high : ℕ) (wanted : grammar.Stage) → n ≤ most_nodes → IsAt n (stage_after_dual n d) wanted → a < 10 ^ 30
+reads_price : (n : ℕ) (d : DualAt) (a : ℕ) (u : List (ℕ × ℕ)) (high : ℕ) (behind_it : grammar.Stage) → n ≤ most_nodes → IsAt n (stage_after_dual n d) behind_it → a < 10 ^ 30
     → Climbs (is_value n) node_of 0 u high
-    → Reads n (DualPrice d) ((a, Some (dual_item d.commodity.from d.commodity.to a (none_left u))) ∷ told_values u) wanted
-reads_price n d a [] high wanted few at short h =
-    last_number n (DualPrice d) a (Some (dual_item d.commodity.from d.commodity.to a true)) (stage_after_dual n d) wanted short refl at
-reads_price n d a (e ∷ rest) high wanted few at short h =
+    → Reads n (DualPrice d) ((a, Some (dual_item d.commodity.from d.commodity.to a (none_left u))) ∷ told_values u) behind_it
+reads_price n d a [] high behind_it few at short h =
+    last_number n (DualPrice d) a (Some (dual_item d.commodity.from d.commodity.to a true)) (stage_after_dual n d) behind_it short refl at
+reads_price n d a (e ∷ rest) high behind_it few at short h =
     next_number n (DualPrice d) a (Some (dual_item d.commodity.from d.commodity.to a false)) (e.0 + 1, None)
-    ((e.1, Some (pair_item e.0 e.1 (none_left rest))) ∷ told_values rest) (ValueNode d 0) wanted short refl refl (reads_values n d 0 e rest high wanted few at h)
+    ((e.1, Some (pair_item e.0 e.1 (none_left rest))) ∷ told_values rest) (ValueNode d 0) behind_it short refl refl (reads_values n d 0 e rest high behind_it few at h)
 
-reads_dual : (n : ℕ) (d : DualAt) (a : ℕ) (u : List (ℕ × ℕ)) (high : ℕ) (wanted : grammar.Stage) → n ≤ most_nodes → IsCommodity n d.commodity → IsAt n (stage_after_dual n d) wanted
+reads_dual : (n : ℕ) (d : DualAt) (a : ℕ) (u : List (ℕ × ℕ)) (high : ℕ) (behind_it : grammar.Stage) → n ≤ most_nodes → IsCommodity n d.commodity → IsAt n (stage_after_dual n d) behind_it
     → a < 10 ^ 30 → Climbs (is_value n) node_of 0 u high
     → Reads n (DualFrom d) (
     (d.commodity.from + 1, None) ∷ (d.commodity.to + 1, None) ∷ (a, Some (dual_item d.commodity.from d.commodity.to a (none_left u))) ∷ told_values u
-    ) wanted
-reads_dual n d a u high wanted few c at short h =
+    ) behind_it
+reads_dual n d a u high behind_it few c at short h =
     let price : ℕ × Option Item = (a, Some (dual_item d.commodity.from d.commodity.to a (none_left u))) in
-    next_number n (DualFrom d) (d.commodity.from + 1) None (d.commodity.to + 1, None) (price ∷ told_values u) (DualTo d) wanted (omega (arith, c.from))
+    next_number n (DualFrom d) (d.commodity.from + 1) None (d.commodity.to + 1, None) (price ∷ told_values u) (DualTo d) behind_it (omega (arith, c.from))
     (allows (nat_eq (d.commodity.from + 1) (d.commodity.from + 1)) false (more_by false (DualTo d)) (eq-eqb (d.commodity.from + 1) (d.commodity.from + 1) refl)) refl
-    (next_number n (DualTo d) (d.commodity.to + 1) None price (told_values u) (DualPrice d) wanted (omega (arith, c.to))
+    (next_number n (DualTo d) (d.commodity.to + 1) None price (told_values u) (DualPrice d) behind_it (omega (arith, c.to))
     (allows (nat_eq (d.commodity.to + 1) (d.commodity.to + 1)) false (more_by false (DualPrice d)) (eq-eqb (d.commodity.to + 1) (d.commodity.to + 1) refl)) refl
-    (reads_price n d a u high wanted few at short h))
+    (reads_price n d a u high behind_it few at short h))
 
 -- what a branch gives, and where it leads to
 abbrev branch_move : TreeAt → ℕ → Move
@@ -334,10 +334,10 @@ reads_leaf n t denom [] high some few room h =
     last_number n (Denominator t) denom (Some (leaf_item denom true)) (stage_after_filled t) (grammar.after_tree (shape n) (t.places - 1) (t.left - 1)) (omega arith)
     (allows (within denom most_denominator && may_fill t) true (leaf_move t denom true) (denominator_fits t denom some few room)) (tree_at n (t.places - 1) (t.left - 1))
 reads_leaf n t denom (e ∷ rest) high some few room h =
-    let wanted = grammar.after_tree (shape n) (t.places - 1) (t.left - 1) in
-    next_number n (Denominator t) denom (Some (leaf_item denom false)) (e.0, None) ((e.1, Some (weight_item e.0 e.1 (none_left rest))) ∷ told_weights rest) (WeightCut t 0) wanted
+    let behind_it = grammar.after_tree (shape n) (t.places - 1) (t.left - 1) in
+    next_number n (Denominator t) denom (Some (leaf_item denom false)) (e.0, None) ((e.1, Some (weight_item e.0 e.1 (none_left rest))) ∷ told_weights rest) (WeightCut t 0) behind_it
     (omega arith) (allows (within denom most_denominator && may_fill t) false (leaf_move t denom false) (denominator_fits t denom some few room)) refl
-    (reads_weights n t 0 e rest high wanted (tree_at n (t.places - 1) (t.left - 1)) h)
+    (reads_weights n t 0 e rest high behind_it (tree_at n (t.places - 1) (t.left - 1)) h)
 
 hub_line : (n line : ℕ) (hubs : List ℕ) → IsSize n → wants (want_hubs (shape n)) (says_hubs hubs) ≡ true
     → Ends (state n line (Start Hubs)) (pieces_of (says_hubs hubs)) (grammar.want_route (shape n) 0)
@@ -361,11 +361,11 @@ dual_line n line d c a u size place nodes is h =
     let p = and_parts (is_amount a) (ascends (map node_of u) && list_all (is_value n) u) h in
     let q = and_parts (ascends (map node_of u)) (list_all (is_value n) u) p.1 in
     let climbs = climbs_from (is_value n) node_of 0 u (starts_low u) q.0 q.1 in
-    let wanted = grammar.after_dual (shape n) d.all d.before (number_of n d.commodity + 1) in
+    let behind_it = grammar.after_dual (shape n) d.all d.before (number_of n d.commodity + 1) in
     let ends = ends_line n line (Dual d) (DualFrom d) (codes "dual") (d.commodity.from + 1, None)
-    ((d.commodity.to + 1, None) ∷ (a, Some (dual_item d.commodity.from d.commodity.to a (none_left u))) ∷ told_values u) wanted refl refl
-    (reads_dual n d a u climbs.0 wanted size.1 nodes (dual_at n d place nodes) (ltb-true a (10 ^ 30) p.0) climbs.1) in
-    subst (λ (x : ℕ × ℕ). Ends (state n line (Start (Dual d))) (pieces_of (says_dual x (record { a = a; u = u }))) wanted) (sym is) ends
+    ((d.commodity.to + 1, None) ∷ (a, Some (dual_item d.commodity.from d.commodity.to a (none_left u))) ∷ told_values u) behind_it refl refl
+    (reads_dual n d a u climbs.0 behind_it size.1 nodes (dual_at n d place nodes) (ltb-true a (10 ^ 30) p.0) climbs.1) in
+    subst (λ (x : ℕ × ℕ). Ends (state n line (Start (Dual d))) (pieces_of (says_dual x (record { a = a; u = u }))) behind_it) (sym is) ends
 
 starts_high : (w : List (ℕ × ℕ)) → list_all is_weight w ≡ true → StartsAt node_of 1 w
 starts_high [] h = tt
@@ -452,20 +452,20 @@ accepts n line Bound (says_bound b) names s w =
 accepts n line Hubs (says_hubs hubs) names s w = hub_line n line hubs s ((wants_decides (want_hubs (shape n)) (says_hubs hubs)).1 w)
 accepts n line (Route c) (says_route commodity route) names s w =
     let is : commodity ≡ (c.from, c.to) = w.0 ∙ commodity_named n c names in
-    let wanted = grammar.after_route (shape n) (number_of n c + 1) in
+    let behind_it = grammar.after_route (shape n) (number_of n c + 1) in
     let ends = ends_line n line (Route c) (RouteFrom c) (codes "route") (c.from + 1, None)
-    ((c.to + 1, None) ∷ (route.0 + 1, None) ∷ (route.1 + 1, Some (route_item c.from c.to route.0 route.1)) ∷ []) wanted refl refl
+    ((c.to + 1, None) ∷ (route.0 + 1, None) ∷ (route.1 + 1, Some (route_item c.from c.to route.0 route.1)) ∷ []) behind_it refl refl
     (reads_route n c route.0 route.1 s.0.1 names w.1 w.2) in
-    subst (λ (x : ℕ × ℕ). Ends (state n line (Start (Route c))) (pieces_of (says_route x route)) wanted) (sym is) ends
+    subst (λ (x : ℕ × ℕ). Ends (state n line (Start (Route c))) (pieces_of (says_route x route)) behind_it) (sym is) ends
 accepts n line Cuts (says_cuts all) names s w =
     ends_line n line Cuts CutCount (codes "cuts") (all, Some (cuts_item all)) [] (grammar.after_cut (shape n) all 0) refl refl
     (last_number n CutCount all (Some (cuts_item all)) (stage_after_cuts all) (grammar.after_cut (shape n) all 0) (omega (arith, w))
     (allows (nat_le all most_cuts) true (whole_by true (Some (cuts_item all)) (stage_after_cuts all)) (le-leb all most_cuts w)) (cuts_at n all))
 accepts n line (Cut all before) (says_cut number) names s w =
-    let wanted = grammar.want_dual (shape n) all before 0 in
-    let ends = ends_line n line (Cut all before) (CutNumber all before) (codes "cut") (before + 1, Some (cut_item (before + 1))) [] wanted refl refl
+    let behind_it = grammar.want_dual (shape n) all before 0 in
+    let ends = ends_line n line (Cut all before) (CutNumber all before) (codes "cut") (before + 1, Some (cut_item (before + 1))) [] behind_it refl refl
     (reads_cut n all before s.0 s.1.0 s.1.1) in
-    subst (λ x. Ends (state n line (Start (Cut all before))) (pieces_of (says_cut x)) wanted) (sym w) ends
+    subst (λ x. Ends (state n line (Start (Cut all before))) (pieces_of (says_cut x)) behind_it) (sym w) ends
 accepts n line (Dual d) (says_dual commodity dual) names s w =
     let tests = and_parts (same_pair commodity (commodity_at n (number_of n d.commodity))) (is_dual_text n dual) ((wants_decides (stage_at n (Dual d)) (says_dual commodity dual)).1 w) in
     dual_line n line d commodity dual.a dual.u s.0 s.1.0 names (w.0 ∙ commodity_named n d.commodity names) tests.1

@@ -9,11 +9,12 @@ use Rattle.cert_spec.specs.Reading.{IsStage}
 use Rattle.cert_spec.proofs.Leads.{each_text_leads_lem}
 use Rattle.cert_spec.proofs.Stages.{stage_after}
 use Rattle.cert_scan.specs.Scans.{new_scan, given_all}
+use Rattle.cert_scan.specs.Parts.{parts_of}
 use Rattle.cert_scan.specs.Pieces.{pieces_of, bytes_of, told_by, whole_within, AreOnTime}
 use Rattle.cert_scan.specs.Scanned.{HasScanned}
 use Rattle.cert_scan.proofs.Goes.{state}
 use Rattle.cert_scan.proofs.StagesAt.{stage_at, NamesNodes}
-use Rattle.cert_scan.proofs.Passing.{PassAll, pass_all-append, pieces_give, lines_text}
+use Rattle.cert_scan.proofs.Passing.{PassAll, pass_all-append, pass_all_goes, pieces_give, lines_text, lines_tell}
 use Rattle.cert_scan.proofs.Accepts.{accepts}
 use Rattle.cert_scan.specs.declared.items.Item.{Item}
 use Rattle.cert_scan.specs.declared.bytes.Position.TheVariants.{Start}
@@ -33,6 +34,12 @@ lines_pass n line stage (item ∷ lines) last names s lead =
       rest.0,
       pass_all-append (state n line (Start stage)) (state ends.nodes ends.line (Start ends.stage)) rest.0 (pieces_of item) (flat_map pieces_of lines) ends.passes rest.1,
     )
+
+-- the bytes of such lines give their items
+pub lines_give : (lines : List Line) (stage : grammar.Stage) → Leads want_version lines stage → given_all new_scan (flat_map line_bytes lines) ≡ flat_map parts_of lines
+lines_give lines stage lead =
+    let passes = lines_pass 0 1 Version lines stage tt tt lead in
+    ap (given_all new_scan) (sym (lines_text lines)) ∙ (pass_all_goes new_scan passes.0 (flat_map pieces_of lines) passes.1).items ∙ lines_tell lines
 
 lines_on_time : (bytes : List ℕ) (given : List Item) (scan : Scan) → HasScanned bytes given scan → (lines : List Line) (stage : grammar.Stage) (rest : List ℕ)
     → Leads want_version lines stage → bytes ++ rest ≡ flat_map line_bytes lines → given ≡ told_by (whole_within (length bytes) (flat_map pieces_of lines))

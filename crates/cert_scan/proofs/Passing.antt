@@ -151,7 +151,7 @@ lines_text [] = refl
 lines_text (line ∷ lines) =
     flat_map-append (λ (p : Piece). p.bytes) (pieces_of line) (flat_map pieces_of lines) ∙ (λ i. line_pieces_text line i ++ lines_text lines i)
 
-lines_tell : (lines : List Line) → told_by (flat_map pieces_of lines) ≡ flat_map parts_of lines
+pub lines_tell : (lines : List Line) → told_by (flat_map pieces_of lines) ≡ flat_map parts_of lines
 lines_tell [] = refl
 lines_tell (line ∷ lines) =
     flat_map-append (λ (p : Piece). option_to_list p.tells) (pieces_of line) (flat_map pieces_of lines) ∙ (λ i. line_pieces_tell line i ++ lines_tell lines i)

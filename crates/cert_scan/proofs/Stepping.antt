@@ -165,6 +165,14 @@ pub run_scanned : (old new : Scan) (bytes : List ℕ) (taken : ℕ) (item : Opti
     → (front : List ℕ) (given : List Item) → HasScanned front given old → HasScanned (front ++ take taken bytes) (given ++ option_to_list item) new
 run_scanned old new bytes taken item r front given h = scanned_more front (take taken bytes) given (option_to_list item) old new r.after r.given h
 
+-- and what it scans with one byte less
+pub run_before : (old new : Scan) (bytes : List ℕ) (taken : ℕ) (item : Option Item) → Runs old bytes taken item new
+    → (front : List ℕ) (given : List Item) → HasScanned front given old → HasScanned (front ++ take (taken - 1) bytes) given (scanned old (take (taken - 1) bytes))
+run_before old new bytes taken item r front given h =
+    let before = take (taken - 1) bytes in
+    subst (λ g. HasScanned (front ++ take (taken - 1) bytes) g (scanned old (take (taken - 1) bytes))) (append-nil given)
+    (scanned_more front before given [] old (scanned old before) refl r.nothing_before h)
+
 pub run_given : (old new : Scan) (bytes : List ℕ) (taken : ℕ) (item : Option Item) → Runs old bytes taken item new
     → (front : List ℕ) (given : List Item) → HasScanned front given old → IsGiven (given ++ option_to_list item)
 run_given old new bytes taken item r front given h =

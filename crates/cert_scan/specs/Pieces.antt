@@ -73,6 +73,7 @@ byte_behind rest = if none_left rest then 10 else 32
 abbrev pub word_piece : List ℕ → List (ℕ × Option Item) → Option Item → Piece
 word_piece word rest tells = record { bytes = word ++ byte_behind rest ∷ []; tells = tells }
 
+-- numbers, each with the byte behind it
 abbrev pub number_pieces : List (ℕ × Option Item) → List Piece
 number_pieces [] = []
 number_pieces (t ∷ rest) = word_piece (decimal t.0) rest t.1 ∷ number_pieces rest
@@ -114,6 +115,7 @@ whole_within count (p ∷ rest) =
 -- lines that may stand so from the first on, and so where they begin the text of a certificate
 pub record AreOnTime (bytes : List ℕ) (given : List Item) : Type 0 where
   pub of_lines : (lines : List Line) (stage : Stage) (rest : List ℕ) → Leads want_version lines stage
-      → bytes ++ rest ≡ flat_map line_bytes lines → given ≡ told_by (whole_within (length bytes) (flat_map pieces_of lines))
+      → bytes ++ rest ≡ flat_map line_bytes lines
+      → given ≡ told_by (whole_within (length bytes) (flat_map pieces_of lines))
   pub of_certificate : (k : Proof) (rest : List ℕ) → Spells (bytes ++ rest) k
       → given ≡ told_by (whole_within (length bytes) (certificate_pieces k))

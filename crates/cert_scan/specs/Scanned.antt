@@ -37,8 +37,8 @@ pub record Tells (bytes : List ℕ) (fault : Option Fault) : Type 0 where
 abbrev pub line_feeds : List ℕ → ℕ
 line_feeds bytes = count_by (λ b. nat_eq b 10) bytes
 
--- the number of the line in which the next byte stands, behind so many line feeds, as long as no line was bad; then that
--- of the bad line
+-- the number of the line in which the next byte stands, one more than the line feeds so far, as long as no line was
+-- bad, and once one was, that of the bad line
 pub record IsLineAtHand (bytes : List ℕ) (line : ℕ) : Type 0 where
   pub good : ((bad : ℕ) → IsTextFault bytes (bad_line bad) → ⊥) → line ≡ line_feeds bytes + 1
   pub bad : (bad : ℕ) → IsTextFault bytes (bad_line bad) → line ≡ bad

@@ -6,9 +6,9 @@
 //!
 //! An item is given with the byte that ends it, and so before its line has ended: the text of a certificate is made of
 //! pieces, some bytes and the item that they tell ([`pieces_are_text`]), and the items so far are those of the pieces
-//! that have come whole. Where something further on in the line is not as wanted, the text has a fault in this line, and
-//! who took the item forgets it. The items that were given are, at any time, those of lines that may stand so from the
-//! first on, and the first items of one more line, of which all that they say is in range.
+//! that have come whole. Where something further on in the line is not as wanted, the text has a fault in this line,
+//! and who took the item forgets it. The items that were given are, at any time, those of lines that may stand so from
+//! the first on, and the first items of one more line, of which all that they say is in range.
 //!
 //! The text is defined in the crate `cert_spec`. A line begins at a stage of the text (`stages`), has a keyword
 //! (`heads`) and numbers at places (`places`); what one byte makes of it all is in `bytes`.

@@ -1,5 +1,5 @@
 //! A scan of the bytes of a text.
-ghost use Rattle.std.specs.Prelude.{◌≡◌, ℕ, ◌++◌, ◌≤◌, List, [], ◌∷◌, length, take, None, IfSome, option_to_list};
+ghost use Rattle.std.specs.Prelude.{◌≡◌, ℕ, ◌-◌, ◌++◌, ◌≤◌, List, [], ◌∷◌, length, take, None, IfSome, option_to_list};
 ghost use Rattle.hub_spec.specs.Certificates.{Proof};
 ghost use Rattle.cert_spec.specs.Text.{Spells};
 ghost use Rattle.cert_scan.specs.Scans.{
@@ -52,8 +52,7 @@ impl Scan {
     /// Takes the next byte, and gives the item that is told with it, if one is.
     ///
     /// It is told with the byte that ends it: the items given so far are those of the pieces of the text that have come
-    /// whole. They are those of whole lines and the first ones of the line that stands. Once a line is not as wanted, no
-    /// item comes.
+    /// whole, of whole lines and the first ones of the line that stands. Once a line is not as wanted, no item comes.
     pub fn step(&mut self, byte: u8) -> Option<Item>
         ensures given { result ≡ given_by self.old byte }
         ensures after { self.new ≡ stepped self.old byte }
@@ -70,7 +69,7 @@ impl Scan {
 
     /// Takes bytes up to the one that gives an item, and with it, or all where none does: how many, and the item.
     ///
-    /// It does what `step` does with each of them.
+    /// It does what `step` does with each of them: the item comes with the last byte taken, and with none before.
     pub fn run(&mut self, bytes: &[u8]) -> (usize, Option<Item>)
         ensures runs { Runs self.old bytes.now result.0 result.1 self.new }
         ensures scanned { (front : List ℕ) (given : List ItemOf) → HasScanned front given self.old
@@ -79,6 +78,8 @@ impl Scan {
             → IsGiven (given ++ option_to_list result.1) }
         ensures on_time { (front : List ℕ) (given : List ItemOf) → HasScanned front given self.old
             → AreOnTime (front ++ take result.0 bytes.now) (given ++ option_to_list result.1) }
+        ensures not_sooner { (front : List ℕ) (given : List ItemOf) → HasScanned front given self.old
+            → AreOnTime (front ++ take (result.0 - 1) bytes.now) given }
     {
         self.take_run(bytes)
     }

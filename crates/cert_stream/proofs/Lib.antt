@@ -12,3 +12,4 @@ pub mod Taking
 pub mod Whole
 pub mod Ends
 pub mod Refusing
+pub mod CutLines

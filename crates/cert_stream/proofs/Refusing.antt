@@ -1,5 +1,5 @@
 -- A check asks for memory where a cut begins, and no cut begins behind the number of the tree's lines.
-use Rattle.std.proofs.Common.{◌≡◌, ℕ, ◌-◌, List, [], ◌∷◌, ◌++◌, length, take, drop, flat_map, false, Some, nat_eq, inl, inr, refl, sym, ap, subst, ◌∙◌, append_assoc, append-nil, arith}
+use Rattle.std.proofs.Common.{◌≡◌, ℕ, ◌-◌, List, [], ◌∷◌, ◌++◌, length, take, drop, flat_map, false, Some, nat_eq, ◌⊎◌, inl, inr, refl, sym, ap, subst, ◌∙◌, append_assoc, append-nil, arith}
 use Rattle.std.specs.Prelude.{All, Contains, Result, Ok, Err, OnErr}
 use Rattle.std.proofs.lemmas.Bool.{cond_both}
 use Rattle.std.proofs.lemmas.List.{take-append-drop, take_rest}
@@ -13,24 +13,36 @@ use Rattle.cert_scan.specs.Parts.{parts_of, hub_parts, value_parts, weight_parts
 use Rattle.cert_scan.specs.Given.{IsBegun}
 use Rattle.cert_scan.specs.Runs.{Runs}
 use Rattle.cert_scan.specs.declared.items.Item.{Item}
-use Rattle.cert_scan.specs.declared.items.Item.TheVariants.{Hub, Cut, Dual, DualPair, Nodes, Branch, Leaf, LeafPair, Empty, End}
+use Rattle.cert_scan.specs.declared.items.Item.TheVariants.{Size, Cost, Bound, Hub, Route, Cuts, Cut, Dual, DualPair, Nodes, Branch, Leaf, LeafPair, Empty, End}
 use Rattle.cert_scan.specs.declared.scanner.Scan.{Scan}
 use Rattle.cert_scan.proofs.Goes.{scanned-append, given_all-append}
 use Rattle.cert_scan.proofs.Tracks.{scanned_given}
 use Rattle.cert_stream.specs.Steps.{IsCut}
-use Rattle.cert_stream.specs.Fed.{items_in, items_behind, BeginsCut, CountsTree}
+use Rattle.cert_stream.specs.Fed.{BeginsCut}
 
 -- what holds, holds where an error is returned
 pub on_err : {X Y : Type 0} (r : Result X Y) (P : Type 0) → P → OnErr r P
 on_err (Ok x) P h = tt
 on_err (Err e) P h = h
 
--- it tells how many lines the tree has
+-- the items that these bytes give
+abbrev pub items_in : List ℕ → List Item
+items_in bytes = given_all new_scan bytes
+
+-- the items that a piece gives behind these bytes
+abbrev pub items_behind : List ℕ → List ℕ → List Item
+items_behind bytes piece = given_all (scanned new_scan bytes) piece
+
+-- one of the items tells how many lines the tree has
+abbrev pub CountsTree : List Item → Type 0
+CountsTree items = (all : ℕ) × Contains items (Nodes all)
+
+-- the item does so
 abbrev IsCount : Item → Type 0
 IsCount (Nodes all) = Unit {0}
 IsCount other = ⊥
 
-abbrev IsNoCut : Item → Type 0
+abbrev pub IsNoCut : Item → Type 0
 IsNoCut i = IsCut i → ⊥
 
 abbrev IsNoCount : Item → Type 0
@@ -85,6 +97,33 @@ begun_of_list (want_tree s places left) given (inr h) =
     (All-map IsOfList (λ (e : ℕ × ℕ). LeafPair e.0 e.1 false) h.weights (each (λ (e : ℕ × ℕ). IsOfList (LeafPair e.0 e.1 false)) (λ e. tt) h.weights)))
 begun_of_list stage given h = subst (All IsOfList) (sym h) (All-nil IsOfList)
 
+pub begun_no_cut : (stage : Stage) (given : List Item) → IsBegun stage given → All IsNoCut given
+begun_no_cut stage given h = All-weaker IsOfList IsNoCut list_no_cut given (begun_of_list stage given h)
+
+tree_no_cut : (line : TreeLine) → All IsNoCut (tree_parts line)
+tree_no_cut (branch_on k) = All-cons IsNoCut (Branch k) [] (λ is. is) (All-nil IsNoCut)
+tree_no_cut (leaf_of denom weights) =
+    All-cons IsNoCut (Leaf denom (none_left weights)) (weight_parts weights) (λ is. is) (All-weaker IsOfList IsNoCut list_no_cut (weight_parts weights) (weights_of_list weights))
+tree_no_cut no_hub = All-cons IsNoCut Empty [] (λ is. is) (All-nil IsNoCut)
+
+-- a line begins a cut, or none of its items does
+pub cut_or_none : (line : Line) → ((number : ℕ) × (line ≡ says_cut number)) ⊎ All IsNoCut (parts_of line)
+cut_or_none says_version = inr (All-nil IsNoCut)
+cut_or_none (says_size n q) = inr (All-cons IsNoCut (Size n q) [] (λ is. is) (All-nil IsNoCut))
+cut_or_none (says_cost c) = inr (All-cons IsNoCut (Cost c) [] (λ is. is) (All-nil IsNoCut))
+cut_or_none (says_bound b) = inr (All-cons IsNoCut (Bound b) [] (λ is. is) (All-nil IsNoCut))
+cut_or_none (says_hubs hubs) = inr (All-weaker IsOfList IsNoCut list_no_cut (hub_parts hubs) (hubs_of_list hubs))
+cut_or_none (says_route commodity route) =
+    inr (All-cons IsNoCut (Route commodity.0 commodity.1 route.0 route.1) [] (λ is. is) (All-nil IsNoCut))
+cut_or_none (says_cuts all) = inr (All-cons IsNoCut (Cuts all) [] (λ is. is) (All-nil IsNoCut))
+cut_or_none (says_cut number) = inl (number, refl)
+cut_or_none (says_dual commodity dual) =
+    inr (All-cons IsNoCut (Dual commodity.0 commodity.1 dual.a (none_left dual.u)) (value_parts dual.u) (λ is. is)
+    (All-weaker IsOfList IsNoCut list_no_cut (value_parts dual.u) (values_of_list dual.u)))
+cut_or_none (says_nodes all) = inr (All-cons IsNoCut (Nodes all) [] (λ is. is) (All-nil IsNoCut))
+cut_or_none (says_tree line) = inr (tree_no_cut line)
+cut_or_none says_end = inr (All-cons IsNoCut End [] (λ is. is) (All-nil IsNoCut))
+
 -- ---- the lines of the tree
 
 -- the number of the tree's lines has come
@@ -93,12 +132,6 @@ IsInTree (want_tree s places left) = Unit {0}
 IsInTree want_end = Unit {0}
 IsInTree want_nothing = Unit {0}
 IsInTree stage = ⊥
-
-tree_no_cut : (line : TreeLine) → All IsNoCut (tree_parts line)
-tree_no_cut (branch_on k) = All-cons IsNoCut (Branch k) [] (λ is. is) (All-nil IsNoCut)
-tree_no_cut (leaf_of denom weights) =
-    All-cons IsNoCut (Leaf denom (none_left weights)) (weight_parts weights) (λ is. is) (All-weaker IsOfList IsNoCut list_no_cut (weight_parts weights) (weights_of_list weights))
-tree_no_cut no_hub = All-cons IsNoCut Empty [] (λ is. is) (All-nil IsNoCut)
 
 in_tree_after : (s : Shape) (places left : ℕ) → IsInTree (after_tree s places left)
 in_tree_after s places left = cond_both (nat_eq left 0) want_end (want_tree s places left) IsInTree (λ e. tt) (λ e. tt)
@@ -113,7 +146,7 @@ in_tree_line stage line h w = absurd h
 
 tree_lines_no_cut : (stage : Stage) (lines : List Line) (last : Stage) (more : List Item) → IsInTree stage → Leads stage lines last → IsBegun last more
     → All IsNoCut (flat_map parts_of lines ++ more)
-tree_lines_no_cut stage [] last more h lead begun = All-weaker IsOfList IsNoCut list_no_cut more (begun_of_list last more begun)
+tree_lines_no_cut stage [] last more h lead begun = begun_no_cut last more begun
 tree_lines_no_cut stage (line ∷ lines) last more h lead begun =
     let step = in_tree_line stage line h lead.0 in
     subst (All IsNoCut) (sym (append_assoc (parts_of line) (flat_map parts_of lines) more))

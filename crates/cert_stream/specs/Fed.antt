@@ -1,10 +1,12 @@
 -- A stream as the bytes that were fed make it.
-use Rattle.std.specs.Prelude.{◌≡◌, ℕ, ◌+◌, ◌<◌, Bool, true, false, List, length, Contains}
+use Rattle.std.specs.Prelude.{◌≡◌, ℕ, ◌+◌, ◌<◌, Bool, true, false, List, [], ◌∷◌, ◌++◌, length, flat_map, Contains}
 use Rattle.cert_spec.specs.Verdicts.{certificate_limit}
-use Rattle.cert_scan.specs.Scans.{new_scan, scanned, given_all}
+use Rattle.cert_spec.specs.Lines.{Item as Line, says_cut, says_nodes}
+use Rattle.cert_spec.specs.Text.{line_bytes}
+use Rattle.cert_spec.specs.Grammar.{Stage, want_version, Leads}
 use Rattle.cert_scan.specs.Scanned.{HasScanned}
 use Rattle.cert_scan.specs.declared.items.Item.{Item}
-use Rattle.cert_scan.specs.declared.items.Item.TheVariants.{Cut, Nodes}
+use Rattle.cert_scan.specs.declared.items.Item.TheVariants.{Cut}
 use Rattle.cert_stream.specs.Taken.{HasTaken}
 use Rattle.cert_stream.specs.declared.streams.Stream.{Stream}
 
@@ -22,20 +24,26 @@ HasFedUnless false bytes s = (s.room + length bytes ≡ certificate_limit) × ((
 abbrev pub HasFed : List ℕ → Stream → Type 0
 HasFed bytes s = HasFedUnless s.is_too_long bytes s
 
--- ---- what items say of the memory that a check may still ask for
-
--- the items that these bytes give
-abbrev pub items_in : List ℕ → List Item
-items_in bytes = given_all new_scan bytes
-
--- the items that a piece gives behind these bytes
-abbrev pub items_behind : List ℕ → List ℕ → List Item
-items_behind bytes piece = given_all (scanned new_scan bytes) piece
+-- ---- where memory may be wanting
 
 -- one of the items begins a cut
 abbrev pub BeginsCut : List Item → Type 0
 BeginsCut items = (number : ℕ) × Contains items (Cut number)
 
--- one of them tells how many lines the tree has; no cut begins behind it
-abbrev pub CountsTree : List Item → Type 0
-CountsTree items = (all : ℕ) × Contains items (Nodes all)
+-- the bytes begin with lines that may stand so from the first on, the last of which is this
+pub record HasLine (bytes : List ℕ) (line : Line) : Type 0 where
+  pub before : List Line
+  pub stage : Stage
+  pub rest : List ℕ
+  pub lead : Leads want_version (before ++ line ∷ []) stage
+  pub text : bytes ≡ flat_map line_bytes (before ++ line ∷ []) ++ rest
+
+-- a line that begins a cut ends with one of the bytes of the piece, which comes behind these bytes
+pub record EndsCutLine (bytes piece : List ℕ) : Type 0 where
+  pub number : ℕ
+  pub line : HasLine (bytes ++ piece) (says_cut number)
+  pub ends : length line.rest < length piece
+
+-- the line has come that tells how many lines the tree has; no cut begins behind it
+abbrev pub HasTreeCount : List ℕ → Type 0
+HasTreeCount bytes = (all : ℕ) × HasLine bytes (says_nodes all)

@@ -9,7 +9,7 @@ ghost use Rattle.hub_spec.specs.Ranges.{IsInRange};
 ghost use Rattle.cert_scan.specs.Parts.{items_of};
 ghost use Rattle.cert_scan.specs.Scans.{given_all};
 ghost use Rattle.cert_stream.specs.Taken.{HasTaken, EndsAs};
-ghost use Rattle.cert_stream.specs.Fed.{HasCome, HasFed, items_in, items_behind, BeginsCut, CountsTree};
+ghost use Rattle.cert_stream.specs.Fed.{HasCome, HasFed, BeginsCut, EndsCutLine, HasTreeCount};
 
 use crate::checks::Checks;
 use cert_checker::{Ending, MOST_CERTIFICATE_BYTES};
@@ -45,14 +45,14 @@ impl<'a> Stream<'a> {
 
     /// Takes the next bytes. Memory is taken for the sums of cuts alone: where there is none, the check is given up.
     ///
-    /// So it succeeds but where the piece ends a line that begins a cut, and always once the text has told how many lines its
-    /// tree has, or with a piece that is not looked at.
+    /// So it is given up only with a piece in which a line ends that begins a cut, and never once the text has told how
+    /// many lines its tree has, nor with a piece that is not looked at.
     pub fn feed(mut self, alloc: Global, piece: &[u8]) -> Result<Stream<'a>, AllocError>
         requires { (bytes : List ℕ) × HasFed bytes self }
         ensures fed { (bytes : List ℕ) → HasFed bytes self.entry → IfOk result (λ stream. HasFed (bytes ++ piece.now) stream) }
         ensures instance { IfOk result (λ stream. stream.checks.instance ≡ self.entry.checks.instance) }
-        ensures refused { (bytes : List ℕ) → HasFed bytes self.entry → OnErr result (BeginsCut (items_behind bytes piece.now)) }
-        ensures counted { (bytes : List ℕ) → HasFed bytes self.entry → CountsTree (items_in bytes) → IsOk result }
+        ensures refused { (bytes : List ℕ) → HasFed bytes self.entry → OnErr result (EndsCutLine bytes piece.now) }
+        ensures counted { (bytes : List ℕ) → HasFed bytes self.entry → HasTreeCount bytes → IsOk result }
         ensures too_long { (bytes : List ℕ) → HasFed bytes self.entry → certificate_limit < length (bytes ++ piece.now)
             → IsOk result }
     {

@@ -1,7 +1,8 @@
 use Rattle.std.proofs.Common.{Bool, ◌-◌, ◌++◌, length, sym, subst, ◌∙◌, length-append, arith}
 use Rattle.cert_scan.specs.Scans.{given_all}
-use Rattle.cert_stream.specs.Fed.{HasFedUnless, BeginsCut, items_behind}
-use Rattle.cert_stream.proofs.Refusing.{on_err, no_cut_once_counted}
+use Rattle.cert_stream.specs.Fed.{HasFedUnless, BeginsCut, EndsCutLine}
+use Rattle.cert_stream.proofs.Refusing.{on_err, items_behind, no_cut_once_counted}
+use Rattle.cert_stream.proofs.CutLines.{ends_cut_line, counts_tree}
 use Rattle.cert_stream.specs.declared.streams.Stream.{Stream}
 use Rattle.cert_stream.proofs.streams.Stream.feed.Goals as goal
 
@@ -28,15 +29,16 @@ returns-clause-fed c = λ bytes h.
 pub returns-in_err-advance-clause-refused : goal.returns-in_err-advance-clause-refused
 returns-in_err-advance-clause-refused c = λ bytes h.
     let f = subst (λ (b : Bool). HasFedUnless b bytes c.args.self) c.if-self.false h in
-    on_err c.from_residual.result (BeginsCut (items_behind bytes c.args.piece.now))
-    (subst (λ s. BeginsCut (given_all s c.args.piece.now)) (sym f.1.1.scanned.reached) c.in_err-advance.ensures.refused)
+    let cut : BeginsCut (items_behind bytes c.args.piece.now) =
+    subst (λ s. BeginsCut (given_all s c.args.piece.now)) (sym f.1.1.scanned.reached) c.in_err-advance.ensures.refused in
+    on_err c.from_residual.result (EndsCutLine bytes c.args.piece.now) (ends_cut_line bytes c.args.piece.now cut)
 
 pub returns-in_err-advance-clause-counted : goal.returns-in_err-advance-clause-counted
 returns-in_err-advance-clause-counted c = λ bytes h counts.
     let f = subst (λ (b : Bool). HasFedUnless b bytes c.args.self) c.if-self.false h in
     let cut : BeginsCut (items_behind bytes c.args.piece.now) =
     subst (λ s. BeginsCut (given_all s c.args.piece.now)) (sym f.1.1.scanned.reached) c.in_err-advance.ensures.refused in
-    absurd (no_cut_once_counted bytes c.args.piece.now counts cut)
+    absurd (no_cut_once_counted bytes c.args.piece.now (counts_tree bytes counts) cut)
 
 pub returns-in_err-advance-clause-too_long : goal.returns-in_err-advance-clause-too_long
 returns-in_err-advance-clause-too_long c = λ bytes h long.
