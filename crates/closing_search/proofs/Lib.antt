@@ -4,3 +4,4 @@ pub mod Steps
 pub mod Choices
 pub mod SetLeaves
 pub mod Findings
+pub mod Walks

@@ -2,3 +2,4 @@ pub mod SingleCuts
 pub mod Progressing
 pub mod Benches
 pub mod BenchParts
+pub mod Walking

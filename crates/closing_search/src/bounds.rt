@@ -6,11 +6,12 @@ ghost use Rattle.hub_spec.specs.Trees.{IsBranch, leaf_bound, cut_at, Closes};
 ghost use Rattle.hub_spec.specs.Limits.{most_cost};
 ghost use Rattle.leaf_bound.specs.Weighing.{most_bound, IsWithin};
 ghost use Rattle.search_spec.specs.States.{denominator};
-ghost use Rattle.closing_search.specs.Progressing.{cuts_of, IsGoing};
+ghost use Rattle.closing_search.specs.Progressing.{cuts_of, target_of, IsGoing};
 ghost use Rattle.closing_search.specs.SingleCuts.{AreSumsOf, AreLoads, cut_bound, ClosesBy};
 ghost use Rattle.search_core.specs.Tasks.{AreFixedCosts};
 
-use crate::progress::Progress;
+use crate::progress::{Progress, target};
+use crate::walk::Walk;
 use hub_model::signed;
 use plan_model::Branch;
 use search_core::{Task, WHOLE_WEIGHT};
@@ -59,26 +60,22 @@ pub(crate) fn kept_bound(task: &Task, branch: &Branch, progress: &Progress, numb
     single_bound(task, branch, totals, loads)
 }
 
-/// Tells whether the cut of this total and these loads closes the target in the branch, alone.
-pub(crate) fn sums_close(
-    alloc: Global,
-    task: &Task,
-    branch: &Branch,
-    total: u128,
-    loads: &[u128],
-    target: u128,
-) -> Result<bool, AllocError>
-    requires costs { AreFixedCosts task.now.instance.now task.now.fixed.items }
-    requires branch { IsBranch task.now.instance.now branch.now }
-    requires sums { (cut : Cut) × AreLoads task.now.instance.now cut total loads.now }
-    requires target { target ≤ most_cost }
-    ensures { IfOk result (λ yes. (cut : Cut) → AreLoads task.now.instance.now cut total loads.now → IsTrue yes
-        → ClosesBy task.now.instance.now cut target branch.now) }
-{
-    let row = signed_row(alloc, loads)?;
-    let rows = vec![in alloc; row]?;
-    let bound = single_bound(task, branch, &[signed(total)], &rows);
-    Ok(is_above(bound, target))
+impl Walk<'_> {
+    /// Tells whether the cut with this total, whose loads the bench has worked out last, closes the target in the branch,
+    /// alone.
+    pub(crate) fn sums_close(&self, branch: &Branch, total: u128) -> Result<bool, AllocError>
+        requires going { IsGoing self.now.task.now self.now.progress }
+        requires branch { IsBranch self.now.task.now.instance.now branch.now }
+        requires sums { (cut : Cut) × AreLoads self.now.task.now.instance.now cut total self.now.bench.loads }
+        ensures { let p = self.now.task.now.instance.now in
+            IfOk result (λ yes. (cut : Cut) → AreLoads p cut total self.now.bench.loads → IsTrue yes
+            → ClosesBy p cut (target_of self.now.progress) branch.now) }
+    {
+        let row = signed_row(self.alloc, self.bench.loads())?;
+        let rows = vec![in self.alloc; row]?;
+        let bound = single_bound(self.task, branch, &[signed(total)], &rows);
+        Ok(is_above(bound, target(&self.progress)))
+    }
 }
 
 /// Tells whether a bound closes the target.

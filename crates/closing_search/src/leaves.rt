@@ -10,12 +10,12 @@ ghost use Rattle.leaf_bound.specs.Weighing.{most_bound, IsWithin};
 ghost use Rattle.search_spec.specs.States.{denominator};
 ghost use Rattle.search_spec.specs.Findings.{IsSpent};
 ghost use Rattle.closing_search.specs.Progressing.{cuts_of, target_of, IsGoing, IsAt, IsDone};
+ghost use Rattle.closing_search.specs.Walking.{IsWalking, IsSameWalk};
 ghost use Rattle.closing_search.specs.SingleCuts.{ClosesBy, weights_on, IsChoice, IsOrderedSet};
 
-use crate::bench::Bench;
 use crate::bounds::{bare_bound, is_above, kept_bound};
-use crate::keeping::keep;
 use crate::progress::{Progress, end_with, offer, target};
+use crate::walk::Walk;
 use hub_plain::outside;
 use kept_cuts::KeptCut;
 use plan_model::{Branch, HubSet, Mix, TreeLine};
@@ -25,23 +25,76 @@ use std::alloc::{AllocError, Global};
 /// So many of the newest kept cuts are tried at a branch before advice is asked for.
 const MOST_TRIES: u64 = 64;
 
-/// Ends the branch with the leaf of the kept cut of this number, which closes the target.
-pub(crate) fn cut_leaf(
-    alloc: Global,
-    task: &Task,
-    branch: &Branch,
-    number: u64,
-    progress: &mut Progress,
-) -> Result<(), AllocError>
-    requires going { IsGoing task.now progress.old }
-    requires least { 1 ≤ number }
-    requires most { number ≤ length progress.old.cuts.cuts }
-    requires closes { let p = task.now.instance.now in
-        ClosesBy p (cut_at (cuts_of p progress.old) number) (target_of progress.old) branch.now }
-    ensures { OnOk result (IsDone task.now branch.now progress.old progress.new) }
-{
-    let line = whole_leaf(alloc, number)?;
-    end_with(task, branch, line, progress)
+impl Walk<'_> {
+    /// Ends the branch with the leaf of the kept cut of this number, which closes the target.
+    pub(crate) fn cut_leaf(&mut self, branch: &Branch, number: u64) -> Result<(), AllocError>
+        requires going { IsGoing self.old.task.now self.old.progress }
+        requires least { 1 ≤ number }
+        requires most { number ≤ length self.old.progress.cuts.cuts }
+        requires closes { let p = self.old.task.now.instance.now in
+            ClosesBy p (cut_at (cuts_of p self.old.progress) number) (target_of self.old.progress) branch.now }
+        ensures same { IsSameWalk self.old self.new }
+        ensures done { OnOk result (IsDone self.old.task.now branch.now self.old.progress self.new.progress) }
+    {
+        let line = whole_leaf(self.alloc, number)?;
+        end_with(self.task, branch, line, &mut self.progress)
+    }
+
+    /// The number of a kept cut that closes the target in the branch, alone, if one of the newest does.
+    pub(crate) fn closing_cut(&self, branch: &Branch) -> Option<u64>
+        requires going { IsGoing self.now.task.now self.now.progress }
+        requires branch { IsBranch self.now.task.now.instance.now branch.now }
+        ensures least { IfSome result (λ c. 1 ≤ c) }
+        ensures most { IfSome result (λ c. c ≤ length self.now.progress.cuts.cuts) }
+        ensures closes { let p = self.now.task.now.instance.now in
+            IfSome result (λ c. ClosesBy p (cut_at (cuts_of p self.now.progress) c) (target_of self.now.progress) branch.now) }
+    {
+        let count = self.progress.cuts.len();
+        let target = target(&self.progress);
+        for back in 0..count.min(MOST_TRIES) {
+            let number = count - back;
+            if is_above(
+                kept_bound(self.task, branch, &self.progress, number),
+                target,
+            ) {
+                return Some(number);
+            }
+        }
+        None
+    }
+
+    /// Ends a branch in which no node is free with the leaf of the cut of its hubs. They become the incumbent, if they
+    /// cost less.
+    pub(crate) fn set_leaf(&mut self, branch: &Branch) -> Result<(), AllocError>
+        requires walking { IsWalking self.old }
+        requires branch { IsBranch self.old.task.now.instance.now branch.now }
+        requires some_inside { 1 ≤ length branch.now.inside }
+        requires none_free { branch.now.free ≡ [] }
+        ensures same { IsSameWalk self.old self.new }
+        ensures done { OnOk result (IsDone self.old.task.now branch.now self.old.progress self.new.progress) }
+    {
+        let inside = ordered_set(self.alloc, self.task, branch)?;
+        let total = self.bench.set_sums(&inside.set, &inside.order);
+        offer_inside(self.alloc, self.task, branch, total, &mut self.progress)?;
+        let cut = KeptCut::Set(inside.set, inside.order);
+        let number = self.keep(cut, total)?;
+        self.cut_leaf(branch, number)
+    }
+
+    /// Ends the branch with the leaf that a stop makes of it: the first stop comes only where a node is free.
+    pub(crate) fn stopped_leaf(&mut self, branch: &Branch) -> Result<(), AllocError>
+        requires going { IsGoing self.old.task.now self.old.progress }
+        requires branch { IsBranch self.old.task.now.instance.now branch.now }
+        requires spent { IsSpent self.old.task.now.nodes self.old.progress.made }
+        requires due { IsNone self.old.progress.stop → 1 ≤ length branch.now.free }
+        ensures same { IsSameWalk self.old self.new }
+        ensures done { OnOk result (IsDone self.old.task.now branch.now self.old.progress self.new.progress) }
+    {
+        let choice = best_choice(self.task, branch, &self.progress);
+        let line = leaf_line(self.alloc, choice.number)?;
+        self.progress.stop = Some(lesser(rounded_up(choice.bound), self.progress.stop));
+        end_with(self.task, branch, line, &mut self.progress)
+    }
 }
 
 // The leaf with the whole weight on the cut of this number, or with no weight.
@@ -53,51 +106,6 @@ fn leaf_line(alloc: Global, number: Option<u64>) -> Result<TreeLine, AllocError>
         None => Ok(TreeLine::Leaf(Mix::new(WHOLE_WEIGHT as i128, Vec::new(alloc)))),
         Some(number) => whole_leaf(alloc, number),
     }
-}
-
-/// The number of a kept cut that closes the target in the branch, alone, if one of the newest does.
-pub(crate) fn closing_cut(task: &Task, branch: &Branch, progress: &Progress) -> Option<u64>
-    requires going { IsGoing task.now progress.now }
-    requires branch { IsBranch task.now.instance.now branch.now }
-    ensures least { IfSome result (λ c. 1 ≤ c) }
-    ensures most { IfSome result (λ c. c ≤ length progress.now.cuts.cuts) }
-    ensures closes { let p = task.now.instance.now in
-        IfSome result (λ c. ClosesBy p (cut_at (cuts_of p progress.now) c) (target_of progress.now) branch.now) }
-{
-    let count = progress.cuts.len();
-    let target = target(progress);
-    for back in 0..count.min(MOST_TRIES) {
-        let number = count - back;
-        if is_above(kept_bound(task, branch, progress, number), target) {
-            return Some(number);
-        }
-    }
-    None
-}
-
-/// Ends a branch in which no node is free with the leaf of the cut of its hubs. They become the incumbent, if they cost
-/// less.
-pub(crate) fn set_leaf(
-    alloc: Global,
-    task: &Task,
-    bench: &mut Bench,
-    branch: &Branch,
-    progress: &mut Progress,
-) -> Result<(), AllocError>
-    requires going { IsGoing task.now progress.old }
-    requires bench { bench.old.problem ≡ task.now.instance.now }
-    requires branch { IsBranch task.now.instance.now branch.now }
-    requires some_inside { 1 ≤ length branch.now.inside }
-    requires none_free { branch.now.free ≡ [] }
-    ensures bench { bench.new.problem ≡ bench.old.problem }
-    ensures done { OnOk result (IsDone task.now branch.now progress.old progress.new) }
-{
-    let inside = ordered_set(alloc, task, branch)?;
-    let total = bench.set_sums(&inside.set, &inside.order);
-    offer_inside(alloc, task, branch, total, progress)?;
-    let cut = KeptCut::Set(inside.set, inside.order);
-    let number = keep(alloc, task, cut, total, bench.loads(), progress)?;
-    cut_leaf(alloc, task, branch, number, progress)
 }
 
 /// The hubs of a branch, with the other candidates in the order for their cut.
@@ -176,23 +184,4 @@ fn better_of(best: Choice, other: Choice) -> Choice
     } else {
         best
     }
-}
-
-/// Ends the branch with the leaf that a stop makes of it: the first stop comes only where a node is free.
-pub(crate) fn stopped_leaf(
-    alloc: Global,
-    task: &Task,
-    branch: &Branch,
-    progress: &mut Progress,
-) -> Result<(), AllocError>
-    requires going { IsGoing task.now progress.old }
-    requires branch { IsBranch task.now.instance.now branch.now }
-    requires spent { IsSpent task.now.nodes progress.old.made }
-    requires due { IsNone progress.old.stop → 1 ≤ length branch.now.free }
-    ensures { OnOk result (IsDone task.now branch.now progress.old progress.new) }
-{
-    let choice = best_choice(task, branch, progress);
-    let line = leaf_line(alloc, choice.number)?;
-    progress.stop = Some(lesser(rounded_up(choice.bound), progress.stop));
-    end_with(task, branch, line, progress)
 }

@@ -8,19 +8,21 @@
 //!
 //! Who calls hands in the advice, of which nothing is trusted. Each step keeps what `Progressing` of the specs says: the
 //! lines lead from the root to the branches that are still to be filled (`tree_walks`), and the incumbent has its cost.
-//! `Desk` is what a search works with, `Bench` for what is exact and `Guide` for advice; `Progress` is what it has. Costs
-//! are in 10^-12; nodes are `u32`, counted from 0, cuts are counted from 1.
+//! `Walk` is what a search is to do, works with (`Bench`) and has (`Progress`), and `Walker` goes on with it by advice
+//! (`Guide`). Costs are in 10^-12; nodes are `u32`, counted from 0, cuts are counted from 1.
 #![tactic(auto)]
 
 mod advising;
 mod bench;
 mod bounds;
-mod desk;
 mod guide;
 mod keeping;
 mod leaves;
 mod optimizing;
 mod progress;
+mod values;
+mod walk;
+mod walker;
 mod walking;
 
 pub use optimizing::optimize;

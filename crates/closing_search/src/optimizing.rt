@@ -1,6 +1,6 @@
 //! The whole search.
 
-ghost use Rattle.std.specs.Prelude.{◌≡◌, ℕ, ◌+◌, ◌^◌, ◌≤◌, ◌<◌, [], ◌∷◌, length, None, IsNone, IfOk, OnOk};
+ghost use Rattle.std.specs.Prelude.{◌≡◌, ℕ, ◌+◌, ◌^◌, ◌≤◌, ◌<◌, [], ◌∷◌, length, None, IsNone, IfOk};
 ghost use Rattle.std.specs.List.{AllZip};
 ghost use Rattle.hub_spec.specs.Problem.{commodities};
 ghost use Rattle.hub_spec.specs.Plans.{IsSetCost, IsLeastRoute, NoPlanBelow};
@@ -10,9 +10,8 @@ ghost use Rattle.kept_cuts.specs.Findings.{IsProved};
 ghost use Rattle.search_core.specs.Tasks.{AreFixedCosts};
 ghost use Rattle.closing_search.specs.Progressing.{IsGoing, IsDone, IsOver};
 
-use crate::desk::Desk;
 use crate::progress::{Progress, target};
-use crate::walking::node;
+use crate::walker::Walker;
 use assign_sub::{assign, set_cost};
 use hub_model::{Instance, unsigned};
 use kept_cuts::{Found, KeptCuts};
@@ -53,40 +52,27 @@ pub fn optimize<R: Threads + Sync, A: Advice + Drop>(
     ensures whole { nodes ≡ None → IfOk result (λ found. found.bound ≡ found.cost) }
 {
     let task = Task::new(alloc, instance, nodes)?;
-    let mut progress = begin(alloc, &task)?;
-    fill_tree(rt, alloc, &task, advice, &mut progress)?;
+    let begun = begin(alloc, &task)?;
+    let progress = fill_tree(rt, alloc, &task, advice, begun)?;
     finish(alloc, &task, progress)
 }
 
 // Handles the root, and all nodes below it, by this advice.
-fn fill_tree<R: Threads + Sync, A: Advice + Drop>(
-    rt: &R,
+fn fill_tree<'a, R: Threads + Sync, A: Advice + Drop>(
+    rt: &'a R,
     alloc: Global,
-    task: &Task,
+    task: &'a Task<'a>,
     advice: A,
-    progress: &mut Progress,
-) -> Result<(), AllocError>
-    requires { IsGoing task.now progress.old }
-    ensures { OnOk result (IsDone task.now (root task.now.instance.now) progress.old progress.new) }
-{
-    let mut desk = Desk::new(alloc, task.instance, advice)?;
-    walk(rt, alloc, task, &mut desk, progress)
-}
-
-// Handles the root, and all nodes below it, at this desk.
-fn walk<R: Threads + Sync, A: Advice + Drop>(
-    rt: &R,
-    alloc: Global,
-    task: &Task,
-    desk: &mut Desk<'_, A>,
-    progress: &mut Progress,
-) -> Result<(), AllocError>
-    requires going { IsGoing task.now progress.old }
-    requires bench { desk.old.bench.problem ≡ task.now.instance.now }
-    ensures { OnOk result (IsDone task.now (root task.now.instance.now) progress.old progress.new) }
+    begun: Progress,
+) -> Result<Progress, AllocError>
+    requires { IsGoing task.now begun }
+    ensures { IfOk result (IsDone task.now (root task.now.instance.now) begun) }
 {
     let root = Branch::root(alloc, task.instance)?;
-    node(rt, alloc, task, desk, &root, progress)
+    let mut walker = Walker::new(rt, alloc, task, advice, begun)?;
+    walker.node(&root)?;
+    let walk = walker.walk;
+    Ok(walk.progress)
 }
 
 // No cut and no line, with the set of all candidates as the first incumbent.

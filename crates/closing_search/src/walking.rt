@@ -1,97 +1,79 @@
 //! The walk over the tree, the open child of a branch first.
 
-ghost use Rattle.std.specs.Prelude.{◌≡◌, ◌+◌, ◌≤◌, length, OnOk};
+ghost use Rattle.std.specs.Prelude.{◌+◌, ◌≤◌, length, OnOk};
 ghost use Rattle.hub_spec.specs.Trees.{IsBranch};
 ghost use Rattle.search_spec.specs.Findings.{AreWithin};
-ghost use Rattle.closing_search.specs.Progressing.{IsGoing, IsDone};
+ghost use Rattle.closing_search.specs.Progressing.{IsDone};
+ghost use Rattle.closing_search.specs.Walking.{IsWalking, IsSameWalk};
 
-use crate::advising::{branch_node, end_by_advice};
-use crate::desk::Desk;
-use crate::leaves::{closing_cut, cut_leaf, set_leaf, stopped_leaf};
-use crate::progress::{Progress, end_with, split_on};
+use crate::progress::{end_with, split_on};
+use crate::walker::Walker;
 use plan_model::{Branch, TreeLine};
 use search_advice::Advice;
-use search_core::Task;
-use std::alloc::{AllocError, Global};
+use std::alloc::AllocError;
 use std::thread::Threads;
 
-/// Handles the node of a branch, and all nodes below it.
-#[cycle(walk)]
-pub(crate) fn node<R: Threads + Sync, A: Advice + Drop>(
-    rt: &R,
-    alloc: Global,
-    task: &Task,
-    desk: &mut Desk<'_, A>,
-    branch: &Branch,
-    progress: &mut Progress,
-) -> Result<(), AllocError>
-    requires going { IsGoing task.now progress.old }
-    requires bench { desk.old.bench.problem ≡ task.now.instance.now }
-    requires branch { IsBranch task.now.instance.now branch.now }
-    ensures bench { desk.new.bench.problem ≡ desk.old.bench.problem }
-    ensures done { OnOk result (IsDone task.now branch.now progress.old progress.new) }
-{
-    if branch.free().is_empty() && branch.inside().is_empty() {
-        return end_with(task, branch, TreeLine::Empty, progress);
+impl<R: Threads + Sync, A: Advice + Drop> Walker<'_, R, A> {
+    /// Handles the node of a branch, and all nodes below it.
+    #[cycle(walk)]
+    pub(crate) fn node(&mut self, branch: &Branch) -> Result<(), AllocError>
+        requires walking { IsWalking self.old.walk }
+        requires branch { IsBranch self.old.walk.task.now.instance.now branch.now }
+        ensures same { IsSameWalk self.old.walk self.new.walk }
+        ensures done { OnOk result (IsDone self.old.walk.task.now branch.now self.old.walk.progress self.new.walk.progress) }
+    {
+        if branch.free().is_empty() && branch.inside().is_empty() {
+            return end_with(
+                self.walk.task,
+                branch,
+                TreeLine::Empty,
+                &mut self.walk.progress,
+            );
+        }
+        if self.walk.progress.stop.is_some() {
+            return self.walk.stopped_leaf(branch);
+        }
+        if let Some(number) = self.walk.closing_cut(branch) {
+            return self.walk.cut_leaf(branch, number);
+        }
+        if branch.free().is_empty() {
+            return self.walk.set_leaf(branch);
+        }
+        if self.end_by_advice(branch)? {
+            return Ok(());
+        }
+        self.parted(branch)
     }
-    if progress.stop.is_some() {
-        return stopped_leaf(alloc, task, branch, progress);
-    }
-    if let Some(number) = closing_cut(task, branch, progress) {
-        return cut_leaf(alloc, task, branch, number, progress);
-    }
-    if branch.free().is_empty() {
-        return set_leaf(alloc, task, &mut desk.bench, branch, progress);
-    }
-    if end_by_advice(rt, alloc, task, desk, branch, progress)? {
-        return Ok(());
-    }
-    parted(rt, alloc, task, desk, branch, progress)
-}
 
-/// Parts the branch on a free node, where two nodes more are allowed.
-#[cycle(walk)]
-fn parted<R: Threads + Sync, A: Advice + Drop>(
-    rt: &R,
-    alloc: Global,
-    task: &Task,
-    desk: &mut Desk<'_, A>,
-    branch: &Branch,
-    progress: &mut Progress,
-) -> Result<(), AllocError>
-    requires going { IsGoing task.now progress.old }
-    requires bench { desk.old.bench.problem ≡ task.now.instance.now }
-    requires branch { IsBranch task.now.instance.now branch.now }
-    requires some_free { 1 ≤ length branch.now.free }
-    requires allowed { AreWithin task.now.nodes (progress.old.made + 2) }
-    ensures bench { desk.new.bench.problem ≡ desk.old.bench.problem }
-    ensures done { OnOk result (IsDone task.now branch.now progress.old progress.new) }
-{
-    let k = branch_node(task, &desk.guide, branch);
-    split_on(task, branch, k, progress)?;
-    desk.guide.advice.put_aside(alloc)?;
-    let opened = branch.open_child(alloc, k)?;
-    child(rt, alloc, task, desk, opened, progress)?;
-    desk.guide.advice.go_back();
-    let closed = branch.closed_child(alloc, k)?;
-    child(rt, alloc, task, desk, closed, progress)
-}
+    /// Parts the branch on a free node, where two nodes more are allowed.
+    #[cycle(walk)]
+    fn parted(&mut self, branch: &Branch) -> Result<(), AllocError>
+        requires walking { IsWalking self.old.walk }
+        requires branch { IsBranch self.old.walk.task.now.instance.now branch.now }
+        requires some_free { 1 ≤ length branch.now.free }
+        requires allowed { AreWithin self.old.walk.task.now.nodes (self.old.walk.progress.made + 2) }
+        ensures same { IsSameWalk self.old.walk self.new.walk }
+        ensures done { OnOk result (IsDone self.old.walk.task.now branch.now self.old.walk.progress self.new.walk.progress) }
+    {
+        let alloc = self.walk.alloc;
+        let k = self.branch_node(branch);
+        split_on(self.walk.task, branch, k, &mut self.walk.progress)?;
+        self.guide.advice.put_aside(alloc)?;
+        let opened = branch.open_child(alloc, k)?;
+        self.child(opened)?;
+        self.guide.advice.go_back();
+        let closed = branch.closed_child(alloc, k)?;
+        self.child(closed)
+    }
 
-/// Handles the node of a child, which is not needed any more.
-#[cycle(walk)]
-fn child<R: Threads + Sync, A: Advice + Drop>(
-    rt: &R,
-    alloc: Global,
-    task: &Task,
-    desk: &mut Desk<'_, A>,
-    branch: Branch,
-    progress: &mut Progress,
-) -> Result<(), AllocError>
-    requires going { IsGoing task.now progress.old }
-    requires bench { desk.old.bench.problem ≡ task.now.instance.now }
-    requires branch { IsBranch task.now.instance.now branch }
-    ensures bench { desk.new.bench.problem ≡ desk.old.bench.problem }
-    ensures done { OnOk result (IsDone task.now branch progress.old progress.new) }
-{
-    node(rt, alloc, task, desk, &branch, progress)
+    /// Handles the node of a child, which is not needed any more.
+    #[cycle(walk)]
+    fn child(&mut self, branch: Branch) -> Result<(), AllocError>
+        requires walking { IsWalking self.old.walk }
+        requires branch { IsBranch self.old.walk.task.now.instance.now branch }
+        ensures same { IsSameWalk self.old.walk self.new.walk }
+        ensures done { OnOk result (IsDone self.old.walk.task.now branch self.old.walk.progress self.new.walk.progress) }
+    {
+        self.node(&branch)
+    }
 }

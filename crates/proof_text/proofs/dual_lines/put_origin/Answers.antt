@@ -6,6 +6,7 @@ use Rattle.hub_plain.proofs.Entries.{entries_again}
 use Rattle.cert_format.proofs.Amounts.{same_amount}
 use Rattle.cert_format.proofs.Written.{values_natural}
 use Rattle.cert_format.proofs.Following.{list_more, list_stop, list_end}
+use Rattle.cert_format.specs.DualItems.{dual_items_from}
 use Rattle.cert_format.proofs.CutLines.{length_dual_items_from, dual_at}
 use Rattle.kept_cuts.specs.Kept.{kept_of}
 use Rattle.proof_text.specs.Lenders.{kept_dual, made_dual}
@@ -26,7 +27,7 @@ returns-in_err-put_dual-clause-lines g c =
     let kept = kept_of c.args.kept.now in
     let d = kept_dual p kept in
     let made = made_dual kept c.make.new.self in
-    list_stop says_version c.loop-j.invariant.put c.put_dual.ensures (ap is_err c.in_err-put_dual.was) c.from_residual.ensures.0
+    list_stop {xs = dual_items_from p.size d c.args.i} says_version c.loop-j.invariant.put c.put_dual.ensures (ap is_err c.in_err-put_dual.was) c.from_residual.ensures.0
     (omega (arith, length_dual_items_from p.size d c.args.i))
     (dual_at p.size d c.args.i c.loop-j.j made c.dual-a.result.1.now says_version c.make.ensures.made
     (same_amount c.dual-a.result.0 (search rules) ∙ ap natural c.dual-a.ensures.price)
@@ -40,7 +41,7 @@ loop-j-preserved g c =
     let made = made_dual kept c.make.new.self in
     record {
       duals = c.make.ensures.duals;
-      put = list_more says_version c.loop-j.invariant.put c.put_dual.ensures (ap is_ok c.in_ok-put_dual.was)
+      put = list_more {xs = dual_items_from p.size d c.args.i} says_version c.loop-j.invariant.put c.put_dual.ensures (ap is_ok c.in_ok-put_dual.was)
           (omega (arith, length_dual_items_from p.size d c.args.i))
           (dual_at p.size d c.args.i c.loop-j.j made c.dual-a.result.1.now says_version c.make.ensures.made
           (same_amount c.dual-a.result.0 (search rules) ∙ ap natural c.dual-a.ensures.price)

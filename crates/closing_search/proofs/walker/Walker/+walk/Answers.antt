@@ -3,22 +3,29 @@ use Rattle.std.proofs.lemmas.Result.{on_ok_weaker}
 use Rattle.hub_spec.specs.Trees.{Branching, IsBranch}
 use Rattle.hub_spec.proofs.ChildLists.{open_branch, closed_branch}
 use Rattle.search_spec.proofs.Parting.{length-without}
+use Rattle.search_core.specs.declared.tasks.Task.{Task}
 use Rattle.closing_search.specs.Progressing.{IsDone, IsAdvised}
+use Rattle.closing_search.specs.Walking.{IsWalking, IsSameWalk}
 use Rattle.closing_search.proofs.Steps.{at_done, halved_done}
-use Rattle.closing_search.proofs.walking.+walk.Goals as goal
+use Rattle.closing_search.proofs.Walks.{walks_on}
+use Rattle.closing_search.proofs.walker.Walker.+walk.Goals as goal
 
 pub node-returns-clause-done : goal.node-returns-clause-done
 node-returns-clause-done g t c =
-    let task = c.args.task.now in
+    let task = c.args.self.now.walk.task.now in
     let b = c.args.branch.now in
-    let before = c.args.progress.now in
-    let middle = c.end_by_advice.new.progress in
-    let went_on = subst (IsAdvised task b before middle) c.if-branch.false c.in_ok-end_by_advice.ensures.advised in
-    on_ok_weaker c.parted.result (λ done. at_done task b before middle c.parted.new.progress went_on.0 done) c.parted.ensures.done
+    let before = c.args.self.now.walk.progress in
+    let middle = c.end_by_advice.new.self.walk.progress in
+    let after = c.parted.new.self.walk.progress in
+    let advised = c.in_ok-end_by_advice.ensures in
+    let went_on = subst (IsAdvised task b before middle) c.if-branch.false advised.advised in
+    on_ok_weaker c.parted.result
+    (λ done. at_done task b before middle after went_on.0 (subst (λ (x : Task). IsDone x b middle after) advised.same.task done))
+    c.parted.ensures.done
 
 pub parted-child-requires : goal.parted-child-requires
 parted-child-requires g t c = λ _ within.
-    (let p = c.args.task.now.instance.now in
+    (let p = c.args.self.now.walk.task.now.instance.now in
     let b = c.args.branch.now in
     let free = c.branch_node-k.ensures in
     let child = c.in_ok-opened.ensures in
@@ -32,8 +39,8 @@ parted-child-requires g t c = λ _ within.
           (
             search rules,
             (
-              c.in_ok-split_on.ensures.going,
-              (c.requires.bench, subst (IsBranch p) (sym child) (open_branch p b c.branch_node-k.result c.requires.branch free)),
+              record { going = c.in_ok-split_on.ensures.going; bench = c.requires.walking.bench },
+              subst (IsBranch p) (sym child) (open_branch p b c.branch_node-k.result c.requires.branch free),
             ),
           ),
         ),
@@ -42,10 +49,11 @@ parted-child-requires g t c = λ _ within.
 
 pub parted-child-requires-2 : goal.parted-child-requires-2
 parted-child-requires-2 g t c = λ _ within.
-    (let p = c.args.task.now.instance.now in
+    (let p = c.args.self.now.walk.task.now.instance.now in
     let b = c.args.branch.now in
     let free = c.branch_node-k.ensures in
     let child = c.in_ok-closed.ensures in
+    let same = c.in_ok-child.ensures.same in
     let fewer : length c.in_ok-closed.closed.free + 1 ≡ length b.free =
     ap (λ (x : Branching). length x.free + 1) child ∙ length-without c.branch_node-k.result b.free free in (
       search (rules, arith),
@@ -56,11 +64,9 @@ parted-child-requires-2 g t c = λ _ within.
           (
             search rules,
             (
-              c.in_ok-child.ensures.done.going,
-              (
-                c.in_ok-child.ensures.bench ∙ c.requires.bench,
-                subst (IsBranch p) (sym child) (closed_branch p b c.branch_node-k.result c.requires.branch free),
-              ),
+              walks_on _ c.child.new.self.walk same c.requires.walking.bench c.in_ok-child.ensures.done.going,
+              subst (λ (x : Task). IsBranch x.instance.now c.in_ok-closed.closed) (sym same.task)
+                  (subst (IsBranch p) (sym child) (closed_branch p b c.branch_node-k.result c.requires.branch free)),
             ),
           ),
         ),
@@ -69,13 +75,14 @@ parted-child-requires-2 g t c = λ _ within.
 
 pub parted-returns-clause-done : goal.parted-returns-clause-done
 parted-returns-clause-done g t c =
-    let task = c.args.task.now in
+    let task = c.args.self.now.walk.task.now in
     let b = c.args.branch.now in
     let begun = c.split_on.new.progress in
-    let middle = c.child.new.progress in
-    let after = c.child-2.new.progress in
+    let middle = c.child.new.self.walk.progress in
+    let after = c.child-2.new.self.walk.progress in
     let opened = subst (λ (x : Branching). IsDone task x begun middle) c.in_ok-opened.ensures c.in_ok-child.ensures.done in
     on_ok_weaker c.child-2.result
-    (λ done. halved_done task b c.branch_node-k.result c.args.progress.now begun middle after c.in_ok-split_on.ensures opened
-    (subst (λ (x : Branching). IsDone task x middle after) c.in_ok-closed.ensures done))
+    (λ done. halved_done task b c.branch_node-k.result c.args.self.now.walk.progress begun middle after c.in_ok-split_on.ensures opened
+    (subst (λ (x : Branching). IsDone task x middle after) c.in_ok-closed.ensures
+    (subst (λ (x : Task). IsDone x c.in_ok-closed.closed middle after) c.in_ok-child.ensures.same.task done)))
     c.child-2.ensures.done

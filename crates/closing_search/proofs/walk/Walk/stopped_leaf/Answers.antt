@@ -12,18 +12,18 @@ use Rattle.closing_search.specs.SingleCuts.{weights_on}
 use Rattle.closing_search.specs.Progressing.{cuts_of, IsDone}
 use Rattle.closing_search.proofs.Choices.{leaf_sound, leaf_in_range, stop_closes, number_in}
 use Rattle.closing_search.proofs.Steps.{stop_going, stop_done}
-use Rattle.closing_search.proofs.leaves.stopped_leaf.Goals as goal
+use Rattle.closing_search.proofs.walk.Walk.stopped_leaf.Goals as goal
 
 pub end_with-requires-clause-going : goal.end_with-requires-clause-going
-end_with-requires-clause-going c = stop_going c.args.task.now c.args.progress.now c.lesser.result c.requires.going c.requires.spent
+end_with-requires-clause-going c = stop_going c.args.self.now.task.now c.args.self.now.progress c.lesser.result c.requires.going c.requires.spent
 
 pub end_with-requires-clause-end : goal.end_with-requires-clause-end
 end_with-requires-clause-end c b pending = rw c.in_ok-line.ensures refl
 
 pub end_with-requires-clause-sound : goal.end_with-requires-clause-sound
 end_with-requires-clause-sound c =
-    let p = c.args.task.now.instance.now in
-    let s = c.args.progress.now in
+    let p = c.args.self.now.task.now.instance.now in
+    let s = c.args.self.now.progress in
     let choice = c.best_choice-choice.result in
     let is = c.best_choice-choice.ensures.choice in
     let cuts = cuts_of p s in
@@ -37,18 +37,18 @@ end_with-requires-clause-sound c =
 
 pub end_with-requires-clause-in_range : goal.end_with-requires-clause-in_range
 end_with-requires-clause-in_range c =
-    let p = c.args.task.now.instance.now in
-    let s = c.args.progress.now in
+    let p = c.args.self.now.task.now.instance.now in
+    let s = c.args.self.now.progress in
     let choice = c.best_choice-choice.result in
     leaf_in_range p.size (cuts_of p s) choice.number (tree_line_of c.in_ok-line.line)
     (omega (arith, length-map s.cuts.cuts (kept_cut p), c.requires.going.few_cuts))
     (number_in p (cuts_of p s) c.args.branch.now choice c.best_choice-choice.ensures.choice) c.in_ok-line.ensures
 
-pub returns : goal.returns
-returns c =
-    let t = c.args.task.now in
+pub returns-clause-done : goal.returns-clause-done
+returns-clause-done c =
+    let t = c.args.self.now.task.now in
     let b = c.args.branch.now in
-    let s = c.args.progress.now in
+    let s = c.args.self.now.progress in
     let after = c.end_with.new.progress in
     on_ok_weaker c.end_with.result
     (λ done. stop_done t b s after c.rounded_up.result c.requires.spent c.requires.due

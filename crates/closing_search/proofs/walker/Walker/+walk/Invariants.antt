@@ -1,5 +1,5 @@
 use Rattle.std.proofs.Common.{◌+◌, ◌*◌, length}
-use Rattle.closing_search.proofs.walking.+walk.Given as goal
+use Rattle.closing_search.proofs.walker.Walker.+walk.Given as goal
 
 abbrev pub decreases-node : goal.decreases-node
 decreases-node g l = 3 * length l.branch.now.free + 1

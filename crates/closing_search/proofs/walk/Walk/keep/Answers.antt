@@ -1,0 +1,30 @@
+use Rattle.std.proofs.Common.{◌≤◌, All, refl, sym, subst, arith}
+use Rattle.std.proofs.lemmas.Result.{on_ok_weaker}
+use Rattle.hub_spec.specs.Limits.{most_cost}
+use Rattle.kept_cuts.specs.Kept.{kept_of, kept_cut}
+use Rattle.closing_search.specs.SingleCuts.{AreLoads}
+use Rattle.closing_search.proofs.SingleBounds.{loads_within, total_within}
+use Rattle.closing_search.proofs.Steps.{cut_at_step}
+use Rattle.closing_search.proofs.walk.Walk.keep.Goals as goal
+
+pub keep-requires-clause-total : goal.keep-requires-clause-total
+keep-requires-clause-total c =
+    let p = c.args.self.now.task.now.instance.now in
+    total_within p (kept_cut p (kept_of c.args.cut)) c.args.total c.args.self.now.bench.loads c.requires.sums
+
+pub keep-requires-clause-loads : goal.keep-requires-clause-loads
+keep-requires-clause-loads c =
+    let p = c.args.self.now.task.now.instance.now in
+    subst (All (λ l. l ≤ most_cost)) (sym c.loads.ensures)
+    (loads_within p (kept_cut p (kept_of c.args.cut)) c.args.total c.args.self.now.bench.loads c.requires.sums)
+
+pub returns-clause-at : goal.returns-clause-at
+returns-clause-at c =
+    let p = c.args.self.now.task.now.instance.now in
+    let loads = c.loads.result.now in
+    let sums = subst (AreLoads p (kept_cut p (kept_of c.args.cut)) c.args.total) (sym c.loads.ensures) c.requires.sums in
+    on_ok_weaker c.keep.result
+    (λ kept. cut_at_step c.args.self.now.task.now c.args.self.now.progress _ (kept_of c.args.cut) c.args.total loads c.requires.going
+    (record { cuts = kept; lines = refl; hubs = refl; cost = refl; made = refl; stop = refl }) c.requires.fit sums
+    (omega (arith, c.len.ensures, c.if-len.false)))
+    c.keep.ensures.kept

@@ -1,0 +1,59 @@
+//! The cut of the values of the advice, at a branch.
+
+ghost use Rattle.std.specs.Prelude.{◌≡◌, ◌≤◌, length, IsTrue, IfOk, OnOk};
+ghost use Rattle.hub_spec.specs.Trees.{IsBranch, cut_at};
+ghost use Rattle.value_cuts.specs.Values.{AreValuesFor, value_cut};
+ghost use Rattle.closing_search.specs.Progressing.{cuts_of, target_of, IsGoing, IsAt, IsAdvised};
+ghost use Rattle.closing_search.specs.SingleCuts.{AreLoads, ClosesBy};
+ghost use Rattle.closing_search.specs.Walking.{IsWalking, IsSameWalk};
+
+use crate::progress::may_split;
+use crate::walk::Walk;
+use plan_model::Branch;
+use std::alloc::AllocError;
+
+impl Walk<'_> {
+    /// Ends the branch by the cut of the values, if that closes it, or by a stop, where two nodes more are not allowed,
+    /// and tells whether it did.
+    pub(crate) fn end_by_values(
+        &mut self,
+        values: &[u32],
+        branch: &Branch,
+    ) -> Result<bool, AllocError>
+        requires walking { IsWalking self.old }
+        requires branch { IsBranch self.old.task.now.instance.now branch.now }
+        requires some_free { 1 ≤ length branch.now.free }
+        ensures same { IsSameWalk self.old self.new }
+        ensures advised { IfOk result (λ ended. IsAdvised self.old.task.now branch.now self.old.progress self.new.progress ended) }
+    {
+        let total = self.bench.value_sums(values);
+        let closes = self.sums_close(branch, total)?;
+        if !closes && may_split(self.task, &self.progress) {
+            return Ok(false);
+        }
+        let number = self.keep_values(total)?;
+        if closes {
+            self.cut_leaf(branch, number)?;
+        } else {
+            self.stopped_leaf(branch)?;
+        }
+        Ok(true)
+    }
+
+    // Keeps the cut of the values that were taken last, and gives its number.
+    fn keep_values(&mut self, total: u128) -> Result<u64, AllocError>
+        requires going { IsGoing self.old.task.now self.old.progress }
+        requires fit { AreValuesFor self.old.task.now.instance.now self.old.bench.values }
+        requires sums { let p = self.old.task.now.instance.now in AreLoads p (value_cut p self.old.bench.values) total self.old.bench.loads }
+        ensures same { IsSameWalk self.old self.new }
+        ensures at { OnOk result (IsAt self.old.task.now self.old.progress self.new.progress) }
+        ensures least { IfOk result (λ c. 1 ≤ c) }
+        ensures most { IfOk result (λ c. c ≤ length self.new.progress.cuts.cuts) }
+        ensures cut { let p = self.old.task.now.instance.now in
+            IfOk result (λ c. cut_at (cuts_of p self.new.progress) c ≡ value_cut p self.old.bench.values) }
+        ensures cost { OnOk result (self.new.progress.cost ≡ self.old.progress.cost) }
+    {
+        let cut = self.bench.kept_values(self.alloc)?;
+        self.keep(cut, total)
+    }
+}

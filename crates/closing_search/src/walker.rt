@@ -1,0 +1,44 @@
+//! Who walks.
+
+ghost use Rattle.std.specs.Prelude.{◌≡◌, IfOk};
+
+use crate::bench::Bench;
+use crate::guide::Guide;
+use crate::progress::Progress;
+use crate::walk::Walk;
+use search_advice::Advice;
+use search_core::Task;
+use std::alloc::{AllocError, Global};
+
+/// A walk with who advises it, and the runtime's handle for the advice's threads.
+#[derive(Drop)]
+pub(crate) struct Walker<'a, R, A> {
+    pub(crate) rt: &'a R,
+    pub(crate) guide: Guide<A>,
+    pub(crate) walk: Walk<'a>,
+}
+
+impl<'a, R, A: Advice + Drop> Walker<'a, R, A> {
+    /// A walker with this advice, who goes on from what the search has.
+    pub(crate) fn new(
+        rt: &'a R,
+        alloc: Global,
+        task: &'a Task<'a>,
+        advice: A,
+        progress: Progress,
+    ) -> Result<Walker<'a, R, A>, AllocError>
+        ensures task { IfOk result (λ w. w.walk.task.now ≡ task.now) }
+        ensures bench { IfOk result (λ w. w.walk.bench.problem ≡ task.now.instance.now) }
+        ensures progress { IfOk result (λ w. w.walk.progress ≡ progress) }
+    {
+        let bench = Bench::new(alloc, task.instance, advice.unit())?;
+        let guide = Guide::new(alloc, task.instance.candidates().len(), advice)?;
+        let walk = Walk {
+            alloc,
+            task,
+            bench,
+            progress,
+        };
+        Ok(Walker { rt, guide, walk })
+    }
+}
