@@ -4,7 +4,7 @@ import json
 import random
 from unittest import SkipTest
 
-from .helper import InFolder
+from .helper import InFolder, needs
 
 LINE = "3\n0 0 10\n0 0 0\n10 0 0\n0 4 8\n4 0 4\n8 4 0\n"
 COSTS = "1 1.5 1\n"
@@ -84,18 +84,23 @@ class Refusals(InFolder):
     """No table, and no picture, without a certificate that `hub check` accepts."""
 
     def test_what_check_does_not_accept(self) -> None:
+        self.refuses("network", "tables")
+
+    @needs("numpy", "matplotlib")
+    def test_what_check_does_not_accept_is_not_drawn(self) -> None:
+        self.refuses("map", "map.svg")
+
+    def refuses(self, script: str, out: str) -> None:
+        """The script takes no certificate that `hub check` does not accept, and leaves nothing behind."""
         words = ["cab-matrix", "line.txt", "line.cert", "--trunk", "0.2"]
         self.write("line.txt", LINE)
         self.solve("line.cert", *words[:2], *words[3:], "--fixed", "1")
         self.write("cut.cert", self.read("line.cert")[:-4])
         files = sorted(self.folder.iterdir())
-        for script, out in (("network", "tables"), ("map", "map.svg")):
-            ended = self.script(script, *words, "--fixed", "2", "--out", out)
-            self.assert_fault(ended, f"{script}: line.cert: hub check did not accept this certificate: no Cost 14")
-            ended = self.script(script, *words[:2], "nowhere", "--out", out)
-            self.assert_fault(ended, f"{script}: nowhere: hub check did not accept this certificate: hub: read failed")
-            ended = self.script(script, *words, "--out", out, hub="/nowhere/hub")
-            self.assert_fault(
-                ended, f"{script}: /nowhere/hub: no such program; HUB in the environment may name another"
-            )
+        ended = self.script(script, *words, "--fixed", "2", "--out", out)
+        self.assert_fault(ended, f"{script}: line.cert: hub check did not accept this certificate: no Cost 14")
+        ended = self.script(script, *words[:2], "nowhere", "--out", out)
+        self.assert_fault(ended, f"{script}: nowhere: hub check did not accept this certificate: hub: read failed")
+        ended = self.script(script, *words, "--out", out, hub="/nowhere/hub")
+        self.assert_fault(ended, f"{script}: /nowhere/hub: no such program; HUB in the environment may name another")
         self.assertEqual(sorted(self.folder.iterdir()), files)
