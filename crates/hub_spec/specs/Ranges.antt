@@ -37,9 +37,8 @@ abbrev pub IsLineInRange : ℕ → TreeLine → Type 0
 IsLineInRange n (branch_on k) = k < n
 IsLineInRange n (leaf_of denom weights) = (1 ≤ denom) × (denom ≤ most_denominator) × AreWeightsInRange weights
 IsLineInRange n no_hub = Unit {0}
--- no text says these yet
-IsLineInRange n (no_route commodity) = ⊥
-IsLineInRange n no_count = ⊥
+IsLineInRange n (no_route commodity) = (commodity.0 < n) × (commodity.1 < n)
+IsLineInRange n no_count = Unit {0}
 
 -- what the first version can say of a dual, a cut and a tree line: amounts have at most 30 digits, the part is 1, and no
 -- commodity is blocked and no number of hubs lacking
@@ -66,9 +65,9 @@ pub record IsFirst (k : Proof) : Type 0 where
 abbrev pub IsSecond : ℕ → Type 0
 IsSecond version = ⊥
 
--- a version that has a text for what the certificate says
+-- a version that has a text for what the certificate says; no text says yet that a commodity is blocked or a number lacking
 abbrev pub IsVersionOf : Proof → Type 0
-IsVersionOf k = ((k.version ≡ 1) × IsFirst k) ⊎ IsSecond k.version
+IsVersionOf k = ((k.version ≡ 1) × IsFirst k) ⊎ (IsSecond k.version × All IsFirstLine (preorder k.tree))
 
 -- a certificate in range
 pub record IsInRange (k : Proof) : Type 0 where
