@@ -171,21 +171,22 @@ least_routes_are p hubs (c ∷ cs) set = (least_route_is p hubs c set, least_rou
 
 -- ---- the certificate
 
-certificate_is : (p : Problem) (g : Grown) → IsProof p g → IsCertificateOf p g (certificate_of p g)
+certificate_is : (p : Problem) (v : ℕ) (g : Grown) → IsProof p g → IsCertificateOf p v g (certificate_of p v g)
 unfolding certificate_of
-certificate_is p g proof = record {
+certificate_is p v g proof = record {
+  version = refl;
   size = refl;
   candidates = refl;
   cost = refl;
   bound = refl;
   hubs = refl;
-  routes = least_routes_are p g.state.hubs (commodities p.size) proof.state.hubs;
+  routes = least_routes_are p g.state.hubs (commodities p.size) proof.state.hubs.is_set;
   cuts = refl;
   tree = refl;
 }
 
-pub certificate_is_one_lem : (p : Problem) (g : Grown) (k : Proof) → IsProof p g → IsCertificateOf p g k ↔ (k ≡ certificate_of p g)
-certificate_is_one_lem p g k proof = (
-  λ is. same_certificates p g k (certificate_of p g) is (certificate_is p g proof),
-  λ e. subst (IsCertificateOf p g) (sym e) (certificate_is p g proof),
+pub certificate_is_one_lem : (p : Problem) (v : ℕ) (g : Grown) (k : Proof) → IsProof p g → IsCertificateOf p v g k ↔ (k ≡ certificate_of p v g)
+certificate_is_one_lem p v g k proof = (
+  λ is. same_certificates p v g k (certificate_of p v g) is (certificate_is p v g proof),
+  λ e. subst (IsCertificateOf p v g) (sym e) (certificate_is p v g proof),
 )

@@ -1,23 +1,26 @@
 -- The parts of the rule are sound: its orders, its picks, its ends.
-use Rattle.std.proofs.Common.{◌≡◌, ℕ, ◌*◌, ◌≤◌, pos, Bool, true, false, not, ◌&&◌, ◌||◌, cond, if◌then◌else◌, nat_eq, nat_lt, int_lt, List, [], ◌∷◌, length, filter, Contains, ◌⊎◌, inl, inr, ⊎_elim, Some, None, refl, ap, sym, subst, ◌∙◌, true≢false, eq-eqb, eqb-true, arith}
+use Rattle.std.proofs.Common.{◌≡◌, ℕ, ◌*◌, ◌/◌, ◌≤◌, pos, ◌+ℤ◌, Bool, true, false, not, ◌&&◌, ◌||◌, cond, if◌then◌else◌, nat_eq, nat_lt, int_lt, List, [], ◌∷◌, length, filter, sum_by, Contains, Option, ◌⊎◌, inl, inr, ⊎_elim, Some, None, refl, ap, sym, subst, ◌∙◌, true≢false, eq-eqb, eqb-true, mul-add, mul_assoc, mul-le-mul_left, arith}
 use Rattle.std.specs.List.{best_of}
 use Rattle.std.specs.List.Sorted.{IsStrictlyIncreasing}
 use Rattle.std.proofs.lemmas.Int.{ints}
 use Rattle.std.proofs.lemmas.Bool.{cond_both, eqb-false, and_parts}
 use Rattle.std.proofs.lemmas.Option.{same_Some, none-some}
 use Rattle.std.proofs.lemmas.List.Elements.{All-contains, filter_passes, All-cons, All-nil}
-use Rattle.hub_spec.specs.Problem.{Problem, IsProblem, fixed_cost}
+use Rattle.hub_spec.specs.Problem.{Problem, IsProblem, fixed_cost, opening_cost}
 use Rattle.hub_spec.specs.Plans.{IsHubSet}
-use Rattle.hub_spec.specs.Cuts.{Cut, load}
+use Rattle.hub_spec.specs.Cuts.{Cut, total, load}
 use Rattle.hub_spec.specs.Separation.{IsOrder}
-use Rattle.hub_spec.specs.Trees.{Branching, IsBranch, cut_at, mixed_load, leaf_bound, Closes, Tree, empty}
+use Rattle.hub_spec.specs.Trees.{Branching, IsBranch, open_child, closed_child, cut_at, mixed_total, mixed_load, mixed_gain, bound_by, Closes, Tree, empty}
+use Rattle.hub_spec.specs.Sums.{sum_ints}
+use Rattle.std.specs.Int.{int_min}
 use Rattle.hub_spec.proofs.Ascending.{ascend_nil, ascend_cons}
 use Rattle.hub_spec.proofs.Sets.{Contains-head, Contains-later, All-from_contains, ascend_tail, ascend_head}
 use Rattle.hub_spec.proofs.SumLemmas.{by_test, Contains-cons_cases, nil_contains_none, sum_by-times, sum_by-same}
 use Rattle.hub_spec.proofs.WeakDuality.{sum_of_gains}
 use Rattle.search_spec.specs.States.{denominator, Advice, whole_on}
-use Rattle.search_spec.specs.Laws.{NumberReaches, IsEnd, AreSound}
+use Rattle.search_spec.specs.Laws.{IsWantedSet, NumberReaches, IsEnd, AreSound}
 use Rattle.search_spec.specs.Choices.{has_node, others, by_falling, order_by_point, first_best, rounded, picked, nearest_half, all_closed, all_decided, is_half, from_half, Advising, rule_parts, IsSoundAdvising}
+use Rattle.search_spec.proofs.Bounds.{any_wanted, any_room}
 use Rattle.search_spec.proofs.Falling.{in_by_falling, by_falling_has, falling_once, ascending_falls, not_twice}
 use Rattle.search_spec.proofs.SetCosts.{set_cut_serves, set_cost_by_sums}
 
@@ -206,24 +209,39 @@ decided_set p b set is_branch not_closed is =
       are_candidates = is_branch.inside_are;
     })
 
--- the leaf on the cut of the one set closes what the cut reaches
-full_closes : (p : Problem) (cuts : List Cut) (x : ℕ) (hubs outside : List ℕ) (target : ℕ) → NumberReaches p cuts x hubs target
-    → Closes denominator target (leaf_bound p cuts denominator (whole_on x) (record { inside = hubs; outside = outside; free = [] }))
-full_closes p cuts x hubs outside target r =
+-- the gains of the hubs on whose cut the whole weight is close what the cut reaches
+set_closes : (p : Problem) (cuts : List Cut) (x : ℕ) (hubs : List ℕ) (target : ℕ) → NumberReaches p cuts x hubs target
+    → Closes denominator target (pos (mixed_total cuts (whole_on x)) +ℤ sum_ints (mixed_gain p cuts denominator (whole_on x)) hubs)
+set_closes p cuts x hubs target r =
+    let cut = cut_at cuts x in
+    let n = denominator / cut.part in
     let gains = sum_of_gains denominator (fixed_cost p) (mixed_load cuts (whole_on x)) hubs in
-    let loads = sum_by-same (mixed_load cuts (whole_on x)) (λ k. denominator * load (cut_at cuts x) k) hubs (λ k. omega arith) in
-    let scaled = sum_by-times denominator (load (cut_at cuts x)) hubs in
-    omega (arith, ints, r.reaches, gains, loads, scaled)
+    let loads = sum_by-same (mixed_load cuts (whole_on x)) (λ k. n * load cut k) hubs (λ k. omega arith) in
+    let scaled = sum_by-times n (load cut) hubs in
+    let said = mul-le-mul_left n r.reaches.says in
+    let left = mul-add n (cut.part * target) (sum_by (load cut) hubs) in
+    let right = mul-add n (total cut) (cut.part * opening_cost p hubs) in
+    let aim : n * (cut.part * target) ≡ denominator * target = sym (mul_assoc n cut.part target) ∙ ap (λ e. e * target) r.reaches.whole in
+    let opened : n * (cut.part * opening_cost p hubs) ≡ denominator * opening_cost p hubs =
+    sym (mul_assoc n cut.part (opening_cost p hubs)) ∙ ap (λ e. e * opening_cost p hubs) r.reaches.whole in
+    omega (arith, ints, said, left, right, aim, opened, gains, loads, scaled)
 
-decided_closes : (p : Problem) (b : Branching) (set : List ℕ) (cuts : List Cut) (x target : ℕ) → all_decided b ≡ Some set
-    → NumberReaches p cuts x set target → Closes denominator target (leaf_bound p cuts denominator (whole_on x) b)
-decided_closes p b set cuts x target is r =
+-- with no free node that is the bound
+decided_closes : (p : Problem) (wanted : Option ℕ) (b : Branching) (set : List ℕ) (cuts : List Cut) (x target : ℕ) → wanted ≡ None
+    → all_decided b ≡ Some set → NumberReaches p cuts x set target
+    → Closes denominator target (bound_by wanted (mixed_total cuts (whole_on x)) (mixed_gain p cuts denominator (whole_on x)) b)
+decided_closes p (Some n) b set cuts x target any is r = absurd (none-some n (sym any))
+decided_closes p None b set cuts x target any is r =
     let decided = decided_when b set is in
-    let here = subst (λ (ks : List ℕ). NumberReaches p cuts x ks target) (sym decided.hubs) r in
-    subst (λ (ks : List ℕ). Closes denominator target (leaf_bound p cuts denominator (whole_on x) (record b { free = ks })))
-    (sym decided.none_free) (full_closes p cuts x b.inside b.outside target here)
+    let g = mixed_gain p cuts denominator (whole_on x) in
+    let hubs = ap (sum_ints g) decided.hubs in
+    let free = ap (λ (ks : List ℕ). sum_ints (λ k. int_min (pos 0) (g k)) ks) decided.none_free in
+    omega (arith, ints, set_closes p cuts x set target r, hubs, free)
 
 -- ---- the rule
+
+wanted_set : (p : Problem) (set : List ℕ) → IsProblem p → IsHubSet p set → IsWantedSet p set
+wanted_set p set ok is_set = record { is_set = is_set; wanted = any_wanted p set ok.any_number }
 
 pub rule_sound : (p : Problem) (advising : Advising) → IsProblem p → IsSoundAdvising p advising → AreSound p (rule_parts p advising)
 unfolding rule_parts
@@ -232,12 +250,13 @@ rule_sound p advising ok advice = record {
   cost = λ set is_set. (set_cost_by_sums p set (others p set) ok is_set (ascending_order p set ok)).is_cost;
   ascending = λ set is_set. ascending_order p set ok;
   falling = λ a set is_set. falling_order p a set ok;
-  advice = λ s b is_state is_branch through. advice s b is_state is_branch (free_when b through.only);
-  pick = λ a b is_branch through. picked_set p a b ok is_branch (free_when b through.only);
-  some_free = λ b is_branch only. free_when b only;
+  advice = λ s b is_state is_branch room through. advice s b is_state is_branch (free_when b through.only);
+  pick = λ a b is_branch room through. wanted_set p (picked p a b) ok (picked_set p a b ok is_branch (free_when b through.only));
+  some_free = λ b is_branch room only. free_when b only;
+  rooms = λ b k is_branch room only free. (any_room p (open_child b k) ok.any_number, any_room p (closed_child b k) ok.any_number);
   nearest = λ a b some. nearest_in a b some;
   barren = λ b t is_branch is. closed_end p b t is;
   blocked = λ b t is_branch is. absurd (none-some t is);
-  only = λ b set is_branch not_closed is. decided_set p b set is_branch not_closed is;
-  closes = λ b set cuts x target is_branch is r. decided_closes p b set cuts x target is r;
+  only = λ b set is_branch room barren blocked is. wanted_set p set ok (decided_set p b set is_branch barren is);
+  closes = λ b set cuts x target is_branch room is r. decided_closes p p.wanted b set cuts x target ok.any_number is r;
 }

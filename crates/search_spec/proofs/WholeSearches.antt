@@ -2,17 +2,16 @@
 use Rattle.std.proofs.Common.{◌≡◌, ℕ, ◌+◌, ◌^◌, ◌≤◌, false, [], length, Option, Some, None, is_some, IsNone, refl, ap, true≢false, arith}
 use Rattle.std.proofs.lemmas.List.Elements.{All-nil, All-cons, All-contains_itself}
 use Rattle.hub_spec.specs.Problem.{Problem, IsProblem}
-use Rattle.hub_spec.specs.Plans.{IsHubSet}
 use Rattle.hub_spec.specs.Cuts.{IsCut}
-use Rattle.hub_spec.specs.Trees.{root}
+use Rattle.hub_spec.specs.Trees.{root, IsMultiple}
 use Rattle.hub_spec.specs.Ranges.{IsCutInRange}
 use Rattle.hub_spec.proofs.SumLemmas.{by_test}
 use Rattle.hub_spec.proofs.ChildLists.{root_branch}
 use Rattle.search_spec.specs.States.{State, Parts, is_stopped, lesser, answer}
 use Rattle.search_spec.specs.Steps.{searched, begun}
-use Rattle.search_spec.specs.Laws.{IsStart, IsAdvised, AreSound}
+use Rattle.search_spec.specs.Laws.{IsWantedSet, IsStart, IsAdvised, AreSound}
 use Rattle.search_spec.specs.Findings.{IsProof, AreWithin, IsSpent, IsEnough, IsCounted, StopsForNodes}
-use Rattle.search_spec.proofs.Bounds.{root_not_below}
+use Rattle.search_spec.proofs.Bounds.{any_wanted, any_room, root_not_below}
 use Rattle.search_spec.proofs.Invariants.{IsReady, StaysWithin, HasGrown, within_cost}
 use Rattle.search_spec.proofs.Separated.{serves_reaches}
 use Rattle.search_spec.proofs.Nodes.{node_grown}
@@ -20,13 +19,17 @@ use Rattle.search_spec.proofs.FoundProofs.{tree_in_range}
 
 -- ---- the start
 
-all_candidates : (p : Problem) → IsProblem p → IsHubSet p p.candidates
-all_candidates p ok = record { some_hub = ok.some_candidate; ascend = ok.candidates_ascend; are_candidates = All-contains_itself p.candidates }
+all_candidates : (p : Problem) → IsProblem p → IsWantedSet p p.candidates
+all_candidates p ok = record {
+  is_set = record { some_hub = ok.some_candidate; ascend = ok.candidates_ascend; are_candidates = All-contains_itself p.candidates };
+  wanted = any_wanted p p.candidates ok.any_number;
+}
 
 pub begun_start : (p : Problem) (parts : Parts) → IsProblem p → AreSound p parts → IsStart p (begun p parts)
 unfolding begun
 begun_start p parts ok sound =
-    let set = all_candidates p ok in
+    let all = all_candidates p ok in
+    let set = all.is_set in
     let cut = parts.cut p.candidates (parts.ascending p.candidates) in
     let serves = sound.cut p.candidates (parts.ascending p.candidates) set (sound.ascending p.candidates set) in
     let is_cost = sound.cost p.candidates set in
@@ -34,8 +37,8 @@ begun_start p parts ok sound =
       state = record {
         cuts = All-cons (IsCut p) cut [] serves.is_cut (All-nil (IsCut p));
         in_range = All-cons (IsCutInRange p.size) cut [] serves.in_range (All-nil (IsCutInRange p.size));
-        reached = (serves_reaches p p.candidates cut (parts.cost p.candidates) serves is_cost, tt);
-        hubs = set;
+        reached = (λ wanted. serves_reaches p p.candidates cut (parts.cost p.candidates) serves is_cost, tt);
+        hubs = all;
         cost = is_cost;
       };
       made = refl;
@@ -49,6 +52,7 @@ none_advised s = record {
     denom_least = omega arith;
     denom_most = omega arith;
     numbers = All-nil (λ (e : ℕ × ℕ). (1 ≤ e.0) × (e.0 ≤ length s.cuts));
+    multiples = All-nil (IsMultiple s.cuts);
     most = omega arith;
   };
   listed = record { values = All-nil (λ (e : ℕ × ℕ). 1 ≤ e.1); ascend = λ k l. absurd (omega arith) };
@@ -60,6 +64,7 @@ root_ready p s ok start = record {
   is_branch = root_branch p ok;
   advised = none_advised s;
   not_below = root_not_below p s.cuts;
+  has_room = any_room p (root p) ok.any_number;
 }
 
 root_grown : (p : Problem) (parts : Parts) (n : Option ℕ) (s : State) → IsProblem p → AreSound p parts → IsStart p s

@@ -44,8 +44,9 @@ pub record StopsForNodes (n : Option ℕ) (g : Grown) : Type 0 where
   pub below : IsSome g.state.stop → answer g.state < g.state.cost
   pub whole : IsNone g.state.stop → answer g.state ≡ g.state.cost
 
--- the certificate of what was found: the incumbent with its least routes, the answer as bound, cuts and tree
-pub record IsCertificateOf (p : Problem) (g : Grown) (k : Proof) : Type 0 where
+-- the certificate of what was found, in a version: the incumbent with its least routes, the answer as bound, cuts and tree
+pub record IsCertificateOf (p : Problem) (v : ℕ) (g : Grown) (k : Proof) : Type 0 where
+  pub version : k.version ≡ v
   pub size : k.size ≡ p.size
   pub candidates : k.candidates ≡ length p.candidates
   pub cost : k.cost ≡ g.state.cost
@@ -70,9 +71,10 @@ first_least cost (r ∷ rs) = best_of (λ x y. nat_lt (cost x) (cost y)) r rs
 unfoldable pub least_route : Problem → List ℕ → ℕ × ℕ → ℕ × ℕ
 least_route p hubs c = first_least (λ r. cost_of_route p (c, r)) (hub_pairs hubs)
 
--- the certificate of what was found
-unfoldable pub certificate_of : Problem → Grown → Proof
-certificate_of p g = record {
+-- the certificate of what was found, in this version
+unfoldable pub certificate_of : Problem → ℕ → Grown → Proof
+certificate_of p version g = record {
+  version = version;
   size = p.size;
   candidates = length p.candidates;
   cost = g.state.cost;

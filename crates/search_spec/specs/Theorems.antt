@@ -8,7 +8,7 @@ use Rattle.hub_spec.specs.Cuts.{total}
 use Rattle.hub_spec.specs.Separation.{IsOrder, set_cut}
 use Rattle.hub_spec.specs.Trees.{line_count}
 use Rattle.hub_spec.specs.Certificates.{Proof, Holds}
-use Rattle.hub_spec.specs.Ranges.{IsInRange}
+use Rattle.hub_spec.specs.Ranges.{IsVersionOf, IsInRange}
 use Rattle.search_spec.specs.States.{State, Parts, Grown, answer}
 use Rattle.search_spec.specs.Steps.{searched, begun}
 use Rattle.search_spec.specs.Laws.{AreSound, IsStart}
@@ -50,18 +50,18 @@ AnswerBoundsPlans = (p : Problem) (g : Grown) → IsProblem p → IsProof p g �
 
 -- its certificate holds
 abbrev pub CertificateHolds : Type 0
-CertificateHolds = (p : Problem) (g : Grown) (k : Proof) → IsProblem p → IsProof p g → IsCertificateOf p g k
-    → Holds p k
+CertificateHolds = (p : Problem) (version : ℕ) (g : Grown) (k : Proof) → IsProblem p → IsProof p g
+    → IsCertificateOf p version g k → Holds p k
 
--- with no more cuts and lines than a text can have the certificate is in range
+-- in a version that has a text for it, with no more cuts and lines than a text can have, the certificate is in range
 abbrev pub CertificateIsInRange : Type 0
-CertificateIsInRange = (p : Problem) (g : Grown) (k : Proof) → IsProblem p → IsProof p g → IsCertificateOf p g k
-    → length k.cuts ≤ most_cuts → line_count k.tree ≤ most_tree_lines → IsInRange k
+CertificateIsInRange = (p : Problem) (version : ℕ) (g : Grown) (k : Proof) → IsProblem p → IsProof p g
+    → IsCertificateOf p version g k → IsVersionOf k → length k.cuts ≤ most_cuts → line_count k.tree ≤ most_tree_lines → IsInRange k
 
 -- it is one: the value of the function, which meets the relation
 abbrev pub CertificateIsOne : Type 0
-CertificateIsOne = (p : Problem) (g : Grown) (k : Proof) → IsProof p g
-    → IsCertificateOf p g k ↔ (k ≡ certificate_of p g)
+CertificateIsOne = (p : Problem) (version : ℕ) (g : Grown) (k : Proof) → IsProof p g
+    → IsCertificateOf p version g k ↔ (k ≡ certificate_of p version g)
 
 -- ---- of the rule
 
