@@ -1,15 +1,22 @@
 -- A certificate within the ranges of the grammar holds exactly where each condition of the check holds.
-use Rattle.std.proofs.Common.{◌≡◌, ◌↔◌, ℕ, ◌+◌, ◌*◌, ◌≤◌, List, [], ◌∷◌, ◌++◌, length, All, sym, ap, ◌∙◌, arith}
+use Rattle.std.proofs.Common.{◌≡◌, ◌↔◌, ℕ, ◌+◌, ◌*◌, ◌<◌, ◌≤◌, zero, suc, List, [], ◌∷◌, ◌++◌, length, replicate, All, sym, subst, ◌∙◌, arith}
 use Rattle.std.specs.List.{AllZip}
 use Rattle.std.proofs.lemmas.List.Elements.{All-head, All-tail, All-cons, All-nil, All-weaker}
-use Rattle.hub_spec.specs.Problem.{Problem, commodities}
+use Rattle.hub_spec.specs.Problem.{Problem, commodities, commodity_at}
 use Rattle.hub_spec.specs.Plans.{IsRoute}
 use Rattle.hub_spec.specs.Cuts.{Prices, IsDual, Cut, IsCut}
-use Rattle.hub_spec.specs.Trees.{Branching, root, open_child, closed_child, Tree, branch, leaf, empty, TreeLine, branch_on, leaf_of, preorder, line_count, IsSound}
+use Rattle.hub_spec.specs.Trees.{Branching, root, open_child, closed_child, Tree, branch, leaf, empty, block, count, TreeLine, branch_on, leaf_of, preorder, line_count, IsSound}
 use Rattle.hub_spec.specs.Certificates.{Proof, Holds}
 use Rattle.hub_spec.specs.Ranges.{IsShort, IsInRange, IsLineInRange, IsCutInRange}
 use Rattle.hub_spec.proofs.Commodities.{length_commodities}
-use Rattle.cert_spec.specs.Text.{first_route_line, cut_lines, first_cut_line, first_dual_line, first_tree_line}
+use Rattle.hub_spec.proofs.CommodityIndex.{commodities_from, commodities_by_number}
+use Rattle.hub_spec.proofs.SumLemmas.{by_test}
+use Rattle.std.proofs.lemmas.Slice.Zip.{AllZip-long}
+use Rattle.cert_spec.specs.Runs.{spread}
+use Rattle.cert_spec.proofs.RunLaws.{spread_runs}
+use Rattle.cert_spec.proofs.SamePrices.{prices_told}
+use Rattle.cert_spec.proofs.Leads.{length-spread, spread_singles}
+use Rattle.cert_spec.specs.Text.{is_first, same_prices, dual_runs, first_route_line, cut_lines, first_cut_line, first_dual_line, first_tree_line}
 use Rattle.cert_spec.specs.Conditions.{Claim, AllHold, route_claims, dual_claims, one_cut_claims, cut_claims, tree_claims, plan_claims, all_cut_claims, all_tree_claims, claims}
 
 pub AllHold-append : (xs ys : List Claim) → AllHold xs → AllHold ys → AllHold (xs ++ ys)
@@ -35,40 +42,120 @@ routes_claimed p hubs line [] (r ∷ rs) h = absurd h
 routes_claimed p hubs line (c ∷ cs) [] h = absurd h
 routes_claimed p hubs line (c ∷ cs) (r ∷ rs) h = ((h.0.first, h.0.last), routes_claimed p hubs (line + 1) cs rs h.1)
 
-duals_hold : (p : Problem) (line : ℕ) (cs : List (ℕ × ℕ)) (ds : List Prices) → length ds ≡ length cs
-    → AllHold (dual_claims p line cs ds) → AllZip (IsDual p) cs ds
-duals_hold p line [] [] e h = tt
-duals_hold p line [] (d ∷ ds) e h = absurd (omega (arith, e))
-duals_hold p line (c ∷ cs) [] e h = absurd (omega (arith, e))
-duals_hold p line (c ∷ cs) (d ∷ ds) e h = (h.0, duals_hold p (line + 1) cs ds (omega (arith, e)) h.1)
+-- ---- duals, run by run
 
-duals_claimed : (p : Problem) (line : ℕ) (cs : List (ℕ × ℕ)) (ds : List Prices) → AllZip (IsDual p) cs ds
-    → AllHold (dual_claims p line cs ds)
-duals_claimed p line [] [] h = tt
-duals_claimed p line [] (d ∷ ds) h = absurd h
-duals_claimed p line (c ∷ cs) [] h = absurd h
-duals_claimed p line (c ∷ cs) (d ∷ ds) h = (h.0, duals_claimed p (line + 1) cs ds h.1)
+pub spread_dual_runs : (v n : ℕ) (duals : List Prices) → spread (dual_runs v n duals) ≡ duals
+spread_dual_runs v n duals =
+    by_test (is_first v) (λ e. rw e (spread_singles duals)) (λ e. rw e (spread_runs same_prices n 0 duals prices_told))
 
-cuts_hold : (p : Problem) (line : ℕ) (cuts : List Cut) → All (λ (cut : Cut). length cut.duals ≡ length (commodities p.size)) cuts
-    → AllHold (cut_claims p line cuts) → All (IsCut p) cuts
-cuts_hold p line [] e h = All-nil (IsCut p)
-cuts_hold p line (cut ∷ cuts) e h =
-    let here = AllHold-split (one_cut_claims p line cut) (cut_claims p (line + cut_lines p.size) cuts) h in
-    let both = AllHold-split (dual_claims p (first_dual_line line) (commodities p.size) cut.duals) _ here.0 in
-    let one : length cut.duals ≡ length (commodities p.size) =
-    All-head (λ (cut : Cut). length cut.duals ≡ length (commodities p.size)) cut cuts e in
+run_holds : (p : Problem) (part t r m : ℕ) (x : Prices) (rest : List Prices) → ((s : ℕ) → s < r → IsDual p part (commodity_at p.size (t + s)) x)
+    → AllZip (IsDual p part) (commodities_from p.size (t + r) m) rest → AllZip (IsDual p part) (commodities_from p.size t (r + m)) (replicate r x ++ rest)
+run_holds p part t zero m x rest each h =
+    let place : t + 0 ≡ t = omega arith in
+    let many : m ≡ 0 + m = omega arith in
+    subst (λ (k : ℕ). AllZip (IsDual p part) (commodities_from p.size t k) rest) many
+    (subst (λ (k : ℕ). AllZip (IsDual p part) (commodities_from p.size k m) rest) place h)
+run_holds p part t (suc r) m x rest each h =
+    let first : t + 0 ≡ t = omega arith in
+    let place : t + suc r ≡ t + 1 + r = omega arith in
+    let many : suc (r + m) ≡ suc r + m = omega arith in
+    subst (λ (k : ℕ). AllZip (IsDual p part) (commodities_from p.size t k) (x ∷ (replicate r x ++ rest))) many (
+      subst (λ (k : ℕ). IsDual p part (commodity_at p.size k) x) first (each 0 (omega arith)),
+      run_holds p part (t + 1) r m x rest
+          (λ s less. (let next : t + suc s ≡ t + 1 + s = omega arith in
+          subst (λ (k : ℕ). IsDual p part (commodity_at p.size k) x) next (each (suc s) (omega (arith, less)))))
+          (subst (λ (k : ℕ). AllZip (IsDual p part) (commodities_from p.size k m) rest) place h),
+    )
+
+runs_hold : (p : Problem) (part line t : ℕ) (rs : List (ℕ × Prices)) → AllHold (dual_claims p part line t rs)
+    → AllZip (IsDual p part) (commodities_from p.size t (length (spread rs))) (spread rs)
+runs_hold p part line t [] h = tt
+runs_hold p part line t (r ∷ rest) h =
+    let later = runs_hold p part (line + 1) (t + r.0) rest h.1 in
+    subst (λ (m : ℕ). AllZip (IsDual p part) (commodities_from p.size t m) (replicate r.0 r.1 ++ spread rest)) (sym (length-spread r.0 r.1 rest))
+    (run_holds p part t r.0 (length (spread rest)) r.1 (spread rest) h.0.each later)
+
+-- what holds of a run's commodities, and of those after them
+record IsRunFrom (p : Problem) (part t r m : ℕ) (x : Prices) (rest : List Prices) : Type 0 where
+  each : (s : ℕ) → s < r → IsDual p part (commodity_at p.size (t + s)) x
+  later : AllZip (IsDual p part) (commodities_from p.size (t + r) m) rest
+
+run_claimed : (p : Problem) (part t r m : ℕ) (x : Prices) (rest : List Prices)
+    → AllZip (IsDual p part) (commodities_from p.size t (r + m)) (replicate r x ++ rest) → IsRunFrom p part t r m x rest
+run_claimed p part t zero m x rest h =
+    let place : t ≡ t + 0 = omega arith in
+    let many : 0 + m ≡ m = omega arith in
+    record {
+      each = λ s less. absurd (omega (arith, less));
+      later = subst (λ (k : ℕ). AllZip (IsDual p part) (commodities_from p.size k m) rest) place
+          (subst (λ (k : ℕ). AllZip (IsDual p part) (commodities_from p.size t k) rest) many h);
+    }
+run_claimed p part t (suc r) m x rest h =
+    let many : suc r + m ≡ suc (r + m) = omega arith in
+    let both = subst (λ (k : ℕ). AllZip (IsDual p part) (commodities_from p.size t k) (x ∷ (replicate r x ++ rest))) many h in
+    let more = run_claimed p part (t + 1) r m x rest both.1 in
+    let place : t + 1 + r ≡ t + suc r = omega arith in
+    record {
+      each = each both.0 more.each;
+      later = subst (λ (k : ℕ). AllZip (IsDual p part) (commodities_from p.size k m) rest) place more.later;
+    }
+  where
+    each : IsDual p part (commodity_at p.size t) x → ((s : ℕ) → s < r → IsDual p part (commodity_at p.size (t + 1 + s)) x)
+        → (s : ℕ) → s < suc r → IsDual p part (commodity_at p.size (t + s)) x
+    each here later zero less = let place : t ≡ t + 0 = omega arith in subst (λ (k : ℕ). IsDual p part (commodity_at p.size k) x) place here
+    each here later (suc s) less =
+        let place : t + 1 + s ≡ t + suc s = omega arith in
+        subst (λ (k : ℕ). IsDual p part (commodity_at p.size k) x) place (later s (omega (arith, less)))
+
+runs_claimed : (p : Problem) (part line t : ℕ) (rs : List (ℕ × Prices))
+    → AllZip (IsDual p part) (commodities_from p.size t (length (spread rs))) (spread rs) → AllHold (dual_claims p part line t rs)
+runs_claimed p part line t [] h = tt
+runs_claimed p part line t (r ∷ rest) h =
+    let front = run_claimed p part t r.0 (length (spread rest)) r.1 (spread rest)
+    (subst (λ (m : ℕ). AllZip (IsDual p part) (commodities_from p.size t m) (replicate r.0 r.1 ++ spread rest)) (length-spread r.0 r.1 rest) h) in
+    (record { each = front.each }, runs_claimed p part (line + 1) (t + r.0) rest front.later)
+
+duals_hold : (p : Problem) (v part line : ℕ) (duals : List Prices) → length duals ≡ p.size * p.size
+    → AllHold (dual_claims p part line 0 (dual_runs v p.size duals)) → AllZip (IsDual p part) (commodities p.size) duals
+duals_hold p v part line duals long h =
+    let of = spread_dual_runs v p.size duals in
+    let zipped = runs_hold p part line 0 (dual_runs v p.size duals) h in
+    let same = subst (λ (ds : List Prices). AllZip (IsDual p part) (commodities_from p.size 0 (length ds)) ds) of zipped in
+    rw (commodities_by_number p.size) (subst (λ (m : ℕ). AllZip (IsDual p part) (commodities_from p.size 0 m) duals) long same)
+
+duals_claimed : (p : Problem) (v part line : ℕ) (duals : List Prices) → AllZip (IsDual p part) (commodities p.size) duals
+    → AllHold (dual_claims p part line 0 (dual_runs v p.size duals))
+duals_claimed p v part line duals h =
+    let of = spread_dual_runs v p.size duals in
+    let long : p.size * p.size ≡ length duals = sym (length_commodities p.size) ∙ sym (AllZip-long (IsDual p part) (commodities p.size) duals h) in
+    let by_number = rw (commodities_by_number p.size) at h in
+    let same = subst (λ (m : ℕ). AllZip (IsDual p part) (commodities_from p.size 0 m) duals) long by_number in
+    runs_claimed p part line 0 (dual_runs v p.size duals)
+    (subst (λ (ds : List Prices). AllZip (IsDual p part) (commodities_from p.size 0 (length ds)) ds) (sym of) same)
+
+cuts_hold : (p : Problem) (v line : ℕ) (cuts : List Cut) → All (IsCutInRange p.size) cuts → AllHold (cut_claims p v line cuts) → All (IsCut p) cuts
+cuts_hold p v line [] e h = All-nil (IsCut p)
+cuts_hold p v line (cut ∷ cuts) e h =
+    let here = AllHold-split (one_cut_claims p v line cut) (cut_claims p v (line + cut_lines v p.size cut) cuts) h in
+    let both = AllHold-split (dual_claims p cut.part (first_dual_line line) 0 (dual_runs v p.size cut.duals)) _ here.0 in
+    let one = All-head (IsCutInRange p.size) cut cuts e in
     All-cons (IsCut p) cut cuts
-    (record { duals = duals_hold p (first_dual_line line) (commodities p.size) cut.duals one both.0; sums = both.1.0 })
-    (cuts_hold p (line + cut_lines p.size) cuts (All-tail (λ (cut : Cut). length cut.duals ≡ length (commodities p.size)) cut cuts e) here.1)
+    (record {
+      part_least = one.part_least;
+      part_most = one.part_most;
+      duals = duals_hold p v cut.part (first_dual_line line) cut.duals one.one_for_each both.0;
+      sums = both.1.0;
+    })
+    (cuts_hold p v (line + cut_lines v p.size cut) cuts (All-tail (IsCutInRange p.size) cut cuts e) here.1)
 
-cuts_claimed : (p : Problem) (line : ℕ) (cuts : List Cut) → All (IsCut p) cuts → AllHold (cut_claims p line cuts)
-cuts_claimed p line [] h = tt
-cuts_claimed p line (cut ∷ cuts) h =
+cuts_claimed : (p : Problem) (v line : ℕ) (cuts : List Cut) → All (IsCut p) cuts → AllHold (cut_claims p v line cuts)
+cuts_claimed p v line [] h = tt
+cuts_claimed p v line (cut ∷ cuts) h =
     let one : IsCut p cut = All-head (IsCut p) cut cuts h in
-    AllHold-append (one_cut_claims p line cut) (cut_claims p (line + cut_lines p.size) cuts)
-    (AllHold-append (dual_claims p (first_dual_line line) (commodities p.size) cut.duals) _
-    (duals_claimed p (first_dual_line line) (commodities p.size) cut.duals one.duals) (one.sums, tt))
-    (cuts_claimed p (line + cut_lines p.size) cuts (All-tail (IsCut p) cut cuts h))
+    AllHold-append (one_cut_claims p v line cut) (cut_claims p v (line + cut_lines v p.size cut) cuts)
+    (AllHold-append (dual_claims p cut.part (first_dual_line line) 0 (dual_runs v p.size cut.duals)) _
+    (duals_claimed p v cut.part (first_dual_line line) cut.duals one.duals) (one.sums, tt))
+    (cuts_claimed p v (line + cut_lines v p.size cut) cuts (All-tail (IsCut p) cut cuts h))
 
 -- what holds of each line of two subtrees holds of each line of either
 All-left : (n : ℕ) (xs ys : List TreeLine) → All (IsLineInRange n) (xs ++ ys) → All (IsLineInRange n) xs
@@ -98,17 +185,21 @@ tree_holds p cuts target n line b (branch k opened closed) r h =
     )
 tree_holds p cuts target n line b (leaf denom weights) r h =
     let one = All-head (IsLineInRange n) (leaf_of denom weights) [] r in (
+      h.0,
       record {
         denom_least = one.0;
         denom_most = one.1;
         numbers = All-both (λ (e : ℕ × ℕ). 1 ≤ e.0) (λ (e : ℕ × ℕ). e.0 ≤ length cuts) weights
             (All-weaker (λ (e : ℕ × ℕ). (1 ≤ e.0) × IsShort e.0 × (1 ≤ e.1) × IsShort e.1) (λ (e : ℕ × ℕ). 1 ≤ e.0) (λ e g. g.0) weights one.2.each)
-            h.0;
-        most = h.1.0;
+            h.1.0;
+        multiples = h.1.1.0;
+        most = h.1.1.1.0;
       },
-      h.1.1.0,
+      h.1.1.1.1.0,
     )
 tree_holds p cuts target n line b empty r h = h.0
+tree_holds p cuts target n line b (block commodity) r h = h.0
+tree_holds p cuts target n line b count r h = h.0
 
 tree_claimed : (p : Problem) (cuts : List Cut) (target line : ℕ) (b : Branching) (t : Tree) → IsSound p cuts target b t
     → AllHold (tree_claims p cuts target line b t)
@@ -119,10 +210,15 @@ tree_claimed p cuts target line b (branch k opened closed) h = (
       (tree_claimed p cuts target (line + 1 + line_count opened) (closed_child b k) closed h.2),
 )
 tree_claimed p cuts target line b (leaf denom weights) h = (
-  All-weaker (λ (e : ℕ × ℕ). (1 ≤ e.0) × (e.0 ≤ length cuts)) (λ (e : ℕ × ℕ). e.0 ≤ length cuts) (λ e g. g.1) weights h.0.numbers,
-  (h.0.most, (h.1, tt)),
+  h.0,
+  (
+    All-weaker (λ (e : ℕ × ℕ). (1 ≤ e.0) × (e.0 ≤ length cuts)) (λ (e : ℕ × ℕ). e.0 ≤ length cuts) (λ e g. g.1) weights h.1.numbers,
+    (h.1.multiples, (h.1.most, (h.2, tt))),
+  ),
 )
 tree_claimed p cuts target line b empty h = (h, tt)
+tree_claimed p cuts target line b (block commodity) h = (h, tt)
+tree_claimed p cuts target line b count h = (h, tt)
 
 holds_from_claims : (p : Problem) (k : Proof) → IsInRange k → AllHold (claims p k) → Holds p k
 holds_from_claims p k r h =
@@ -130,33 +226,36 @@ holds_from_claims p k r h =
     let later = AllHold-split (all_cut_claims p k) (all_tree_claims p k) parts.1 in
     let head = parts.0 in
     let size : k.size ≡ p.size = head.0.0 in
-    let routes = AllHold-split (route_claims k.plan.hubs first_route_line k.plan.routes) _ head.1.1.1 in
-    let square : k.size * k.size ≡ p.size * p.size = ap (λ n. n * n) size in
-    let all : length (commodities p.size) ≡ p.size * p.size = length_commodities p.size in
+    let routes = AllHold-split (route_claims k.plan.hubs first_route_line k.plan.routes) _ head.1.1.1.1 in
+    let taken = subst (λ (n : ℕ). AllZip (IsRoute p k.plan.hubs) (commodities n) k.plan.routes) size
+    (routes_hold p k.plan.hubs first_route_line (commodities k.size) k.plan.routes (r.one_route_each ∙ sym (length_commodities k.size)) routes.0) in
     record {
       size = size;
       candidates = head.0.1;
       bound = head.1.0;
       plan = record {
-        hubs = record { some_hub = r.some_hub; ascend = r.hubs_ascend; are_candidates = head.1.1.0 };
-        routes = routes_hold p k.plan.hubs first_route_line (commodities p.size) k.plan.routes (r.one_route_each ∙ square ∙ sym all) routes.0;
+        hubs = record {
+          some_hub = r.some_hub;
+          ascend = r.hubs_ascend;
+          are_candidates = head.1.1.0;
+        };
+        routes = taken;
       };
-      wanted = tt;
+      wanted = head.1.1.1.0;
       cost = routes.1.0;
-      cuts = cuts_hold p (first_cut_line k.size) k.cuts
-          (All-weaker (IsCutInRange k.size) (λ (cut : Cut). length cut.duals ≡ length (commodities p.size))
-          (λ cut g. g.one_for_each ∙ square ∙ sym all) k.cuts r.cuts) later.0;
-      tree = tree_holds p k.cuts k.bound k.size (first_tree_line k.size (length k.cuts)) (root p) k.tree r.tree later.1;
+      cuts = cuts_hold p k.version (first_cut_line k.size) k.cuts (subst (λ (n : ℕ). All (IsCutInRange n) k.cuts) size r.cuts) later.0;
+      tree = tree_holds p k.cuts k.bound k.size (first_tree_line k.version k.size k.cuts) (root p) k.tree r.tree later.1;
     }
 
 claims_from_holds : (p : Problem) (k : Proof) → Holds p k → AllHold (claims p k)
 claims_from_holds p k h =
     let routes = AllHold-append (route_claims k.plan.hubs first_route_line k.plan.routes) _
-    (routes_claimed p k.plan.hubs first_route_line (commodities p.size) k.plan.routes h.plan.routes) (h.cost, tt) in
-    let cuts = cuts_claimed p (first_cut_line k.size) k.cuts h.cuts in
-    let tree = tree_claimed p k.cuts k.bound (first_tree_line k.size (length k.cuts)) (root p) k.tree h.tree in
+    (routes_claimed p k.plan.hubs first_route_line (commodities k.size) k.plan.routes
+    (subst (λ (n : ℕ). AllZip (IsRoute p k.plan.hubs) (commodities n) k.plan.routes) (sym h.size) h.plan.routes)) (h.cost, tt) in
+    let cuts = cuts_claimed p k.version (first_cut_line k.size) k.cuts h.cuts in
+    let tree = tree_claimed p k.cuts k.bound (first_tree_line k.version k.size k.cuts) (root p) k.tree h.tree in
     AllHold-append (plan_claims p k) (all_cut_claims p k ++ all_tree_claims p k)
-    ((h.size, h.candidates), (h.bound, (h.plan.hubs.are_candidates, routes)))
+    ((h.size, h.candidates), (h.bound, (h.plan.hubs.are_candidates, (h.wanted, routes))))
     (AllHold-append (all_cut_claims p k) (all_tree_claims p k) cuts tree)
 
 pub holds_exactly_by_claims : (p : Problem) (k : Proof) → IsInRange k → AllHold (claims p k) ↔ Holds p k

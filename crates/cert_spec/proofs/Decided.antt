@@ -1,67 +1,145 @@
 -- Each condition of the check either holds or does not, so one of them is the first that fails, or all hold.
-use Rattle.std.proofs.Common.{◌≡◌, ℕ, ◌+◌, ◌*◌, ◌≤◌, ℤ, pos, ◌-ℤ◌, ◌<ℤ◌, List, [], ◌∷◌, ◌++◌, length, All, Contains, ◌⊎◌, inl, inr, refl, sym, ◌∙◌, arith}
+use Rattle.std.proofs.Common.{◌≡◌, ℕ, ◌+◌, ◌*◌, ◌<◌, ◌≤◌, zero, suc, Bool, true, false, true≢false, Option, Some, None, subst, ℤ, pos, ◌-ℤ◌, ◌<ℤ◌, List, [], ◌∷◌, ◌++◌, length, All, Contains, ◌⊎◌, inl, inr, refl, sym, ◌∙◌, arith}
 use Rattle.std.proofs.lemmas.List.Elements.{All-contains, All-contains_itself, All-weaker}
 use Rattle.std.proofs.lemmas.Int.{by_lt_z, ints}
 use Rattle.hub_spec.specs.Limits.{most_cost}
-use Rattle.hub_spec.specs.Problem.{Problem, route_cost, commodities}
+use Rattle.hub_spec.specs.Problem.{Problem, route_cost, is_allowed, commodity_at}
 use Rattle.hub_spec.specs.Plans.{plan_cost}
 use Rattle.hub_spec.specs.Cuts.{Prices, value_at, IsDual, Cut, total, load, IsWithinSums}
-use Rattle.hub_spec.specs.Trees.{Branching, root, open_child, closed_child, Tree, branch, leaf, empty, weight_sum, leaf_bound, IsClosed, line_count}
+use Rattle.hub_spec.specs.Trees.{Branching, root, open_child, closed_child, Tree, branch, leaf, empty, block, count, cut_at, share, IsMultiple, weight_sum, leaf_bound, IsClosed, IsBlocked, HasRoom, LacksRoom, line_count}
+use Rattle.std.specs.Prelude.{IfSome}
+use Rattle.std.proofs.lemmas.Bool.{cases_lt}
 use Rattle.hub_spec.specs.Certificates.{Proof}
 use Rattle.hub_spec.proofs.Decisions.{Decided, decided_by, decided_and, decided_or, decided_le, decided_eq, decided_all, decided_contains}
-use Rattle.cert_spec.specs.Text.{first_route_line, cut_lines, first_cut_line, first_dual_line, first_tree_line}
-use Rattle.cert_spec.specs.Conditions.{Kind, Claim, AllHold, FailsFirst, route_claims, dual_claims, one_cut_claims, cut_claims, tree_claims, plan_claims, all_cut_claims, all_tree_claims, claims}
+use Rattle.cert_spec.specs.Text.{dual_runs, first_route_line, cut_lines, first_cut_line, first_dual_line, first_tree_line}
+use Rattle.cert_spec.specs.Conditions.{Kind, Claim, AllHold, FailsFirst, IsDualOfRun, route_claims, dual_claims, one_cut_claims, cut_claims, tree_claims, plan_claims, all_cut_claims, all_tree_claims, claims}
 
--- the two hubs are the same, or the price is covered by the route through both and their values
-abbrev Covers : Problem → ℕ × ℕ → Prices → ℕ → ℕ → Type 0
-Covers p c d k m = (k ≡ m) ⊎ (d.a ≤ route_cost p c.0 c.1 k m + value_at d.u k + value_at d.u m)
+decided_true : (b : Bool) → Decided (b ≡ true)
+decided_true true = inl refl
+decided_true false = inr (λ e. true≢false (sym e))
 
-abbrev CoversSingle : Problem → ℕ × ℕ → Prices → ℕ → Type 0
-CoversSingle p c d k = d.a ≤ route_cost p c.0 c.1 k k + value_at d.u k
+-- the two hubs are the same, or the route through both is not allowed, or it covers the price with their values
+abbrev Covers : Problem → ℕ → ℕ × ℕ → Prices → ℕ → ℕ → Type 0
+Covers p part c d k m = (k ≡ m) ⊎ ((is_allowed p c k m ≡ false) ⊎ (d.a ≤ part * route_cost p c.0 c.1 k m + value_at d.u k + value_at d.u m))
 
-abbrev CoversAll : Problem → ℕ × ℕ → Prices → ℕ → Type 0
-CoversAll p c d k = All (Covers p c d k) p.candidates
+abbrev CoversSingle : Problem → ℕ → ℕ × ℕ → Prices → ℕ → Type 0
+CoversSingle p part c d k = (is_allowed p c k k ≡ false) ⊎ (d.a ≤ part * route_cost p c.0 c.1 k k + value_at d.u k)
 
-decided_covers : (p : Problem) (c : ℕ × ℕ) (d : Prices) (k m : ℕ) → Decided (Covers p c d k m)
-decided_covers p c d k m = decided_or (decided_eq k m) (decided_le d.a _)
+abbrev CoversAll : Problem → ℕ → ℕ × ℕ → Prices → ℕ → Type 0
+CoversAll p part c d k = All (Covers p part c d k) p.candidates
 
-pub dual_from_covers : (p : Problem) (c : ℕ × ℕ) (d : Prices)
-    → (All (λ (e : ℕ × ℕ). Contains p.candidates e.0) d.u × (All (CoversSingle p c d) p.candidates × All (CoversAll p c d) p.candidates)) → IsDual p c d
-dual_from_covers p c d h = record {
+decided_false : (b : Bool) → Decided (b ≡ false)
+decided_false false = inl refl
+decided_false true = inr (λ e. true≢false e)
+
+decided_covers : (p : Problem) (part : ℕ) (c : ℕ × ℕ) (d : Prices) (k m : ℕ) → Decided (Covers p part c d k m)
+decided_covers p part c d k m = decided_or (decided_eq k m) (decided_or (decided_false (is_allowed p c k m)) (decided_le d.a _))
+
+where_allowed : {P : Type 0} (b : Bool) → (b ≡ false) ⊎ P → b ≡ true → P
+where_allowed b (inl off) on = absurd (true≢false (sym on ∙ off))
+where_allowed b (inr h) on = h
+
+pub dual_from_covers : (p : Problem) (part : ℕ) (c : ℕ × ℕ) (d : Prices)
+    → (All (λ (e : ℕ × ℕ). Contains p.candidates e.0) d.u × (All (CoversSingle p part c d) p.candidates × All (CoversAll p part c d) p.candidates))
+    → IsDual p part c d
+dual_from_covers p part c d h = record {
   are_candidates = h.0;
-  one_hub = λ k in_k. All-contains (CoversSingle p c d) p.candidates k h.1.0 in_k;
-  two_hubs = λ k m in_k in_m apart.
-      elim (All-contains (Covers p c d k) p.candidates m (All-contains (CoversAll p c d) p.candidates k h.1.1 in_k) in_m) [
+  one_hub = λ k in_k allowed. where_allowed (is_allowed p c k k) (All-contains (CoversSingle p part c d) p.candidates k h.1.0 in_k) allowed;
+  two_hubs = λ k m in_k in_m apart allowed.
+      elim (All-contains (Covers p part c d k) p.candidates m (All-contains (CoversAll p part c d) p.candidates k h.1.1 in_k) in_m) [
         | inl same ↦ absurd (apart same)
-        | inr covered ↦ covered
+        | inr covered ↦ where_allowed (is_allowed p c k m) covered allowed
       ];
 }
 
-pub covers_from_dual : (p : Problem) (c : ℕ × ℕ) (d : Prices) → IsDual p c d
-    → (All (λ (e : ℕ × ℕ). Contains p.candidates e.0) d.u × (All (CoversSingle p c d) p.candidates × All (CoversAll p c d) p.candidates))
-covers_from_dual p c d h = (
+if_allowed : {P : Type 0} (b : Bool) → (b ≡ true → P) → (b ≡ false) ⊎ P
+if_allowed true h = inr (h refl)
+if_allowed false h = inl refl
+
+pub covers_from_dual : (p : Problem) (part : ℕ) (c : ℕ × ℕ) (d : Prices) → IsDual p part c d
+    → (All (λ (e : ℕ × ℕ). Contains p.candidates e.0) d.u × (All (CoversSingle p part c d) p.candidates × All (CoversAll p part c d) p.candidates))
+covers_from_dual p part c d h = (
   h.are_candidates,
   (
-    All-weaker (Contains p.candidates) (CoversSingle p c d) (λ k in_k. h.one_hub k in_k) p.candidates (All-contains_itself p.candidates),
-    All-weaker (Contains p.candidates) (CoversAll p c d)
-        (λ k in_k. All-weaker (Contains p.candidates) (Covers p c d k)
-        (λ m in_m. elim (decided_eq k m) [ inl same ↦ inl same | inr apart ↦ inr (h.two_hubs k m in_k in_m apart) ])
+    All-weaker (Contains p.candidates) (CoversSingle p part c d) (λ k in_k. if_allowed (is_allowed p c k k) (h.one_hub k in_k)) p.candidates
+        (All-contains_itself p.candidates),
+    All-weaker (Contains p.candidates) (CoversAll p part c d)
+        (λ k in_k. All-weaker (Contains p.candidates) (Covers p part c d k)
+        (λ m in_m. elim (decided_eq k m) [ inl same ↦ inl same | inr apart ↦ inr (if_allowed (is_allowed p c k m) (h.two_hubs k m in_k in_m apart)) ])
         p.candidates (All-contains_itself p.candidates))
         p.candidates (All-contains_itself p.candidates),
   ),
 )
 
-pub decided_dual : (p : Problem) (c : ℕ × ℕ) (d : Prices) → Decided (IsDual p c d)
-decided_dual p c d = decided_by (dual_from_covers p c d) (covers_from_dual p c d)
+pub decided_dual : (p : Problem) (part : ℕ) (c : ℕ × ℕ) (d : Prices) → Decided (IsDual p part c d)
+decided_dual p part c d = decided_by (dual_from_covers p part c d) (covers_from_dual p part c d)
     (decided_and (decided_all (λ (e : ℕ × ℕ). Contains p.candidates e.0) (λ e. decided_contains p.candidates e.0) d.u)
-    (decided_and (decided_all (CoversSingle p c d) (λ k. decided_le d.a _) p.candidates)
-    (decided_all (CoversAll p c d) (λ k. decided_all (Covers p c d k) (decided_covers p c d k) p.candidates) p.candidates)))
+    (decided_and (decided_all (CoversSingle p part c d) (λ k. decided_or (decided_false (is_allowed p c k k)) (decided_le d.a _)) p.candidates)
+    (decided_all (CoversAll p part c d) (λ k. decided_all (Covers p part c d k) (decided_covers p part c d k) p.candidates) p.candidates)))
+
+-- what is said of all numbers below one
+decided_each : (P : ℕ → Type 0) → ((s : ℕ) → Decided (P s)) → (n : ℕ) → Decided ((s : ℕ) → s < n → P s)
+decided_each P d zero = inl (λ s less. absurd (omega (arith, less)))
+decided_each P d (suc n) = elim (decided_each P d n) [
+  | inl below ↦ elim (d n) [
+    | inl here ↦ inl (λ s less. elim (cases_lt s n) [
+      | inl before ↦ below s before
+      | inr above ↦ (let same : n ≡ s = omega (arith, above, less) in subst P same here)
+    ])
+    | inr gone ↦ inr (λ h. gone (h n (omega arith)))
+  ]
+  | inr gone ↦ inr (λ h. gone (λ s less. h s (omega (arith, less))))
+]
+
+decided_run : (p : Problem) (part t : ℕ) (r : ℕ × Prices) → Decided (IsDualOfRun p part t r)
+decided_run p part t r = decided_by (λ h. record { each = h }) (λ h. h.each)
+    (decided_each (λ s. IsDual p part (commodity_at p.size (t + s)) r.1) (λ s. decided_dual p part (commodity_at p.size (t + s)) r.1) r.0)
 
 decided_sums : (p : Problem) (cut : Cut) → Decided (IsWithinSums p cut)
 decided_sums p cut = decided_by
-    {P = (total cut ≤ most_cost) × All (λ k. load cut k ≤ most_cost) p.candidates}
+    {P = (total cut ≤ cut.part * most_cost) × All (λ k. load cut k ≤ cut.part * most_cost) p.candidates}
     (λ h. record { total_limit = h.0; load_limit = h.1 }) (λ h. (h.total_limit, h.load_limit))
-    (decided_and (decided_le (total cut) most_cost) (decided_all (λ k. load cut k ≤ most_cost) (λ k. decided_le (load cut k) most_cost) p.candidates))
+    (decided_and (decided_le (total cut) (cut.part * most_cost)) (decided_all (λ k. load cut k ≤ cut.part * most_cost) (λ k. decided_le (load cut k) (cut.part * most_cost)) p.candidates))
+
+-- ---- the number of hubs, and commodities with no route
+
+decided_wanted : (wanted : Option ℕ) (m : ℕ) → Decided (IfSome wanted (λ n. m ≡ n))
+decided_wanted None m = inl tt
+decided_wanted (Some n) m = decided_eq m n
+
+decided_room : (wanted : Option ℕ) (b : Branching) → Decided (HasRoom wanted b)
+decided_room None b = inl tt
+decided_room (Some n) b = decided_and (decided_le (length b.inside) n) (decided_le n (length b.inside + length b.free))
+
+decided_lacks : (wanted : Option ℕ) (b : Branching) → Decided (LacksRoom wanted b)
+decided_lacks None b = inr (λ h. h)
+decided_lacks (Some n) b = decided_or (decided_le (suc n) (length b.inside)) (decided_le (suc (length b.inside + length b.free)) n)
+
+-- the route is not allowed, or one of its hubs is closed
+abbrev IsShut : Problem → Branching → ℕ × ℕ → ℕ → ℕ → Type 0
+IsShut p b c k m = (is_allowed p c k m ≡ false) ⊎ (Contains b.outside k ⊎ Contains b.outside m)
+
+decided_blocked : (p : Problem) (b : Branching) (c : ℕ × ℕ) → Decided (IsBlocked p b c)
+decided_blocked p b c = decided_by
+    {P = (suc c.0 ≤ p.size) × ((suc c.1 ≤ p.size) × All (λ k. All (IsShut p b c k) p.candidates) p.candidates)}
+    (λ h. record {
+      from = h.0;
+      to = h.1.0;
+      closed = λ k m in_k in_m allowed. where_allowed (is_allowed p c k m)
+          (All-contains (IsShut p b c k) p.candidates m (All-contains (λ x. All (IsShut p b c x) p.candidates) p.candidates k h.1.1 in_k) in_m) allowed;
+    })
+    (λ h. (
+      h.from,
+      (
+        h.to,
+        All-weaker (Contains p.candidates) (λ k. All (IsShut p b c k) p.candidates)
+            (λ k in_k. All-weaker (Contains p.candidates) (IsShut p b c k) (λ m in_m. if_allowed (is_allowed p c k m) (h.closed k m in_k in_m))
+            p.candidates (All-contains_itself p.candidates)) p.candidates (All-contains_itself p.candidates),
+      ),
+    ))
+    (decided_and (decided_le (suc c.0) p.size) (decided_and (decided_le (suc c.1) p.size)
+    (decided_all (λ k. All (IsShut p b c k) p.candidates) (λ k. decided_all (IsShut p b c k)
+    (λ m. decided_or (decided_false (is_allowed p c k m)) (decided_or (decided_contains b.outside k) (decided_contains b.outside m))) p.candidates) p.candidates)))
 
 decided_nil : (xs : List ℕ) → Decided (xs ≡ [])
 decided_nil [] = inl refl
@@ -89,18 +167,17 @@ routes_decided hubs line [] = tt
 routes_decided hubs line (r ∷ rs) =
     (decided_and (decided_contains hubs r.0) (decided_contains hubs r.1), routes_decided hubs (line + 1) rs)
 
-duals_decided : (p : Problem) (line : ℕ) (cs : List (ℕ × ℕ)) (ds : List Prices) → AllDecided (dual_claims p line cs ds)
-duals_decided p line [] ds = tt
-duals_decided p line (c ∷ cs) [] = tt
-duals_decided p line (c ∷ cs) (d ∷ ds) = (decided_dual p c d, duals_decided p (line + 1) cs ds)
+duals_decided : (p : Problem) (part line t : ℕ) (rs : List (ℕ × Prices)) → AllDecided (dual_claims p part line t rs)
+duals_decided p part line t [] = tt
+duals_decided p part line t (r ∷ rs) = (decided_run p part t r, duals_decided p part (line + 1) (t + r.0) rs)
 
-cuts_decided : (p : Problem) (line : ℕ) (cuts : List Cut) → AllDecided (cut_claims p line cuts)
-cuts_decided p line [] = tt
-cuts_decided p line (cut ∷ cuts) =
-    AllDecided-append (one_cut_claims p line cut) (cut_claims p (line + cut_lines p.size) cuts)
-    (AllDecided-append (dual_claims p (first_dual_line line) (commodities p.size) cut.duals) _
-    (duals_decided p (first_dual_line line) (commodities p.size) cut.duals) (decided_sums p cut, tt))
-    (cuts_decided p (line + cut_lines p.size) cuts)
+cuts_decided : (p : Problem) (v line : ℕ) (cuts : List Cut) → AllDecided (cut_claims p v line cuts)
+cuts_decided p v line [] = tt
+cuts_decided p v line (cut ∷ cuts) =
+    AllDecided-append (one_cut_claims p v line cut) (cut_claims p v (line + cut_lines v p.size cut) cuts)
+    (AllDecided-append (dual_claims p cut.part (first_dual_line line) 0 (dual_runs v p.size cut.duals)) _
+    (duals_decided p cut.part (first_dual_line line) 0 (dual_runs v p.size cut.duals)) (decided_sums p cut, tt))
+    (cuts_decided p v (line + cut_lines v p.size cut) cuts)
 
 tree_decided : (p : Problem) (cuts : List Cut) (target line : ℕ) (b : Branching) (t : Tree)
     → AllDecided (tree_claims p cuts target line b t)
@@ -111,13 +188,21 @@ tree_decided p cuts target line b (branch k opened closed) = (
       (tree_decided p cuts target (line + 1 + line_count opened) (closed_child b k) closed),
 )
 tree_decided p cuts target line b (leaf denom weights) = (
-  decided_all (λ (e : ℕ × ℕ). e.0 ≤ length cuts) (λ e. decided_le e.0 (length cuts)) weights,
+  decided_room p.wanted b,
   (
-    decided_le (weight_sum weights) denom,
-    (decided_below (pos (denom * target) -ℤ pos denom) (leaf_bound p cuts denom weights b), tt),
+    decided_all (λ (e : ℕ × ℕ). e.0 ≤ length cuts) (λ e. decided_le e.0 (length cuts)) weights,
+    (
+      decided_all (IsMultiple cuts) (λ e. decided_eq (share cuts e * (cut_at cuts e.0).part) e.1) weights,
+      (
+        decided_le (weight_sum weights) denom,
+        (decided_below (pos (denom * target) -ℤ pos denom) (leaf_bound p cuts denom weights b), tt),
+      ),
+    ),
   ),
 )
 tree_decided p cuts target line b empty = (decided_closed b, tt)
+tree_decided p cuts target line b (block commodity) = (decided_blocked p b commodity, tt)
+tree_decided p cuts target line b count = (decided_lacks p.wanted b, tt)
 
 pub claims_decided : (p : Problem) (k : Proof) → AllDecided (claims p k)
 claims_decided p k =
@@ -126,9 +211,9 @@ claims_decided p k =
     let routes = AllDecided-append (route_claims k.plan.hubs first_route_line k.plan.routes) _
     (routes_decided k.plan.hubs first_route_line k.plan.routes) (decided_eq k.cost (plan_cost p k.plan), tt) in
     AllDecided-append (plan_claims p k) (all_cut_claims p k ++ all_tree_claims p k)
-    (sizes, (decided_le k.bound k.cost, (hubs, routes)))
-    (AllDecided-append (all_cut_claims p k) (all_tree_claims p k) (cuts_decided p (first_cut_line k.size) k.cuts)
-    (tree_decided p k.cuts k.bound (first_tree_line k.size (length k.cuts)) (root p) k.tree))
+    (sizes, (decided_le k.bound k.cost, (hubs, (decided_wanted p.wanted (length k.plan.hubs), routes))))
+    (AllDecided-append (all_cut_claims p k) (all_tree_claims p k) (cuts_decided p k.version (first_cut_line k.size) k.cuts)
+    (tree_decided p k.cuts k.bound (first_tree_line k.version k.size k.cuts) (root p) k.tree))
 
 -- all of these conditions hold, or one of them is the first that fails
 pub first_failure : (cs : List Claim) → AllDecided cs → AllHold cs ⊎ ((kind : Kind) × (line : ℕ) × FailsFirst cs kind line)

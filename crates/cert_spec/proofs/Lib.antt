@@ -1,7 +1,10 @@
+pub mod RunLaws
+pub mod SamePrices
 pub mod Claims
 pub mod Decided
 pub mod VerdictLemmas
 pub mod Items
+pub mod Versions
 pub mod Numbers
 pub mod Decoding
 pub mod Wanted
@@ -10,3 +13,4 @@ pub mod Stages
 pub mod LeadsBack
 pub mod OneText
 pub mod TextOrFault
+pub mod Examples

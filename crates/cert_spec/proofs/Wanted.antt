@@ -1,5 +1,5 @@
 -- The reading of a line at a stage: it gives an item exactly where the line may stand there and says it.
-use Rattle.std.proofs.Common.{◌≡◌, ℕ, ◌+◌, ◌-◌, ◌*◌, ◌/◌, ◌%◌, ◌^◌, ◌<◌, ◌≤◌, Bool, true, false, not, ◌&&◌, ◌||◌, List, [], ◌∷◌, length, map, get_or, decimal, All, Decides, Some, None, nat_eq, nat_lt, nat_le, inl, inr, refl, sym, ap, ◌∙◌, subst, arith, add-one, zero, suc}
+use Rattle.std.proofs.Common.{◌≡◌, ℕ, ◌+◌, ◌-◌, ◌*◌, ◌/◌, ◌%◌, ◌^◌, ◌<◌, ◌≤◌, Bool, true, false, not, ◌&&◌, ◌||◌, List, [], ◌∷◌, length, map, get_or, decimal, All, Decides, ◌++◌, ◌≢◌, ◌⊎◌, codes, Option, Some, None, nat_eq, nat_lt, nat_le, inl, inr, refl, sym, ap, ◌∙◌, subst, arith, add-one, zero, suc}
 use Rattle.std.specs.Prelude.{option_and_then}
 use Rattle.std.specs.List.{AllByRecursion, join_with_byte, slice_split, list_all}
 use Rattle.std.specs.List.Sorted.{IsStrictlyIncreasing}
@@ -9,14 +9,19 @@ use Rattle.std.proofs.lemmas.Option.{cond_some, none-some, same_Some}
 use Rattle.std.proofs.lemmas.List.Splits.{join_with_byte-slice_split}
 use Rattle.std.proofs.lemmas.List.Elements.{recursion_from_All}
 use Rattle.std.proofs.lemmas.Nat.{div_below, mod_below}
-use Rattle.hub_spec.specs.Limits.{most_nodes, most_denominator, most_cuts, most_tree_lines}
+use Rattle.hub_spec.specs.Limits.{most_nodes, most_part, most_denominator, most_cuts, most_tree_lines}
 use Rattle.hub_spec.specs.Problem.{commodity_at}
 use Rattle.hub_spec.specs.Cuts.{Prices}
-use Rattle.hub_spec.specs.Trees.{TreeLine, branch_on, leaf_of, no_hub}
-use Rattle.cert_spec.specs.Lines.{Item, says_version, says_size, says_cost, says_bound, says_hubs, says_route, says_cuts, says_cut, says_dual, says_nodes, says_tree, says_end, keyword, numbers, value_numbers, weight_numbers, line_text}
-use Rattle.hub_spec.specs.Ranges.{IsShort, IsAmount, IsDualInRange, AreWeightsInRange, IsLineInRange}
-use Rattle.cert_spec.specs.Grammar.{Stage, want_version, want_size, want_end, want_cost, want_bound, want_hubs, want_cuts, want_nodes, want_route, want_cut, want_dual, want_tree, places_after, IsOpen, Wants, IsLine}
-use Rattle.cert_spec.specs.Reading.{is_short, is_amount, ascends, same_pair, is_dual_text, is_weights_text, is_tree_line_text, is_open, wants, if_wanted, item_of, item_of_words, numbers_of, wanted_item, IsStage, LinesReadBack}
+use Rattle.hub_spec.specs.Trees.{TreeLine, branch_on, leaf_of, no_hub, no_route, no_count}
+use Rattle.cert_spec.specs.Text.{same_prices}
+use Rattle.cert_spec.proofs.RunLaws.{apart}
+use Rattle.cert_spec.proofs.SamePrices.{prices_told}
+use Rattle.hub_spec.proofs.SumLemmas.{by_test}
+use Rattle.cert_spec.specs.Lines.{Item, says_version, says_size, says_cost, says_bound, says_hubs, says_route, says_cuts, says_cut, says_dual, says_nodes, says_tree, says_end, keyword, numbers, value_numbers, weight_numbers, part_numbers, run_numbers, line_text}
+use Rattle.hub_spec.specs.Ranges.{IsShort, IsAmount, IsDualInRange, AreWeightsInRange, IsLineInRange, IsFirstDual, IsFirstLine}
+use Rattle.cert_spec.specs.Grammar.{Stage, want_version, want_size, want_end, want_cost, want_bound, want_hubs, want_cuts, want_nodes, want_route, want_cut, want_dual, want_tree, Shape, places_after, IsOpen, IsPart, IsRun, IsVersion, Wants, IsLine}
+use Rattle.cert_spec.specs.Reading.{is_short, is_amount, ascends, same_pair, is_dual_text, is_weights_text, is_tree_line_text, is_second, is_version, is_part, is_first_dual, is_first_line, is_run, is_other, is_open, wants, if_wanted, item_of, item_of_words, numbers_of, wanted_item, IsStage, LinesReadBack}
+use Rattle.cert_spec.proofs.Versions.{second_is, second_decides}
 use Rattle.cert_spec.proofs.Numbers.{IsWord, IsWord-decimal, IsWord-tested, slice_split-joined, no_line_feed}
 use Rattle.cert_spec.proofs.Decoding.{and_then_some, numbers_of-decimals, decimals-numbers_of, item_of-same, item_of-back}
 
@@ -33,7 +38,7 @@ short_decides : (n : ℕ) → Decides (is_short n) (IsShort n)
 short_decides n = Decides-ltb n (10 ^ 30)
 
 amount_decides : (n : ℕ) → Decides (is_amount n) (IsAmount n)
-amount_decides n = Decides-ltb n (10 ^ 30)
+amount_decides n = Decides-ltb n (10 ^ 33)
 
 both : {P Q : Type 0} (x y : Bool) → Decides x P → Decides y Q → Decides (x && y) (P × Q)
 both x y p q = (λ e. (let k = and_parts x y e in (p.0 k.0, q.0 k.1)), λ h. and_from x y (p.1 h.0) (q.1 h.1))
@@ -112,14 +117,63 @@ tree_line_decides n (branch_on k) = Decides-ltb k n
 tree_line_decides n (leaf_of denom weights) =
     all_three (nat_le 1 denom) (nat_le denom most_denominator) (is_weights_text weights) (Decides-leb 1 denom) (Decides-leb denom most_denominator) (weights_decides weights)
 tree_line_decides n no_hub = (λ e. tt, λ h. refl)
+tree_line_decides n (no_route commodity) = both (nat_lt commodity.0 n) (nat_lt commodity.1 n) (Decides-ltb commodity.0 n) (Decides-ltb commodity.1 n)
+tree_line_decides n no_count = (λ e. tt, λ h. refl)
+
+-- what the version may say
+either : {P Q : Type 0} (x y : Bool) → Decides x P → Decides y Q → Decides (x || y) (P ⊎ Q)
+either x y p q = (
+  λ e. elim (or_cases x y e) [ inl one ↦ inl (p.0 one) | inr two ↦ inr (q.0 two) ],
+  λ h. elim h [ inl one ↦ or_left x y (p.1 one) | inr two ↦ or_right x y (q.1 two) ],
+)
+
+version_decides : (v : ℕ) → Decides (is_version v) (IsVersion v)
+version_decides v = either (nat_eq v 1) (is_second v) (Decides-eqb v 1) (second_decides v)
+
+part_decides : (v : ℕ) (part : Option ℕ) → Decides (is_part v part) (IsPart v part)
+part_decides v None = Decides-eqb v 1
+part_decides v (Some e) = all_three (is_second v) (nat_le 1 e) (nat_le e most_part) (second_decides v) (Decides-leb 1 e) (Decides-leb e most_part)
+
+first_dual_decides : (dual : Prices) → Decides (is_first_dual dual) (IsFirstDual dual)
+first_dual_decides dual =
+    both (is_short dual.a) (list_all (λ (e : ℕ × ℕ). is_short e.1) dual.u) (short_decides dual.a)
+    (all_decides (λ (e : ℕ × ℕ). is_short e.1) (λ (e : ℕ × ℕ). IsShort e.1) (λ e. short_decides e.1) dual.u)
+
+first_line_decides : (line : TreeLine) → Decides (is_first_line line) (IsFirstLine line)
+first_line_decides (branch_on k) = (λ e. tt, λ h. refl)
+first_line_decides (leaf_of denom weights) = (λ e. tt, λ h. refl)
+first_line_decides no_hub = (λ e. tt, λ h. refl)
+first_line_decides (no_route commodity) = (λ e. absurd (false≢true e), λ h. absurd h)
+first_line_decides no_count = (λ e. absurd (false≢true e), λ h. absurd h)
+
+run_decides : (s : Shape) (t run : ℕ) → Decides (is_run s t run) (IsRun s t run)
+run_decides s t run =
+    all_three (nat_le 1 run) (nat_le (t % s.size + run) s.size) (not (nat_eq s.version 1) || nat_eq run 1) (Decides-leb 1 run)
+    (Decides-leb (t % s.size + run) s.size) (implies (nat_eq s.version 1) (nat_eq run 1) (Decides-eqb s.version 1) (Decides-eqb run 1))
+
+other_decides : (before : Option Prices) (dual : Prices) → Decides (is_other before dual) (before ≢ Some dual)
+other_decides None dual = (λ e h. none-some dual h, λ h. refl)
+other_decides (Some before) dual = (
+  λ e h. apart same_prices prices_told before dual (not-true (same_prices before dual) e) (same_Some before dual h),
+  λ h. by_test (same_prices before dual) (λ same. absurd (h (ap Some (prices_told.sound before dual same)))) (λ differ. not_from_false (same_prices before dual) differ),
+)
+
+all_five : {P Q R S T : Type 0} (x y z w v : Bool) → Decides x P → Decides y Q → Decides z R → Decides w S → Decides v T
+    → Decides (x && (y && (z && (w && v)))) (P × Q × R × S × T)
+all_five x y z w v p q r s t =
+    let rest = all_four y z w v q r s t in
+    let all = both x (y && (z && (w && v))) p rest in (
+      λ e. (let k = all.0 e in (k.0, k.1.0, k.1.1, k.1.2, k.1.3)),
+      λ h. all.1 (h.0, (h.1, h.2, h.3, h.4)),
+    )
 
 open_decides : (places left : ℕ) → Decides (is_open places left) (IsOpen places left)
 open_decides places left = both (nat_le places left) (not (nat_eq places 0) || nat_eq left 0) (Decides-leb places left)
     (implies (nat_eq places 0) (nat_eq left 0) (Decides-eqb places 0) (Decides-eqb left 0))
 
 pub wants_decides : (stage : Stage) (item : Item) → Decides (wants stage item) (Wants stage item)
-wants_decides want_version says_version = (λ e. tt, λ h. refl)
-wants_decides want_size (says_size n q) = all_four (nat_le 1 n) (nat_le n most_nodes) (nat_le 1 q) (nat_le q n) (Decides-leb 1 n) (Decides-leb n most_nodes) (Decides-leb 1 q) (Decides-leb q n)
+wants_decides want_version (says_version v) = version_decides v
+wants_decides (want_size v) (says_size n q) = all_four (nat_le 1 n) (nat_le n most_nodes) (nat_le 1 q) (nat_le q n) (Decides-leb 1 n) (Decides-leb n most_nodes) (Decides-leb 1 q) (Decides-leb q n)
 wants_decides (want_cost s) (says_cost c) = short_decides c
 wants_decides (want_bound s) (says_bound b) = short_decides b
 wants_decides (want_hubs s) (says_hubs hubs) = all_three (nat_le 1 (length hubs)) (ascends hubs) (list_all (λ k. nat_lt k s.size) hubs)
@@ -127,18 +181,21 @@ wants_decides (want_hubs s) (says_hubs hubs) = all_three (nat_le 1 (length hubs)
 wants_decides (want_route s t) (says_route commodity route) =
     all_three (same_pair commodity (commodity_at s.size t)) (nat_lt route.0 s.size) (nat_lt route.1 s.size) (same_pair_decides commodity (commodity_at s.size t)) (Decides-ltb route.0 s.size) (Decides-ltb route.1 s.size)
 wants_decides (want_cuts s) (says_cuts all) = Decides-leb all most_cuts
-wants_decides (want_cut s all x) (says_cut number) = Decides-eqb number (x + 1)
-wants_decides (want_dual s all x t) (says_dual commodity dual) =
-    both (same_pair commodity (commodity_at s.size t)) (is_dual_text s.size dual) (same_pair_decides commodity (commodity_at s.size t)) (dual_decides s.size dual)
+wants_decides (want_cut s all x) (says_cut number part) = both (nat_eq number (x + 1)) (is_part s.version part) (Decides-eqb number (x + 1)) (part_decides s.version part)
+wants_decides (want_dual s all x t before) (says_dual commodity run dual) =
+    all_five (same_pair commodity (commodity_at s.size t)) (is_run s t run) (is_dual_text s.size dual) (not (nat_eq s.version 1) || is_first_dual dual)
+    (is_other before dual) (same_pair_decides commodity (commodity_at s.size t)) (run_decides s t run) (dual_decides s.size dual)
+    (implies (nat_eq s.version 1) (is_first_dual dual) (Decides-eqb s.version 1) (first_dual_decides dual)) (other_decides before dual)
 wants_decides (want_nodes s) (says_nodes all) = both (nat_le 1 all) (nat_le all most_tree_lines) (Decides-leb 1 all) (Decides-leb all most_tree_lines)
 wants_decides (want_tree s places left) (says_tree line) =
-    both (is_tree_line_text s.size line) (is_open (places_after places line) (left - 1)) (tree_line_decides s.size line) (open_decides (places_after places line) (left - 1))
+    all_three (is_tree_line_text s.size line) (is_first_line line) (is_open (places_after places line) (left - 1))
+    (tree_line_decides s.size line) (first_line_decides line) (open_decides (places_after places line) (left - 1))
 wants_decides want_end says_end = (λ e. tt, λ h. refl)
 wants_decides stage item = (λ e. absurd (false≢true e), λ h. absurd h)
 
 -- the numbers of a line that may stand at a stage are short
 AreShort : List ℕ → Type 0
-AreShort ns = AllByRecursion IsShort ns
+AreShort ns = AllByRecursion IsAmount ns
 
 short_nodes : (n : ℕ) (ks : List ℕ) → n ≤ most_nodes → AllByRecursion (λ k. k < n) ks → AreShort (map (λ k. k + 1) ks)
 unfolding AreShort
@@ -153,7 +210,7 @@ short_values n (e ∷ u) few h = (omega (arith, h.0.0), (omega (arith, h.0.2), s
 short_weights : (weights : List (ℕ × ℕ)) → AllByRecursion (λ (e : ℕ × ℕ). (1 ≤ e.0) × IsShort e.0 × (1 ≤ e.1) × IsShort e.1) weights → AreShort (weight_numbers weights)
 unfolding AreShort
 short_weights [] h = tt
-short_weights (e ∷ weights) h = (h.0.1, (h.0.3, short_weights weights h.1))
+short_weights (e ∷ weights) h = (omega (arith, h.0.1), (omega (arith, h.0.3), short_weights weights h.1))
 
 -- the nodes of a commodity
 pub commodity_nodes : (n t : ℕ) (c : ℕ × ℕ) → 1 ≤ n → t < n * n → c ≡ commodity_at n t → (c.0 < n) × (c.1 < n)
@@ -169,50 +226,66 @@ unfolding AreShort
 short_tree_line n (branch_on k) few h = (omega (arith, h), tt)
 short_tree_line n (leaf_of denom weights) few h = (omega (arith, h.1), short_weights weights (recursion_from_All (λ (e : ℕ × ℕ). (1 ≤ e.0) × IsShort e.0 × (1 ≤ e.1) × IsShort e.1) weights h.2.each))
 short_tree_line n no_hub few h = tt
+short_tree_line n (no_route commodity) few h = (omega (arith, h.0), (omega (arith, h.1), tt))
+short_tree_line n no_count few h = tt
+
+short_part : (v : ℕ) (part : Option ℕ) → IsPart v part → AreShort (part_numbers part)
+unfolding AreShort
+short_part v None h = tt
+short_part v (Some e) h = (omega (arith, h.2), tt)
+
+short_run : (run : ℕ) (rest : List ℕ) → run ≤ most_nodes → AreShort rest → AreShort (run_numbers run ++ rest)
+unfolding AreShort
+short_run run rest few h = by_test (nat_eq run 1) (λ e. rw e h) (λ e. rw e (omega (arith, few), h))
 
 short_numbers : (stage : Stage) (item : Item) → IsStage stage → Wants stage item → AreShort (numbers item)
 unfolding AreShort
-short_numbers want_version says_version ok h = (omega arith, tt)
-short_numbers want_size (says_size n q) ok h = (omega (arith, h.1), (omega (arith, h.1, h.3), tt))
-short_numbers (want_cost s) (says_cost c) ok h = (h, tt)
-short_numbers (want_bound s) (says_bound b) ok h = (h, tt)
-short_numbers (want_hubs s) (says_hubs hubs) ok h = short_nodes s.size hubs ok.1 (recursion_from_All (λ k. k < s.size) hubs h.2)
+short_numbers want_version (says_version v) ok h = (elim h [ inl one ↦ omega (arith, one) | inr two ↦ omega (arith, second_is v two) ], tt)
+short_numbers (want_size v) (says_size n q) ok h = (omega (arith, h.1), (omega (arith, h.1, h.3), tt))
+short_numbers (want_cost s) (says_cost c) ok h = (omega (arith, h), tt)
+short_numbers (want_bound s) (says_bound b) ok h = (omega (arith, h), tt)
+short_numbers (want_hubs s) (says_hubs hubs) ok h = short_nodes s.size hubs ok.0.1 (recursion_from_All (λ k. k < s.size) hubs h.2)
 short_numbers (want_route s t) (says_route commodity route) ok h =
-    let c = commodity_nodes s.size t commodity ok.0.0 ok.1 h.0 in
-    (omega (arith, c.0, ok.0.1), (omega (arith, c.1, ok.0.1), (omega (arith, h.1, ok.0.1), (omega (arith, h.2, ok.0.1), tt))))
+    let c = commodity_nodes s.size t commodity ok.0.0.0 ok.1 h.0 in
+    let few : s.size ≤ most_nodes = ok.0.0.1 in
+    (omega (arith, c.0, few), (omega (arith, c.1, few), (omega (arith, h.1, few), (omega (arith, h.2, few), tt))))
 short_numbers (want_cuts s) (says_cuts all) ok h = (omega (arith, h), tt)
-short_numbers (want_cut s all x) (says_cut number) ok h = (omega (arith, h, ok.1.0, ok.1.1), tt)
-short_numbers (want_dual s all x t) (says_dual commodity dual) ok h =
-    let c = commodity_nodes s.size t commodity ok.0.0 ok.2 h.0 in (
-      omega (arith, c.0, ok.0.1),
+short_numbers (want_cut s all x) (says_cut number part) ok h = (omega (arith, h.0, ok.1.0, ok.1.1), short_part s.version part h.1)
+short_numbers (want_dual s all x t before) (says_dual commodity run dual) ok h =
+    let c = commodity_nodes s.size t commodity ok.0.0.0 ok.2 h.0 in
+    let few : s.size ≤ most_nodes = ok.0.0.1 in (
+      omega (arith, c.0, few),
       (
-        omega (arith, c.1, ok.0.1),
-        (
-          omega (arith, h.1.a),
-          short_values s.size dual.u ok.0.1 (recursion_from_All (λ (e : ℕ × ℕ). (e.0 < s.size) × (1 ≤ e.1) × IsAmount e.1) dual.u h.1.each),
+        omega (arith, c.1, few),
+        short_run run (dual.a ∷ value_numbers dual.u) (omega (arith, h.1.1, few)) (
+          h.2.a,
+          short_values s.size dual.u few (recursion_from_All (λ (e : ℕ × ℕ). (e.0 < s.size) × (1 ≤ e.1) × IsAmount e.1) dual.u h.2.each),
         ),
       ),
     )
 short_numbers (want_nodes s) (says_nodes all) ok h = (omega (arith, h.1), tt)
-short_numbers (want_tree s places left) (says_tree line) ok h = short_tree_line s.size line ok.1 h.0
+short_numbers (want_tree s places left) (says_tree line) ok h = short_tree_line s.size line ok.0.1 h.0
 short_numbers want_end says_end ok h = tt
 short_numbers stage item ok h = absurd h
 
 -- keywords and decimals are words
 keyword_is_word : (item : Item) → IsWord (keyword item)
-keyword_is_word says_version = IsWord-tested (keyword says_version) refl
+keyword_is_word (says_version v) = IsWord-tested _ refl
 keyword_is_word (says_size n q) = IsWord-tested _ refl
 keyword_is_word (says_cost c) = IsWord-tested _ refl
 keyword_is_word (says_bound b) = IsWord-tested _ refl
 keyword_is_word (says_hubs hubs) = IsWord-tested _ refl
 keyword_is_word (says_route commodity route) = IsWord-tested _ refl
 keyword_is_word (says_cuts all) = IsWord-tested _ refl
-keyword_is_word (says_cut number) = IsWord-tested _ refl
-keyword_is_word (says_dual commodity dual) = IsWord-tested _ refl
+keyword_is_word (says_cut number part) = IsWord-tested _ refl
+keyword_is_word (says_dual commodity run dual) =
+    by_test (nat_eq run 1) (λ e. rw e (IsWord-tested (codes "dual") refl)) (λ e. rw e (IsWord-tested (codes "duals") refl))
 keyword_is_word (says_nodes all) = IsWord-tested _ refl
 keyword_is_word (says_tree (branch_on k)) = IsWord-tested _ refl
 keyword_is_word (says_tree (leaf_of denom weights)) = IsWord-tested _ refl
 keyword_is_word (says_tree no_hub) = IsWord-tested _ refl
+keyword_is_word (says_tree (no_route commodity)) = IsWord-tested _ refl
+keyword_is_word (says_tree no_count) = IsWord-tested _ refl
 keyword_is_word says_end = IsWord-tested _ refl
 
 decimals_are_words : (ns : List ℕ) → AreShort ns → AllByRecursion IsWord (map decimal ns)

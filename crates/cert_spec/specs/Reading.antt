@@ -1,20 +1,21 @@
 -- The reading of one line, as a function: what a line says at a stage of the text, if it may stand there.
-use Rattle.std.specs.Prelude.{◌≡◌, ℕ, zero, suc, ◌+◌, ◌-◌, ◌*◌, ◌^◌, ◌<◌, ◌≤◌, ◌↔◌, Bool, true, false, not, ◌&&◌, ◌||◌, List, [], ◌∷◌, length, map, codes, Option, Some, None, option_map, option_and_then, slice_index, nat_eq, nat_lt, nat_le, bytes_eq, if◌then◌else◌}
+use Rattle.std.specs.Prelude.{◌≡◌, ℕ, zero, suc, ◌+◌, ◌-◌, ◌*◌, ◌%◌, ◌^◌, ◌<◌, ◌≤◌, ◌↔◌, Bool, true, false, not, ◌&&◌, ◌||◌, List, [], ◌∷◌, length, map, codes, Option, Some, None, option_map, option_and_then, slice_index, nat_eq, nat_lt, nat_le, bytes_eq, if◌then◌else◌}
 use Rattle.std.specs.List.{slice_split, list_all}
 use Rattle.std.specs.Option.{option_zip}
 use Rattle.std.specs.Str.{all_ascii_digits}
 use Rattle.std.specs.Str.Parse.{digits_value}
-use Rattle.hub_spec.specs.Limits.{most_nodes, most_denominator, most_cuts, most_tree_lines}
+use Rattle.hub_spec.specs.Limits.{most_nodes, most_part, most_denominator, most_cuts, most_tree_lines}
 use Rattle.hub_spec.specs.Problem.{commodity_at}
 use Rattle.hub_spec.specs.Cuts.{Prices}
-use Rattle.hub_spec.specs.Trees.{TreeLine, branch_on, leaf_of, no_hub}
+use Rattle.hub_spec.specs.Trees.{TreeLine, branch_on, leaf_of, no_hub, no_route, no_count}
+use Rattle.cert_spec.specs.Text.{same_prices}
 use Rattle.cert_spec.specs.Lines.{Item, says_version, says_size, says_cost, says_bound, says_hubs, says_route, says_cuts, says_cut, says_dual, says_nodes, says_tree, says_end}
-use Rattle.cert_spec.specs.Grammar.{Stage, want_version, want_size, want_end, want_nothing, want_cost, want_bound, want_hubs, want_cuts, want_nodes, want_route, want_cut, want_dual, want_tree, places_after, IsLine}
+use Rattle.cert_spec.specs.Grammar.{Stage, want_version, want_size, want_end, want_nothing, want_cost, want_bound, want_hubs, want_cuts, want_nodes, want_route, want_cut, want_dual, want_tree, Shape, places_after, IsVersion, IsLine}
 
--- decimal digits, at least one and at most 30, and no zero in front of another digit
+-- decimal digits, at least one and at most 33, and no zero in front of another digit
 abbrev pub is_number : List ℕ → Bool
 is_number word =
-    all_ascii_digits word && (nat_le (length word) 30 && (nat_lt 48 (slice_index word 0) || nat_eq (length word) 1))
+    all_ascii_digits word && (nat_le (length word) 33 && (nat_lt 48 (slice_index word 0) || nat_eq (length word) 1))
 
 -- the number that a word spells
 unfoldable pub number_of : List ℕ → Option ℕ
@@ -48,11 +49,6 @@ value_of e = option_map (λ k. (k, e.1)) (node_of e.0)
 abbrev pub values_of : List ℕ → Option (List (ℕ × ℕ))
 values_of numbers = option_and_then (each_of value_of) (pairs_of numbers)
 
--- the first line has the number 1
-abbrev pub version_item : List ℕ → Option Item
-version_item (v ∷ []) = if nat_eq v 1 then Some says_version else None
-version_item other = None
-
 -- a line with no number
 abbrev pub bare_item : Item → List ℕ → Option Item
 bare_item item [] = Some item
@@ -81,17 +77,37 @@ route_of_nodes other = None
 abbrev pub route_item : List ℕ → Option Item
 route_item numbers = option_and_then route_of_nodes (each_of node_of numbers)
 
--- a commodity, its price, and values
-abbrev pub dual_item : List ℕ → Option Item
-dual_item (i ∷ j ∷ a ∷ rest) =
-    option_and_then (λ commodity. option_map (λ u. says_dual commodity (record { a = a; u = u })) (values_of rest))
+-- a cut's number, and perhaps its part
+abbrev pub cut_item : List ℕ → Option Item
+cut_item (number ∷ []) = Some (says_cut number None)
+cut_item (number ∷ part ∷ []) = Some (says_cut number (Some part))
+cut_item other = None
+
+-- a commodity, its price, and values, for a run of so many
+abbrev pub run_item : ℕ → List ℕ → Option Item
+run_item run (i ∷ j ∷ a ∷ rest) =
+    option_and_then (λ commodity. option_map (λ u. says_dual commodity run (record { a = a; u = u })) (values_of rest))
     (option_zip (node_of i) (node_of j))
-dual_item other = None
+run_item run other = None
+
+-- one commodity, with its price and values
+abbrev pub dual_item : List ℕ → Option Item
+dual_item numbers = run_item 1 numbers
+
+-- a run of more than one
+abbrev pub duals_item : List ℕ → Option Item
+duals_item (i ∷ j ∷ run ∷ rest) = if nat_eq run 1 then None else run_item run (i ∷ j ∷ rest)
+duals_item other = None
 
 -- the node of a branch
 abbrev pub branch_item : List ℕ → Option Item
 branch_item (k ∷ []) = option_map (λ m. says_tree (branch_on m)) (node_of k)
 branch_item other = None
+
+-- the commodity that has no route
+abbrev pub block_item : List ℕ → Option Item
+block_item (i ∷ j ∷ []) = option_map (λ c. says_tree (no_route c)) (option_zip (node_of i) (node_of j))
+block_item other = None
 
 -- the denominator and the weights of a leaf
 abbrev pub leaf_item : List ℕ → Option Item
@@ -101,19 +117,22 @@ leaf_item other = None
 -- each keyword, with how the numbers after it are read
 abbrev pub readers : List (List ℕ × (List ℕ → Option Item))
 readers =
-    (codes "HUBCERT", version_item)
+    (codes "HUBCERT", number_item says_version)
     ∷ (codes "size", size_item)
     ∷ (codes "cost", number_item says_cost)
     ∷ (codes "bound", number_item says_bound)
     ∷ (codes "hubs", hubs_item)
     ∷ (codes "route", route_item)
     ∷ (codes "cuts", number_item says_cuts)
-    ∷ (codes "cut", number_item says_cut)
+    ∷ (codes "cut", cut_item)
     ∷ (codes "dual", dual_item)
+    ∷ (codes "duals", duals_item)
     ∷ (codes "nodes", number_item says_nodes)
     ∷ (codes "branch", branch_item)
     ∷ (codes "leaf", leaf_item)
     ∷ (codes "empty", bare_item (says_tree no_hub))
+    ∷ (codes "block", block_item)
+    ∷ (codes "count", bare_item (says_tree no_count))
     ∷ (codes "end", bare_item says_end)
     ∷ []
 
@@ -137,7 +156,7 @@ is_short n = nat_lt n (10 ^ 30)
 
 -- what a price or a value may be
 abbrev pub is_amount : ℕ → Bool
-is_amount n = nat_lt n (10 ^ 30)
+is_amount n = nat_lt n (10 ^ 33)
 
 -- each number is below the one after it
 abbrev pub ascends : List ℕ → Bool
@@ -167,6 +186,39 @@ abbrev pub is_tree_line_text : ℕ → TreeLine → Bool
 is_tree_line_text n (branch_on k) = nat_lt k n
 is_tree_line_text n (leaf_of denom weights) = nat_le 1 denom && (nat_le denom most_denominator && is_weights_text weights)
 is_tree_line_text n no_hub = true
+is_tree_line_text n (no_route commodity) = nat_lt commodity.0 n && nat_lt commodity.1 n
+is_tree_line_text n no_count = true
+
+-- the second version: no text is of it yet
+abbrev pub is_second : ℕ → Bool
+is_second v = false
+
+-- a version that there is, and a part, a dual and a tree line that the version can say
+abbrev pub is_version : ℕ → Bool
+is_version v = nat_eq v 1 || is_second v
+
+abbrev pub is_part : ℕ → Option ℕ → Bool
+is_part v None = nat_eq v 1
+is_part v (Some e) = is_second v && (nat_le 1 e && nat_le e most_part)
+
+abbrev pub is_first_dual : Prices → Bool
+is_first_dual dual = is_short dual.a && list_all (λ (e : ℕ × ℕ). is_short e.1) dual.u
+
+abbrev pub is_first_line : TreeLine → Bool
+is_first_line (branch_on k) = true
+is_first_line (leaf_of denom weights) = true
+is_first_line no_hub = true
+is_first_line (no_route commodity) = false
+is_first_line no_count = false
+
+-- a run that the version can say
+abbrev pub is_run : Shape → ℕ → ℕ → Bool
+is_run s t run = nat_le 1 run && (nat_le (t % s.size + run) s.size && (not (nat_eq s.version 1) || nat_eq run 1))
+
+-- another dual than the one before
+abbrev pub is_other : Option Prices → Prices → Bool
+is_other None dual = true
+is_other (Some before) dual = not (same_prices before dual)
 
 -- no more places than lines are left, and no line is left where no place is
 abbrev pub is_open : ℕ → ℕ → Bool
@@ -174,8 +226,8 @@ is_open places left = nat_le places left && (not (nat_eq places 0) || nat_eq lef
 
 -- the line may stand at this stage
 abbrev pub wants : Stage → Item → Bool
-wants want_version says_version = true
-wants want_size (says_size n q) = nat_le 1 n && (nat_le n most_nodes && (nat_le 1 q && nat_le q n))
+wants want_version (says_version v) = is_version v
+wants (want_size v) (says_size n q) = nat_le 1 n && (nat_le n most_nodes && (nat_le 1 q && nat_le q n))
 wants (want_cost s) (says_cost c) = is_short c
 wants (want_bound s) (says_bound b) = is_short b
 wants (want_hubs s) (says_hubs hubs) =
@@ -183,12 +235,14 @@ wants (want_hubs s) (says_hubs hubs) =
 wants (want_route s t) (says_route commodity route) =
     same_pair commodity (commodity_at s.size t) && (nat_lt route.0 s.size && nat_lt route.1 s.size)
 wants (want_cuts s) (says_cuts all) = nat_le all most_cuts
-wants (want_cut s all x) (says_cut number) = nat_eq number (x + 1)
-wants (want_dual s all x t) (says_dual commodity dual) =
-    same_pair commodity (commodity_at s.size t) && is_dual_text s.size dual
+wants (want_cut s all x) (says_cut number part) = nat_eq number (x + 1) && is_part s.version part
+wants (want_dual s all x t before) (says_dual commodity run dual) =
+    same_pair commodity (commodity_at s.size t)
+    && (is_run s t run
+    && (is_dual_text s.size dual && ((not (nat_eq s.version 1) || is_first_dual dual) && is_other before dual)))
 wants (want_nodes s) (says_nodes all) = nat_le 1 all && nat_le all most_tree_lines
 wants (want_tree s places left) (says_tree line) =
-    is_tree_line_text s.size line && is_open (places_after places line) (left - 1)
+    is_tree_line_text s.size line && (is_first_line line && is_open (places_after places line) (left - 1))
 wants want_end says_end = true
 wants stage item = false
 
@@ -208,21 +262,25 @@ IsSize n = (1 ≤ n) × (n ≤ most_nodes)
 abbrev pub IsCutPlace : ℕ → ℕ → Type 0
 IsCutPlace all x = (x < all) × (all ≤ most_cuts)
 
+-- and the version is one
+abbrev pub IsShape : Shape → Type 0
+IsShape s = IsSize s.size × IsVersion s.version
+
 -- a stage that lines can lead to: its numbers are within their ranges
 abbrev pub IsStage : Stage → Type 0
 IsStage want_version = Unit {0}
-IsStage want_size = Unit {0}
+IsStage (want_size v) = IsVersion v
 IsStage want_end = Unit {0}
 IsStage want_nothing = Unit {0}
-IsStage (want_cost s) = IsSize s.size
-IsStage (want_bound s) = IsSize s.size
-IsStage (want_hubs s) = IsSize s.size
-IsStage (want_cuts s) = IsSize s.size
-IsStage (want_nodes s) = IsSize s.size
-IsStage (want_route s t) = IsSize s.size × (t < s.size * s.size)
-IsStage (want_cut s all x) = IsSize s.size × IsCutPlace all x
-IsStage (want_dual s all x t) = IsSize s.size × IsCutPlace all x × (t < s.size * s.size)
-IsStage (want_tree s places left) = IsSize s.size
+IsStage (want_cost s) = IsShape s
+IsStage (want_bound s) = IsShape s
+IsStage (want_hubs s) = IsShape s
+IsStage (want_cuts s) = IsShape s
+IsStage (want_nodes s) = IsShape s
+IsStage (want_route s t) = IsShape s × (t < s.size * s.size)
+IsStage (want_cut s all x) = IsShape s × IsCutPlace all x
+IsStage (want_dual s all x t before) = IsShape s × IsCutPlace all x × (t < s.size * s.size)
+IsStage (want_tree s places left) = IsShape s
 
 -- at a stage a line is read as an item exactly where it is a line that may stand there and says this
 abbrev pub LinesReadBack : Type 0

@@ -1,17 +1,21 @@
 -- What the lines of each part of a certificate try: routes, duals, cuts, and the tree.
-use Rattle.std.proofs.Common.{◌≡◌, ℕ, ◌+◌, ◌-◌, ◌*◌, ◌≤◌, List, [], ◌∷◌, ◌++◌, length, map, nat_eq, zip, Bool, true, false, Contains, append_assoc, append-nil, refl, sym, ap, ap₂, ◌∙◌, mul-pos, suc-mul, arith, eq-eqb, ne_eqb}
+use Rattle.std.proofs.Common.{◌≡◌, ℕ, ◌+◌, ◌-◌, ◌*◌, ◌≤◌, List, replicate, sum_by, not, ◌&&◌, [], ◌∷◌, ◌++◌, length, map, nat_eq, zip, Bool, true, false, Contains, append_assoc, append-nil, refl, sym, ap, ap₂, ◌∙◌, mul-pos, arith, eq-eqb, ne_eqb}
 use Rattle.std.specs.List.{AllByRecursion}
-use Rattle.std.proofs.lemmas.List.{map-append, length-append}
+use Rattle.std.proofs.lemmas.List.{map-append, length-append, length-replicate}
+use Rattle.std.proofs.lemmas.List.Sums.{sum_by-cons}
 use Rattle.std.proofs.lemmas.Bool.{cond-true, cond-false}
-use Rattle.hub_spec.specs.Problem.{Problem, commodities}
+use Rattle.hub_spec.specs.Problem.{Problem}
 use Rattle.hub_spec.specs.Plans.{plan_cost}
-use Rattle.hub_spec.specs.Cuts.{Prices, IsDual, Cut, cut_by, IsWithinSums}
-use Rattle.hub_spec.specs.Trees.{Branching, open_child, closed_child, Tree, branch, leaf, empty, preorder, line_count}
-use Rattle.hub_spec.proofs.Commodities.{length_commodities}
+use Rattle.hub_spec.specs.Cuts.{Prices, Cut, IsWithinSums}
+use Rattle.hub_spec.specs.Trees.{Branching, open_child, closed_child, Tree, branch, leaf, empty, block, count, preorder, line_count}
 use Rattle.cert_spec.specs.Lines.{Item, says_tree}
-use Rattle.cert_spec.specs.Text.{route_items, dual_items, cut_items, cuts_items, cut_lines}
-use Rattle.cert_spec.specs.Conditions.{Claim, claim, Route, Cost, Dual, Sum, Branch, route_claims, dual_claims, one_cut_claims, cut_claims, tree_claims}
-use Rattle.stream_spec.specs.Progress.{Progress, with_duals, after_line, after_lines}
+use Rattle.cert_spec.specs.Text.{route_items, is_first, same_prices, singles, dual_runs, run_items, part_said, cut_items, cuts_items, cut_lines}
+use Rattle.cert_spec.specs.Runs.{ends_row, joined, runs, spread}
+use Rattle.cert_spec.specs.Conditions.{Claim, claim, IsDualOfRun, Route, Cost, Dual, Sum, Branch, route_claims, dual_claims, one_cut_claims, cut_claims, tree_claims}
+use Rattle.cert_spec.proofs.Leads.{length-spread}
+use Rattle.cert_spec.proofs.Claims.{spread_dual_runs}
+use Rattle.hub_spec.proofs.SumLemmas.{by_test}
+use Rattle.stream_spec.specs.Progress.{Progress, part_of, with_duals, after_line, after_lines}
 use Rattle.stream_spec.specs.LineConditions.{if_time, cost_conditions, sum_conditions, line_conditions, conditions_from}
 
 pub conditions-append : (p : Problem) (s : Progress) (first rest : List Item)
@@ -76,25 +80,31 @@ routes_by_lines p s (c ∷ d ∷ cs) (r ∷ t ∷ rs) rest e some all =
 
 -- ---- duals
 
--- where the last dual of a cut stands at the line before this one
-abbrev after_duals : Problem → Progress → List Item → ℕ → List Prices → List Claim
-after_duals p s rest line duals =
-    claim Sum (line - 1) (IsWithinSums p (cut_by duals))
-    ∷ conditions_from p (record s { line = line; cuts = s.cuts ++ cut_by duals ∷ []; duals = [] }) rest
+-- the cut of these duals, with the part that was said
+abbrev cut_of : Progress → List Prices → Cut
+cut_of s duals = record { part = s.part; duals = duals }
 
-abbrev dual_here : Problem → Progress → ℕ × ℕ → Prices → Claim
-dual_here p s c d = claim Dual s.line (IsDual p c d)
+-- it stands whole at the line before this one
+abbrev with_cut : Progress → ℕ → List Prices → Progress
+with_cut s line duals = record s { line = line; cuts = s.cuts ++ cut_of s duals ∷ []; part = 1; duals = [] }
+
+-- where its last dual stands at the line before this one
+abbrev after_duals : Problem → Progress → List Item → ℕ → List Prices → List Claim
+after_duals p s rest line duals = claim Sum (line - 1) (IsWithinSums p (cut_of s duals)) ∷ conditions_from p (with_cut s line duals) rest
+
+abbrev dual_here : Problem → Progress → ℕ → ℕ × Prices → Claim
+dual_here p s t r = claim Dual s.line (IsDualOfRun p s.part t r)
 
 last_dual : (p : Problem) (s : Progress) (duals : List Prices) (rest : List Item) → length duals ≡ s.size * s.size
     → sum_conditions p s duals ++ conditions_from p (with_duals s duals) rest ≡ after_duals p s rest (s.line + 1) duals
 last_dual p s duals rest e =
     let all = eq-eqb (length duals) (s.size * s.size) e in
-    let sum = claim Sum s.line (IsWithinSums p (cut_by duals)) in
-    let whole = record s { line = s.line + 1; cuts = s.cuts ++ cut_by duals ∷ []; duals = [] } in
+    let sum = claim Sum s.line (IsWithinSums p (cut_of s duals)) in
+    let whole = with_cut s (s.line + 1) duals in
     ap₂ (λ cs after. cs ++ conditions_from p after rest)
     (if_time-now (nat_eq (length duals) (s.size * s.size)) sum all)
     (cond-true (nat_eq (length duals) (s.size * s.size)) whole (record s { line = s.line + 1; duals = duals }) all)
-    ∙ ap (λ line. claim Sum line (IsWithinSums p (cut_by duals)) ∷ conditions_from p whole rest)
+    ∙ ap (λ line. claim Sum line (IsWithinSums p (cut_of s duals)) ∷ conditions_from p whole rest)
     (let e : s.line ≡ s.line + 1 - 1 = omega arith in e)
 
 earlier_dual : (p : Problem) (s : Progress) (duals : List Prices) (rest : List Item) → (length duals ≡ s.size * s.size → ⊥)
@@ -102,79 +112,124 @@ earlier_dual : (p : Problem) (s : Progress) (duals : List Prices) (rest : List I
     ≡ conditions_from p (record s { line = s.line + 1; duals = duals }) rest
 earlier_dual p s duals rest e =
     let more = ne_eqb (length duals) (s.size * s.size) e in
-    let sum = claim Sum s.line (IsWithinSums p (cut_by duals)) in
-    let whole = record s { line = s.line + 1; cuts = s.cuts ++ cut_by duals ∷ []; duals = [] } in
+    let sum = claim Sum s.line (IsWithinSums p (cut_of s duals)) in
+    let whole = with_cut s (s.line + 1) duals in
     ap₂ (λ cs after. cs ++ conditions_from p after rest)
     (if_time-later (nat_eq (length duals) (s.size * s.size)) sum more)
     (cond-false (nat_eq (length duals) (s.size * s.size)) whole (record s { line = s.line + 1; duals = duals }) more)
 
-duals_by_lines : (p : Problem) (s : Progress) (cs : List (ℕ × ℕ)) (ds : List Prices) (rest : List Item) → length ds ≡ length cs → 1 ≤ length ds
-    → length s.duals + length ds ≡ s.size * s.size
-    → conditions_from p s (dual_items (zip cs ds) ++ rest)
-    ≡ dual_claims p s.line cs ds ++ after_duals p s rest (s.line + length ds) (s.duals ++ ds)
-duals_by_lines p s cs [] rest e some all = absurd (omega (arith, some))
-duals_by_lines p s [] (d ∷ ds) rest e some all = absurd (omega (arith, e))
-duals_by_lines p s (c ∷ []) (d ∷ []) rest e some all =
-    ap (λ cs. dual_here p s c d ∷ cs) (last_dual p s (s.duals ++ d ∷ []) rest (length-one-more s.duals d ∙ all))
-duals_by_lines p s (c ∷ b ∷ cs) (d ∷ []) rest e some all = absurd (omega (arith, e))
-duals_by_lines p s (c ∷ []) (d ∷ t ∷ ds) rest e some all = absurd (omega (arith, e))
-duals_by_lines p s (c ∷ b ∷ cs) (d ∷ t ∷ ds) rest e some all =
-    let duals = s.duals ++ d ∷ [] in
+-- each run has a dual
+abbrev AreSome : List (ℕ × Prices) → Type 0
+AreSome [] = Unit {0}
+AreSome (r ∷ rest) = (1 ≤ r.0) × AreSome rest
+
+duals_by_lines : (p : Problem) (s : Progress) (n t : ℕ) (rs : List (ℕ × Prices)) (rest : List Item) → AreSome rs → 1 ≤ length rs
+    → length s.duals ≡ t → t + length (spread rs) ≡ s.size * s.size
+    → conditions_from p s (run_items n t rs ++ rest)
+    ≡ dual_claims p s.part s.line t rs ++ after_duals p s rest (s.line + length rs) (s.duals ++ spread rs)
+duals_by_lines p s n t [] rest some any e all = absurd (omega (arith, any))
+duals_by_lines p s n t (r ∷ []) rest some any e all =
+    let duals = s.duals ++ replicate r.0 r.1 in
+    let long : length duals ≡ t + r.0 =
+    length-append s.duals (replicate r.0 r.1) ∙ ap₂ (λ (x y : ℕ). x + y) e (length-replicate r.0 r.1) in
+    let run = length-spread r.0 r.1 [] in
+    ap (λ m. dual_here p s m r ∷ (sum_conditions p s duals ++ conditions_from p (with_duals s duals) rest)) e
+    ∙ ap (λ cs. dual_here p s t r ∷ cs) (
+    last_dual p s duals rest (omega (arith, long, all, run))
+    ∙ ap (λ ds. after_duals p s rest (s.line + 1) (s.duals ++ ds)) (sym (append-nil (replicate r.0 r.1))))
+duals_by_lines p s n t (r ∷ q ∷ rs) rest some any e all =
+    let duals = s.duals ++ replicate r.0 r.1 in
     let after = record s { line = s.line + 1; duals = duals } in
-    let long = length-one-more s.duals d in
-    ap (λ cs. dual_here p s c d ∷ cs) (
-    earlier_dual p s duals (dual_items (zip (b ∷ cs) (t ∷ ds)) ++ rest) (λ f. omega (arith, f, long, all))
-    ∙ duals_by_lines p after (b ∷ cs) (t ∷ ds) rest (omega (arith, e)) (omega arith) (omega (arith, long, all))
-    ∙ ap₂ (λ line ms. dual_claims p (s.line + 1) (b ∷ cs) (t ∷ ds) ++ after_duals p s rest line ms)
-    (let m : s.line + 1 + length (t ∷ ds) ≡ s.line + length (d ∷ t ∷ ds) = omega arith in m)
-    (append_assoc s.duals (d ∷ []) (t ∷ ds)))
+    let long : length duals ≡ t + r.0 =
+    length-append s.duals (replicate r.0 r.1) ∙ ap₂ (λ (x y : ℕ). x + y) e (length-replicate r.0 r.1) in
+    let run = length-spread r.0 r.1 (q ∷ rs) in
+    let next = length-spread q.0 q.1 rs in
+    ap (λ m. dual_here p s m r ∷ (sum_conditions p s duals ++ conditions_from p (with_duals s duals) (run_items n (t + r.0) (q ∷ rs) ++ rest))) e
+    ∙ ap (λ cs. dual_here p s t r ∷ cs) (
+    earlier_dual p s duals (run_items n (t + r.0) (q ∷ rs) ++ rest) (λ f. omega (arith, f, long, all, run, next, some.1.0))
+    ∙ duals_by_lines p after n (t + r.0) (q ∷ rs) rest some.1 (omega arith) long (omega (arith, all, run))
+    ∙ ap₂ (λ line ms. dual_claims p s.part (s.line + 1) (t + r.0) (q ∷ rs) ++ after_duals p s rest line ms)
+    (let m : s.line + 1 + length (q ∷ rs) ≡ s.line + length (r ∷ q ∷ rs) = omega arith in m)
+    (append_assoc s.duals (replicate r.0 r.1) (spread (q ∷ rs))))
+
+singles_some : (duals : List Prices) → AreSome (singles duals)
+singles_some [] = tt
+singles_some (d ∷ duals) = (omega arith, singles_some duals)
+
+joined_some : (same : Prices → Prices → Bool) (last : Bool) (x : Prices) (rs : List (ℕ × Prices)) → AreSome rs → AreSome (joined same last x rs)
+joined_some same last x [] some = (omega arith, tt)
+joined_some same last x (r ∷ rest) some =
+    by_test (not last && same x r.1) (λ e. rw e (omega arith, some.1)) (λ e. rw e (omega arith, some))
+
+runs_some : (same : Prices → Prices → Bool) (n t : ℕ) (duals : List Prices) → AreSome (runs same n t duals)
+runs_some same n t [] = tt
+runs_some same n t (d ∷ duals) = joined_some same (ends_row n t) d (runs same n (t + 1) duals) (runs_some same n (t + 1) duals)
+
+dual_runs_some : (v n : ℕ) (duals : List Prices) → AreSome (dual_runs v n duals)
+dual_runs_some v n duals = by_test (is_first v) (λ e. rw e (singles_some duals)) (λ e. rw e (runs_some same_prices n 0 duals))
+
+some_run : (rs : List (ℕ × Prices)) → 1 ≤ length (spread rs) → 1 ≤ length rs
+some_run [] some = some
+some_run (r ∷ rest) some = omega arith
 
 -- ---- cuts
 
--- these cuts and no dual behind them, at this line
+-- these cuts, and no part and no dual behind them, at this line
 abbrev with_cuts : Progress → ℕ → List Cut → Progress
-with_cuts s line cuts = record s { line = line; cuts = cuts; duals = [] }
+with_cuts s line cuts = record s { line = line; cuts = cuts; part = 1; duals = [] }
 
-cut_by_lines : (p : Problem) (s : Progress) (number : ℕ) (cut : Cut) (rest : List Item) → s.size ≡ p.size → s.duals ≡ [] → 1 ≤ p.size
-    → length cut.duals ≡ p.size * p.size
-    → conditions_from p s (cut_items p.size (number, cut) ++ rest)
-    ≡ one_cut_claims p s.line cut ++ conditions_from p (with_cuts s (s.line + cut_lines p.size) (s.cuts ++ cut ∷ [])) rest
-cut_by_lines p s number cut rest size none some long =
+-- the lines of this version say the cut
+pub record IsSaidCut (n v : ℕ) (cut : Cut) : Type 0 where
+  pub long : length cut.duals ≡ n * n
+  pub part : part_of (part_said v cut.part) ≡ cut.part
+
+cut_by_lines : (p : Problem) (s : Progress) (v number : ℕ) (cut : Cut) (rest : List Item) → s.size ≡ p.size → s.duals ≡ [] → 1 ≤ p.size
+    → IsSaidCut p.size v cut
+    → conditions_from p s (cut_items v p.size (number, cut) ++ rest)
+    ≡ one_cut_claims p v s.line cut ++ conditions_from p (with_cuts s (s.line + cut_lines v p.size cut) (s.cuts ++ cut ∷ [])) rest
+cut_by_lines p s v number cut rest size none some said =
     let n = p.size in
-    let after = record s { line = s.line + 1 } in
+    let rs = dual_runs v n cut.duals in
+    let after = record s { line = s.line + 1; part = cut.part } in
     let square : s.size * s.size ≡ n * n = ap (λ m. m * m) size in
     let pos : 1 ≤ n * n = mul-pos some some in
     let done : length s.duals ≡ 0 = ap (λ ds. length ds) none in
-    let duals = dual_claims p (s.line + 1) (commodities n) cut.duals in
-    duals_by_lines p after (commodities n) cut.duals rest (long ∙ sym (length_commodities n)) (omega (arith, long, pos)) (omega (arith, done, long, square))
-    ∙ ap (λ ds. duals ++ after_duals p s rest (s.line + 1 + length cut.duals) (ds ++ cut.duals)) none
+    let of : spread rs ≡ cut.duals = spread_dual_runs v n cut.duals in
+    let long : length (spread rs) ≡ n * n = ap (λ ds. length ds) of ∙ said.long in
+    let duals = dual_claims p cut.part (s.line + 1) 0 rs in
+    ap (λ part. conditions_from p (record s { line = s.line + 1; part = part }) (run_items n 0 rs ++ rest)) said.part
+    ∙ duals_by_lines p after n 0 rs rest (dual_runs_some v n cut.duals) (some_run rs (omega (arith, long, pos))) done (omega (arith, long, square))
+    ∙ ap (λ ds. duals ++ after_duals p after rest (s.line + 1 + length rs) ds) (ap₂ (λ (xs ys : List Prices). xs ++ ys) none of)
     ∙ ap₂ (λ last next. duals ++ (claim Sum last (IsWithinSums p cut) ∷ conditions_from p (with_cuts s next (s.cuts ++ cut ∷ [])) rest))
-    (let e : s.line + 1 + length cut.duals - 1 ≡ s.line + n * n = omega (arith, long) in e)
-    (let e : s.line + 1 + length cut.duals ≡ s.line + (n * n + 1) = omega (arith, long) in e)
-    ∙ sym (append_assoc duals (claim Sum (s.line + n * n) (IsWithinSums p cut) ∷ [])
-    (conditions_from p (with_cuts s (s.line + (n * n + 1)) (s.cuts ++ cut ∷ [])) rest))
+    (let e : s.line + 1 + length rs - 1 ≡ s.line + length rs = omega arith in e)
+    (let e : s.line + 1 + length rs ≡ s.line + (length rs + 1) = omega arith in e)
+    ∙ sym (append_assoc duals (claim Sum (s.line + length rs) (IsWithinSums p cut) ∷ [])
+    (conditions_from p (with_cuts s (s.line + (length rs + 1)) (s.cuts ++ cut ∷ [])) rest))
 
-pub cuts_by_lines : (p : Problem) (s : Progress) (first : ℕ) (cuts : List Cut) (rest : List Item) → s.size ≡ p.size → s.duals ≡ [] → 1 ≤ p.size
-    → AllByRecursion (λ (cut : Cut). length cut.duals ≡ p.size * p.size) cuts
-    → conditions_from p s (cuts_items p.size first cuts ++ rest)
-    ≡ cut_claims p s.line cuts ++ conditions_from p (with_cuts s (s.line + length cuts * cut_lines p.size) (s.cuts ++ cuts)) rest
-cuts_by_lines p s first [] rest size none some long =
-    let same : s ≡ record s { duals = [] } = ap (λ ds. record s { duals = ds }) none in
+pub cuts_by_lines : (p : Problem) (s : Progress) (v first : ℕ) (cuts : List Cut) (rest : List Item) → s.size ≡ p.size → s.part ≡ 1 → s.duals ≡ []
+    → 1 ≤ p.size → AllByRecursion (IsSaidCut p.size v) cuts
+    → conditions_from p s (cuts_items v p.size first cuts ++ rest)
+    ≡ cut_claims p v s.line cuts ++ conditions_from p (with_cuts s (s.line + sum_by (cut_lines v p.size) cuts) (s.cuts ++ cuts)) rest
+cuts_by_lines p s v first [] rest size whole none some said =
+    let same : s ≡ record s { part = 1; duals = [] } = ap₂ (λ part ds. record s { part = part; duals = ds }) whole none in
     ap (λ t. conditions_from p t rest) same
     ∙ ap₂ (λ line cuts. conditions_from p (with_cuts s line cuts) rest)
-    (let e : s.line ≡ s.line + 0 * cut_lines p.size = omega arith in e) (sym (append-nil s.cuts))
-cuts_by_lines p s first (cut ∷ cuts) rest size none some long =
-    let here = one_cut_claims p s.line cut in
-    let after = with_cuts s (s.line + cut_lines p.size) (s.cuts ++ cut ∷ []) in
-    let later = cut_claims p (s.line + cut_lines p.size) cuts in
-    let end = conditions_from p (with_cuts s (s.line + length (cut ∷ cuts) * cut_lines p.size) (s.cuts ++ cut ∷ cuts)) rest in
-    ap (λ items. conditions_from p s items) (append_assoc (cut_items p.size (first, cut)) (cuts_items p.size (first + 1) cuts) rest)
-    ∙ cut_by_lines p s first cut (cuts_items p.size (first + 1) cuts ++ rest) size none some long.0
+    (let e : s.line ≡ s.line + 0 = omega arith in e) (sym (append-nil s.cuts))
+cuts_by_lines p s v first (cut ∷ cuts) rest size whole none some said =
+    let here = one_cut_claims p v s.line cut in
+    let lines = cut_lines v p.size cut in
+    let others = sum_by (cut_lines v p.size) cuts in
+    let after = with_cuts s (s.line + lines) (s.cuts ++ cut ∷ []) in
+    let later = cut_claims p v (s.line + lines) cuts in
+    let all = sum_by (cut_lines v p.size) (cut ∷ cuts) in
+    let place : s.line + lines + others ≡ s.line + all = omega (arith, sum_by-cons (cut_lines v p.size) cut cuts) in
+    let end = conditions_from p (with_cuts s (s.line + all) (s.cuts ++ cut ∷ cuts)) rest in
+    ap (λ items. conditions_from p s items) (append_assoc (cut_items v p.size (first, cut)) (cuts_items v p.size (first + 1) cuts) rest)
+    ∙ cut_by_lines p s v first cut (cuts_items v p.size (first + 1) cuts ++ rest) size none some said.0
     ∙ ap (λ cs. here ++ cs) (
-    cuts_by_lines p after (first + 1) cuts rest size refl some long.1
+    cuts_by_lines p after v (first + 1) cuts rest size refl refl some said.1
     ∙ ap₂ (λ line all. later ++ conditions_from p (with_cuts s line all) rest)
-    (let e : s.line + cut_lines p.size + length cuts * cut_lines p.size ≡ s.line + length (cut ∷ cuts) * cut_lines p.size = omega (arith, suc-mul (length cuts) (cut_lines p.size)) in e)
-    (append_assoc s.cuts (cut ∷ []) cuts))
+    place (append_assoc s.cuts (cut ∷ []) cuts))
     ∙ sym (append_assoc here later end)
 
 -- ---- the tree
@@ -208,3 +263,5 @@ tree_by_lines p s b pending (branch k opened closed) rest =
     ∙ sym (append_assoc here there after))
 tree_by_lines p s b pending (leaf denom weights) rest = refl
 tree_by_lines p s b pending empty rest = refl
+tree_by_lines p s b pending (block commodity) rest = refl
+tree_by_lines p s b pending count rest = refl

@@ -1,11 +1,11 @@
 -- The conditions that are tried at a line.
-use Rattle.std.specs.Prelude.{◌≡◌, ℕ, ◌*◌, ◌≤◌, List, [], ◌∷◌, ◌++◌, length, Bool, true, false, nat_eq, All, Contains}
+use Rattle.std.specs.Prelude.{◌≡◌, ℕ, ◌*◌, ◌≤◌, List, [], ◌∷◌, ◌++◌, length, replicate, Bool, true, false, nat_eq, All, Contains}
 use Rattle.hub_spec.specs.Problem.{Problem}
-use Rattle.hub_spec.specs.Plans.{plan_cost}
-use Rattle.hub_spec.specs.Cuts.{Prices, IsDual, cut_by, IsWithinSums}
-use Rattle.hub_spec.specs.Trees.{Branching, weight_sum, leaf_bound, Closes, TreeLine, branch_on, leaf_of, no_hub, IsClosed}
+use Rattle.hub_spec.specs.Plans.{plan_cost, HasWanted}
+use Rattle.hub_spec.specs.Cuts.{Prices, IsWithinSums}
+use Rattle.hub_spec.specs.Trees.{Branching, weight_sum, IsMultiple, HasRoom, LacksRoom, leaf_bound, Closes, IsBlocked, TreeLine, branch_on, leaf_of, no_hub, no_route, no_count, IsClosed}
 use Rattle.cert_spec.specs.Lines.{Item, says_version, says_size, says_cost, says_bound, says_hubs, says_route, says_cuts, says_cut, says_dual, says_nodes, says_tree, says_end}
-use Rattle.cert_spec.specs.Conditions.{Claim, claim, Size, BoundOverCost, Hubs, Route, Cost, Dual, Sum, Branch, Empty, CutNumber, Weight, Leaf}
+use Rattle.cert_spec.specs.Conditions.{Claim, claim, IsDualOfRun, Size, BoundOverCost, Hubs, Number, Route, Cost, Dual, Sum, Branch, Empty, Block, Count, CutNumber, Multiple, Weight, Leaf}
 use Rattle.stream_spec.specs.Progress.{Progress, after_line}
 
 -- the condition, if it is time for it
@@ -22,32 +22,38 @@ cost_conditions p s routes =
 -- the sums of a cut, once each commodity has a dual
 abbrev pub sum_conditions : Problem → Progress → List Prices → List Claim
 sum_conditions p s duals =
-    if_time (nat_eq (length duals) (s.size * s.size)) (claim Sum s.line (IsWithinSums p (cut_by duals)))
+    if_time (nat_eq (length duals) (s.size * s.size)) (claim Sum s.line (IsWithinSums p (record { part = s.part; duals = duals })))
 
 -- those of a line of the tree, at the next branch that is to be filled
 abbrev pub tree_conditions : Problem → Progress → List Branching → TreeLine → List Claim
 tree_conditions p s [] l = []
 tree_conditions p s (b ∷ pending) (branch_on k) = claim Branch s.line (Contains b.free k) ∷ []
 tree_conditions p s (b ∷ pending) (leaf_of denom weights) =
-    claim CutNumber s.line (All (λ (e : ℕ × ℕ). e.0 ≤ length s.cuts) weights)
+    claim Count s.line (HasRoom p.wanted b)
+    ∷ claim CutNumber s.line (All (λ (e : ℕ × ℕ). e.0 ≤ length s.cuts) weights)
+    ∷ claim Multiple s.line (All (IsMultiple s.cuts) weights)
     ∷ claim Weight s.line (weight_sum weights ≤ denom)
     ∷ claim Leaf s.line (Closes denom s.bound (leaf_bound p s.cuts denom weights b))
     ∷ []
 tree_conditions p s (b ∷ pending) no_hub = claim Empty s.line (IsClosed b) ∷ []
+tree_conditions p s (b ∷ pending) (no_route commodity) = claim Block s.line (IsBlocked p b commodity) ∷ []
+tree_conditions p s (b ∷ pending) no_count = claim Count s.line (LacksRoom p.wanted b) ∷ []
 
 -- the conditions that are tried at a line that says this, in order
 abbrev pub line_conditions : Problem → Progress → Item → List Claim
-line_conditions p s says_version = []
+line_conditions p s (says_version v) = []
 line_conditions p s (says_size n q) = claim Size s.line ((n ≡ p.size) × (q ≡ length p.candidates)) ∷ []
 line_conditions p s (says_cost c) = []
 line_conditions p s (says_bound b) = claim BoundOverCost s.line (b ≤ s.cost) ∷ []
-line_conditions p s (says_hubs hubs) = claim Hubs s.line (All (Contains p.candidates) hubs) ∷ []
+line_conditions p s (says_hubs hubs) =
+    claim Hubs s.line (All (Contains p.candidates) hubs) ∷ claim Number s.line (HasWanted p hubs) ∷ []
 line_conditions p s (says_route commodity route) =
-    claim Route s.line (Contains s.hubs route.0 × Contains s.hubs route.1) ∷ cost_conditions p s (s.routes ++ route ∷ [])
+    claim Route s.line (Contains s.hubs route.0 × Contains s.hubs route.1)
+    ∷ cost_conditions p s (s.routes ++ route ∷ [])
 line_conditions p s (says_cuts all) = []
-line_conditions p s (says_cut number) = []
-line_conditions p s (says_dual commodity dual) =
-    claim Dual s.line (IsDual p commodity dual) ∷ sum_conditions p s (s.duals ++ dual ∷ [])
+line_conditions p s (says_cut number part) = []
+line_conditions p s (says_dual commodity run dual) =
+    claim Dual s.line (IsDualOfRun p s.part (length s.duals) (run, dual)) ∷ sum_conditions p s (s.duals ++ replicate run dual)
 line_conditions p s (says_nodes all) = []
 line_conditions p s (says_tree l) = tree_conditions p s s.pending l
 line_conditions p s says_end = []
