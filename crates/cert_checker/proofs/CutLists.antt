@@ -9,8 +9,7 @@ use Rattle.std.proofs.lemmas.List.Elements.{All-get_or}
 use Rattle.hub_spec.specs.Problem.{Problem}
 use Rattle.hub_spec.specs.Cuts.{Prices, Cut}
 use Rattle.hub_spec.specs.Ranges.{IsCutInRange}
-use Rattle.cert_spec.specs.Text.{cut_lines}
-use Rattle.cert_spec.specs.Conditions.{one_cut_claims, cut_claims}
+use Rattle.cert_spec.specs.PartConditions.{cut_lines, one_cut_claims, cut_claims}
 use Rattle.cert_format.specs.Parts.{cut_of}
 
 given_at : (cuts : List (Vec Prices Global)) (i : ℕ) (d : Vec Prices Global) → d ≡ get_or cuts i d → get_or (map cut_of cuts) i (cut_of d) ≡ cut_of d

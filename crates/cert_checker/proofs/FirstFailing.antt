@@ -7,7 +7,8 @@ use Rattle.rayon.specs.Lists.{filter_by_mask}
 use Rattle.hub_spec.specs.Problem.{Problem, commodities}
 use Rattle.hub_spec.specs.Cuts.{Prices}
 use Rattle.hub_spec.proofs.Commodities.{commodity_at, length_commodities}
-use Rattle.cert_spec.specs.Conditions.{Claim, Dual, AllHold, FailsFirst, dual_claims}
+use Rattle.cert_spec.specs.Conditions.{Claim, Dual, AllHold, FailsFirst}
+use Rattle.cert_spec.specs.PartConditions.{dual_claims}
 use Rattle.cert_checker.specs.Duals.{IsDualAt, IsFirstFailing}
 use Rattle.cert_checker.proofs.Parts.{dual_claims_at}
 

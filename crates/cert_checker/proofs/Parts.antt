@@ -5,8 +5,8 @@ use Rattle.std.specs.List.{AllZip}
 use Rattle.hub_spec.specs.Problem.{Problem, commodities}
 use Rattle.hub_spec.specs.Plans.{IsRoute, plan_cost}
 use Rattle.hub_spec.specs.Cuts.{Prices, IsDual, Cut, IsCut, IsWithinSums}
-use Rattle.cert_spec.specs.Text.{hubs_line, first_route_line, last_route_line, first_dual_line, last_dual_line}
-use Rattle.cert_spec.specs.Conditions.{AllHold, FailsFirst, Claim, claim, Hubs, Route, Cost, Dual, Sum, route_claims, dual_claims, hub_claims, one_cut_claims}
+use Rattle.cert_spec.specs.PartConditions.{hubs_line, first_route_line, last_route_line, first_dual_line, last_dual_line, route_claims, dual_claims, hub_claims, one_cut_claims}
+use Rattle.cert_spec.specs.Conditions.{AllHold, FailsFirst, Claim, claim, Hubs, Route, Cost, Dual, Sum}
 use Rattle.cert_spec.proofs.Claims.{AllHold-append}
 use Rattle.hub_spec.proofs.Commodities.{length_commodities}
 use Rattle.cert_checker.proofs.Reductions.{failure_early, failure_later, failure_next}

@@ -4,7 +4,8 @@ use Rattle.hub_spec.specs.Problem.{Problem, IsProblem}
 use Rattle.hub_spec.specs.Plans.{NoPlanBelow, IsOptimal}
 use Rattle.hub_spec.specs.Certificates.{Proof, Holds}
 use Rattle.hub_spec.specs.Ranges.{IsInRange}
-use Rattle.cert_spec.specs.Conditions.{AllHold, claims}
+use Rattle.cert_spec.specs.Conditions.{AllHold}
+use Rattle.cert_spec.specs.PartConditions.{claims}
 use Rattle.cert_spec.proofs.Claims.{holds_exactly_by_claims}
 use Rattle.hub_spec.proofs.WeakDuality.{no_plan_below_bound}
 

@@ -2,7 +2,8 @@
 use Rattle.std.proofs.Common.{◌++◌}
 use Rattle.hub_spec.specs.Problem.{Problem}
 use Rattle.hub_spec.specs.Certificates.{Proof}
-use Rattle.cert_spec.specs.Conditions.{AllHold, size_claims, plan_claims, all_cut_claims, all_tree_claims, claims}
+use Rattle.cert_spec.specs.Conditions.{AllHold}
+use Rattle.cert_spec.specs.PartConditions.{size_claims, plan_claims, all_cut_claims, all_tree_claims, claims}
 use Rattle.cert_spec.proofs.Claims.{AllHold-append}
 use Rattle.cert_checker.specs.declared.failures.Failure.{Failure}
 use Rattle.cert_checker.specs.Answers.{IsFailure, hub_claims_of}

@@ -3,7 +3,8 @@ use Rattle.std.specs.Prelude.{◌≡◌, ℕ, ◌<◌, List, length, codes}
 use Rattle.hub_spec.specs.Problem.{Problem}
 use Rattle.hub_spec.specs.Plans.{NoPlanBelow, IsOptimal}
 use Rattle.hub_spec.specs.Certificates.{Proof, Holds}
-use Rattle.cert_spec.specs.Conditions.{Claim, Kind, Size, BoundOverCost, Hubs, Route, Cost, Dual, Sum, Branch, Empty, CutNumber, Weight, Leaf, AllHold, FailsFirst, hub_claims, claims}
+use Rattle.cert_spec.specs.Conditions.{Claim, Kind, Size, BoundOverCost, Hubs, Route, Cost, Dual, Sum, Branch, Empty, CutNumber, Weight, Leaf, AllHold, FailsFirst}
+use Rattle.cert_spec.specs.PartConditions.{hub_claims, claims}
 use Rattle.cert_checker.specs.declared.kinds.Kind as code
 use Rattle.cert_checker.specs.declared.kinds.Verdict as answer
 use Rattle.cert_checker.specs.declared.failures.Failure.{Failure}

@@ -5,7 +5,8 @@ use Rattle.hub_spec.specs.Limits.{most_nodes}
 use Rattle.hub_spec.specs.Problem.{Problem, commodities, commodity_at, route_cost}
 use Rattle.hub_spec.specs.Cuts.{Prices, value_at, IsDual, Cut, total, load}
 use Rattle.hub_spec.specs.Ranges.{IsDualInRange}
-use Rattle.cert_spec.specs.Conditions.{Dual, AllHold, FailsFirst, dual_claims}
+use Rattle.cert_spec.specs.Conditions.{Dual, AllHold, FailsFirst}
+use Rattle.cert_spec.specs.PartConditions.{dual_claims}
 
 -- of the duals of a cut
 abbrev pub most_duals : ℕ

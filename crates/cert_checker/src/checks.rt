@@ -4,7 +4,8 @@ ghost use Rattle.std.specs.Prelude.{◌≡◌, ◌↔◌, length, IsTrue, IfOk, 
 ghost use Rattle.hub_spec.specs.Problem.{IsProblem};
 ghost use Rattle.hub_spec.specs.Cuts.{IsCut};
 ghost use Rattle.hub_spec.specs.Ranges.{IsInRange};
-ghost use Rattle.cert_spec.specs.Conditions.{AllHold, size_claims, all_cut_claims, all_tree_claims, claims};
+ghost use Rattle.cert_spec.specs.Conditions.{AllHold};
+ghost use Rattle.cert_spec.specs.PartConditions.{size_claims, all_cut_claims, all_tree_claims, claims};
 ghost use Rattle.cert_checker.specs.Answers.{IsFailure, IsOfSize, hub_claims_of, IsVerdict, ShowsBound, ShowsOptimal};
 
 use crate::cuts::check_cuts;

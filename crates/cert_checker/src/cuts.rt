@@ -4,8 +4,8 @@ ghost use Rattle.std.specs.Prelude.{◌≡◌, ℕ, ◌+◌, ◌*◌, ◌^◌, �
 ghost use Rattle.hub_spec.specs.Limits.{most_cost};
 ghost use Rattle.hub_spec.specs.Cuts.{cut_by, load, IsCut, IsWithinSums};
 ghost use Rattle.hub_spec.specs.Ranges.{IsCutInRange};
-ghost use Rattle.cert_spec.specs.Text.{cut_lines};
-ghost use Rattle.cert_spec.specs.Conditions.{AllHold, one_cut_claims, cut_claims};
+ghost use Rattle.cert_spec.specs.PartConditions.{cut_lines, one_cut_claims, cut_claims};
+ghost use Rattle.cert_spec.specs.Conditions.{AllHold};
 ghost use Rattle.cert_format.specs.Parts.{cut_of};
 ghost use Rattle.cert_checker.specs.Answers.{IsFailure};
 

@@ -3,7 +3,8 @@
 ghost use Rattle.std.specs.Prelude.{◌≡◌, ℕ, ◌+◌, ◌*◌, ◌^◌, ◌<◌, ◌≤◌, ◌↔◌, [], length, slice_index_or, false, IsTrue, IfErr, OnOk, All, Contains};
 ghost use Rattle.hub_spec.specs.Problem.{commodities};
 ghost use Rattle.hub_spec.specs.Cuts.{IsDual};
-ghost use Rattle.cert_spec.specs.Conditions.{AllHold, dual_claims};
+ghost use Rattle.cert_spec.specs.Conditions.{AllHold};
+ghost use Rattle.cert_spec.specs.PartConditions.{dual_claims};
 ghost use Rattle.hub_spec.specs.Ranges.{IsAmount, IsDualInRange};
 ghost use Rattle.cert_checker.specs.Answers.{IsFailure};
 ghost use Rattle.cert_checker.specs.Duals.{AreValues, IsCovered, IsCoveredSingle, IsCoveredFrom, IsCoveredByAll, IsDualAt, MayTryDual, IsFirstFailing};

@@ -2,7 +2,7 @@
 
 ghost use Rattle.std.specs.Prelude.{◌≡◌, ◌*◌, ◌^◌, ◌<◌, ◌≤◌};
 ghost use Rattle.hub_spec.specs.Limits.{most_nodes, most_cuts};
-ghost use Rattle.cert_spec.specs.Text.{last_route_line, first_cut_line, cut_lines, last_dual_line, first_tree_line};
+ghost use Rattle.cert_spec.specs.PartConditions.{last_route_line, first_cut_line, cut_lines, last_dual_line, first_tree_line};
 
 /// The numbers of nodes and of candidates.
 pub(crate) const SIZE_LINE: u64 = 2;

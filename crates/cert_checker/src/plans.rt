@@ -6,7 +6,8 @@ ghost use Rattle.std.specs.List.Sorted.{IsStrictlyIncreasing};
 ghost use Rattle.hub_spec.specs.Limits.{most_cost};
 ghost use Rattle.hub_spec.specs.Problem.{commodities};
 ghost use Rattle.hub_spec.specs.Plans.{IsHubSet, IsRoute, plan_cost};
-ghost use Rattle.cert_spec.specs.Conditions.{AllHold, route_claims, hub_claims};
+ghost use Rattle.cert_spec.specs.Conditions.{AllHold};
+ghost use Rattle.cert_spec.specs.PartConditions.{route_claims, hub_claims};
 ghost use Rattle.cert_checker.specs.Answers.{IsFailure};
 
 use crate::failures::Failure;

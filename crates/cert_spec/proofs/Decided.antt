@@ -11,8 +11,9 @@ use Rattle.std.specs.Prelude.{IfSome}
 use Rattle.std.proofs.lemmas.Bool.{cases_lt}
 use Rattle.hub_spec.specs.Certificates.{Proof}
 use Rattle.hub_spec.proofs.Decisions.{Decided, decided_by, decided_and, decided_or, decided_le, decided_eq, decided_all, decided_contains}
-use Rattle.cert_spec.specs.Text.{dual_runs, first_route_line, cut_lines, first_cut_line, first_dual_line, first_tree_line}
-use Rattle.cert_spec.specs.Conditions.{Kind, Claim, AllHold, FailsFirst, IsDualOfRun, route_claims, dual_claims, one_cut_claims, cut_claims, tree_claims, plan_claims, all_cut_claims, all_tree_claims, claims}
+use Rattle.cert_spec.specs.Text.{dual_runs}
+use Rattle.cert_spec.specs.PartConditions.{first_route_line, cut_lines, first_cut_line, first_dual_line, first_tree_line, route_claims, dual_claims, one_cut_claims, cut_claims, tree_claims, plan_claims, all_cut_claims, all_tree_claims, claims}
+use Rattle.cert_spec.specs.Conditions.{Kind, Claim, AllHold, FailsFirst, IsDualOfRun}
 
 decided_true : (b : Bool) → Decided (b ≡ true)
 decided_true true = inl refl

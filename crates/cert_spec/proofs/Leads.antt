@@ -11,6 +11,7 @@ use Rattle.hub_spec.specs.Trees.{Tree, branch, leaf, empty, block, count, TreeLi
 use Rattle.hub_spec.specs.Certificates.{Proof}
 use Rattle.cert_spec.specs.Lines.{Item, says_cuts, says_nodes, says_tree, says_end}
 use Rattle.cert_spec.specs.Text.{route_items, is_first, same_prices, singles, dual_runs, run_items, dual_items, part_said, cut_items, cuts_items}
+use Rattle.cert_spec.specs.Theorems.{EachTextLeads}
 use Rattle.cert_spec.specs.Runs.{runs, spread, before_at, AreRuns}
 use Rattle.cert_spec.proofs.Versions.{second_is, second_later}
 use Rattle.cert_spec.proofs.RunLaws.{runs_are, spread_runs}
@@ -20,7 +21,6 @@ use Rattle.std.proofs.lemmas.Option.{none-some}
 use Rattle.std.proofs.lemmas.List.{length-append, length-replicate}
 use Rattle.hub_spec.specs.Ranges.{IsDualInRange, IsCutInRange, IsLineInRange, IsFirstDual, IsFirstCut, IsFirstLine, IsInRange}
 use Rattle.cert_spec.specs.Grammar.{Stage, want_end, want_nothing, want_cuts, want_nodes, want_route, want_cut, want_dual, want_tree, Shape, shape, after_route, after_cut, after_dual, after_tree, kept_dual, IsRun, IsPart, IsVersion, after, Leads}
-use Rattle.cert_spec.specs.Theorems.{EachTextLeads}
 use Rattle.hub_spec.proofs.CommodityIndex.{commodities_from, commodities_by_number}
 
 pub Leads-append : (first mid last : Stage) (items rest : List Item) → Leads first items mid → Leads mid rest last → Leads first (items ++ rest) last

@@ -11,6 +11,7 @@ use Rattle.hub_spec.specs.Trees.{Tree, branch, leaf, empty, block, count, TreeLi
 use Rattle.hub_spec.specs.Certificates.{Proof}
 use Rattle.cert_spec.specs.Lines.{Item, says_version, says_size, says_cost, says_bound, says_hubs, says_route, says_cuts, says_cut, says_dual, says_nodes, says_tree, says_end}
 use Rattle.cert_spec.specs.Text.{route_items, is_first, same_prices, singles, dual_runs, run_items, part_said, dual_items, cuts_items, certificate_items}
+use Rattle.cert_spec.specs.Theorems.{EachLeadIsText}
 use Rattle.hub_spec.specs.Ranges.{IsShort, IsInRange}
 use Rattle.cert_spec.specs.Grammar.{Stage, want_version, want_size, want_end, want_nothing, want_cost, want_bound, want_hubs, want_cuts, want_nodes, want_route, want_cut, want_dual, want_tree, Shape, shape, places_after, IsOpen, Wants, after_route, after_cut, after_dual, after_tree, kept_dual, IsPart, IsRun, IsVersion, after, Leads}
 use Rattle.cert_spec.specs.Runs.{spread, before_at, AreRuns}
@@ -18,7 +19,6 @@ use Rattle.cert_spec.proofs.RunLaws.{runs_spread}
 use Rattle.cert_spec.proofs.SamePrices.{prices_told}
 use Rattle.cert_spec.proofs.Stages.{run_within}
 use Rattle.std.proofs.lemmas.Bool.{cases_eq}
-use Rattle.cert_spec.specs.Theorems.{EachLeadIsText}
 use Rattle.hub_spec.proofs.CommodityIndex.{commodities_from, commodities_by_number}
 use Rattle.cert_spec.proofs.Leads.{after_route-all, after_route-more, after_cut-all, after_cut-more, after_dual-all, after_dual-more, after_tree-all, after_tree-more, IsDualOf, AreSaid, IsCutOf, IsLineOf, length-spread}
 

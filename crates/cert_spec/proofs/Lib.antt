@@ -2,7 +2,6 @@ pub mod RunLaws
 pub mod SamePrices
 pub mod Claims
 pub mod Decided
-pub mod VerdictLemmas
 pub mod Items
 pub mod Versions
 pub mod Numbers
@@ -13,4 +12,7 @@ pub mod Stages
 pub mod LeadsBack
 pub mod OneText
 pub mod TextOrFault
+pub mod ByParts
+pub mod ByLines
+pub mod VerdictLemmas
 pub mod Examples

@@ -1,11 +1,13 @@
--- The conditions of the check in the order in which they are tried, each with its kind and line.
-use Rattle.std.specs.Prelude.{◌≡◌, ℕ, ◌+◌, ◌<◌, ◌≤◌, List, [], ◌∷◌, ◌++◌, length, All, Contains, ◌⊎◌}
+-- The conditions of the check, line by line, in the order in which they are tried, each with its kind and line.
+use Rattle.std.specs.Prelude.{◌≡◌, ℕ, ◌+◌, ◌*◌, ◌<◌, ◌≤◌, List, [], ◌∷◌, ◌++◌, length, replicate, Bool, true, false, nat_eq, All, Contains, ◌⊎◌, ◌↔◌}
 use Rattle.hub_spec.specs.Problem.{Problem, commodity_at}
 use Rattle.hub_spec.specs.Plans.{HasWanted, plan_cost}
-use Rattle.hub_spec.specs.Cuts.{Prices, IsDual, Cut, IsWithinSums}
-use Rattle.hub_spec.specs.Trees.{Branching, root, open_child, closed_child, weight_sum, leaf_bound, Closes, IsMultiple, Tree, branch, leaf, empty, block, count, IsClosed, IsBlocked, HasRoom, LacksRoom, line_count}
+use Rattle.hub_spec.specs.Cuts.{Prices, IsDual, IsWithinSums}
+use Rattle.hub_spec.specs.Trees.{Branching, weight_sum, IsMultiple, HasRoom, LacksRoom, leaf_bound, Closes, IsBlocked, TreeLine, branch_on, leaf_of, no_hub, no_route, no_count, IsClosed}
 use Rattle.hub_spec.specs.Certificates.{Proof}
-use Rattle.cert_spec.specs.Text.{size_line, bound_line, hubs_line, first_route_line, last_route_line, dual_runs, cut_lines, first_cut_line, first_dual_line, last_dual_line, first_tree_line}
+use Rattle.cert_spec.specs.Lines.{Item, says_version, says_size, says_cost, says_bound, says_hubs, says_route, says_cuts, says_cut, says_dual, says_nodes, says_tree, says_end}
+use Rattle.cert_spec.specs.Text.{certificate_items}
+use Rattle.cert_spec.specs.Progress.{Progress, at_start, after_line}
 
 -- what a condition is about; BoundOverCost fails where the bound is above the cost
 pub data Kind : Type 0 where
@@ -31,77 +33,70 @@ FailsFirst [] kind line = ⊥
 FailsFirst (c ∷ cs) kind line =
     ((¬ c.holds) × (c.kind ≡ kind) × (c.line ≡ line)) ⊎ (c.holds × FailsFirst cs kind line)
 
--- each route, from this line on, goes through hubs
-abbrev pub route_claims : List ℕ → ℕ → List (ℕ × ℕ) → List Claim
-route_claims hubs line [] = []
-route_claims hubs line (r ∷ rs) =
-    claim Route line (Contains hubs r.0 × Contains hubs r.1) ∷ route_claims hubs (line + 1) rs
-
 -- the dual of a run is feasible, with this part, for each of its commodities, of which the first has number t
 pub record IsDualOfRun (p : Problem) (part t : ℕ) (r : ℕ × Prices) : Type 0 where
   pub each : (s : ℕ) → s < r.0 → IsDual p part (commodity_at p.size (t + s)) r.1
 
--- each run's dual, from this line on
-abbrev pub dual_claims : Problem → ℕ → ℕ → ℕ → List (ℕ × Prices) → List Claim
-dual_claims p part line t [] = []
-dual_claims p part line t (r ∷ rest) =
-    claim Dual line (IsDualOfRun p part t r) ∷ dual_claims p part (line + 1) (t + r.0) rest
+-- the condition, if it is time for it
+abbrev pub if_time : Bool → Claim → List Claim
+if_time true c = c ∷ []
+if_time false c = []
 
--- a cut that stands at this line: its duals, and at the last of them its sums
-abbrev pub one_cut_claims : Problem → ℕ → ℕ → Cut → List Claim
-one_cut_claims p v line cut =
-    dual_claims p cut.part (first_dual_line line) 0 (dual_runs v p.size cut.duals)
-    ++ claim Sum (last_dual_line v p.size cut line) (IsWithinSums p cut) ∷ []
+-- the stated cost, once each commodity has a route
+abbrev pub cost_conditions : Problem → Progress → List (ℕ × ℕ) → List Claim
+cost_conditions p s routes =
+    if_time (nat_eq (length routes) (s.size * s.size))
+    (claim Cost s.line (s.cost ≡ plan_cost p (record { hubs = s.hubs; routes = routes })))
 
--- each cut, the first of which stands at this line
-abbrev pub cut_claims : Problem → ℕ → ℕ → List Cut → List Claim
-cut_claims p v line [] = []
-cut_claims p v line (cut ∷ cuts) = one_cut_claims p v line cut ++ cut_claims p v (line + cut_lines v p.size cut) cuts
+-- the sums of a cut, once each commodity has a dual
+abbrev pub sum_conditions : Problem → Progress → List Prices → List Claim
+sum_conditions p s duals =
+    if_time (nat_eq (length duals) (s.size * s.size)) (claim Sum s.line (IsWithinSums p (record { part = s.part; duals = duals })))
 
--- each line of the tree of a branch, in preorder from this line on
-abbrev pub tree_claims : Problem → List Cut → ℕ → ℕ → Branching → Tree → List Claim
-tree_claims p cuts target line b (branch k opened closed) =
-    claim Branch line (Contains b.free k)
-    ∷ (tree_claims p cuts target (line + 1) (open_child b k) opened
-    ++ tree_claims p cuts target (line + 1 + line_count opened) (closed_child b k) closed)
-tree_claims p cuts target line b (leaf denom weights) =
-    claim Count line (HasRoom p.wanted b)
-    ∷ claim CutNumber line (All (λ (e : ℕ × ℕ). e.0 ≤ length cuts) weights)
-    ∷ claim Multiple line (All (IsMultiple cuts) weights)
-    ∷ claim Weight line (weight_sum weights ≤ denom)
-    ∷ claim Leaf line (Closes denom target (leaf_bound p cuts denom weights b))
+-- those of a line of the tree, at the next branch that is to be filled
+abbrev pub tree_conditions : Problem → Progress → List Branching → TreeLine → List Claim
+tree_conditions p s [] l = []
+tree_conditions p s (b ∷ pending) (branch_on k) = claim Branch s.line (Contains b.free k) ∷ []
+tree_conditions p s (b ∷ pending) (leaf_of denom weights) =
+    claim Count s.line (HasRoom p.wanted b)
+    ∷ claim CutNumber s.line (All (λ (e : ℕ × ℕ). e.0 ≤ length s.cuts) weights)
+    ∷ claim Multiple s.line (All (IsMultiple s.cuts) weights)
+    ∷ claim Weight s.line (weight_sum weights ≤ denom)
+    ∷ claim Leaf s.line (Closes denom s.bound (leaf_bound p s.cuts denom weights b))
     ∷ []
-tree_claims p cuts target line b empty = claim Empty line (IsClosed b) ∷ []
-tree_claims p cuts target line b (block commodity) = claim Block line (IsBlocked p b commodity) ∷ []
-tree_claims p cuts target line b count = claim Count line (LacksRoom p.wanted b) ∷ []
+tree_conditions p s (b ∷ pending) no_hub = claim Empty s.line (IsClosed b) ∷ []
+tree_conditions p s (b ∷ pending) (no_route commodity) = claim Block s.line (IsBlocked p b commodity) ∷ []
+tree_conditions p s (b ∷ pending) no_count = claim Count s.line (LacksRoom p.wanted b) ∷ []
 
--- the numbers of nodes and candidates are the instance's, and the bound is not above the cost
-abbrev pub size_claims : Problem → Proof → List Claim
-size_claims p k =
-    claim Size size_line ((k.size ≡ p.size) × (k.candidates ≡ length p.candidates))
-    ∷ claim BoundOverCost bound_line (k.bound ≤ k.cost)
-    ∷ []
+-- the conditions that are tried at a line that says this, in order
+abbrev pub line_conditions : Problem → Progress → Item → List Claim
+line_conditions p s (says_version v) = []
+line_conditions p s (says_size n q) = claim Size s.line ((n ≡ p.size) × (q ≡ length p.candidates)) ∷ []
+line_conditions p s (says_cost c) = []
+line_conditions p s (says_bound b) = claim BoundOverCost s.line (b ≤ s.cost) ∷ []
+line_conditions p s (says_hubs hubs) =
+    claim Hubs s.line (All (Contains p.candidates) hubs) ∷ claim Number s.line (HasWanted p hubs) ∷ []
+line_conditions p s (says_route commodity route) =
+    claim Route s.line (Contains s.hubs route.0 × Contains s.hubs route.1)
+    ∷ cost_conditions p s (s.routes ++ route ∷ [])
+line_conditions p s (says_cuts all) = []
+line_conditions p s (says_cut number part) = []
+line_conditions p s (says_dual commodity run dual) =
+    claim Dual s.line (IsDualOfRun p s.part (length s.duals) (run, dual)) ∷ sum_conditions p s (s.duals ++ replicate run dual)
+line_conditions p s (says_nodes all) = []
+line_conditions p s (says_tree l) = tree_conditions p s s.pending l
+line_conditions p s says_end = []
 
--- the plan of these hubs and routes between n nodes: its hubs, each route, and at the last of them its stated cost
-abbrev pub hub_claims : Problem → (n cost : ℕ) → (hubs : List ℕ) → (routes : List (ℕ × ℕ)) → List Claim
-hub_claims p n cost hubs routes =
-    claim Hubs hubs_line (All (Contains p.candidates) hubs)
-    ∷ claim Number hubs_line (HasWanted p hubs)
-    ∷ (route_claims hubs first_route_line routes
-    ++ claim Cost (last_route_line n) (cost ≡ plan_cost p (record { hubs = hubs; routes = routes })) ∷ [])
+-- those of these lines, one after another
+abbrev pub conditions_from : Problem → Progress → List Item → List Claim
+conditions_from p s [] = []
+conditions_from p s (item ∷ items) = line_conditions p s item ++ conditions_from p (after_line p s item) items
 
--- the conditions up to the cuts
-abbrev pub plan_claims : Problem → Proof → List Claim
-plan_claims p k = size_claims p k ++ hub_claims p k.size k.cost k.plan.hubs k.plan.routes
+-- the conditions of the check of a certificate: those of its lines
+abbrev pub conditions : Problem → Proof → List Claim
+conditions p k = conditions_from p at_start (certificate_items k)
 
--- those of the cuts
-abbrev pub all_cut_claims : Problem → Proof → List Claim
-all_cut_claims p k = cut_claims p k.version (first_cut_line k.size) k.cuts
-
--- those of the tree
-abbrev pub all_tree_claims : Problem → Proof → List Claim
-all_tree_claims p k = tree_claims p k.cuts k.bound (first_tree_line k.version k.size k.cuts) (root p) k.tree
-
--- the conditions in the order in which they are tried
-abbrev pub claims : Problem → Proof → List Claim
-claims p k = plan_claims p k ++ (all_cut_claims p k ++ all_tree_claims p k)
+-- two lists of conditions come to the same: both hold, or the same condition is the first of them to fail
+pub record ComesToTheSame (xs ys : List Claim) : Type 0 where
+  pub hold : AllHold xs ↔ AllHold ys
+  pub fail : (kind : Kind) (line : ℕ) → FailsFirst xs kind line ↔ FailsFirst ys kind line

@@ -7,7 +7,7 @@ use Rattle.hub_spec.specs.Problem.{Problem}
 use Rattle.cert_spec.specs.Lines.{Item as Line, says_version, says_size, says_cost, says_bound, says_hubs, says_route, says_cuts, says_cut, says_dual, says_nodes, says_tree, says_end}
 use Rattle.cert_spec.specs.Grammar.{Shape, Stage, want_version, want_size, want_end, want_nothing, want_cost, want_bound, want_hubs, want_cuts, want_nodes, want_route, want_cut, want_dual, want_tree, Wants, places_after, after_route, after_cut, after_dual, after_tree, after, Leads}
 use Rattle.cert_spec.proofs.Leads.{after_route-all, after_route-more, after_cut-all, after_cut-more, after_dual-all, after_dual-more, after_tree-all, after_tree-more}
-use Rattle.stream_spec.specs.Progress.{Progress, after_line, after_lines}
+use Rattle.cert_spec.specs.Progress.{Progress, after_line, after_lines}
 
 -- ---- a stage by its cases
 

@@ -11,10 +11,9 @@ use Rattle.hub_spec.specs.Cuts.{Prices, value_at, IsDual, cut_by, load, IsWithin
 use Rattle.hub_spec.proofs.Decisions.{decided_contains}
 use Rattle.cert_spec.specs.Lines.{says_cuts, says_cut, says_dual}
 use Rattle.cert_spec.specs.Grammar.{Shape, Stage, want_cuts, want_cut, want_dual, after_dual}
-use Rattle.cert_spec.specs.Conditions.{claim, AllHold, Dual, Sum}
+use Rattle.cert_spec.specs.Conditions.{claim, AllHold, Dual, Sum, if_time}
+use Rattle.cert_spec.specs.Progress.{Progress, with_duals}
 use Rattle.cert_spec.proofs.Leads.{after_dual-all, after_dual-more}
-use Rattle.stream_spec.specs.Progress.{Progress, with_duals}
-use Rattle.stream_spec.specs.LineConditions.{if_time}
 use Rattle.cert_stream.specs.Sums.{CutTally, IsNoDual, IsDualAdded, AreSumsOf, AreWithin, last_of}
 use Rattle.cert_stream.specs.Steps.{ended, CutTaken, cut_with, DualEnds, dual_with}
 use Rattle.cert_stream.specs.Taken.{Part, nothing, some_values, StandsFirm, AreSumsOfCut, AreCutSums, Keeps}

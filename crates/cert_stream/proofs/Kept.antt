@@ -3,10 +3,9 @@ use Rattle.std.proofs.Common.{◌≡◌, ℕ, Option}
 use Rattle.hub_spec.specs.Problem.{Problem}
 use Rattle.cert_spec.specs.Lines.{Item as Line}
 use Rattle.cert_spec.specs.Grammar.{Stage, after}
-use Rattle.cert_spec.specs.Conditions.{AllHold}
+use Rattle.cert_spec.specs.Conditions.{AllHold, line_conditions}
+use Rattle.cert_spec.specs.Progress.{Progress, after_line}
 use Rattle.cert_checker.specs.declared.kinds.Kind as code
-use Rattle.stream_spec.specs.Progress.{Progress, after_line}
-use Rattle.stream_spec.specs.LineConditions.{line_conditions}
 use Rattle.cert_stream.specs.Steps.{Tried, ended}
 use Rattle.cert_stream.specs.Taken.{Part, nothing, StandsFirm, Keeps}
 use Rattle.cert_stream.specs.declared.checks.Checks.{Checks}

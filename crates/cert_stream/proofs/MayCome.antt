@@ -10,7 +10,7 @@ use Rattle.hub_spec.specs.Cuts.{Prices}
 use Rattle.hub_spec.specs.Trees.{leaf_of}
 use Rattle.hub_spec.specs.Ranges.{IsShort, IsDualInRange, IsLineInRange}
 use Rattle.cert_spec.specs.Grammar.{Shape, want_hubs, want_route, want_dual, want_tree}
-use Rattle.stream_spec.specs.Progress.{Progress}
+use Rattle.cert_spec.specs.Progress.{Progress}
 use Rattle.cert_stream.specs.Sums.{CutTally, most_duals, last_of}
 use Rattle.cert_stream.specs.Steps.{MayHub, MayRoute, MayEndDual, MayDual, MayValue, MayEndLeaf, MayAdd, MayWeight}
 use Rattle.cert_stream.specs.Taken.{Part, nothing, some_hubs, some_values, StandsFirm, AreSumsOfCut, DualsStand, Keeps}

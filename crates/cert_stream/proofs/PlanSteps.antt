@@ -9,11 +9,10 @@ use Rattle.hub_spec.specs.Ranges.{IsShort}
 use Rattle.hub_spec.proofs.Commodities.{commodity_nodes}
 use Rattle.cert_spec.specs.Lines.{says_size, says_cost, says_bound, says_hubs, says_route}
 use Rattle.cert_spec.specs.Grammar.{Shape, want_size, want_cost, want_bound, want_hubs, want_route}
-use Rattle.cert_spec.specs.Conditions.{claim, Size, BoundOverCost, Hubs, Route, Cost}
+use Rattle.cert_spec.specs.Conditions.{claim, Size, BoundOverCost, Hubs, Route, Cost, if_time}
+use Rattle.cert_spec.specs.Progress.{Progress}
 use Rattle.plan_lines.specs.Tallies.{PlanTally, no_plan, with_hub, with_route, IsTallyOf}
 use Rattle.plan_lines.proofs.PlanTallies.{costs_plan, has_route}
-use Rattle.stream_spec.specs.Progress.{Progress}
-use Rattle.stream_spec.specs.LineConditions.{if_time}
 use Rattle.cert_stream.specs.Steps.{ended, Ends, size_tests, bound_tests, route_tests, hubbed, routed, HubTaken}
 use Rattle.cert_stream.specs.Taken.{nothing, some_hubs, StandsFirm, HubsStand, Keeps}
 use Rattle.cert_stream.specs.declared.checks.Checks.{Checks}

@@ -6,7 +6,7 @@ use Rattle.hub_spec.specs.Problem.{commodity_at}
 use Rattle.hub_spec.specs.Ranges.{IsDualInRange, IsLineInRange}
 use Rattle.cert_spec.specs.Lines.{Item as Line, says_version, says_size, says_cost, says_bound, says_hubs, says_route, says_cuts, says_cut, says_dual, says_nodes, says_tree, says_end}
 use Rattle.cert_spec.specs.Grammar.{Shape, Stage, want_version, want_size, want_end, want_cost, want_bound, want_hubs, want_cuts, want_nodes, want_route, want_cut, want_dual, want_tree, IsOpen, Wants}
-use Rattle.stream_spec.specs.Progress.{Progress}
+use Rattle.cert_spec.specs.Progress.{Progress}
 use Rattle.cert_scan.specs.declared.items.Item.{Item}
 use Rattle.cert_scan.specs.declared.items.Item.TheVariants.{Size, Cost, Bound, Hub, Route, Cuts, Cut, Dual, DualPair, Nodes, Branch, Leaf, LeafPair, Empty, End}
 use Rattle.cert_stream.specs.Steps.{IsTaken, MayCome, dual_with, leaf_with, LeafEnds}

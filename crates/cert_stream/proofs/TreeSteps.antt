@@ -10,10 +10,9 @@ use Rattle.hub_spec.specs.Trees.{Branching, root, open_child, closed_child, IsBr
 use Rattle.hub_spec.proofs.ChildLists.{root_branch, open_branch, closed_branch}
 use Rattle.cert_spec.specs.Lines.{says_nodes, says_tree, says_end}
 use Rattle.cert_spec.specs.Grammar.{Shape, want_nodes, want_tree, want_end, IsOpen, places_after, after_tree}
-use Rattle.cert_spec.specs.Conditions.{Claim, claim, Kind, AllHold, Empty, CutNumber, Weight, Leaf}
+use Rattle.cert_spec.specs.Conditions.{Claim, claim, Kind, AllHold, Empty, CutNumber, Weight, Leaf, tree_conditions}
+use Rattle.cert_spec.specs.Progress.{Progress, filled}
 use Rattle.cert_checker.specs.declared.kinds.Kind as code
-use Rattle.stream_spec.specs.Progress.{Progress, filled}
-use Rattle.stream_spec.specs.LineConditions.{tree_conditions}
 use Rattle.tree_lines.specs.Trails.{undecided}
 use Rattle.tree_lines.specs.Paths.{next, behind_next}
 use Rattle.tree_lines.specs.Tallies.{Tally, IsBegun, IsAdded, tally_bound, AreSumsOf}

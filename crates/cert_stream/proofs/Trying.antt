@@ -1,9 +1,8 @@
 -- Conditions tried one after another.
 use Rattle.std.proofs.Common.{◌≡◌, ℕ, List, [], ◌∷◌, ◌++◌, Bool, true, false, Option, Some, None, inl, inr, refl, sym, ◌∙◌, subst}
-use Rattle.cert_spec.specs.Conditions.{Claim, claim, Kind, AllHold, FailsFirst}
+use Rattle.cert_spec.specs.Conditions.{Claim, claim, Kind, AllHold, FailsFirst, if_time}
 use Rattle.cert_checker.specs.Answers.{kind_of}
 use Rattle.cert_checker.specs.declared.kinds.Kind as code
-use Rattle.stream_spec.specs.LineConditions.{if_time}
 use Rattle.cert_stream.specs.Steps.{Tried, failed_at}
 use Rattle.cert_stream.specs.Taken.{TellsFirst}
 

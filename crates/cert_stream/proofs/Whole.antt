@@ -7,17 +7,16 @@ use Rattle.hub_spec.specs.Cuts.{cut_by}
 use Rattle.cert_spec.specs.Lines.{Item as Line, says_version, says_size, says_cost, says_bound, says_hubs, says_route, says_cuts, says_cut, says_dual, says_nodes, says_tree, says_end}
 use Rattle.hub_spec.specs.Trees.{branch_on, leaf_of, no_hub}
 use Rattle.cert_spec.specs.Grammar.{Shape, Stage, want_version, want_size, want_end, want_nothing, want_cost, want_bound, want_hubs, want_cuts, want_nodes, want_route, want_cut, want_dual, want_tree, Wants, places_after, after_cut, after, shape, Leads}
-use Rattle.cert_spec.specs.Conditions.{Claim, Kind, AllHold, FailsFirst, claims}
+use Rattle.cert_spec.specs.Conditions.{Claim, Kind, AllHold, FailsFirst, ComesToTheSame, line_conditions, conditions_from}
+use Rattle.cert_spec.specs.PartConditions.{claims}
 use Rattle.cert_spec.specs.Text.{certificate_items}
+use Rattle.cert_spec.specs.Progress.{Progress, at_start, after_line, after_lines}
 use Rattle.cert_spec.proofs.Leads.{each_text_leads_lem}
-use Rattle.stream_spec.specs.Theorems.{ComesToTheSame}
-use Rattle.stream_spec.proofs.ByLines.{conditions_of_lines}
+use Rattle.cert_spec.proofs.ByLines.{conditions_of_lines}
 use Rattle.std.proofs.lemmas.List.Elements.{All-nil}
 use Rattle.cert_checker.specs.Answers.{kind_of}
 use Rattle.cert_checker.specs.declared.kinds.Kind as code
-use Rattle.stream_spec.specs.Progress.{Progress, at_start, after_line, after_lines}
-use Rattle.stream_spec.specs.LineConditions.{line_conditions, conditions_from}
-use Rattle.stream_spec.proofs.ByParts.{conditions-append}
+use Rattle.cert_spec.proofs.ByParts.{conditions-append}
 use Rattle.cert_scan.specs.Parts.{parts_of, items_of}
 use Rattle.cert_scan.specs.Given.{IsGiven, IsBegun}
 use Rattle.cert_scan.specs.declared.items.Item.{Item}

@@ -4,8 +4,7 @@ use Rattle.hub_spec.specs.Limits.{most_cost, most_denominator}
 use Rattle.hub_spec.specs.Cuts.{Prices, IsDual}
 use Rattle.hub_spec.specs.Trees.{Closes, IsClosed, open_child, closed_child}
 use Rattle.hub_spec.specs.Ranges.{IsShort, IsAmount}
-use Rattle.cert_spec.specs.Conditions.{Claim, claim, Size, BoundOverCost, Hubs, Route, Cost, Dual, Sum, Empty, Leaf, AllHold, FailsFirst}
-use Rattle.stream_spec.specs.LineConditions.{if_time}
+use Rattle.cert_spec.specs.Conditions.{Claim, claim, Size, BoundOverCost, Hubs, Route, Cost, Dual, Sum, Empty, Leaf, AllHold, FailsFirst, if_time}
 use Rattle.cert_checker.specs.Answers.{kind_of}
 use Rattle.cert_checker.specs.declared.kinds.Kind as code
 use Rattle.cert_scan.specs.declared.items.Item as item

@@ -8,13 +8,13 @@ use Rattle.hub_spec.specs.Trees.{Branching, IsBranch, leaf_of, weight_sum}
 use Rattle.hub_spec.specs.Ranges.{IsShort, IsDualInRange, IsLineInRange}
 use Rattle.cert_spec.specs.Lines.{Item as Line}
 use Rattle.cert_spec.specs.Grammar.{Shape, Stage, want_size, want_cost, want_bound, want_hubs, want_route, want_cuts, want_cut, want_dual, want_nodes, want_tree, Leads}
-use Rattle.cert_spec.specs.Conditions.{Claim, AllHold, FailsFirst, claims}
+use Rattle.cert_spec.specs.Conditions.{Claim, AllHold, FailsFirst, conditions_from}
+use Rattle.cert_spec.specs.PartConditions.{claims}
+use Rattle.cert_spec.specs.Progress.{Progress, at_start, after_lines}
 use Rattle.cert_checker.specs.declared.texts.Ending.{Ending}
 use Rattle.cert_checker.specs.declared.texts.Ending.TheVariants.{Optimal, Bounds, No}
 use Rattle.hub_model.specs.Amounts.{natural}
 use Rattle.hub_spec.specs.Certificates.{Proof}
-use Rattle.stream_spec.specs.Progress.{Progress, at_start, after_lines}
-use Rattle.stream_spec.specs.LineConditions.{conditions_from}
 use Rattle.cert_checker.specs.Answers.{kind_of}
 use Rattle.cert_checker.specs.declared.kinds.Kind as code
 use Rattle.cert_scan.specs.Parts.{parts_of, open_hubs, open_values, open_weights}

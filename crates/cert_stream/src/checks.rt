@@ -3,11 +3,11 @@
 ghost use Rattle.std.specs.Prelude.{◌≡◌, ◌++◌, ◌⊎◌, List, [], ◌∷◌, flat_map, IfOk, IsOk, OnErr};
 ghost use Rattle.cert_spec.specs.Lines.{Item as LineOf};
 ghost use Rattle.cert_spec.specs.Grammar.{Stage, Leads, want_version};
-ghost use Rattle.cert_spec.specs.Conditions.{AllHold, claims};
+ghost use Rattle.cert_spec.specs.Conditions.{AllHold, conditions_from};
+ghost use Rattle.cert_spec.specs.PartConditions.{claims};
+ghost use Rattle.cert_spec.specs.Progress.{at_start, after_lines};
 ghost use Rattle.hub_spec.specs.Certificates.{Proof};
 ghost use Rattle.hub_spec.specs.Ranges.{IsInRange};
-ghost use Rattle.stream_spec.specs.Progress.{at_start, after_lines};
-ghost use Rattle.stream_spec.specs.LineConditions.{conditions_from};
 ghost use Rattle.cert_scan.specs.Given.{IsGiven};
 ghost use Rattle.cert_scan.specs.Parts.{parts_of, items_of};
 ghost use Rattle.cert_scan.specs.declared.items.Item.{Item as ItemOf};

@@ -6,8 +6,8 @@ use Rattle.hub_spec.specs.Problem.{Problem}
 use Rattle.hub_spec.specs.Cuts.{Cut}
 use Rattle.hub_spec.specs.Certificates.{Proof}
 use Rattle.hub_spec.specs.Ranges.{IsCutInRange}
-use Rattle.cert_spec.specs.Text.{first_cut_line, cut_lines}
-use Rattle.cert_spec.specs.Conditions.{Claim, AllHold, cut_claims, all_cut_claims}
+use Rattle.cert_spec.specs.PartConditions.{first_cut_line, cut_lines, cut_claims, all_cut_claims}
+use Rattle.cert_spec.specs.Conditions.{Claim, AllHold}
 use Rattle.cert_format.specs.Parts.{cut_of}
 use Rattle.cert_checker.specs.Answers.{IsFailure}
 use Rattle.cert_checker.proofs.checks.check_cuts_of.Goals as goal

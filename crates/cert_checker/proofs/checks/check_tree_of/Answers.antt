@@ -8,8 +8,8 @@ use Rattle.hub_spec.specs.Ranges.{IsLineInRange}
 use Rattle.hub_spec.specs.Trees.{root, TreeLine, preorder}
 use Rattle.hub_spec.proofs.Preorders.{length-preorder}
 use Rattle.plan_model.specs.Lines.{tree_line_of}
-use Rattle.cert_spec.specs.Text.{first_tree_line, cut_lines}
-use Rattle.cert_spec.specs.Conditions.{Claim, AllHold, all_tree_claims}
+use Rattle.cert_spec.specs.PartConditions.{first_tree_line, cut_lines, all_tree_claims}
+use Rattle.cert_spec.specs.Conditions.{Claim, AllHold}
 use Rattle.cert_checker.specs.Answers.{IsFailure}
 use Rattle.cert_checker.specs.Walks.{walk_claims}
 use Rattle.cert_checker.proofs.TreeWalks.{walk-whole, All-from_map}

@@ -2,7 +2,7 @@ use Rattle.std.proofs.Common.{ap, sym, subst, ◌∙◌, arith}
 use Rattle.std.proofs.Math.Nat.{mul-le-mul}
 use Rattle.std.proofs.lemmas.Result.{err_from_is_err_and}
 use Rattle.hub_spec.specs.Cuts.{cut_by, IsCut, IsWithinSums}
-use Rattle.cert_spec.specs.Text.{first_dual_line, last_dual_line}
+use Rattle.cert_spec.specs.PartConditions.{first_dual_line, last_dual_line}
 use Rattle.cert_checker.proofs.Reductions.{not_by}
 use Rattle.cert_checker.proofs.Parts.{cut_from_claims, duals_fail, sum_fails, cut_holds}
 use Rattle.cert_checker.proofs.cuts.check_cut.Goals as goal

@@ -5,8 +5,8 @@ use Rattle.std.proofs.lemmas.List.Elements.{All-push}
 use Rattle.std.proofs.lemmas.Result.{err_from_is_err_and}
 use Rattle.hub_spec.specs.Cuts.{Cut, Prices, cut_by, IsCut}
 use Rattle.hub_spec.specs.Ranges.{IsCutInRange}
-use Rattle.cert_spec.specs.Text.{cut_lines}
-use Rattle.cert_spec.specs.Conditions.{AllHold, one_cut_claims, cut_claims}
+use Rattle.cert_spec.specs.PartConditions.{cut_lines, one_cut_claims, cut_claims}
+use Rattle.cert_spec.specs.Conditions.{AllHold}
 use Rattle.cert_format.specs.Parts.{cut_of}
 use Rattle.cert_checker.specs.Answers.{IsFailure}
 use Rattle.cert_checker.proofs.Reductions.{reduces_same, part_fails, part_holds, none_left}

@@ -1,7 +1,6 @@
 use Rattle.std.proofs.Common.{◌≡◌, ◌+◌, ◌*◌, map, take, drop, All}
 use Rattle.hub_spec.specs.Cuts.{IsCut}
-use Rattle.cert_spec.specs.Text.{cut_lines}
-use Rattle.cert_spec.specs.Conditions.{cut_claims}
+use Rattle.cert_spec.specs.PartConditions.{cut_lines, cut_claims}
 use Rattle.cert_format.specs.Parts.{cut_of}
 use Rattle.cert_checker.proofs.Reductions.{Reduces}
 use Rattle.cert_checker.proofs.cuts.check_cuts.Given as goal

@@ -1,7 +1,7 @@
 use Rattle.std.proofs.Common.{sym, ap, ◌∙◌, arith}
 use Rattle.std.proofs.Math.Nat.{mul-le-mul}
 use Rattle.std.proofs.lemmas.Result.{err_from_is_err_and}
-use Rattle.cert_spec.specs.Text.{first_route_line, last_route_line}
+use Rattle.cert_spec.specs.PartConditions.{first_route_line, last_route_line}
 use Rattle.cert_checker.proofs.Parts.{routes_from_claims, routes_fail, cost_fails, plan_holds}
 use Rattle.cert_checker.proofs.plans.check_plan.Goals as goal
 

@@ -1,5 +1,5 @@
 use Rattle.std.proofs.Common.{◌≡◌, ◌+◌, ap, refl, arith}
-use Rattle.cert_spec.specs.Conditions.{route_claims}
+use Rattle.cert_spec.specs.PartConditions.{route_claims}
 use Rattle.std.proofs.lemmas.List.{drop_all}
 use Rattle.cert_checker.specs.declared.kinds.Kind.TheVariants as code
 use Rattle.cert_checker.proofs.Parts.{route_claims_at}

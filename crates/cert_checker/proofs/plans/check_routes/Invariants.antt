@@ -1,5 +1,5 @@
 use Rattle.std.proofs.Common.{◌+◌, drop}
-use Rattle.cert_spec.specs.Conditions.{route_claims}
+use Rattle.cert_spec.specs.PartConditions.{route_claims}
 use Rattle.cert_checker.proofs.Reductions.{Reduces}
 use Rattle.cert_checker.proofs.plans.check_routes.Given as goal
 

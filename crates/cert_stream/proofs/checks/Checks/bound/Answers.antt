@@ -1,5 +1,5 @@
-use Rattle.stream_spec.specs.Progress.{at_start}
-use Rattle.stream_spec.specs.LineConditions.{conditions_from}
+use Rattle.cert_spec.specs.Progress.{at_start}
+use Rattle.cert_spec.specs.Conditions.{conditions_from}
 use Rattle.cert_stream.proofs.Whole.{tells_whole, none_failed, said_by}
 use Rattle.cert_stream.proofs.checks.Checks.bound.Goals as goal
 

@@ -9,14 +9,15 @@ use Rattle.hub_spec.specs.Plans.{plan_cost}
 use Rattle.hub_spec.specs.Cuts.{Prices, Cut, IsWithinSums}
 use Rattle.hub_spec.specs.Trees.{Branching, open_child, closed_child, Tree, branch, leaf, empty, block, count, preorder, line_count}
 use Rattle.cert_spec.specs.Lines.{Item, says_tree}
-use Rattle.cert_spec.specs.Text.{route_items, is_first, same_prices, singles, dual_runs, run_items, part_said, cut_items, cuts_items, cut_lines}
+use Rattle.cert_spec.specs.Text.{route_items, is_first, same_prices, singles, dual_runs, run_items, part_said, cut_items, cuts_items}
+use Rattle.cert_spec.specs.PartConditions.{cut_lines, route_claims, dual_claims, one_cut_claims, cut_claims, tree_claims}
+use Rattle.cert_spec.specs.Conditions.{Claim, claim, IsDualOfRun, Route, Cost, Dual, Sum, Branch, if_time, cost_conditions, sum_conditions, line_conditions, conditions_from}
+use Rattle.cert_spec.specs.Progress.{Progress, with_duals, after_line, after_lines}
+use Rattle.cert_spec.specs.Lines.{part_of}
 use Rattle.cert_spec.specs.Runs.{ends_row, joined, runs, spread}
-use Rattle.cert_spec.specs.Conditions.{Claim, claim, IsDualOfRun, Route, Cost, Dual, Sum, Branch, route_claims, dual_claims, one_cut_claims, cut_claims, tree_claims}
 use Rattle.cert_spec.proofs.Leads.{length-spread}
 use Rattle.cert_spec.proofs.Claims.{spread_dual_runs}
 use Rattle.hub_spec.proofs.SumLemmas.{by_test}
-use Rattle.stream_spec.specs.Progress.{Progress, part_of, with_duals, after_line, after_lines}
-use Rattle.stream_spec.specs.LineConditions.{if_time, cost_conditions, sum_conditions, line_conditions, conditions_from}
 
 pub conditions-append : (p : Problem) (s : Progress) (first rest : List Item)
     → conditions_from p s (first ++ rest) ≡ conditions_from p s first ++ conditions_from p (after_lines p s first) rest

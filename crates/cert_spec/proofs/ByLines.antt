@@ -11,13 +11,12 @@ use Rattle.hub_spec.specs.Certificates.{Proof}
 use Rattle.hub_spec.specs.Ranges.{IsFirstCut, IsFirst, IsFirstLine, IsSecond, IsCutInRange, IsInRange}
 use Rattle.hub_spec.proofs.Commodities.{length_commodities}
 use Rattle.cert_spec.specs.Lines.{Item, says_cuts, says_nodes, says_tree, says_end}
-use Rattle.cert_spec.specs.Text.{size_line, hubs_line, first_route_line, last_route_line, is_first, cut_lines, first_cut_line, first_tree_line, cuts_items, certificate_items}
-use Rattle.cert_spec.specs.Conditions.{Claim, claim, Kind, Size, Hubs, Number, Cost, FailsFirst, route_claims, cut_claims, tree_claims, size_claims, claims}
+use Rattle.cert_spec.specs.PartConditions.{size_line, hubs_line, first_route_line, last_route_line, cut_lines, first_cut_line, first_tree_line, route_claims, cut_claims, tree_claims, size_claims, claims}
+use Rattle.cert_spec.specs.Text.{is_first, cuts_items, certificate_items}
+use Rattle.cert_spec.specs.Conditions.{conditions, Claim, claim, Kind, Size, Hubs, Number, Cost, FailsFirst, conditions_from, ComesToTheSame}
+use Rattle.cert_spec.specs.Progress.{Progress, at_start, after_lines}
 use Rattle.cert_spec.proofs.Versions.{second_later}
-use Rattle.stream_spec.specs.Progress.{Progress, at_start, after_lines}
-use Rattle.stream_spec.specs.LineConditions.{conditions_from}
-use Rattle.stream_spec.specs.Theorems.{ComesToTheSame}
-use Rattle.stream_spec.proofs.ByParts.{IsSaidCut, conditions-append, routes_by_lines, cuts_by_lines, tree_by_lines}
+use Rattle.cert_spec.proofs.ByParts.{IsSaidCut, conditions-append, routes_by_lines, cuts_by_lines, tree_by_lines}
 
 same-refl : (xs : List Claim) → ComesToTheSame xs xs
 same-refl xs = record { hold = (λ h. h, λ h. h); fail = λ kind line. (λ h. h, λ h. h) }
@@ -108,7 +107,7 @@ by_lines p k r =
 
 -- where it is not, the first condition of both fails
 pub conditions_of_lines : (p : Problem) (k : Proof) → IsInRange k
-    → ComesToTheSame (claims p k) (conditions_from p at_start (certificate_items k))
+    → ComesToTheSame (claims p k) (conditions p k)
 conditions_of_lines p k r =
     ⊎_elim
     (λ (same : k.size ≡ p.size).
