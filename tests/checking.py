@@ -7,11 +7,12 @@ of the lines.
 import re
 from dataclasses import dataclass, field
 
-NUMBER = re.compile(rb"0|[1-9][0-9]{0,29}")
+NUMBER = re.compile(rb"0|[1-9][0-9]{0,32}")
 MOST_CUTS, MOST_TREE_LINES, MOST_PARTS = 67_108_864, 268_435_456, 1_000_000
-MOST_NODES, MOST_SUM = 200, 10**29
-Dual = tuple[int, int, int, int, list[tuple[int, int]]]
-"""Line, i, j, price, values."""
+MOST_NODES, MOST_SUM, MOST_CUT_PART = 200, 10**29, 1000
+SHORT, LONG = 10**30 - 1, 10**33 - 1
+Dual = tuple[int, int, int, int, int, list[tuple[int, int]]]
+"""Line, i, j, run, price, values: the dual of the commodities from i to j, to j + 1, .., as many as the run has."""
 
 
 @dataclass(frozen=True)
@@ -76,11 +77,11 @@ class Lines:
         self.want(len(found) == 1 and least <= found[0] <= most)
         return found[0]
 
-    def pairs(self, found: list[int], most: int) -> list[tuple[int, int]]:
-        """What stands in pairs at a line's end: firsts ascending, from 1 to a limit, seconds at least 1."""
+    def pairs(self, found: list[int], most: int, greatest: int) -> list[tuple[int, int]]:
+        """What stands in pairs at a line's end: firsts ascending, from 1 to a limit, seconds from 1 to another."""
         self.want(len(found) % 2 == 0)
         pairs = list(zip(found[::2], found[1::2]))
-        self.want(ascends([first for first, _ in pairs], most) and all(second for _, second in pairs))
+        self.want(ascends([first for first, _ in pairs], most) and all(1 <= second <= greatest for _, second in pairs))
         return pairs
 
 
@@ -99,8 +100,8 @@ class Certificate:
     hubs: list[int]
     routes: list[tuple[int, int, int, int, int]] = field(default_factory=list)
     """Line, i, j, k, m."""
-    cuts: list[list[Dual]] = field(default_factory=list)
-    """Of each cut its duals."""
+    cuts: list[tuple[int, list[Dual]]] = field(default_factory=list)
+    """Of each cut its part and its duals."""
     tree: list[tuple[int, bytes, list[int]]] = field(default_factory=list)
     """Line, word, numbers."""
 
@@ -108,11 +109,13 @@ class Certificate:
 def spelled(text: bytes) -> Certificate:
     """The certificate that a text spells."""
     lines = Lines(text)
-    lines.want(lines.next() == [b"HUBCERT", b"1"])
+    first = lines.next()
+    lines.want(first in ([b"HUBCERT", b"1"], [b"HUBCERT", b"2"]))
+    version = int(first[1])
     size = lines.numbers(b"size")
     lines.want(len(size) == 2 and 1 <= size[0] <= MOST_NODES and 1 <= size[1] <= size[0])
     n = size[0]
-    cost, bound = (lines.one(word, 0, 10**30) for word in (b"cost", b"bound"))
+    cost, bound = (lines.one(word, 0, SHORT) for word in (b"cost", b"bound"))
     hubs = lines.numbers(b"hubs")
     lines.want(hubs != [] and ascends(hubs, n))
     found = Certificate((n, size[1]), cost, bound, hubs)
@@ -122,18 +125,42 @@ def spelled(text: bytes) -> Certificate:
         lines.want(len(route) == 4 and route[:2] == [i, j] and all(1 <= hub <= n for hub in route[2:]))
         found.routes.append((lines.number, i, j, *route[2:]))
     for cut in range(1, lines.one(b"cuts", 0, MOST_CUTS) + 1):
-        lines.one(b"cut", cut, cut)
-        duals = []
-        for i, j in pairs:
-            dual = lines.numbers(b"dual")
-            lines.want(len(dual) >= 3 and dual[:2] == [i, j])
-            duals.append((lines.number, i, j, dual[2], lines.pairs(dual[3:], n)))
-        found.cuts.append(duals)
+        found.cuts.append(read_cut(lines, version, cut, n))
     read_tree(lines, found, n)
     lines.want(lines.next() == [b"end"])
     if lines.at < len(text):
         raise Bad("BadLine", lines.number + 1)
     return found
+
+
+def read_cut(lines: Lines, version: int, number: int, n: int) -> tuple[int, list[Dual]]:
+    """The lines of the cut of this number: its part and its duals."""
+    said = lines.numbers(b"cut")
+    lines.want(len(said) == version and said[0] == number)
+    part = said[1] if version == 2 else 1
+    lines.want(1 <= part <= MOST_CUT_PART)
+    duals: list[Dual] = []
+    for i in range(1, n + 1):
+        j, before = 1, None
+        while j <= n:
+            dual = read_dual(lines, version, i, j, n)
+            lines.want(version == 1 or dual[4:] != before)
+            duals.append(dual)
+            j, before = j + dual[3], dual[4:]
+    return part, duals
+
+
+def read_dual(lines: Lines, version: int, i: int, j: int, n: int) -> Dual:
+    """The next line, of a dual or of a run of equal ones, the first of them that of the commodity from i to j."""
+    word, *rest = lines.next()
+    lines.want(word in (b"dual", b"duals")[:version] and all(map(NUMBER.fullmatch, rest)))
+    numbers = [int(digits) for digits in rest]
+    lines.want(len(numbers) >= (3 if word == b"dual" else 4) and numbers[:2] == [i, j])
+    run = 1 if word == b"dual" else numbers.pop(2)
+    lines.want((run >= 2) == (word == b"duals") and j + run - 1 <= n)
+    greatest = SHORT if version == 1 else LONG
+    lines.want(numbers[2] <= greatest)
+    return lines.number, i, j, run, numbers[2], lines.pairs(numbers[3:], n, greatest)
 
 
 def read_tree(lines: Lines, found: Certificate, n: int) -> None:
@@ -147,7 +174,7 @@ def read_tree(lines: Lines, found: Certificate, n: int) -> None:
             lines.want(len(numbers) == 1 and 1 <= numbers[0] <= n)
         elif word == b"leaf":
             lines.want(numbers != [] and 1 <= numbers[0] <= MOST_PARTS)
-            lines.pairs(numbers[1:], 10**30)
+            lines.pairs(numbers[1:], SHORT, SHORT)
         else:
             lines.want(numbers == [])
         left -= 1
@@ -186,38 +213,42 @@ def holds(problem: Problem, found: Certificate) -> None:
             try_leaf(problem, found.bound, sums, path, line, numbers)
 
 
-def sums_of(problem: Problem, cut: list[Dual]) -> tuple[int, dict[int, int]]:
-    """The prices of a cut together, and each candidate's values together."""
+def sums_of(problem: Problem, cut: tuple[int, list[Dual]]) -> tuple[int, int, dict[int, int]]:
+    """The part of a cut, its prices together, and each candidate's values together."""
+    part, duals = cut
     loads = dict.fromkeys(problem.candidates, 0)
-    for line, i, j, price, pairs in cut:
+    for line, i, j, run, price, pairs in duals:
         values = dict.fromkeys(problem.candidates, 0)
         fail_unless(all(k in values for k, _ in pairs), "Dual", line)
         values.update(pairs)
         for k in values:
             for m in values:
                 by_both = values[k] + (values[m] if m != k else 0)
-                fail_unless(price <= problem.route(i, j, k, m) + by_both, "Dual", line)
-            loads[k] += values[k]
-    total = sum(dual[3] for dual in cut)
-    fail_unless(max(total, *loads.values()) <= MOST_SUM, "Sum", cut[-1][0])
-    return total, loads
+                for to in range(j, j + run):
+                    fail_unless(price <= part * problem.route(i, to, k, m) + by_both, "Dual", line)
+            loads[k] += run * values[k]
+    total = sum(run * price for _, _, _, run, price, _ in duals)
+    fail_unless(max(total, *loads.values()) <= part * MOST_SUM, "Sum", duals[-1][0])
+    return part, total, loads
 
 
 def try_leaf(
     problem: Problem,
     target: int,
-    sums: list[tuple[int, dict[int, int]]],
+    sums: list[tuple[int, int, dict[int, int]]],
     path: dict[int, bool],
     line: int,
     numbers: list[int],
 ) -> None:
-    """The three conditions of a leaf."""
+    """The four conditions of a leaf."""
     parts, weights = numbers[0], list(zip(numbers[1::2], numbers[2::2]))
     fail_unless(all(cut <= len(sums) for cut, _ in weights), "CutNumber", line)
+    fail_unless(all(weight % sums[cut - 1][0] == 0 for cut, weight in weights), "Multiple", line)
     fail_unless(sum(weight for _, weight in weights) <= parts, "Weight", line)
-    bound = sum(weight * sums[cut - 1][0] for cut, weight in weights)
+    shares = [(sums[cut - 1], weight // sums[cut - 1][0]) for cut, weight in weights]
+    bound = sum(share * total for (_, total, _), share in shares)
     for k in problem.candidates:
-        gain = parts * problem.fixed[k - 1] - sum(weight * sums[cut - 1][1][k] for cut, weight in weights)
+        gain = parts * problem.fixed[k - 1] - sum(share * loads[k] for (_, _, loads), share in shares)
         bound += gain if path.get(k) else min(0, gain) if k not in path else 0
     fail_unless(bound > parts * (target - 1), "Leaf", line)
 
