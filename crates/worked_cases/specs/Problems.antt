@@ -36,4 +36,6 @@ problem_of case = record {
   trunk = natural case.factors.trunk;
   deliver = natural case.factors.deliver;
   listed_p = None;
+  longest = None;
+  wanted = None;
 }
