@@ -1,5 +1,5 @@
 -- Steps of a search through all sets of candidates, one candidate after another.
-use Rattle.std.proofs.Common.{◌≡◌, ℕ, ◌+◌, ◌<◌, ◌≤◌, Bool, true, false, cond, List, [], ◌∷◌, ◌++◌, length, get_or, take, filter, nat_eq, All, Contains, refl, ap, ap₂, sym, ◌∙◌, subst, eq-eqb, ne_eqb, arith}
+use Rattle.std.proofs.Common.{◌≡◌, ℕ, ◌+◌, ◌<◌, ◌≤◌, Bool, true, false, cond, List, [], ◌∷◌, ◌++◌, length, get_or, take, filter, Option, IfSome, nat_eq, All, Contains, refl, ap, ap₂, sym, ◌∙◌, subst, eq-eqb, ne_eqb, arith}
 use Rattle.std.specs.List.Sorted.{IsStrictlyIncreasing}
 use Rattle.std.proofs.lemmas.List.{take_all, length-take-le, get_or-take, get_or_default, append-nil}
 use Rattle.std.proofs.lemmas.List.Elements.{filter_more, All-filter, All-contains_itself}
@@ -96,7 +96,7 @@ pub optimal_incumbent : (p : Problem) (plan : Plan) (c : ℕ) → IsProblem p �
     → IsOptimal p plan
 optimal_incumbent p plan c ok known none = record {
   is_plan = known.is_plan;
-  wanted = tt;
+  wanted = subst (λ (o : Option ℕ). IfSome o (λ n. length plan.hubs ≡ n)) (sym ok.any_number) tt;
   least = λ other is_plan wanted.
       let hubs = part_is_filter p.candidates other.hubs ok.candidates_ascend is_plan.hubs.ascend is_plan.hubs.are_candidates in
       omega (arith, known.cost, none.least (is_in other.hubs) other is_plan (sym hubs) refl);
