@@ -9,6 +9,7 @@ use Rattle.hub_spec.specs.Cuts.{Prices, value_at, IsDual}
 use Rattle.hub_spec.specs.Separation.{values_listed}
 use Rattle.hub_spec.proofs.Sets.{is_in, is_in-yes, Contains-from_is_in}
 use Rattle.hub_spec.proofs.SumLemmas.{by_test}
+use Rattle.hub_spec.proofs.PlanCosts.{any_allowed}
 use Rattle.hub_spec.proofs.SetCutFunction.{IsListed, all_listed, value_at_listed}
 use Rattle.unit_duals.specs.Leasts.{least_of}
 use Rattle.unit_duals.proofs.LeastNumbers.{least_of_le, least_of_le_start, least_of_is}
@@ -144,13 +145,13 @@ are_candidates p unit row c =
     All-weaker (IsListed v p.candidates) (λ (e : ℕ × ℕ). Contains p.candidates e.0) (λ e l. l.node) (values_listed v p.candidates)
     (all_listed v p.candidates)
 
-pub dual_is : (p : Problem) (unit : ℕ) (row : List ℕ) (c : ℕ × ℕ) → IsDual p c (value_dual p unit row c)
+pub dual_is : (p : Problem) (unit : ℕ) (row : List ℕ) (c : ℕ × ℕ) → IsDual p 1 c (value_dual p unit row c)
 dual_is p unit row c =
     let v = node_value p unit row in
     record {
       are_candidates = are_candidates p unit row c;
-      one_hub = λ k candidate. omega (arith, dual_price p unit row c, dual_value p unit row c k candidate, one_covers p c v k candidate);
-      two_hubs = λ k m first second apart. omega (
+      one_hub = λ k candidate allowed. omega (arith, dual_price p unit row c, dual_value p unit row c k candidate, one_covers p c v k candidate);
+      two_hubs = λ k m first second apart allowed. omega (
         arith,
         dual_price p unit row c,
         dual_value p unit row c k first,
@@ -161,7 +162,7 @@ dual_is p unit row c =
 
 -- ---- no greater price
 
-pub none_greater : (p : Problem) (unit : ℕ) (row : List ℕ) (c : ℕ × ℕ) (d : Prices) → IsProblem p → IsDual p c d
+pub none_greater : (p : Problem) (unit : ℕ) (row : List ℕ) (c : ℕ × ℕ) (d : Prices) → IsProblem p → IsDual p 1 c d
     → ((k : ℕ) → Contains p.candidates k → value_at d.u k ≡ value_at (value_dual p unit row c).u k)
     → d.a ≤ flow p c.0 c.1 * length_ceiling p → d.a ≤ (value_dual p unit row c).a
 none_greater p unit row c d ok is same low =
@@ -195,7 +196,7 @@ none_greater p unit row c d ok is same low =
           arith,
           here,
           parts,
-          is.one_hub k (Contains-get_or p.candidates x 0 within),
+          is.one_hub k (Contains-get_or p.candidates x 0 within) (any_allowed p c k k ok.any_length),
           listed x within,
           mul-add w (route_length p c.0 c.1 k k) (v k),
           length_costs p c.0 c.1 k k,
@@ -209,7 +210,8 @@ none_greater p unit row c d ok is same low =
         omega (
           arith,
           parts,
-          is.two_hubs k m (Contains-get_or p.candidates x 0 first) (Contains-get_or p.candidates y 0 last) (nodes_apart x y first last apart),
+          is.two_hubs k m (Contains-get_or p.candidates x 0 first) (Contains-get_or p.candidates y 0 last) (nodes_apart x y first last apart)
+              (any_allowed p c k m ok.any_length),
           listed x first,
           listed y last,
           mul-add w (route_length p c.0 c.1 k m + v k) (v m),

@@ -1,5 +1,5 @@
 -- The cut of any values is one of the problem: its sums are within the sum rule, and its numbers in range.
-use Rattle.std.proofs.Common.{◌≡◌, ℕ, ◌+◌, ◌*◌, ◌/◌, ◌%◌, ◌^◌, ◌<◌, ◌≤◌, List, [], ◌∷◌, map, take, sum, sum_by, slice_index, slice_range, refl, ap, ap₂, sym, ◌∙◌, add-mul, div-add-mod', mul-le-mul_left, mul-le-mul_right, arith}
+use Rattle.std.proofs.Common.{◌≡◌, ℕ, ◌+◌, ◌*◌, ◌/◌, ◌%◌, ◌<◌, ◌≤◌, List, [], ◌∷◌, map, take, sum, sum_by, slice_index, slice_range, refl, ap, ap₂, sym, ◌∙◌, add-mul, div-add-mod', mul-le-mul_left, mul-le-mul_right, arith}
 use Rattle.std.specs.List.{AllZip}
 use Rattle.std.proofs.lemmas.List.{length-map}
 use Rattle.std.proofs.lemmas.List.Elements.{All-map, All-weaker, All-contains}
@@ -7,7 +7,7 @@ use Rattle.std.proofs.lemmas.List.Sums.{sum_by-cons, sum_by-take-le, sum_by_push
 use Rattle.hub_spec.specs.Limits.{most_cost}
 use Rattle.hub_spec.specs.Problem.{Problem, IsProblem, flow, commodities, commodity_at}
 use Rattle.hub_spec.specs.Cuts.{Prices, value_at, total, load, IsDual, IsCut}
-use Rattle.hub_spec.specs.Ranges.{IsDualInRange, IsCutInRange}
+use Rattle.hub_spec.specs.Ranges.{IsShort, IsAmount, IsDualInRange, IsCutInRange, IsFirstDual, IsFirstCut}
 use Rattle.hub_spec.specs.Separation.{values_listed}
 use Rattle.hub_spec.proofs.Sets.{All-from_contains}
 use Rattle.hub_spec.proofs.Commodities.{length_commodities, take_commodities_more, take_commodities_all, commodity_nodes}
@@ -81,20 +81,23 @@ load_limit p w k ok = all_within p (value_of p w k) ok (value_of_within p w k)
 
 -- ---- the cut
 
-each_dual : (p : Problem) (w : ValueRows) (cs : List (ℕ × ℕ)) → AllZip (IsDual p) cs (map (λ c. value_dual p w.unit (row_for w c) c) cs)
+each_dual : (p : Problem) (w : ValueRows) (cs : List (ℕ × ℕ)) → AllZip (IsDual p 1) cs (map (λ c. value_dual p w.unit (row_for w c) c) cs)
 each_dual p w [] = tt
 each_dual p w (c ∷ cs) = (dual_is p w.unit (row_for w c) c, each_dual p w cs)
 
-duals_are : (p : Problem) (w : ValueRows) → AllZip (IsDual p) (commodities p.size) (value_cut p w).duals
+duals_are : (p : Problem) (w : ValueRows) → AllZip (IsDual p 1) (commodities p.size) (value_cut p w).duals
 unfolding value_cut
 duals_are p w = each_dual p w (commodities p.size)
 
 pub cut_is : (p : Problem) (w : ValueRows) → IsProblem p → IsCut p (value_cut p w)
+unfolding value_cut
 cut_is p w ok = record {
+  part_least = omega arith;
+  part_most = omega arith;
   duals = duals_are p w;
   sums = record {
     total_limit = omega (arith, total_by_commodities p w, total_limit p w ok);
-    load_limit = All-from_contains (λ k. load (value_cut p w) k ≤ most_cost) p.candidates
+    load_limit = All-from_contains (λ k. load (value_cut p w) k ≤ 1 * most_cost) p.candidates
         (λ k candidate. omega (arith, load_by_commodities p w k, load_limit p w k ok));
   };
 }
@@ -115,7 +118,7 @@ dual_in_range p unit row c ok nodes =
     record {
       a = omega (arith, mul-le-mul_left (flow p c.0 c.1) (price_within p c (node_value p unit row)), most);
       ascend = listed_ascends v p.candidates ok.candidates_ascend;
-      each = All-weaker (IsListed v p.candidates) (λ (e : ℕ × ℕ). (e.0 < p.size) × (1 ≤ e.1) × (e.1 < 10 ^ 30))
+      each = All-weaker (IsListed v p.candidates) (λ (e : ℕ × ℕ). (e.0 < p.size) × (1 ≤ e.1) × IsAmount e.1)
           (λ e l. (
             All-contains (λ k. k < p.size) p.candidates e.0 ok.candidates_are_nodes l.node,
             l.least,
@@ -127,10 +130,35 @@ dual_in_range p unit row c ok nodes =
 pub cut_in_range : (p : Problem) (w : ValueRows) → IsProblem p → IsCutInRange p.size (value_cut p w)
 unfolding value_cut
 cut_in_range p w ok = record {
+  part_least = omega arith;
+  part_most = omega arith;
   one_for_each = length-map (commodities p.size) (λ c. value_dual p w.unit (row_for w c) c) ∙ length_commodities p.size;
   each = All-map (IsDualInRange p.size) (λ c. value_dual p w.unit (row_for w c) c) (commodities p.size)
       (All-weaker (λ (c : ℕ × ℕ). (c.0 < p.size) × (c.1 < p.size)) (λ c. IsDualInRange p.size (value_dual p w.unit (row_for w c) c))
       (λ c nodes. dual_in_range p w.unit (row_for w c) c ok nodes) (commodities p.size) (commodities_are_nodes p.size));
+}
+
+-- ---- what the first version of a certificate can state
+
+dual_is_first : (p : Problem) (unit : ℕ) (row : List ℕ) (c : ℕ × ℕ) → IsProblem p → (c.0 < p.size) × (c.1 < p.size)
+    → IsFirstDual (value_dual p unit row c)
+unfolding value_dual
+dual_is_first p unit row c ok nodes =
+    let v : ℕ → ℕ = λ k. flow p c.0 c.1 * node_value p unit row k in
+    let most = flow_costs p c ok nodes in (
+      omega (arith, mul-le-mul_left (flow p c.0 c.1) (price_within p c (node_value p unit row)), most),
+      All-weaker (IsListed v p.candidates) (λ (e : ℕ × ℕ). IsShort e.1)
+          (λ e l. omega (arith, l.value, mul-le-mul_left (flow p c.0 c.1) (node_value_within p unit row e.0), most))
+          (values_listed v p.candidates) (all_listed v p.candidates),
+    )
+
+pub cut_is_first : (p : Problem) (w : ValueRows) → IsProblem p → IsFirstCut (value_cut p w)
+unfolding value_cut
+cut_is_first p w ok = record {
+  whole = refl;
+  each = All-map IsFirstDual (λ c. value_dual p w.unit (row_for w c) c) (commodities p.size)
+      (All-weaker (λ (c : ℕ × ℕ). (c.0 < p.size) × (c.1 < p.size)) (λ c. IsFirstDual (value_dual p w.unit (row_for w c) c))
+      (λ c nodes. dual_is_first p w.unit (row_for w c) c ok nodes) (commodities p.size) (commodities_are_nodes p.size));
 }
 
 -- ---- one commodity more

@@ -2,13 +2,13 @@
 use Rattle.std.specs.Prelude.{◌≡◌, ℕ, ◌*◌, ◌≤◌, List, Contains}
 use Rattle.hub_spec.specs.Problem.{Problem, IsProblem, flow}
 use Rattle.hub_spec.specs.Cuts.{Prices, value_at, IsDual, IsCut}
-use Rattle.hub_spec.specs.Ranges.{IsCutInRange}
+use Rattle.hub_spec.specs.Ranges.{IsCutInRange, IsFirstCut}
 use Rattle.leg_tables.specs.CandidateLegs.{length_ceiling}
 use Rattle.value_cuts.specs.Values.{value_dual, ValueRows, value_cut}
 
 -- whatever the row lists, its dual is feasible
 abbrev pub ValueDualIsDual : Type 0
-ValueDualIsDual = (p : Problem) (unit : ℕ) (row : List ℕ) (c : ℕ × ℕ) → IsDual p c (value_dual p unit row c)
+ValueDualIsDual = (p : Problem) (unit : ℕ) (row : List ℕ) (c : ℕ × ℕ) → IsDual p 1 c (value_dual p unit row c)
 
 -- whatever the values are, their cut is a cut of the problem: its duals are feasible, and its sums within their limit
 abbrev pub ValueCutIsCut : Type 0
@@ -18,9 +18,13 @@ ValueCutIsCut = (p : Problem) (w : ValueRows) → IsProblem p → IsCut p (value
 abbrev pub ValueCutIsInRange : Type 0
 ValueCutIsInRange = (p : Problem) (w : ValueRows) → IsProblem p → IsCutInRange p.size (value_cut p w)
 
+-- .. of the first version too: its part is 1, and its amounts have at most 30 digits
+abbrev pub ValueCutIsFirst : Type 0
+ValueCutIsFirst = (p : Problem) (w : ValueRows) → IsProblem p → IsFirstCut (value_cut p w)
+
 -- no feasible dual that gives the candidates these values has a greater price, up to the ceiling
 abbrev pub NoGreaterPrice : Type 0
-NoGreaterPrice = (p : Problem) (unit : ℕ) (row : List ℕ) (c : ℕ × ℕ) (d : Prices) → IsProblem p → IsDual p c d
+NoGreaterPrice = (p : Problem) (unit : ℕ) (row : List ℕ) (c : ℕ × ℕ) (d : Prices) → IsProblem p → IsDual p 1 c d
     → ((k : ℕ) → Contains p.candidates k → value_at d.u k ≡ value_at (value_dual p unit row c).u k)
     → d.a ≤ flow p c.0 c.1 * length_ceiling p
     → d.a ≤ (value_dual p unit row c).a

@@ -1,6 +1,6 @@
 //! What holds of the duals and the cuts of any values: each function is empty, and its contract is the law.
 
-ghost use Rattle.value_cuts.specs.Theorems.{ValueDualIsDual, ValueCutIsCut, ValueCutIsInRange, NoGreaterPrice};
+ghost use Rattle.value_cuts.specs.Theorems.{ValueDualIsDual, ValueCutIsCut, ValueCutIsInRange, ValueCutIsFirst, NoGreaterPrice};
 
 /// Whatever a row lists, its dual is feasible.
 pub fn value_dual_is_dual()
@@ -15,6 +15,11 @@ pub fn value_cut_is_cut()
 /// A certificate may list that cut.
 pub fn value_cut_is_in_range()
     ensures { ValueCutIsInRange }
+{}
+
+/// A certificate of the first version may list it too.
+pub fn value_cut_is_first()
+    ensures { ValueCutIsFirst }
 {}
 
 /// Up to the ceiling, no feasible dual with the same values has a greater price.

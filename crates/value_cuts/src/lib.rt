@@ -17,7 +17,10 @@ mod sums;
 mod values;
 
 pub use duals::DualScratch;
-pub use laws::{no_greater_price, value_cut_is_cut, value_cut_is_in_range, value_dual_is_dual};
+pub use laws::{
+    no_greater_price, value_cut_is_cut, value_cut_is_first, value_cut_is_in_range,
+    value_dual_is_dual,
+};
 pub use leg_tables::CandidateLegs;
 pub use pricing::{PriceScratch, price, set_origin_prices, set_prices};
 pub use sums::{cut_sums, sums_of};

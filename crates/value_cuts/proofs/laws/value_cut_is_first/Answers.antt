@@ -1,0 +1,5 @@
+use Rattle.value_cuts.proofs.ValueSums.{cut_is_first}
+use Rattle.value_cuts.proofs.laws.value_cut_is_first.Goals as goal
+
+pub returns : goal.returns
+returns c = cut_is_first
