@@ -36,24 +36,34 @@ pub is_cut : (p : Problem) (hubs order : List ℕ) → IsProblem p → IsHubSet 
 is_cut p hubs order ok set is =
     set_cut_is_cut p hubs order (set_cut p hubs order) ok set is ((set_cut_is_one_lem p hubs order (set_cut p hubs order) ok set is).1 refl)
 
+-- its part is 1, and so its total is within the limit
+set_total : (p : Problem) (hubs order : List ℕ) → IsProblem p → IsHubSet p hubs → IsOrder p hubs order
+    → total (set_cut p hubs order) ≤ most_cost
+set_total p hubs order ok set is =
+    let meets = (set_cut_is_one_lem p hubs order (set_cut p hubs order) ok set is).1 refl in
+    omega (arith, meets.whole, (is_cut p hubs order ok set is).sums.total_limit)
+
 -- what is summed up of the first commodities is within the limit
 pub total_within : (p : Problem) (hubs order : List ℕ) (t : ℕ) → IsProblem p → IsHubSet p hubs → IsOrder p hubs order
     → sum_by (price_of p hubs order) (take t (commodities p.size)) ≤ most_cost
 total_within p hubs order t ok set is =
-    let cut = is_cut p hubs order ok set is in
-    omega (arith, sum_by-take-le (price_of p hubs order) (commodities p.size) t, total_by_commodities p hubs order, cut.sums.total_limit)
+    omega (
+      arith,
+      sum_by-take-le (price_of p hubs order) (commodities p.size) t,
+      total_by_commodities p hubs order,
+      set_total p hubs order ok set is,
+    )
 
 pub load_within : (p : Problem) (hubs order : List ℕ) (k t : ℕ) → IsProblem p → IsHubSet p hubs → IsOrder p hubs order
     → sum_by (value_of p hubs order k) (take t (commodities p.size)) ≤ most_cost
 load_within p hubs order k t ok set is =
-    let cut = is_cut p hubs order ok set is in
     let meets = (set_cut_is_one_lem p hubs order (set_cut p hubs order) ok set is).1 refl in
     omega (
       arith,
       sum_by-take-le (value_of p hubs order k) (commodities p.size) t,
       load_by_commodities p hubs order k,
-      loads_within p hubs order (commodities p.size) (set_cut p hubs order).duals k meets,
-      cut.sums.total_limit,
+      loads_within p hubs order (commodities p.size) (set_cut p hubs order).duals k meets.duals,
+      set_total p hubs order ok set is,
     )
 
 -- ---- one origin more

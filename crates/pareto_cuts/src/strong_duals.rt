@@ -28,7 +28,7 @@ pub fn strong_dual_in(
     ensures room { scratch.new.room ≡ scratch.old.room }
     ensures is { scratch.new.dual ≡ minimal_dual instance.now set.now order.now (i, j) }
     ensures minimal { IsMinimalDual instance.now set.now order.now (i, j) scratch.new.dual }
-    ensures dual { IsDual instance.now (i, j) scratch.new.dual }
+    ensures dual { IsDual instance.now 1 (i, j) scratch.new.dual }
 {
     scratch.make_single(instance, set, order, i, j);
 }
@@ -48,7 +48,7 @@ pub fn strong_dual(
     requires order { IsOrder instance.now set.now order.now }
     ensures is { IfOk result (λ d. d ≡ minimal_dual instance.now set.now order.now (i, j)) }
     ensures minimal { IfOk result (λ d. IsMinimalDual instance.now set.now order.now (i, j) d) }
-    ensures dual { IfOk result (λ d. IsDual instance.now (i, j) d) }
+    ensures dual { IfOk result (λ d. IsDual instance.now 1 (i, j) d) }
 {
     let mut scratch = Scratch::new(alloc, instance)?;
     strong_dual_in(&mut scratch, instance, i, j, set, order);

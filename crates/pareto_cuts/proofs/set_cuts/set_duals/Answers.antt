@@ -1,4 +1,4 @@
-use Rattle.std.proofs.Common.{ℕ, List, ◌+◌, ◌*◌, ◌≡◌, take, subst, sym, ap, ◌∙◌, arith}
+use Rattle.std.proofs.Common.{ℕ, List, ◌+◌, ◌*◌, ◌≡◌, take, refl, subst, sym, ap, ◌∙◌, arith}
 use Rattle.std.specs.List.{AllZip}
 use Rattle.std.proofs.lemmas.List.{take_all}
 use Rattle.hub_spec.specs.Problem.{commodities}
@@ -41,8 +41,11 @@ whole : (c : After-loop-i) → IsSetCut c.args.instance.now c.args.set.now c.arg
 whole c =
     let p = c.args.instance.now in
     let square : c.loop-i.i * p.size ≡ p.size * p.size = ap (λ (m : ℕ). m * p.size) (omega arith) in
-    subst (λ (cs : List (ℕ × ℕ)). AllZip (IsMinimalDual p c.args.set.now c.args.order.now) cs c.loop-i.rows.items)
-    (take_all (c.loop-i.i * p.size) (commodities p.size) (omega (arith, square, length_commodities p.size))) c.loop-i.invariant.rows
+    record {
+      whole = refl;
+      duals = subst (λ (cs : List (ℕ × ℕ)). AllZip (IsMinimalDual p c.args.set.now c.args.order.now) cs c.loop-i.rows.items)
+          (take_all (c.loop-i.i * p.size) (commodities p.size) (omega (arith, square, length_commodities p.size))) c.loop-i.invariant.rows;
+    }
 
 pub returns-clause-set_cut : goal.returns-clause-set_cut
 returns-clause-set_cut c = whole (goal.at.returns-clause-set_cut c).After-loop-i

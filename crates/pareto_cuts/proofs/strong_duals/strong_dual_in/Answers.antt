@@ -15,6 +15,6 @@ pub returns-clause-dual : goal.returns-clause-dual
 returns-clause-dual c =
     let p = c.args.instance.now in
     let commodity : ℕ × ℕ = (c.args.i, c.args.j) in
-    subst (IsDual p commodity) (sym c.make_single.ensures.dual)
+    subst (IsDual p 1 commodity) (sym c.make_single.ensures.dual)
     (minimal_is_dual p c.args.set.now c.args.order.now commodity _ c.requires.order
     (minimal_dual_is p c.args.set.now c.args.order.now commodity c.make_single.ensures.problem c.requires.set c.requires.order))
