@@ -1,21 +1,23 @@
 -- Weights in a list, and the same weights at a leaf: pairs of a cut's number and its weight, those of 0 left out.
-use Rattle.std.proofs.Common.{◌≡◌, ℕ, ℤ, pos, zero, suc, ◌+◌, ◌-◌, ◌*◌, ◌<◌, ◌≤◌, ◌+ℤ◌, ◌-ℤ◌, Bool, true, List, [], ◌∷◌, length, get_or, map, filter, sum, sum_by, nat_lt, ltb-true, All, refl, sym, ap, ap₂, ◌∙◌, arith}
+use Rattle.std.proofs.Common.{◌≡◌, ℕ, ℤ, pos, zero, suc, ◌+◌, ◌-◌, ◌*◌, ◌/◌, ◌<◌, ◌≤◌, ◌+ℤ◌, ◌-ℤ◌, Bool, true, List, [], ◌∷◌, length, get_or, map, filter, sum, sum_by, nat_lt, ltb-true, All, None, refl, sym, subst, ap, ap₂, ◌∙◌, arith}
 use Rattle.std.specs.Int.{int_min}
 use Rattle.std.specs.List.{AllZip, enumerate_from}
 use Rattle.std.specs.List.Sorted.{IsStrictlyIncreasing}
+use Rattle.std.proofs.Math.Nat.{zero-div}
 use Rattle.std.proofs.lemmas.Bool.{ltb-false}
 use Rattle.std.proofs.lemmas.List.{length-map, get_or-map}
 use Rattle.std.proofs.lemmas.List.FromFn.{length-enumerate_from, get_or-enumerate_from}
 use Rattle.std.proofs.lemmas.List.Sums.{sum_by-cons}
-use Rattle.std.proofs.lemmas.List.Elements.{All-head, All-tail, All-map, All-weaker, All-filter, All-contains, All-from_get_or, filter_passes}
+use Rattle.std.proofs.lemmas.List.Elements.{All-nil, All-cons, All-head, All-tail, All-map, All-weaker, All-filter, All-contains, All-from_get_or, filter_passes}
 use Rattle.hub_spec.specs.Limits.{most_denominator}
 use Rattle.hub_spec.specs.Sums.{sum_ints}
 use Rattle.hub_spec.specs.Problem.{Problem}
 use Rattle.hub_spec.specs.Cuts.{Cut, cut_by, total, load}
-use Rattle.hub_spec.specs.Trees.{Branching, cut_at, mixed_total, mixed_load, mixed_gain, leaf_bound}
+use Rattle.hub_spec.specs.Trees.{Branching, cut_at, IsMultiple, mixed_total, mixed_load, mixed_gain, leaf_bound}
 use Rattle.hub_spec.proofs.SumLemmas.{by_test, sum_by-filter-le}
+use Rattle.hub_spec.proofs.Children.{plain_bound}
 use Rattle.hub_spec.proofs.Ascending.{ascend_nil, ascend_cons}
-use Rattle.leaf_bound.specs.Bounds.{Weighting, weighted_by, loads_of, gain_of, bound_of}
+use Rattle.leaf_bound.specs.Bounds.{Weighting, AreMultiples, weighted_by, shares_of, loads_of, weighted_load, gain_of, bound_of}
 use Rattle.leaf_bound.specs.Numbers.{IsBranchBelow}
 use Rattle.leaf_bound.specs.Theorems.{weight_pairs, AreLoadsOf, IsWeightingOf, AreLeafWeights}
 
@@ -25,42 +27,56 @@ has_weight e = nat_lt 0 e.1
 
 -- ---- sums over the pairs
 
+-- so often the pair's weight has the part of its cut, each time with this number of the cut
+abbrev shared : (ℕ → ℕ) → (ℕ → ℕ) → ℕ × ℕ → ℕ
+shared part f e = e.1 / part e.0 * f e.0
+
 -- pairs of weight 0 add nothing
-sum_by-filter : (f : ℕ → ℕ) (es : List (ℕ × ℕ))
-    → sum_by (λ (e : ℕ × ℕ). e.1 * f e.0) (filter has_weight es) ≡ sum_by (λ (e : ℕ × ℕ). e.1 * f e.0) es
-sum_by-filter f [] = refl
-sum_by-filter f (e ∷ es) =
-    let g = λ (e : ℕ × ℕ). e.1 * f e.0 in
-    let rest = sum_by-filter f es in
+sum_by-filter : (part f : ℕ → ℕ) (es : List (ℕ × ℕ)) → sum_by (shared part f) (filter has_weight es) ≡ sum_by (shared part f) es
+sum_by-filter part f [] = refl
+sum_by-filter part f (e ∷ es) =
+    let g = shared part f in
+    let rest = sum_by-filter part f es in
     let whole = sum_by-cons g e es in
     by_test (has_weight e) (λ t. rw t (omega (arith, whole, rest, sum_by-cons g e (filter has_weight es))))
     (λ t. let none : e.1 ≡ 0 = omega (arith, ltb-false 0 e.1 t) in
-    let nothing : e.1 * f e.0 ≡ 0 = rw none (omega arith) in
+    let nothing : e.1 / part e.0 * f e.0 ≡ 0 = rw (none, zero-div (part e.0)) (omega arith) in
     rw t (omega (arith, whole, rest, nothing)))
 
-sum_by-enumerate : (f : ℕ → ℕ) (s : ℕ) (ws xs : List ℕ) → length ws ≤ length xs → ((i : ℕ) → i < length ws → get_or xs i 0 ≡ f (s + i))
-    → sum_by (λ (e : ℕ × ℕ). e.1 * f e.0) (enumerate_from s ws) ≡ weighted_by ws xs
-sum_by-enumerate f s [] xs long at = refl
-sum_by-enumerate f s (w ∷ ws) [] long at = absurd (omega arith)
-sum_by-enumerate f s (w ∷ ws) (x ∷ xs) long at =
-    let whole = sum_by-cons (λ (e : ℕ × ℕ). e.1 * f e.0) (s, w) (enumerate_from (s + 1) ws) in
-    let first : w * f s ≡ w * x = let here = at 0 (omega arith) in
-    let place : s + 0 ≡ s = omega arith in ap (λ (y : ℕ). w * y) (sym (here ∙ ap f place)) in
-    let rest = sum_by-enumerate f (s + 1) ws xs (omega arith) (λ i low.
-    let place : s + suc i ≡ s + 1 + i = omega arith in at (suc i) (omega arith) ∙ ap f place) in
+sum_by-enumerate : (part f : ℕ → ℕ) (s : ℕ) (ws es xs : List ℕ) → length ws ≤ length es → length ws ≤ length xs
+    → ((i : ℕ) → i < length ws → get_or es i 0 ≡ part (s + i)) → ((i : ℕ) → i < length ws → get_or xs i 0 ≡ f (s + i))
+    → sum_by (shared part f) (enumerate_from s ws) ≡ weighted_by (shares_of ws es) xs
+sum_by-enumerate part f s [] es xs few long of at = refl
+sum_by-enumerate part f s (w ∷ ws) [] xs few long of at = absurd (omega (arith, few))
+sum_by-enumerate part f s (w ∷ ws) (e ∷ es) [] few long of at = absurd (omega (arith, long))
+sum_by-enumerate part f s (w ∷ ws) (e ∷ es) (x ∷ xs) few long of at =
+    let whole = sum_by-cons (shared part f) (s, w) (enumerate_from (s + 1) ws) in
+    let place : s + 0 ≡ s = omega arith in
+    let first : w / part s * f s ≡ w / e * x =
+    ap₂ (λ (d y : ℕ). w / d * y) (sym (of 0 (omega arith) ∙ ap part place)) (sym (at 0 (omega arith) ∙ ap f place)) in
+    let next : (i : ℕ) → s + suc i ≡ s + 1 + i = λ i. omega arith in
+    let rest = sum_by-enumerate part f (s + 1) ws es xs (omega (arith, few)) (omega (arith, long))
+    (λ i low. of (suc i) (omega (arith, low)) ∙ ap part (next i)) (λ i low. at (suc i) (omega (arith, low)) ∙ ap f (next i)) in
     omega (arith, whole, first, rest)
 
--- the sum over the pairs is the weighted sum, where the numbers are those of the cuts
-pairs_weighted : (f : ℕ → ℕ) (ws xs : List ℕ) → length ws ≤ length xs → ((i : ℕ) → i < length ws → get_or xs i 0 ≡ f (1 + i))
-    → sum_by (λ (e : ℕ × ℕ). e.1 * f e.0) (weight_pairs ws) ≡ weighted_by ws xs
-pairs_weighted f ws xs long at = sum_by-filter f (enumerate_from 1 ws) ∙ sum_by-enumerate f 1 ws xs long at
+-- the sum over the pairs is the weighted sum, where the parts and the numbers are those of the cuts
+pairs_weighted : (part f : ℕ → ℕ) (ws es xs : List ℕ) → length ws ≤ length es → length ws ≤ length xs
+    → ((i : ℕ) → i < length ws → get_or es i 0 ≡ part (1 + i)) → ((i : ℕ) → i < length ws → get_or xs i 0 ≡ f (1 + i))
+    → sum_by (shared part f) (weight_pairs ws) ≡ weighted_by (shares_of ws es) xs
+pairs_weighted part f ws es xs few long of at = sum_by-filter part f (enumerate_from 1 ws) ∙ sum_by-enumerate part f 1 ws es xs few long of at
 
 cut_number : (cuts : List Cut) (i : ℕ) → cut_at cuts (1 + i) ≡ get_or cuts i (cut_by [])
 cut_number cuts i = let place : 1 + i - 1 ≡ i = omega arith in ap (λ (j : ℕ). get_or cuts j (cut_by [])) place
 
-totals_weighted : (cuts : List Cut) (ws : List ℕ) → length ws ≤ length cuts → mixed_total cuts (weight_pairs ws) ≡ weighted_by ws (map total cuts)
+part_at : (cuts : List Cut) (i : ℕ) → i < length cuts → get_or (map (λ (cut : Cut). cut.part) cuts) i 0 ≡ (cut_at cuts (1 + i)).part
+part_at cuts i low = get_or-map (λ (cut : Cut). cut.part) cuts i (cut_by []) 0 low ∙ ap (λ (cut : Cut). cut.part) (sym (cut_number cuts i))
+
+totals_weighted : (cuts : List Cut) (ws : List ℕ) → length ws ≤ length cuts
+    → mixed_total cuts (weight_pairs ws) ≡ weighted_by (shares_of ws (map (λ (cut : Cut). cut.part) cuts)) (map total cuts)
 totals_weighted cuts ws few =
-    pairs_weighted (λ (c : ℕ). total (cut_at cuts c)) ws (map total cuts) (omega (arith, few, length-map cuts total)) (λ i low.
+    pairs_weighted (λ (c : ℕ). (cut_at cuts c).part) (λ (c : ℕ). total (cut_at cuts c)) ws (map (λ (cut : Cut). cut.part) cuts) (map total cuts)
+    (omega (arith, few, length-map cuts (λ (cut : Cut). cut.part))) (omega (arith, few, length-map cuts total))
+    (λ i low. part_at cuts i (omega (arith, few, low))) (λ i low.
     get_or-map total cuts i (cut_by []) 0 (omega (arith, few, low)) ∙ ap total (sym (cut_number cuts i)))
 
 -- each cut has its row of loads
@@ -78,12 +94,14 @@ row_at p (cut ∷ cuts) (row ∷ rows) zero are low = are.0
 row_at p (cut ∷ cuts) (row ∷ rows) (suc i) are low = row_at p cuts rows i are.1 (omega arith)
 
 loads_weighted : (p : Problem) (cuts : List Cut) (m : Weighting) (k : ℕ) → IsWeightingOf p cuts m → k < p.size
-    → mixed_load cuts (weight_pairs m.weights) k ≡ weighted_by m.weights (loads_of m.loads k)
+    → mixed_load cuts (weight_pairs m.weights) k ≡ weighted_load m k
 loads_weighted p cuts m k made node =
     let rows = rows_long p cuts m.loads made.loads in
     let long = length-map m.loads (λ (row : List ℕ). get_or row k 0) in
-    pairs_weighted (λ (c : ℕ). load (cut_at cuts c) k) m.weights (loads_of m.loads k)
-    (omega (arith, made.few_weights, rows, long)) (λ i low.
+    let parts = ap (λ (ks : List ℕ). length ks) made.parts in
+    pairs_weighted (λ (c : ℕ). (cut_at cuts c).part) (λ (c : ℕ). load (cut_at cuts c) k) m.weights m.parts (loads_of m.loads k)
+    (omega (arith, made.few_weights, parts, length-map cuts (λ (cut : Cut). cut.part))) (omega (arith, made.few_weights, rows, long))
+    (λ i low. ap (λ (ks : List ℕ). get_or ks i 0) made.parts ∙ part_at cuts i (omega (arith, made.few_weights, low))) (λ i low.
     let below : i < length cuts = omega (arith, made.few_weights, low) in
     get_or-map (λ (row : List ℕ). get_or row k 0) m.loads i [] 0 (omega (arith, made.few_weights, rows, low))
     ∙ row_at p cuts m.loads i made.loads below k node
@@ -101,16 +119,17 @@ gain_is : (p : Problem) (cuts : List Cut) (m : Weighting) (k : ℕ) → IsWeight
 gain_is p cuts m k made node =
     ap₂ (λ (x y : ℕ). pos (m.denom * x) -ℤ pos y) (sym (made.fixed k node)) (loads_weighted p cuts m k made node)
 
-pub leaf_has_bound : (p : Problem) (cuts : List Cut) (m : Weighting) (b : Branching) → IsWeightingOf p cuts m → IsBranchBelow p.size b
+pub leaf_has_bound : (p : Problem) (cuts : List Cut) (m : Weighting) (b : Branching) → p.wanted ≡ None → IsWeightingOf p cuts m → IsBranchBelow p.size b
     → leaf_bound p cuts m.denom (weight_pairs m.weights) b ≡ bound_of m b
-leaf_has_bound p cuts m b made below =
+leaf_has_bound p cuts m b any made below =
     let g = mixed_gain p cuts m.denom (weight_pairs m.weights) in
-    let base = ap pos (totals_weighted cuts m.weights made.few_weights ∙ ap (weighted_by m.weights) (sym made.totals)) in
+    let base = ap pos (totals_weighted cuts m.weights made.few_weights
+    ∙ ap₂ (λ (es xs : List ℕ). weighted_by (shares_of m.weights es) xs) (sym made.parts) (sym made.totals)) in
     let same = λ (k : ℕ) (node : k < p.size). gain_is p cuts m k made node in
     let inside = sum_ints-same g (gain_of m) p.size b.inside below.inside same in
     let free = sum_ints-same (λ k. int_min (pos 0) (g k)) (λ k. int_min (pos 0) (gain_of m k)) p.size b.free below.free
     (λ k node. ap (int_min (pos 0)) (same k node)) in
-    ap₂ (λ (x y : ℤ). x +ℤ y) (ap₂ (λ (x y : ℤ). x +ℤ y) base inside) free
+    plain_bound p cuts m.denom (weight_pairs m.weights) b any ∙ ap₂ (λ (x y : ℤ). x +ℤ y) (ap₂ (λ (x y : ℤ). x +ℤ y) base inside) free
 
 -- ---- what the pairs are
 
@@ -144,15 +163,34 @@ sum-enumerate s (w ∷ ws) =
       sum-enumerate (s + 1) ws,
     )
 
-pub pairs_mix : (cuts : List Cut) (denom : ℕ) (ws : List ℕ) → length ws ≤ length cuts → 1 ≤ denom → denom ≤ most_denominator → sum ws ≤ denom
-    → AreLeafWeights cuts denom (weight_pairs ws)
-pairs_mix cuts denom ws few least most sum_limit = record {
+multiples_from : (part : ℕ → ℕ) (s : ℕ) (ws es : List ℕ) → AreMultiples ws es → ((i : ℕ) → i < length ws → get_or es i 0 ≡ part (s + i))
+    → All (λ (e : ℕ × ℕ). e.1 / part e.0 * part e.0 ≡ e.1) (enumerate_from s ws)
+multiples_from part s [] es are of = All-nil (λ (e : ℕ × ℕ). e.1 / part e.0 * part e.0 ≡ e.1)
+multiples_from part s (w ∷ ws) [] are of = absurd are
+multiples_from part s (w ∷ ws) (e ∷ es) are of =
+    let place : s + 0 ≡ s = omega arith in
+    let next : (i : ℕ) → s + suc i ≡ s + 1 + i = λ i. omega arith in
+    let first : w / part s * part s ≡ w = subst (λ (d : ℕ). w / d * d ≡ w) (of 0 (omega arith) ∙ ap part place) are.0 in
+    All-cons (λ (e : ℕ × ℕ). e.1 / part e.0 * part e.0 ≡ e.1) (s, w) (enumerate_from (s + 1) ws) first
+    (multiples_from part (s + 1) ws es are.1 (λ i low. of (suc i) (omega (arith, low)) ∙ ap part (next i)))
+
+-- weights that are multiples are so at a leaf
+pairs_multiple : (cuts : List Cut) (ws : List ℕ) → AreMultiples ws (map (λ (cut : Cut). cut.part) cuts) → length ws ≤ length cuts
+    → All (IsMultiple cuts) (weight_pairs ws)
+pairs_multiple cuts ws are few =
+    All-filter has_weight (IsMultiple cuts) (enumerate_from 1 ws)
+    (multiples_from (λ (c : ℕ). (cut_at cuts c).part) 1 ws (map (λ (cut : Cut). cut.part) cuts) are (λ i low. part_at cuts i (omega (arith, few, low))))
+
+pub pairs_mix : (cuts : List Cut) (denom : ℕ) (ws : List ℕ) → AreMultiples ws (map (λ (cut : Cut). cut.part) cuts) → length ws ≤ length cuts
+    → 1 ≤ denom → denom ≤ most_denominator → sum ws ≤ denom → AreLeafWeights cuts denom (weight_pairs ws)
+pairs_mix cuts denom ws are few least most sum_limit = record {
   mix = record {
     denom_least = least;
     denom_most = most;
     numbers = All-weaker (λ (e : ℕ × ℕ). (1 ≤ e.0) × (e.0 < 1 + length ws)) (λ (e : ℕ × ℕ). (1 ≤ e.0) × (e.0 ≤ length cuts))
         (λ e is. (is.0, omega (arith, is.1, few))) (weight_pairs ws)
         (All-filter has_weight (λ (e : ℕ × ℕ). (1 ≤ e.0) × (e.0 < 1 + length ws)) (enumerate_from 1 ws) (numbers_from 1 ws));
+    multiples = pairs_multiple cuts ws are few;
     most = omega (arith, sum_by-filter-le (λ (e : ℕ × ℕ). e.1) has_weight (enumerate_from 1 ws), sum-enumerate 1 ws, sum_limit);
   };
   ascend = pairs_ascend 1 ws;

@@ -1,60 +1,75 @@
 -- What the limits of the lent numbers keep: weighted sums, gains and bounds.
-use Rattle.std.proofs.Common.{◌≡◌, ℕ, ℤ, pos, negsuc, zero, suc, ◌+◌, ◌*◌, ◌<◌, ◌≤◌, ◌+ℤ◌, ◌-ℤ◌, ◌≤ℤ◌, ◌*ℤ◌, ◌^◌, FitsSigned, to_z, of_z, List, [], ◌∷◌, length, get_or, take, map, All, refl, sym, subst, ap, ap₂, ◌∙◌, arith}
+use Rattle.std.proofs.Common.{◌≡◌, ℕ, ℤ, pos, zero, suc, ◌+◌, ◌*◌, ◌/◌, ◌<◌, ◌≤◌, ◌+ℤ◌, ◌-ℤ◌, ◌≤ℤ◌, ◌*ℤ◌, ◌^◌, FitsSigned, to_z, of_z, List, [], ◌∷◌, length, get_or, take, map, sum, All, refl, sym, subst, ap, ap₂, ◌∙◌, arith}
 use Rattle.std.specs.Int.{w128, int_min}
+use Rattle.std.specs.List.{AllZip}
+use Rattle.std.proofs.Math.Nat.{mul-le-mul, zero-div}
 use Rattle.std.proofs.lemmas.Int.{ints, clamps, to_z-of_z}
 use Rattle.std.proofs.lemmas.List.{length-map, get_or-map, take_more}
-use Rattle.std.proofs.lemmas.List.Elements.{All-get_or, All-map, All-weaker}
-use Rattle.hub_spec.specs.Limits.{most_nodes, most_cost, most_denominator}
+use Rattle.std.proofs.lemmas.List.Elements.{All-nil, All-cons, All-get_or, All-weaker}
+use Rattle.hub_spec.specs.Limits.{most_nodes, most_cost, most_denominator, most_part}
 use Rattle.hub_spec.specs.Sums.{sum_ints}
+use Rattle.hub_spec.specs.Trees.{Branching, branch_bound}
 use Rattle.hub_spec.proofs.SumLemmas.{sum_ints-append}
-use Rattle.std.proofs.Math.Nat.{mul-le-mul}
 use Rattle.hub_model.specs.Amounts.{natural}
 use Rattle.hub_model.proofs.Signs.{pos-natural}
-use Rattle.leaf_bound.specs.Bounds.{loads_of}
-use Rattle.leaf_bound.specs.Numbers.{naturals, IsCost, AreWeightingNumbers}
-use Rattle.leaf_bound.specs.Weighing.{most_gain, most_bound, AreWeighed, AreWeighedLoads, IsWeighedTo, AreLoadsTo, column, AreGainNumbers, IsWithin}
-use Rattle.leaf_bound.proofs.WeightedSums.{weighed_next, weighed_limit}
+use Rattle.leaf_bound.specs.declared.weightings.Weighting as lent
+use Rattle.leaf_bound.specs.Bounds.{Weighting, loads_of, weighted_total, gain_of, bound_of}
+use Rattle.leaf_bound.specs.Numbers.{naturals, rows_of, IsCost, IsSumOf, AreSumsOf, AreWeightingNumbers, IsBranchBelow}
+use Rattle.leaf_bound.specs.Weighing.{most_gain, most_bound, share_at, AreWeighed, AreWeighedLoads, IsWeighedTo, AreLoadsTo, column, IsWithin}
+use Rattle.leaf_bound.proofs.WeightedSums.{natural_le, weighed_next, weighed_limit}
 
-natural_le : (z : ℤ) (most : ℕ) → z ≤ℤ pos most → natural z ≤ most
-natural_le (pos n) most le = omega (arith, ints, le)
-natural_le (negsuc n) most le = omega arith
+length-zip : {A B : Type 0} (R : A → B → Type 0) (xs : List A) (ys : List B) → AllZip R xs ys → length xs ≡ length ys
+length-zip R [] [] are = refl
+length-zip R [] (y ∷ ys) are = absurd are
+length-zip R (x ∷ xs) [] are = absurd are
+length-zip R (x ∷ xs) (y ∷ ys) are = omega (arith, length-zip R xs ys are.1)
 
-weighed_totals : (totals : List ℤ) (loads : List (List ℤ)) (fixed weights : List ℤ) (denom : ℤ)
-    → AreWeightingNumbers totals loads fixed weights denom → AreWeighed weights totals
-weighed_totals totals loads fixed weights denom are = record {
+sums_column : (n k : ℕ) (parts : List ℕ) (loads : List (List ℤ)) → k < n → AllZip (AreSumsOf n) parts loads → AllZip IsSumOf parts (column loads k)
+sums_column n k [] [] node are = tt
+sums_column n k [] (row ∷ loads) node are = absurd are
+sums_column n k (part ∷ parts) [] node are = absurd are
+sums_column n k (part ∷ parts) (row ∷ loads) node are =
+    (All-get_or (IsSumOf part) row k (pos 0) (omega (arith, are.0.0, node)) are.0.1, sums_column n k parts loads node are.1)
+
+rows_wide : (n : ℕ) (parts : List ℕ) (loads : List (List ℤ)) → AllZip (AreSumsOf n) parts loads → All (λ (row : List ℤ). n ≤ length row) loads
+rows_wide n [] [] are = All-nil (λ (row : List ℤ). n ≤ length row)
+rows_wide n [] (row ∷ loads) are = absurd are
+rows_wide n (part ∷ parts) [] are = absurd are
+rows_wide n (part ∷ parts) (row ∷ loads) are =
+    All-cons (λ (row : List ℤ). n ≤ length row) row loads (omega (arith, are.0.0)) (rows_wide n parts loads are.1)
+
+pub weighed_totals : (m : lent.Weighting) → AreWeightingNumbers m → AreWeighed m.weights.now m.parts.now m.totals.now
+weighed_totals m are = record {
   few = are.few_weights;
+  few_parts = omega (arith, are.few_weights, length-zip IsSumOf m.parts.now m.totals.now are.are_totals);
   are_weights = are.are_weights;
-  weights_limit = omega (arith, are.weights_limit, natural_le denom most_denominator are.denom_most);
+  weights_limit = omega (arith, are.weights_limit, natural_le m.denom most_denominator are.denom_most);
+  are_parts = All-weaker (λ (part : ℕ). (1 ≤ part) × (part ≤ most_part)) (λ (part : ℕ). 1 ≤ part) (λ part is. is.0) m.parts.now are.are_parts;
   are_numbers = are.are_totals;
 }
 
-weighed_column : (totals : List ℤ) (loads : List (List ℤ)) (fixed weights : List ℤ) (denom : ℤ) (k : ℕ)
-    → AreWeightingNumbers totals loads fixed weights denom → k < length fixed → AreWeighed weights (column loads k)
-weighed_column totals loads fixed weights denom k are node = record {
-  few = omega (arith, are.few_weights, are.one_load_each, length-map loads (λ (row : List ℤ). get_or row k (pos 0)));
-  are_weights = are.are_weights;
-  weights_limit = omega (arith, are.weights_limit, natural_le denom most_denominator are.denom_most);
-  are_numbers = All-map IsCost (λ (row : List ℤ). get_or row k (pos 0)) loads
-      (All-weaker (λ (row : List ℤ). (length row ≡ length fixed) × All IsCost row) (λ (row : List ℤ). IsCost (get_or row k (pos 0)))
-      (λ row is. All-get_or IsCost row k (pos 0) (omega (arith, is.0, node)) is.1) loads are.are_loads);
-}
-
-pub gain_numbers : (totals : List ℤ) (loads : List (List ℤ)) (fixed weights : List ℤ) (denom : ℤ) (d : ℕ)
-    → AreWeightingNumbers totals loads fixed weights denom → d ≡ natural denom
-    → AreGainNumbers totals loads fixed weights d
-gain_numbers totals loads fixed weights denom d are is = record {
-  some_nodes = are.some_nodes;
-  weighed_totals = weighed_totals totals loads fixed weights denom are;
-  weighed_loads = record {
-    few = omega (arith, are.few_weights, are.one_load_each);
-    are_weights = are.are_weights;
-    wide = All-weaker (λ (row : List ℤ). (length row ≡ length fixed) × All IsCost row) (λ (row : List ℤ). length fixed ≤ length row)
-        (λ row is. omega (arith, is.0)) loads are.are_loads;
-    weighed = λ k node. weighed_column totals loads fixed weights denom k are node;
-  };
-  are_fixed_costs = are.are_fixed_costs;
-  denom_most = omega (arith, is, natural_le denom most_denominator are.denom_most);
-}
+pub weighed_loads : (m : lent.Weighting) (n : ℕ) → AreWeightingNumbers m → n ≡ length m.fixed.now
+    → AreWeighedLoads m.weights.now m.parts.now (rows_of m) n
+weighed_loads m n are room =
+    let totals = weighed_totals m are in
+    let sums : AllZip (AreSumsOf n) m.parts.now (rows_of m) =
+    subst (λ (n : ℕ). AllZip (AreSumsOf n) m.parts.now (rows_of m)) (sym room) are.are_loads in
+    let few : length m.weights.now ≤ length (rows_of m) =
+    omega (arith, totals.few_parts, length-zip (AreSumsOf n) m.parts.now (rows_of m) sums) in
+    record {
+      few = few;
+      few_parts = totals.few_parts;
+      are_weights = are.are_weights;
+      wide = rows_wide n m.parts.now (rows_of m) sums;
+      weighed = λ k node. record {
+        few = omega (arith, few, length-map (rows_of m) (λ (row : List ℤ). get_or row k (pos 0)));
+        few_parts = totals.few_parts;
+        are_weights = are.are_weights;
+        weights_limit = totals.weights_limit;
+        are_parts = totals.are_parts;
+        are_numbers = sums_column n k m.parts.now (rows_of m) node sums;
+      };
+    }
 
 -- ---- sums of gains
 
@@ -68,6 +83,22 @@ pub sum_ints_same : (g h : ℕ → ℤ) (ks : List ℕ) → All (λ k. g k ≡ h
 sum_ints_same g h [] same = refl
 sum_ints_same g h (k ∷ ks) same =
     ap₂ (λ (x y : ℤ). x +ℤ y) (same 0 0 (omega arith)) (sum_ints_same g h ks (λ i d low. same (suc i) d (omega arith)))
+
+-- gains that are read are the nodes' own
+read : (g : ℕ → ℤ) (gains : List ℤ) (nodes : List ℕ) → All (λ k. k < length gains) nodes
+    → ((k : ℕ) → k < length gains → get_or gains k (pos 0) ≡ g k) → All (λ k. get_or gains k (pos 0) ≡ g k) nodes
+read g gains nodes below is = λ i d low. is (get_or nodes i d) (below i d low)
+
+-- the bound by gains that are read, and by the sum of the totals, is the weighting's
+pub bound_read : (m : Weighting) (base : ℕ) (gains : List ℤ) (b : Branching) → base ≡ weighted_total m
+    → ((k : ℕ) → k < length gains → get_or gains k (pos 0) ≡ gain_of m k) → IsBranchBelow (length gains) b
+    → branch_bound base (λ k. get_or gains k (pos 0)) b ≡ bound_of m b
+bound_read m base gains b total is below =
+    let by : ℕ → ℤ = λ k. get_or gains k (pos 0) in
+    let free = read (gain_of m) gains b.free below.free is in
+    ap₂ (λ (x y : ℤ). x +ℤ y)
+    (ap₂ (λ (x : ℕ) (y : ℤ). pos x +ℤ y) total (sum_ints_same by (gain_of m) b.inside (read (gain_of m) gains b.inside below.inside is)))
+    (sum_ints_same (λ k. int_min (pos 0) (by k)) (λ k. int_min (pos 0) (gain_of m k)) b.free (λ i d low. ap (int_min (pos 0)) (free i d low)))
 
 -- so many gains are within so many times the limit
 pub record IsSumTo (g : ℕ → ℤ) (ks : List ℕ) (i : ℕ) (so_far : ℤ) : Type 0 where
@@ -190,38 +221,38 @@ gain_within d s x z denom cost sum is =
 
 -- ---- the loads of a cut
 
-pub loads_kept : (ws : List ℤ) (rows : List (List ℤ)) (i : ℕ) (sums : List ℕ) → i < length ws → AreWeighedLoads ws rows (length sums)
-    → get_or ws i (pos 0) ≡ pos 0 → AreLoadsTo ws rows i sums → AreLoadsTo ws rows (i + 1) sums
-loads_kept ws rows i sums low are none before = record {
+pub loads_kept : (ws : List ℤ) (es : List ℕ) (rows : List (List ℤ)) (i : ℕ) (sums : List ℕ) → i < length ws → AreWeighedLoads ws es rows (length sums)
+    → get_or ws i (pos 0) ≡ pos 0 → AreLoadsTo ws es rows i sums → AreLoadsTo ws es rows (i + 1) sums
+loads_kept ws es rows i sums low are none before = record {
   each = λ k less.
       let x = natural (get_or (column rows k) i (pos 0)) in
       let same : get_or sums k 0 + 0 * x ≡ get_or sums k 0 = omega arith in
-      subst (IsWeighedTo ws (column rows k) (i + 1)) same
-      (weighed_next ws (column rows k) i (get_or sums k 0) 0 x low (are.weighed k less) (ap natural (sym none)) refl (before.each k less));
+      subst (IsWeighedTo ws es (column rows k) (i + 1)) same
+      (weighed_next ws es (column rows k) i (get_or sums k 0) 0 x low (are.weighed k less) (sym (ap (λ (z : ℤ). natural z / get_or es i 0) none ∙ zero-div (get_or es i 0))) refl (before.each k less));
 }
 
-next : (ws : List ℤ) (rows : List (List ℤ)) (i : ℕ) (sums : List ℕ) (w : ℕ) (row : List ℤ) (k : ℕ) → i < length ws → AreWeighedLoads ws rows (length sums)
-    → w ≡ natural (get_or ws i (pos 0)) → get_or (column rows k) i (pos 0) ≡ get_or row k (pos 0) → AreLoadsTo ws rows i sums → k < length sums
-    → IsWeighedTo ws (column rows k) (i + 1) (get_or sums k 0 + w * natural (get_or row k (pos 0)))
-next ws rows i sums w row k low are weight at before less =
-    weighed_next ws (column rows k) i (get_or sums k 0) w (natural (get_or row k (pos 0))) low (are.weighed k less) weight (ap natural (sym at)) (before.each k less)
+next : (ws : List ℤ) (es : List ℕ) (rows : List (List ℤ)) (i : ℕ) (sums : List ℕ) (w : ℕ) (row : List ℤ) (k : ℕ) → i < length ws → AreWeighedLoads ws es rows (length sums)
+    → w ≡ share_at ws es i → get_or (column rows k) i (pos 0) ≡ get_or row k (pos 0) → AreLoadsTo ws es rows i sums → k < length sums
+    → IsWeighedTo ws es (column rows k) (i + 1) (get_or sums k 0 + w * natural (get_or row k (pos 0)))
+next ws es rows i sums w row k low are weight at before less =
+    weighed_next ws es (column rows k) i (get_or sums k 0) w (natural (get_or row k (pos 0))) low (are.weighed k less) weight (ap natural (sym at)) (before.each k less)
 
-pub loads_fit : (ws : List ℤ) (rows : List (List ℤ)) (i : ℕ) (sums : List ℕ) (w : ℕ) (row : List ℤ) (k : ℕ) → i < length ws → AreWeighedLoads ws rows (length sums)
-    → w ≡ natural (get_or ws i (pos 0)) → get_or (column rows k) i (pos 0) ≡ get_or row k (pos 0) → AreLoadsTo ws rows i sums → k < length sums
+pub loads_fit : (ws : List ℤ) (es : List ℕ) (rows : List (List ℤ)) (i : ℕ) (sums : List ℕ) (w : ℕ) (row : List ℤ) (k : ℕ) → i < length ws → AreWeighedLoads ws es rows (length sums)
+    → w ≡ share_at ws es i → get_or (column rows k) i (pos 0) ≡ get_or row k (pos 0) → AreLoadsTo ws es rows i sums → k < length sums
     → get_or sums k 0 + w * natural (get_or row k (pos 0)) < 2 ^ 128
-loads_fit ws rows i sums w row k low are weight at before less =
+loads_fit ws es rows i sums w row k low are weight at before less =
     omega (
       arith,
-      weighed_limit ws (column rows k) (i + 1) (get_or sums k 0 + w * natural (get_or row k (pos 0))) (are.weighed k less)
-          (next ws rows i sums w row k low are weight at before less),
+      weighed_limit ws es (column rows k) (i + 1) (get_or sums k 0 + w * natural (get_or row k (pos 0))) (are.weighed k less)
+          (next ws es rows i sums w row k low are weight at before less),
     )
 
-pub loads_added : (ws : List ℤ) (rows : List (List ℤ)) (i : ℕ) (sums new : List ℕ) (w : ℕ) (row : List ℤ) → i < length ws → AreWeighedLoads ws rows (length sums)
-    → w ≡ natural (get_or ws i (pos 0)) → ((k : ℕ) → k < length sums → get_or (column rows k) i (pos 0) ≡ get_or row k (pos 0)) → AreLoadsTo ws rows i sums
+pub loads_added : (ws : List ℤ) (es : List ℕ) (rows : List (List ℤ)) (i : ℕ) (sums new : List ℕ) (w : ℕ) (row : List ℤ) → i < length ws → AreWeighedLoads ws es rows (length sums)
+    → w ≡ share_at ws es i → ((k : ℕ) → k < length sums → get_or (column rows k) i (pos 0) ≡ get_or row k (pos 0)) → AreLoadsTo ws es rows i sums
     → length new ≡ length sums → ((k : ℕ) → k < length sums → get_or new k 0 ≡ get_or sums k 0 + w * natural (get_or row k (pos 0)))
-    → AreLoadsTo ws rows (i + 1) new
-loads_added ws rows i sums new w row low are weight at before long added = record {
+    → AreLoadsTo ws es rows (i + 1) new
+loads_added ws es rows i sums new w row low are weight at before long added = record {
   each = λ k below.
       let less : k < length sums = omega (arith, below, long) in
-      subst (IsWeighedTo ws (column rows k) (i + 1)) (sym (added k less)) (next ws rows i sums w row k low are weight (at k less) before less);
+      subst (IsWeighedTo ws es (column rows k) (i + 1)) (sym (added k less)) (next ws es rows i sums w row k low are weight (at k less) before less);
 }

@@ -1,31 +1,45 @@
--- The numbers that the pool lends, and their limits.
-use Rattle.std.specs.Prelude.{◌≡◌, ℕ, ◌<◌, ◌≤◌, ℤ, pos, ◌≤ℤ◌, List, length, map, sum, All}
-use Rattle.hub_spec.specs.Limits.{most_nodes, most_cost, most_denominator}
+-- The numbers that are lent, and their limits.
+use Rattle.std.specs.Prelude.{◌≡◌, ℕ, ◌<◌, ◌≤◌, ◌*◌, ℤ, pos, ◌≤ℤ◌, List, length, map, sum, All}
+use Rattle.std.specs.List.{AllZip}
+use Rattle.hub_spec.specs.Limits.{most_nodes, most_cost, most_denominator, most_part}
 use Rattle.hub_spec.specs.Trees.{Branching}
 use Rattle.hub_model.specs.Amounts.{natural, IsNatural}
-use Rattle.leaf_bound.specs.Bounds.{Weighting}
+use Rattle.leaf_bound.specs.declared.weightings.Weighting as lent
+use Rattle.leaf_bound.specs.Bounds.{Weighting, AreMultiples}
 
 -- natural numbers of a list of signed ones
 abbrev pub naturals : List ℤ → List ℕ
 naturals xs = map natural xs
 
--- a cost or a sum of a cut: at least 0, and at most 10^29
+-- a cost: at least 0, and at most 10^29
 abbrev pub IsCost : ℤ → Type 0
 IsCost z = (pos 0 ≤ℤ z) × (z ≤ℤ pos most_cost)
 
--- the numbers as they come in, within their limits
-pub record AreWeightingNumbers (totals : List ℤ) (loads : List (List ℤ)) (fixed weights : List ℤ) (denom : ℤ)
-    : Type 0 where
-  pub some_nodes : length fixed ≤ most_nodes
-  pub one_load_each : length loads ≡ length totals
-  pub few_weights : length weights ≤ length totals
-  pub are_totals : All IsCost totals
-  pub are_loads : All (λ row. (length row ≡ length fixed) × All IsCost row) loads
-  pub are_fixed_costs : All IsCost fixed
-  pub are_weights : All IsNatural weights
-  pub weights_limit : sum (naturals weights) ≤ natural denom
-  pub denom_least : pos 1 ≤ℤ denom
-  pub denom_most : denom ≤ℤ pos most_denominator
+-- a sum of a cut with this part: at least 0, and at most 10^29 for each unit of the part
+abbrev pub IsSumOf : ℕ → ℤ → Type 0
+IsSumOf part z = (pos 0 ≤ℤ z) × (z ≤ℤ pos (part * most_cost))
+
+-- the loads of a cut with this part, one for each of n nodes
+abbrev pub AreSumsOf : ℕ → ℕ → List ℤ → Type 0
+AreSumsOf n part row = (length row ≡ n) × All (IsSumOf part) row
+
+-- the loads that are lent, a row for each cut
+abbrev pub rows_of : lent.Weighting → List (List ℤ)
+rows_of m = map (λ v. v.items) m.loads.now
+
+-- the numbers that are lent are within their limits
+pub record AreWeightingNumbers (m : lent.Weighting) : Type 0 where
+  pub some_nodes : length m.fixed.now ≤ most_nodes
+  pub few_weights : length m.weights.now ≤ length m.totals.now
+  pub are_parts : All (λ part. (1 ≤ part) × (part ≤ most_part)) m.parts.now
+  pub are_totals : AllZip IsSumOf m.parts.now m.totals.now
+  pub are_loads : AllZip (AreSumsOf (length m.fixed.now)) m.parts.now (rows_of m)
+  pub are_fixed_costs : All IsCost m.fixed.now
+  pub are_weights : All IsNatural m.weights.now
+  pub are_multiples : AreMultiples (naturals m.weights.now) m.parts.now
+  pub weights_limit : sum (naturals m.weights.now) ≤ natural m.denom
+  pub denom_least : pos 1 ≤ℤ m.denom
+  pub denom_most : m.denom ≤ℤ pos most_denominator
 
 -- the branch's nodes are nodes
 pub record IsBranchBelow (n : ℕ) (b : Branching) : Type 0 where
@@ -34,12 +48,13 @@ pub record IsBranchBelow (n : ℕ) (b : Branching) : Type 0 where
   pub free : All (λ k. k < n) b.free
 
 -- the natural numbers that these are
-abbrev pub weighting_of : List ℤ → List (List ℤ) → List ℤ → List ℤ → ℤ → Weighting
-weighting_of totals loads fixed weights denom =
+abbrev pub weighting_of : lent.Weighting → Weighting
+weighting_of m =
     record {
-      totals = naturals totals;
-      loads = map naturals loads;
-      fixed = naturals fixed;
-      weights = naturals weights;
-      denom = natural denom;
+      totals = naturals m.totals.now;
+      loads = map naturals (rows_of m);
+      parts = m.parts.now;
+      fixed = naturals m.fixed.now;
+      weights = naturals m.weights.now;
+      denom = natural m.denom;
     }

@@ -1,40 +1,43 @@
 //! The bound of a branch, and whether it closes a target.
 
-ghost use Rattle.std.specs.Prelude.{◌≡◌, ◌^◌, ◌*◌, ◌↔◌, pos, ◌-ℤ◌, ◌≤ℤ◌, length, map, IsTrue};
-ghost use Rattle.hub_spec.specs.Limits.{most_denominator};
-ghost use Rattle.hub_spec.specs.Trees.{Closes};
+ghost use Rattle.std.specs.Prelude.{◌≡◌, ℕ, ◌^◌, ◌*◌, ◌↔◌, ◌<◌, ◌≤◌, pos, ◌-ℤ◌, ◌≤ℤ◌, length, slice_index_or, IsTrue};
+ghost use Rattle.hub_spec.specs.Limits.{most_nodes, most_denominator};
+ghost use Rattle.hub_spec.specs.Trees.{Closes, branch_bound};
 ghost use Rattle.hub_model.specs.Amounts.{natural};
 ghost use Rattle.leaf_bound.specs.Bounds.{bound_of};
 ghost use Rattle.leaf_bound.specs.Numbers.{AreWeightingNumbers, IsBranchBelow, weighting_of};
-ghost use Rattle.leaf_bound.specs.Weighing.{most_bound, IsWithin};
+ghost use Rattle.leaf_bound.specs.Weighing.{most_gain, most_bound, IsWithin};
 
-use crate::gains::{ROOM, sum_of_gains, sum_of_losses, write_gains_by};
-use hub_model::{signed, unsigned};
+use crate::Weighting;
+use crate::gains::{ROOM, sum_of_gains, sum_of_losses, write_gains_and_base};
+use hub_model::signed;
 use plan_model::Branch;
 
 /// The bound of the branch under these weights, in 10^-12, times the denominator.
-///
-/// There are, for each cut, a total and a list with a load for each node, a fixed cost for each node, and a weight for
-/// each of the first cuts.
-pub fn bound(
-    totals: &[i128],
-    loads: &[Vec<i128>],
-    fixed: &[i128],
-    weights: &[i128],
-    denom: i128,
-    branch: &Branch,
-) -> i128
-    requires numbers { AreWeightingNumbers totals.now (map (λ v. v.items) loads.now) fixed.now weights.now denom }
-    requires nodes { IsBranchBelow (length fixed.now) branch.now }
-    ensures value { result ≡ bound_of (weighting_of totals.now (map (λ v. v.items) loads.now) fixed.now weights.now denom) branch.now }
+pub fn bound(weighting: &Weighting, branch: &Branch) -> i128
+    requires numbers { AreWeightingNumbers weighting.now }
+    requires nodes { IsBranchBelow (length weighting.now.fixed.now) branch.now }
+    ensures value { result ≡ bound_of (weighting_of weighting.now) branch.now }
+    ensures limit { IsWithin most_bound result }
+{
+    let mut room = [0; ROOM];
+    let gains = &mut room[..weighting.fixed.len()];
+    let base = write_gains_and_base(weighting, gains);
+    bound_by(base, gains, branch)
+}
+
+/// The bound of the branch by the gain of each node and the weighted sum of the cuts' totals.
+pub fn bound_by(base: u128, gains: &[i128], branch: &Branch) -> i128
+    requires base { base ≤ most_gain }
+    requires gains { (k : ℕ) → k < length gains.now → IsWithin most_gain (slice_index_or gains.now k (pos 0)) }
+    requires few { length gains.now ≤ most_nodes }
+    requires nodes { IsBranchBelow (length gains.now) branch.now }
+    ensures value { result ≡ branch_bound base (λ k. slice_index_or gains.now k (pos 0)) branch.now }
     ensures limit { IsWithin most_bound result }
 {
     // Weights of at most 10^6 together keep each weighted sum within 10^35, and so each gain. The two lists have at
     // most 200 nodes each, so that the bound stays within 5 * 10^37, and an `i128` holds 10^38.
-    let denom = unsigned(denom);
-    let mut room = [0; ROOM];
-    let gains = &mut room[..fixed.len()];
-    let base = signed(write_gains_by(totals, loads, fixed, weights, denom, gains));
+    let base = signed(base);
     let inside = sum_of_gains(gains, branch.inside());
     let free = sum_of_losses(gains, branch.free());
     base + inside + free
@@ -42,21 +45,13 @@ pub fn bound(
 
 /// Tells whether the bound of the branch under these weights closes the target, which is in 10^-12: no plan of the
 /// branch then costs less than the target.
-pub fn closes(
-    totals: &[i128],
-    loads: &[Vec<i128>],
-    fixed: &[i128],
-    weights: &[i128],
-    denom: i128,
-    branch: &Branch,
-    target: i128,
-) -> bool
-    requires numbers { AreWeightingNumbers totals.now (map (λ v. v.items) loads.now) fixed.now weights.now denom }
-    requires nodes { IsBranchBelow (length fixed.now) branch.now }
+pub fn closes(weighting: &Weighting, branch: &Branch, target: i128) -> bool
+    requires numbers { AreWeightingNumbers weighting.now }
+    requires nodes { IsBranchBelow (length weighting.now.fixed.now) branch.now }
     requires target { (pos 0 ≤ℤ target) × (target ≤ℤ pos (10 ^ 30)) }
-    ensures { IsTrue result ↔ Closes (natural denom) (natural target) (bound_of (weighting_of totals.now (map (λ v. v.items) loads.now) fixed.now weights.now denom) branch.now) }
+    ensures { IsTrue result ↔ Closes (natural weighting.now.denom) (natural target) (bound_of (weighting_of weighting.now) branch.now) }
 {
-    bound(totals, loads, fixed, weights, denom, branch) > threshold(denom, target)
+    bound(weighting, branch) > threshold(weighting.denom, target)
 }
 
 /// What a bound has to be above to close the target: the denominator times one less than the target.

@@ -1,14 +1,15 @@
 //! The gains of nodes.
 
-ghost use Rattle.std.specs.Prelude.{◌≡◌, ℕ, ◌*◌, ◌<◌, ◌≤◌, pos, ◌-ℤ◌, length, map, slice_index_or, All};
+ghost use Rattle.std.specs.Prelude.{◌≡◌, ℕ, ◌*◌, ◌<◌, ◌≤◌, pos, ◌-ℤ◌, length, slice_index_or, All};
 ghost use Rattle.std.specs.Int.{int_min};
 ghost use Rattle.hub_spec.specs.Limits.{most_nodes, most_denominator};
 ghost use Rattle.hub_spec.specs.Sums.{sum_ints};
-ghost use Rattle.hub_model.specs.Amounts.{natural, IsNatural};
-ghost use Rattle.leaf_bound.specs.Bounds.{weighted_by, gain_of};
-ghost use Rattle.leaf_bound.specs.Numbers.{AreWeightingNumbers, IsCost, naturals, weighting_of};
-ghost use Rattle.leaf_bound.specs.Weighing.{most_gain, AreGainNumbers, IsWithin, gain_by};
+ghost use Rattle.hub_model.specs.Amounts.{natural};
+ghost use Rattle.leaf_bound.specs.Bounds.{weighted_total, gain_of};
+ghost use Rattle.leaf_bound.specs.Numbers.{AreWeightingNumbers, IsCost, weighting_of};
+ghost use Rattle.leaf_bound.specs.Weighing.{most_gain, IsWithin};
 
+use crate::Weighting;
 use crate::weighing::weigh;
 use hub_model::{MOST_NODES, unsigned};
 
@@ -17,65 +18,42 @@ pub(crate) const ROOM: usize = MOST_NODES as usize;
 
 /// The gain of the node `k` under these weights: what the bound of a branch rises by where the node, so far closed, is
 /// a hub, in 10^-12, times the denominator.
-pub fn gain(
-    totals: &[i128],
-    loads: &[Vec<i128>],
-    fixed: &[i128],
-    weights: &[i128],
-    denom: i128,
-    k: u32,
-) -> i128
-    requires numbers { AreWeightingNumbers totals.now (map (λ v. v.items) loads.now) fixed.now weights.now denom }
-    requires node { k < length fixed.now }
-    ensures value { result ≡ gain_of (weighting_of totals.now (map (λ v. v.items) loads.now) fixed.now weights.now denom) k }
+pub fn gain(weighting: &Weighting, k: u32) -> i128
+    requires numbers { AreWeightingNumbers weighting.now }
+    requires node { k < length weighting.now.fixed.now }
+    ensures value { result ≡ gain_of (weighting_of weighting.now) k }
     ensures limit { IsWithin most_gain result }
 {
     let mut room = [0; ROOM];
-    let gains = &mut room[..fixed.len()];
-    write_gains(totals, loads, fixed, weights, denom, gains);
+    let gains = &mut room[..weighting.fixed.len()];
+    write_gains(weighting, gains);
     gains[k as usize]
 }
 
 /// Writes the gain of each node, all of them by one pass over the cuts.
-pub fn write_gains(
-    totals: &[i128],
-    loads: &[Vec<i128>],
-    fixed: &[i128],
-    weights: &[i128],
-    denom: i128,
-    gains: &mut [i128],
-)
-    requires numbers { AreWeightingNumbers totals.now (map (λ v. v.items) loads.now) fixed.now weights.now denom }
-    requires room { length gains.old ≡ length fixed.now }
-    ensures value { (k : ℕ) → k < length gains.new → slice_index_or gains.new k (pos 0)
-        ≡ gain_of (weighting_of totals.now (map (λ v. v.items) loads.now) fixed.now weights.now denom) k }
+pub fn write_gains(weighting: &Weighting, gains: &mut [i128])
+    requires numbers { AreWeightingNumbers weighting.now }
+    requires room { length gains.old ≡ length weighting.now.fixed.now }
+    ensures value { (k : ℕ) → k < length gains.new → slice_index_or gains.new k (pos 0) ≡ gain_of (weighting_of weighting.now) k }
     ensures limit { (k : ℕ) → k < length gains.new → IsWithin most_gain (slice_index_or gains.new k (pos 0)) }
 {
-    write_gains_by(totals, loads, fixed, weights, unsigned(denom), gains);
+    write_gains_and_base(weighting, gains);
 }
 
-/// The same, with the denominator as a number that can't be below 0; it gives the weighted sum of the cuts' totals.
-pub(crate) fn write_gains_by(
-    totals: &[i128],
-    loads: &[Vec<i128>],
-    fixed: &[i128],
-    weights: &[i128],
-    denom: u128,
-    gains: &mut [i128],
-) -> u128
-    requires numbers { AreGainNumbers totals.now (map (λ v. v.items) loads.now) fixed.now weights.now denom }
-    requires room { length gains.old ≡ length fixed.now }
-    ensures total { result ≡ weighted_by (naturals weights.now) (naturals totals.now) }
-    ensures total_limit { result ≤ most_gain }
-    ensures value { (k : ℕ) → k < length gains.new → slice_index_or gains.new k (pos 0)
-        ≡ gain_by (map (λ v. v.items) loads.now) fixed.now weights.now denom k }
+/// The same, by the same pass; it gives the weighted sum of the cuts' totals, on which every bound stands.
+pub fn write_gains_and_base(weighting: &Weighting, gains: &mut [i128]) -> u128
+    requires numbers { AreWeightingNumbers weighting.now }
+    requires room { length gains.old ≡ length weighting.now.fixed.now }
+    ensures base { result ≡ weighted_total (weighting_of weighting.now) }
+    ensures base_limit { result ≤ most_gain }
+    ensures value { (k : ℕ) → k < length gains.new → slice_index_or gains.new k (pos 0) ≡ gain_of (weighting_of weighting.now) k }
     ensures limit { (k : ℕ) → k < length gains.new → IsWithin most_gain (slice_index_or gains.new k (pos 0)) }
 {
     let mut room = [0; ROOM];
-    let sums = &mut room[..fixed.len()];
-    let total = weigh(totals, loads, weights, sums);
-    write_differences(fixed, denom, sums, gains);
-    total
+    let sums = &mut room[..weighting.fixed.len()];
+    let base = weigh(weighting, sums);
+    write_differences(weighting.fixed, unsigned(weighting.denom), sums, gains);
+    base
 }
 
 // Writes for each node its fixed cost times the denominator, less its sum.

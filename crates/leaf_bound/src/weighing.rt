@@ -1,35 +1,30 @@
 //! Weighted sums over the cuts. Most weights of a large pool are 0: a cut that has none is not looked at.
 
-ghost use Rattle.std.specs.Prelude.{◌≡◌, ℕ, ◌+◌, ◌*◌, ◌<◌, ◌≤◌, ◌^◌, length, map, slice_index_or, pos, All};
+ghost use Rattle.std.specs.Prelude.{◌≡◌, ℕ, ◌+◌, ◌*◌, ◌/◌, ◌<◌, ◌≤◌, ◌^◌, length, slice_index_or, pos};
 ghost use Rattle.hub_model.specs.Amounts.{natural, IsNatural};
-ghost use Rattle.leaf_bound.specs.Bounds.{weighted_by, loads_of};
-ghost use Rattle.leaf_bound.specs.Numbers.{naturals};
-ghost use Rattle.leaf_bound.specs.Weighing.{most_gain, AreWeighed, AreWeighedLoads, AreLoadsTo};
+ghost use Rattle.leaf_bound.specs.Bounds.{weighted_total, weighted_load};
+ghost use Rattle.leaf_bound.specs.Numbers.{AreWeightingNumbers, rows_of, weighting_of};
+ghost use Rattle.leaf_bound.specs.Weighing.{most_gain, share_at, AreLoadsTo};
 
+use crate::Weighting;
 use hub_model::unsigned;
 
 /// Writes for each node the weighted sum of the cuts' loads of it, and gives that of their totals, all by one pass over
 /// the weights.
-pub(crate) fn weigh(
-    totals: &[i128],
-    loads: &[Vec<i128>],
-    weights: &[i128],
-    sums: &mut [u128],
-) -> u128
-    requires totals { AreWeighed weights.now totals.now }
-    requires loads { AreWeighedLoads weights.now (map (λ v. v.items) loads.now) (length sums.old) }
-    ensures total { result ≡ weighted_by (naturals weights.now) (naturals totals.now) }
-    ensures total_limit { result ≤ most_gain }
-    ensures value { (k : ℕ) → k < length sums.new → slice_index_or sums.new k 0
-        ≡ weighted_by (naturals weights.now) (loads_of (map naturals (map (λ v. v.items) loads.now)) k) }
+pub(crate) fn weigh(weighting: &Weighting, sums: &mut [u128]) -> u128
+    requires numbers { AreWeightingNumbers weighting.now }
+    requires room { length sums.old ≡ length weighting.now.fixed.now }
+    ensures base { result ≡ weighted_total (weighting_of weighting.now) }
+    ensures base_limit { result ≤ most_gain }
+    ensures value { (k : ℕ) → k < length sums.new → slice_index_or sums.new k 0 ≡ weighted_load (weighting_of weighting.now) k }
     ensures limit { (k : ℕ) → k < length sums.new → slice_index_or sums.new k 0 ≤ most_gain }
 {
     clear(sums);
-    let mut total = 0;
-    for c in 0..weights.len() {
-        total += add_cut(totals, loads, weights, c, sums);
+    let mut base = 0;
+    for c in 0..weighting.weights.len() {
+        base += add_cut(weighting, c, sums);
     }
-    total
+    base
 }
 
 fn clear(sums: &mut [u128])
@@ -40,40 +35,47 @@ fn clear(sums: &mut [u128])
     }
 }
 
-// Adds the loads of the cut, times its weight, and gives its total, times its weight.
-fn add_cut(
-    totals: &[i128],
-    loads: &[Vec<i128>],
-    weights: &[i128],
-    c: usize,
-    sums: &mut [u128],
-) -> u128
-    requires totals { AreWeighed weights.now totals.now }
-    requires loads { AreWeighedLoads weights.now (map (λ v. v.items) loads.now) (length sums.old) }
-    requires within { c < length weights.now }
-    requires before { AreLoadsTo weights.now (map (λ v. v.items) loads.now) c sums.old }
-    ensures total { result
-        ≡ natural (slice_index_or weights.now c (pos 0)) * natural (slice_index_or totals.now c (pos 0)) }
-    ensures loads { AreLoadsTo weights.now (map (λ v. v.items) loads.now) (c + 1) sums.new }
+// Adds the loads of the cut, as often as its weight has its part, and gives its total as often.
+fn add_cut(weighting: &Weighting, c: usize, sums: &mut [u128]) -> u128
+    requires numbers { AreWeightingNumbers weighting.now }
+    requires room { length sums.old ≡ length weighting.now.fixed.now }
+    requires within { c < length weighting.now.weights.now }
+    requires before { AreLoadsTo weighting.now.weights.now weighting.now.parts.now (rows_of weighting.now) c sums.old }
+    ensures total { result ≡ share_at weighting.now.weights.now weighting.now.parts.now c
+        * natural (slice_index_or weighting.now.totals.now c (pos 0)) }
+    ensures loads { AreLoadsTo weighting.now.weights.now weighting.now.parts.now (rows_of weighting.now) (c + 1) sums.new }
 {
-    if weights[c] == 0 {
+    if weighting.weights[c] == 0 {
         return 0;
     }
-    let weight = unsigned(weights[c]);
-    add_products(sums, weight, &loads[c]);
-    weight * unsigned(totals[c])
+    let share = share_of(weighting.weights[c], weighting.parts[c]);
+    add_products(sums, share, &weighting.loads[c]);
+    share * unsigned(weighting.totals[c])
 }
 
-// Adds the products of the weight and the row's numbers.
-fn add_products(sums: &mut [u128], weight: u128, row: &[i128])
+// How often the weight has the part, with no division where that is 1.
+fn share_of(weight: i128, part: u32) -> u128
+    requires weight { IsNatural weight }
+    requires part { 1 ≤ part }
+    ensures { result ≡ natural weight / part }
+{
+    let weight = unsigned(weight);
+    if part == 1 {
+        return weight;
+    }
+    weight / u128::from(part)
+}
+
+// Adds the products of the share and the row's numbers.
+fn add_products(sums: &mut [u128], share: u128, row: &[i128])
     requires long { length sums.old ≤ length row.now }
     requires numbers { (k : ℕ) → k < length sums.old → IsNatural (slice_index_or row.now k (pos 0)) }
     requires fit { (k : ℕ) → k < length sums.old
-        → slice_index_or sums.old k 0 + weight * natural (slice_index_or row.now k (pos 0)) < 2 ^ 128 }
+        → slice_index_or sums.old k 0 + share * natural (slice_index_or row.now k (pos 0)) < 2 ^ 128 }
     ensures { (k : ℕ) → k < length sums.old → slice_index_or sums.new k 0
-        ≡ slice_index_or sums.old k 0 + weight * natural (slice_index_or row.now k (pos 0)) }
+        ≡ slice_index_or sums.old k 0 + share * natural (slice_index_or row.now k (pos 0)) }
 {
     for k in 0..sums.len() {
-        sums[k] += weight * unsigned(row[k]);
+        sums[k] += share * unsigned(row[k]);
     }
 }

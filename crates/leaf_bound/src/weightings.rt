@@ -1,0 +1,18 @@
+//! What a bound is made of.
+
+/// What a bound is made of: weights on cuts, as a pool lends their numbers.
+#[derive(Clone, Copy)]
+pub struct Weighting<'a> {
+    /// The total of each cut, in 10^-12.
+    pub totals: &'a [i128],
+    /// The loads of each cut, one for each node, in 10^-12.
+    pub loads: &'a [Vec<i128>],
+    /// The part of each cut, from 1 to 1000.
+    pub parts: &'a [u32],
+    /// The fixed cost of each node, in 10^-12.
+    pub fixed: &'a [i128],
+    /// The weight of each of the first cuts, a multiple of its part.
+    pub weights: &'a [i128],
+    /// The denominator, of which the weights are shares.
+    pub denom: i128,
+}
