@@ -1,5 +1,6 @@
 -- The plans of a branch: the branch's bound, and those of its children, are within what they cost.
-use Rattle.std.proofs.Common.{◌≡◌, ℕ, ℤ, pos, ◌+ℤ◌, ◌<◌, ◌≤◌, cond, List, [], ◌∷◌, filter, All, Contains, ⊎_elim, refl, sym, ap₂, subst, arith}
+use Rattle.std.proofs.Common.{◌≡◌, ℕ, ℤ, pos, ◌+ℤ◌, ◌<◌, ◌≤◌, cond, List, [], ◌∷◌, filter, length, All, Contains, ⊎_elim, refl, sym, ap₂, subst, arith, Option}
+use Rattle.std.specs.Prelude.{IfSome}
 use Rattle.std.proofs.lemmas.Int.{ints}
 use Rattle.std.proofs.lemmas.List.Elements.{All-contains, All-weaker}
 use Rattle.hub_spec.specs.Sums.{sum_ints}
@@ -11,7 +12,7 @@ use Rattle.hub_spec.proofs.SumLemmas.{sum_ints-filter}
 use Rattle.hub_spec.proofs.Sets.{Contains-head, Contains-later, is_in, is_in-yes, is_in-no, part_is_filter}
 use Rattle.hub_spec.proofs.ChildLists.{open_branch, closed_branch}
 use Rattle.hub_spec.proofs.WeakDuality.{Agrees, Agrees-open, Agrees-closed, leaf_weak}
-use Rattle.leaf_bound.specs.Bounds.{Weighting, bound_of}
+use Rattle.leaf_bound.specs.Bounds.{Weighting, AreMultiples, bound_of}
 use Rattle.leaf_bound.specs.Numbers.{IsBranchBelow}
 use Rattle.leaf_bound.specs.Theorems.{weight_pairs, IsWeightingOf}
 use Rattle.leaf_bound.proofs.LeafWeights.{leaf_has_bound, pairs_mix}
@@ -36,7 +37,10 @@ part_sum f p part is = subst (λ (ks : List ℕ). sum_ints (λ k. cond (is_in pa
 
 -- the plan's hubs are the branch's nodes inside and those of its free ones that the plan has
 hubs_agree : (p : Problem) (b : Branching) (plan : Plan) → IsProblem p → IsBranch p b → KeepsTo plan b → Agrees p.candidates (is_in plan.hubs) b
-hubs_agree p b plan ok branch keeps = record { same_sum = λ g. same g }
+hubs_agree p b plan ok branch keeps = record {
+  same_sum = λ g. same g;
+  none_outside = λ k out. is_in-no plan.hubs k (All-contains (λ (m : ℕ). Contains plan.hubs m → ⊥) b.outside k keeps.outside out);
+}
   where
     at : (g : ℕ → ℤ) (k : ℕ) → Contains p.candidates k → cond (is_in plan.hubs k) (g k) (pos 0)
         ≡ cond (is_in b.inside k) (g k) (pos 0) +ℤ cond (is_in b.free k) (cond (is_in plan.hubs k) (g k) (pos 0)) (pos 0)
@@ -81,10 +85,11 @@ plan_reaches : (p : Problem) (cuts : List Cut) (m : Weighting) (target : ℕ) (b
     → Agrees p.candidates (is_in plan.hubs) b → Closes m.denom target (bound_of m b) → target ≤ plan_cost p plan
 plan_reaches p cuts m target b plan ok each made shares branch is_plan agrees closes =
     let weights = weight_pairs m.weights in
-    let leaf = pairs_mix cuts m.denom m.weights made.few_weights shares.denom_least shares.denom_most shares.weights_limit in
+    let leaf = pairs_mix cuts m.denom m.weights (subst (AreMultiples m.weights) made.parts shares.multiples) made.few_weights shares.denom_least shares.denom_most shares.weights_limit in
     let hubs = part_is_filter p.candidates plan.hubs ok.candidates_ascend is_plan.hubs.ascend is_plan.hubs.are_candidates in
-    leaf_weak p cuts target m.denom weights b plan (is_in plan.hubs) is_plan each hubs agrees leaf.mix
-    (subst (λ (z : ℤ). Closes m.denom target z) (sym (leaf_has_bound p cuts m b made (branch_below p b ok branch))) closes)
+    let wanted = subst (λ (o : Option ℕ). IfSome o (λ n. length plan.hubs ≡ n)) (sym ok.any_number) tt in
+    leaf_weak p ok.any_length cuts target m.denom weights b plan (is_in plan.hubs) is_plan wanted each hubs agrees leaf.mix
+    (subst (λ (z : ℤ). Closes m.denom target z) (sym (leaf_has_bound p cuts m b ok.any_number made (branch_below p b ok branch))) closes)
 
 pub sound_at : (p : Problem) (cuts : List Cut) (m : Weighting) (target : ℕ) (b : Branching) (k : ℕ) → IsProblem p → All (IsCut p) cuts
     → IsWeightingOf p cuts m → AreShares m → IsBranch p b → Contains b.free k → IsSoundAt p m target b k

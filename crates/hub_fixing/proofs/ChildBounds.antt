@@ -8,7 +8,7 @@ use Rattle.std.proofs.lemmas.List.{take_more}
 use Rattle.std.proofs.lemmas.List.Elements.{filter_map-append}
 use Rattle.hub_spec.specs.Trees.{Branching, open_child, closed_child}
 use Rattle.hub_spec.proofs.Children.{bound_of_open, bound_of_closed, bound_of_two}
-use Rattle.leaf_bound.specs.Bounds.{Weighting, weighted_by, gain_of, bound_of}
+use Rattle.leaf_bound.specs.Bounds.{Weighting, weighted_total, gain_of, bound_of}
 use Rattle.leaf_bound.specs.Weighing.{most_gain, most_bound, IsWithin}
 use Rattle.leaf_bound.proofs.LentNumbers.{within_fits}
 use Rattle.hub_fixing.specs.declared.sides.Side.{Side}
@@ -16,10 +16,10 @@ use Rattle.hub_fixing.specs.declared.sides.Side.TheVariants.{In, Out}
 use Rattle.hub_fixing.specs.Fixing.{closes_by, side_of, side_by}
 
 closed_is : (m : Weighting) (b : Branching) (k : ℕ) → Contains b.free k → bound_of m b -ℤ int_min (gain_of m k) (pos 0) ≡ bound_of m (closed_child b k)
-closed_is m b k free = omega (arith, ints, clamps, bound_of_closed (weighted_by m.weights m.totals) (gain_of m) b k free)
+closed_is m b k free = omega (arith, ints, clamps, bound_of_closed (weighted_total m) (gain_of m) b k free)
 
 open_is : (m : Weighting) (b : Branching) (k : ℕ) → Contains b.free k → bound_of m b +ℤ int_max (gain_of m k) (pos 0) ≡ bound_of m (open_child b k)
-open_is m b k free = omega (arith, ints, clamps, bound_of_open (weighted_by m.weights m.totals) (gain_of m) b k free)
+open_is m b k free = omega (arith, ints, clamps, bound_of_open (weighted_total m) (gain_of m) b k free)
 
 pub side_is : (m : Weighting) (target : ℕ) (b : Branching) (k : ℕ) → Contains b.free k
     → side_by (bound_of m b) (gain_of m k) (pos (m.denom * target) -ℤ pos m.denom) ≡ side_of m target b k
@@ -34,7 +34,7 @@ pub not_both : (m : Weighting) (target : ℕ) (b : Branching) (k : ℕ) → Cont
     → closes_by m target (open_child b k) ≡ true → closes_by m target (closed_child b k) ≡ true → ⊥
 not_both m target b k free none opened closed =
     both (pos (m.denom * target) -ℤ pos m.denom) (bound_of m (open_child b k)) (bound_of m (closed_child b k)) (bound_of m b)
-    (bound_of_two (weighted_by m.weights m.totals) (gain_of m) b k free) none opened closed
+    (bound_of_two (weighted_total m) (gain_of m) b k free) none opened closed
 
 -- ---- numbers that are passed by value
 

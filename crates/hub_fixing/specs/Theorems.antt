@@ -5,7 +5,7 @@ use Rattle.hub_spec.specs.Problem.{Problem, IsProblem}
 use Rattle.hub_spec.specs.Plans.{Plan, IsPlan, plan_cost}
 use Rattle.hub_spec.specs.Cuts.{Cut, IsCut}
 use Rattle.hub_spec.specs.Trees.{Branching, IsBranch, open_child, closed_child, Closes}
-use Rattle.leaf_bound.specs.Bounds.{Weighting, bound_of}
+use Rattle.leaf_bound.specs.Bounds.{Weighting, AreMultiples, bound_of}
 use Rattle.leaf_bound.specs.Theorems.{IsWeightingOf}
 use Rattle.hub_fixing.specs.declared.sides.Side.{Side}
 use Rattle.hub_fixing.specs.declared.sides.Side.TheVariants.{In, Out}
@@ -26,11 +26,12 @@ abbrev pub NeverBoth : Type 0
 NeverBoth = (m : Weighting) (target : ℕ) (b : Branching) (k : ℕ) → Contains b.free k → closes_by m target b ≡ false
     → closes_by m target (open_child b k) ≡ true → closes_by m target (closed_child b k) ≡ true → ⊥
 
--- the weights are shares of the denominator, which is within its limits
+-- the weights are shares of the denominator, which is within its limits, each a multiple of its cut's part
 pub record AreShares (m : Weighting) : Type 0 where
   pub denom_least : 1 ≤ m.denom
   pub denom_most : m.denom ≤ most_denominator
   pub weights_limit : sum m.weights ≤ m.denom
+  pub multiples : AreMultiples m.weights m.parts
 
 -- the plan keeps to the branch: each node inside is one of its hubs, and no node outside is
 pub record KeepsTo (plan : Plan) (b : Branching) : Type 0 where

@@ -1,13 +1,13 @@
 //! The free candidates of which a side stays.
 
-ghost use Rattle.std.specs.Prelude.{◌≡◌, ◌^◌, false, pos, ◌≤ℤ◌, length, map, IfOk};
+ghost use Rattle.std.specs.Prelude.{◌≡◌, ◌^◌, false, pos, ◌≤ℤ◌, length, IfOk};
 ghost use Rattle.hub_model.specs.Amounts.{natural};
 ghost use Rattle.leaf_bound.specs.Numbers.{AreWeightingNumbers, IsBranchBelow, weighting_of};
 ghost use Rattle.hub_fixing.specs.Fixing.{closes_by, fixings};
 
 use crate::sides::{Side, side_by};
 use hub_model::MOST_NODES;
-use leaf_bound::{bound, threshold, write_gains};
+use leaf_bound::{Weighting, bound_by, threshold, write_gains_and_base};
 use plan_model::Branch;
 use std::alloc::{AllocError, Global};
 
@@ -19,25 +19,21 @@ const ROOM: usize = MOST_NODES as usize;
 /// The target is in 10^-12. The branch itself does not close it; where it does, both children of each free candidate do.
 pub fn fix(
     alloc: Global,
-    totals: &[i128],
-    loads: &[Vec<i128>],
-    fixed: &[i128],
-    weights: &[i128],
-    denom: i128,
+    weighting: &Weighting,
     branch: &Branch,
     target: i128,
 ) -> Result<Vec<(u32, Side)>, AllocError>
-    requires numbers { AreWeightingNumbers totals.now (map (λ v. v.items) loads.now) fixed.now weights.now denom }
-    requires nodes { IsBranchBelow (length fixed.now) branch.now }
+    requires numbers { AreWeightingNumbers weighting.now }
+    requires nodes { IsBranchBelow (length weighting.now.fixed.now) branch.now }
     requires target { (pos 0 ≤ℤ target) × (target ≤ℤ pos (10 ^ 30)) }
-    requires not_closed { closes_by (weighting_of totals.now (map (λ v. v.items) loads.now) fixed.now weights.now denom) (natural target) branch.now ≡ false }
-    ensures { IfOk result (λ sides. sides.items ≡ fixings (weighting_of totals.now (map (λ v. v.items) loads.now) fixed.now weights.now denom) (natural target) branch.now) }
+    requires not_closed { closes_by (weighting_of weighting.now) (natural target) branch.now ≡ false }
+    ensures { IfOk result (λ sides. sides.items ≡ fixings (weighting_of weighting.now) (natural target) branch.now) }
 {
-    let whole = bound(totals, loads, fixed, weights, denom, branch);
-    let threshold = threshold(denom, target);
+    let threshold = threshold(weighting.denom, target);
     let mut room = [0; ROOM];
-    let gains = &mut room[..fixed.len()];
-    write_gains(totals, loads, fixed, weights, denom, gains);
+    let gains = &mut room[..weighting.fixed.len()];
+    let base = write_gains_and_base(weighting, gains);
+    let whole = bound_by(base, gains, branch);
     let mut sides = Vec::new(alloc);
     for k in branch.free() {
         if let Some(side) = side_by(whole, gains[*k as usize], threshold) {

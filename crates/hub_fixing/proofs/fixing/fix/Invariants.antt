@@ -1,4 +1,4 @@
-use Rattle.std.proofs.Common.{◌≡◌, ℕ, take, map}
+use Rattle.std.proofs.Common.{◌≡◌, ℕ, take}
 use Rattle.std.specs.Prelude.{filter_map}
 use Rattle.std.specs.Option.{option_map}
 use Rattle.hub_model.specs.Amounts.{natural}
@@ -9,5 +9,5 @@ use Rattle.hub_fixing.proofs.fixing.fix.Given as goal
 
 abbrev pub invariant-loop-k : goal.invariant-loop-k
 invariant-loop-k l =
-    l.sides.items ≡ filter_map (λ (k : ℕ). option_map (λ (side : Side). (k, side))
-    (side_of (weighting_of l.totals (map (λ v. v.items) l.loads) l.fixed l.weights l.denom) (natural l.target) l.branch k)) (take l.k-index l.k-items)
+    l.sides.items ≡ filter_map (λ (k : ℕ). option_map (λ (side : Side). (k, side)) (side_of (weighting_of l.weighting) (natural l.target) l.branch k))
+    (take l.k-index l.k-items)
