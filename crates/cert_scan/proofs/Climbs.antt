@@ -45,3 +45,21 @@ climbs_from test number low (x ∷ xs) s a t =
     let next = next_starts number x xs a in
     let rest = climbs_from test number (number x + 1) xs next.0 next.1 k.1 in
     (rest.0, (s, k.0, rest.1))
+
+-- ---- tests of each element
+
+-- a test that another one implies
+pub all_pass : {X : Type 0} (test other : X → Bool) (xs : List X) → ((x : X) → test x ≡ true → other x ≡ true) → list_all test xs ≡ true
+    → list_all other xs ≡ true
+all_pass test other [] h e = refl
+all_pass test other (x ∷ xs) h e =
+    let k = and_parts (test x) (list_all test xs) e in and_from (other x) (list_all other xs) (h x k.0) (all_pass test other xs h k.1)
+
+-- and one that two imply together
+pub both_pass : {X : Type 0} (test other last : X → Bool) (xs : List X) → ((x : X) → test x ≡ true → other x ≡ true → last x ≡ true)
+    → list_all test xs ≡ true → list_all other xs ≡ true → list_all last xs ≡ true
+both_pass test other last [] h e f = refl
+both_pass test other last (x ∷ xs) h e f =
+    let k = and_parts (test x) (list_all test xs) e in
+    let m = and_parts (other x) (list_all other xs) f in
+    and_from (last x) (list_all last xs) (h x k.0 m.0) (both_pass test other last xs h k.1 m.1)

@@ -91,7 +91,7 @@ pub record ValuesAre (n : ℕ) (d : DualAt) (before : ℕ) (ns : List ℕ) (give
   pub a : ℕ
   pub u : List (ℕ × ℕ)
   pub numbers : ns ≡ (d.commodity.from + 1) ∷ (d.commodity.to + 1) ∷ a ∷ value_numbers u
-  pub given_values : given ≡ dual_item d.commodity.from d.commodity.to a false ∷ open_values u
+  pub given_values : given ≡ dual_item d.commodity.from d.commodity.to 1 a false ∷ open_values u
   pub short : a < 10 ^ 30
   pub climbs : Climbs (is_value n) node_of 0 u before
 

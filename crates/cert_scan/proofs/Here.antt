@@ -11,9 +11,9 @@ use Rattle.cert_scan.specs.Moves.{keyword_of}
 use Rattle.cert_scan.specs.Scans.{nodes_by}
 use Rattle.cert_scan.specs.Parts.{parts_of, open_values}
 use Rattle.cert_scan.specs.Given.{IsBegun}
-use Rattle.cert_scan.proofs.StagesAt.{stage_at, IsCommodity, NamesNodes, commodity_named, IsAt}
+use Rattle.cert_scan.proofs.StagesAt.{stage_at, number_of, IsCommodity, NamesNodes, commodity_named, IsAt}
 use Rattle.cert_scan.proofs.Described.{stage_of, word_of, ValuesAre, WeightsAre, Described}
-use Rattle.cert_scan.proofs.Outcomes.{dual_range, climbs_dual, hubs_range, leaf_wanted}
+use Rattle.cert_scan.proofs.Outcomes.{climbs_dual, one_run, hubs_range, leaf_wanted}
 use Rattle.cert_scan.specs.declared.items.Item.{Item}
 use Rattle.cert_scan.specs.declared.items.Item.TheVariants.{Dual as dual_item}
 use Rattle.cert_scan.specs.declared.bytes.Move.{Move}
@@ -66,14 +66,20 @@ pub begun_nothing : (n : ℕ) (stage : Stage) (given : List Item) → given ≡ 
 begun_nothing n stage given e = subst (IsBegun (stage_at n stage)) (sym e) (begun_none n stage)
 
 abbrev dual_begun : ℕ × ℕ → ℕ → List (ℕ × ℕ) → List Item
-dual_begun c a u = dual_item c.0 c.1 a false ∷ open_values u
+dual_begun c a u = dual_item c.0 c.1 1 a false ∷ open_values u
 
 begun_values : (n : ℕ) (d : DualAt) (before : ℕ) (ns : List ℕ) (given : List Item) → IsCommodity n d.commodity → ValuesAre n d before ns given → IsBegun (stage_at n (Dual d)) given
-begun_values n d before ns given c h = inr (record {
-  dual = record { a = h.a; u = h.u };
-  are = h.given_values ∙ ap (λ (p : ℕ × ℕ). dual_begun p h.a h.u) (sym (commodity_named n d.commodity c));
-  in_range = dual_range n (record { a = h.a; u = h.u }) (climbs_dual n h.a h.u before h.short h.climbs);
-})
+begun_values n d before ns given c h =
+    let listed = climbs_dual n h.a h.u before h.short h.climbs in
+    let some = c.from in
+    inr (record {
+      dual = record { a = h.a; u = h.u };
+      run = 1;
+      are = h.given_values ∙ ap (λ (p : ℕ × ℕ). dual_begun p h.a h.u) (sym (commodity_named n d.commodity c));
+      is_run = one_run n (number_of n d.commodity) (omega arith);
+      in_range = listed.in_range;
+      first = λ e. listed.first;
+    })
 
 begun_weights : (n : ℕ) (t : TreeAt) (before : ℕ) (ns : List ℕ) (given : List Item) → WeightsAre t before ns given → IsBegun (stage_at n (Tree t)) given
 begun_weights n t before ns given h = inr (record {

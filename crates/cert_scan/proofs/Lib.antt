@@ -1,4 +1,5 @@
 pub mod Goes
+pub mod Versions
 pub mod Climbs
 pub mod StagesAt
 pub mod Passing

@@ -1,28 +1,30 @@
 -- What each number makes of the line so far.
-use Rattle.std.proofs.Common.{◌≡◌, ℕ, ◌+◌, ◌-◌, ◌^◌, ◌<◌, ◌≤◌, Bool, true, false, ◌&&◌, List, [], ◌∷◌, ◌++◌, length, map, All, Some, None, nat_lt, nat_le, nat_eq, refl, sym, ap, ◌∙◌, subst, append_assoc, append-nil, arith, map-id}
+use Rattle.std.proofs.Common.{◌≡◌, ℕ, ◌+◌, ◌-◌, ◌^◌, ◌<◌, ◌≤◌, Bool, true, false, ◌&&◌, List, [], ◌∷◌, ◌++◌, length, map, All, Some, None, nat_lt, nat_le, nat_eq, inl, refl, sym, ap, ◌∙◌, subst, append_assoc, append-nil, arith, map-id}
 use Rattle.std.specs.List.{list_all}
 use Rattle.std.specs.List.Sorted.{IsStrictlyIncreasing}
 use Rattle.std.proofs.lemmas.List.Elements.{All-nil}
 use Rattle.std.proofs.lemmas.Bool.{and_from, and_parts, eqb-true, eq-eqb, leb-true, ltb-true, le-leb, lt-ltb}
 use Rattle.std.proofs.lemmas.List.{map-append, length-append}
 use Rattle.hub_spec.specs.Limits.{most_nodes, most_denominator, most_cuts, most_tree_lines}
-use Rattle.hub_spec.specs.Problem.{commodity_at}
+use Rattle.std.proofs.lemmas.Option.{none-some}
 use Rattle.hub_spec.specs.Cuts.{Prices}
 use Rattle.hub_spec.specs.Trees.{branch_on, leaf_of}
-use Rattle.hub_spec.specs.Ranges.{IsDualInRange}
+use Rattle.hub_spec.specs.Ranges.{IsDualInRange, IsFirstDual}
 use Rattle.cert_spec.specs.Lines.{says_version, says_size, says_cost, says_bound, says_hubs, says_route, says_cuts, says_cut, says_dual, says_nodes, says_tree, value_numbers, weight_numbers}
-use Rattle.cert_spec.specs.Grammar.{Wants, want_hubs, want_dual, shape}
+use Rattle.cert_spec.specs.Grammar.{Wants, want_hubs, IsRun, shape}
 use Rattle.cert_spec.specs.Grammar as grammar
-use Rattle.cert_spec.specs.Reading.{IsStage, IsSize, ascends, is_amount, is_short, is_dual_text, is_weights_text, is_tree_line_text, same_pair}
-use Rattle.cert_spec.proofs.Wanted.{wants_decides}
+use Rattle.cert_spec.specs.Reading.{IsStage, IsSize, ascends, is_amount, is_short, is_dual_text, is_first_dual, is_weights_text, is_tree_line_text, is_first_line}
+use Rattle.cert_spec.proofs.Wanted.{wants_decides, dual_decides, first_dual_decides}
+use Rattle.cert_scan.specs.Versions.{version_of}
 use Rattle.cert_scan.specs.Moves.{taken_by, more_by, whole_by, open_by, within, follows, may_fill, commodity_by, stage_after_route, stage_after_cuts, stage_after_dual, stage_after_tree, stage_after_filled}
 use Rattle.cert_scan.specs.Parts.{none_left, hub_parts, value_parts, weight_parts, open_hubs, open_values, open_weights}
-use Rattle.cert_scan.proofs.Climbs.{Climbs, climbs_more, climbs_ascend, climbs_pass}
-use Rattle.cert_scan.proofs.StagesAt.{stage_at, IsCommodity, NamesNodes, commodity_named, first_commodity, route_at, cuts_at, dual_at, tree_at}
-use Rattle.cert_scan.proofs.Accepts.{is_hub, is_value, is_weight, node_of}
+use Rattle.cert_scan.proofs.Climbs.{Climbs, climbs_more, climbs_ascend, climbs_pass, all_pass}
+use Rattle.cert_scan.proofs.StagesAt.{stage_at, number_of, IsCommodity, NamesNodes, commodity_named, first_commodity, route_at, cuts_at, dual_at, tree_at}
+use Rattle.cert_scan.proofs.Accepts.{is_hub, is_value, is_listed, is_short_value, is_weight, node_of}
 use Rattle.cert_scan.proofs.Described.{stage_of, Are, HubsAre, ValuesAre, ValueAre, WeightsAre, WeightAre, NodesAre, FirstIs, Described, EndIs, Outcome, allowed_is, more_is, whole_is, open_is, more_numbers, with_numbers, end_is, is_in, is_next}
+use Rattle.cert_scan.specs.declared.items.Version.TheVariants.{First}
 use Rattle.cert_scan.specs.declared.items.Item.{Item}
-use Rattle.cert_scan.specs.declared.items.Item.TheVariants.{Size as size_item, Cost as cost_item, Bound as bound_item, Hub as hub_item, Route as route_item, Cuts as cuts_item, Cut as cut_item, Dual as dual_item, DualPair as pair_item, Nodes as nodes_item, Branch as branch_item, Leaf as leaf_item, LeafPair as weight_item}
+use Rattle.cert_scan.specs.declared.items.Item.TheVariants.{Version as version_item, Size as size_item, Cost as cost_item, Bound as bound_item, Hub as hub_item, Route as route_item, Cuts as cuts_item, Cut as cut_item, Dual as dual_item, DualPair as pair_item, Nodes as nodes_item, Branch as branch_item, Leaf as leaf_item, LeafPair as weight_item}
 use Rattle.cert_scan.specs.declared.places.Place.{Place}
 use Rattle.cert_scan.specs.declared.places.Place.TheVariants.{VersionNumber, NodeCount, CandidateCount, CostAmount, BoundAmount, HubNode, RouteFrom, RouteTo, RouteFirst, RouteLast, CutCount, CutNumber, DualFrom, DualTo, DualPrice, ValueNode, ValueAmount, LineCount, BranchNode, Denominator, WeightCut, WeightAmount}
 use Rattle.cert_scan.specs.declared.stages.Commodity.{Commodity}
@@ -46,12 +48,12 @@ hubs_more n before ns given k h low high = record {
   climbs = climbs_more (is_hub n) (λ x. x) 0 h.hubs before k h.climbs low (lt-ltb k n high);
 }
 
-hubs_wanted : (n : ℕ) (hubs : List ℕ) (k high : ℕ) → Climbs (is_hub n) (λ x. x) 0 (hubs ++ k ∷ []) high → Wants (want_hubs (shape n)) (says_hubs (hubs ++ k ∷ []))
+hubs_wanted : (n : ℕ) (hubs : List ℕ) (k high : ℕ) → Climbs (is_hub n) (λ x. x) 0 (hubs ++ k ∷ []) high → Wants (want_hubs (shape 1 n)) (says_hubs (hubs ++ k ∷ []))
 hubs_wanted n hubs k high h =
     let all = hubs ++ k ∷ [] in
     let up : ascends (hubs ++ k ∷ []) ≡ true = ap ascends (sym (map-id (hubs ++ k ∷ []))) ∙ climbs_ascend (is_hub n) (λ x. x) 0 (hubs ++ k ∷ []) high h in
     let pass = climbs_pass (is_hub n) (λ x. x) 0 (hubs ++ k ∷ []) high h in
-    (wants_decides (want_hubs (shape n)) (says_hubs (hubs ++ k ∷ []))).0
+    (wants_decides (want_hubs (shape 1 n)) (says_hubs (hubs ++ k ∷ []))).0
     (and_from (nat_le 1 (length (hubs ++ k ∷ []))) _ (le-leb 1 (length (hubs ++ k ∷ [])) (omega (arith, length-append hubs (k ∷ []))))
     (and_from (ascends (hubs ++ k ∷ [])) (list_all (is_hub n) (hubs ++ k ∷ [])) up pass))
 
@@ -61,7 +63,7 @@ hubs_range n [] high h = ((λ k l. absurd (omega (arith, l))), All-nil (λ k. k 
 hubs_range n (x ∷ rest) high h =
     let up : ascends (x ∷ rest) ≡ true = ap ascends (sym (map-id (x ∷ rest))) ∙ climbs_ascend (is_hub n) (λ x. x) 0 (x ∷ rest) high h in
     let pass = climbs_pass (is_hub n) (λ x. x) 0 (x ∷ rest) high h in
-    let w = (wants_decides (want_hubs (shape n)) (says_hubs (x ∷ rest))).0
+    let w = (wants_decides (want_hubs (shape 1 n)) (says_hubs (x ∷ rest))).0
     (and_from (nat_le 1 (length (x ∷ rest))) _ (le-leb 1 (length (x ∷ rest)) (omega arith)) (and_from (ascends (x ∷ rest)) (list_all (is_hub n) (x ∷ rest)) up pass)) in
     (w.1, w.2)
 
@@ -74,7 +76,7 @@ hubs_end n before ns given k h size low high = record {
   keyword_is = refl;
   numbers_are = sym (hubs_more n before ns given k h low high).numbers;
   parts = ap (λ g. g ++ hub_item k true ∷ []) h.given_hubs ∙ hub_parts-last h.hubs k;
-  behind = record { is = ap (grammar.want_route (shape n)) (omega arith); names = first_commodity n size.0 };
+  behind = record { is = ap (grammar.want_route (shape 1 n)) (omega arith); names = first_commodity n size.0 };
 }
 
 hub_outcome : (n before : ℕ) (ns : List ℕ) (given : List Item) (v : ℕ) (last : Bool) → IsSize n → HubsAre n before ns given
@@ -128,34 +130,63 @@ value_more n d number ns given v h some short =
     let below : number - 1 < n = omega arith in
     let least : h.before ≤ number - 1 = omega arith in
     let test : is_value n (number - 1, v) ≡ true = and_from (nat_lt (number - 1) n) _ (lt-ltb (number - 1) n below)
-    (and_from (nat_le 1 v) (is_amount v) (le-leb 1 v some) (lt-ltb v (10 ^ 30) short)) in
+    (and_from (nat_le 1 v) (is_short v) (le-leb 1 v some) (lt-ltb v (10 ^ 30) short)) in
     record {
       a = w.a;
       u = w.u ++ (number - 1, v) ∷ [];
       numbers = ap (λ l. l ++ v ∷ []) h.numbers ∙ append_assoc h.front (number ∷ []) (v ∷ []) ∙ ap (λ l. l ++ number ∷ v ∷ []) w.numbers ∙ text;
       given_values = ap (λ g. g ++ pair_item (number - 1) v false ∷ []) w.given_values
-          ∙ ap (λ l. dual_item d.commodity.from d.commodity.to w.a false ∷ l) (sym (map-append (λ (e : ℕ × ℕ). pair_item e.0 e.1 false) w.u ((number - 1, v) ∷ [])));
+          ∙ ap (λ l. dual_item d.commodity.from d.commodity.to 1 w.a false ∷ l) (sym (map-append (λ (e : ℕ × ℕ). pair_item e.0 e.1 false) w.u ((number - 1, v) ∷ [])));
       short = w.short;
       climbs = subst (λ x. Climbs (is_value n) node_of 0 (w.u ++ (number - 1, v) ∷ []) x) is
           (climbs_more (is_value n) node_of 0 w.u h.before (number - 1, v) w.climbs least test);
     }
 
-same_pair-same : (c : ℕ × ℕ) → same_pair c c ≡ true
-same_pair-same c = and_from (nat_eq c.0 c.0) (nat_eq c.1 c.1) (eq-eqb c.0 c.0 refl) (eq-eqb c.1 c.1 refl)
+-- a price and values that climb are a dual that a line can list
+pub record Listed (n : ℕ) (dual : Prices) : Type 0 where
+  pub in_range : IsDualInRange n dual
+  pub first : IsFirstDual dual
 
-pub dual_range : (n : ℕ) (dual : Prices) → is_dual_text n dual ≡ true → IsDualInRange n dual
-dual_range n dual h =
-    ((wants_decides (want_dual (shape n) 0 0 0) (says_dual (commodity_at n 0) dual)).0
-    (and_from (same_pair (commodity_at n 0) (commodity_at n 0)) (is_dual_text n dual) (same_pair-same (commodity_at n 0)) h)).1
+value_listed : (n : ℕ) (e : ℕ × ℕ) → is_value n e ≡ true → is_listed n e ≡ true
+value_listed n e h =
+    let k = and_parts (nat_lt e.0 n) (nat_le 1 e.1 && is_short e.1) h in
+    let m = and_parts (nat_le 1 e.1) (is_short e.1) k.1 in
+    let short = ltb-true e.1 (10 ^ 30) m.1 in
+    and_from (nat_lt e.0 n) (nat_le 1 e.1 && is_amount e.1) k.0
+    (and_from (nat_le 1 e.1) (is_amount e.1) m.0 (lt-ltb e.1 (10 ^ 33) (omega arith)))
 
-pub climbs_dual : (n a : ℕ) (u : List (ℕ × ℕ)) (high : ℕ) → a < 10 ^ 30 → Climbs (is_value n) node_of 0 u high → is_dual_text n (record { a = a; u = u }) ≡ true
+value_short : (n : ℕ) (e : ℕ × ℕ) → is_value n e ≡ true → is_short_value e ≡ true
+value_short n e h =
+    let k = and_parts (nat_lt e.0 n) (nat_le 1 e.1 && is_short e.1) h in (and_parts (nat_le 1 e.1) (is_short e.1) k.1).1
+
+pub climbs_dual : (n a : ℕ) (u : List (ℕ × ℕ)) (high : ℕ) → a < 10 ^ 30 → Climbs (is_value n) node_of 0 u high → Listed n (record { a = a; u = u })
 climbs_dual n a u high short h =
-    and_from (is_amount a) (ascends (map node_of u) && list_all (is_value n) u) (lt-ltb a (10 ^ 30) short)
-    (and_from (ascends (map node_of u)) (list_all (is_value n) u) (climbs_ascend (is_value n) node_of 0 u high h) (climbs_pass (is_value n) node_of 0 u high h))
+    let dual : Prices = record { a = a; u = u } in
+    let pass = climbs_pass (is_value n) node_of 0 u high h in
+    let up = climbs_ascend (is_value n) node_of 0 u high h in
+    let amounts : is_dual_text n (record { a = a; u = u }) ≡ true =
+    and_from (is_amount a) (ascends (map node_of u) && list_all (is_listed n) u) (lt-ltb a (10 ^ 33) (omega arith))
+    (and_from (ascends (map node_of u)) (list_all (is_listed n) u) up (all_pass (is_value n) (is_listed n) u (value_listed n) pass)) in
+    let few : is_first_dual (record { a = a; u = u }) ≡ true =
+    and_from (is_short a) (list_all is_short_value u) (lt-ltb a (10 ^ 30) short) (all_pass (is_value n) is_short_value u (value_short n) pass) in
+    record { in_range = (dual_decides n dual).0 amounts; first = (first_dual_decides dual).0 few }
+
+-- one commodity is a run
+pub one_run : (n t : ℕ) → 1 ≤ n → IsRun (shape 1 n) t 1
+one_run n t some = (omega arith, omega arith, λ e. refl)
 
 dual_wanted : (n : ℕ) (d : DualAt) (a : ℕ) (u : List (ℕ × ℕ)) (high : ℕ) → IsCommodity n d.commodity → a < 10 ^ 30 → Climbs (is_value n) node_of 0 u high
-    → Wants (stage_at n (Dual d)) (says_dual (d.commodity.from, d.commodity.to) (record { a = a; u = u }))
-dual_wanted n d a u high c short h = (sym (commodity_named n d.commodity c), dual_range n (record { a = a; u = u }) (climbs_dual n a u high short h))
+    → Wants (stage_at n (Dual d)) (says_dual (d.commodity.from, d.commodity.to) 1 (record { a = a; u = u }))
+dual_wanted n d a u high c short h =
+    let dual : Prices = record { a = a; u = u } in
+    let listed = climbs_dual n a u high short h in
+    let some = c.from in (
+      sym (commodity_named n d.commodity c),
+      one_run n (number_of n d.commodity) (omega arith),
+      listed.in_range,
+      (λ e. listed.first),
+      (λ e. none-some dual e),
+    )
 
 value_end : (n : ℕ) (d : DualAt) (number : ℕ) (ns : List ℕ) (given : List Item) (v : ℕ) → ValueAre n d number ns given → d.before < d.all → IsCommodity n d.commodity → 1 ≤ v → v < 10 ^ 30
     → EndIs n (ValueAmount d number) (stage_after_dual n d) (ns ++ v ∷ []) given (Some (pair_item (number - 1) v true))
@@ -164,13 +195,13 @@ value_end n d number ns given v h place c some short =
     let w = h.values in
     let more = value_more n d number ns given v h some short in
     record {
-      line = says_dual (d.commodity.from, d.commodity.to) (record { a = w.a; u = w.u ++ (number - 1, v) ∷ [] });
+      line = says_dual (d.commodity.from, d.commodity.to) 1 (record { a = w.a; u = w.u ++ (number - 1, v) ∷ [] });
       wanted = dual_wanted n d w.a (w.u ++ (number - 1, v) ∷ []) number c w.short more.climbs;
       keyword_is = refl;
       numbers_are = sym more.numbers;
       parts = ap (λ g. g ++ pair_item (number - 1) v true ∷ []) w.given_values
-          ∙ ap (λ l. dual_item d.commodity.from d.commodity.to w.a false ∷ l) (value_parts-last w.u (number - 1, v))
-          ∙ ap (λ b. dual_item d.commodity.from d.commodity.to w.a b ∷ value_parts (w.u ++ (number - 1, v) ∷ [])) (sym (none_left-more w.u (number - 1, v)));
+          ∙ ap (λ l. dual_item d.commodity.from d.commodity.to 1 w.a false ∷ l) (value_parts-last w.u (number - 1, v))
+          ∙ ap (λ b. dual_item d.commodity.from d.commodity.to 1 w.a b ∷ value_parts (w.u ++ (number - 1, v) ∷ [])) (sym (none_left-more w.u (number - 1, v)));
       behind = dual_at n d place c;
     }
 
@@ -186,9 +217,9 @@ value_outcome n d number ns given v last place c short h =
 price_outcome : (n : ℕ) (d : DualAt) (ns : List ℕ) (given : List Item) (v : ℕ) (last : Bool) → d.before < d.all → IsCommodity n d.commodity → v < 10 ^ 30
     → Are ((d.commodity.from + 1) ∷ (d.commodity.to + 1) ∷ []) ns given → Outcome n (DualPrice d) (ns ++ v ∷ []) given (taken_by n (DualPrice d) v last)
 price_outcome n d ns given v last place c short h =
-    open_is n (DualPrice d) (ns ++ v ∷ []) given last (dual_item d.commodity.from d.commodity.to v) (ValueNode d 0) (stage_after_dual n d)
-    (end_is n (DualPrice d) (stage_after_dual n d) ((d.commodity.from + 1) ∷ (d.commodity.to + 1) ∷ []) ns given (Some (dual_item d.commodity.from d.commodity.to v true)) v
-    (says_dual (d.commodity.from, d.commodity.to) (record { a = v; u = [] })) h (dual_wanted n d v [] 0 c short refl) refl refl refl (dual_at n d place c))
+    open_is n (DualPrice d) (ns ++ v ∷ []) given last (dual_item d.commodity.from d.commodity.to 1 v) (ValueNode d 0) (stage_after_dual n d)
+    (end_is n (DualPrice d) (stage_after_dual n d) ((d.commodity.from + 1) ∷ (d.commodity.to + 1) ∷ []) ns given (Some (dual_item d.commodity.from d.commodity.to 1 v true)) v
+    (says_dual (d.commodity.from, d.commodity.to) 1 (record { a = v; u = [] })) h (dual_wanted n d v [] 0 c short refl) refl refl refl (dual_at n d place c))
     (record {
       stage = refl;
       word = refl;
@@ -197,7 +228,7 @@ price_outcome n d ns given v last place c short h =
         a = v;
         u = [];
         numbers = ap (λ l. l ++ v ∷ []) h.numbers;
-        given_values = ap (λ g. g ++ dual_item d.commodity.from d.commodity.to v false ∷ []) h.given_none;
+        given_values = ap (λ g. g ++ dual_item d.commodity.from d.commodity.to 1 v false ∷ []) h.given_none;
         short = short;
         climbs = refl;
       };
@@ -252,7 +283,7 @@ pub leaf_wanted : (n : ℕ) (t : TreeAt) (denom : ℕ) (w : List (ℕ × ℕ)) (
     → Wants (stage_at n (Tree t)) (says_tree (leaf_of denom w))
 leaf_wanted n t denom w high some few room h =
     (wants_decides (stage_at n (Tree t)) (says_tree (leaf_of denom w))).0
-    (and_from (is_tree_line_text n (leaf_of denom w)) (may_fill t)
+    (and_from (is_tree_line_text n (leaf_of denom w)) (is_first_line (leaf_of denom w) && may_fill t)
     (and_from (nat_le 1 denom) _ (le-leb 1 denom some) (and_from (nat_le denom most_denominator) (is_weights_text w) (le-leb denom most_denominator few)
     (and_from (ascends (map node_of w)) (list_all is_weight w) (climbs_ascend is_weight node_of 1 w high h) (climbs_pass is_weight node_of 1 w high h))))
     room)
@@ -324,9 +355,11 @@ denominator_outcome n t ns given v last h =
 
 version_outcome : (n : ℕ) (ns : List ℕ) (given : List Item) (v : ℕ) (last : Bool) → Are [] ns given → Outcome n VersionNumber (ns ++ v ∷ []) given (taken_by n VersionNumber v last)
 version_outcome n ns given v last h =
-    allowed_is n VersionNumber (ns ++ v ∷ []) given (nat_eq v 1) last (whole_by last None Size)
-    (λ e. whole_is n VersionNumber (ns ++ v ∷ []) given last None Size
-    (end_is n VersionNumber Size [] ns given None v says_version h tt refl (ap (λ x. x ∷ []) (sym (eqb-true v 1 e))) refl (record { is = refl; names = tt })))
+    allowed_is n VersionNumber (ns ++ v ∷ []) given (nat_eq v 1) last (whole_by last (Some (version_item First)) Size)
+    (λ e. (let one = eqb-true v 1 e in
+    whole_is n VersionNumber (ns ++ v ∷ []) given last (Some (version_item First)) Size
+    (end_is n VersionNumber Size [] ns given (Some (version_item First)) v (says_version v) h (inl one) refl refl (ap (λ x. version_item (version_of x) ∷ []) (sym one))
+    (record { is = ap grammar.want_size (sym one); names = tt }))))
 
 nodes_outcome : (n : ℕ) (ns : List ℕ) (given : List Item) (v : ℕ) (last : Bool) → Are [] ns given → Outcome n NodeCount (ns ++ v ∷ []) given (taken_by n NodeCount v last)
 nodes_outcome n ns given v last h =
@@ -383,11 +416,11 @@ cut_outcome : (n all before : ℕ) (ns : List ℕ) (given : List Item) (v : ℕ)
     → Outcome n (CutNumber all before) (ns ++ v ∷ []) given (taken_by n (CutNumber all before) v last)
 cut_outcome n all before ns given v last size h =
     allowed_is n (CutNumber all before) (ns ++ v ∷ []) given (nat_eq v (before + 1) && nat_le v most_cuts) last
-    (whole_by last (Some (cut_item v)) (Dual (record { all = all; before = before; commodity = commodity_by 0 0 })))
+    (whole_by last (Some (cut_item v 1)) (Dual (record { all = all; before = before; commodity = commodity_by 0 0 })))
     (λ e. (let k = and_parts (nat_eq v (before + 1)) (nat_le v most_cuts) e in
-    whole_is n (CutNumber all before) (ns ++ v ∷ []) given last (Some (cut_item v)) (Dual (record { all = all; before = before; commodity = commodity_by 0 0 }))
-    (end_is n (CutNumber all before) (Dual (record { all = all; before = before; commodity = commodity_by 0 0 })) [] ns given (Some (cut_item v)) v (says_cut v) h
-    (eqb-true v (before + 1) k.0) refl refl refl (record { is = ap (grammar.want_dual (shape n) all before) (omega arith); names = first_commodity n size.0 }))))
+    whole_is n (CutNumber all before) (ns ++ v ∷ []) given last (Some (cut_item v 1)) (Dual (record { all = all; before = before; commodity = commodity_by 0 0 }))
+    (end_is n (CutNumber all before) (Dual (record { all = all; before = before; commodity = commodity_by 0 0 })) [] ns given (Some (cut_item v 1)) v (says_cut v None) h
+    (eqb-true v (before + 1) k.0, refl) refl refl refl (record { is = ap (λ t. grammar.want_dual (shape 1 n) all before t None) (omega arith); names = first_commodity n size.0 }))))
 
 dual_from_outcome : (n : ℕ) (d : DualAt) (ns : List ℕ) (given : List Item) (v : ℕ) (last : Bool) → Are [] ns given
     → Outcome n (DualFrom d) (ns ++ v ∷ []) given (taken_by n (DualFrom d) v last)
@@ -416,7 +449,7 @@ branch_outcome n t ns given v last h =
     let is : v - 1 + 1 ≡ v = omega arith in
     whole_is n (BranchNode t) (ns ++ v ∷ []) given last (Some (branch_item (v - 1))) (stage_after_tree (t.places + 1) (t.left - 1))
     (end_is n (BranchNode t) (stage_after_tree (t.places + 1) (t.left - 1)) [] ns given (Some (branch_item (v - 1))) v (says_tree (branch_on (v - 1))) h
-    (omega arith, (omega arith, λ none. absurd (omega arith))) refl (ap (λ x. x ∷ []) is) refl (tree_at n (t.places + 1) (t.left - 1)))))
+    (omega arith, tt, (omega arith, λ none. absurd (omega arith))) refl (ap (λ x. x ∷ []) is) refl (tree_at n (t.places + 1) (t.left - 1)))))
 
 cut_count_outcome : (n : ℕ) (ns : List ℕ) (given : List Item) (v : ℕ) (last : Bool) → Are [] ns given → Outcome n CutCount (ns ++ v ∷ []) given (taken_by n CutCount v last)
 cut_count_outcome n ns given v last h =
@@ -447,13 +480,13 @@ outcome n NodeCount ns given v last s names short h = nodes_outcome n ns given v
 outcome n (CandidateCount nodes) ns given v last s names short h = candidates_outcome n nodes ns given v last h
 outcome n CostAmount ns given v last s names short h = cost_outcome n ns given v last short h
 outcome n BoundAmount ns given v last s names short h = bound_outcome n ns given v last short h
-outcome n (HubNode before) ns given v last s names short h = hub_outcome n before ns given v last s h
+outcome n (HubNode before) ns given v last s names short h = hub_outcome n before ns given v last s.0 h
 outcome n (RouteFrom c) ns given v last s names short h = route_from_outcome n c ns given v last h
 outcome n (RouteTo c) ns given v last s names short h = route_to_outcome n c ns given v last h
 outcome n (RouteFirst c) ns given v last s names short h = route_first_outcome n c ns given v last h
 outcome n (RouteLast c k) ns given v last s names short h = route_last_outcome n c k ns given v last names h
 outcome n CutCount ns given v last s names short h = cut_count_outcome n ns given v last h
-outcome n (CutNumber all before) ns given v last s names short h = cut_outcome n all before ns given v last s.0 h
+outcome n (CutNumber all before) ns given v last s names short h = cut_outcome n all before ns given v last s.0.0 h
 outcome n (DualFrom d) ns given v last s names short h = dual_from_outcome n d ns given v last h
 outcome n (DualTo d) ns given v last s names short h = dual_to_outcome n d ns given v last h
 outcome n (DualPrice d) ns given v last s names short h = price_outcome n d ns given v last s.1.0 names short h

@@ -1,11 +1,12 @@
 -- Pieces of a text that lead a scan on, each giving what it tells with its last byte.
-use Rattle.std.proofs.Common.{◌≡◌, ℕ, ◌+◌, ◌-◌, ◌<◌, ◌≤◌, List, [], ◌∷◌, ◌++◌, length, take, drop, map, flat_map, decimal, nat_le, Option, refl, sym, ap, ◌∙◌, subst, append_assoc, append-nil, arith, suc}
+use Rattle.std.proofs.Common.{◌≡◌, ℕ, ◌+◌, ◌-◌, ◌<◌, ◌≤◌, List, [], ◌∷◌, ◌++◌, length, take, drop, map, flat_map, decimal, nat_eq, nat_le, Option, Some, None, refl, sym, ap, ◌∙◌, subst, append_assoc, append-nil, arith, suc}
 use Rattle.std.specs.Prelude.{option_to_list}
 use Rattle.std.specs.List.{join_with_byte}
 use Rattle.std.proofs.lemmas.Bool.{cond_both, leb-true, leb-false}
 use Rattle.std.proofs.lemmas.List.{length-append, take_all, take-append-le, take-append-drop}
 use Rattle.std.proofs.lemmas.List.Concat.{flat_map-append}
-use Rattle.hub_spec.specs.Trees.{branch_on, leaf_of, no_hub}
+use Rattle.hub_spec.specs.Trees.{branch_on, leaf_of, no_hub, no_route, no_count}
+use Rattle.hub_spec.proofs.SumLemmas.{by_test}
 use Rattle.cert_spec.specs.Lines.{Item as Line, says_version, says_size, says_cost, says_bound, says_hubs, says_route, says_cuts, says_cut, says_dual, says_nodes, says_tree, says_end, keyword, numbers, value_numbers, weight_numbers, line_text}
 use Rattle.cert_spec.specs.Text.{certificate_items, certificate_text, line_bytes}
 use Rattle.cert_scan.specs.Scans.{scanned, given_all}
@@ -90,19 +91,24 @@ weights_told (e ∷ rest) = ap (λ l. e.0 ∷ e.1 ∷ l) (weights_told rest)
 
 numbers_told : (line : Line) → numbers_of (told_numbers line) ≡ numbers line
 unfolding numbers_of
-numbers_told says_version = refl
+numbers_told (says_version v) = refl
 numbers_told (says_size n q) = refl
 numbers_told (says_cost c) = refl
 numbers_told (says_bound b) = refl
 numbers_told (says_hubs hubs) = hubs_told hubs
 numbers_told (says_route commodity route) = refl
 numbers_told (says_cuts all) = refl
-numbers_told (says_cut number) = refl
-numbers_told (says_dual commodity dual) = ap (λ l. (commodity.0 + 1) ∷ (commodity.1 + 1) ∷ dual.a ∷ l) (values_told dual.u)
+numbers_told (says_cut number None) = refl
+numbers_told (says_cut number (Some part)) = refl
+numbers_told (says_dual commodity run dual) =
+    by_test (nat_eq run 1) (λ e. rw e (ap (λ l. (commodity.0 + 1) ∷ (commodity.1 + 1) ∷ dual.a ∷ l) (values_told dual.u)))
+    (λ e. rw e (ap (λ l. (commodity.0 + 1) ∷ (commodity.1 + 1) ∷ run ∷ dual.a ∷ l) (values_told dual.u)))
 numbers_told (says_nodes all) = refl
 numbers_told (says_tree (branch_on k)) = refl
 numbers_told (says_tree (leaf_of denom weights)) = ap (λ l. denom ∷ l) (weights_told weights)
 numbers_told (says_tree no_hub) = refl
+numbers_told (says_tree (no_route commodity)) = refl
+numbers_told (says_tree no_count) = refl
 numbers_told says_end = refl
 
 words_text : (word : List ℕ) (ts : List (ℕ × Option Item)) (tells : Option Item)
@@ -131,19 +137,24 @@ weights_tell [] = refl
 weights_tell (e ∷ rest) = ap (λ l. LeafPair e.0 e.1 (none_left rest) ∷ l) (weights_tell rest)
 
 line_pieces_tell : (line : Line) → told_by (pieces_of line) ≡ parts_of line
-line_pieces_tell says_version = refl
+line_pieces_tell (says_version v) = refl
 line_pieces_tell (says_size n q) = refl
 line_pieces_tell (says_cost c) = refl
 line_pieces_tell (says_bound b) = refl
 line_pieces_tell (says_hubs hubs) = hubs_tell hubs
 line_pieces_tell (says_route commodity route) = refl
 line_pieces_tell (says_cuts all) = refl
-line_pieces_tell (says_cut number) = refl
-line_pieces_tell (says_dual commodity dual) = ap (λ l. Dual commodity.0 commodity.1 dual.a (none_left dual.u) ∷ l) (values_tell dual.u)
+line_pieces_tell (says_cut number None) = refl
+line_pieces_tell (says_cut number (Some part)) = refl
+line_pieces_tell (says_dual commodity run dual) =
+    let told : List Item → List Item = λ l. Dual commodity.0 commodity.1 run dual.a (none_left dual.u) ∷ l in
+    by_test (nat_eq run 1) (λ e. rw e (ap told (values_tell dual.u))) (λ e. rw e (ap told (values_tell dual.u)))
 line_pieces_tell (says_nodes all) = refl
 line_pieces_tell (says_tree (branch_on k)) = refl
 line_pieces_tell (says_tree (leaf_of denom weights)) = ap (λ l. Leaf denom (none_left weights) ∷ l) (weights_tell weights)
 line_pieces_tell (says_tree no_hub) = refl
+line_pieces_tell (says_tree (no_route commodity)) = refl
+line_pieces_tell (says_tree no_count) = refl
 line_pieces_tell says_end = refl
 
 pub lines_text : (lines : List Line) → bytes_of (flat_map pieces_of lines) ≡ flat_map line_bytes lines

@@ -4,9 +4,9 @@ use Rattle.std.specs.List.Sorted.{IsStrictlyIncreasing}
 use Rattle.hub_spec.specs.Problem.{commodity_at}
 use Rattle.hub_spec.specs.Cuts.{Prices}
 use Rattle.hub_spec.specs.Trees.{leaf_of}
-use Rattle.hub_spec.specs.Ranges.{IsDualInRange, IsLineInRange}
+use Rattle.hub_spec.specs.Ranges.{IsDualInRange, IsLineInRange, IsFirstDual}
 use Rattle.cert_spec.specs.Lines.{Item as Line}
-use Rattle.cert_spec.specs.Grammar.{Stage, want_version, want_hubs, want_dual, want_tree, Leads}
+use Rattle.cert_spec.specs.Grammar.{Stage, Shape, want_version, want_hubs, want_dual, want_tree, IsRun, Leads}
 use Rattle.cert_scan.specs.Parts.{parts_of, open_hubs, open_values, open_weights}
 use Rattle.cert_scan.specs.declared.items.Item.{Item}
 use Rattle.cert_scan.specs.declared.items.Item.TheVariants.{Dual, Leaf}
@@ -18,11 +18,15 @@ pub record BegunHubs (n : ℕ) (given : List Item) : Type 0 where
   pub ascend : IsStrictlyIncreasing hubs
   pub nodes : All (λ k. k < n) hubs
 
--- the price of a commodity, and some values, in range
-pub record BegunDual (n : ℕ) (commodity : ℕ × ℕ) (given : List Item) : Type 0 where
+-- the price of a run of commodities, of which the first is this one and has number t, and some values, all as the version
+-- says them
+pub record BegunDual (s : Shape) (t : ℕ) (commodity : ℕ × ℕ) (given : List Item) : Type 0 where
   pub dual : Prices
-  pub are : given ≡ Dual commodity.0 commodity.1 dual.a false ∷ open_values dual.u
-  pub in_range : IsDualInRange n dual
+  pub run : ℕ
+  pub are : given ≡ Dual commodity.0 commodity.1 run dual.a false ∷ open_values dual.u
+  pub is_run : IsRun s t run
+  pub in_range : IsDualInRange s.size dual
+  pub first : s.version ≡ 1 → IsFirstDual dual
 
 -- the denominator of a leaf, and some weights, in range
 pub record BegunLeaf (n : ℕ) (given : List Item) : Type 0 where
@@ -34,7 +38,7 @@ pub record BegunLeaf (n : ℕ) (given : List Item) : Type 0 where
 -- what may be given of a line at this stage whose end was not given
 abbrev pub IsBegun : Stage → List Item → Type 0
 IsBegun (want_hubs s) given = BegunHubs s.size given
-IsBegun (want_dual s all x t) given = (given ≡ []) ⊎ BegunDual s.size (commodity_at s.size t) given
+IsBegun (want_dual s all x t before) given = (given ≡ []) ⊎ BegunDual s t (commodity_at s.size t) given
 IsBegun (want_tree s places left) given = (given ≡ []) ⊎ BegunLeaf s.size given
 IsBegun stage given = given ≡ []
 

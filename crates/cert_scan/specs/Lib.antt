@@ -1,3 +1,4 @@
+pub mod Versions
 pub mod Moves
 pub mod Scans
 pub mod Parts

@@ -1,8 +1,9 @@
 -- What a scan makes of one byte, by the line that is wanted and the place in it.
 use Rattle.std.specs.Prelude.{ℕ, ◌+◌, ◌-◌, ◌*◌, ◌^◌, Bool, true, false, not, ◌&&◌, ◌||◌, List, length, codes, Option, Some, None, slice_index, nat_eq, nat_lt, nat_le, if◌then◌else◌}
 use Rattle.hub_spec.specs.Limits.{most_nodes, most_denominator, most_cuts, most_tree_lines}
+use Rattle.cert_scan.specs.declared.items.Version.TheVariants.{First}
 use Rattle.cert_scan.specs.declared.items.Item.{Item}
-use Rattle.cert_scan.specs.declared.items.Item.TheVariants.{Size as size_item, Cost as cost_item, Bound as bound_item, Hub as hub_item, Route as route_item, Cuts as cuts_item, Cut as cut_item, Dual as dual_item, DualPair as pair_item, Nodes as nodes_item, Branch as branch_item, Leaf as leaf_item, LeafPair as weight_item, Empty as empty_item, End as end_item}
+use Rattle.cert_scan.specs.declared.items.Item.TheVariants.{Version as version_item, Size as size_item, Cost as cost_item, Bound as bound_item, Hub as hub_item, Route as route_item, Cuts as cuts_item, Cut as cut_item, Dual as dual_item, DualPair as pair_item, Nodes as nodes_item, Branch as branch_item, Leaf as leaf_item, LeafPair as weight_item, Empty as empty_item, End as end_item}
 use Rattle.cert_scan.specs.declared.stages.Commodity.{Commodity}
 use Rattle.cert_scan.specs.declared.stages.DualAt.{DualAt}
 use Rattle.cert_scan.specs.declared.stages.TreeAt.{TreeAt}
@@ -153,7 +154,7 @@ follows n before value = nat_lt before value && nat_le value n
 
 -- the number at a place, between n nodes, and behind it the line's end or a space
 abbrev pub taken_by : ℕ → Place → ℕ → Bool → Move
-taken_by n VersionNumber value last = allowed (nat_eq value 1) last (whole_by last None Size)
+taken_by n VersionNumber value last = allowed (nat_eq value 1) last (whole_by last (Some (version_item First)) Size)
 taken_by n NodeCount value last = allowed (within value most_nodes) last (more_by last (CandidateCount value))
 taken_by n (CandidateCount nodes) value last =
     allowed (within value nodes) last (whole_by last (Some (size_item nodes value)) Cost)
@@ -172,11 +173,11 @@ taken_by n CutCount value last =
     allowed (nat_le value most_cuts) last (whole_by last (Some (cuts_item value)) (stage_after_cuts value))
 taken_by n (CutNumber all before) value last =
     allowed (nat_eq value (before + 1) && nat_le value most_cuts) last
-    (whole_by last (Some (cut_item value)) (Dual (record { all = all; before = before; commodity = commodity_by 0 0 })))
+    (whole_by last (Some (cut_item value 1)) (Dual (record { all = all; before = before; commodity = commodity_by 0 0 })))
 taken_by n (DualFrom at) value last = allowed (nat_eq value (at.commodity.from + 1)) last (more_by last (DualTo at))
 taken_by n (DualTo at) value last = allowed (nat_eq value (at.commodity.to + 1)) last (more_by last (DualPrice at))
 taken_by n (DualPrice at) value last =
-    open_by last (dual_item at.commodity.from at.commodity.to value last) (ValueNode at 0) (stage_after_dual n at)
+    open_by last (dual_item at.commodity.from at.commodity.to 1 value last) (ValueNode at 0) (stage_after_dual n at)
 taken_by n (ValueNode at before) value last =
     allowed (follows n before value) last (more_by last (ValueAmount at value))
 taken_by n (ValueAmount at number) value last =

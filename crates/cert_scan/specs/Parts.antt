@@ -1,11 +1,12 @@
 -- The items that the lines of a certificate give.
 use Rattle.std.specs.Prelude.{ℕ, Bool, true, false, List, [], ◌∷◌, map, flat_map}
-use Rattle.hub_spec.specs.Trees.{TreeLine, branch_on, leaf_of, no_hub}
+use Rattle.hub_spec.specs.Trees.{TreeLine, branch_on, leaf_of, no_hub, no_route, no_count}
 use Rattle.hub_spec.specs.Certificates.{Proof}
-use Rattle.cert_spec.specs.Lines.{Item as Line, says_version, says_size, says_cost, says_bound, says_hubs, says_route, says_cuts, says_cut, says_dual, says_nodes, says_tree, says_end}
+use Rattle.cert_spec.specs.Lines.{Item as Line, says_version, says_size, says_cost, says_bound, says_hubs, says_route, says_cuts, says_cut, says_dual, says_nodes, says_tree, says_end, part_of}
 use Rattle.cert_spec.specs.Text.{certificate_items}
+use Rattle.cert_scan.specs.Versions.{version_of}
 use Rattle.cert_scan.specs.declared.items.Item.{Item}
-use Rattle.cert_scan.specs.declared.items.Item.TheVariants.{Size, Cost, Bound, Hub, Route, Cuts, Cut, Dual, DualPair, Nodes, Branch, Leaf, LeafPair, Empty, End}
+use Rattle.cert_scan.specs.declared.items.Item.TheVariants.{Version, Size, Cost, Bound, Hub, Route, Cuts, Cut, Dual, DualPair, Nodes, Branch, Leaf, LeafPair, Empty, End}
 
 -- nothing is left of a list
 abbrev pub none_left : {X : Type 0} → List X → Bool
@@ -32,18 +33,21 @@ abbrev pub tree_parts : TreeLine → List Item
 tree_parts (branch_on k) = Branch k ∷ []
 tree_parts (leaf_of denom weights) = Leaf denom (none_left weights) ∷ weight_parts weights
 tree_parts no_hub = Empty ∷ []
+tree_parts (no_route commodity) = []
+tree_parts no_count = []
 
 -- what a line gives
 abbrev pub parts_of : Line → List Item
-parts_of says_version = []
+parts_of (says_version v) = Version (version_of v) ∷ []
 parts_of (says_size n q) = Size n q ∷ []
 parts_of (says_cost c) = Cost c ∷ []
 parts_of (says_bound b) = Bound b ∷ []
 parts_of (says_hubs hubs) = hub_parts hubs
 parts_of (says_route commodity route) = Route commodity.0 commodity.1 route.0 route.1 ∷ []
 parts_of (says_cuts all) = Cuts all ∷ []
-parts_of (says_cut number) = Cut number ∷ []
-parts_of (says_dual commodity dual) = Dual commodity.0 commodity.1 dual.a (none_left dual.u) ∷ value_parts dual.u
+parts_of (says_cut number part) = Cut number (part_of part) ∷ []
+parts_of (says_dual commodity run dual) =
+    Dual commodity.0 commodity.1 run dual.a (none_left dual.u) ∷ value_parts dual.u
 parts_of (says_nodes all) = Nodes all ∷ []
 parts_of (says_tree line) = tree_parts line
 parts_of says_end = End ∷ []

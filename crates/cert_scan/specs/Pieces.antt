@@ -1,13 +1,14 @@
 -- The text of a certificate piece by piece: some bytes, and the item that is told once the last of them has come.
-use Rattle.std.specs.Prelude.{◌≡◌, ℕ, ◌+◌, ◌-◌, List, [], ◌∷◌, ◌++◌, length, flat_map, Option, Some, None, option_to_list, nat_le, decimal, if◌then◌else◌}
-use Rattle.hub_spec.specs.Trees.{branch_on, leaf_of, no_hub}
+use Rattle.std.specs.Prelude.{◌≡◌, ℕ, ◌+◌, ◌-◌, List, [], ◌∷◌, ◌++◌, length, flat_map, Option, Some, None, option_to_list, nat_eq, nat_le, decimal, if◌then◌else◌}
+use Rattle.hub_spec.specs.Trees.{branch_on, leaf_of, no_hub, no_route, no_count}
 use Rattle.hub_spec.specs.Certificates.{Proof}
 use Rattle.cert_spec.specs.Lines.{Item as Line, says_version, says_size, says_cost, says_bound, says_hubs, says_route, says_cuts, says_cut, says_dual, says_nodes, says_tree, says_end, keyword}
 use Rattle.cert_spec.specs.Text.{certificate_items, certificate_text, line_bytes, Spells}
 use Rattle.cert_spec.specs.Grammar.{Stage, want_version, Leads}
+use Rattle.cert_scan.specs.Versions.{version_of}
 use Rattle.cert_scan.specs.Parts.{none_left, items_of}
 use Rattle.cert_scan.specs.declared.items.Item.{Item}
-use Rattle.cert_scan.specs.declared.items.Item.TheVariants.{Size, Cost, Bound, Hub, Route, Cuts, Cut, Dual, DualPair, Nodes, Branch, Leaf, LeafPair, Empty, End}
+use Rattle.cert_scan.specs.declared.items.Item.TheVariants.{Version, Size, Cost, Bound, Hub, Route, Cuts, Cut, Dual, DualPair, Nodes, Branch, Leaf, LeafPair, Empty, End}
 
 -- some bytes of a text, and the item that the last of them tells, if it tells one
 pub record Piece : Type 0 where
@@ -31,9 +32,18 @@ abbrev pub told_weights : List (ℕ × ℕ) → List (ℕ × Option Item)
 told_weights [] = []
 told_weights (e ∷ rest) = (e.0, None) ∷ (e.1, Some (LeafPair e.0 e.1 (none_left rest))) ∷ told_weights rest
 
+-- a cut's number, and its part where the line says one
+abbrev pub told_cut : ℕ → Option ℕ → List (ℕ × Option Item)
+told_cut number None = (number, Some (Cut number 1)) ∷ []
+told_cut number (Some part) = (number, None) ∷ (part, Some (Cut number part)) ∷ []
+
+-- how many commodities a run has, where it has more than one
+abbrev pub told_run : ℕ → List (ℕ × Option Item)
+told_run run = if nat_eq run 1 then [] else (run, None) ∷ []
+
 -- the numbers of a line, in their order
 abbrev pub told_numbers : Line → List (ℕ × Option Item)
-told_numbers says_version = (1, None) ∷ []
+told_numbers (says_version v) = (v, Some (Version (version_of v))) ∷ []
 told_numbers (says_size n q) = (n, None) ∷ (q, Some (Size n q)) ∷ []
 told_numbers (says_cost c) = (c, Some (Cost c)) ∷ []
 told_numbers (says_bound b) = (b, Some (Bound b)) ∷ []
@@ -45,16 +55,19 @@ told_numbers (says_route commodity route) =
     ∷ (route.1 + 1, Some (Route commodity.0 commodity.1 route.0 route.1))
     ∷ []
 told_numbers (says_cuts all) = (all, Some (Cuts all)) ∷ []
-told_numbers (says_cut number) = (number, Some (Cut number)) ∷ []
-told_numbers (says_dual commodity dual) =
+told_numbers (says_cut number part) = told_cut number part
+told_numbers (says_dual commodity run dual) =
     (commodity.0 + 1, None)
     ∷ (commodity.1 + 1, None)
-    ∷ (dual.a, Some (Dual commodity.0 commodity.1 dual.a (none_left dual.u)))
-    ∷ told_values dual.u
+    ∷ (told_run run
+    ++ (dual.a, Some (Dual commodity.0 commodity.1 run dual.a (none_left dual.u)))
+    ∷ told_values dual.u)
 told_numbers (says_nodes all) = (all, Some (Nodes all)) ∷ []
 told_numbers (says_tree (branch_on k)) = (k + 1, Some (Branch k)) ∷ []
 told_numbers (says_tree (leaf_of denom weights)) = (denom, Some (Leaf denom (none_left weights))) ∷ told_weights weights
 told_numbers (says_tree no_hub) = []
+told_numbers (says_tree (no_route commodity)) = (commodity.0 + 1, None) ∷ (commodity.1 + 1, None) ∷ []
+told_numbers (says_tree no_count) = []
 told_numbers says_end = []
 
 -- a line that has no number is told by its keyword

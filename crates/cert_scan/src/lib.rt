@@ -24,6 +24,6 @@ mod places;
 mod scanner;
 mod stages;
 
-pub use items::{Fault, Item};
+pub use items::{Fault, Item, Version};
 pub use pieces::pieces_are_text;
 pub use scanner::Scan;

@@ -21,7 +21,7 @@ ghost use Rattle.cert_scan.specs.declared.places.Place.TheVariants.{
 };
 
 use crate::bytes::{Move, Position};
-use crate::items::Item;
+use crate::items::{Item, Version};
 use crate::stages::{
     Commodity, DualAt, FIRST, Stage, TreeAt, after_cuts, after_dual, after_filled, after_route,
     after_tree, may_be_filled,
@@ -171,7 +171,7 @@ fn take_version(value: u128, last: bool) -> Move
     if value != 1 {
         return refused(last);
     }
-    whole(last, None, Stage::Size)
+    whole(last, Some(Item::Version(Version::First)), Stage::Size)
 }
 
 fn take_nodes(value: u128, last: bool) -> Move
@@ -266,7 +266,11 @@ fn take_cut(all: u32, before: u32, value: u128, last: bool) -> Move
         before,
         commodity: FIRST,
     });
-    whole(last, Some(Item::Cut(value as u32)), first)
+    let cut = Item::Cut {
+        x: value as u32,
+        part: 1,
+    };
+    whole(last, Some(cut), first)
 }
 
 fn take_price(n: u32, at: DualAt, value: u128, last: bool) -> Move
@@ -276,6 +280,7 @@ fn take_price(n: u32, at: DualAt, value: u128, last: bool) -> Move
     let dual = Item::Dual {
         i: from,
         j: to,
+        run: 1,
         a: value,
         last,
     };

@@ -96,7 +96,7 @@ same_pair_decides a b = (
   λ e. and_from (nat_eq a.0 b.0) (nat_eq a.1 b.1) (eq-eqb a.0 b.0 (ap (λ p. p.0) e)) (eq-eqb a.1 b.1 (ap (λ p. p.1) e)),
 )
 
-dual_decides : (n : ℕ) (dual : Prices) → Decides (is_dual_text n dual) (IsDualInRange n dual)
+pub dual_decides : (n : ℕ) (dual : Prices) → Decides (is_dual_text n dual) (IsDualInRange n dual)
 dual_decides n dual =
     let k = all_three (is_amount dual.a) (ascends (map (λ (e : ℕ × ℕ). e.0) dual.u)) (list_all (λ (e : ℕ × ℕ). nat_lt e.0 n && (nat_le 1 e.1 && is_amount e.1)) dual.u)
     (amount_decides dual.a) (ascends_decides (map (λ (e : ℕ × ℕ). e.0) dual.u))
@@ -134,7 +134,7 @@ part_decides : (v : ℕ) (part : Option ℕ) → Decides (is_part v part) (IsPar
 part_decides v None = Decides-eqb v 1
 part_decides v (Some e) = all_three (is_second v) (nat_le 1 e) (nat_le e most_part) (second_decides v) (Decides-leb 1 e) (Decides-leb e most_part)
 
-first_dual_decides : (dual : Prices) → Decides (is_first_dual dual) (IsFirstDual dual)
+pub first_dual_decides : (dual : Prices) → Decides (is_first_dual dual) (IsFirstDual dual)
 first_dual_decides dual =
     both (is_short dual.a) (list_all (λ (e : ℕ × ℕ). is_short e.1) dual.u) (short_decides dual.a)
     (all_decides (λ (e : ℕ × ℕ). is_short e.1) (λ (e : ℕ × ℕ). IsShort e.1) (λ e. short_decides e.1) dual.u)

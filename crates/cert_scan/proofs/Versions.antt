@@ -1,0 +1,18 @@
+-- The versions of a text by their numbers.
+use Rattle.std.proofs.Common.{◌≡◌, ℕ, ◌⊎◌, inl, inr, refl, sym, ap, ◌∙◌}
+use Rattle.cert_spec.specs.Text.{is_first}
+use Rattle.cert_spec.specs.Grammar.{IsVersion}
+use Rattle.cert_spec.proofs.Versions.{second_is, second_later}
+use Rattle.cert_scan.specs.Versions.{version_number, version_of}
+use Rattle.cert_scan.specs.declared.items.Version.{Version}
+use Rattle.cert_scan.specs.declared.items.Version.TheVariants.{First, Second}
+
+-- a version has its number
+pub version_back : (version : Version) → version_of (version_number version) ≡ version
+version_back First = refl
+version_back Second = refl
+
+-- and a number its version
+pub number_back : (v : ℕ) → IsVersion v → version_number (version_of v) ≡ v
+number_back v (inl first) = ap (λ x. version_number (version_of x)) first ∙ sym first
+number_back v (inr second) = rw (second_later v second) (sym (second_is v second))
