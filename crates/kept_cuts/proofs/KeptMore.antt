@@ -6,12 +6,13 @@ use Rattle.std.proofs.lemmas.List.Elements.{All-push}
 use Rattle.hub_model.specs.Amounts.{natural, IsNatural}
 use Rattle.kept_cuts.specs.declared.kept.KeptCut.{KeptCut}
 use Rattle.kept_cuts.specs.declared.store.CutStore.TheInside.{Inside}
-use Rattle.kept_cuts.specs.Kept.{kept_of}
+use Rattle.kept_cuts.specs.Kept.{kept_of, kept_part}
 use Rattle.kept_cuts.specs.StoreParts.{list_of, AreColumns}
 
 -- each column has one item more
 pub record HasGrown (s t : Inside) (cut : KeptCut) (total : ℤ) (row : Vec ℤ Global) : Type 0 where
   pub cuts : t.cuts.items ≡ s.cuts.items ++ cut ∷ []
+  pub parts : t.parts.items ≡ s.parts.items ++ kept_part (kept_of cut) ∷ []
   pub totals : t.totals.items ≡ s.totals.items ++ total ∷ []
   pub rows : t.loads.items ≡ s.loads.items ++ row ∷ []
 
@@ -20,6 +21,9 @@ module _ (s t : Inside) (cut : KeptCut) (total : ℤ) (row : Vec ℤ Global) (gr
   columns_more is low lows =
       let long = ap length grown.cuts ∙ length_push s.cuts.items cut in
       record {
+        parts = grown.parts ∙ ap (λ es. es ++ kept_part (kept_of cut) ∷ []) is.parts
+            ∙ sym (map_push kept_part (map kept_of s.cuts.items) (kept_of cut))
+            ∙ sym (ap (map kept_part) (ap (map kept_of) grown.cuts ∙ map_push kept_of s.cuts.items cut));
         totals = omega (arith, long, is.totals, ap length grown.totals, length_push s.totals.items total);
         loads = omega (arith, long, is.loads, ap length grown.rows, length_push s.loads.items row);
         natural_totals = subst (All IsNatural) (sym grown.totals) (All-push IsNatural s.totals.items total is.natural_totals low);

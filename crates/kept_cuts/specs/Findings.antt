@@ -13,9 +13,10 @@ use Rattle.kept_cuts.specs.declared.found.Found.{Found}
 abbrev pub lines_of : List model.TreeLine → List TreeLine
 lines_of lines = map tree_line_of lines
 
--- the certificate that this is with the tree of its lines
+-- the certificate that this is with the tree of its lines, in the first version
 abbrev pub proof_of : Problem → Found → Tree → Proof
 proof_of p found tree = record {
+  version = 1;
   size = p.size;
   candidates = length p.candidates;
   cost = found.cost;

@@ -41,6 +41,11 @@ kept_cut p (by_set hubs order) = set_cut p hubs order
 abbrev pub kept_cuts : Problem → List Kept → List Cut
 kept_cuts p kept = map (kept_cut p) kept
 
+-- the part of that cut
+abbrev pub kept_part : Kept → ℕ
+kept_part (by_values rows) = 1
+kept_part (by_set hubs order) = 1
+
 -- it fits the problem
 abbrev pub IsKeptFor : Problem → Kept → Type 0
 IsKeptFor p (by_values rows) = AreValuesFor p rows

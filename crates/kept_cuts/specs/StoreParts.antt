@@ -1,7 +1,7 @@
 -- What the columns of a store stand for.
 use Rattle.std.specs.Prelude.{◌≡◌, ℕ, ◌-◌, min, length, map, All, Vec, vec_len, vec_capacity}
 use Rattle.hub_model.specs.Amounts.{natural, IsNatural}
-use Rattle.kept_cuts.specs.Kept.{KeptList, Stored, kept_of}
+use Rattle.kept_cuts.specs.Kept.{KeptList, Stored, kept_of, kept_part}
 use Rattle.kept_cuts.specs.declared.store.CutStore.TheInside.{Inside}
 
 -- the cuts and their sums
@@ -18,10 +18,11 @@ free v = vec_capacity v - vec_len v
 
 -- with how many more cuts have a place in each column
 abbrev pub stored_of : Inside → Stored
-stored_of s = record { kept = list_of s; spare = min (min (free s.cuts) (free s.totals)) (free s.loads) }
+stored_of s = record { kept = list_of s; spare = min (min (min (free s.cuts) (free s.parts)) (free s.totals)) (free s.loads) }
 
--- as many totals and rows of loads as cuts, none below 0
+-- the part of each cut, and as many totals and rows of loads as cuts, none below 0
 pub record AreColumns (s : Inside) : Type 0 where
+  pub parts : s.parts.items ≡ map kept_part (map kept_of s.cuts.items)
   pub totals : length s.totals.items ≡ length s.cuts.items
   pub loads : length s.loads.items ≡ length s.cuts.items
   pub natural_totals : All IsNatural s.totals.items

@@ -1,8 +1,9 @@
 -- What is proved of kept cuts; each statement is the contract of the public function of its name.
+use Rattle.std.specs.Prelude.{◌≡◌}
 use Rattle.hub_spec.specs.Problem.{Problem, IsProblem}
 use Rattle.hub_spec.specs.Cuts.{IsCut}
-use Rattle.hub_spec.specs.Ranges.{IsCutInRange}
-use Rattle.kept_cuts.specs.Kept.{Kept, kept_cut, IsKeptFor}
+use Rattle.hub_spec.specs.Ranges.{IsCutInRange, IsFirstCut}
+use Rattle.kept_cuts.specs.Kept.{Kept, kept_cut, kept_part, IsKeptFor}
 
 -- a kept cut is a cut of the problem
 abbrev pub KeptCutIsCut : Type 0
@@ -11,3 +12,11 @@ KeptCutIsCut = (p : Problem) (kept : Kept) → IsProblem p → IsKeptFor p kept 
 -- and a certificate may list it
 abbrev pub KeptCutIsInRange : Type 0
 KeptCutIsInRange = (p : Problem) (kept : Kept) → IsProblem p → IsKeptFor p kept → IsCutInRange p.size (kept_cut p kept)
+
+-- .. of the first version too
+abbrev pub KeptCutIsFirst : Type 0
+KeptCutIsFirst = (p : Problem) (kept : Kept) → IsProblem p → IsKeptFor p kept → IsFirstCut (kept_cut p kept)
+
+-- its part is known without the problem
+abbrev pub KeptPartIsPart : Type 0
+KeptPartIsPart = (p : Problem) (kept : Kept) → (kept_cut p kept).part ≡ kept_part kept

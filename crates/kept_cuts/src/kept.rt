@@ -2,7 +2,7 @@
 
 ghost use Rattle.std.specs.Prelude.{◌≡◌, ◌+◌, ◌-◌, ◌<◌, ◌≤◌, [], ◌∷◌, ◌++◌, length, map, pos, slice_index, All, IfOk, OnOk, OnErr};
 ghost use Rattle.hub_spec.specs.Limits.{most_cost};
-ghost use Rattle.kept_cuts.specs.Kept.{kept_of, kept_at};
+ghost use Rattle.kept_cuts.specs.Kept.{kept_of, kept_at, kept_part};
 
 use crate::{CutStore, PackedValues};
 use hub_model::signed;
@@ -19,8 +19,20 @@ pub enum KeptCut {
     Set(HubSet, Vec<u32>),
 }
 
-/// The cuts of a search, numbered from 1 in the order in which they were kept, each with its total and its load of each
-/// node.
+impl KeptCut {
+    /// The part of the cut.
+    pub fn part(&self) -> u32
+        ensures { result ≡ kept_part (kept_of self.now) }
+    {
+        match self {
+            KeptCut::Values(_) => 1,
+            KeptCut::Set(_, _) => 1,
+        }
+    }
+}
+
+/// The cuts of a search, numbered from 1 in the order in which they were kept, each with its part, its total and its load
+/// of each node.
 #[derive(Drop)]
 pub struct KeptCuts {
     store: CutStore,
@@ -89,6 +101,14 @@ impl KeptCuts {
         ensures { kept_of result.now ≡ kept_at self.now.cuts c }
     {
         &self.store.cuts()[(c - 1) as usize]
+    }
+
+    /// The part of each, in the order of their numbers.
+    pub fn parts(&self) -> &[u32]
+        ensures value { result.now ≡ map kept_part self.now.cuts }
+        ensures long { length result.now ≡ length self.now.cuts }
+    {
+        self.store.parts()
     }
 
     /// The total of each, in 10^-12, in the order of their numbers.

@@ -1,6 +1,6 @@
 //! What holds of kept cuts.
 
-ghost use Rattle.kept_cuts.specs.Theorems.{KeptCutIsCut, KeptCutIsInRange};
+ghost use Rattle.kept_cuts.specs.Theorems.{KeptCutIsCut, KeptCutIsInRange, KeptCutIsFirst, KeptPartIsPart};
 
 /// A kept cut is a cut of the problem.
 pub fn kept_cut_is_cut()
@@ -10,4 +10,14 @@ pub fn kept_cut_is_cut()
 /// A certificate may list it.
 pub fn kept_cut_is_in_range()
     ensures { KeptCutIsInRange }
+{}
+
+/// A certificate of the first version may list it too.
+pub fn kept_cut_is_first()
+    ensures { KeptCutIsFirst }
+{}
+
+/// Its part is known without the problem.
+pub fn kept_part_is_part()
+    ensures { KeptPartIsPart }
 {}

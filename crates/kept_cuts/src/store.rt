@@ -2,18 +2,20 @@
 
 ghost use Rattle.std.specs.Prelude.{◌≡◌, ◌+◌, ◌≤◌, [], ◌∷◌, ◌++◌, length, map, pos, All, IsOk, OnOk};
 ghost use Rattle.hub_model.specs.Amounts.{natural, IsNatural};
-ghost use Rattle.kept_cuts.specs.Kept.{kept_of};
+ghost use Rattle.kept_cuts.specs.Kept.{kept_of, kept_part};
 
 use crate::KeptCut;
 use std::alloc::{AllocError, Global};
 use std::marker::Model;
 
-/// The cuts of a search in the order in which they were put, each with its total and its load of each node.
+/// The cuts of a search in the order in which they were put, each with its part, its total and its load of each
+/// node.
 ///
 /// A store is seen as these, with how many more can be put for certain.
 #[derive(Drop)]
 pub struct CutStore {
     cuts: Vec<KeptCut>,
+    parts: Vec<u32>,
     totals: Vec<i128>,
     loads: Vec<Vec<i128>>,
 }
@@ -36,6 +38,7 @@ impl CutStore {
     {
         CutStore {
             cuts: Vec::new(alloc),
+            parts: Vec::new(alloc),
             totals: Vec::new(alloc),
             loads: Vec::new(alloc),
         }
@@ -49,6 +52,7 @@ impl CutStore {
         ensures succeeds { more ≤ self.old.spare → IsOk result }
     {
         self.cuts.reserve(more)?;
+        self.parts.reserve(more)?;
         self.totals.reserve(more)?;
         self.loads.reserve(more)
     }
@@ -58,6 +62,7 @@ impl CutStore {
         ensures { result ≡ self.now.spare }
     {
         (self.cuts.capacity() - self.cuts.len())
+            .min(self.parts.capacity() - self.parts.len())
             .min(self.totals.capacity() - self.totals.len())
             .min(self.loads.capacity() - self.loads.len())
     }
@@ -74,6 +79,7 @@ impl CutStore {
         } }
         ensures spare { self.old.spare ≤ self.new.spare + 1 }
     {
+        self.parts.push_reserved(cut.part());
         self.cuts.push_reserved(cut);
         self.totals.push_reserved(total);
         self.loads.push_reserved(loads);
@@ -92,6 +98,14 @@ impl CutStore {
         ensures long { length result.now ≡ length self.now.kept.cuts }
     {
         &self.cuts
+    }
+
+    /// The part of each.
+    pub fn parts(&self) -> &[u32]
+        ensures value { result.now ≡ map kept_part self.now.kept.cuts }
+        ensures long { length result.now ≡ length self.now.kept.cuts }
+    {
+        &self.parts
     }
 
     /// The total of each, in 10^-12.
