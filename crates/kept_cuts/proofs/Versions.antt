@@ -1,9 +1,9 @@
--- What a search found has a text of the first version.
-use Rattle.std.proofs.Common.{◌≡◌, List, [], ◌∷◌, All, inl, refl, subst}
+-- What a search found has a text in each version.
+use Rattle.std.proofs.Common.{◌≡◌, ℕ, List, [], ◌∷◌, All, ◌⊎◌, inl, inr, ⊎_elim, subst}
 use Rattle.std.proofs.lemmas.List.Elements.{All-cons, All-nil, All-map, All-weaker}
 use Rattle.hub_spec.specs.Problem.{Problem, IsProblem}
 use Rattle.hub_spec.specs.Trees.{Tree, preorder}
-use Rattle.hub_spec.specs.Ranges.{IsFirstCut, IsFirstLine, IsVersionOf}
+use Rattle.hub_spec.specs.Ranges.{IsFirstCut, IsFirstLine, IsSecond, IsVersionOf}
 use Rattle.plan_model.specs.declared.tree_lines.TreeLine.{TreeLine}
 use Rattle.plan_model.specs.declared.tree_lines.TreeLine.TheVariants.{BranchOn, Leaf, Empty}
 use Rattle.plan_model.specs.Lines.{tree_line_of}
@@ -27,13 +27,8 @@ lines_are_first [] = All-nil IsFirstLine
 lines_are_first (line ∷ lines) = All-cons IsFirstLine (tree_line_of line) (lines_of lines) (line_is_first line) (lines_are_first lines)
 
 -- cuts that fit, and the lines of a tree
-pub has_first_text : (p : Problem) (found : Found) (tree : Tree) → IsProblem p → All (IsKeptFor p) found.cuts.cuts
-    → lines_of found.tree.items ≡ preorder tree → IsVersionOf (proof_of p found tree)
-has_first_text p found tree ok fit lines =
-    inl (
-      refl,
-      record {
-        cuts = kept_are_first p found.cuts.cuts ok fit;
-        tree = subst (All IsFirstLine) lines (lines_are_first found.tree.items);
-      },
-    )
+pub has_text : (p : Problem) (found : Found) (tree : Tree) (version : ℕ) → IsProblem p → All (IsKeptFor p) found.cuts.cuts
+    → lines_of found.tree.items ≡ preorder tree → (version ≡ 1) ⊎ IsSecond version → IsVersionOf (proof_of version p found tree)
+has_text p found tree version ok fit lines is =
+    let said : All IsFirstLine (preorder tree) = subst (All IsFirstLine) lines (lines_are_first found.tree.items) in
+    ⊎_elim (λ first. inl (first, record { cuts = kept_are_first p found.cuts.cuts ok fit; tree = said })) (λ second. inr (second, said)) is

@@ -1,9 +1,9 @@
 -- What a search found, as a certificate.
-use Rattle.std.specs.Prelude.{◌≡◌, List, length, map, All}
+use Rattle.std.specs.Prelude.{◌≡◌, ℕ, List, length, map, All, ◌⊎◌}
 use Rattle.hub_spec.specs.Problem.{Problem}
 use Rattle.hub_spec.specs.Trees.{Tree, TreeLine, preorder}
 use Rattle.hub_spec.specs.Certificates.{Proof, Holds}
-use Rattle.hub_spec.specs.Ranges.{IsInRange}
+use Rattle.hub_spec.specs.Ranges.{IsSecond, IsInRange}
 use Rattle.plan_model.specs.declared.tree_lines.TreeLine as model
 use Rattle.plan_model.specs.Lines.{tree_line_of}
 use Rattle.kept_cuts.specs.Kept.{kept_cuts, IsKeptFor}
@@ -13,10 +13,10 @@ use Rattle.kept_cuts.specs.declared.found.Found.{Found}
 abbrev pub lines_of : List model.TreeLine → List TreeLine
 lines_of lines = map tree_line_of lines
 
--- the certificate that this is with the tree of its lines, in the first version
-abbrev pub proof_of : Problem → Found → Tree → Proof
-proof_of p found tree = record {
-  version = 1;
+-- the certificate that this is with the tree of its lines, in this version
+abbrev pub proof_of : ℕ → Problem → Found → Tree → Proof
+proof_of version p found tree = record {
+  version = version;
   size = p.size;
   candidates = length p.candidates;
   cost = found.cost;
@@ -26,11 +26,11 @@ proof_of p found tree = record {
   tree = tree;
 }
 
--- its cuts fit, and its lines are those of a tree with which it is a certificate of the problem, within the ranges of a
--- certificate
+-- its cuts fit, and its lines are those of a tree with which it is a certificate of the problem, and in each version that
+-- there is within the ranges of a certificate
 pub record IsProved (p : Problem) (found : Found) : Type 0 where
   pub fit : All (IsKeptFor p) found.cuts.cuts
   pub tree : Tree
   pub lines : lines_of found.tree.items ≡ preorder tree
-  pub in_range : IsInRange (proof_of p found tree)
-  pub holds : Holds p (proof_of p found tree)
+  pub in_range : (version : ℕ) → (version ≡ 1) ⊎ IsSecond version → IsInRange (proof_of version p found tree)
+  pub holds : (version : ℕ) → Holds p (proof_of version p found tree)
