@@ -4,7 +4,7 @@ use Rattle.std.specs.Prelude.{bytes_eq}
 use Rattle.std.proofs.lemmas.Slice.Eq.{bytes_eq-Decides}
 use Rattle.std.proofs.lemmas.List.{length-map, get_or-map}
 use Rattle.std.proofs.lemmas.List.Elements.{All-get_or, All-head, All-tail}
-use Rattle.kept_cuts.specs.Kept.{Kept, by_set, kept_of, kept_hubs, kept_order, IsOfSet}
+use Rattle.kept_cuts.specs.Kept.{Kept, by_set, kept_of, kept_hubs, kept_order, kept_part, IsOfSet}
 use Rattle.kept_cuts.specs.declared.kept.KeptCut.{KeptCut}
 use Rattle.cut_pool.specs.Entries.{Entry, entry_at, IsNumber, Lacks}
 use Rattle.cut_pool.specs.Kept.{sets_of, entries_of}
@@ -61,6 +61,16 @@ cuts_of_entries (k ∷ ks) (t ∷ ts) [] a all = absurd (omega (arith, a.loads))
 cuts_of_entries (k ∷ ks) (t ∷ ts) (l ∷ ls) a all =
     ap₂ (λ (x : Kept) (xs : List Kept). x ∷ xs) (All-head IsOfSet k ks all)
     (cuts_of_entries ks ts ls (beside_rest k t l ks ts ls a) (All-tail IsOfSet k ks all))
+
+-- the part of each is 1
+pub parts_of_entries : (ks : List Kept) (ts : List ℕ) (ls : List (List ℕ)) → AreBeside ks ts ls → All IsOfSet ks
+    → map kept_part ks ≡ map (λ e. 1) (entries_of ks ts ls)
+parts_of_entries [] ts ls a all = refl
+parts_of_entries (k ∷ ks) [] ls a all = absurd (omega (arith, a.totals))
+parts_of_entries (k ∷ ks) (t ∷ ts) [] a all = absurd (omega (arith, a.loads))
+parts_of_entries (k ∷ ks) (t ∷ ts) (l ∷ ls) a all =
+    ap₂ (λ (x : ℕ) (xs : List ℕ). x ∷ xs) (ap kept_part (All-head IsOfSet k ks all))
+    (parts_of_entries ks ts ls (beside_rest k t l ks ts ls a) (All-tail IsOfSet k ks all))
 
 pub length-column : {X : Type 0} (f : Entry → X) (es : List Entry) (xs : List X) → map f es ≡ xs → length es ≡ length xs
 length-column f es xs e = sym (length-map es f) ∙ ap length e

@@ -185,6 +185,13 @@ impl Pool {
         order_of(&self.cuts.cuts()[(c - 1) as usize])
     }
 
+    /// The part of each cut, in the order of their numbers: 1, since each is of a hub set.
+    pub fn parts(&self) -> &[u32]
+        ensures { result.now ≡ map (λ e. 1) self.now.entries }
+    {
+        self.cuts.parts()
+    }
+
     /// The total of each cut, in 10^-12, in the order of their numbers.
     pub fn totals(&self) -> &[i128]
         ensures { result.now ≡ map (λ e. pos e.total) self.now.entries }
