@@ -27,48 +27,56 @@ pub(crate) fn parted(text: &str, mark: char) -> (&str, &str) {
     }
 }
 
-/// Cuts as they are lent: the total of each, its load of each node, and the fixed cost of each node.
+/// Cuts as they are lent: the total of each, its load of each node and its part, and the fixed cost of each node.
 #[derive(Drop)]
 pub(crate) struct Lent {
     pub(crate) totals: Vec<i128>,
     pub(crate) loads: Vec<Vec<i128>>,
+    pub(crate) parts: Vec<u32>,
     pub(crate) fixed: Vec<i128>,
 }
 
-/// The fixed costs in the first field, and in each of the others a cut, its total and then its loads, or cuts of the same
-/// loads: the word `cuts`, how many they are, and the total of the first, which rises by one.
+/// The fixed costs in the first field, and in each of the others a cut, its total and then its loads, with the word `part`
+/// its part before them, or cuts of the same loads: the word `cuts`, how many they are, and the total of the first, which
+/// rises by one.
 pub(crate) fn cuts_of(alloc: Global, text: &str) -> Result<Lent, AllocError> {
     let (fixed, cuts) = parted(text, ';');
     let mut lent = Lent {
         totals: Vec::new(alloc),
         loads: Vec::new(alloc),
+        parts: Vec::new(alloc),
         fixed: numbers(alloc, fixed)?,
     };
     for cut in cuts.split(';') {
-        let numbers = numbers(alloc, cut)?;
+        let numbers: Vec<i128> = numbers(alloc, cut)?;
         match numbers.as_slice() {
             [count, total, loads @ ..] if cut.contains("cuts") => {
-                let count = u32::try_from(*count).unwrap_or(0);
-                push_cuts(alloc, &mut lent, count, *total, loads)?;
+                for more in 0..u32::try_from(*count).unwrap_or(0) {
+                    let total = total.saturating_add(i128::from(more));
+                    push_cut(alloc, &mut lent, 1, total, loads)?;
+                }
             }
-            [total, loads @ ..] => push_cuts(alloc, &mut lent, 1, *total, loads)?,
+            [part, total, loads @ ..] if cut.contains("part") => {
+                let part = u32::try_from(*part).unwrap_or(0);
+                push_cut(alloc, &mut lent, part, *total, loads)?;
+            }
+            [total, loads @ ..] => push_cut(alloc, &mut lent, 1, *total, loads)?,
             [] => {}
         }
     }
     Ok(lent)
 }
 
-fn push_cuts(
+fn push_cut(
     alloc: Global,
     lent: &mut Lent,
-    count: u32,
+    part: u32,
     total: i128,
     loads: &[i128],
 ) -> Result<(), AllocError> {
-    for more in 0..count {
-        lent.totals.push(total.saturating_add(i128::from(more)))?;
-        lent.loads.push(loads.to_vec(alloc)?)?;
-    }
+    lent.parts.push(part)?;
+    lent.totals.push(total)?;
+    lent.loads.push(loads.to_vec(alloc)?)?;
     Ok(())
 }
 

@@ -1,12 +1,12 @@
 //! Bounds of branches under weights on cuts, whether they close targets, and what they fix.
 
-ghost use Rattle.std.specs.Prelude.{◌≡◌, vec_len, map};
+ghost use Rattle.std.specs.Prelude.{length};
 ghost use Rattle.leaf_bound.specs.Numbers.{AreWeightingNumbers, IsBranchBelow};
 
 use crate::fields::{Lent, branch, cuts_of, numbers, parted};
 use crate::weighing::serve;
 use hub_fixing::fix;
-use leaf_bound::{bound, closes, gain};
+use leaf_bound::{Weighting, bound, closes, gain};
 use plan_model::Branch;
 use std::alloc::{AllocError, Global};
 
@@ -39,13 +39,21 @@ fn weighed(
     let [weights @ .., denom] = weights else {
         return String::from_str(alloc, "no denominator\n");
     };
-    if !serve(lent, weights, *denom, branch) {
+    let weighting = Weighting {
+        totals: &lent.totals,
+        loads: &lent.loads,
+        parts: &lent.parts,
+        fixed: &lent.fixed,
+        weights,
+        denom: *denom,
+    };
+    if !serve(&weighting, branch) {
         return String::from_str(alloc, "no weighting\n");
     }
     let mut told = String::new(alloc);
-    tell_bound(alloc, &mut told, lent, weights, *denom, branch)?;
+    tell_bound(alloc, &mut told, &weighting, branch)?;
     for target in targets {
-        tell_target(alloc, &mut told, lent, weights, *denom, branch, *target)?;
+        tell_target(alloc, &mut told, &weighting, branch, *target)?;
     }
     Ok(told)
 }
@@ -53,23 +61,16 @@ fn weighed(
 fn tell_bound(
     alloc: Global,
     told: &mut String,
-    lent: &Lent,
-    weights: &[i128],
-    denom: i128,
+    weighting: &Weighting,
     branch: &Branch,
 ) -> Result<(), AllocError>
-    requires numbers { AreWeightingNumbers lent.now.totals.items (map (λ v. v.items) lent.now.loads.items) lent.now.fixed.items weights.now denom }
-    requires nodes { IsBranchBelow (vec_len lent.now.fixed) branch.now }
+    requires numbers { AreWeightingNumbers weighting.now }
+    requires nodes { IsBranchBelow (length weighting.now.fixed.now) branch.now }
 {
-    let Lent {
-        totals,
-        loads,
-        fixed,
-    } = lent;
-    let bound = bound(totals, loads, fixed, weights, denom, branch);
+    let bound = bound(weighting, branch);
     let mut gains = Vec::new(alloc);
-    for k in 0..fixed.len() as u32 {
-        gains.push(gain(totals, loads, fixed, weights, denom, k))?;
+    for k in 0..weighting.fixed.len() as u32 {
+        gains.push(gain(weighting, k))?;
     }
     writeln!(told, "bound {bound}, gains {gains:?}")
 }
@@ -77,26 +78,19 @@ fn tell_bound(
 fn tell_target(
     alloc: Global,
     told: &mut String,
-    lent: &Lent,
-    weights: &[i128],
-    denom: i128,
+    weighting: &Weighting,
     branch: &Branch,
     target: i128,
 ) -> Result<(), AllocError>
-    requires numbers { AreWeightingNumbers lent.now.totals.items (map (λ v. v.items) lent.now.loads.items) lent.now.fixed.items weights.now denom }
-    requires nodes { IsBranchBelow (vec_len lent.now.fixed) branch.now }
+    requires numbers { AreWeightingNumbers weighting.now }
+    requires nodes { IsBranchBelow (length weighting.now.fixed.now) branch.now }
 {
-    let Lent {
-        totals,
-        loads,
-        fixed,
-    } = lent;
     if target < 0 || target > MOST_TARGET {
         return writeln!(told, "{target} is no target");
     }
-    if closes(totals, loads, fixed, weights, denom, branch, target) {
+    if closes(weighting, branch, target) {
         return writeln!(told, "closes {target}");
     }
-    let sides = fix(alloc, totals, loads, fixed, weights, denom, branch, target)?;
+    let sides = fix(alloc, weighting, branch, target)?;
     writeln!(told, "leaves {target} open, fixes {sides:?}")
 }

@@ -3,7 +3,8 @@
 //!
 //! A line of standard input is a case, and what it gives is printed. A line that begins with `#` is printed as it is,
 //! and an empty line is passed over. The fields of a case are parted by `;`. Where a field gives numbers, words that are
-//! none are for the reader. A branch has a sign for each node: `+` a hub, `-` closed, `?` free, `.` no candidate.
+//! none are for the reader. A branch has a sign for each node: `+` a hub, `-` closed, `?` free, `.` no candidate. The part
+//! of a cut is 1, but in a field with the word `part`, where it stands before the total.
 //!
 //!     rows RIGHTS; NUMBERS OF THE VARIABLES, ROW BY ROW; STEP; STEP ..       a step: table, run, or pivot ROW COLUMN
 //!     first BRANCH; FIXED COSTS; TOTAL AND LOADS OF A CUT; ..                the master's first table

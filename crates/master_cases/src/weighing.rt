@@ -1,58 +1,85 @@
 //! Whether numbers are such as bounds may be made of.
 
-ghost use Rattle.std.specs.Prelude.{◌≡◌, ◌+◌, ◌≤◌, vec_len, length, map, sum, All, IsTrue};
-ghost use Rattle.hub_model.specs.Amounts.{IsNatural};
-ghost use Rattle.leaf_bound.specs.Numbers.{naturals, IsCost, AreWeightingNumbers, IsBranchBelow};
+ghost use Rattle.std.specs.Prelude.{◌≡◌, ◌*◌, ◌/◌, ◌≤◌, length, sum, All, IsTrue};
+ghost use Rattle.std.specs.List.{AllZip};
+ghost use Rattle.hub_spec.specs.Limits.{most_part};
+ghost use Rattle.hub_model.specs.Amounts.{natural, IsNatural};
+ghost use Rattle.leaf_bound.specs.Bounds.{AreMultiples};
+ghost use Rattle.leaf_bound.specs.Numbers.{naturals, rows_of, IsCost, IsSumOf, AreSumsOf, AreWeightingNumbers, IsBranchBelow};
 
-use crate::fields::Lent;
 use crate::limits::are_below;
 use hub_model::unsigned;
+use leaf_bound::Weighting;
 use plan_model::Branch;
 
-/// Whether bounds of the branch may be made of these cuts and weights, which are shares of the denominator.
-pub(crate) fn serve(lent: &Lent, weights: &[i128], denom: i128, branch: &Branch) -> bool
-    ensures numbers { IsTrue result → AreWeightingNumbers lent.now.totals.items (map (λ v. v.items) lent.now.loads.items) lent.now.fixed.items weights.now denom }
-    ensures nodes { IsTrue result → IsBranchBelow (vec_len lent.now.fixed) branch.now }
+// The most that a cost may be, and a sum of a cut for each unit of its part.
+const MOST_COST: i128 = 100_000_000_000_000_000_000_000_000_000;
+
+/// Whether bounds of the branch may be made of these cuts and weights.
+pub(crate) fn serve(weighting: &Weighting, branch: &Branch) -> bool
+    ensures numbers { IsTrue result → AreWeightingNumbers weighting.now }
+    ensures nodes { IsTrue result → IsBranchBelow (length weighting.now.fixed.now) branch.now }
 {
-    are_numbers(&lent.totals, &lent.loads, &lent.fixed, weights, denom)
-        && is_below(branch, lent.fixed.len())
+    are_numbers(weighting) && is_below(branch, weighting.fixed.len())
 }
 
-fn are_numbers(
-    totals: &[i128],
-    loads: &[Vec<i128>],
-    fixed: &[i128],
-    weights: &[i128],
-    denom: i128,
-) -> bool
-    ensures { IsTrue result → AreWeightingNumbers totals.now (map (λ v. v.items) loads.now) fixed.now weights.now denom }
+fn are_numbers(weighting: &Weighting) -> bool
+    ensures { IsTrue result → AreWeightingNumbers weighting.now }
 {
-    fixed.len() <= 200
-        && loads.len() == totals.len()
-        && weights.len() <= totals.len()
-        && 1 <= denom
-        && denom <= 1_000_000
-        && are_costs(totals)
-        && are_rows(loads, fixed.len())
-        && are_costs(fixed)
-        && are_shares(weights, unsigned(denom))
+    weighting.fixed.len() <= 200
+        && weighting.weights.len() <= weighting.totals.len()
+        && 1 <= weighting.denom
+        && weighting.denom <= 1_000_000
+        && are_cuts(weighting)
+        && are_costs(weighting.fixed)
+        && are_shares(weighting.weights, unsigned(weighting.denom))
+        && are_multiples(weighting.weights, weighting.parts)
 }
 
 fn are_costs(numbers: &[i128]) -> bool
     ensures { IsTrue result → All IsCost numbers.now }
 {
-    numbers.iter().all(|x| 0 <= *x && *x <= 100_000_000_000_000_000_000_000_000_000)
+    numbers.iter().all(|x| 0 <= *x && *x <= MOST_COST)
 }
 
-fn are_rows(loads: &[Vec<i128>], nodes: usize) -> bool
-    ensures { IsTrue result → All (λ row. (length row ≡ nodes) × All IsCost row) (map (λ v. v.items) loads.now) }
+// Whether each cut has a part, and a total and loads within it.
+fn are_cuts(weighting: &Weighting) -> bool
+    ensures parts { IsTrue result → All (λ part. (1 ≤ part) × (part ≤ most_part)) weighting.now.parts.now }
+    ensures totals { IsTrue result → AllZip IsSumOf weighting.now.parts.now weighting.now.totals.now }
+    ensures loads { IsTrue result → AllZip (AreSumsOf (length weighting.now.fixed.now)) weighting.now.parts.now (rows_of weighting.now) }
 {
-    for row in loads {
-        if row.len() != nodes || !are_costs(row) {
+    let cuts = weighting.parts.len();
+    if weighting.totals.len() != cuts || weighting.loads.len() != cuts {
+        return false;
+    }
+    for c in 0..cuts {
+        let part = weighting.parts[c];
+        if !is_part(part)
+            || !is_sum_of(part, weighting.totals[c])
+            || !are_sums_of(part, &weighting.loads[c], weighting.fixed.len())
+        {
             return false;
         }
     }
     true
+}
+
+fn is_part(part: u32) -> bool
+    ensures { IsTrue result → (1 ≤ part) × (part ≤ most_part) }
+{
+    1 <= part && part <= 1000
+}
+
+fn is_sum_of(part: u32, sum: i128) -> bool
+    ensures { IsTrue result → IsSumOf part sum }
+{
+    part <= 1000 && 0 <= sum && sum <= MOST_COST * i128::from(part)
+}
+
+fn are_sums_of(part: u32, loads: &[i128], nodes: usize) -> bool
+    ensures { IsTrue result → AreSumsOf nodes part loads.now }
+{
+    loads.len() == nodes && loads.iter().all(|load| is_sum_of(part, *load))
 }
 
 // Whether none is below 0, and all are at most this together.
@@ -72,6 +99,27 @@ fn are_shares(weights: &[i128], most: u128) -> bool
         left -= share;
     }
     true
+}
+
+// Whether each weight is a multiple of its cut's part.
+fn are_multiples(weights: &[i128], parts: &[u32]) -> bool
+    ensures { IsTrue result → AreMultiples (naturals weights.now) parts.now }
+{
+    if weights.len() > parts.len() {
+        return false;
+    }
+    for c in 0..weights.len() {
+        if !is_multiple(weights[c], parts[c]) {
+            return false;
+        }
+    }
+    true
+}
+
+fn is_multiple(weight: i128, part: u32) -> bool
+    ensures { IsTrue result → natural weight / part * part ≡ natural weight }
+{
+    0 <= weight && 1 <= part && unsigned(weight) % u128::from(part) == 0
 }
 
 // Whether the branch's nodes are below `nodes`.
