@@ -85,7 +85,8 @@ plan_reaches : (p : Problem) (cuts : List Cut) (m : Weighting) (target : ℕ) (b
     → Agrees p.candidates (is_in plan.hubs) b → Closes m.denom target (bound_of m b) → target ≤ plan_cost p plan
 plan_reaches p cuts m target b plan ok each made shares branch is_plan agrees closes =
     let weights = weight_pairs m.weights in
-    let leaf = pairs_mix cuts m.denom m.weights (subst (AreMultiples m.weights) made.parts shares.multiples) made.few_weights shares.denom_least shares.denom_most shares.weights_limit in
+    let multiples = subst (AreMultiples m.weights) made.parts shares.multiples in
+    let leaf = pairs_mix cuts m.denom m.weights multiples made.few_weights shares.denom_least shares.denom_most shares.weights_limit in
     let hubs = part_is_filter p.candidates plan.hubs ok.candidates_ascend is_plan.hubs.ascend is_plan.hubs.are_candidates in
     let wanted = subst (λ (o : Option ℕ). IfSome o (λ n. length plan.hubs ≡ n)) (sym ok.any_number) tt in
     leaf_weak p ok.any_length cuts target m.denom weights b plan (is_in plan.hubs) is_plan wanted each hubs agrees leaf.mix

@@ -221,23 +221,28 @@ gain_within d s x z denom cost sum is =
 
 -- ---- the loads of a cut
 
-pub loads_kept : (ws : List ℤ) (es : List ℕ) (rows : List (List ℤ)) (i : ℕ) (sums : List ℕ) → i < length ws → AreWeighedLoads ws es rows (length sums)
+pub loads_kept : (ws : List ℤ) (es : List ℕ) (rows : List (List ℤ)) (i : ℕ) (sums : List ℕ)
+    → i < length ws → AreWeighedLoads ws es rows (length sums)
     → get_or ws i (pos 0) ≡ pos 0 → AreLoadsTo ws es rows i sums → AreLoadsTo ws es rows (i + 1) sums
 loads_kept ws es rows i sums low are none before = record {
   each = λ k less.
       let x = natural (get_or (column rows k) i (pos 0)) in
       let same : get_or sums k 0 + 0 * x ≡ get_or sums k 0 = omega arith in
+      let share : 0 ≡ share_at ws es i = sym (ap (λ (z : ℤ). natural z / get_or es i 0) none ∙ zero-div (get_or es i 0)) in
       subst (IsWeighedTo ws es (column rows k) (i + 1)) same
-      (weighed_next ws es (column rows k) i (get_or sums k 0) 0 x low (are.weighed k less) (sym (ap (λ (z : ℤ). natural z / get_or es i 0) none ∙ zero-div (get_or es i 0))) refl (before.each k less));
+      (weighed_next ws es (column rows k) i (get_or sums k 0) 0 x low (are.weighed k less) share refl (before.each k less));
 }
 
-next : (ws : List ℤ) (es : List ℕ) (rows : List (List ℤ)) (i : ℕ) (sums : List ℕ) (w : ℕ) (row : List ℤ) (k : ℕ) → i < length ws → AreWeighedLoads ws es rows (length sums)
+next : (ws : List ℤ) (es : List ℕ) (rows : List (List ℤ)) (i : ℕ) (sums : List ℕ) (w : ℕ) (row : List ℤ) (k : ℕ)
+    → i < length ws → AreWeighedLoads ws es rows (length sums)
     → w ≡ share_at ws es i → get_or (column rows k) i (pos 0) ≡ get_or row k (pos 0) → AreLoadsTo ws es rows i sums → k < length sums
     → IsWeighedTo ws es (column rows k) (i + 1) (get_or sums k 0 + w * natural (get_or row k (pos 0)))
 next ws es rows i sums w row k low are weight at before less =
-    weighed_next ws es (column rows k) i (get_or sums k 0) w (natural (get_or row k (pos 0))) low (are.weighed k less) weight (ap natural (sym at)) (before.each k less)
+    weighed_next ws es (column rows k) i (get_or sums k 0) w (natural (get_or row k (pos 0))) low (are.weighed k less) weight
+    (ap natural (sym at)) (before.each k less)
 
-pub loads_fit : (ws : List ℤ) (es : List ℕ) (rows : List (List ℤ)) (i : ℕ) (sums : List ℕ) (w : ℕ) (row : List ℤ) (k : ℕ) → i < length ws → AreWeighedLoads ws es rows (length sums)
+pub loads_fit : (ws : List ℤ) (es : List ℕ) (rows : List (List ℤ)) (i : ℕ) (sums : List ℕ) (w : ℕ) (row : List ℤ) (k : ℕ)
+    → i < length ws → AreWeighedLoads ws es rows (length sums)
     → w ≡ share_at ws es i → get_or (column rows k) i (pos 0) ≡ get_or row k (pos 0) → AreLoadsTo ws es rows i sums → k < length sums
     → get_or sums k 0 + w * natural (get_or row k (pos 0)) < 2 ^ 128
 loads_fit ws es rows i sums w row k low are weight at before less =
@@ -247,7 +252,8 @@ loads_fit ws es rows i sums w row k low are weight at before less =
           (next ws es rows i sums w row k low are weight at before less),
     )
 
-pub loads_added : (ws : List ℤ) (es : List ℕ) (rows : List (List ℤ)) (i : ℕ) (sums new : List ℕ) (w : ℕ) (row : List ℤ) → i < length ws → AreWeighedLoads ws es rows (length sums)
+pub loads_added : (ws : List ℤ) (es : List ℕ) (rows : List (List ℤ)) (i : ℕ) (sums new : List ℕ) (w : ℕ) (row : List ℤ)
+    → i < length ws → AreWeighedLoads ws es rows (length sums)
     → w ≡ share_at ws es i → ((k : ℕ) → k < length sums → get_or (column rows k) i (pos 0) ≡ get_or row k (pos 0)) → AreLoadsTo ws es rows i sums
     → length new ≡ length sums → ((k : ℕ) → k < length sums → get_or new k 0 ≡ get_or sums k 0 + w * natural (get_or row k (pos 0)))
     → AreLoadsTo ws es rows (i + 1) new
