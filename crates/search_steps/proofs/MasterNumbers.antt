@@ -1,14 +1,17 @@
 -- The master of a pool's cuts, and what it advises a search.
-use Rattle.std.proofs.Common.{◌≡◌, ℕ, ◌<◌, ℤ, pos, List, ◌++◌, length, map, All, sym, ap, ap₂, subst, ◌∙◌, Option, arith}
+use Rattle.std.proofs.Common.{◌≡◌, ℕ, ◌*◌, ◌/◌, ◌<◌, ◌≤◌, ℤ, pos, List, [], ◌∷◌, ◌++◌, length, map, sum, All, refl, sym, ap, ap₂, subst, ◌∙◌, Option, div-mul-le_self, arith}
+use Rattle.std.proofs.Math.Nat.{div-one, mul-div_cancel}
 use Rattle.std.proofs.lemmas.Int.{ints}
 use Rattle.std.proofs.lemmas.List.{length-map}
 use Rattle.std.proofs.lemmas.List.FromFn.{length-map-range_with_len}
-use Rattle.std.proofs.lemmas.List.Elements.{All-append, All-map, All-weaker}
+use Rattle.std.proofs.lemmas.List.Elements.{All-head, All-tail, All-append, All-map, All-weaker}
+use Rattle.std.proofs.lemmas.List.Sums.{sum_by-cons}
 use Rattle.hub_spec.specs.Problem.{Problem, IsProblem}
-use Rattle.hub_spec.specs.Cuts.{Cut, total}
+use Rattle.hub_spec.specs.Cuts.{Cut, total, IsCut}
 use Rattle.hub_spec.specs.Trees.{Branching, IsBranch}
 use Rattle.hub_model.specs.Amounts.{natural, IsNatural}
 use Rattle.hub_model.proofs.Signs.{pos_least}
+use Rattle.leaf_bound.specs.Bounds.{AreMultiples}
 use Rattle.leaf_bound.specs.Numbers.{naturals, IsCost}
 use Rattle.leaf_bound.proofs.LeafWeights.{pairs_mix}
 use Rattle.frac_master.specs.Masters.{MasterNumbers, AreMasterNumbers, AreWithinTotals, master_of, candidates_of}
@@ -18,11 +21,11 @@ use Rattle.frac_master.proofs.MasterTables.{weights_are_a_mix}
 use Rattle.search_spec.specs.States.{denominator}
 use Rattle.cut_pool.specs.Entries.{Entry}
 use Rattle.search_core.specs.Tasks.{AreFixedCosts}
-use Rattle.search_steps.specs.Pools.{IsSumsOf, IsPoolOf, pool_cuts, state_by}
-use Rattle.search_steps.specs.Advising.{node_loads, master_numbers, told_by, master_advising}
+use Rattle.search_steps.specs.Pools.{entry_cut, IsSumsOf, IsPoolOf, pool_cuts, state_by}
+use Rattle.search_steps.specs.Advising.{node_loads, master_numbers, told_by, in_parts, advised_on, master_advising}
 use Rattle.search_steps.specs.Weights.{AreNodeWeights}
 use Rattle.search_steps.specs.Theorems.{AdvisingIsSound}
-use Rattle.search_steps.proofs.PoolNumbers.{lent_totals, lent_loads, naturals_totals, naturals_loads, loads_least, loads_below, loads_costs, fixed_naturals, fixed_long}
+use Rattle.search_steps.proofs.PoolNumbers.{lent_totals, lent_loads, lent_parts, parts_are, naturals_totals, naturals_loads, loads_least, loads_below, loads_costs, fixed_naturals, fixed_long}
 use Rattle.search_steps.proofs.Weighed.{below_size, branch_below}
 
 -- the numbers are those that the pool lends, with the fixed costs
@@ -61,6 +64,18 @@ nodes_serve p fixed b costs is =
     let below = branch_below p fixed b costs is in
     All-append (λ k. k < n) b.inside (b.outside ++ b.free) below.inside (All-append (λ k. k < n) b.outside b.free below.outside below.free)
 
+is_master : (p : Problem) (cuts : List Cut) (b : Branching) → IsProblem p → IsBranch p b → IsMaster (master_numbers p cuts) b
+is_master p cuts b ok is =
+    let below = below_size p b ok is in
+    let n = length p.fixed_costs in
+    let same : n ≡ p.size = ok.cost_for_each_node in
+    record {
+      split = is.split;
+      nodes = subst (λ (m : ℕ). All (λ k. k < m) (candidates_of b)) (sym same)
+          (All-append (λ k. k < p.size) b.inside (b.outside ++ b.free) below.inside (All-append (λ k. k < p.size) b.outside b.free below.outside below.free));
+      few = omega (arith, same, ok.size_limit);
+    }
+
 -- the numbers are those of the master of the cuts
 masters_same : (p : Problem) (entries : List Entry) (totals : List ℤ) (loads : List (List ℤ)) (fixed : List ℤ)
     → AreMasters p entries totals loads fixed → master_of totals loads fixed ≡ master_numbers p (pool_cuts p entries)
@@ -70,12 +85,30 @@ masters_same p entries totals loads fixed are =
     (ap (map naturals) are.are_loads ∙ naturals_loads p entries are.pool)
     ∙ ap (of (map total (pool_cuts p entries)) (map (node_loads p) (pool_cuts p entries))) (fixed_naturals p fixed are.costs)
 
+-- with the part 1 each weight stays as it is
+in_ones : (ws : List ℕ) (entries : List Entry) → length ws ≡ length entries → in_parts ws (lent_parts entries) ≡ ws
+in_ones [] entries long = refl
+in_ones (w ∷ ws) [] long = absurd (omega (arith, long))
+in_ones (w ∷ ws) (e ∷ entries) long =
+    ap₂ (λ (x : ℕ) (xs : List ℕ). x ∷ xs) (ap (λ (n : ℕ). n * 1) (div-one w) ∙ omega arith) (in_ones ws entries (omega (arith, long)))
+
+advised_same : (p : Problem) (entries : List Entry) (a : Advised) → length a.weights ≡ length entries
+    → advised_on (pool_cuts p entries) a ≡ a
+advised_same p entries a long =
+    ap (λ (ws : List ℕ). record a { weights = ws })
+    (ap (in_parts a.weights) (sym (parts_are p entries)) ∙ in_ones a.weights entries long)
+
 pub advice_is : (p : Problem) (entries : List Entry) (totals : List ℤ) (loads : List (List ℤ)) (fixed : List ℤ) (b : Branching) (a : Advised)
-    → AreMasters p entries totals loads fixed → a ≡ advice (master_of totals loads fixed) b
+    → AreMasters p entries totals loads fixed → IsBranch p b → a ≡ advice (master_of totals loads fixed) b
     → (hubs : List ℕ) (cost made : ℕ) (stop : Option ℕ) → told_by a ≡ master_advising p (state_by p entries hubs cost made stop) b
 unfolding master_advising
-advice_is p entries totals loads fixed b a are is hubs cost made stop =
-    ap told_by (is ∙ ap (λ m. advice m b) (masters_same p entries totals loads fixed are))
+advice_is p entries totals loads fixed b a are is_branch is hubs cost made stop =
+    let m = master_numbers p (pool_cuts p entries) in
+    let mixed = weights_are_a_mix m b (is_master p (pool_cuts p entries) b are.costs.problem is_branch) in
+    let long : length (advice m b).weights ≡ length entries =
+    mixed.one_each ∙ length-map (pool_cuts p entries) total ∙ length-map entries (entry_cut p) in
+    ap told_by (is ∙ ap (λ (n : MasterNumbers). advice n b) (masters_same p entries totals loads fixed are)
+    ∙ sym (advised_same p entries (advice m b) long))
 
 pub point_long : (p : Problem) (entries : List Entry) (totals : List ℤ) (loads : List (List ℤ)) (fixed : List ℤ) (b : Branching) (a : Advised)
     → AreMasters p entries totals loads fixed → a ≡ advice (master_of totals loads fixed) b → length a.point ≡ p.size
@@ -93,25 +126,41 @@ node_weights p entries totals loads fixed weights are mix = record {
 
 -- ---- the advice is sound
 
-is_master : (p : Problem) (cuts : List Cut) (b : Branching) → IsProblem p → IsBranch p b → IsMaster (master_numbers p cuts) b
-is_master p cuts b ok is =
-    let below = below_size p b ok is in
-    let n = length p.fixed_costs in
-    let same : n ≡ p.size = ok.cost_for_each_node in
-    record {
-      split = is.split;
-      nodes = subst (λ (m : ℕ). All (λ k. k < m) (candidates_of b)) (sym same)
-          (All-append (λ k. k < p.size) b.inside (b.outside ++ b.free) below.inside (All-append (λ k. k < p.size) b.outside b.free below.outside below.free));
-      few = omega (arith, same, ok.size_limit);
-    }
+-- rounded down to multiples they are multiples
+parts_multiple : (ws parts : List ℕ) → length ws ≤ length parts → All (λ (e : ℕ). 1 ≤ e) parts → AreMultiples (in_parts ws parts) parts
+parts_multiple [] parts few least = tt
+parts_multiple (w ∷ ws) [] few least = absurd (omega (arith, few))
+parts_multiple (w ∷ ws) (e ∷ parts) few least =
+    let some = All-head (λ (n : ℕ). 1 ≤ n) e parts least in (
+      ap (λ (n : ℕ). n * e) (mul-div_cancel (w / e) some),
+      parts_multiple ws parts (omega (arith, few)) (All-tail (λ (n : ℕ). 1 ≤ n) e parts least),
+    )
+
+parts_long : (ws parts : List ℕ) → length ws ≤ length parts → length (in_parts ws parts) ≡ length ws
+parts_long [] parts few = refl
+parts_long (w ∷ ws) [] few = absurd (omega (arith, few))
+parts_long (w ∷ ws) (e ∷ parts) few = omega (arith, parts_long ws parts (omega (arith, few)))
+
+parts_below : (ws parts : List ℕ) → sum (in_parts ws parts) ≤ sum ws
+parts_below [] parts = omega arith
+parts_below (w ∷ ws) [] = omega arith
+parts_below (w ∷ ws) (e ∷ parts) =
+    omega (arith, div-mul-le_self w e, parts_below ws parts, sum_by-cons (λ (n : ℕ). n) w ws, sum_by-cons (λ (n : ℕ). n) (w / e * e) (in_parts ws parts))
 
 pub advising_sound : AdvisingIsSound
 unfolding master_advising
 advising_sound p ok s b is_state is_branch some =
     let m = master_numbers p s.cuts in
     let mixed : IsMixed (length m.totals) (advice m b).weights = weights_are_a_mix m b (is_master p s.cuts b ok is_branch) in
-    let weights = (advice m b).weights in
-    let mix = pairs_mix s.cuts denominator weights (omega (arith, mixed.one_each, length-map s.cuts total)) (omega arith) (omega arith) mixed.most in
+    let parts = map (λ (cut : Cut). cut.part) s.cuts in
+    let given = (advice m b).weights in
+    let weights = in_parts given parts in
+    let few : length given ≤ length parts = omega (arith, mixed.one_each, length-map s.cuts total, length-map s.cuts (λ (cut : Cut). cut.part)) in
+    let least = All-map (λ (e : ℕ). 1 ≤ e) (λ (cut : Cut). cut.part) s.cuts
+    (All-weaker (IsCut p) (λ (cut : Cut). 1 ≤ cut.part) (λ cut is. is.part_least) s.cuts is_state.cuts) in
+    let mix = pairs_mix s.cuts denominator weights (parts_multiple given parts few least)
+    (omega (arith, parts_long given parts few, mixed.one_each, length-map s.cuts total)) (omega arith) (omega arith)
+    (omega (arith, mixed.most, parts_below given parts)) in
     record {
       mix = mix.mix;
       listed = record { values = mix.above; ascend = mix.ascend };

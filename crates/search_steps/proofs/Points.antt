@@ -15,6 +15,7 @@ use Rattle.hub_spec.proofs.SumLemmas.{by_test, Contains-cons_cases}
 use Rattle.search_spec.specs.States.{Advice}
 use Rattle.search_spec.specs.Laws.{GoesOn}
 use Rattle.search_spec.specs.Choices.{has_node, first_best, rounded, picked, all_closed, all_decided, rule_parts}
+use Rattle.search_spec.proofs.Bounds.{any_room}
 use Rattle.search_spec.proofs.RuleParts.{has_when, in_when, rule_sound}
 use Rattle.search_steps.specs.Advising.{master_advising}
 use Rattle.search_steps.proofs.MasterNumbers.{advising_sound}
@@ -79,7 +80,7 @@ goes_on p b some = record {
 pub picked_is_set : (p : Problem) (a : Advice) (b : Branching) → IsProblem p → IsBranch p b → 1 ≤ length b.free → IsHubSet p (picked p a b)
 unfolding rule_parts
 picked_is_set p a b ok is some =
-    (rule_sound p (master_advising p) ok (advising_sound p ok)).pick a b is (goes_on p b some)
+    ((rule_sound p (master_advising p) ok (advising_sound p ok)).pick a b is (any_room p b ok.any_number) (goes_on p b some)).is_set
 
 -- nothing is rounded up
 pub picked_greatest : (p : Problem) (a : Advice) (b : Branching) (set : List ℕ) (k : ℕ) → set ≡ rounded p a b → length set ≡ 0

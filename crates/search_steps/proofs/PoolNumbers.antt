@@ -1,21 +1,24 @@
 -- The numbers that a pool lends are those of its entries' cuts.
-use Rattle.std.proofs.Common.{◌≡◌, ℕ, ◌/◌, ◌^◌, ◌<◌, ◌≤◌, slice_index, ℤ, pos, List, [], ◌∷◌, length, map, get_or, All, refl, sym, ap, ap₂, ◌∙◌, arith}
+use Rattle.std.proofs.Common.{◌≡◌, ℕ, ◌*◌, ◌/◌, ◌^◌, ◌<◌, ◌≤◌, slice_index, ℤ, pos, List, [], ◌∷◌, length, map, get_or, All, refl, sym, ap, ap₂, ◌∙◌, arith}
 use Rattle.std.specs.List.{AllZip}
+use Rattle.std.proofs.Math.Nat.{div-one}
 use Rattle.std.proofs.lemmas.Int.{ints}
 use Rattle.std.proofs.lemmas.List.{length-map}
 use Rattle.std.proofs.lemmas.Grind.{same_number_lists}
 use Rattle.std.proofs.lemmas.List.FromFn.{get_or-map-range_with_len, length-map-range_with_len}
-use Rattle.std.proofs.lemmas.List.Elements.{All-head, All-tail, All-weaker, All-map, All-from_get_or}
-use Rattle.hub_spec.specs.Limits.{most_cost}
+use Rattle.std.proofs.lemmas.List.Elements.{All-nil, All-cons, All-head, All-tail, All-weaker, All-map, All-from_get_or}
+use Rattle.hub_spec.specs.Limits.{most_part, most_cost}
 use Rattle.hub_spec.specs.Problem.{Problem, IsProblem, commodities}
 use Rattle.hub_spec.specs.Plans.{IsHubSet}
-use Rattle.hub_spec.specs.Cuts.{total, load}
+use Rattle.hub_spec.specs.Cuts.{Cut, total, load}
 use Rattle.hub_spec.specs.Separation.{IsOrder, IsSetCut, set_cut}
 use Rattle.hub_spec.proofs.SetCutFunction.{set_cut_is_one_lem}
-use Rattle.hub_spec.proofs.SetCuts.{loads_within, set_cut_is_cut}
+use Rattle.hub_spec.proofs.SetCuts as sets
+use Rattle.hub_spec.proofs.SetCuts.{loads_within}
 use Rattle.hub_model.specs.Amounts.{natural, IsNatural}
 use Rattle.hub_model.proofs.Signs.{natural-pos, pos_least}
-use Rattle.leaf_bound.specs.Numbers.{naturals, IsCost}
+use Rattle.leaf_bound.specs.Bounds.{AreMultiples}
+use Rattle.leaf_bound.specs.Numbers.{naturals, IsCost, IsSumOf, AreSumsOf}
 use Rattle.leaf_bound.specs.Theorems.{AreLoadsOf}
 use Rattle.frac_master.specs.Masters.{AreShortRows, AreWithinTotals, halved}
 use Rattle.cut_pool.specs.Entries.{Entry}
@@ -24,12 +27,15 @@ use Rattle.search_core.specs.Tasks.{AreFixedCosts}
 use Rattle.search_steps.specs.Pools.{entry_cut, IsSumsOf, IsPoolOf, pool_cuts}
 use Rattle.search_steps.specs.Advising.{node_loads}
 
--- the totals and the loads as a pool lends them
+-- the totals, the loads and the parts as a pool lends them
 abbrev pub lent_totals : List Entry → List ℤ
 lent_totals entries = map (λ (e : Entry). pos e.total) entries
 
 abbrev pub lent_loads : List Entry → List (List ℤ)
 lent_loads entries = map (λ (e : Entry). map pos e.loads) entries
+
+abbrev pub lent_parts : List Entry → List ℕ
+lent_parts entries = map (λ (e : Entry). 1) entries
 
 rows_lent : (h k : ℕ) (entries : List Entry)
     → map (λ (e : Entry). slice_index e.loads k / 2 ^ h) entries ≡ map (λ load. halved h (slice_index (map natural load) k)) (lent_loads entries)
@@ -54,13 +60,13 @@ is_minimal p set order ok is_set is_order = (set_cut_is_one_lem p set order (set
 pub total_limit : (p : Problem) (set order : List ℕ) → IsProblem p → IsHubSet p set → IsOrder p set order
     → total (set_cut p set order) ≤ most_cost
 total_limit p set order ok is_set is_order =
-    (set_cut_is_cut p set order (set_cut p set order) ok is_set is_order (is_minimal p set order ok is_set is_order)).sums.total_limit
+    sets.total_limit p set order (set_cut p set order) ok is_set (is_minimal p set order ok is_set is_order)
 
 pub load_limit : (p : Problem) (set order : List ℕ) (k : ℕ) → IsProblem p → IsHubSet p set → IsOrder p set order
     → load (set_cut p set order) k ≤ most_cost
 load_limit p set order k ok is_set is_order =
     let cut = set_cut p set order in
-    let within : load cut k ≤ total cut = loads_within p set order (commodities p.size) cut.duals k (is_minimal p set order ok is_set is_order) in
+    let within : load cut k ≤ total cut = loads_within p set order (commodities p.size) cut.duals k (is_minimal p set order ok is_set is_order).duals in
     omega (arith, within, total_limit p set order ok is_set is_order)
 
 entry_total : (p : Problem) (e : Entry) → IsProblem p → IsSumsOf p e → e.total ≤ most_cost
@@ -74,7 +80,7 @@ load_below : (p : Problem) (e : Entry) (k : ℕ) → IsProblem p → IsSumsOf p 
 load_below p e k ok is node =
     let cut = entry_cut p e in
     let within : load cut k ≤ total cut =
-    loads_within p e.hubs e.order (commodities p.size) cut.duals k (is_minimal p e.hubs e.order ok is.set is.order) in
+    loads_within p e.hubs e.order (commodities p.size) cut.duals k (is_minimal p e.hubs e.order ok is.set is.order).duals in
     omega (arith, is.is_total, is.are_loads k node, within)
 
 pub loads_below : (p : Problem) (entries : List Entry) → IsProblem p → IsPoolOf p entries
@@ -90,11 +96,6 @@ loads_below p (e ∷ entries) ok are =
 is_cost : (n : ℕ) → n ≤ most_cost → IsCost (pos n)
 is_cost n low = (omega (arith, ints), omega (arith, ints, low))
 
-pub totals_costs : (p : Problem) (entries : List Entry) → IsProblem p → IsPoolOf p entries → All IsCost (lent_totals entries)
-totals_costs p entries ok are =
-    All-map IsCost (λ (e : Entry). pos e.total) entries
-    (All-weaker (IsSumsOf p) (λ (e : Entry). IsCost (pos e.total)) (λ e is. is_cost e.total (entry_total p e ok is)) entries are)
-
 pub loads_costs : (p : Problem) (entries : List Entry) (n : ℕ) → IsProblem p → IsPoolOf p entries → n ≡ p.size
     → All (λ (row : List ℤ). (length row ≡ n) × All IsCost row) (lent_loads entries)
 loads_costs p entries n ok are size =
@@ -106,7 +107,47 @@ loads_costs p entries n ok are size =
           (λ k low. is_cost (get_or e.loads k 0) (entry_load p e k ok is (omega (arith, low, is.one_load_each))))),
     )) entries are)
 
+-- with the part 1 the limits are those of sums
+is_sum : (z : ℤ) → IsCost z → IsSumOf 1 z
+is_sum z is = (is.0, omega (arith, ints, is.1))
+
+pub totals_sums : (p : Problem) (entries : List Entry) → IsProblem p → IsPoolOf p entries
+    → AllZip IsSumOf (lent_parts entries) (lent_totals entries)
+totals_sums p [] ok are = tt
+totals_sums p (e ∷ entries) ok are = (
+  is_sum (pos e.total) (is_cost e.total (entry_total p e ok (All-head (IsSumsOf p) e entries are))),
+  totals_sums p entries ok (All-tail (IsSumsOf p) e entries are),
+)
+
+rows_sums : (n : ℕ) (entries : List Entry) → All (λ (row : List ℤ). (length row ≡ n) × All IsCost row) (lent_loads entries)
+    → AllZip (AreSumsOf n) (lent_parts entries) (lent_loads entries)
+rows_sums n [] are = tt
+rows_sums n (e ∷ entries) are =
+    let here = All-head (λ (row : List ℤ). (length row ≡ n) × All IsCost row) (map pos e.loads) (lent_loads entries) are in (
+      (here.0, All-weaker IsCost (IsSumOf 1) is_sum (map pos e.loads) here.1),
+      rows_sums n entries (All-tail (λ (row : List ℤ). (length row ≡ n) × All IsCost row) (map pos e.loads) (lent_loads entries) are),
+    )
+
+pub loads_sums : (p : Problem) (entries : List Entry) (n : ℕ) → IsProblem p → IsPoolOf p entries → n ≡ p.size
+    → AllZip (AreSumsOf n) (lent_parts entries) (lent_loads entries)
+loads_sums p entries n ok are size = rows_sums n entries (loads_costs p entries n ok are size)
+
+pub parts_least : (entries : List Entry) → All (λ (part : ℕ). (1 ≤ part) × (part ≤ most_part)) (lent_parts entries)
+parts_least [] = All-nil (λ (part : ℕ). (1 ≤ part) × (part ≤ most_part))
+parts_least (e ∷ entries) = All-cons (λ (part : ℕ). (1 ≤ part) × (part ≤ most_part)) 1 (lent_parts entries) (omega arith, omega arith) (parts_least entries)
+
+-- each number has the part 1 as often as it says
+pub multiples_of_one : (entries : List Entry) (ws : List ℕ) → length ws ≤ length entries → AreMultiples ws (lent_parts entries)
+multiples_of_one entries [] few = tt
+multiples_of_one [] (w ∷ ws) few = absurd (omega (arith, few))
+multiples_of_one (e ∷ entries) (w ∷ ws) few = (ap (λ (n : ℕ). n * 1) (div-one w) ∙ omega arith, multiples_of_one entries ws (omega (arith, few)))
+
 -- ---- what they are
+
+pub parts_are : (p : Problem) (entries : List Entry) → lent_parts entries ≡ map (λ (cut : Cut). cut.part) (pool_cuts p entries)
+unfolding set_cut
+parts_are p [] = refl
+parts_are p (e ∷ entries) = ap (λ (parts : List ℕ). 1 ∷ parts) (parts_are p entries)
 
 pub naturals_totals : (p : Problem) (entries : List Entry) → IsPoolOf p entries → naturals (lent_totals entries) ≡ map total (pool_cuts p entries)
 naturals_totals p [] are = refl

@@ -9,6 +9,8 @@ use Rattle.hub_spec.proofs.ChildLists.{open_branch, closed_branch}
 use Rattle.hub_spec.proofs.Sets.{Contains-head, Contains-later}
 use Rattle.search_spec.specs.Steps as steps
 use Rattle.search_spec.specs.Steps.{closes_at, fixed_side, fixing, fixings}
+use Rattle.leaf_bound.specs.declared.weightings.Weighting as lent
+use Rattle.leaf_bound.specs.Numbers.{weighting_of}
 use Rattle.hub_fixing.specs.declared.sides.Side.{Side}
 use Rattle.hub_fixing.specs.declared.sides.Side.TheVariants.{In, Out}
 use Rattle.hub_fixing.specs.Fixing as sides
@@ -16,7 +18,7 @@ use Rattle.hub_fixing.specs.Fixing.{closes_by, side_of}
 use Rattle.cut_pool.specs.Entries.{Entry}
 use Rattle.search_steps.specs.Pools.{state_by}
 use Rattle.search_steps.specs.Weights.{pairs_of, side_as, sides_as}
-use Rattle.search_steps.proofs.Weighed.{AreLent, node_weighting, lent_closes}
+use Rattle.search_steps.proofs.Weighed.{AreLent, lent_closes}
 
 -- the node with its side as the search has it
 abbrev node_as : ℕ × Side → ℕ × steps.Side
@@ -42,19 +44,18 @@ by_tests k true opened = refl
 by_tests k false true = refl
 by_tests k false false = refl
 
-pub sides_are : (p : Problem) (entries : List Entry) (totals : List ℤ) (loads : List (List ℤ)) (fixed weights : List ℤ) (b : Branching)
-    → AreLent p entries totals loads fixed weights → IsBranch p b → (hubs : List ℕ) (cost made : ℕ) (stop : Option ℕ)
-    → sides_as (sides.fixings (node_weighting totals loads fixed weights) cost b)
+pub sides_are : (p : Problem) (entries : List Entry) (fixed weights : List ℤ) (m : lent.Weighting) (b : Branching)
+    → AreLent p entries fixed weights m → IsBranch p b → (hubs : List ℕ) (cost made : ℕ) (stop : Option ℕ)
+    → sides_as (sides.fixings (weighting_of m) cost b)
     ≡ fixings p (state_by p entries hubs cost made stop) b (pairs_of weights)
 unfolding fixings fixing fixed_side
-sides_are p entries totals loads fixed weights b lent is hubs cost made stop =
-    let m = node_weighting totals loads fixed weights in
+sides_are p entries fixed weights m b lent is hubs cost made stop =
     let s = state_by p entries hubs cost made stop in
     let w = pairs_of weights in
     let side : Bool → Bool → ℕ → Option (ℕ × steps.Side) =
     λ closed opened k. option_map (λ (side : steps.Side). (k, side)) (cond closed (Some steps.stays_open) (cond opened (Some steps.stays_closed) None)) in
-    listed_as (λ k. option_map (λ (side : Side). (k, side)) (side_of m cost b k)) (fixing p s b w) b.free (λ k free.
-    by_tests k (closes_by m cost (closed_child b k)) (closes_by m cost (open_child b k))
+    listed_as (λ k. option_map (λ (side : Side). (k, side)) (side_of (weighting_of m) cost b k)) (fixing p s b w) b.free (λ k free.
+    by_tests k (closes_by (weighting_of m) cost (closed_child b k)) (closes_by (weighting_of m) cost (open_child b k))
     ∙ ap₂ (λ (x y : Bool). side x y k)
-    (lent_closes p entries totals loads fixed weights (closed_child b k) lent (closed_branch p b k is free) hubs cost made stop)
-    (lent_closes p entries totals loads fixed weights (open_child b k) lent (open_branch p b k is free) hubs cost made stop))
+    (lent_closes p entries fixed weights m (closed_child b k) lent (closed_branch p b k is free) hubs cost made stop)
+    (lent_closes p entries fixed weights m (open_child b k) lent (open_branch p b k is free) hubs cost made stop))

@@ -5,13 +5,14 @@ use Rattle.std.proofs.lemmas.Bool.{false≢true}
 use Rattle.std.proofs.lemmas.Int.{ints}
 use Rattle.std.proofs.lemmas.List.{length-map}
 use Rattle.std.proofs.lemmas.List.Elements.{All-weaker, All-map}
-use Rattle.hub_spec.specs.Limits.{most_fixed_cost}
+use Rattle.hub_spec.specs.Limits.{most_part, most_fixed_cost}
 use Rattle.hub_spec.specs.Problem.{Problem, IsProblem, fixed_cost}
-use Rattle.hub_spec.specs.Trees.{Branching, IsBranch}
+use Rattle.hub_spec.specs.Trees.{Branching, leaf_bound, IsBranch}
 use Rattle.hub_spec.proofs.SumLemmas.{by_test}
 use Rattle.hub_spec.proofs.Mixes.{candidate_is_node}
-use Rattle.hub_model.specs.Amounts.{natural}
-use Rattle.leaf_bound.specs.Bounds.{Weighting, bound_of}
+use Rattle.hub_model.specs.Amounts.{natural, IsNatural}
+use Rattle.leaf_bound.specs.declared.weightings.Weighting as lent
+use Rattle.leaf_bound.specs.Bounds.{AreMultiples, bound_of}
 use Rattle.leaf_bound.specs.Numbers.{naturals, IsCost, AreWeightingNumbers, IsBranchBelow, weighting_of}
 use Rattle.leaf_bound.specs.Theorems.{AreLoadsOf, IsWeightingOf}
 use Rattle.leaf_bound.proofs.LeafWeights.{leaf_has_bound}
@@ -21,20 +22,15 @@ use Rattle.hub_fixing.specs.Fixing.{closes_by}
 use Rattle.cut_pool.specs.Entries.{Entry}
 use Rattle.search_core.specs.Tasks.{AreFixedCosts}
 use Rattle.search_steps.specs.Pools.{entry_cut, IsPoolOf, pool_cuts, state_by}
-use Rattle.search_steps.specs.Weights.{AreNodeWeights, pairs_of}
-use Rattle.search_steps.proofs.PoolNumbers.{lent_totals, lent_loads, totals_costs, loads_costs, naturals_totals, loads_zip, fixed_naturals, fixed_long}
+use Rattle.search_steps.specs.Weights.{AreNodeWeights, IsNodeWeighting, pairs_of}
+use Rattle.search_steps.proofs.PoolNumbers.{totals_sums, loads_sums, parts_least, multiples_of_one, parts_are, naturals_totals, loads_zip, fixed_naturals, fixed_long}
 
--- the numbers are those that the pool lends, with the fixed costs, and the weights are a node's
-pub record AreLent (p : Problem) (entries : List Entry) (totals : List ℤ) (loads : List (List ℤ)) (fixed weights : List ℤ) : Type 0 where
+-- the weighting has the pool's numbers and the fixed costs, and the weights are a node's
+pub record AreLent (p : Problem) (entries : List Entry) (fixed weights : List ℤ) (m : lent.Weighting) : Type 0 where
   pub pool : IsPoolOf p entries
   pub costs : AreFixedCosts p fixed
   pub are_weights : AreNodeWeights (length entries) weights
-  pub are_totals : totals ≡ lent_totals entries
-  pub are_loads : loads ≡ lent_loads entries
-
--- what they are seen as
-abbrev pub node_weighting : List ℤ → List (List ℤ) → List ℤ → List ℤ → Weighting
-node_weighting totals loads fixed weights = weighting_of totals loads fixed weights (pos 1000000)
+  pub is : IsNodeWeighting entries fixed weights m
 
 fixed_are_costs : (p : Problem) (fixed : List ℤ) → AreFixedCosts p fixed → All IsCost fixed
 fixed_are_costs p fixed are =
@@ -42,24 +38,27 @@ fixed_are_costs p fixed are =
     (All-weaker (λ (f : ℕ). f ≤ most_fixed_cost) (λ (f : ℕ). IsCost (pos f)) (λ f low. (omega (arith, ints), omega (arith, ints, low))) p.fixed_costs
     are.problem.cost_limit))
 
-pub weighting_numbers : (p : Problem) (entries : List Entry) (totals : List ℤ) (loads : List (List ℤ)) (fixed weights : List ℤ)
-    → AreLent p entries totals loads fixed weights → AreWeightingNumbers totals loads fixed weights (pos 1000000)
-weighting_numbers p entries totals loads fixed weights lent =
+pub weighting_numbers : (p : Problem) (entries : List Entry) (fixed weights : List ℤ) (m : lent.Weighting)
+    → AreLent p entries fixed weights m → AreWeightingNumbers m
+weighting_numbers p entries fixed weights m lent =
     let ok = lent.costs.problem in
-    let many : length totals ≡ length entries = ap length lent.are_totals ∙ length-map entries (λ (e : Entry). pos e.total) in
-    let rows : length loads ≡ length entries = ap length lent.are_loads ∙ length-map entries (λ (e : Entry). map pos e.loads) in
+    let n = length m.fixed.now in
+    let size : n ≡ p.size = ap length lent.is.are_fixed ∙ fixed_long p fixed lent.costs in
+    let many : length m.totals.now ≡ length entries = ap length lent.is.are_totals ∙ length-map entries (λ (e : Entry). pos e.total) in
+    let few : length m.weights.now ≤ length entries = omega (arith, ap length lent.is.are_weights, lent.are_weights.few) in
     record {
-      some_nodes = omega (arith, fixed_long p fixed lent.costs, ok.size_limit);
-      one_load_each = rows ∙ sym many;
-      few_weights = omega (arith, many, lent.are_weights.few);
-      are_totals = subst (All IsCost) (sym lent.are_totals) (totals_costs p entries ok lent.pool);
-      are_loads = subst (All (λ (row : List ℤ). (length row ≡ length fixed) × All IsCost row)) (sym lent.are_loads)
-          (loads_costs p entries (length fixed) ok lent.pool (fixed_long p fixed lent.costs));
-      are_fixed_costs = fixed_are_costs p fixed lent.costs;
-      are_weights = lent.are_weights.low;
-      weights_limit = lent.are_weights.most;
-      denom_least = omega (arith, ints);
-      denom_most = omega (arith, ints);
+      some_nodes = omega (arith, size, ok.size_limit);
+      few_weights = omega (arith, many, few);
+      are_parts = subst (All (λ (part : ℕ). (1 ≤ part) × (part ≤ most_part))) (sym lent.is.are_parts) (parts_least entries);
+      are_totals = rw (lent.is.are_parts, lent.is.are_totals) (totals_sums p entries ok lent.pool);
+      are_loads = rw (lent.is.are_parts, lent.is.are_loads) (loads_sums p entries n ok lent.pool size);
+      are_fixed_costs = subst (All IsCost) (sym lent.is.are_fixed) (fixed_are_costs p fixed lent.costs);
+      are_weights = subst (All IsNatural) (sym lent.is.are_weights) lent.are_weights.low;
+      are_multiples = subst (AreMultiples (naturals m.weights.now)) (sym lent.is.are_parts)
+          (multiples_of_one entries (naturals m.weights.now) (omega (arith, few, length-map m.weights.now natural)));
+      weights_limit = rw (lent.is.are_weights, lent.is.is_denom) lent.are_weights.most;
+      denom_least = rw lent.is.is_denom (omega (arith, ints));
+      denom_most = rw lent.is.is_denom (omega (arith, ints));
     }
 
 nodes_below : (p : Problem) (ks : List ℕ) → IsProblem p → All (Contains p.candidates) ks → All (λ k. k < p.size) ks
@@ -76,32 +75,40 @@ pub branch_below : (p : Problem) (fixed : List ℤ) (b : Branching) → AreFixed
 branch_below p fixed b costs is =
     subst (λ (n : ℕ). IsBranchBelow n b) (sym (fixed_long p fixed costs)) (below_size p b costs.problem is)
 
-weighting_is : (p : Problem) (entries : List Entry) (totals : List ℤ) (loads : List (List ℤ)) (fixed weights : List ℤ)
-    → AreLent p entries totals loads fixed weights → IsWeightingOf p (pool_cuts p entries) (node_weighting totals loads fixed weights)
+pub weighted_below : (p : Problem) (entries : List Entry) (fixed weights : List ℤ) (m : lent.Weighting) (b : Branching)
+    → AreLent p entries fixed weights m → IsBranch p b → IsBranchBelow (length m.fixed.now) b
+weighted_below p entries fixed weights m b lent is =
+    subst (λ (n : ℕ). IsBranchBelow n b) (sym (ap length lent.is.are_fixed)) (branch_below p fixed b lent.costs is)
+
+weighting_is : (p : Problem) (entries : List Entry) (fixed weights : List ℤ) (m : lent.Weighting)
+    → AreLent p entries fixed weights m → IsWeightingOf p (pool_cuts p entries) (weighting_of m)
 unfolding fixed_cost
-weighting_is p entries totals loads fixed weights lent = record {
-  totals = ap naturals lent.are_totals ∙ naturals_totals p entries lent.pool;
-  loads = subst (λ (rows : List (List ℤ)). AllZip (AreLoadsOf p) (pool_cuts p entries) (map naturals rows)) (sym lent.are_loads) (loads_zip p entries lent.pool);
-  fixed = λ k node. ap (λ (costs : List ℕ). get_or costs k 0) (fixed_naturals p fixed lent.costs);
-  few_weights = omega (arith, length-map weights natural, length-map entries (entry_cut p), lent.are_weights.few);
+weighting_is p entries fixed weights m lent = record {
+  totals = ap naturals lent.is.are_totals ∙ naturals_totals p entries lent.pool;
+  loads = subst (λ (rows : List (List ℤ)). AllZip (AreLoadsOf p) (pool_cuts p entries) (map naturals rows)) (sym lent.is.are_loads) (loads_zip p entries lent.pool);
+  fixed = λ k node. ap (λ (costs : List ℕ). get_or costs k 0) (ap naturals lent.is.are_fixed ∙ fixed_naturals p fixed lent.costs);
+  parts = lent.is.are_parts ∙ parts_are p entries;
+  few_weights = omega (arith, length-map m.weights.now natural, ap length lent.is.are_weights, length-map entries (entry_cut p), lent.are_weights.few);
 }
 
 -- the bound in each state with these entries
-pub lent_bound : (p : Problem) (entries : List Entry) (totals : List ℤ) (loads : List (List ℤ)) (fixed weights : List ℤ) (b : Branching)
-    → AreLent p entries totals loads fixed weights → IsBranch p b → (hubs : List ℕ) (cost made : ℕ) (stop : Option ℕ)
-    → bound_of (node_weighting totals loads fixed weights) b ≡ bound_at p (state_by p entries hubs cost made stop) b (pairs_of weights)
+pub lent_bound : (p : Problem) (entries : List Entry) (fixed weights : List ℤ) (m : lent.Weighting) (b : Branching)
+    → AreLent p entries fixed weights m → IsBranch p b → (hubs : List ℕ) (cost made : ℕ) (stop : Option ℕ)
+    → bound_of (weighting_of m) b ≡ bound_at p (state_by p entries hubs cost made stop) b (pairs_of weights)
 unfolding bound_at
-lent_bound p entries totals loads fixed weights b lent is hubs cost made stop =
-    sym (leaf_has_bound p (pool_cuts p entries) (node_weighting totals loads fixed weights) b (weighting_is p entries totals loads fixed weights lent)
+lent_bound p entries fixed weights m b lent is hubs cost made stop =
+    sym (ap₂ (λ (d : ℕ) (ws : List ℤ). leaf_bound p (pool_cuts p entries) d (pairs_of ws) b) (sym (ap natural lent.is.is_denom)) (sym lent.is.are_weights)
+    ∙ leaf_has_bound p (pool_cuts p entries) (weighting_of m) b lent.costs.problem.any_number (weighting_is p entries fixed weights m lent)
     (below_size p b lent.costs.problem is))
 
 -- the test of the bound against the cost
-pub lent_closes : (p : Problem) (entries : List Entry) (totals : List ℤ) (loads : List (List ℤ)) (fixed weights : List ℤ) (b : Branching)
-    → AreLent p entries totals loads fixed weights → IsBranch p b → (hubs : List ℕ) (cost made : ℕ) (stop : Option ℕ)
-    → closes_by (node_weighting totals loads fixed weights) cost b ≡ closes_at p (state_by p entries hubs cost made stop) b (pairs_of weights)
+pub lent_closes : (p : Problem) (entries : List Entry) (fixed weights : List ℤ) (m : lent.Weighting) (b : Branching)
+    → AreLent p entries fixed weights m → IsBranch p b → (hubs : List ℕ) (cost made : ℕ) (stop : Option ℕ)
+    → closes_by (weighting_of m) cost b ≡ closes_at p (state_by p entries hubs cost made stop) b (pairs_of weights)
 unfolding closes_at
-lent_closes p entries totals loads fixed weights b lent is hubs cost made stop =
-    ap (λ (z : ℤ). int_lt (pos (1000000 * cost) -ℤ pos 1000000) z) (lent_bound p entries totals loads fixed weights b lent is hubs cost made stop)
+lent_closes p entries fixed weights m b lent is hubs cost made stop =
+    ap₂ (λ (d : ℕ) (z : ℤ). int_lt (pos (d * cost) -ℤ pos d) z) (ap natural lent.is.is_denom)
+    (lent_bound p entries fixed weights m b lent is hubs cost made stop)
 
 -- a test that tells whether a bound closes
 pub test_is : (r : Bool) (x y : ℤ) → IsTrue r ↔ (x <ℤ y) → r ≡ int_lt x y

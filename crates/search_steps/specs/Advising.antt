@@ -1,5 +1,5 @@
 -- What the master of a branch advises a search that has these cuts.
-use Rattle.std.specs.Prelude.{ℕ, List, map, slice_index_or, pos}
+use Rattle.std.specs.Prelude.{ℕ, ◌*◌, ◌/◌, List, [], ◌∷◌, map, slice_index_or, pos}
 use Rattle.std.specs.List.{range_with_len}
 use Rattle.hub_spec.specs.Problem.{Problem}
 use Rattle.hub_spec.specs.Cuts.{Cut, total, load}
@@ -21,6 +21,16 @@ master_numbers p cuts = record { totals = map total cuts; loads = map (node_load
 abbrev pub told_by : Advised → Advice
 told_by a = record { weights = weight_pairs a.weights; point = λ k. slice_index_or a.point k (pos 0); scale = a.scale }
 
--- how the master advises: by the cuts of the state, on the branch
+-- each of the weights, rounded down to a multiple of its cut's part
+abbrev pub in_parts : List ℕ → List ℕ → List ℕ
+in_parts [] parts = []
+in_parts (w ∷ weights) [] = []
+in_parts (w ∷ weights) (e ∷ parts) = w / e * e ∷ in_parts weights parts
+
+-- the advice with weights that a leaf on these cuts may have
+abbrev pub advised_on : List Cut → Advised → Advised
+advised_on cuts a = record a { weights = in_parts a.weights (map (λ cut. cut.part) cuts) }
+
+-- how the master advises: by the cuts of the state, on the branch; where each part is 1 the weights are the master's own
 unfoldable pub master_advising : Problem → Advising
-master_advising p s b = told_by (advice (master_numbers p s.cuts) b)
+master_advising p s b = told_by (advised_on s.cuts (advice (master_numbers p s.cuts) b))

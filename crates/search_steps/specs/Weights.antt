@@ -1,10 +1,12 @@
 -- What a node of the search has in code, and what it stands for.
-use Rattle.std.specs.Prelude.{ℕ, ◌≤◌, ℤ, List, map, length, sum, All}
+use Rattle.std.specs.Prelude.{◌≡◌, ℕ, ◌≤◌, ℤ, pos, List, map, length, sum, All}
 use Rattle.hub_model.specs.Amounts.{IsNatural}
-use Rattle.leaf_bound.specs.Numbers.{naturals}
+use Rattle.leaf_bound.specs.declared.weightings.Weighting.{Weighting}
+use Rattle.leaf_bound.specs.Numbers.{naturals, rows_of}
 use Rattle.leaf_bound.specs.Theorems.{weight_pairs}
 use Rattle.search_spec.specs.States.{denominator}
 use Rattle.search_spec.specs.Steps as steps
+use Rattle.cut_pool.specs.Entries.{Entry}
 use Rattle.hub_fixing.specs.declared.sides.Side.{Side}
 use Rattle.hub_fixing.specs.declared.sides.Side.TheVariants.{In, Out}
 
@@ -17,6 +19,15 @@ pub record AreNodeWeights (n : ℕ) (weights : List ℤ) : Type 0 where
 -- the weights above 0, by cut number, as a search has them
 abbrev pub pairs_of : List ℤ → List (ℕ × ℕ)
 pairs_of weights = weight_pairs (naturals weights)
+
+-- the weighting has the sums of the pool's entries, each with the part 1, these fixed costs and these weights
+pub record IsNodeWeighting (entries : List Entry) (fixed weights : List ℤ) (m : Weighting) : Type 0 where
+  pub are_totals : m.totals.now ≡ map (λ e. pos e.total) entries
+  pub are_loads : rows_of m ≡ map (λ e. map pos e.loads) entries
+  pub are_parts : m.parts.now ≡ map (λ e. 1) entries
+  pub are_fixed : m.fixed.now ≡ fixed
+  pub are_weights : m.weights.now ≡ weights
+  pub is_denom : m.denom ≡ pos denominator
 
 -- the side as the search has it
 abbrev pub side_as : Side → steps.Side

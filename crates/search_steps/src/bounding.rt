@@ -9,11 +9,11 @@ ghost use Rattle.search_core.specs.Tasks.{AreFixedCosts};
 ghost use Rattle.search_steps.specs.Pools.{IsPoolOf, InEachState, InEachStateAt};
 ghost use Rattle.search_steps.specs.Weights.{AreNodeWeights, pairs_of};
 
+use crate::weightings::weighting;
 use cut_pool::Pool;
 use hub_model::{Instance, signed};
 use leaf_bound::bound;
 use plan_model::Branch;
-use search_core::WHOLE_WEIGHT;
 
 /// The bound of the branch under these weights, in 10^-12, times 10^6.
 pub fn weights_bound(
@@ -30,14 +30,7 @@ pub fn weights_bound(
     ensures value { InEachState instance.now pool.now.entries (λ s. result ≡ bound_at instance.now s branch.now (pairs_of weights.now)) }
     ensures limit { IsWithin most_bound result }
 {
-    bound(
-        pool.totals(),
-        pool.loads(),
-        fixed,
-        weights,
-        WHOLE_WEIGHT as i128,
-        branch,
-    )
+    bound(&weighting(pool, fixed, weights), branch)
 }
 
 /// Tells whether the bound of the branch under the advised weights is above that under the present ones: then a search
@@ -80,15 +73,5 @@ pub fn closes(
     requires cost { cost ≤ most_cost }
     ensures { InEachStateAt instance.now pool.now.entries cost (λ s. result ≡ closes_at instance.now s branch.now (pairs_of weights.now)) }
 {
-    let totals = pool.totals();
-    let loads = pool.loads();
-    leaf_bound::closes(
-        totals,
-        loads,
-        fixed,
-        weights,
-        WHOLE_WEIGHT as i128,
-        branch,
-        signed(cost),
-    )
+    leaf_bound::closes(&weighting(pool, fixed, weights), branch, signed(cost))
 }

@@ -8,11 +8,11 @@ ghost use Rattle.search_core.specs.Tasks.{AreFixedCosts};
 ghost use Rattle.search_steps.specs.Pools.{IsPoolOf, InEachStateAt};
 ghost use Rattle.search_steps.specs.Weights.{AreNodeWeights, pairs_of, sides_as};
 
+use crate::weightings::weighting;
 use cut_pool::Pool;
 use hub_fixing::{Side, fix};
 use hub_model::{Instance, signed};
 use plan_model::Branch;
-use search_core::WHOLE_WEIGHT;
 use std::alloc::{AllocError, Global};
 
 /// The free nodes of the branch, ascending, of which a side stays under these weights, each with that side: the child on
@@ -36,17 +36,10 @@ pub fn node_fixings(
     requires not_closed { InEachStateAt instance.now pool.now.entries cost (λ s. closes_at instance.now s branch.now (pairs_of weights.now) ≡ false) }
     ensures { IfOk result (λ sides. InEachStateAt instance.now pool.now.entries cost (λ s. sides_as sides.items ≡ fixings instance.now s branch.now (pairs_of weights.now))) }
 {
-    let totals = pool.totals();
-    let loads = pool.loads();
-    let target = signed(cost);
     fix(
         alloc,
-        totals,
-        loads,
-        fixed,
-        weights,
-        WHOLE_WEIGHT as i128,
+        &weighting(pool, fixed, weights),
         branch,
-        target,
+        signed(cost),
     )
 }

@@ -18,6 +18,7 @@ mod deciding;
 mod laws;
 mod leaves;
 mod picking;
+mod weightings;
 
 pub use advising::node_advice;
 pub use bounding::{closes, is_better, weights_bound};

@@ -43,7 +43,7 @@ returns-clause-advice c =
     (λ (a : Advice). InEachState c.args.instance.now c.args.pool.now.entries (λ s. told_by (advice_of_code a) ≡ master_advising c.args.instance.now s c.args.branch.now))
     (λ a is. advice_is c.args.instance.now c.args.pool.now.entries c.totals.result.now (map (λ (v : Vec ℤ Global). v.items) c.loads.result.now)
     c.args.fixed.now c.args.branch.now (advice_of_code a)
-    (lent (goal.at.returns-clause-advice c).After-loads) is) c.advise_by_totals.ensures.advice
+    (lent (goal.at.returns-clause-advice c).After-loads) c.requires.branch is) c.advise_by_totals.ensures.advice
 
 pub returns-clause-weights : goal.returns-clause-weights
 returns-clause-weights c =
