@@ -6,14 +6,13 @@ use Rattle.hub_spec.specs.Problem.{Problem, IsProblem}
 use Rattle.hub_spec.specs.Plans.{IsHubSet}
 use Rattle.hub_spec.specs.Cuts.{total, load}
 use Rattle.hub_spec.specs.Separation.{IsOrder, set_cut}
-use Rattle.pareto_cuts.proofs.SetSums.{value_of, is_cut, load_within, load_by_commodities, whole_sum}
+use Rattle.pareto_cuts.proofs.SetSums.{value_of, load_within, load_by_commodities, whole_sum}
 use Rattle.cut_pool.specs.Entries.{Sums, entry_of}
 use Rattle.search_steps.specs.Pools.{IsSumsOf}
+use Rattle.search_steps.proofs.PoolNumbers.{total_limit}
 
 pub total_fits : (p : Problem) (hubs order : List ℕ) → IsProblem p → IsHubSet p hubs → IsOrder p hubs order → total (set_cut p hubs order) < 2 ^ 127
-total_fits p hubs order ok set is =
-    let cut = is_cut p hubs order ok set is in
-    omega (arith, cut.sums.total_limit)
+total_fits p hubs order ok set is = omega (arith, total_limit p hubs order ok set is)
 
 load_fits : (p : Problem) (hubs order : List ℕ) (k : ℕ) → IsProblem p → IsHubSet p hubs → IsOrder p hubs order → load (set_cut p hubs order) k < 2 ^ 127
 load_fits p hubs order k ok set is =
