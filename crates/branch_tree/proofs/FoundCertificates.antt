@@ -5,7 +5,7 @@ use Rattle.hub_spec.specs.Limits.{most_cuts}
 use Rattle.hub_spec.specs.Problem.{Problem, IsProblem}
 use Rattle.hub_spec.specs.Plans.{plan_cost, NoPlanBelow}
 use Rattle.hub_spec.specs.Cuts.{Cut}
-use Rattle.hub_spec.specs.Trees.{Tree, branch, leaf, empty, TreeLine, preorder, line_count}
+use Rattle.hub_spec.specs.Trees.{Tree, branch, leaf, empty, block, count, TreeLine, preorder, line_count}
 use Rattle.hub_spec.proofs.SumLemmas.{by_test}
 use Rattle.plan_model.specs.Lines.{tree_line_of}
 use Rattle.search_spec.specs.States.{State, Grown, is_stopped, answer}
@@ -21,6 +21,7 @@ use Rattle.search_steps.specs.Advising.{master_advising}
 use Rattle.search_steps.proofs.MasterNumbers.{advising_sound}
 use Rattle.kept_cuts.specs.Findings.{proof_of, IsProved}
 use Rattle.kept_cuts.specs.declared.found.Found.{Found}
+use Rattle.kept_cuts.proofs.Versions.{has_text}
 use Rattle.branch_tree.specs.Findings.{parts_of, found_by, IsFound}
 
 -- the state that a search begins with
@@ -49,9 +50,10 @@ pub found_stopped : (p : Problem) (n : Option ℕ) → IsProblem p → StopsForN
 unfolding rule
 found_stopped p n ok = search_stopped p (parts_of p) n (start_of p) ok (parts_sound p ok) (start_is p ok)
 
--- with its tree the finding is a certificate of what was found
-pub found_certificate : (p : Problem) (g : Grown) (found : Found) → IsFound p g found → IsCertificateOf p g (proof_of p found g.tree)
-found_certificate p g found is = record {
+-- with its tree the finding is a certificate of what was found, in each version
+pub found_certificate : (p : Problem) (v : ℕ) (g : Grown) (found : Found) → IsFound p g found → IsCertificateOf p v g (proof_of v p found g.tree)
+found_certificate p v g found is = record {
+  version = λ i. v;
   size = λ i. p.size;
   candidates = λ i. length p.candidates;
   cost = is.cost;
@@ -65,30 +67,29 @@ found_certificate p g found is = record {
 pub found_is_proved : (p : Problem) (n : Option ℕ) (found : Found) → IsProblem p → IsFound p (found_by p n) found → IsProved p found
 found_is_proved p n found ok is =
     let g = found_by p n in
-    let k = proof_of p found g.tree in
     let proof = found_proof p n ok in
-    let certificate = found_certificate p g found is in
-    let few : length k.cuts ≤ most_cuts = subst (λ (cs : List Cut). length cs ≤ most_cuts) (sym is.cuts) is.few_cuts in
     record {
       fit = is.kept.fit;
       tree = g.tree;
       lines = is.lines;
-      in_range = certificate_in_range_lem p g k ok proof certificate few is.few_lines;
-      holds = certificate_holds_lem p g k ok proof certificate;
+      in_range = λ v there. certificate_in_range_lem p v g (proof_of v p found g.tree) ok proof (found_certificate p v g found is)
+          (has_text p found g.tree v ok is.kept.fit is.lines there)
+          (subst (λ (cs : List Cut). length cs ≤ most_cuts) (sym is.cuts) is.few_cuts) is.few_lines;
+      holds = λ v. certificate_holds_lem p v g (proof_of v p found g.tree) ok proof (found_certificate p v g found is);
     }
 
 -- ---- what follows for the finding
 
 pub found_certificate_is : (p : Problem) (n : Option ℕ) (found : Found) → IsProblem p → IsFound p (found_by p n) found
-    → proof_of p found (found_by p n).tree ≡ certificate_of p (found_by p n)
-found_certificate_is p n found ok is =
+    → (v : ℕ) → proof_of v p found (found_by p n).tree ≡ certificate_of p v (found_by p n)
+found_certificate_is p n found ok is v =
     let g = found_by p n in
-    (certificate_is_one_lem p g (proof_of p found g.tree) (found_proof p n ok)).0 (found_certificate p g found is)
+    (certificate_is_one_lem p v g (proof_of v p found g.tree) (found_proof p n ok)).0 (found_certificate p v g found is)
 
 pub found_paid : (p : Problem) (n : Option ℕ) (found : Found) → IsProblem p → IsFound p (found_by p n) found → found.cost ≡ plan_cost p found.plan
 found_paid p n found ok is =
     let g = found_by p n in
-    let holds = certificate_holds_lem p g (proof_of p found g.tree) ok (found_proof p n ok) (found_certificate p g found is) in
+    let holds = certificate_holds_lem p 1 g (proof_of 1 p found g.tree) ok (found_proof p n ok) (found_certificate p 1 g found is) in
     holds.cost
 
 pub found_below : (p : Problem) (n : Option ℕ) (found : Found) → IsProblem p → IsFound p (found_by p n) found → NoPlanBelow p found.bound
@@ -103,6 +104,8 @@ length-preorder : (t : Tree) → length (preorder t) ≡ line_count t
 length-preorder (branch k a b) = omega (arith, length-append (preorder a) (preorder b), length-preorder a, length-preorder b)
 length-preorder (leaf denom weights) = refl
 length-preorder empty = refl
+length-preorder (block commodity) = refl
+length-preorder count = refl
 
 -- as many lines as nodes were made
 lines_made : (p : Problem) (n : Option ℕ) (found : Found) → IsProblem p → IsFound p (found_by p n) found

@@ -10,6 +10,7 @@ use Rattle.search_spec.specs.Steps as steps
 use Rattle.search_spec.specs.Steps.{bound_at, closes_at, may_split, two_more, child_on, with_leaf, stopped_leaf, full_on, ended, halved, fixed, parted, handled, round, rounds, after_rounds, node, searched, begun}
 use Rattle.search_spec.specs.Laws.{GoesOn}
 use Rattle.search_spec.specs.Choices.{rule_parts, rule, nearest_half, all_closed, all_decided}
+use Rattle.search_spec.proofs.Bounds.{any_room}
 use Rattle.search_spec.proofs.StepCases.{rounds_over, rounds_more, node_is, handled_barren, handled_stopped, handled_full, handled_on, explored_is, parted_only, parted_full, parted_split, halved_is, fixed_full, fixed_one}
 use Rattle.search_steps.specs.Pools.{InEachStateAt}
 use Rattle.search_core.specs.declared.tasks.Task.{Task}
@@ -67,7 +68,8 @@ some_free b (k ∷ ks) test same is known = omega (arith, ap length same)
 
 -- not closed, and with no free node: its hubs are a set
 pub inside_is_set : (p : Problem) (b : Branching) → IsProblem p → IsBranch p b → is_closed b ≡ false → length b.free ≡ 0 → IsHubSet p b.inside
-inside_is_set p b ok is_branch not_closed none = (parts_sound p ok).only b b.inside is_branch (barren_none p b not_closed) (only_some p b none)
+inside_is_set p b ok is_branch not_closed none =
+    ((parts_sound p ok).only b b.inside is_branch (any_room p b ok.any_number) (barren_none p b not_closed) (blocked_none p b) (only_some p b none)).is_set
 
 -- ---- a branch whose children are handled
 

@@ -1,6 +1,6 @@
 //! The whole search.
 
-ghost use Rattle.std.specs.Prelude.{◌≡◌, ◌≤◌, ◌<◌, ◌+◌, ◌^◌, [], length, IfOk};
+ghost use Rattle.std.specs.Prelude.{◌≡◌, ℕ, ◌≤◌, ◌<◌, ◌+◌, ◌^◌, [], length, IfOk};
 ghost use Rattle.hub_spec.specs.Plans.{plan_cost, NoPlanBelow};
 ghost use Rattle.hub_spec.specs.Trees.{preorder};
 ghost use Rattle.search_spec.specs.States.{Grown, answer};
@@ -39,7 +39,7 @@ pub fn search<S: Separator>(
     requires ready { S.ready separator.old }
     ensures ready { S.ready separator.new }
     ensures found { IfOk result (IsFound instance.now (found_by instance.now nodes)) }
-    ensures certificate { let g = found_by instance.now nodes in IfOk result (λ found. proof_of instance.now found g.tree ≡ certificate_of instance.now g) }
+    ensures certificate { let g = found_by instance.now nodes in IfOk result (λ found. (v : ℕ) → proof_of v instance.now found g.tree ≡ certificate_of instance.now v g) }
     ensures proved { IfOk result (IsProved instance.now) }
     ensures paid { IfOk result (λ found. found.cost ≡ plan_cost instance.now found.plan) }
     ensures below { IfOk result (λ found. NoPlanBelow instance.now found.bound) }
