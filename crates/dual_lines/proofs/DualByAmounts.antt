@@ -2,9 +2,10 @@
 use Rattle.std.proofs.Common.{ℕ, ◌^◌, ◌<◌, ◌≤◌, List, [], ◌∷◌, slice_index, get_or, nat_eq, Bool, IsTrue, ◌↔◌, All, Contains, inl, inr, ⊎_elim, subst, arith}
 use Rattle.std.proofs.lemmas.Bool.{cases_eq, cond_both}
 use Rattle.std.proofs.lemmas.List.Elements.{All-head, All-tail, All-contains, All-weaker, All-get_or, All-from_get_or, Contains-get_or}
-use Rattle.hub_spec.specs.Problem.{Problem}
+use Rattle.hub_spec.specs.Problem.{Problem, IsProblem}
 use Rattle.hub_spec.specs.Ranges.{IsAmount, IsDualInRange}
 use Rattle.hub_spec.specs.Cuts.{Prices, value_at, IsDual}
+use Rattle.hub_spec.proofs.PlanCosts.{any_allowed}
 use Rattle.hub_spec.proofs.Sets.{All-from_contains}
 use Rattle.dual_lines.specs.Covers.{IsCoveredBy, IsCoveredFirst}
 use Rattle.dual_lines.specs.Places.{ArePlaces}
@@ -19,9 +20,9 @@ value_short m (e ∷ u) k some h =
 pub amounts_short : (n m a : ℕ) (u : List (ℕ × ℕ)) (amounts : List ℕ) → IsDualInRange n (record { a = a; u = u }) → AreAmounts m u amounts
     → All IsAmount amounts
 amounts_short n m a u amounts range are =
-    let short = All-weaker (λ (e : ℕ × ℕ). (e.0 < n) × (1 ≤ e.1) × IsAmount e.1) (λ (e : ℕ × ℕ). e.1 < 10 ^ 30) (λ e h. h.2) u range.each in
+    let short = All-weaker (λ (e : ℕ × ℕ). (e.0 < n) × (1 ≤ e.1) × IsAmount e.1) (λ (e : ℕ × ℕ). e.1 < 10 ^ 33) (λ e h. h.2) u range.each in
     All-from_get_or IsAmount amounts 0 (λ k below.
-    let one = value_short (10 ^ 30) u k (omega arith) short in omega (arith, one, are.each k))
+    let one = value_short (10 ^ 33) u k (omega arith) short in omega (arith, one, are.each k))
 
 -- ---- a node has a place just where it is a candidate
 
@@ -50,33 +51,33 @@ candidates_have_places p places u are has =
 
 -- ---- the conditions
 
-dual_from_amounts : (p : Problem) (c : ℕ × ℕ) (d : Prices) (amounts : List ℕ) → AreAmounts p.size d.u amounts
-    → All (λ (e : ℕ × ℕ). Contains p.candidates e.0) d.u → All (IsCoveredFirst p c d.a amounts) p.candidates → IsDual p c d
-dual_from_amounts p c d amounts are listed covered = record {
+dual_from_amounts : (p : Problem) (part : ℕ) (c : ℕ × ℕ) (d : Prices) (amounts : List ℕ) → AreAmounts p.size d.u amounts
+    → All (λ (e : ℕ × ℕ). Contains p.candidates e.0) d.u → All (IsCoveredFirst p part c d.a amounts) p.candidates → IsDual p part c d
+dual_from_amounts p part c d amounts are listed covered = record {
   are_candidates = listed;
-  one_hub = λ k in_k.
-      let h = All-contains (IsCoveredFirst p c d.a amounts) p.candidates k covered in_k in omega (arith, h.0, are.each k);
-  two_hubs = λ k m in_k in_m apart.
+  one_hub = λ k in_k _.
+      let h = All-contains (IsCoveredFirst p part c d.a amounts) p.candidates k covered in_k in omega (arith, h.0, are.each k);
+  two_hubs = λ k m in_k in_m apart _.
       ⊎_elim (λ same. absurd (apart same)) (λ h. omega (arith, h, are.each k, are.each m))
-      (All-contains (IsCoveredBy p c d.a amounts k) p.candidates m
-      (All-contains (IsCoveredFirst p c d.a amounts) p.candidates k covered in_k).1 in_m);
+      (All-contains (IsCoveredBy p part c d.a amounts k) p.candidates m
+      (All-contains (IsCoveredFirst p part c d.a amounts) p.candidates k covered in_k).1 in_m);
 }
 
-covered_from_dual : (p : Problem) (c : ℕ × ℕ) (d : Prices) (amounts : List ℕ) → AreAmounts p.size d.u amounts → IsDual p c d
-    → All (IsCoveredFirst p c d.a amounts) p.candidates
-covered_from_dual p c d amounts are h =
-    All-from_contains (IsCoveredFirst p c d.a amounts) p.candidates (λ k in_k. (
-      (let g = h.one_hub k in_k in omega (arith, g, are.each k)),
-      All-from_contains (IsCoveredBy p c d.a amounts k) p.candidates (λ m in_m.
-          ⊎_elim (λ same. inl same) (λ apart. let g = h.two_hubs k m in_k in_m apart in inr (omega (arith, g, are.each k, are.each m)))
+covered_from_dual : (p : Problem) (part : ℕ) (c : ℕ × ℕ) (d : Prices) (amounts : List ℕ) → IsProblem p → AreAmounts p.size d.u amounts → IsDual p part c d
+    → All (IsCoveredFirst p part c d.a amounts) p.candidates
+covered_from_dual p part c d amounts ok are h =
+    All-from_contains (IsCoveredFirst p part c d.a amounts) p.candidates (λ k in_k. (
+      (let g = h.one_hub k in_k (any_allowed p c k k ok.any_length) in omega (arith, g, are.each k)),
+      All-from_contains (IsCoveredBy p part c d.a amounts k) p.candidates (λ m in_m.
+          ⊎_elim (λ same. inl same) (λ apart. let g = h.two_hubs k m in_k in_m apart (any_allowed p c k m ok.any_length) in inr (omega (arith, g, are.each k, are.each m)))
           (cases_eq k m)),
     ))
 
 -- the dual is feasible just where only candidates are listed, and all routes and values cover its price
-pub dual_by_amounts : (p : Problem) (c : ℕ × ℕ) (d : Prices) (amounts : List ℕ) (covered : Bool) → AreAmounts p.size d.u amounts
-    → All (λ (e : ℕ × ℕ). Contains p.candidates e.0) d.u → (IsTrue covered ↔ All (IsCoveredFirst p c d.a amounts) p.candidates)
-    → (IsTrue covered ↔ IsDual p c d)
-dual_by_amounts p c d amounts covered are listed says = (
-  λ yes. dual_from_amounts p c d amounts are listed (says.0 yes),
-  λ dual. says.1 (covered_from_dual p c d amounts are dual),
+pub dual_by_amounts : (p : Problem) (part : ℕ) (c : ℕ × ℕ) (d : Prices) (amounts : List ℕ) (covered : Bool) → IsProblem p → AreAmounts p.size d.u amounts
+    → All (λ (e : ℕ × ℕ). Contains p.candidates e.0) d.u → (IsTrue covered ↔ All (IsCoveredFirst p part c d.a amounts) p.candidates)
+    → (IsTrue covered ↔ IsDual p part c d)
+dual_by_amounts p part c d amounts covered ok are listed says = (
+  λ yes. dual_from_amounts p part c d amounts are listed (says.0 yes),
+  λ dual. says.1 (covered_from_dual p part c d amounts ok are dual),
 )

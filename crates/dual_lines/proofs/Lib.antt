@@ -4,3 +4,4 @@ pub mod HeldLines
 pub mod DualByAmounts
 pub mod NearEnds
 pub mod StepTables
+pub mod StepsAnew

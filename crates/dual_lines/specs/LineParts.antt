@@ -1,12 +1,13 @@
--- What a line holds besides the dual that is listed: its values by node, and by place in steps.
-use Rattle.std.specs.Prelude.{◌≡◌, ℕ, ◌*◌, ◌<◌, ◌≤◌, ◌↔◌, List, length, slice_index, All, IsTrue, vec_capacity}
-use Rattle.hub_spec.specs.Limits.{most_flow}
-use Rattle.hub_spec.specs.Problem.{Problem, flow}
+-- What the line of a commodity holds besides the dual that is listed: its values by node, and by place in steps.
+use Rattle.std.specs.Prelude.{◌≡◌, ℕ, ◌<◌, ◌≤◌, ◌↔◌, List, length, slice_index, All, IsTrue, vec_capacity}
+use Rattle.hub_spec.specs.Limits.{most_part}
+use Rattle.hub_spec.specs.Problem.{Problem, IsProblem}
 use Rattle.hub_spec.specs.Cuts.{Prices, value_at}
 use Rattle.hub_spec.specs.Ranges.{IsDualInRange}
-use Rattle.dual_lines.specs.Steps.{AreStepValues}
+use Rattle.dual_lines.specs.Units.{weighted_flow}
+use Rattle.dual_lines.specs.Steps.{IsStepCost, AreStepValues}
 use Rattle.dual_lines.specs.Places.{ArePlaces}
-use Rattle.dual_lines.specs.declared.lines.DualLine.TheInside.{Inside}
+use Rattle.dual_lines.specs.declared.commodity_lines.CommodityLine.TheInside.{Inside}
 
 -- the dual that is listed
 abbrev pub held_dual : Inside → Prices
@@ -23,12 +24,13 @@ HasPlace p places k = slice_index places k < length p.candidates
 
 -- what is held is that of the dual that is listed, and there is room for a value of each node
 pub record IsLineHeld (s : Inside) : Type 0 where
+  pub problem : IsProblem s.legs.problem
   pub from : s.line.from < s.legs.problem.size
   pub to : s.line.to < s.legs.problem.size
   pub range : IsDualInRange s.legs.problem.size (held_dual s)
-  pub carried : s.carried ≡ flow s.legs.problem s.line.from s.line.to
-  pub carried_limit : s.carried ≤ most_flow
-  pub cost : s.step_cost ≡ s.carried * s.legs.step
+  pub part : s.line.part ≤ most_part
+  pub carried : s.carried ≡ weighted_flow s.legs.problem s.line.part (s.line.from, s.line.to)
+  pub cost : IsStepCost s.carried s.legs.step s.step_cost
   pub room : s.legs.problem.size ≤ vec_capacity s.listed
   pub places : ArePlaces s.legs.problem s.places.items
   pub amounts : AreAmounts s.legs.problem.size s.listed.items s.amounts.items

@@ -1,5 +1,5 @@
 -- Legs, prices and values by unit of flow in steps, so that they fit 32 bits. A step is so many times 10^-6.
-use Rattle.std.specs.Prelude.{◌≡◌, ℕ, ◌+◌, ◌*◌, ◌^◌, ◌<◌, ◌≤◌, List, length, slice_index, All}
+use Rattle.std.specs.Prelude.{◌≡◌, ℕ, ◌+◌, ◌*◌, ◌^◌, ◌<◌, ◌≤◌, List, length, slice_index, All, ◌⊎◌}
 use Rattle.hub_spec.specs.Problem.{Problem}
 use Rattle.unit_duals.specs.Cells.{cell}
 use Rattle.leg_tables.specs.CandidateLegs.{candidate_at, collection_length, trunk_length, delivery_length}
@@ -8,7 +8,7 @@ use Rattle.leg_tables.specs.CandidateLegs.{candidate_at, collection_length, trun
 abbrev pub most_steps : ℕ
 most_steps = 10 ^ 9
 
--- of a step: with any flow it fits 64 bits
+-- of a step: with any flow, and the part 1, it fits 64 bits
 abbrev pub most_step : ℕ
 most_step = 1800000
 
@@ -16,6 +16,10 @@ most_step = 1800000
 pub record LegsInSteps : Type 0 where
   pub problem : Problem
   pub step : ℕ
+
+-- what a step costs where so much is carried, or 0
+abbrev pub IsStepCost : ℕ → ℕ → ℕ → Type 0
+IsStepCost carried step cost = (cost ≡ carried * step) ⊎ (cost ≡ 0)
 
 -- each leg in steps, rounded down and cut
 pub record AreInSteps (step : ℕ) (legs steps : List ℕ) : Type 0 where

@@ -1,11 +1,15 @@
 -- Prices and values by unit of flow, in 10^-6, that stand for what is listed.
 use Rattle.std.specs.Prelude.{◌≡◌, ℕ, ◌+◌, ◌*◌, ◌^◌, ◌<◌, ◌≤◌, List, length, slice_index, All, Contains, ◌⊎◌}
-use Rattle.hub_spec.specs.Problem.{Problem}
+use Rattle.hub_spec.specs.Problem.{Problem, flow}
 use Rattle.leg_tables.specs.CandidateLegs.{candidate_at, collection_length, trunk_length, delivery_length}
 
 -- what a price or a value by unit of flow is cut to: no route is as long
 abbrev pub most_unit : ℕ
 most_unit = 10 ^ 17
+
+-- what a commodity carries for a part: its flow, as often as the part says
+abbrev pub weighted_flow : Problem → ℕ → ℕ × ℕ → ℕ
+weighted_flow p part c = part * flow p c.0 c.1
 
 -- a value by unit of flow for each place: so many units of flow together are no more than the value of the candidate
 pub record AreUnits (p : Problem) (flow : ℕ) (value : ℕ → ℕ) (units : List ℕ) : Type 0 where

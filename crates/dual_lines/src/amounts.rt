@@ -1,16 +1,18 @@
-//! The exact test: a price against the costs of routes and the values as they are listed.
+//! The exact test: a price against the costs of routes, as often as its part says, and the values as they are listed.
 
-ghost use Rattle.std.specs.Prelude.{◌≡◌, ◌<◌, ◌↔◌, length, IsTrue, All};
+ghost use Rattle.std.specs.Prelude.{◌≡◌, ◌*◌, ◌<◌, ◌≤◌, ◌↔◌, length, IsTrue, All};
+ghost use Rattle.hub_spec.specs.Limits.{most_part, most_cost};
 ghost use Rattle.hub_spec.specs.Ranges.{IsAmount};
-ghost use Rattle.dual_lines.specs.Covers.{IsCoveredAlone, IsCoveredBy, IsCoveredFrom, IsCoveredFirst};
+ghost use Rattle.dual_lines.specs.Covers.{IsCoveredAlone, IsCoveredBy, IsCoveredFrom, IsCoveredFirst, IsCovered};
 
 use hub_model::Instance;
 
-/// A commodity and its price, in 10^-12.
+/// A commodity with a part and a price of that part, in 10^-12.
 #[derive(Clone, Copy)]
 pub(crate) struct Priced {
     pub from: u32,
     pub to: u32,
+    pub part: u32,
     pub price: u128,
 }
 
@@ -18,10 +20,10 @@ pub(crate) struct Priced {
 pub(crate) fn is_covered_by_amounts(instance: &Instance, line: Priced, amounts: &[u128]) -> bool
     requires from { line.from < instance.now.size }
     requires to { line.to < instance.now.size }
+    requires part { line.part ≤ most_part }
     requires long { length amounts.now ≡ instance.now.size }
     requires short { All IsAmount amounts.now }
-    ensures { IsTrue result
-        ↔ All (IsCoveredFirst instance.now (line.from, line.to) line.price amounts.now) instance.now.candidates }
+    ensures { IsTrue result ↔ IsCovered instance.now line.part (line.from, line.to) line.price amounts.now }
 {
     let candidates = instance.candidates();
     for k in candidates {
@@ -36,10 +38,11 @@ pub(crate) fn is_covered_by_amounts(instance: &Instance, line: Priced, amounts: 
 pub(crate) fn is_covered_first(instance: &Instance, line: Priced, amounts: &[u128], k: u32) -> bool
     requires from { line.from < instance.now.size }
     requires to { line.to < instance.now.size }
+    requires part { line.part ≤ most_part }
     requires long { length amounts.now ≡ instance.now.size }
     requires short { All IsAmount amounts.now }
     requires hub { k < instance.now.size }
-    ensures { IsTrue result ↔ IsCoveredFirst instance.now (line.from, line.to) line.price amounts.now k }
+    ensures { IsTrue result ↔ IsCoveredFirst instance.now line.part (line.from, line.to) line.price amounts.now k }
 {
     is_covered_alone(instance, line, amounts, k) && is_covered_from(instance, line, amounts, k)
 }
@@ -47,21 +50,24 @@ pub(crate) fn is_covered_first(instance: &Instance, line: Priced, amounts: &[u12
 fn is_covered_alone(instance: &Instance, line: Priced, amounts: &[u128], k: u32) -> bool
     requires from { line.from < instance.now.size }
     requires to { line.to < instance.now.size }
+    requires part { line.part ≤ most_part }
     requires long { length amounts.now ≡ instance.now.size }
     requires short { All IsAmount amounts.now }
     requires hub { k < instance.now.size }
-    ensures { IsTrue result ↔ IsCoveredAlone instance.now (line.from, line.to) line.price amounts.now k }
+    ensures { IsTrue result ↔ IsCoveredAlone instance.now line.part (line.from, line.to) line.price amounts.now k }
 {
-    line.price <= instance.cost_of_route(line.from, line.to, k, k) + amounts[k as usize]
+    let cost = times_part(line.part, instance.cost_of_route(line.from, line.to, k, k));
+    line.price <= cost + amounts[k as usize]
 }
 
 fn is_covered_from(instance: &Instance, line: Priced, amounts: &[u128], k: u32) -> bool
     requires from { line.from < instance.now.size }
     requires to { line.to < instance.now.size }
+    requires part { line.part ≤ most_part }
     requires long { length amounts.now ≡ instance.now.size }
     requires short { All IsAmount amounts.now }
     requires hub { k < instance.now.size }
-    ensures { IsTrue result ↔ IsCoveredFrom instance.now (line.from, line.to) line.price amounts.now k }
+    ensures { IsTrue result ↔ IsCoveredFrom instance.now line.part (line.from, line.to) line.price amounts.now k }
 {
     let candidates = instance.candidates();
     for m in candidates {
@@ -75,15 +81,27 @@ fn is_covered_from(instance: &Instance, line: Priced, amounts: &[u128], k: u32) 
 fn is_covered_by(instance: &Instance, line: Priced, amounts: &[u128], k: u32, m: u32) -> bool
     requires from { line.from < instance.now.size }
     requires to { line.to < instance.now.size }
+    requires part { line.part ≤ most_part }
     requires long { length amounts.now ≡ instance.now.size }
     requires short { All IsAmount amounts.now }
     requires first { k < instance.now.size }
     requires last { m < instance.now.size }
-    ensures { IsTrue result ↔ IsCoveredBy instance.now (line.from, line.to) line.price amounts.now k m }
+    ensures { IsTrue result ↔ IsCoveredBy instance.now line.part (line.from, line.to) line.price amounts.now k m }
 {
     if k == m {
         return true;
     }
+    let cost = times_part(line.part, instance.cost_of_route(line.from, line.to, k, m));
     let values = amounts[k as usize] + amounts[m as usize];
-    line.price <= instance.cost_of_route(line.from, line.to, k, m) + values
+    line.price <= cost + values
+}
+
+/// The cost as often as the part says.
+fn times_part(part: u32, cost: u128) -> u128
+    requires part { part ≤ most_part }
+    requires cost { cost ≤ most_cost }
+    ensures value { result ≡ part * cost }
+    ensures limit { result ≤ most_part * most_cost }
+{
+    part as u128 * cost
 }

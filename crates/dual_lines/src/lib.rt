@@ -1,17 +1,20 @@
 //! Duals of an instance's commodities, tested one after another, with no memory of those before.
 //!
-//! A certificate lists for a commodity a price and values of nodes; it is a feasible dual where no route by way of
-//! candidates costs less than the price, with the values of its hubs added. `lines` has the dual that is listed, and
-//! tells whether it holds. The instance's legs are those of `leg_tables`, made once; a place is the number of a
-//! candidate in their order, from 0, and `places` writes and clears what a dual lists by place.
+//! A certificate lists for a run of commodities a price and values of nodes; they are a feasible dual where no route by
+//! way of candidates costs, times the part of the cut, less than the price, with the values of its hubs added. `lines`
+//! has the dual that is listed for a run, and tells whether it holds of each commodity, to which `commodity_lines`
+//! turns. The instance's legs are those of `leg_tables`, made once; a place is the number of a candidate in their
+//! order, from 0, and `places` writes and clears what a dual lists by place.
 //!
 //! `steps` tests in small numbers, told in steps of one length, with the price rounded up and the values rounded down:
 //! `stepping` chooses the step, `step_tables` are the legs in it. What this does not show to be covered, `units` tests
 //! by unit of flow, visiting only the hubs that collection and the nearest end leave open, and what is left then,
-//! `amounts` decides in the numbers that are listed. Costs are in 10^-12, lengths by unit of flow in 10^-6.
+//! `amounts` decides in the numbers that are listed. A unit of flow counts as often as the part says. Costs are in
+//! 10^-12, lengths by unit of flow in 10^-6.
 #![tactic(auto)]
 
 mod amounts;
+mod commodity_lines;
 mod lines;
 mod places;
 mod step_tables;

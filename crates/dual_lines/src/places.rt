@@ -1,9 +1,13 @@
 //! What is written for the nodes that a dual lists, and cleared again.
 
-ghost use Rattle.std.specs.Prelude.{◌≡◌, ℕ, ◌<◌, ◌≤◌, ◌≢◌, ◌↔◌, length, slice_index, IsTrue, All};
-ghost use Rattle.dual_lines.specs.Places.{ArePlaces, IsPlaceOf, IsWithinListed};
+ghost use Rattle.std.specs.Prelude.{◌≡◌, ℕ, ◌<◌, ◌≤◌, ◌≢◌, ◌↔◌, length, map, slice_index, IsTrue, All};
+ghost use Rattle.std.specs.List.Sorted.{IsStrictlyIncreasing};
+ghost use Rattle.hub_spec.specs.Problem.{Problem};
 ghost use Rattle.hub_spec.specs.Cuts.{value_at};
+ghost use Rattle.dual_lines.specs.Places.{ArePlaces, IsPlaceOf, IsWithinListed};
+ghost use Rattle.dual_lines.specs.Steps.{AreStepValues};
 
+use crate::steps::value_in_steps;
 use hub_model::Instance;
 
 /// Sets the place of each candidate. At the other nodes the number of candidates stands already.
@@ -32,6 +36,26 @@ pub(crate) fn put_steps(places: &[u32], k: u32, value: u32, steps: &mut [u32]) -
         true
     } else {
         false
+    }
+}
+
+/// Puts the values that are listed in steps of this cost, in place of those in steps of another. The inverse is that of
+/// the cost by `inverse_of`.
+pub(crate) fn put_anew(
+    listed: &[(u32, u128)],
+    places: &[u32],
+    step_cost: u64,
+    inverse: u64,
+    steps: &mut [u32],
+)
+    requires { All (λ e. e.0 < length places.now) listed.now }
+    ensures { (p : Problem) (before : ℕ) → ArePlaces p places.now → IsStrictlyIncreasing (map (λ e. e.0) listed.now)
+        → AreStepValues p before (value_at listed.now) steps.old
+        → AreStepValues p step_cost (value_at listed.now) steps.new }
+{
+    for entry in listed {
+        let value = value_in_steps(entry.1, step_cost, inverse);
+        let _ = put_steps(places, entry.0, value, steps);
     }
 }
 

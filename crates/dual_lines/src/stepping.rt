@@ -12,7 +12,7 @@ use std::alloc::{AllocError, Global};
 /// What a leg and a value are cut to, in steps: four of them together fit 32 bits.
 pub(crate) const MOST_STEPS: u64 = 1_000_000_000;
 
-/// The greatest step: with any flow it fits 64 bits.
+/// The greatest step: with any flow, and the part 1, it fits 64 bits.
 const MOST_STEP: u64 = 1_800_000;
 
 /// The step for an instance with this greatest distance, in 10^-6.

@@ -4,12 +4,12 @@
 //! listed. Any other is left to the test by flow.
 
 ghost use Rattle.std.specs.Prelude.{◌≡◌, ℕ, ◌+◌, ◌*◌, ◌^◌, ◌<◌, ◌≤◌, ◌↔◌, List, length, slice_index, IsTrue, IfSome, All};
-ghost use Rattle.hub_spec.specs.Limits.{most_flow};
-ghost use Rattle.hub_spec.specs.Problem.{flow};
+ghost use Rattle.hub_spec.specs.Limits.{most_part};
 ghost use Rattle.hub_spec.specs.Ranges.{IsAmount};
 ghost use Rattle.leg_tables.specs.CandidateLegs.{delivery_length};
-ghost use Rattle.dual_lines.specs.Covers.{IsCoveredFirst};
-ghost use Rattle.dual_lines.specs.Steps.{most_steps, AreStepValues, AreStepEnds, IsCoveredInSteps};
+ghost use Rattle.dual_lines.specs.Covers.{IsCovered};
+ghost use Rattle.dual_lines.specs.Units.{weighted_flow};
+ghost use Rattle.dual_lines.specs.Steps.{most_steps, IsStepCost, AreStepValues, AreStepEnds, IsCoveredInSteps};
 
 use crate::amounts::Priced;
 use crate::step_tables::StepLegs;
@@ -17,7 +17,8 @@ use crate::stepping::MOST_STEPS;
 use crate::units::{MOST_PLACES, is_covered_by_flow, unit_value};
 
 /// Tells whether the price is covered with each candidate as the first hub. `amounts` has a value for each node,
-/// `values` for each place in steps, and `step_cost` is what a step costs: the flow times the step.
+/// `values` for each place in steps; `carried` is the flow times the part, and `step_cost` what a step costs, by
+/// `step_cost_of`.
 pub(crate) fn is_covered(
     legs: &StepLegs,
     line: Priced,
@@ -28,15 +29,14 @@ pub(crate) fn is_covered(
 ) -> bool
     requires from { line.from < legs.now.problem.size }
     requires to { line.to < legs.now.problem.size }
+    requires part { line.part ≤ most_part }
     requires price { IsAmount line.price }
-    requires carried { carried ≡ flow legs.now.problem line.from line.to }
-    requires carried_limit { carried ≤ most_flow }
-    requires cost { step_cost ≡ carried * legs.now.step }
+    requires carried { carried ≡ weighted_flow legs.now.problem line.part (line.from, line.to) }
+    requires cost { IsStepCost carried legs.now.step step_cost }
     requires long { length amounts.now ≡ legs.now.problem.size }
     requires short { All IsAmount amounts.now }
     requires values { AreStepValues legs.now.problem step_cost (slice_index amounts.now) values.now }
-    ensures { IsTrue result
-        ↔ All (IsCoveredFirst legs.now.problem (line.from, line.to) line.price amounts.now) legs.now.problem.candidates }
+    ensures { IsTrue result ↔ IsCovered legs.now.problem line.part (line.from, line.to) line.price amounts.now }
 {
     if is_covered_surely(legs, line, step_cost, values) {
         return true;
@@ -49,16 +49,24 @@ fn is_covered_surely(legs: &StepLegs, line: Priced, step_cost: u64, values: &[u3
     requires from { line.from < legs.now.problem.size }
     requires to { line.to < legs.now.problem.size }
     requires price { IsAmount line.price }
-    requires cost { step_cost ≡ flow legs.now.problem line.from line.to * legs.now.step }
+    requires cost { IsStepCost (weighted_flow legs.now.problem line.part (line.from, line.to)) legs.now.step step_cost }
     requires long { length values.now ≡ length legs.now.problem.candidates }
     requires short { All (λ v. v ≤ most_steps) values.now }
-    ensures { (amounts : List ℕ) → AreStepValues legs.now.problem step_cost (slice_index amounts) values.now → IsTrue result
-        → All (IsCoveredFirst legs.now.problem (line.from, line.to) line.price amounts) legs.now.problem.candidates }
+    ensures { (amounts : List ℕ) → AreStepValues legs.now.problem step_cost (slice_index amounts) values.now
+        → IsTrue result → IsCovered legs.now.problem line.part (line.from, line.to) line.price amounts }
 {
     match price_in_steps(line.price, step_cost) {
         Some(price) => is_covered_in_steps(legs, line.from, line.to, price, values),
         None => false,
     }
+}
+
+/// What a step costs where so much is carried; 0 where that passes 64 bits, and then only the price 0 is told in steps.
+/// With the part 1 it never does.
+pub(crate) fn step_cost_of(carried: u64, step: u64) -> u64
+    ensures { IsStepCost carried step result }
+{
+    carried.checked_mul(step).unwrap_or(0)
 }
 
 /// The price in steps, rounded up; none where it is too great, or steps cost nothing.

@@ -1,17 +1,16 @@
 //! The test that decides: a price against lengths and values by unit of flow, and where need be in costs.
 //!
 //! The price is divided by the flow and rounded up, each value divided and rounded down. So what is covered here is
-//! covered in the costs that are listed, and a hub that is not is left to the exact test. Lengths, prices and values by
-//! unit of flow are in 10^-6.
+//! covered in the costs that are listed, and a hub that is not is left to the exact test. The flow counts as often as
+//! the part says. Lengths, prices and values by unit of flow are in 10^-6.
 
 ghost use Rattle.std.specs.Prelude.{◌≡◌, ℕ, ◌+◌, ◌*◌, ◌^◌, ◌<◌, ◌≤◌, ◌↔◌, length, slice_index, IsTrue, IfSome, All, take};
-ghost use Rattle.hub_spec.specs.Limits.{most_flow};
-ghost use Rattle.hub_spec.specs.Problem.{flow};
+ghost use Rattle.hub_spec.specs.Limits.{most_part};
 ghost use Rattle.hub_spec.specs.Ranges.{IsAmount};
 ghost use Rattle.unit_duals.specs.Limits.{most_leg};
 ghost use Rattle.leg_tables.specs.CandidateLegs.{candidate_at};
-ghost use Rattle.dual_lines.specs.Covers.{IsCoveredFirst};
-ghost use Rattle.dual_lines.specs.Units.{most_unit, AreUnits, IsNearestFirst, IsNearestLast, AreNearEnds, IsCoveredInUnits};
+ghost use Rattle.dual_lines.specs.Covers.{IsCoveredFirst, IsCovered};
+ghost use Rattle.dual_lines.specs.Units.{most_unit, AreUnits, IsNearestFirst, IsNearestLast, AreNearEnds, IsCoveredInUnits, weighted_flow};
 
 use crate::amounts::{Priced, is_covered_by_amounts, is_covered_first};
 use leg_tables::CandidateLegs;
@@ -22,7 +21,8 @@ const MOST_UNIT: u64 = 100_000_000_000_000_000;
 /// The most candidates that an instance has.
 pub(crate) const MOST_PLACES: usize = 200;
 
-/// Tells whether the price is covered with each candidate as the first hub. `amounts` has a value for each node.
+/// Tells whether the price is covered with each candidate as the first hub. `amounts` has a value for each node, and
+/// `carried` is the flow times the part.
 pub(crate) fn is_covered_by_flow(
     legs: &CandidateLegs,
     line: Priced,
@@ -31,13 +31,12 @@ pub(crate) fn is_covered_by_flow(
 ) -> bool
     requires from { line.from < legs.now.size }
     requires to { line.to < legs.now.size }
+    requires part { line.part ≤ most_part }
     requires price { IsAmount line.price }
-    requires carried { carried ≡ flow legs.now line.from line.to }
-    requires carried_limit { carried ≤ most_flow }
+    requires carried { carried ≡ weighted_flow legs.now line.part (line.from, line.to) }
     requires long { length amounts.now ≡ legs.now.size }
     requires short { All IsAmount amounts.now }
-    ensures { IsTrue result
-        ↔ All (IsCoveredFirst legs.now (line.from, line.to) line.price amounts.now) legs.now.candidates }
+    ensures { IsTrue result ↔ IsCovered legs.now line.part (line.from, line.to) line.price amounts.now }
 {
     match unit_price(line.price, carried) {
         Some(price) => {
@@ -67,7 +66,6 @@ fn set_units(legs: &CandidateLegs, carried: u64, amounts: &[u128], units: &mut [
 /// carried.
 fn unit_price(price: u128, carried: u64) -> Option<u64>
     requires price { IsAmount price }
-    requires carried { carried ≤ most_flow }
     ensures { IfSome result (λ a. (price ≤ carried * a) × (a ≤ most_unit)) }
 {
     if price == 0 {
@@ -153,13 +151,14 @@ fn is_covered_by_units(
 ) -> bool
     requires from { line.from < legs.now.size }
     requires to { line.to < legs.now.size }
-    requires price { line.price ≤ flow legs.now line.from line.to * price }
+    requires part { line.part ≤ most_part }
+    requires price { line.price ≤ weighted_flow legs.now line.part (line.from, line.to) * price }
     requires limit { price ≤ most_unit }
     requires long { length amounts.now ≡ legs.now.size }
     requires short { All IsAmount amounts.now }
-    requires units { AreUnits legs.now (flow legs.now line.from line.to) (slice_index amounts.now) units.now }
-    ensures { IsTrue result
-        ↔ All (IsCoveredFirst legs.now (line.from, line.to) line.price amounts.now) legs.now.candidates }
+    requires units { AreUnits legs.now (weighted_flow legs.now line.part (line.from, line.to))
+        (slice_index amounts.now) units.now }
+    ensures { IsTrue result ↔ IsCovered legs.now line.part (line.from, line.to) line.price amounts.now }
 {
     let places = legs.places();
     let last = nearest_last(legs, line.to, units);
@@ -187,16 +186,18 @@ fn is_place_covered(
 ) -> bool
     requires from { line.from < legs.now.size }
     requires to { line.to < legs.now.size }
-    requires price { line.price ≤ flow legs.now line.from line.to * price }
+    requires part { line.part ≤ most_part }
+    requires price { line.price ≤ weighted_flow legs.now line.part (line.from, line.to) * price }
     requires limit { price ≤ most_unit }
     requires last { IsNearestLast legs.now line.to units.now last }
     requires near { AreNearEnds legs.now (line.from, line.to) price units.now near.now }
     requires long { length amounts.now ≡ legs.now.size }
     requires short { All IsAmount amounts.now }
-    requires units { AreUnits legs.now (flow legs.now line.from line.to) (slice_index amounts.now) units.now }
+    requires units { AreUnits legs.now (weighted_flow legs.now line.part (line.from, line.to))
+        (slice_index amounts.now) units.now }
     requires place { x < length legs.now.candidates }
     ensures { IsTrue result
-        ↔ IsCoveredFirst legs.now (line.from, line.to) line.price amounts.now (candidate_at legs.now x) }
+        ↔ IsCoveredFirst legs.now line.part (line.from, line.to) line.price amounts.now (candidate_at legs.now x) }
 {
     if is_covered_in_units(legs, line.from, line.to, price, last, near, units, x) {
         return true;

@@ -3,4 +3,4 @@ use Rattle.dual_lines.specs.Covers.{IsCoveredFirst}
 use Rattle.dual_lines.proofs.units.is_covered_by_units.Given as goal
 
 abbrev pub invariant-loop-x : goal.invariant-loop-x
-invariant-loop-x l = All (IsCoveredFirst l.legs (l.line.from, l.line.to) l.line.price l.amounts) (take l.x l.legs.candidates)
+invariant-loop-x l = All (IsCoveredFirst l.legs l.line.part (l.line.from, l.line.to) l.line.price l.amounts) (take l.x l.legs.candidates)

@@ -1,16 +1,16 @@
 use Rattle.std.proofs.Common.{◌≡◌, ℕ, ◌<◌, List, IsTrue, ◌↔◌, true, false, All, length, slice_index, ap, sym, subst, ◌∙◌, rules, arith}
 use Rattle.std.proofs.lemmas.List.{with_items_is}
-use Rattle.dual_lines.specs.Lines.{ListedDual}
+use Rattle.dual_lines.specs.Lines.{CommodityDual}
 use Rattle.dual_lines.specs.LineParts.{HasPlace}
 use Rattle.dual_lines.proofs.HeldLines.{range_listed, amounts_listed, steps_listed, candidates_listed, few_listed}
-use Rattle.dual_lines.proofs.lines.DualLine.list.Goals as goal
-use Rattle.dual_lines.proofs.lines.DualLine.list.Goals.{then-self, else-self}
+use Rattle.dual_lines.proofs.commodity_lines.CommodityLine.list.Goals as goal
+use Rattle.dual_lines.proofs.commodity_lines.CommodityLine.list.Goals.{then-self, else-self}
 
 pub push_reserved-requires : goal.push_reserved-requires
 push_reserved-requires c =
     let s = c.self.inside in
-    let fresh = subst (λ (v : ListedDual). All (λ (e : ℕ × ℕ). e.0 < c.args.k) v.dual.u) (sym c.self.view_is) c.requires.above in
-    let node = subst (λ (v : ListedDual). c.args.k < v.problem.size) (sym c.self.view_is) c.requires.node in
+    let fresh = subst (λ (v : CommodityDual). All (λ (e : ℕ × ℕ). e.0 < c.args.k) v.dual.u) (sym c.self.view_is) c.requires.above in
+    let node = subst (λ (v : CommodityDual). c.args.k < v.problem.size) (sym c.self.view_is) c.requires.node in
     omega (arith, few_listed s.legs.problem.size s.line.price s.listed.items c.args.k c.self.invariant.range node fresh, c.self.invariant.room, s.listed.ok.0)
 
 pub invariant_of-self : goal.invariant_of-self
@@ -20,8 +20,8 @@ invariant_of-self c =
     let k = c.args.k in
     let v = c.args.u in
     let u = s.listed.items in
-    let fresh = subst (λ (d : ListedDual). All (λ (e : ℕ × ℕ). e.0 < k) d.dual.u) (sym c.self.view_is) c.requires.above in
-    let node : k < p.size = subst (λ (d : ListedDual). k < d.problem.size) (sym c.self.view_is) c.requires.node in
+    let fresh = subst (λ (d : CommodityDual). All (λ (e : ℕ × ℕ). e.0 < k) d.dual.u) (sym c.self.view_is) c.requires.above in
+    let node : k < p.size = subst (λ (d : CommodityDual). k < d.problem.size) (sym c.self.view_is) c.requires.node in
     let steps_are = with_items_is s.steps c.put_steps-placed.new.steps (omega (arith, c.put_steps-placed.auto.steps, c.deref_mut.ensures.len)) in
     let places = c.deref.ensures.value in
     let units = c.deref_mut.ensures.value in
@@ -36,11 +36,12 @@ invariant_of-self c =
       | else-self w ↦ (λ yes. absurd (let e : false ≡ true = sym w.if-self.false ∙ sym w.self-is ∙ yes in cc), λ h. w.self-is ∙ h.0)
     ] in
     record {
+      problem = c.self.invariant.problem;
       from = c.self.invariant.from;
       to = c.self.invariant.to;
       range = rw c.push_reserved.ensures.items (range_listed p.size s.line.price u k v node fresh c.requires.least c.requires.most c.self.invariant.range);
+      part = c.self.invariant.part;
       carried = c.self.invariant.carried;
-      carried_limit = c.self.invariant.carried_limit;
       cost = c.self.invariant.cost;
       room = omega (arith, c.push_reserved.ensures.capacity, c.self.invariant.room);
       places = c.self.invariant.places;

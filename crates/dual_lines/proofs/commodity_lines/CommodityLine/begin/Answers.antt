@@ -1,9 +1,10 @@
-use Rattle.std.proofs.Common.{ℕ, ◌*◌, ◌≡◌, length, ap, ◌∙◌, arith}
+use Rattle.std.proofs.Common.{ℕ, ◌≡◌, length, ap, subst, arith}
 use Rattle.std.proofs.lemmas.List.{with_items_is}
-use Rattle.hub_spec.specs.Problem.{Problem, flow}
+use Rattle.hub_spec.specs.Problem.{Problem}
 use Rattle.leg_tables.specs.CandidateLegs.{candidate_at}
+use Rattle.dual_lines.specs.Steps.{IsStepCost}
 use Rattle.dual_lines.proofs.HeldLines.{range_begun, amounts_begun, steps_begun, candidates_begun, places_lent, steps_lent}
-use Rattle.dual_lines.proofs.lines.DualLine.begin.Goals as goal
+use Rattle.dual_lines.proofs.commodity_lines.CommodityLine.begin.Goals as goal
 
 pub invariant_of-self : goal.invariant_of-self
 invariant_of-self c =
@@ -20,16 +21,17 @@ invariant_of-self c =
     let within = steps_lent p c.self.inside.step_cost c.self.inside.listed.items c.deref.result.now c.self.inside.steps.items c.deref_mut-2.result.now count
     c.self.invariant.steps c.deref.ensures.value c.deref_mut-2.ensures.value all in
     record {
+      problem = c.self.invariant.problem;
       from = omega (arith, same, c.requires.from);
       to = omega (arith, same, c.requires.to);
       range = rw none (range_begun p.size c.args.a c.requires.most);
-      carried = c.flow_between-self-inside.ensures.value ∙ ap (λ (q : Problem). flow q c.args.i c.args.j) (c.instance.ensures.value ∙ c.long.ensures);
-      carried_limit = c.flow_between-self-inside.ensures.limit;
-      cost = ap (λ (n : ℕ). c.flow_between-self-inside.result * n) c.step.ensures.value;
+      part = c.requires.part;
+      carried = c.carried-self-inside.ensures;
+      cost = subst (λ (n : ℕ). IsStepCost c.carried-self-inside.result n c.step_cost_of-self-inside.result) c.step.ensures.value c.step_cost_of-self-inside.ensures;
       room = omega (arith, c.clear-2.ensures.capacity, c.self.invariant.room);
       places = c.self.invariant.places;
       amounts = rw (none, amounts_are) (amounts_begun p.size c.clear.new.amounts amounts_long c.clear.ensures.amounts);
-      steps = rw (none, steps_are) (steps_begun p (c.flow_between-self-inside.result * c.step.result) c.clear.new.steps steps_long
+      steps = rw (none, steps_are) (steps_begun p c.step_cost_of-self-inside.result c.clear.new.steps steps_long
           (λ x below. c.clear.ensures.steps (candidate_at p) placed within x (omega (arith, below, c.clear.auto.steps))));
       candidates = rw none (candidates_begun p c.self.inside.places.items);
     }

@@ -1,11 +1,11 @@
-use Rattle.std.proofs.Common.{sym, ◌*◌, ◌≡◌, ℕ, ◌<◌, length, Fits, ap, ◌∙◌, rules, arith}
+use Rattle.std.proofs.Common.{sym, ◌≡◌, ℕ, ◌<◌, length, Fits, ap, subst, ◌∙◌, rules, arith}
 use mir.Syntax.{w32}
 use Rattle.std.proofs.lemmas.List.{with_items_is}
 use Rattle.hub_spec.specs.Problem.{Problem}
-use Rattle.dual_lines.specs.Steps.{LegsInSteps}
+use Rattle.dual_lines.specs.Steps.{LegsInSteps, IsStepCost}
 use Rattle.leg_tables.proofs.CandidateTables.{few_places}
 use Rattle.dual_lines.proofs.HeldLines.{range_begun, amounts_begun, steps_begun, candidates_begun, zeros}
-use Rattle.dual_lines.proofs.lines.DualLine.new.Goals as goal
+use Rattle.dual_lines.proofs.commodity_lines.CommodityLine.new.Goals as goal
 
 fits : (n : ℕ) → n < 201 → Fits w32 n
 fits n low = search (rules, arith)
@@ -24,15 +24,17 @@ invariant_of-result-2 c =
     let none = c.in_ok-with_capacity.ensures.items in
     let places_are = with_items_is c.in_ok-places.places c.set_places.new.places (omega (arith, c.set_places.auto.places, c.deref_mut.ensures.len)) in
     rw same (record {
+      problem = c.size-nodes.ensures.problem;
       from = omega (arith, c.size-nodes.ensures.problem.some_node);
       to = omega (arith, c.size-nodes.ensures.problem.some_node);
       range = rw none (range_begun p.size 0 (omega arith));
-      carried = c.flow_between-carried.ensures.value;
-      carried_limit = c.flow_between-carried.ensures.limit;
+      part = omega arith;
+      carried = omega (arith, c.flow_between-carried.ensures.value);
       room = omega (arith, c.in_ok-with_capacity.ensures.capacity, c.size-nodes.ensures.value);
       places = rw places_are c.set_places.ensures;
       amounts = rw none (amounts_begun p.size c.in_ok-vec.field-0.items (omega (arith, c.in_ok-vec.ensures.len, c.in_ok-vec.field-0.ok.0, c.size-nodes.ensures.value)) (zeros c.size-nodes.result c.in_ok-vec.field-0.items (c.in_ok-vec.ensures.items_if_clones_equal (λ y h. h))));
-      cost = ap (λ (n : ℕ). c.flow_between-carried.result * n) (c.step.ensures.value ∙ sym (ap (λ (l : LegsInSteps). l.step) c.legs.view_is));
-      steps = rw none (steps_begun p (c.flow_between-carried.result * c.step.result) c.in_ok-vec-2.field-0.items (omega (arith, c.in_ok-vec-2.ensures.len, c.in_ok-vec-2.field-0.ok.0, count)) (λ x _. zeros c.places-count.result c.in_ok-vec-2.field-0.items (c.in_ok-vec-2.ensures.items_if_clones_equal (λ y h. h)) x));
+      cost = subst (λ (n : ℕ). IsStepCost c.flow_between-carried.result n c.step_cost_of-step_cost.result)
+          (c.step.ensures.value ∙ sym (ap (λ (l : LegsInSteps). l.step) c.legs.view_is)) c.step_cost_of-step_cost.ensures;
+      steps = rw none (steps_begun p c.step_cost_of-step_cost.result c.in_ok-vec-2.field-0.items (omega (arith, c.in_ok-vec-2.ensures.len, c.in_ok-vec-2.field-0.ok.0, count)) (λ x _. zeros c.places-count.result c.in_ok-vec-2.field-0.items (c.in_ok-vec-2.ensures.items_if_clones_equal (λ y h. h)) x));
       candidates = rw (none, places_are) (candidates_begun p c.set_places.new.places);
     })
