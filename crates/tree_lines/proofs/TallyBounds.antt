@@ -1,5 +1,5 @@
 -- The bound of a branch by a leaf's sums.
-use Rattle.std.proofs.Common.{◌≡◌, ℕ, ◌+◌, ◌-◌, ◌*◌, ◌<◌, ℤ, pos, ◌+ℤ◌, ◌-ℤ◌, List, [], ◌∷◌, slice_index, sum_by, Contains, ap, ap₂, refl, ◌∙◌, subst, IsTrue, ◌↔◌, ◌<ℤ◌, nat_lt, ltb-true, arith}
+use Rattle.std.proofs.Common.{◌≡◌, ℕ, ◌+◌, ◌-◌, ◌*◌, ◌<◌, ℤ, pos, ◌+ℤ◌, ◌-ℤ◌, List, [], ◌∷◌, slice_index, sum_by, Contains, ap, ap₂, refl, sym, ◌∙◌, subst, IsTrue, ◌↔◌, ◌<ℤ◌, nat_lt, ltb-true, arith}
 use Rattle.std.proofs.lemmas.Bool.{lt-ltb}
 use Rattle.std.specs.Int.{int_min}
 use Rattle.std.proofs.lemmas.Int.{ints}
@@ -8,6 +8,7 @@ use Rattle.hub_spec.specs.Sums.{sum_ints}
 use Rattle.hub_spec.specs.Problem.{Problem, IsProblem, fixed_cost}
 use Rattle.hub_spec.specs.Cuts.{Cut}
 use Rattle.hub_spec.specs.Trees.{Branching, IsBranch, gain, mixed_total, mixed_gain, leaf_bound, Closes}
+use Rattle.hub_spec.proofs.Children.{plain_bound}
 use Rattle.hub_spec.proofs.Sets.{Contains-head, Contains-later}
 use Rattle.hub_spec.proofs.Mixes.{candidate_is_node, sum_ints-gains, sum_ints-losses}
 use Rattle.tree_lines.specs.Tallies.{Tally, AreSumsOf, tally_bound}
@@ -30,6 +31,7 @@ bounds_leaf p cuts denom weights b tally ok is_branch sums =
     (λ k c. ap (λ x. int_min (pos 0) x) (same k (All-contains (Contains p.candidates) b.free k is_branch.free_are c))) in
     ap (λ (n : ℕ). pos n +ℤ sum_ints g b.inside +ℤ sum_ints (λ k. int_min (pos 0) (g k)) b.free) sums.base_is
     ∙ ap₂ (λ x y. pos (mixed_total cuts weights) +ℤ x +ℤ y) inside free
+    ∙ sym (plain_bound p cuts denom weights b ok.any_number)
 
 -- the bound by sums that are not below 0
 pub tally_bound_is : (p : Problem) (tally : Tally) (b : Branching)

@@ -1,11 +1,12 @@
 -- The sums of a leaf while its pairs come.
-use Rattle.std.specs.Prelude.{◌≡◌, ℕ, ◌+◌, ◌*◌, ◌<◌, ◌≤◌, ℤ, List, length, slice_index, All}
+use Rattle.std.specs.Prelude.{◌≡◌, ℕ, ◌+◌, ◌*◌, ◌/◌, ◌<◌, ◌≤◌, ℤ, List, length, slice_index, All}
 use Rattle.hub_spec.specs.Limits.{most_cost, most_denominator}
 use Rattle.hub_spec.specs.Problem.{Problem, fixed_cost}
 use Rattle.hub_spec.specs.Cuts.{Cut}
 use Rattle.hub_spec.specs.Trees.{Branching, weight_sum, mixed_total, mixed_load, gain, branch_bound}
 
--- the denominator, and so far the sums of the weights, of the totals times them, and by node of the loads times them
+-- the denominator, and so far the sums of the weights, of the totals and by node of the loads, each as often as its
+-- weight has the part of its cut
 pub record Tally : Type 0 where
   pub denom : ℕ
   pub weight : ℕ
@@ -24,14 +25,18 @@ pub record IsBegun (denom n : ℕ) (tally : Tally) : Type 0 where
   pub count : length tally.loads ≡ n
   pub loads_are : (k : ℕ) → k < n → slice_index tally.loads k ≡ 0
 
--- the later sums have a cut of this total and these loads more, with this weight
-pub record IsAdded (tally : Tally) (weight total : ℕ) (loads : List ℕ) (later : Tally) : Type 0 where
+-- the weight is a multiple of the part
+abbrev pub IsMultipleOf : ℕ → ℕ → Type 0
+IsMultipleOf part weight = weight / part * part ≡ weight
+
+-- the later sums have a cut of this part, this total and these loads more, with this weight
+pub record IsAdded (tally : Tally) (weight part total : ℕ) (loads : List ℕ) (later : Tally) : Type 0 where
   pub denom_is : later.denom ≡ tally.denom
   pub weight_is : later.weight ≡ tally.weight + weight
-  pub base_is : later.base ≡ tally.base + weight * total
+  pub base_is : later.base ≡ tally.base + weight / part * total
   pub count : length later.loads ≡ length tally.loads
   pub loads_are : (k : ℕ) → k < length tally.loads
-      → slice_index later.loads k ≡ slice_index tally.loads k + weight * slice_index loads k
+      → slice_index later.loads k ≡ slice_index tally.loads k + weight / part * slice_index loads k
 
 -- the weights are at most the denominator, and the other sums at most the limit times the weights
 pub record IsWithin (tally : Tally) : Type 0 where

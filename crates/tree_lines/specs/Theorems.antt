@@ -10,15 +10,15 @@ abbrev pub SumsBegin : Type 0
 SumsBegin = (n : ℕ) (cuts : List Cut) (denom : ℕ) (tally : Tally)
     → IsBegun denom n tally → AreSumsOf n cuts denom [] tally
 
--- with the total and the loads of a pair's cut added, they are those of the pairs with that one behind
+-- with the part, the total and the loads of a pair's cut added, they are those of the pairs with that one behind
 abbrev pub SumsGoOn : Type 0
 SumsGoOn = (n : ℕ) (cuts : List Cut) (denom : ℕ) (weights : List (ℕ × ℕ)) (pair : ℕ × ℕ) (loads : List ℕ) (tally later : Tally)
     → AreSumsOf n cuts denom weights tally
     → ((k : ℕ) → k < n → slice_index loads k ≡ load (cut_at cuts pair.0) k)
-    → IsAdded tally pair.1 (total (cut_at cuts pair.0)) loads later
+    → IsAdded tally pair.1 (cut_at cuts pair.0).part (total (cut_at cuts pair.0)) loads later
     → AreSumsOf n cuts denom (weights ++ pair ∷ []) later
 
--- the bound by the sums of a leaf's pairs is the bound at the leaf
+-- the bound by the sums of a leaf's pairs is the bound at the leaf; no instance wants a number of hubs
 abbrev pub SumsBoundLeaf : Type 0
 SumsBoundLeaf = (p : Problem) (cuts : List Cut) (denom : ℕ) (weights : List (ℕ × ℕ)) (b : Branching) (tally : Tally)
     → IsProblem p → IsBranch p b → AreSumsOf p.size cuts denom weights tally

@@ -7,7 +7,7 @@ pub fn sums_begin()
     ensures { SumsBegin }
 {}
 
-/// With the total and the loads of a pair's cut added, sums are those of the pairs with that one behind.
+/// With the part, the total and the loads of a pair's cut added, sums are those of the pairs with that one behind.
 pub fn sums_go_on()
     ensures { SumsGoOn }
 {}

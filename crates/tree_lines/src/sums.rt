@@ -1,20 +1,21 @@
 //! The sums of a leaf.
 
-ghost use Rattle.std.specs.Prelude.{◌≡◌, ◌≢◌, ℕ, ◌+◌, ◌-◌, ◌*◌, ◌^◌, ◌≤◌, ◌<◌, ◌↔◌, [], length, slice_index, sum_by, IsTrue, IfOk, All};
-ghost use Rattle.hub_spec.specs.Limits.{most_nodes, most_cost, most_denominator, most_fixed_cost};
+ghost use Rattle.std.specs.Prelude.{◌≡◌, ◌≢◌, ℕ, ◌+◌, ◌-◌, ◌*◌, ◌/◌, ◌^◌, ◌≤◌, ◌<◌, ◌↔◌, [], length, slice_index, sum_by, IsTrue, IfOk, All};
+ghost use Rattle.hub_spec.specs.Limits.{most_nodes, most_part, most_cost, most_denominator, most_fixed_cost};
 ghost use Rattle.hub_spec.specs.Problem.{fixed_cost};
 ghost use Rattle.hub_spec.specs.Trees.{Closes, IsBranch};
 ghost use Rattle.hub_spec.specs.Ranges.{IsShort};
 ghost use Rattle.node_marks.specs.Marks.{marked};
 ghost use Rattle.tree_lines.specs.Paths.{next};
-ghost use Rattle.tree_lines.specs.Tallies.{IsBegun, IsAdded, tally_bound};
+ghost use Rattle.tree_lines.specs.Tallies.{IsMultipleOf, IsBegun, IsAdded, tally_bound};
 
 use crate::paths::TreePath;
 use hub_model::Instance;
 use std::alloc::{AllocError, Global};
 use std::marker::Model;
 
-/// The sums of a leaf, as its pairs come: of the weights, and by these of the cuts' totals and of their loads by node.
+/// The sums of a leaf, as its pairs come: of the weights, and of the cuts' totals and their loads by node, each as
+/// often as its weight has the part of its cut.
 #[derive(Drop)]
 pub struct LeafSums {
     denom: u128,
@@ -64,16 +65,19 @@ impl LeafSums {
         weight <= self.denom - self.weight
     }
 
-    /// Adds a cut of this total and these loads by node, with a weight that fits.
-    pub fn add(&mut self, weight: u128, total: u128, loads: &[u128])
+    /// Adds a cut of this part, this total and these loads by node, with a weight that fits. They count as often as the
+    /// weight has the part, rounded down.
+    pub fn add(&mut self, weight: u128, part: u32, total: u128, loads: &[u128])
         requires fits { self.old.weight + weight ≤ self.old.denom }
-        requires total { total ≤ most_cost }
+        requires part_least { 1 ≤ part }
+        requires part_most { part ≤ most_part }
+        requires total { total ≤ part * most_cost }
         requires count { length loads.now ≡ length self.old.loads }
-        requires loads { All (λ (load : ℕ). load ≤ most_cost) loads.now }
-        ensures { IsAdded self.old weight total loads.now self.new }
+        requires loads { All (λ (load : ℕ). load ≤ part * most_cost) loads.now }
+        ensures { IsAdded self.old weight part total loads.now self.new }
     {
-        add_loads(&mut self.loads, self.weight, weight, loads);
-        self.base += weight * total;
+        add_loads(&mut self.loads, self.weight, weight, part, loads);
+        self.base += times_of(weight, part) * total;
         self.weight += weight;
     }
 
@@ -95,17 +99,37 @@ impl LeafSums {
     }
 }
 
-/// Adds the weight times the other loads to each load.
-fn add_loads(sums: &mut [u128], before: u128, weight: u128, loads: &[u128])
+/// Tells whether the weight is a multiple of the part.
+pub fn is_multiple(weight: u128, part: u32) -> bool
+    requires { 1 ≤ part }
+    ensures { IsTrue result ↔ IsMultipleOf part weight }
+{
+    weight % part as u128 == 0
+}
+
+/// How often the weight has the part, rounded down.
+fn times_of(weight: u128, part: u32) -> u128
+    requires { 1 ≤ part }
+    ensures value { result ≡ weight / part }
+    ensures limit { result * part ≤ weight }
+{
+    weight / part as u128
+}
+
+/// Adds the other loads to each load, as often as the weight has the part.
+fn add_loads(sums: &mut [u128], before: u128, weight: u128, part: u32, loads: &[u128])
+    requires part { 1 ≤ part }
     requires fits { before + weight ≤ most_denominator }
     requires count { length loads.now ≡ length sums.old }
     requires sums { All (λ (sum : ℕ). sum ≤ before * most_cost) sums.old }
-    requires loads { All (λ (load : ℕ). load ≤ most_cost) loads.now }
-    ensures each { (k : ℕ) → k < length sums.old → slice_index sums.new k ≡ slice_index sums.old k + weight * slice_index loads.now k }
+    requires loads { All (λ (load : ℕ). load ≤ part * most_cost) loads.now }
+    ensures each { (k : ℕ) → k < length sums.old
+        → slice_index sums.new k ≡ slice_index sums.old k + weight / part * slice_index loads.now k }
     ensures limit { All (λ (sum : ℕ). sum ≤ (before + weight) * most_cost) sums.new }
 {
+    let times = times_of(weight, part);
     for k in 0..sums.len() {
-        sums[k] += weight * loads[k];
+        sums[k] += times * loads[k];
     }
 }
 
