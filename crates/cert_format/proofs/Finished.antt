@@ -11,6 +11,7 @@ use Rattle.cert_format.specs.Growing.{tree_of}
 use Rattle.cert_format.specs.Parts.{proof_of, AreCertificateParts}
 use Rattle.cert_format.specs.Gathered.{all_gathered}
 use Rattle.cert_format.specs.Gatherings.{gathered_of}
+use Rattle.cert_format.specs.declared.headings.Heading.{Heading}
 use Rattle.cert_format.specs.declared.gathering.Gathering.{Gathering}
 use Rattle.cert_format.specs.Codes.{tree_of-preorder}
 
@@ -23,23 +24,27 @@ cost_fits d k h e = omega (arith, ap (λ g. g.cost) e, h.cost)
 pub bound_fits : (d : Gathering) (k : Proof) → IsInRange k → gathered_of d ≡ all_gathered k → d.bound < 2 ^ 127
 bound_fits d k h e = omega (arith, ap (λ g. g.bound) e, h.bound)
 
--- the plan, the cost and the bound are those that the gathering has
+-- the plan and the first lines are those that the gathering has
 pub record Took (d : Gathering) (plan : Plan) (cost bound : ℤ) : Type 0 where
   pub plan_is : plan ≡ record { hubs = d.hubs.items; routes = d.routes.items }
   pub cost_is : cost ≡ pos d.cost
   pub bound_is : bound ≡ pos d.bound
 
+-- the first lines
+abbrev pub heading_of : Gathering → (cost bound : ℤ) → Heading
+heading_of d cost bound = record { version = d.version; size = d.size; candidates = d.candidates; cost = cost; bound = bound }
+
 pub finished_is : (d : Gathering) {plan : Plan} {cost bound : ℤ} (k : Proof) → IsInRange k → gathered_of d ≡ all_gathered k → Took d plan cost bound
-    → proof_of d.size d.candidates cost bound plan d.cuts.items d.lines.items ≡ k
+    → proof_of (heading_of d cost bound) plan d.cuts.items d.lines.items ≡ k
 finished_is d {plan = plan} k h e t =
     let costs = ap natural t.cost_is ∙ ap (λ g. g.cost) e in
     let bounds = ap natural t.bound_is ∙ ap (λ g. g.bound) e in
     let plans : plan ≡ k.plan = t.plan_is ∙ (λ i. record { hubs = (e i).hubs; routes = (e i).routes }) in
     let tree = ap tree_of (ap (λ g. g.lines) e) ∙ tree_of-preorder k.tree in
-    λ i. record { size = (e i).size; candidates = (e i).candidates; cost = costs i; bound = bounds i; plan = plans i; cuts = (e i).cuts; tree = tree i }
+    λ i. record { version = (e i).version; size = (e i).size; candidates = (e i).candidates; cost = costs i; bound = bounds i; plan = plans i; cuts = (e i).cuts; tree = tree i }
 
 pub finished_parts : (d : Gathering) {plan : Plan} {cost bound : ℤ} (k : Proof) → IsInRange k → gathered_of d ≡ all_gathered k → Took d plan cost bound
-    → AreCertificateParts d.size d.candidates cost bound plan d.cuts.items d.lines.items
+    → AreCertificateParts (heading_of d cost bound) plan d.cuts.items d.lines.items
 finished_parts d k h e t = record {
   cost_least = subst IsNatural (sym t.cost_is) (natural_pos d.cost);
   bound_least = subst IsNatural (sym t.bound_is) (natural_pos d.bound);

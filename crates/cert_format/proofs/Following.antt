@@ -72,3 +72,28 @@ module _ {K X : Type 0} {taken : K → Option (List ℕ)} {faults : K → ℕ} w
       → PutsThrough {E = Failed} taken faults first now waiting between (Ok tt) (flat_map f xs)
   list_end {now = now} {between = between} {f = f} {xs = xs} {i = i} h l =
       h.follow now between (Ok tt) (as_text (sym (at_drop_all (flat_map f) xs i l)) (through_none now between))
+
+-- a front of a text was put whole, and this is left of it
+pub record HasPutFront {K : Type 0} (taken : K → Option (List ℕ)) (faults : K → ℕ) (first now : K) (waiting between left whole : List ℕ) : Type 0 where
+  pub follow : (last : K) (rest : List ℕ) (s : Result (Unit {0}) Failed) → PutsThrough taken faults now last between rest s left
+      → PutsThrough taken faults first last waiting rest s whole
+
+module _ {K : Type 0} {taken : K → Option (List ℕ)} {faults : K → ℕ} where
+  pub front_start : (at : K) (waiting : List ℕ) {left whole : List ℕ} → left ≡ whole → HasPutFront taken faults at at waiting waiting left whole
+  front_start at waiting e = record { follow = λ last rest s p. as_text e p }
+
+  -- the next part of it
+  pub front_more : {first now next : K} {waiting between behind text left whole : List ℕ} {r : Result (Unit {0}) Failed} (later : List ℕ)
+      → HasPutFront taken faults first now waiting between left whole → PutsThrough taken faults now next between behind r text → IsOk r → text ++ later ≡ left
+      → HasPutFront taken faults first next waiting behind later whole
+  front_more later h p ok e = record { follow = λ last rest s q. h.follow last rest s (as_text e (then_put p ok q)) }
+
+  -- which was not put whole
+  pub front_stop : {first now last : K} {waiting between behind rest text left whole : List ℕ} {r s : Result (Unit {0}) Failed} (later : List ℕ)
+      → HasPutFront taken faults first now waiting between left whole → PutsThrough taken faults now last between behind r text → IsErr r → IsErr s → text ++ later ≡ left
+      → PutsThrough taken faults first last waiting rest s whole
+  front_stop {last = last} {rest = rest} {s = s} later h p no_r no_s e = h.follow last rest s (as_text e (then_none later p no_r no_s))
+
+  pub front_end : {first now : K} {waiting between left whole : List ℕ} → HasPutFront taken faults first now waiting between left whole → [] ≡ left
+      → PutsThrough {E = Failed} taken faults first now waiting between (Ok tt) whole
+  front_end {now = now} {between = between} h e = h.follow now between (Ok tt) (as_text e (through_none now between))

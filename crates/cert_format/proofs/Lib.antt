@@ -7,5 +7,8 @@ pub mod Finished
 pub mod Steps
 pub mod Written
 pub mod Following
-pub mod Putting
+pub mod Joined
+pub mod SameDuals
+pub mod DualRows
 pub mod CutLines
+pub mod Putting

@@ -5,7 +5,7 @@ use Rattle.std.specs.List.Sorted.{IsStrictlyIncreasing}
 use Rattle.std.proofs.lemmas.Int.{ints}
 use Rattle.std.proofs.lemmas.List.Elements.{All-from_recursion, recursion_from_All}
 use Rattle.hub_spec.specs.Trees.{leaf_of}
-use Rattle.hub_spec.specs.Ranges.{IsShort, IsDualInRange, IsLineInRange}
+use Rattle.hub_spec.specs.Ranges.{IsShort, IsAmount, IsDualInRange, IsLineInRange}
 use Rattle.hub_model.specs.Amounts.{natural, IsNatural}
 use Rattle.plan_model.specs.Prices.{natural_values, AreSignedPrices}
 use Rattle.plan_model.specs.Mixtures.{natural_weights, IsSignedMixture}
@@ -18,7 +18,7 @@ above_0 (negsuc n) h = absurd (omega arith)
 -- ---- a dual
 
 abbrev IsValue : ℕ → ℕ × ℕ → Type 0
-IsValue n e = (e.0 < n) × (1 ≤ e.1) × IsShort e.1
+IsValue n e = (e.0 < n) × (1 ≤ e.1) × IsAmount e.1
 
 abbrev IsAboveNone : ℕ × ℤ → Type 0
 IsAboveNone e = pos 1 ≤ℤ e.1

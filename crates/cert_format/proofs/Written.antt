@@ -3,14 +3,15 @@ use Rattle.std.proofs.Common.{◌≡◌, ℕ, ◌+◌, ℤ, pos, All, codes, Lis
 use Rattle.std.specs.List.{join_with_byte}
 use Rattle.std.proofs.lemmas.List.Concat.{flat_map-append}
 use Rattle.std.proofs.lemmas.List.Elements.{All-map}
+use Rattle.hub_spec.specs.Cuts.{Prices}
 use Rattle.hub_spec.specs.Trees.{leaf_of}
-use Rattle.cert_spec.specs.Lines.{Item, says_hubs, says_dual, says_tree, keyword, numbers, value_numbers, weight_numbers, line_text}
+use Rattle.cert_spec.specs.Lines.{Item, says_hubs, says_dual, says_tree, keyword, numbers, run_numbers, value_numbers, weight_numbers, line_text}
 use Rattle.cert_spec.specs.Text.{line_bytes}
 use Rattle.hub_model.specs.Amounts.{natural, IsNatural}
 use Rattle.plan_model.specs.Prices.{natural_values, signed_values}
 use Rattle.plan_model.specs.Mixtures.{signed_weights}
 use Rattle.cert_format.proofs.Amounts.{natural_pos}
-use Rattle.cert_format.specs.Spaced.{spaced, words_text, words_line, spaced_node, spaced_value, spaced_weight}
+use Rattle.cert_format.specs.Spaced.{spaced, words_text, words_line, spaced_node, spaced_value, spaced_weight, run_text}
 
 words_joined : (word ns : List ℕ) → words_text word ns ≡ join_with_byte 32 (word ∷ map decimal ns)
 words_joined word [] = append-nil word
@@ -41,14 +42,19 @@ value_words (e ∷ u) =
     ap (λ bs. flat_map spaced ((e.0 + 1) ∷ natural e.1 ∷ []) ++ bs) (value_words u)
     ∙ sym (flat_map-append spaced ((e.0 + 1) ∷ natural e.1 ∷ []) (value_numbers (natural_values u)))
 
-pub dual_text : (i j price : ℕ) (a : ℤ) (values : List (ℕ × ℤ)) → price ≡ natural a
-    → words_text (codes "dual") ((i + 1) ∷ (j + 1) ∷ price ∷ []) ++ (flat_map spaced_value values ++ 10 ∷ [])
-    ≡ line_bytes (says_dual (i, j) (record { a = natural a; u = natural_values values }))
-dual_text i j price a values e =
-    ap (λ p. words_text (codes "dual") ((i + 1) ∷ (j + 1) ∷ p ∷ []) ++ (flat_map spaced_value values ++ 10 ∷ [])) e
-    ∙ ap (λ bs. words_text (codes "dual") ((i + 1) ∷ (j + 1) ∷ natural a ∷ []) ++ (bs ++ 10 ∷ [])) (value_words values)
-    ∙ more_numbers (codes "dual") ((i + 1) ∷ (j + 1) ∷ natural a ∷ []) (value_numbers (natural_values values))
-    ∙ line_of (says_dual (i, j) (record { a = natural a; u = natural_values values }))
+-- the first words of a dual's line, the values behind them, and a line feed
+pub dual_text : (i j run price : ℕ) (a : ℤ) (values : List (ℕ × ℤ)) → price ≡ natural a
+    → run_text i j run price ++ (flat_map spaced_value values ++ 10 ∷ [])
+    ≡ line_bytes (says_dual (i, j) run (record { a = natural a; u = natural_values values }))
+dual_text i j run price a values e =
+    let dual : Prices = record { a = natural a; u = natural_values values } in
+    let word = keyword (says_dual (i, j) run dual) in
+    let front : List ℕ = (i + 1) ∷ (j + 1) ∷ (run_numbers run ++ natural a ∷ []) in
+    ap (λ p. run_text i j run p ++ (flat_map spaced_value values ++ 10 ∷ [])) e
+    ∙ ap (λ bs. words_text word front ++ (bs ++ 10 ∷ [])) (value_words values)
+    ∙ more_numbers word front (value_numbers (natural_values values))
+    ∙ ap (λ ns. words_line word ((i + 1) ∷ (j + 1) ∷ ns)) (append_assoc (run_numbers run) (natural a ∷ []) (value_numbers (natural_values values)))
+    ∙ line_of (says_dual (i, j) run dual)
 
 weight_words : (w : List (ℕ × ℕ)) → flat_map spaced_weight (signed_weights w) ≡ flat_map spaced (weight_numbers w)
 weight_words [] = refl

@@ -1,14 +1,16 @@
 -- What the items of a text have given so far.
-use Rattle.std.specs.Prelude.{ℕ, List, [], ◌∷◌, ◌++◌}
-use Rattle.hub_spec.specs.Cuts.{Prices, Cut, cut_by}
+use Rattle.std.specs.Prelude.{ℕ, ◌≤◌, List, [], ◌∷◌, ◌++◌, replicate}
+use Rattle.hub_spec.specs.Cuts.{Prices, Cut}
 use Rattle.hub_spec.specs.Trees.{TreeLine, branch_on, leaf_of, no_hub, preorder}
 use Rattle.hub_spec.specs.Certificates.{Proof}
-use Rattle.hub_spec.specs.Ranges.{IsShort, IsDualInRange, IsLineInRange}
+use Rattle.hub_spec.specs.Ranges.{IsShort, IsAmount, IsDualInRange, IsLineInRange}
+use Rattle.cert_scan.specs.Versions.{version_number}
 use Rattle.cert_scan.specs.declared.items.Item.{Item}
-use Rattle.cert_scan.specs.declared.items.Item.TheVariants.{Size, Cost, Bound, Hub, Route, Cut as cut_item, Dual, DualPair, Branch, Leaf, LeafPair, Empty}
+use Rattle.cert_scan.specs.declared.items.Item.TheVariants.{Version, Size, Cost, Bound, Hub, Route, Cut as cut_item, Dual, DualPair, Branch, Leaf, LeafPair, Empty}
 
 -- the parts of a certificate; the last cut may still lack duals
 pub record Gathered : Type 0 where
+  pub version : ℕ
   pub size : ℕ
   pub candidates : ℕ
   pub cost : ℕ
@@ -21,7 +23,8 @@ pub record Gathered : Type 0 where
 -- a dual or a leaf of which more may come
 pub data Begun : Type 0 where
   no_line : Begun
-  dual_begun : Prices → Begun
+  -- how many commodities it is for, and the dual
+  dual_begun : (run : ℕ) → Prices → Begun
   leaf_begun : (denom : ℕ) → (weights : List (ℕ × ℕ)) → Begun
 
 -- the parts, and what was begun behind them
@@ -35,18 +38,18 @@ whole g = record { parts = g; begun = no_line }
 
 -- no item has given anything
 abbrev pub at_start : Standing
-at_start = whole (record { size = 0; candidates = 0; cost = 0; bound = 0; hubs = []; routes = []; cuts = []; lines = [] })
+at_start = whole (record { version = 1; size = 0; candidates = 0; cost = 0; bound = 0; hubs = []; routes = []; cuts = []; lines = [] })
 
--- with a dual more in the last cut
-abbrev pub with_dual : List Cut → Prices → List Cut
-with_dual [] dual = []
-with_dual (cut ∷ []) dual = cut_by (cut.duals ++ dual ∷ []) ∷ []
-with_dual (cut ∷ next ∷ cuts) dual = cut ∷ with_dual (next ∷ cuts) dual
+-- with more duals in the last cut
+abbrev pub with_duals : List Cut → List Prices → List Cut
+with_duals [] duals = []
+with_duals (cut ∷ []) duals = record { part = cut.part; duals = cut.duals ++ duals } ∷ []
+with_duals (cut ∷ next ∷ cuts) duals = cut ∷ with_duals (next ∷ cuts) duals
 
 -- with what was begun, of which no more comes
 abbrev pub with_begun : Gathered → Begun → Gathered
 with_begun g no_line = g
-with_begun g (dual_begun dual) = record g { cuts = with_dual g.cuts dual }
+with_begun g (dual_begun run dual) = record g { cuts = with_duals g.cuts (replicate run dual) }
 with_begun g (leaf_begun denom weights) = record g { lines = g.lines ++ leaf_of denom weights ∷ [] }
 
 abbrev pub settled : Standing → Gathered
@@ -54,7 +57,7 @@ settled s = with_begun s.parts s.begun
 
 -- the dual that was begun, with a node more and its value
 abbrev pub with_value : Begun → ℕ → ℕ → Begun
-with_value (dual_begun dual) k u = dual_begun (record { a = dual.a; u = dual.u ++ (k, u) ∷ [] })
+with_value (dual_begun run dual) k u = dual_begun run (record { a = dual.a; u = dual.u ++ (k, u) ∷ [] })
 with_value other k u = other
 
 -- the leaf that was begun, with a cut more and its weight
@@ -64,13 +67,14 @@ with_weight other c w = other
 
 -- with an item where nothing was begun
 abbrev pub first_taken : Gathered → Item → Standing
+first_taken g (Version v) = whole (record g { version = version_number v })
 first_taken g (Size n q) = whole (record g { size = n; candidates = q })
 first_taken g (Cost cost) = whole (record g { cost = cost })
 first_taken g (Bound bound) = whole (record g { bound = bound })
 first_taken g (Hub k last) = whole (record g { hubs = g.hubs ++ k ∷ [] })
 first_taken g (Route i j k m) = whole (record g { routes = g.routes ++ (k, m) ∷ [] })
-first_taken g (cut_item number) = whole (record g { cuts = g.cuts ++ cut_by [] ∷ [] })
-first_taken g (Dual i j a last) = record { parts = g; begun = dual_begun (record { a = a; u = [] }) }
+first_taken g (cut_item number part) = whole (record g { cuts = g.cuts ++ record { part = part; duals = [] } ∷ [] })
+first_taken g (Dual i j run a last) = record { parts = g; begun = dual_begun run (record { a = a; u = [] }) }
 first_taken g (Branch k) = whole (record g { lines = g.lines ++ branch_on k ∷ [] })
 first_taken g (Leaf denom last) = record { parts = g; begun = leaf_begun denom [] }
 first_taken g Empty = whole (record g { lines = g.lines ++ no_hub ∷ [] })
@@ -90,12 +94,12 @@ taken_all s (item ∷ items) = taken_all (taken s item) items
 -- what was begun is in range as far as it has come
 abbrev pub IsFit : Begun → Type 0
 IsFit no_line = Unit {0}
-IsFit (dual_begun dual) = (n : ℕ) × IsDualInRange n dual
+IsFit (dual_begun run dual) = (1 ≤ run) × ((n : ℕ) × IsDualInRange n dual)
 IsFit (leaf_begun denom weights) = IsLineInRange 0 (leaf_of denom weights)
 
--- the amounts that an item lists have at most 30 digits
+-- the amounts that an item lists are in range
 abbrev pub IsShortItem : Item → Type 0
-IsShortItem (DualPair k u last) = IsShort u
+IsShortItem (DualPair k u last) = IsAmount u
 IsShortItem (LeafPair c w last) = IsShort c × IsShort w
 IsShortItem item = Unit {0}
 
@@ -107,6 +111,7 @@ pub record MayTake (s : Standing) (item : Item) : Type 0 where
 -- what the items of a certificate give
 abbrev pub all_gathered : Proof → Gathered
 all_gathered k = record {
+  version = k.version;
   size = k.size;
   candidates = k.candidates;
   cost = k.cost;

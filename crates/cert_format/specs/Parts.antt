@@ -1,30 +1,27 @@
 -- The certificate that its parts stand for.
-use Rattle.std.specs.Prelude.{◌≡◌, ℕ, ℤ, List, map}
-use Rattle.std.specs.declared.vec.Vec.{Vec}
-use Rattle.std.specs.declared.alloc.Global.{Global}
+use Rattle.std.specs.Prelude.{◌≡◌, pos, List, map}
 use Rattle.hub_spec.specs.Plans.{Plan}
-use Rattle.hub_spec.specs.Cuts.{Prices, Cut, cut_by}
+use Rattle.hub_spec.specs.Cuts.{Cut}
 use Rattle.hub_spec.specs.Trees.{preorder}
 use Rattle.hub_spec.specs.Certificates.{Proof}
 use Rattle.hub_spec.specs.Ranges.{IsInRange}
 use Rattle.hub_model.specs.Amounts.{natural, IsNatural}
 use Rattle.plan_model.specs.Lines.{tree_line_of}
 use Rattle.plan_model.specs.declared.tree_lines.TreeLine.{TreeLine}
+use Rattle.cert_scan.specs.Versions.{version_number}
 use Rattle.cert_format.specs.Growing.{tree_of}
-
--- a cut by its duals
-abbrev pub cut_of : Vec Prices Global → Cut
-cut_of duals = cut_by duals.items
+use Rattle.cert_format.specs.declared.headings.Heading.{Heading}
 
 -- what the parts stand for
-abbrev pub proof_of : ℕ → ℕ → ℤ → ℤ → Plan → List (Vec Prices Global) → List TreeLine → Proof
-proof_of size candidates cost bound plan cuts lines = record {
-  size = size;
-  candidates = candidates;
-  cost = natural cost;
-  bound = natural bound;
+abbrev pub proof_of : Heading → Plan → List Cut → List TreeLine → Proof
+proof_of heading plan cuts lines = record {
+  version = version_number heading.version;
+  size = heading.size;
+  candidates = heading.candidates;
+  cost = natural heading.cost;
+  bound = natural heading.bound;
   plan = plan;
-  cuts = map cut_of cuts;
+  cuts = cuts;
   tree = tree_of (map tree_line_of lines);
 }
 
@@ -33,8 +30,16 @@ abbrev pub AreOneTree : List TreeLine → Type 0
 AreOneTree lines = preorder (tree_of (map tree_line_of lines)) ≡ map tree_line_of lines
 
 -- no number is below 0, all are within the ranges of the grammar, and the lines are those of one tree
-pub record AreCertificateParts (size candidates : ℕ) (cost bound : ℤ) (plan : Plan) (cuts : List (Vec Prices Global)) (lines : List TreeLine) : Type 0 where
-  pub cost_least : IsNatural cost
-  pub bound_least : IsNatural bound
-  pub in_range : IsInRange (proof_of size candidates cost bound plan cuts lines)
+pub record AreCertificateParts (heading : Heading) (plan : Plan) (cuts : List Cut) (lines : List TreeLine) : Type 0 where
+  pub cost_least : IsNatural heading.cost
+  pub bound_least : IsNatural heading.bound
+  pub in_range : IsInRange (proof_of heading plan cuts lines)
   pub one_tree : AreOneTree lines
+
+-- the first lines say so of the certificate
+pub record IsHeadingOf (heading : Heading) (k : Proof) : Type 0 where
+  pub version : version_number heading.version ≡ k.version
+  pub size : heading.size ≡ k.size
+  pub candidates : heading.candidates ≡ k.candidates
+  pub cost : heading.cost ≡ pos k.cost
+  pub bound : heading.bound ≡ pos k.bound

@@ -1,6 +1,7 @@
 -- How a line is written: its first word, and numbers behind it, each behind a space.
-use Rattle.std.specs.Prelude.{ℕ, ℤ, ◌+◌, List, [], ◌∷◌, ◌++◌, flat_map, decimal}
+use Rattle.std.specs.Prelude.{ℕ, ℤ, ◌+◌, List, [], ◌∷◌, ◌++◌, flat_map, codes, decimal, nat_eq, if◌then◌else◌}
 use Rattle.hub_model.specs.Amounts.{natural}
+use Rattle.cert_spec.specs.Lines.{run_numbers}
 
 -- a number behind a space
 abbrev pub spaced : ℕ → List ℕ
@@ -25,3 +26,8 @@ spaced_value e = flat_map spaced ((e.0 + 1) ∷ natural e.1 ∷ [])
 -- the number of a cut and its weight, each behind a space
 abbrev pub spaced_weight : ℤ × ℤ → List ℕ
 spaced_weight e = flat_map spaced (natural e.0 ∷ natural e.1 ∷ [])
+
+-- the first words of the line of a dual for a run, up to its price
+abbrev pub run_text : (i j run price : ℕ) → List ℕ
+run_text i j run price =
+    words_text (if nat_eq run 1 then codes "dual" else codes "duals") ((i + 1) ∷ (j + 1) ∷ (run_numbers run ++ price ∷ []))

@@ -1,6 +1,6 @@
 // A line with a list that was begun.
 ghost use Rattle.std.specs.Prelude.{◌≡◌, ◌<◌, ◌^◌, IfOk};
-ghost use Rattle.hub_spec.specs.Ranges.{IsShort};
+ghost use Rattle.hub_spec.specs.Ranges.{IsShort, IsAmount};
 
 use hub_model::signed;
 use std::alloc::AllocError;
@@ -9,8 +9,12 @@ use std::alloc::AllocError;
 #[derive(Drop)]
 pub(crate) enum BegunLine {
     Nothing,
-    // A price, and nodes with their values.
-    Dual(u128, Vec<(u32, i128)>),
+    // How many commodities it is for, its price, and nodes with their values.
+    Dual {
+        run: u32,
+        price: u128,
+        values: Vec<(u32, i128)>,
+    },
     // A denominator, and cuts with their weights.
     Leaf(u32, Vec<(i128, i128)>),
 }
@@ -21,10 +25,10 @@ impl BegunLine {
 
     // Lists one more node of the dual with its value.
     pub(crate) fn list_value(&mut self, k: u32, u: u128) -> Result<(), AllocError>
-        requires { IsShort u }
+        requires { IsAmount u }
         ensures { IfOk result (λ _. begun_of self.new ≡ with_value (begun_of self.old) k u) }
     {
-        if let BegunLine::Dual(_, values) = self {
+        if let BegunLine::Dual { values, .. } = self {
             values.push((k, signed(u)))?;
         }
         Ok(())

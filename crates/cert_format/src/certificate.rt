@@ -2,24 +2,23 @@ ghost use Rattle.std.specs.Prelude.{◌≡◌, pos, map};
 ghost use Rattle.hub_spec.specs.Trees.{preorder};
 ghost use Rattle.hub_spec.specs.Ranges.{IsInRange};
 ghost use Rattle.plan_model.specs.Lines.{tree_line_of};
-ghost use Rattle.cert_format.specs.Parts.{cut_of, proof_of, AreCertificateParts};
+ghost use Rattle.cert_scan.specs.Versions.{version_number};
+ghost use Rattle.cert_format.specs.Parts.{proof_of, AreCertificateParts, IsHeadingOf};
 
-use plan_model::{Dual, Plan, TreeLine};
+use crate::{Heading, StatedCut};
+use cert_scan::Version;
+use plan_model::{Plan, TreeLine};
 use std::marker::Model;
 
 /// A certificate within the ranges of the grammar: a plan and its cost, and cuts with a tree that are to show that no
 /// plan costs less than the bound. Whether they do is for a checker to say.
 ///
-/// Costs are in 10^-12, and nodes count from 0. A cut is its duals, one for each commodity in order, and a tree is its
-/// lines in preorder, the open child first.
+/// Costs are in 10^-12, and nodes count from 0. A tree is its lines in preorder, the open child first.
 #[derive(Drop)]
 pub struct Certificate {
-    size: u32,
-    candidates: u32,
-    cost: i128,
-    bound: i128,
+    heading: Heading,
     plan: Plan,
-    cuts: Vec<Vec<Dual>>,
+    cuts: Vec<StatedCut>,
     tree: Vec<TreeLine>,
 }
 
@@ -33,34 +32,43 @@ impl Model for Certificate {
 
     ghost use Rattle.cert_format.specs.Parts.{proof_of, AreCertificateParts};
 
-    ghost view = { λ c. proof_of c.size c.candidates c.cost c.bound c.plan c.cuts.items c.tree.items };
+    ghost view = { λ c. proof_of c.heading c.plan c.cuts.items c.tree.items };
 
-    ghost invariant = { λ c. AreCertificateParts c.size c.candidates c.cost c.bound c.plan c.cuts.items c.tree.items };
+    ghost invariant = { λ c. AreCertificateParts c.heading c.plan c.cuts.items c.tree.items };
 }
 
 impl Certificate {
     /// The certificate of these parts, which are taken as they are.
     pub fn new(
-        size: u32,
-        candidates: u32,
-        cost: i128,
-        bound: i128,
+        heading: Heading,
         plan: Plan,
-        cuts: Vec<Vec<Dual>>,
+        cuts: Vec<StatedCut>,
         tree: Vec<TreeLine>,
     ) -> Certificate
-        requires { AreCertificateParts size candidates cost bound plan cuts.items tree.items }
-        ensures { result ≡ proof_of size candidates cost bound plan cuts.items tree.items }
+        requires { AreCertificateParts heading plan cuts.items tree.items }
+        ensures { result ≡ proof_of heading plan cuts.items tree.items }
     {
         Certificate {
-            size,
-            candidates,
-            cost,
-            bound,
+            heading,
             plan,
             cuts,
             tree,
         }
+    }
+
+    /// What the first lines of its text say.
+    pub fn heading(&self) -> &Heading
+        ensures value { IsHeadingOf result.now self.now }
+        ensures in_range { IsInRange self.now }
+    {
+        &self.heading
+    }
+
+    /// The version of its text.
+    pub fn version(&self) -> Version
+        ensures { version_number result ≡ self.now.version }
+    {
+        self.heading.version
     }
 
     /// The number of nodes.
@@ -68,28 +76,28 @@ impl Certificate {
         ensures value { result ≡ self.now.size }
         ensures in_range { IsInRange self.now }
     {
-        self.size
+        self.heading.size
     }
 
     /// The number of candidates.
     pub fn candidates(&self) -> u32
         ensures { result ≡ self.now.candidates }
     {
-        self.candidates
+        self.heading.candidates
     }
 
     /// The cost of the plan.
     pub fn cost(&self) -> i128
         ensures { result ≡ pos self.now.cost }
     {
-        self.cost
+        self.heading.cost
     }
 
     /// The bound on the cost of each plan.
     pub fn bound(&self) -> i128
         ensures { result ≡ pos self.now.bound }
     {
-        self.bound
+        self.heading.bound
     }
 
     /// The plan.
@@ -115,9 +123,9 @@ impl Certificate {
         self.plan.routes()
     }
 
-    /// The cuts, each by its duals.
-    pub fn cuts(&self) -> &[Vec<Dual>]
-        ensures value { map cut_of result.now ≡ self.now.cuts }
+    /// The cuts.
+    pub fn cuts(&self) -> &[StatedCut]
+        ensures value { result.now ≡ self.now.cuts }
         ensures in_range { IsInRange self.now }
     {
         &self.cuts

@@ -1,13 +1,12 @@
 // A certificate in the making, item by item.
-ghost use Rattle.std.specs.Prelude.{◌≡◌, ◌<◌, ◌^◌, map, IfOk};
+ghost use Rattle.std.specs.Prelude.{◌≡◌, ◌<◌, ◌≤◌, ◌^◌, replicate, IfOk};
 ghost use Rattle.hub_spec.specs.Certificates.{Proof};
 ghost use Rattle.hub_spec.specs.Ranges.{IsInRange};
-ghost use Rattle.cert_format.specs.Parts.{cut_of};
-ghost use Rattle.cert_format.specs.Gathered.{with_dual};
+ghost use Rattle.cert_format.specs.Gathered.{with_duals};
 
-use crate::Certificate;
 use crate::begun::BegunLine;
-use cert_scan::Item;
+use crate::{Certificate, Heading, StatedCut};
+use cert_scan::{Item, Version};
 use hub_model::signed;
 use plan_model::{Dual, Mix, Plan, TreeLine};
 use std::alloc::{AllocError, Global};
@@ -16,6 +15,7 @@ use std::mem;
 // The parts that items gave. That a line ends is told by the next one, so its dual or leaf is put in only then.
 #[derive(Drop)]
 pub(crate) struct Gathering {
+    pub(crate) version: Version,
     pub(crate) size: u32,
     pub(crate) candidates: u32,
     pub(crate) cost: u128,
@@ -23,7 +23,7 @@ pub(crate) struct Gathering {
     pub(crate) hubs: Vec<u32>,
     pub(crate) routes: Vec<(u32, u32)>,
     // The last may still lack duals.
-    pub(crate) cuts: Vec<Vec<Dual>>,
+    pub(crate) cuts: Vec<StatedCut>,
     pub(crate) lines: Vec<TreeLine>,
     pub(crate) begun: BegunLine,
 }
@@ -36,6 +36,7 @@ impl Gathering {
         ensures { standing_of result ≡ at_start }
     {
         Gathering {
+            version: Version::First,
             size: 0,
             candidates: 0,
             cost: 0,
@@ -70,9 +71,9 @@ impl Gathering {
     {
         match mem::replace(&mut self.begun, BegunLine::Nothing) {
             BegunLine::Nothing => Ok(()),
-            BegunLine::Dual(price, values) => {
+            BegunLine::Dual { run, price, values } => {
                 let dual = Dual::new(signed(price), values);
-                add_dual(&mut self.cuts, dual)
+                add_duals(&mut self.cuts, run, dual)
             }
             BegunLine::Leaf(denominator, weights) => {
                 let mix = Mix::new(signed(denominator as u128), weights);
@@ -88,6 +89,7 @@ impl Gathering {
         ensures { IfOk result (λ _. standing_of self.new ≡ first_taken (gathered_of self.old) item) }
     {
         match item {
+            Item::Version(version) => self.version = version,
             Item::Size { n, q } => {
                 self.size = n;
                 self.candidates = q;
@@ -96,8 +98,14 @@ impl Gathering {
             Item::Bound(bound) => self.bound = bound,
             Item::Hub { k, .. } => self.hubs.push(k)?,
             Item::Route { k, m, .. } => self.routes.push((k, m))?,
-            Item::Cut(_) => self.cuts.push(Vec::new(alloc))?,
-            Item::Dual { a, .. } => self.begun = BegunLine::Dual(a, Vec::new(alloc)),
+            Item::Cut { part, .. } => self.cuts.push(StatedCut::new(part, Vec::new(alloc)))?,
+            Item::Dual { run, a, .. } => {
+                self.begun = BegunLine::Dual {
+                    run,
+                    price: a,
+                    values: Vec::new(alloc),
+                };
+            }
             Item::Branch(k) => self.lines.push(TreeLine::BranchOn(k))?,
             Item::Leaf { denom, .. } => self.begun = BegunLine::Leaf(denom, Vec::new(alloc)),
             Item::Empty => self.lines.push(TreeLine::Empty)?,
@@ -112,6 +120,7 @@ impl Gathering {
         ensures { (k : Proof) → IsInRange k → gathered_of self ≡ all_gathered k → result ≡ k }
     {
         let Gathering {
+            version,
             size,
             candidates,
             cost,
@@ -125,18 +134,25 @@ impl Gathering {
         let plan = Plan::new(hubs, routes);
         let cost = signed(cost);
         let bound = signed(bound);
-        Certificate::new(size, candidates, cost, bound, plan, cuts, lines)
+        let heading = Heading {
+            version,
+            size,
+            candidates,
+            cost,
+            bound,
+        };
+        Certificate::new(heading, plan, cuts, lines)
     }
 }
 
-// Adds a dual to the last cut.
-fn add_dual(cuts: &mut Vec<Vec<Dual>>, dual: Dual) -> Result<(), AllocError>
-    ensures { IfOk result (λ _. map cut_of cuts.new.items ≡ with_dual (map cut_of cuts.old.items) dual) }
+// Adds the dual of a run of so many commodities to the last cut.
+fn add_duals(cuts: &mut Vec<StatedCut>, run: u32, dual: Dual) -> Result<(), AllocError>
+    requires { 1 ≤ run }
+    ensures { IfOk result (λ _. cuts.new.items ≡ with_duals cuts.old.items (replicate run dual)) }
 {
     if cuts.is_empty() {
         return Ok(());
     }
     let last = cuts.len() - 1;
-    cuts[last].push(dual)?;
-    Ok(())
+    cuts[last].add(run, dual)
 }

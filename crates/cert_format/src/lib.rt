@@ -1,6 +1,8 @@
 //! The certificate as a type, and its text written and read.
 //!
-//! - [`Certificate`] is a certificate within the ranges of the grammar, seen by contracts as the definitions' `Proof`.
+//! - [`Certificate`] is a certificate within the ranges of the grammar, seen by contracts as the definitions' `Proof`:
+//!   what its first lines say ([`Heading`]), a plan, cuts ([`StatedCut`]) and the lines of a tree. Its text is of the
+//!   [`Version`] that its first line says.
 //! - [`write_cert`] puts its text on a sink: just `certificate_text` of it. [`put_top`], [`put_cut`], [`put_dual`] and
 //!   [`put_tree`] put its parts, for a text whose duals are made while they are put.
 //! - [`read_cert`] reads bytes back: a certificate exactly where all of the bytes spell it, and otherwise the fault of
@@ -11,6 +13,8 @@
 #![tactic(auto)]
 
 mod certificate;
+mod cuts;
+mod headings;
 
 // Reading: a gathering of what the items of a text give.
 mod begun;
@@ -19,10 +23,14 @@ mod reader;
 
 // Writing: the words of a line, lines, and the parts of a text.
 mod lines;
+mod rows;
 mod spaced;
 mod writer;
 
+pub use cert_scan::Version;
 pub use certificate::Certificate;
+pub use cuts::StatedCut;
+pub use headings::Heading;
 pub use lines::{put_cut, put_dual};
 pub use reader::{CertFault, read_cert};
 pub use writer::{put_top, put_tree, write_cert};

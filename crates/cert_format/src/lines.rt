@@ -3,14 +3,17 @@ ghost use Rattle.std.specs.Prelude.{◌≡◌, ◌+◌, ◌≤◌, ℕ, flat_map
 ghost use Rattle.hub_spec.specs.Problem.{commodity_at};
 ghost use Rattle.hub_spec.specs.Trees.{leaf_of};
 ghost use Rattle.cert_spec.specs.Lines.{says_hubs, says_route, says_cut, says_dual, says_tree};
+ghost use Rattle.cert_spec.specs.Text.{part_said};
 ghost use Rattle.hub_io.specs.Outside.{PutsThrough};
 ghost use Rattle.hub_model.specs.Amounts.{natural, IsNatural};
 ghost use Rattle.plan_model.specs.Prices.{natural_values};
 ghost use Rattle.plan_model.specs.Lines.{tree_line_of};
-ghost use Rattle.cert_format.specs.Spaced.{spaced_node, spaced_value, spaced_weight};
+ghost use Rattle.cert_scan.specs.Versions.{version_number};
+ghost use Rattle.cert_format.specs.Spaced.{spaced_node, spaced_value, spaced_weight, run_text};
 ghost use Rattle.cert_format.specs.Puts.{PutsLine};
 
 use crate::spaced::{put_line, put_number, put_numbers, put_words};
+use cert_scan::Version;
 use hub_io::{Buffer, Failed, Sink};
 use hub_model::unsigned;
 use plan_model::{Mix, TreeLine};
@@ -57,17 +60,29 @@ pub(crate) fn put_route<K: Sink>(
     put_line(b"route", &[i, j, k, m], buffer, sink)
 }
 
-/// Puts the line that begins the cut of this number, counted from 1.
-pub fn put_cut<K: Sink>(x: u64, buffer: &mut Buffer, sink: &mut K) -> Result<(), Failed>
-    ensures { PutsLine K.taken K.faults sink.old sink.new buffer.old buffer.new result (says_cut x) }
+/// Puts the line that begins the cut of this number, counted from 1, and of this part. The first version says no part.
+pub fn put_cut<K: Sink>(
+    version: Version,
+    x: u64,
+    part: u32,
+    buffer: &mut Buffer,
+    sink: &mut K,
+) -> Result<(), Failed>
+    ensures { PutsLine K.taken K.faults sink.old sink.new buffer.old buffer.new result
+        (says_cut x (part_said (version_number version) part)) }
 {
-    put_line(b"cut", &[x as u128], buffer, sink)
+    match version {
+        Version::First => put_line(b"cut", &[x as u128], buffer, sink),
+        Version::Second => put_line(b"cut", &[x as u128, part as u128], buffer, sink),
+    }
 }
 
-/// Puts the line of the dual of the commodity from node i to node j: its price `a`, and some nodes with their values.
+/// Puts the line of the dual of a run of so many commodities from node i, the first of which goes to node j: its price
+/// `a`, and some nodes with their values. In the first version each run is of one commodity.
 pub fn put_dual<K: Sink>(
     i: u32,
     j: u32,
+    run: u32,
     a: i128,
     values: &[(u32, i128)],
     buffer: &mut Buffer,
@@ -76,14 +91,31 @@ pub fn put_dual<K: Sink>(
     requires price { IsNatural a }
     requires values { All (λ e. IsNatural e.1) values.now }
     ensures { PutsLine K.taken K.faults sink.old sink.new buffer.old buffer.new result
-        (says_dual (i, j) (record { a = natural a; u = natural_values values.now })) }
+        (says_dual (i, j) run (record { a = natural a; u = natural_values values.now })) }
+{
+    put_run(i, j, run, unsigned(a), buffer, sink)?;
+    put_values(values, buffer, sink)?;
+    buffer.put(b"\n", sink)
+}
+
+// Puts the first words of the line of a dual, up to its price.
+fn put_run<K: Sink>(
+    i: u32,
+    j: u32,
+    run: u32,
+    price: u128,
+    buffer: &mut Buffer,
+    sink: &mut K,
+) -> Result<(), Failed>
+    ensures { PutsThrough K.taken K.faults sink.old sink.new buffer.old buffer.new result
+        (run_text i j run price) }
 {
     let first = i as u128 + 1;
     let last = j as u128 + 1;
-    let price = unsigned(a);
-    put_words(b"dual", &[first, last, price], buffer, sink)?;
-    put_values(values, buffer, sink)?;
-    buffer.put(b"\n", sink)
+    if run == 1 {
+        return put_words(b"dual", &[first, last, price], buffer, sink);
+    }
+    put_words(b"duals", &[first, last, run as u128, price], buffer, sink)
 }
 
 fn put_values<K: Sink>(

@@ -1,22 +1,30 @@
-use Rattle.std.proofs.Common.{ap, is_ok, is_err, length, ◌∙◌, arith}
-use Rattle.cert_format.specs.Parts.{cut_of}
-use Rattle.cert_format.proofs.Putting.{numbered, length_numbered, cut_at, cut_texts, whole_at}
+use Rattle.std.proofs.Common.{ap, is_ok, is_err, arith}
+use Rattle.std.proofs.lemmas.List.FromFn.{length-enumerate_from}
+use Rattle.cert_scan.specs.Versions.{version_number}
+use Rattle.cert_format.proofs.CutLines.{numbered, cut_at}
+use Rattle.cert_format.proofs.Putting.{cut_texts, whole_at}
 use Rattle.cert_format.proofs.Following.{as_text, list_more, list_stop, list_end}
 use Rattle.cert_format.proofs.writer.put_cuts.Goals as goal
 
 pub returns-in_err-put_whole_cut : goal.returns-in_err-put_whole_cut
 returns-in_err-put_whole_cut g c =
-    as_text (cut_texts c.args.n (numbered c.args.cuts.now)) (list_stop (0, cut_of c.index-cuts-x.result) c.loop-x.invariant c.put_whole_cut.ensures (ap is_err c.in_err-put_whole_cut.was) c.from_residual.ensures.0 (omega (arith, length_numbered c.args.cuts.now))
-    (cut_at c.args.n c.args.cuts.now c.loop-x.x c.index-cuts-x.result c.deref.result.now c.deref.ensures.value c.index-cuts-x.is (omega arith)))
+    let v = version_number c.args.version in
+    as_text (cut_texts v c.args.n (numbered c.args.cuts.now))
+    (list_stop (0, c.index-cuts-x.result) c.loop-x.invariant c.put_whole_cut.ensures (ap is_err c.in_err-put_whole_cut.was) c.from_residual.ensures.0
+    (omega (arith, length-enumerate_from 1 c.args.cuts.now))
+    (cut_at v c.args.n c.args.cuts.now c.loop-x.x (0, c.index-cuts-x.result) c.index-cuts-x.result (omega arith) c.index-cuts-x.is))
 
 pub loop-x-preserved : goal.loop-x-preserved
 loop-x-preserved g c =
-    list_more (0, cut_of c.index-cuts-x.result) c.loop-x.invariant c.put_whole_cut.ensures (ap is_ok c.in_ok-put_whole_cut.was) (omega (arith, length_numbered c.args.cuts.now))
-    (cut_at c.args.n c.args.cuts.now c.loop-x.x c.index-cuts-x.result c.deref.result.now c.deref.ensures.value c.index-cuts-x.is (omega arith))
+    list_more (0, c.index-cuts-x.result) c.loop-x.invariant c.put_whole_cut.ensures (ap is_ok c.in_ok-put_whole_cut.was)
+    (omega (arith, length-enumerate_from 1 c.args.cuts.now))
+    (cut_at (version_number c.args.version) c.args.n c.args.cuts.now c.loop-x.x (0, c.index-cuts-x.result) c.index-cuts-x.result (omega arith) c.index-cuts-x.is)
 
 pub returns : goal.returns
-returns g c = as_text (cut_texts c.args.n (numbered c.args.cuts.now)) (list_end c.loop-x.invariant (omega (arith, length_numbered c.args.cuts.now)))
+returns g c =
+    as_text (cut_texts (version_number c.args.version) c.args.n (numbered c.args.cuts.now))
+    (list_end c.loop-x.invariant (omega (arith, length-enumerate_from 1 c.args.cuts.now)))
 
 pub put_whole_cut-requires-clause-whole : goal.put_whole_cut-requires-clause-whole
 put_whole_cut-requires-clause-whole g c =
-    ap length c.deref.ensures.value ∙ whole_at c.args.n c.args.cuts.now c.loop-x.x c.index-cuts-x.result (omega arith) c.index-cuts-x.is c.requires.whole
+    whole_at c.args.n c.args.cuts.now c.loop-x.x c.index-cuts-x.result (omega arith) c.index-cuts-x.is c.requires.whole

@@ -8,7 +8,10 @@ use Rattle.cert_format.proofs.gathering.Gathering.settle.Goals as goal
 pub new-dual-requires : goal.new-dual-requires
 new-dual-requires c =
     let fit = subst (λ b. IsFit (begun_of b)) (sym c.in-Dual.ensures.value) c.requires in
-    signed_prices fit.0 c.in-Dual.price _ c.in-Dual.values.items (passed_on c.signed.result (search rules) c.signed.ensures) fit.1
+    signed_prices fit.1.0 c.in-Dual.price _ c.in-Dual.values.items (passed_on c.signed.result (search rules) c.signed.ensures) fit.1.1
+
+pub add_duals-requires : goal.add_duals-requires
+add_duals-requires c = (subst (λ b. IsFit (begun_of b)) (sym c.in-Dual.ensures.value) c.requires).0
 
 pub new-mix-requires : goal.new-mix-requires
 new-mix-requires c =
