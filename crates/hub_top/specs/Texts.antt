@@ -22,6 +22,7 @@ usage_text = concat (
     ∷ codes "options: --order flow-first|distance-first, --tail ignore|fixed, --divide D,\n"
     ∷ codes "         --collect X, --trunk X, --deliver X, --fixed X, --costs FILE,\n"
     ∷ codes "         --candidates LIST, --no-self\n"
+    ∷ codes "         --format 1|2\n"
     ∷ [])
 
 unfoldable pub memory_text : List ℕ

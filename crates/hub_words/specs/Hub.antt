@@ -45,6 +45,10 @@ search_names = codes "nodes" ∷ codes "workers" ∷ []
 abbrev pub with_search : App → App
 with_search a = fold with_option a search_names
 
+-- a command that takes the version of the certificate's text
+abbrev pub with_format : App → App
+with_format a = with_option a (codes "format")
+
 -- the words of a subcommand that say which instance is made
 abbrev pub making_words : List Text
 making_words = codes "seed" ∷ codes "size" ∷ []
@@ -53,13 +57,13 @@ making_words = codes "seed" ∷ codes "size" ∷ []
 abbrev pub with_making : App → App
 with_making a = fold with_word a making_words
 
--- `solve LAYOUT FILE`, with the instance options and those of a search
+-- `solve LAYOUT FILE`, with the instance options, those of a search and the version of the text
 abbrev pub solve_app : App
-solve_app = with_search (with_instance (new_app (codes "solve")))
+solve_app = with_format (with_search (with_instance (new_app (codes "solve"))))
 
--- `optimize LAYOUT FILE`, with the instance options and those of a search
+-- `optimize LAYOUT FILE`, with the instance options, those of a search and the version of the text
 abbrev pub optimize_app : App
-optimize_app = with_search (with_instance (new_app (codes "optimize")))
+optimize_app = with_format (with_search (with_instance (new_app (codes "optimize"))))
 
 -- a subcommand `NAME LAYOUT FILE CERT`, with the instance options
 abbrev pub certificate_app : Text → App

@@ -16,10 +16,11 @@ pub record Search : Type 0 where
   pub nodes : Option ℕ
   pub workers : ℕ
 
--- what is to be solved, and by which search
+-- what is to be solved, by which search, and in which version the certificate is written
 pub record Solving : Type 0 where
   pub source : Source
   pub search : Search
+  pub version : ℕ
 
 -- a made instance: its seed and its number of nodes
 pub record Making : Type 0 where
@@ -63,6 +64,15 @@ making_of (report source certificate) = None
 making_of (make making) = Some making
 making_of (demo making search) = Some making
 
+-- the version in which a request asks for a certificate, if it asks for one by its version
+abbrev pub version_of : Request → Option ℕ
+version_of (solve solving) = Some solving.version
+version_of (optimize solving) = Some solving.version
+version_of (check source certificate) = None
+version_of (report source certificate) = None
+version_of (make making) = None
+version_of (demo making search) = None
+
 -- the options are within their limits
 abbrev pub HasOptions : Source → Type 0
 HasOptions s = IsOptions s.options
@@ -84,9 +94,14 @@ pub record IsMaking (m : Making) : Type 0 where
   pub least : 1 ≤ m.size
   pub most : m.size ≤ most_nodes
 
+-- a version that there is
+abbrev pub IsVersion : ℕ → Type 0
+IsVersion v = (1 ≤ v) × (v ≤ 2)
+
 -- what the request names, asks for and makes is within its limits
 pub record IsLawful (r : Request) : Type 0 where
   pub limits : IfSome (instance r) HasOptions
   pub sources : IfSome (instance r) AreSources
   pub searches : IfSome (search_of r) IsSearch
+  pub versions : IfSome (version_of r) IsVersion
   pub makings : IfSome (making_of r) IsMaking

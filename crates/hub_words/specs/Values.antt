@@ -100,6 +100,15 @@ abbrev pub workers_asked : Option (List ℕ) → Option ℕ
 workers_asked None = Some 1
 workers_asked (Some word) = count_value 1 most_workers word
 
+-- the version of this name
+abbrev pub version_named : List ℕ → Option ℕ
+version_named word = if bytes_eq word (codes "1") then Some 1 else if bytes_eq word (codes "2") then Some 2 else None
+
+-- the version of the certificate's text, the first where none is given
+abbrev pub version_asked : Option (List ℕ) → Option ℕ
+version_asked None = Some 1
+version_asked (Some word) = version_named word
+
 -- the seed of a made instance
 abbrev pub seed_asked : Option (List ℕ) → Option ℕ
 seed_asked = option_and_then (count_value 0 most_seed)

@@ -5,6 +5,7 @@ use Rattle.clap.specs.Words.{Row, found_of, rows_of}
 use Rattle.clap.specs.declared.parser.matches.ArgMatches.{ArgMatches}
 use Rattle.file_spec.specs.Options as file
 use Rattle.file_spec.specs.Options.{Options}
+use Rattle.cert_scan.specs.Versions.{version_number}
 use Rattle.hub_words.specs.Requests as request
 use Rattle.hub_words.specs.declared.requests.Layout.{Layout}
 use Rattle.hub_words.specs.declared.requests.Layout.TheVariants.{CabMatrix, CabRows, AustraliaPost}
@@ -39,7 +40,7 @@ making_seen m = record { seed = m.seed; size = m.size }
 
 -- what is to be solved
 abbrev pub solving_of : Solving → request.Solving
-solving_of s = record { source = source_of s.source; search = search_seen s.search }
+solving_of s = record { source = source_of s.source; search = search_seen s.search; version = version_number s.version }
 
 -- the values that a command was given, in rows
 abbrev pub rows_found : ArgMatches → List Row

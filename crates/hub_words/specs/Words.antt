@@ -2,8 +2,8 @@
 use Rattle.std.specs.Prelude.{ℕ, Bool, ◌&&◌, ◌||◌, not, List, codes, bytes_eq, Option, Some, None, option_map, option_and_then, is_some, if◌then◌else◌}
 use Rattle.clap.specs.Words.{Row, Text, first_of}
 use Rattle.file_spec.specs.Options.{Layout, Order, Tail, tail_ignored, tail_costs, Options}
-use Rattle.hub_words.specs.Requests.{Source, Search, Making, Request, solve, optimize, check, report, make, demo}
-use Rattle.hub_words.specs.Values.{layout_named, order_asked, tail_asked, divide_asked, factor_asked, fixed_asked, candidates_asked, is_set, nodes_asked, workers_asked, seed_asked, size_asked}
+use Rattle.hub_words.specs.Requests.{Source, Search, Solving, Making, Request, solve, optimize, check, report, make, demo}
+use Rattle.hub_words.specs.Values.{layout_named, order_asked, tail_asked, divide_asked, factor_asked, fixed_asked, candidates_asked, is_set, nodes_asked, workers_asked, version_asked, seed_asked, size_asked}
 use Rattle.hub_words.specs.Parses.{parsed}
 
 -- the value that the words give to the argument of this name
@@ -98,23 +98,22 @@ making_from seed size = None
 unfoldable pub making_asked : List Row → Option Making
 making_asked rows = making_from (seed_asked (given rows (codes "seed"))) (size_asked (given rows (codes "size")))
 
--- a call to solve the instance by the search
-abbrev pub solved : Option Source → Option Search → Option Request
-solved (Some source) (Some run) = Some (solve (record { source = source; search = run }))
-solved source run = None
+-- an instance, a search and a version, where each is within its form
+abbrev pub solving_from : Option Source → Option Search → Option ℕ → Option Solving
+solving_from (Some source) (Some run) (Some version) = Some (record { source = source; search = run; version = version })
+solving_from source run version = None
+
+-- what is to be solved
+abbrev pub solving_asked : List Row → Option Solving
+solving_asked rows = solving_from (source_asked rows) (search_asked rows) (version_asked (given rows (codes "format")))
 
 -- a call to solve the instance
 abbrev pub solve_asked : List Row → Option Request
-solve_asked rows = solved (source_asked rows) (search_asked rows)
-
--- the same by a search that follows no rule
-abbrev pub optimized : Option Source → Option Search → Option Request
-optimized (Some source) (Some run) = Some (optimize (record { source = source; search = run }))
-optimized source run = None
+solve_asked rows = option_map solve (solving_asked rows)
 
 -- a call to solve the instance by a search that follows no rule
 abbrev pub optimize_asked : List Row → Option Request
-optimize_asked rows = optimized (source_asked rows) (search_asked rows)
+optimize_asked rows = option_map optimize (solving_asked rows)
 
 -- an instance and a certificate, where both are given
 abbrev pub certificate_from : Option Text → Option Source → Option (Source × Text)

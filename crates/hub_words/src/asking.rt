@@ -1,9 +1,10 @@
 //! The command that the words give.
 
 ghost use Rattle.std.specs.Prelude.{◌≡◌, IfOk, IfSome, codes, option_map};
-ghost use Rattle.hub_words.specs.Requests.{HasOptions, AreSources, IsLawful, IsMaking, IsSearch, instance, making_of, search_of};
+ghost use Rattle.hub_words.specs.Requests.{HasOptions, AreSources, IsLawful, IsMaking, IsSearch, IsVersion, instance, making_of, search_of, version_of};
+ghost use Rattle.cert_scan.specs.Versions.{version_number};
 ghost use Rattle.hub_words.specs.Words as spec;
-ghost use Rattle.hub_words.specs.Views.{request_of, requested, rows_found, source_of, texts};
+ghost use Rattle.hub_words.specs.Views.{request_of, requested, rows_found, search_seen, solving_of, source_of, texts};
 
 use crate::makings::read_making;
 use crate::parsing::parse;
@@ -11,6 +12,7 @@ use crate::requests::{Command, Solving, Source};
 use crate::searches::read_search;
 use crate::settings::given;
 use crate::sources::source;
+use crate::values::version;
 use clap::ArgMatches;
 use std::alloc::{AllocError, Global};
 
@@ -20,6 +22,7 @@ pub fn asked<'a>(alloc: Global, words: &'a [String]) -> Result<Option<Command<'a
     ensures limits { IfOk result (λ command. IfSome command (λ c. IfSome (instance (request_of c)) HasOptions)) }
     ensures sources { IfOk result (λ command. IfSome command (λ c. IfSome (instance (request_of c)) AreSources)) }
     ensures searches { IfOk result (λ command. IfSome command (λ c. IfSome (search_of (request_of c)) IsSearch)) }
+    ensures versions { IfOk result (λ command. IfSome command (λ c. IfSome (version_of (request_of c)) IsVersion)) }
     ensures makings { IfOk result (λ command. IfSome command (λ c. IfSome (making_of (request_of c)) IsMaking)) }
 {
     let Some(found) = parse(alloc, words)? else {
@@ -61,11 +64,8 @@ fn solve<'a>(alloc: Global, found: &ArgMatches<'a>) -> Result<Option<Command<'a>
     ensures command { IfOk result (λ command. requested command ≡ spec.solve_asked (rows_found found.now)) }
     ensures lawful { IfOk result (λ command. IfSome command (λ c. IsLawful (request_of c))) }
 {
-    let Some(search) = read_search(found) else {
-        return Ok(None);
-    };
-    match source(alloc, found)? {
-        Some(source) => Ok(Some(Command::Solve(Solving { source, search }))),
+    match solving(alloc, found)? {
+        Some(solving) => Ok(Some(Command::Solve(solving))),
         None => Ok(None),
     }
 }
@@ -74,11 +74,32 @@ fn optimize<'a>(alloc: Global, found: &ArgMatches<'a>) -> Result<Option<Command<
     ensures command { IfOk result (λ command. requested command ≡ spec.optimize_asked (rows_found found.now)) }
     ensures lawful { IfOk result (λ command. IfSome command (λ c. IsLawful (request_of c))) }
 {
+    match solving(alloc, found)? {
+        Some(solving) => Ok(Some(Command::Optimize(solving))),
+        None => Ok(None),
+    }
+}
+
+/// The instance that the words name, with the search and the version of a text that they ask for.
+fn solving<'a>(alloc: Global, found: &ArgMatches<'a>) -> Result<Option<Solving<'a>>, AllocError>
+    ensures named { IfOk result (λ solving. option_map solving_of solving ≡ spec.solving_asked (rows_found found.now)) }
+    ensures limits { IfOk result (λ solving. IfSome solving (λ s. HasOptions (source_of s.source))) }
+    ensures sources { IfOk result (λ solving. IfSome solving (λ s. AreSources (source_of s.source))) }
+    ensures search { IfOk result (λ solving. IfSome solving (λ s. IsSearch (search_seen s.search))) }
+    ensures version { IfOk result (λ solving. IfSome solving (λ s. IsVersion (version_number s.version))) }
+{
     let Some(search) = read_search(found) else {
         return Ok(None);
     };
+    let Some(version) = version(given(found, "format")) else {
+        return Ok(None);
+    };
     match source(alloc, found)? {
-        Some(source) => Ok(Some(Command::Optimize(Solving { source, search }))),
+        Some(source) => Ok(Some(Solving {
+            source,
+            search,
+            version,
+        })),
         None => Ok(None),
     }
 }

@@ -2,7 +2,7 @@
 
 ghost use Rattle.std.specs.Prelude.{◌≡◌, codes, false, fold, IfOk, option_and_then};
 ghost use Rattle.clap.specs.Words.{app_of, new_app, rule_of, subcommand_rows_of};
-ghost use Rattle.hub_words.specs.Hub.{bare, certificate_app, demo_app, flag_rule, hub, instance_words, make_app, optimize_app, option_rule, solve_app, with_instance, with_making, with_option, with_search, with_word, word_rule};
+ghost use Rattle.hub_words.specs.Hub.{bare, certificate_app, demo_app, flag_rule, hub, instance_words, make_app, optimize_app, option_rule, solve_app, with_instance, with_making, with_format, with_option, with_search, with_word, word_rule};
 ghost use Rattle.hub_words.specs.Parses.{Spells, parsed};
 ghost use Rattle.hub_words.specs.Views.{texts};
 ghost use Rattle.clap.specs.Simple.{on_top};
@@ -107,6 +107,14 @@ fn search_command<'a>(alloc: Global, command: Command<'a>) -> Result<Command<'a>
     with_options(alloc, command, SEARCH_OPTIONS.as_slice())
 }
 
+/// The command that takes the version of the certificate's text as well.
+fn format_command<'a>(alloc: Global, command: Command<'a>) -> Result<Command<'a>, AllocError>
+    requires { (out-Command command).has_globals ≡ false }
+    ensures { IfOk result (Spells (with_format (app_of command.entry))) }
+{
+    command.arg(option(alloc, "format"))
+}
+
 /// The command that takes a seed and a number of nodes as well.
 fn making_command<'a>(alloc: Global, command: Command<'a>) -> Result<Command<'a>, AllocError>
     requires { (out-Command command).has_globals ≡ false }
@@ -120,14 +128,14 @@ fn solve_command<'a>(alloc: Global) -> Result<Command<'a>, AllocError>
     ensures { IfOk result (Spells solve_app) }
 {
     let command = instance_command(alloc, plain(alloc, "solve"))?;
-    search_command(alloc, command)
+    format_command(alloc, search_command(alloc, command)?)
 }
 
 fn optimize_command<'a>(alloc: Global) -> Result<Command<'a>, AllocError>
     ensures { IfOk result (Spells optimize_app) }
 {
     let command = instance_command(alloc, plain(alloc, "optimize"))?;
-    search_command(alloc, command)
+    format_command(alloc, search_command(alloc, command)?)
 }
 
 /// The subcommand of this name, which takes an instance and a certificate.

@@ -1,5 +1,6 @@
 //! What the words of a command line ask for.
 
+use cert_scan::Version;
 use hub_model::Terms;
 
 /// The layouts of an instance file.
@@ -30,11 +31,12 @@ pub struct Search {
     pub workers: u32,
 }
 
-/// What is to be solved, and by which search.
+/// What is to be solved, by which search, and in which version the certificate is written.
 #[derive(Drop)]
 pub struct Solving<'a> {
     pub source: Source<'a>,
     pub search: Search,
+    pub version: Version,
 }
 
 /// An instance to be made.
@@ -51,7 +53,7 @@ pub struct Making {
 pub enum Command<'a> {
     /// Solve the instance by the rule of the search.
     Solve(Solving<'a>),
-    /// Solve the instance by a search that follows no rule, with one worker.
+    /// Solve the instance by a search that follows no rule.
     Optimize(Solving<'a>),
     /// Check the certificate in the file of this name against the instance.
     Check(Source<'a>, &'a str),

@@ -5,12 +5,15 @@ ghost use Rattle.hub_spec.specs.Limits.{most_factor, most_nodes};
 ghost use Rattle.file_spec.specs.Limits.{most_cost_read, most_divisor};
 ghost use Rattle.text_spec.specs.Numbers.{count_value};
 ghost use Rattle.hub_model.specs.Asked.{order_of, tail_of};
+ghost use Rattle.cert_scan.specs.Versions.{version_number};
 ghost use Rattle.hub_words.specs.Limits.{most_search_nodes, most_seed, most_workers};
+ghost use Rattle.hub_words.specs.Requests.{IsVersion};
 ghost use Rattle.hub_words.specs.Values as spec;
 ghost use Rattle.hub_words.specs.Views.{layout_of};
 
 use crate::limits::{MOST_SEARCH_NODES, MOST_SEED, MOST_WORKERS};
 use crate::requests::Layout;
+use cert_scan::Version;
 use dec_text::{read_count, read_decimal};
 use hub_model::{
     MOST_COST_READ, MOST_DIVISOR, MOST_FACTOR, MOST_NODES, Order, Tail, unsigned_small,
@@ -109,6 +112,30 @@ pub(crate) fn workers(given: Option<&str>) -> Option<u32>
     match given {
         None => Some(1),
         Some(word) => small_count(word, 1, MOST_WORKERS),
+    }
+}
+
+/// The version of the certificate's text, the first where none is given.
+pub(crate) fn version(given: Option<&str>) -> Option<Version>
+    ensures value { option_map version_number result ≡ spec.version_asked (option_map (λ word. word.now) given.entry) }
+    ensures limits { IfSome result (λ v. IsVersion (version_number v)) }
+{
+    match given {
+        None => Some(Version::First),
+        Some(word) => version_named(word),
+    }
+}
+
+fn version_named(word: &str) -> Option<Version>
+    ensures value { option_map version_number result ≡ spec.version_named word.now }
+    ensures limits { IfSome result (λ v. IsVersion (version_number v)) }
+{
+    if word == "1" {
+        Some(Version::First)
+    } else if word == "2" {
+        Some(Version::Second)
+    } else {
+        None
     }
 }
 
