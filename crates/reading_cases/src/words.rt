@@ -39,7 +39,8 @@ fn command_told(alloc: Global, command: &Command) -> Result<String, AllocError> 
 fn solving_told(alloc: Global, name: &str, solving: &Solving) -> Result<String, AllocError> {
     let Search { nodes, workers } = solving.search;
     let source = source_told(alloc, &solving.source)?;
-    format!(in alloc; "{name} {source}, nodes {nodes:?}, workers {workers}")
+    let version = solving.version;
+    format!(in alloc; "{name} {source}, nodes {nodes:?}, workers {workers}, {version:?} version")
 }
 
 fn judging_told(
