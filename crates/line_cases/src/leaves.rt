@@ -1,15 +1,15 @@
 //! Leaves, and the targets that they close.
 
-ghost use Rattle.std.specs.Prelude.{◌≡◌, ◌≤◌, ℕ, length, All, IfOk, IsTrue};
-ghost use Rattle.hub_spec.specs.Limits.{most_cost, most_denominator};
+ghost use Rattle.std.specs.Prelude.{◌≡◌, ◌≤◌, ◌*◌, ℕ, length, All, IfOk, IsTrue};
+ghost use Rattle.hub_spec.specs.Limits.{most_cost, most_part, most_denominator};
 ghost use Rattle.hub_spec.specs.Ranges.{IsShort};
 
-use crate::numbers::{amount, amounts};
+use crate::numbers::{MOST_PART, amount, amounts, number_behind};
 use crate::trees::behind;
 use hub_model::{Instance, MOST_COST, MOST_DENOMINATOR};
 use std::alloc::{AllocError, Global};
 use std::io;
-use tree_lines::LeafSums;
+use tree_lines::{LeafSums, is_multiple};
 
 /// Whether the weighted cuts close the target at the branch behind the lines, and whether the target raised by 1.
 pub fn closed(rt: &impl Print, alloc: Global, instance: &Instance, text: &str) -> io::Result<()> {
@@ -27,7 +27,7 @@ pub fn closed(rt: &impl Print, alloc: Global, instance: &Instance, text: &str) -
     }
 }
 
-// The sums of these cuts, as far as their weights fit.
+// The sums of these cuts, as far as their weights are multiples of their parts and fit.
 fn sums_of(
     alloc: Global,
     instance: &Instance,
@@ -40,31 +40,39 @@ fn sums_of(
     let mut sums = LeafSums::new(alloc, instance)?;
     sums.begin(denominator);
     for cut in cuts {
+        let (part, cut) = number_behind("part", cut);
         let numbers = amounts(alloc, cut)?;
-        add(&mut sums, instance.size(), &numbers);
+        if 1 <= part && part <= MOST_PART {
+            add(&mut sums, instance.size(), part, &numbers);
+        }
     }
     Ok(sums)
 }
 
-fn add(sums: &mut LeafSums, size: u32, cut: &[u128])
-    requires { length sums.old.loads ≡ size }
+fn add(sums: &mut LeafSums, size: u32, part: u32, cut: &[u128])
+    requires size { length sums.old.loads ≡ size }
+    requires part_least { 1 ≤ part }
+    requires part_most { part ≤ most_part }
     ensures { length sums.new.loads ≡ size }
 {
     if let [weight, total, loads @ ..] = cut {
         if loads.len() == size as usize
+            && is_multiple(*weight, part)
             && sums.fits(*weight)
-            && *total <= MOST_COST
-            && are_costs(loads)
+            && *total <= part as u128 * MOST_COST
+            && are_costs(part, loads)
         {
-            sums.add(*weight, *total, loads);
+            sums.add(*weight, part, *total, loads);
         }
     }
 }
 
-fn are_costs(loads: &[u128]) -> bool
-    ensures { IsTrue result → All (λ (load : ℕ). load ≤ most_cost) loads.now }
+fn are_costs(part: u32, loads: &[u128]) -> bool
+    requires { part ≤ most_part }
+    ensures { IsTrue result → All (λ (load : ℕ). load ≤ part * most_cost) loads.now }
 {
-    loads.iter().all(|load| *load <= MOST_COST)
+    let most = part as u128 * MOST_COST;
+    loads.iter().all(|load| *load <= most)
 }
 
 fn closes(

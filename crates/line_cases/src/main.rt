@@ -7,12 +7,13 @@
 //! - `instance COLLECT TRUNK DELIVER / CANDIDATES / FLOWS / DISTANCES / FIXED COSTS`: the instance of the lines below,
 //!   its factors in 10^-3, flows, distances and costs in whole numbers, row by row
 //! - `duals I J PRICE NODE VALUE .. / I J PRICE ..`: duals listed one after another, and whether each holds, also with
-//!   its price raised by 1
+//!   its price raised by 1; before I may stand `part PART`, and then `run RUN`, of so many commodities from J on
 //! - `plan HUBS / FIRST LAST FIRST LAST ..`: hubs, and a route for each commodity in order, by its first and last hub
 //! - `tree LINE LINE ..`: a node to branch on, `-` to fill the next branch, or `root` to begin anew; what is free behind
 //!   each line
 //! - `leaf DENOMINATOR / TARGET / LINES / WEIGHT TOTAL LOADS / ..`: whether weighted cuts close the target at the branch
-//!   behind these lines of a tree, `root` for none, and whether the target raised by 1
+//!   behind these lines of a tree, `root` for none, and whether the target raised by 1; before a weight may stand
+//!   `part PART`
 //! - `marks SIZE CHANGE CHANGE ..`: a set of nodes below a size, `+K` put in and `-K` taken out
 #![tactic(auto)]
 
