@@ -104,6 +104,13 @@ impl<'a> DualLine<'a> {
         true
     }
 
+    /// How many commodities the run has.
+    pub fn run(&self) -> u32
+        ensures { result ≡ self.now.run }
+    {
+        self.run
+    }
+
     /// The price.
     pub fn price(&self) -> u128
         ensures value { result ≡ self.now.dual.a }
