@@ -11,8 +11,8 @@ ghost use Rattle.search_steps.specs.Weights.{AreNodeWeights};
 
 use cut_pool::Pool;
 use frac_master::{Advice, ShortRows, advise_by_totals};
-use hub_model::Instance;
 use plan_model::Branch;
+use search_core::Task;
 use std::alloc::{AllocError, Global};
 
 /// What the master of the branch advises, by the cuts of the pool. No load of a cut is above its total.
@@ -20,24 +20,24 @@ use std::alloc::{AllocError, Global};
 /// The answer is `AllocError` where memory runs out, and where the master is beyond what its rows can hold.
 pub fn node_advice(
     alloc: Global,
-    instance: &Instance,
+    task: &Task,
     pool: &Pool,
-    fixed: &[i128],
     branch: &Branch,
 ) -> Result<Advice, AllocError>
-    requires pool { IsPoolOf instance.now pool.now.entries }
-    requires fixed { AreFixedCosts instance.now fixed.now }
-    requires branch { IsBranch instance.now branch.now }
-    ensures advice { IfOk result (λ a. InEachState instance.now pool.now.entries (λ s. told_by (advice_of_code a) ≡ master_advising instance.now s branch.now)) }
+    requires pool { IsPoolOf task.now.instance.now pool.now.entries }
+    requires fixed { AreFixedCosts task.now.instance.now task.now.fixed.items }
+    requires branch { IsBranch task.now.instance.now branch.now }
+    ensures advice { let p = task.now.instance.now in IfOk result (λ a. InEachState p pool.now.entries
+        (λ s. told_by (advice_of_code a) ≡ master_advising p s branch.now)) }
     ensures weights { IfOk result (λ a. AreNodeWeights (length pool.now.entries) a.weights.items) }
-    ensures point { IfOk result (λ a. length a.point.items ≡ instance.now.size) }
+    ensures point { IfOk result (λ a. length a.point.items ≡ task.now.instance.now.size) }
 {
     advise_by_totals(
         alloc,
         pool.totals(),
         pool.loads(),
         short_rows(pool),
-        fixed,
+        &task.fixed,
         branch,
     )
 }

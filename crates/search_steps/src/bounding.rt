@@ -11,67 +11,57 @@ ghost use Rattle.search_steps.specs.Weights.{AreNodeWeights, pairs_of};
 
 use crate::weightings::weighting;
 use cut_pool::Pool;
-use hub_model::{Instance, signed};
+use hub_model::signed;
 use leaf_bound::bound;
 use plan_model::Branch;
+use search_core::Task;
 
 /// The bound of the branch under these weights, in 10^-12, times 10^6.
-pub fn weights_bound(
-    instance: &Instance,
-    pool: &Pool,
-    fixed: &[i128],
-    branch: &Branch,
-    weights: &[i128],
-) -> i128
-    requires pool { IsPoolOf instance.now pool.now.entries }
-    requires fixed { AreFixedCosts instance.now fixed.now }
-    requires branch { IsBranch instance.now branch.now }
+pub fn weights_bound(task: &Task, pool: &Pool, branch: &Branch, weights: &[i128]) -> i128
+    requires pool { IsPoolOf task.now.instance.now pool.now.entries }
+    requires fixed { AreFixedCosts task.now.instance.now task.now.fixed.items }
+    requires branch { IsBranch task.now.instance.now branch.now }
     requires weights { AreNodeWeights (length pool.now.entries) weights.now }
-    ensures value { InEachState instance.now pool.now.entries (λ s. result ≡ bound_at instance.now s branch.now (pairs_of weights.now)) }
+    ensures value { let p = task.now.instance.now in
+        InEachState p pool.now.entries (λ s. result ≡ bound_at p s branch.now (pairs_of weights.now)) }
     ensures limit { IsWithin most_bound result }
 {
-    bound(&weighting(pool, fixed, weights), branch)
+    bound(&weighting(task, pool, weights), branch)
 }
 
 /// Tells whether the bound of the branch under the advised weights is above that under the present ones: then a search
 /// goes on with those that are advised.
 pub fn is_better(
-    instance: &Instance,
+    task: &Task,
     pool: &Pool,
-    fixed: &[i128],
     branch: &Branch,
     present: &[i128],
     advised: &[i128],
 ) -> bool
-    requires pool { IsPoolOf instance.now pool.now.entries }
-    requires fixed { AreFixedCosts instance.now fixed.now }
-    requires branch { IsBranch instance.now branch.now }
+    requires pool { IsPoolOf task.now.instance.now pool.now.entries }
+    requires fixed { AreFixedCosts task.now.instance.now task.now.fixed.items }
+    requires branch { IsBranch task.now.instance.now branch.now }
     requires present { AreNodeWeights (length pool.now.entries) present.now }
     requires advised { AreNodeWeights (length pool.now.entries) advised.now }
-    ensures above { InEachState instance.now pool.now.entries (λ s. IsTrue result ↔ (bound_at instance.now s branch.now (pairs_of present.now) <ℤ bound_at instance.now s branch.now (pairs_of advised.now))) }
-    ensures better { InEachState instance.now pool.now.entries (λ s. better instance.now s branch.now (pairs_of present.now) (pairs_of advised.now)
+    ensures above { let p = task.now.instance.now in InEachState p pool.now.entries (λ s. IsTrue result
+        ↔ (bound_at p s branch.now (pairs_of present.now) <ℤ bound_at p s branch.now (pairs_of advised.now))) }
+    ensures better { let p = task.now.instance.now in
+        InEachState p pool.now.entries (λ s. better p s branch.now (pairs_of present.now) (pairs_of advised.now)
         ≡ (if result then pairs_of advised.now else pairs_of present.now)) }
 {
-    weights_bound(instance, pool, fixed, branch, present)
-        < weights_bound(instance, pool, fixed, branch, advised)
+    weights_bound(task, pool, branch, present) < weights_bound(task, pool, branch, advised)
 }
 
 /// Tells whether the bound of the branch under these weights closes the incumbent's cost, which is in 10^-12: no plan of
 /// the branch then costs less.
-pub fn closes(
-    instance: &Instance,
-    pool: &Pool,
-    fixed: &[i128],
-    branch: &Branch,
-    weights: &[i128],
-    cost: u128,
-) -> bool
-    requires pool { IsPoolOf instance.now pool.now.entries }
-    requires fixed { AreFixedCosts instance.now fixed.now }
-    requires branch { IsBranch instance.now branch.now }
+pub fn closes(task: &Task, pool: &Pool, branch: &Branch, weights: &[i128], cost: u128) -> bool
+    requires pool { IsPoolOf task.now.instance.now pool.now.entries }
+    requires fixed { AreFixedCosts task.now.instance.now task.now.fixed.items }
+    requires branch { IsBranch task.now.instance.now branch.now }
     requires weights { AreNodeWeights (length pool.now.entries) weights.now }
     requires cost { cost ≤ most_cost }
-    ensures { InEachStateAt instance.now pool.now.entries cost (λ s. result ≡ closes_at instance.now s branch.now (pairs_of weights.now)) }
+    ensures { let p = task.now.instance.now in
+        InEachStateAt p pool.now.entries cost (λ s. result ≡ closes_at p s branch.now (pairs_of weights.now)) }
 {
-    leaf_bound::closes(&weighting(pool, fixed, weights), branch, signed(cost))
+    leaf_bound::closes(&weighting(task, pool, weights), branch, signed(cost))
 }

@@ -9,7 +9,7 @@
 //! of that definition mean are laws: `greatest_is_one`, `nearest_is_one` and `picked_is_one`.
 //!
 //! Costs, totals, loads and fixed costs are in 10^-12, bounds in 10^-12 times 10^6. Nodes are `u32`, counted from 0. The
-//! calls that take a pool also take `fixed`, the fixed cost of each node, which the search's `search_core::Task` has.
+//! calls that take a pool also take the search's `search_core::Task`, which has the instance and its fixed costs.
 #![tactic(auto)]
 
 mod advising;

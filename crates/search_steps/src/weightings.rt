@@ -4,17 +4,17 @@ ghost use Rattle.search_steps.specs.Weights.{IsNodeWeighting};
 
 use cut_pool::Pool;
 use leaf_bound::Weighting;
-use search_core::WHOLE_WEIGHT;
+use search_core::{Task, WHOLE_WEIGHT};
 
 /// What the bounds under these weights are made of, with the numbers that the pool lends.
-pub(crate) fn weighting<'a>(pool: &'a Pool, fixed: &'a [i128], weights: &'a [i128]) -> Weighting<'a>
-    ensures { IsNodeWeighting pool.now.entries fixed.now weights.now result }
+pub(crate) fn weighting<'a>(task: &'a Task, pool: &'a Pool, weights: &'a [i128]) -> Weighting<'a>
+    ensures { IsNodeWeighting pool.now.entries task.now.fixed.items weights.now result }
 {
     Weighting {
         totals: pool.totals(),
         loads: pool.loads(),
         parts: pool.parts(),
-        fixed,
+        fixed: &task.fixed,
         weights,
         denom: WHOLE_WEIGHT as i128,
     }
