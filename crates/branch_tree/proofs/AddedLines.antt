@@ -3,7 +3,7 @@ use Rattle.std.proofs.Common.{◌≡◌, ℕ, ◌+◌, ◌≤◌, List, [], ◌�
 use Rattle.std.proofs.lemmas.List.{length-map, length_push}
 use Rattle.hub_spec.specs.Problem.{Problem}
 use Rattle.hub_spec.specs.Plans.{IsHubSet}
-use Rattle.hub_spec.specs.Trees.{Tree, TreeLine, preorder}
+use Rattle.hub_spec.specs.Trees.{Branching, IsBranch, Tree, TreeLine, preorder}
 use Rattle.plan_model.specs.declared.tree_lines.TreeLine as model
 use Rattle.plan_model.specs.Lines.{tree_line_of}
 use Rattle.search_spec.specs.States.{State, Grown}
@@ -73,6 +73,17 @@ line_at t before middle after s tree line at is has = record {
 -- what was done, by another name
 pub done_as : (t : Task) (before after : Progress) (g h : Grown) → g ≡ h → IsDone t before after g → IsDone t before after h
 done_as t before after g h same done = subst (IsDone t before after) same done
+
+-- what was done, by what the task was before
+pub done_by : (t u : Task) (before after : Progress) (g : Task → Grown) → u ≡ t → IsDone u before after (g u) → IsDone t before after (g t)
+done_by t u before after g same done = subst (λ (x : Task). IsDone x before after (g x)) same done
+
+-- the search goes on with the task, and it is a branch of its instance, where the task is the same
+pub going_as : (t u : Task) (s : Progress) → u ≡ t → IsGoing t s → IsGoing u s
+going_as t u s same going = subst (λ (x : Task). IsGoing x s) (sym same) going
+
+pub branch_as : (t u : Task) (b : Branching) → u ≡ t → IsBranch t.instance.now b → IsBranch u.instance.now b
+branch_as t u b same is = subst (λ (x : Task). IsBranch x.instance.now b) (sym same) is
 
 -- the stop may have been another before
 pub line_after_stop : (before after : Progress) (line : TreeLine) (made : ℕ) (other stop : Option ℕ) → HasLine (record before { stop = other }) after line made stop

@@ -1,14 +1,18 @@
 -- A round of the code is a round of the rule.
-use Rattle.std.proofs.Common.{◌≡◌, ◌≤◌, ℕ, ℤ, Bool, true, false, ◌||◌, List, is_some, ◌⊎◌, inl, inr, refl, ap, ap₂, sym, ◌∙◌, arith}
+use Rattle.std.proofs.Common.{◌≡◌, ◌≤◌, ℕ, ℤ, Bool, true, false, ◌||◌, List, is_some, ◌⊎◌, inl, inr, refl, ap, ap₂, sym, subst, ◌∙◌, arith}
 use Rattle.hub_spec.specs.Problem.{Problem}
 use Rattle.hub_spec.specs.Trees.{Branching}
 use Rattle.search_spec.specs.States.{State, Advice, number_in_pool}
-use Rattle.search_spec.specs.Steps.{better, closes_at, separated, round}
+use Rattle.search_spec.specs.Steps.{better, closes_at, separated, round, rounds}
 use Rattle.search_spec.specs.Choices.{rule_parts, picked, order_by_point, by_falling, others}
 use Rattle.search_spec.proofs.StepCases.{round_over, round_new}
 use Rattle.search_steps.specs.Advising.{master_advising}
 use Rattle.search_steps.specs.Weights.{AreNodeWeights}
+use Rattle.search_core.specs.declared.tasks.Task.{Task}
+use Rattle.branch_tree.specs.declared.progress.Progress.{Progress}
+use Rattle.branch_tree.specs.declared.rounds.RoundEnd.{RoundEnd}
 use Rattle.branch_tree.specs.Findings.{parts_of}
+use Rattle.branch_tree.specs.Rounding.{round_as, IsRound}
 
 or_second : (x y : Bool) → y ≡ true → (x || y) ≡ true
 or_second true y is = refl
@@ -85,6 +89,13 @@ round_goes p b w s a best set order next taken open_still picks unknown falls af
     or_neither (closes_at p s b (better p s b w (parts.advice s b).weights)) (is_some (number_in_pool s (parts.pick (parts.advice s b) b)))
     (sym (ap (closes_at p s b) weights) ∙ open_still) (sym (ap (λ (x : List ℕ). is_some (number_in_pool s x)) is_set) ∙ unknown) in
     both ∙ sym (round_new p parts b w s test)
+
+-- a round after another, by what the task is then
+pub next_by : (t u : Task) (before after : Progress) (b : Branching) (last r : RoundEnd) → u ≡ t
+    → IsRound u before after r (rounds 1 u.instance.now (parts_of u.instance.now) b (round_as u.instance.now before last))
+    → IsRound t before after r (rounds 1 t.instance.now (parts_of t.instance.now) b (round_as t.instance.now before last))
+next_by t u before after b last r same is =
+    subst (λ (x : Task). IsRound x before after r (rounds 1 x.instance.now (parts_of x.instance.now) b (round_as x.instance.now before last))) same is
 
 -- ---- weights
 

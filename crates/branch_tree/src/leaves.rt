@@ -10,96 +10,96 @@ ghost use Rattle.search_steps.specs.Weights.{AreNodeWeights, pairs_of};
 ghost use Rattle.branch_tree.specs.Findings.{parts_of};
 ghost use Rattle.branch_tree.specs.Progressing.{state_of, IsGoing, IsDone};
 
-use crate::progress::{Progress, add_line};
-use crate::separating::{number_of, separate};
+use crate::progress::add_line;
+use crate::separating::number_of;
+use crate::walk::Walk;
 use hub_plain::outside;
 use plan_model::{Branch, HubSet, TreeLine};
-use search_core::{Task, lesser, rounded_up, whole_leaf};
+use search_core::{lesser, rounded_up, whole_leaf};
 use search_steps::{leaf_line, weights_bound};
 use separators::Separator;
-use std::alloc::{AllocError, Global};
+use std::alloc::AllocError;
 
-/// Adds the leaf with these weights.
-pub(crate) fn add_leaf(
-    alloc: Global,
-    task: &Task,
-    weights: &[i128],
-    progress: &mut Progress,
-) -> Result<(), AllocError>
-    requires going { IsGoing task.now progress.old }
-    requires weights { All IsNatural weights.now }
-    ensures { OnOk result (IsDone task.now progress.old progress.new
-        (record { state = state_of task.now.instance.now progress.old; tree = leaf denominator (pairs_of weights.now) })) }
-{
-    let line = leaf_line(alloc, weights)?;
-    add_line(progress, line)
-}
-
-/// Adds the leaf that a stop makes of the branch, with these weights.
-pub(crate) fn stopped_leaf(
-    alloc: Global,
-    task: &Task,
-    branch: &Branch,
-    weights: &[i128],
-    progress: &mut Progress,
-) -> Result<(), AllocError>
-    requires going { IsGoing task.now progress.old }
-    requires branch { IsBranch task.now.instance.now branch.now }
-    requires weights { AreNodeWeights (length progress.old.pool.entries) weights.now }
-    ensures { OnOk result (IsDone task.now progress.old progress.new
-        (stopped_leaf task.now.instance.now branch.now (pairs_of weights.now) (state_of task.now.instance.now progress.old))) }
-{
-    let bound = weights_bound(task.instance, &progress.pool, &task.fixed, branch, weights);
-    progress.stop = Some(lesser(rounded_up(bound), progress.stop));
-    let line = leaf_line(alloc, weights)?;
-    add_line(progress, line)
-}
-
-/// Adds the leaf of a branch in which the set of these hubs alone is left: it is on the cut of the set, which is
-/// separated first unless it is known.
-pub(crate) fn full_leaf<S: Separator>(
-    alloc: Global,
-    task: &Task,
-    separator: &mut S,
-    hubs: &[u32],
-    progress: &mut Progress,
-) -> Result<(), AllocError>
-    requires ready { S.ready separator.old }
-    requires going { IsGoing task.now progress.old }
-    requires set { IsHubSet task.now.instance.now hubs.now }
-    ensures ready { S.ready separator.new }
-    ensures full { OnOk result (IsDone task.now progress.old progress.new
-        (full_on (parts_of task.now.instance.now) hubs.now (state_of task.now.instance.now progress.old))) }
-{
-    let set = HubSet::of(alloc, hubs)?;
-    if let Some(number) = number_of(progress, &set) {
-        let line = whole_leaf(alloc, number)?;
-        return add_line(progress, line);
+impl Walk<'_> {
+    /// Adds the leaf with these weights.
+    pub(crate) fn add_leaf(&mut self, weights: &[i128]) -> Result<(), AllocError>
+        requires going { IsGoing self.old.task.now self.old.progress }
+        requires weights { All IsNatural weights.now }
+        ensures same { self.new.task.now ≡ self.old.task.now }
+        ensures added { let p = self.old.task.now.instance.now in
+            OnOk result (IsDone self.old.task.now self.old.progress self.new.progress
+            (record { state = state_of p self.old.progress; tree = leaf denominator (pairs_of weights.now) })) }
+    {
+        let line = leaf_line(self.alloc, weights)?;
+        add_line(&mut self.progress, line)
     }
-    let order = outside(alloc, task.instance, &set)?;
-    separate(alloc, task, separator, set, order, progress)?;
-    let line = whole_leaf(alloc, progress.pool.len())?;
-    add_line(progress, line)
-}
 
-/// Ends a branch in which no node is free: with the line of no hub, or the leaf of the set of its hubs.
-pub(crate) fn end_branch<S: Separator>(
-    alloc: Global,
-    task: &Task,
-    separator: &mut S,
-    branch: &Branch,
-    progress: &mut Progress,
-) -> Result<(), AllocError>
-    requires ready { S.ready separator.old }
-    requires going { IsGoing task.now progress.old }
-    requires branch { IsBranch task.now.instance.now branch.now }
-    requires none_free { length branch.now.free ≡ 0 }
-    ensures ready { S.ready separator.new }
-    ensures ended { OnOk result (IsDone task.now progress.old progress.new
-        (ended (parts_of task.now.instance.now) branch.now (state_of task.now.instance.now progress.old) branch.now.inside)) }
-{
-    if branch.inside().is_empty() {
-        return add_line(progress, TreeLine::Empty);
+    /// Adds the leaf that a stop makes of the branch, with these weights.
+    pub(crate) fn stopped_leaf(
+        &mut self,
+        branch: &Branch,
+        weights: &[i128],
+    ) -> Result<(), AllocError>
+        requires going { IsGoing self.old.task.now self.old.progress }
+        requires branch { IsBranch self.old.task.now.instance.now branch.now }
+        requires weights { AreNodeWeights (length self.old.progress.pool.entries) weights.now }
+        ensures same { self.new.task.now ≡ self.old.task.now }
+        ensures stopped { let p = self.old.task.now.instance.now in
+            OnOk result (IsDone self.old.task.now self.old.progress self.new.progress
+            (stopped_leaf p branch.now (pairs_of weights.now) (state_of p self.old.progress))) }
+    {
+        let bound = weights_bound(self.task, &self.progress.pool, branch, weights);
+        self.progress.stop = Some(lesser(rounded_up(bound), self.progress.stop));
+        let line = leaf_line(self.alloc, weights)?;
+        add_line(&mut self.progress, line)
     }
-    full_leaf(alloc, task, separator, branch.inside(), progress)
+
+    /// Adds the leaf of a branch in which the set of these hubs alone is left: it is on the cut of the set, which is
+    /// separated first unless it is known.
+    pub(crate) fn full_leaf<S: Separator>(
+        &mut self,
+        separator: &mut S,
+        hubs: &[u32],
+    ) -> Result<(), AllocError>
+        requires ready { S.ready separator.old }
+        requires going { IsGoing self.old.task.now self.old.progress }
+        requires set { IsHubSet self.old.task.now.instance.now hubs.now }
+        ensures ready { S.ready separator.new }
+        ensures same { self.new.task.now ≡ self.old.task.now }
+        ensures full { let p = self.old.task.now.instance.now in
+            OnOk result (IsDone self.old.task.now self.old.progress self.new.progress
+            (full_on (parts_of p) hubs.now (state_of p self.old.progress))) }
+    {
+        let set = HubSet::of(self.alloc, hubs)?;
+        if let Some(number) = number_of(&self.progress, &set) {
+            let line = whole_leaf(self.alloc, number)?;
+            return add_line(&mut self.progress, line);
+        }
+        let order = outside(self.alloc, self.task.instance, &set)?;
+        self.separate(separator, set, order)?;
+        let line = whole_leaf(self.alloc, self.progress.pool.len())?;
+        add_line(&mut self.progress, line)
+    }
+
+    /// Ends a branch in which no node is free: with the line of no hub, or the leaf of the set of its hubs.
+    pub(crate) fn end_branch<S: Separator>(
+        &mut self,
+        separator: &mut S,
+        branch: &Branch,
+    ) -> Result<(), AllocError>
+        requires ready { S.ready separator.old }
+        requires going { IsGoing self.old.task.now self.old.progress }
+        requires branch { IsBranch self.old.task.now.instance.now branch.now }
+        requires none_free { length branch.now.free ≡ 0 }
+        ensures ready { S.ready separator.new }
+        ensures same { self.new.task.now ≡ self.old.task.now }
+        ensures ended { let p = self.old.task.now.instance.now in
+            OnOk result (IsDone self.old.task.now self.old.progress self.new.progress
+            (ended (parts_of p) branch.now (state_of p self.old.progress) branch.now.inside)) }
+    {
+        if branch.inside().is_empty() {
+            return add_line(&mut self.progress, TreeLine::Empty);
+        }
+        self.full_leaf(separator, branch.inside())
+    }
 }

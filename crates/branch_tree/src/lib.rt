@@ -16,6 +16,7 @@ mod progress;
 mod rounds;
 mod searching;
 mod separating;
+mod walk;
 mod walking;
 
 pub use laws::search_is_proved;

@@ -12,7 +12,7 @@ ghost use Rattle.branch_tree.specs.Progressing.{state_of, IsGoing};
 ghost use Rattle.branch_tree.specs.Findings.{parts_of, found_by, IsFound};
 
 use crate::progress::Progress;
-use crate::walking::node;
+use crate::walk::Walk;
 use assign_sub::assign;
 use cut_pool::Pool;
 use hub_model::{Instance, unsigned};
@@ -39,7 +39,8 @@ pub fn search<S: Separator>(
     requires ready { S.ready separator.old }
     ensures ready { S.ready separator.new }
     ensures found { IfOk result (IsFound instance.now (found_by instance.now nodes)) }
-    ensures certificate { let g = found_by instance.now nodes in IfOk result (λ found. (v : ℕ) → proof_of v instance.now found g.tree ≡ certificate_of instance.now v g) }
+    ensures certificate { let g = found_by instance.now nodes in
+        IfOk result (λ found. (v : ℕ) → proof_of v instance.now found g.tree ≡ certificate_of instance.now v g) }
     ensures proved { IfOk result (IsProved instance.now) }
     ensures paid { IfOk result (λ found. found.cost ≡ plan_cost instance.now found.plan) }
     ensures below { IfOk result (λ found. NoPlanBelow instance.now found.bound) }
@@ -55,11 +56,16 @@ pub fn search<S: Separator>(
         fixed,
         nodes,
     };
-    let mut progress = begin(alloc, &task, separator)?;
+    let progress = begin(alloc, &task, separator)?;
+    let mut walk = Walk {
+        alloc,
+        task: &task,
+        progress,
+    };
     let root = Branch::root(alloc, instance)?;
     let depth = root.free().len() as u32 + 1;
-    node(depth, alloc, &task, separator, &root, &[], &mut progress)?;
-    finish(alloc, &task, progress)
+    walk.node(depth, separator, &root, &[])?;
+    finish(alloc, &task, walk.progress)
 }
 
 // The cut of the set of all candidates, which is the first incumbent.

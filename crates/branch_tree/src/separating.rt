@@ -11,11 +11,11 @@ ghost use Rattle.branch_tree.specs.Findings.{parts_of};
 ghost use Rattle.branch_tree.specs.Progressing.{state_of, IsGoing, IsAt};
 
 use crate::progress::Progress;
+use crate::walk::Walk;
 use hub_model::{MOST_CUTS, unsigned};
 use plan_model::HubSet;
-use search_core::Task;
 use separators::Separator;
-use std::alloc::{AllocError, Global};
+use std::alloc::AllocError;
 
 /// The number of the set's cut in the pool, counted from 1, if it has been separated.
 pub(crate) fn number_of(progress: &Progress, set: &HubSet) -> Option<u64>
@@ -26,38 +26,41 @@ pub(crate) fn number_of(progress: &Progress, set: &HubSet) -> Option<u64>
     progress.pool.find(set)
 }
 
-/// Separates the set over this order of the other candidates. It becomes the incumbent if it costs less.
-///
-/// The answer is `AllocError` also where there are as many cuts as a certificate can have.
-pub(crate) fn separate<S: Separator>(
-    alloc: Global,
-    task: &Task,
-    separator: &mut S,
-    set: HubSet,
-    order: Vec<u32>,
-    progress: &mut Progress,
-) -> Result<(), AllocError>
-    requires ready { S.ready separator.old }
-    requires going { IsGoing task.now progress.old }
-    requires set { IsHubSet task.now.instance.now set }
-    requires order { IsOrder task.now.instance.now set order.items }
-    requires first_time { Lacks progress.old.pool.entries set }
-    ensures ready { S.ready separator.new }
-    ensures at { OnOk result (IsAt task.now progress.old progress.new
-        (separated (parts_of task.now.instance.now) set order.items (state_of task.now.instance.now progress.old))) }
-{
-    if progress.pool.len() >= MOST_CUTS as u64 {
-        return Err(AllocError);
+impl Walk<'_> {
+    /// Separates the set over this order of the other candidates. It becomes the incumbent if it costs less.
+    ///
+    /// The answer is `AllocError` also where there are as many cuts as a certificate can have.
+    pub(crate) fn separate<S: Separator>(
+        &mut self,
+        separator: &mut S,
+        set: HubSet,
+        order: Vec<u32>,
+    ) -> Result<(), AllocError>
+        requires ready { S.ready separator.old }
+        requires going { IsGoing self.old.task.now self.old.progress }
+        requires set { IsHubSet self.old.task.now.instance.now set }
+        requires order { IsOrder self.old.task.now.instance.now set order.items }
+        requires first_time { Lacks self.old.progress.pool.entries set }
+        ensures ready { S.ready separator.new }
+        ensures same { self.new.task.now ≡ self.old.task.now }
+        ensures at { let p = self.old.task.now.instance.now in
+            OnOk result (IsAt self.old.task.now self.old.progress self.new.progress
+            (separated (parts_of p) set order.items (state_of p self.old.progress))) }
+    {
+        let progress = &mut self.progress;
+        if progress.pool.len() >= MOST_CUTS as u64 {
+            return Err(AllocError);
+        }
+        progress.pool.reserve(1)?;
+        let hubs = set.copy(self.alloc)?;
+        let sums = separator.separate(self.alloc, self.task.instance, set, &order)?;
+        let cost = unsigned(sums.total()) + self.task.instance.opening_cost(hubs.members());
+        // It succeeds, since there is room.
+        let _ = progress.pool.add(sums, order);
+        if cost < progress.cost {
+            progress.hubs = hubs;
+            progress.cost = cost;
+        }
+        Ok(())
     }
-    progress.pool.reserve(1)?;
-    let hubs = set.copy(alloc)?;
-    let sums = separator.separate(alloc, task.instance, set, &order)?;
-    let cost = unsigned(sums.total()) + task.instance.opening_cost(hubs.members());
-    // It succeeds, since there is room.
-    let _ = progress.pool.add(sums, order);
-    if cost < progress.cost {
-        progress.hubs = hubs;
-        progress.cost = cost;
-    }
-    Ok(())
 }

@@ -10,164 +10,138 @@ ghost use Rattle.branch_tree.specs.Findings.{parts_of};
 ghost use Rattle.branch_tree.specs.Progressing.{handling, state_of, IsGoing, IsDone};
 ghost use Rattle.branch_tree.specs.Walking.{AreOnFree};
 
-use crate::leaves::{add_leaf, end_branch, full_leaf, stopped_leaf};
-use crate::progress::{Progress, add_line, may_split, split_on};
-use crate::rounds::{RoundEnd, closes_cost, rounds};
+use crate::progress::{add_line, may_split, split_on};
+use crate::rounds::RoundEnd;
+use crate::walk::Walk;
 use hub_fixing::Side;
 use plan_model::{Branch, TreeLine};
-use search_core::Task;
 use search_steps::{nearest, node_fixings};
 use separators::Separator;
-use std::alloc::{AllocError, Global};
+use std::alloc::AllocError;
 
-/// Handles the node of a branch that has fewer free nodes than the depth, with these weights, and all nodes below it.
-#[cycle(walk)]
-pub(crate) fn node<S: Separator>(
-    depth: u32,
-    alloc: Global,
-    task: &Task,
-    separator: &mut S,
-    branch: &Branch,
-    weights: &[i128],
-    progress: &mut Progress,
-) -> Result<(), AllocError>
-    requires ready { S.ready separator.old }
-    requires going { IsGoing task.now progress.old }
-    requires branch { IsBranch task.now.instance.now branch.now }
-    requires weights { AreNodeWeights (length progress.old.pool.entries) weights.now }
-    requires deep { length branch.now.free < depth }
-    ensures ready { S.ready separator.new }
-    ensures done { OnOk result (IsDone task.now progress.old progress.new
-        (handling task.now depth branch.now (pairs_of weights.now) (state_of task.now.instance.now progress.old))) }
-{
-    if is_closed(branch) {
-        return add_line(progress, TreeLine::Empty);
-    }
-    if progress.stop.is_some() {
-        return stopped_leaf(alloc, task, branch, weights, progress);
-    }
-    if branch.free().is_empty() {
-        return full_leaf(alloc, task, separator, branch.inside(), progress);
-    }
-    let round = rounds(alloc, task, separator, branch, weights, progress)?;
-    if closes_cost(task, branch, &round.weights, progress) {
-        return add_leaf(alloc, task, &round.weights, progress);
-    }
-    let fixings = node_fixings(
-        alloc,
-        task.instance,
-        &progress.pool,
-        &task.fixed,
-        branch,
-        &round.weights,
-        progress.cost,
-    )?;
-    fixed(
-        depth - 1,
-        alloc,
-        task,
-        separator,
-        &round,
-        &fixings,
-        branch,
-        progress,
-    )
-}
-
-/// Makes the fixings one by one, each with a leaf as the other child, and then parts the branch that is left.
-#[cycle(walk)]
-fn fixed<S: Separator>(
-    depth: u32,
-    alloc: Global,
-    task: &Task,
-    separator: &mut S,
-    round: &RoundEnd,
-    fixings: &[(u32, Side)],
-    branch: &Branch,
-    progress: &mut Progress,
-) -> Result<(), AllocError>
-    requires ready { S.ready separator.old }
-    requires going { IsGoing task.now progress.old }
-    requires branch { IsBranch task.now.instance.now branch.now }
-    requires weights { AreNodeWeights (length progress.old.pool.entries) round.now.weights.items }
-    requires free { AreOnFree branch.now (sides_as fixings.now) }
-    requires deep { length branch.now.free ≤ depth }
-    ensures ready { S.ready separator.new }
-    ensures done { let p = task.now.instance.now in OnOk result (IsDone task.now progress.old progress.new
-        (fixed p (parts_of p) task.now.nodes (handling task.now depth) (told_by (advice_of_code round.now.advice)) (sides_as fixings.now)
-        branch.now (pairs_of round.now.weights.items) (state_of p progress.old))) }
-{
-    let (k, side, rest) = match fixings {
-        [] => return parted(depth, alloc, task, separator, round, branch, progress),
-        [(k, side), rest @ ..] => (*k, *side, rest),
-    };
-    if !may_split(task, progress) {
-        return stopped_leaf(alloc, task, branch, &round.weights, progress);
-    }
-    split_on(task, progress, k)?;
-    match side {
-        Side::In => {
-            let child = branch.open_child(alloc, k)?;
-            fixed(depth, alloc, task, separator, round, rest, &child, progress)?;
-            add_leaf(alloc, task, &round.weights, progress)
+impl Walk<'_> {
+    /// Handles the node of a branch that has fewer free nodes than the depth, with these weights, and all nodes below it.
+    #[cycle(walk)]
+    pub(crate) fn node<S: Separator>(
+        &mut self,
+        depth: u32,
+        separator: &mut S,
+        branch: &Branch,
+        weights: &[i128],
+    ) -> Result<(), AllocError>
+        requires ready { S.ready separator.old }
+        requires going { IsGoing self.old.task.now self.old.progress }
+        requires branch { IsBranch self.old.task.now.instance.now branch.now }
+        requires weights { AreNodeWeights (length self.old.progress.pool.entries) weights.now }
+        requires deep { length branch.now.free < depth }
+        ensures ready { S.ready separator.new }
+        ensures same { self.new.task.now ≡ self.old.task.now }
+        ensures done { let t = self.old.task.now in OnOk result (IsDone t self.old.progress self.new.progress
+            (handling t depth branch.now (pairs_of weights.now) (state_of t.instance.now self.old.progress))) }
+    {
+        if is_closed(branch) {
+            return add_line(&mut self.progress, TreeLine::Empty);
         }
-        Side::Out => {
-            let child = branch.closed_child(alloc, k)?;
-            add_leaf(alloc, task, &round.weights, progress)?;
-            fixed(depth, alloc, task, separator, round, rest, &child, progress)
+        if self.progress.stop.is_some() {
+            return self.stopped_leaf(branch, weights);
+        }
+        if branch.free().is_empty() {
+            return self.full_leaf(separator, branch.inside());
+        }
+        let round = self.rounds(separator, branch, weights)?;
+        if self.closes_cost(branch, &round.weights) {
+            return self.add_leaf(&round.weights);
+        }
+        let fixings = node_fixings(
+            self.alloc,
+            self.task,
+            &self.progress.pool,
+            branch,
+            &round.weights,
+            self.progress.cost,
+        )?;
+        self.fixed(depth - 1, separator, &round, &fixings, branch)
+    }
+
+    /// Makes the fixings one by one, each with a leaf as the other child, and then parts the branch that is left.
+    #[cycle(walk)]
+    fn fixed<S: Separator>(
+        &mut self,
+        depth: u32,
+        separator: &mut S,
+        round: &RoundEnd,
+        fixings: &[(u32, Side)],
+        branch: &Branch,
+    ) -> Result<(), AllocError>
+        requires ready { S.ready separator.old }
+        requires going { IsGoing self.old.task.now self.old.progress }
+        requires branch { IsBranch self.old.task.now.instance.now branch.now }
+        requires weights { AreNodeWeights (length self.old.progress.pool.entries) round.now.weights.items }
+        requires free { AreOnFree branch.now (sides_as fixings.now) }
+        requires deep { length branch.now.free ≤ depth }
+        ensures ready { S.ready separator.new }
+        ensures same { self.new.task.now ≡ self.old.task.now }
+        ensures done { let t = self.old.task.now in let p = t.instance.now in
+            OnOk result (IsDone t self.old.progress self.new.progress
+            (fixed p (parts_of p) t.nodes (handling t depth) (told_by (advice_of_code round.now.advice))
+            (sides_as fixings.now) branch.now (pairs_of round.now.weights.items) (state_of p self.old.progress))) }
+    {
+        let (k, side, rest) = match fixings {
+            [] => return self.parted(depth, separator, round, branch),
+            [(k, side), rest @ ..] => (*k, *side, rest),
+        };
+        if !may_split(self.task, &self.progress) {
+            return self.stopped_leaf(branch, &round.weights);
+        }
+        split_on(self.task, &mut self.progress, k)?;
+        match side {
+            Side::In => {
+                let child = branch.open_child(self.alloc, k)?;
+                self.fixed(depth, separator, round, rest, &child)?;
+                self.add_leaf(&round.weights)
+            }
+            Side::Out => {
+                let child = branch.closed_child(self.alloc, k)?;
+                self.add_leaf(&round.weights)?;
+                self.fixed(depth, separator, round, rest, &child)
+            }
         }
     }
-}
 
-/// Parts the branch on the free node nearest to a half, unless no node is free.
-#[cycle(walk)]
-fn parted<S: Separator>(
-    depth: u32,
-    alloc: Global,
-    task: &Task,
-    separator: &mut S,
-    round: &RoundEnd,
-    branch: &Branch,
-    progress: &mut Progress,
-) -> Result<(), AllocError>
-    requires ready { S.ready separator.old }
-    requires going { IsGoing task.now progress.old }
-    requires branch { IsBranch task.now.instance.now branch.now }
-    requires weights { AreNodeWeights (length progress.old.pool.entries) round.now.weights.items }
-    requires deep { length branch.now.free ≤ depth }
-    ensures ready { S.ready separator.new }
-    ensures done { let p = task.now.instance.now in OnOk result (IsDone task.now progress.old progress.new
-        (parted p (parts_of p) task.now.nodes (handling task.now depth) (told_by (advice_of_code round.now.advice))
-        branch.now (pairs_of round.now.weights.items) (state_of p progress.old))) }
-{
-    if branch.free().is_empty() {
-        return end_branch(alloc, task, separator, branch, progress);
+    /// Parts the branch on the free node nearest to a half, unless no node is free.
+    #[cycle(walk)]
+    fn parted<S: Separator>(
+        &mut self,
+        depth: u32,
+        separator: &mut S,
+        round: &RoundEnd,
+        branch: &Branch,
+    ) -> Result<(), AllocError>
+        requires ready { S.ready separator.old }
+        requires going { IsGoing self.old.task.now self.old.progress }
+        requires branch { IsBranch self.old.task.now.instance.now branch.now }
+        requires weights { AreNodeWeights (length self.old.progress.pool.entries) round.now.weights.items }
+        requires deep { length branch.now.free ≤ depth }
+        ensures ready { S.ready separator.new }
+        ensures same { self.new.task.now ≡ self.old.task.now }
+        ensures done { let t = self.old.task.now in let p = t.instance.now in
+            OnOk result (IsDone t self.old.progress self.new.progress
+            (parted p (parts_of p) t.nodes (handling t depth) (told_by (advice_of_code round.now.advice))
+            branch.now (pairs_of round.now.weights.items) (state_of p self.old.progress))) }
+    {
+        if branch.free().is_empty() {
+            return self.end_branch(separator, branch);
+        }
+        if !may_split(self.task, &self.progress) {
+            return self.stopped_leaf(branch, &round.weights);
+        }
+        let k = nearest(&round.advice, branch);
+        split_on(self.task, &mut self.progress, k)?;
+        let opened = branch.open_child(self.alloc, k)?;
+        self.node(depth, separator, &opened, &round.weights)?;
+        let closed = branch.closed_child(self.alloc, k)?;
+        self.node(depth, separator, &closed, &round.weights)
     }
-    if !may_split(task, progress) {
-        return stopped_leaf(alloc, task, branch, &round.weights, progress);
-    }
-    let k = nearest(&round.advice, branch);
-    split_on(task, progress, k)?;
-    let opened = branch.open_child(alloc, k)?;
-    node(
-        depth,
-        alloc,
-        task,
-        separator,
-        &opened,
-        &round.weights,
-        progress,
-    )?;
-    let closed = branch.closed_child(alloc, k)?;
-    node(
-        depth,
-        alloc,
-        task,
-        separator,
-        &closed,
-        &round.weights,
-        progress,
-    )
 }
 
 // Whether no node of the branch is a hub, nor could be one.

@@ -46,7 +46,7 @@ returns g c =
     let deep = ap (λ (ks : List ℕ). length ks + 1) c.free.ensures.value ∙ free in
     let grown = node (length c.free.result.now + 1) p (parts_of p) n c.in_ok-root.root [] (state_of p before) in
     let same = handled_root p n (length c.free.result.now + 1) c.in_ok-root.root (state_of p before) deep c.in_ok-root.ensures c.in_ok-progress.ensures.begun in
-    let lines : lines_of c.node.new.progress.lines.items ≡ preorder (found_by p n).tree =
+    let lines : lines_of c.node.new.self.progress.lines.items ≡ preorder (found_by p n).tree =
     done.lines ∙ ap (λ (ls : List TreeLine). ls ++ preorder grown.tree) c.in_ok-progress.ensures.no_line ∙ ap (λ (x : Grown). preorder x.tree) same in
     let is = c.finish.ensures (found_by p n) (done.state ∙ ap (λ (x : Grown). x.state) same) lines in
     record {

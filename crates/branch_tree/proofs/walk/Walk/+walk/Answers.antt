@@ -12,23 +12,24 @@ use Rattle.search_spec.proofs.StepCases.{after_closed, after_open, fixed_none}
 use Rattle.search_spec.proofs.Parting.{length-without}
 use Rattle.search_steps.specs.Advising.{told_by}
 use Rattle.search_steps.specs.Weights.{pairs_of, side_as, sides_as, AreNodeWeights}
+use Rattle.search_core.specs.declared.tasks.Task.{Task}
 use Rattle.branch_tree.specs.Findings.{parts_of}
 use Rattle.branch_tree.specs.Progressing.{handling, state_of}
 use Rattle.branch_tree.specs.Rounding.{round_as}
 use Rattle.branch_tree.specs.Walking.{AreOnFree}
-use Rattle.branch_tree.proofs.AddedLines.{line_done, line_going, line_kept, done_as}
+use Rattle.branch_tree.proofs.AddedLines.{line_done, line_going, line_kept, done_as, done_by, going_as, branch_as}
 use Rattle.branch_tree.proofs.RoundSteps.{weights_kept}
 use Rattle.branch_tree.proofs.NodeCases.{none_free, some_free, inside_is_set, node_closed, node_stopped, node_full, node_explored, open_in_each, parted_ended, fixed_stopped, fixed_next, parted_stopped, parted_both}
 use Rattle.branch_tree.proofs.WalkSteps.{begun_state, both_done, open_done, closed_done, later_done, first_of, others_of, sides_split, none_left, fixings_on_free, on_free_in_child, some_free_by}
-use Rattle.branch_tree.proofs.walking.+walk.Goals as goal
+use Rattle.branch_tree.proofs.walk.Walk.+walk.Goals as goal
 
 -- ---- fixed
 
 pub fixed-returns-in-empty-clause-done : goal.fixed-returns-in-empty-clause-done
 fixed-returns-in-empty-clause-done g t c =
-    let task = c.args.task.now in
+    let task = c.args.self.now.task.now in
     let p = task.instance.now in
-    let before = c.args.progress.now in
+    let before = c.args.self.now.progress in
     let go = handling task c.args.depth in
     let a = told_by (advice_of_code c.args.round.now.advice) in
     let w = pairs_of c.args.round.now.weights.items in
@@ -37,13 +38,13 @@ fixed-returns-in-empty-clause-done g t c =
     let none = none_left c.args.fixings.now c.in-empty.len_below in
     let is = sym (fixed_none p (parts_of p) task.nodes go a b w s)
     ∙ ap (λ (fs : List (ℕ × steps.Side)). fixed p (parts_of p) task.nodes go a fs b w s) (sym none) in
-    on_ok_weaker c.parted.result (λ done. done_as task before c.parted.new.progress _ _ is done) c.parted.ensures.done
+    on_ok_weaker c.parted.result (λ done. done_as task before c.parted.new.self.progress _ _ is done) c.parted.ensures.done
 
 pub fixed-returns-then-not-may_split-clause-done : goal.fixed-returns-then-not-may_split-clause-done
 fixed-returns-then-not-may_split-clause-done g t c =
-    let task = c.args.task.now in
+    let task = c.args.self.now.task.now in
     let p = task.instance.now in
-    let before = c.args.progress.now in
+    let before = c.args.self.now.progress in
     let go = handling task c.args.depth in
     let a = told_by (advice_of_code c.args.round.now.advice) in
     let w = pairs_of c.args.round.now.weights.items in
@@ -55,13 +56,13 @@ fixed-returns-then-not-may_split-clause-done g t c =
     let is = ap (λ (ws : List ℤ). stopped_leaf p b (pairs_of ws) s) c.deref.ensures.value
     ∙ fixed_stopped task go a (first.0, side_as first.1) (sides_as (others_of c.args.fixings.now)) (sides_as c.args.fixings.now) b w s
     (some_free_by b first.0 free.0) all (sym c.may_split.ensures ∙ c.if-not-may_split.true) in
-    on_ok_weaker c.stopped_leaf.result (λ done. done_as task before c.stopped_leaf.new.progress _ _ is done) c.stopped_leaf.ensures
+    on_ok_weaker c.stopped_leaf.result (λ done. done_as task before c.stopped_leaf.new.self.progress _ _ is done) c.stopped_leaf.ensures.stopped
 
 pub fixed-fixed-requires : goal.fixed-fixed-requires
 fixed-fixed-requires g t c κs within =
-    let task = c.args.task.now in
+    let task = c.args.self.now.task.now in
     let p = task.instance.now in
-    let before = c.args.progress.now in
+    let before = c.args.self.now.progress in
     let begun = c.split_on.new.progress in
     let b = c.args.branch.now in
     let first = first_of c.args.fixings.now in
@@ -97,24 +98,25 @@ fixed-fixed-requires g t c κs within =
 
 pub fixed-add_leaf-requires-in-Out-clause-going : goal.fixed-add_leaf-requires-in-Out-clause-going
 fixed-add_leaf-requires-in-Out-clause-going g t c =
-    let before = c.args.progress.now in
+    let before = c.args.self.now.progress in
     let k = (first_of c.args.fixings.now).0 in
-    line_going c.args.task.now before c.split_on.new.progress (branch_on k) (before.made + 2) before.stop c.requires.going c.in_ok-split_on.ensures (omega arith)
+    line_going c.args.self.now.task.now before c.split_on.new.progress (branch_on k) (before.made + 2) before.stop c.requires.going c.in_ok-split_on.ensures (omega arith)
 
 pub fixed-fixed-requires-in-Out : goal.fixed-fixed-requires-in-Out
 fixed-fixed-requires-in-Out g t c κs within =
-    let task = c.args.task.now in
+    let task = c.args.self.now.task.now in
     let p = task.instance.now in
-    let before = c.args.progress.now in
+    let before = c.args.self.now.progress in
     let begun = c.split_on.new.progress in
-    let middle = c.add_leaf-in-Out.new.progress in
+    let middle = c.add_leaf-in-Out.new.self.progress in
     let b = c.args.branch.now in
     let first = first_of c.args.fixings.now in
     let k = first.0 in
     let all = sides_split c.args.fixings.now c.in-len1-up.len_at_least in
     let free = subst (AreOnFree b) all c.requires.free in
     let child = c.in_ok-child-in-Out.ensures in
-    let leaf_added = c.in_ok-add_leaf-in-Out.ensures in
+    let leaf_added = c.in_ok-add_leaf-in-Out.ensures.added in
+    let same = c.in_ok-add_leaf-in-Out.ensures.same in
     let fewer : length c.in_ok-child-in-Out.child.free + 1 ≡ length b.free =
     ap (λ (x : Branching). length x.free + 1) child ∙ length-without k b.free free.0 in
     let kept = line_kept before begun (branch_on k) (before.made + 2) before.stop c.in_ok-split_on.ensures in (
@@ -124,9 +126,10 @@ fixed-fixed-requires-in-Out g t c κs within =
         (
           c.requires.ready,
           (
-            leaf_added.going,
+            going_as task c.add_leaf-in-Out.new.self.task.now middle same leaf_added.going,
             (
-              subst (IsBranch p) (sym child) (closed_branch p b k c.requires.branch free.0),
+              branch_as task c.add_leaf-in-Out.new.self.task.now c.in_ok-child-in-Out.child same
+                  (subst (IsBranch p) (sym child) (closed_branch p b k c.requires.branch free.0)),
               (
                 weights_kept (length before.pool.entries) (length middle.pool.entries) c.args.round.now.weights.items
                     (omega (arith, kept, leaf_added.kept)) c.requires.weights,
@@ -144,12 +147,12 @@ fixed-fixed-requires-in-Out g t c κs within =
 
 pub fixed-returns-in_ok-fixed-in-In-clause-done : goal.fixed-returns-in_ok-fixed-in-In-clause-done
 fixed-returns-in_ok-fixed-in-In-clause-done g t c =
-    let task = c.args.task.now in
+    let task = c.args.self.now.task.now in
     let p = task.instance.now in
-    let before = c.args.progress.now in
+    let before = c.args.self.now.progress in
     let begun = c.split_on.new.progress in
-    let middle = c.fixed.new.progress in
-    let after = c.add_leaf.new.progress in
+    let middle = c.fixed.new.self.progress in
+    let after = c.add_leaf.new.self.progress in
     let go = handling task c.args.depth in
     let a = told_by (advice_of_code c.args.round.now.advice) in
     let w = pairs_of c.args.round.now.weights.items in
@@ -169,17 +172,20 @@ fixed-returns-in_ok-fixed-in-In-clause-done g t c =
     (λ done. done_as task before after _ _ is
     (open_done task before begun middle after k (before.made + 2) before.stop w kept c.in_ok-split_on.ensures c.in_ok-fixed-in-In.ensures.done
     (done_as task middle after _ _
-    (ap (λ (ws : List ℤ). record { state = state_of p middle; tree = leaf denominator (pairs_of ws) }) c.deref-in-In.ensures.value) done)))
-    c.add_leaf.ensures
+    (ap (λ (ws : List ℤ). record { state = state_of p middle; tree = leaf denominator (pairs_of ws) }) c.deref-in-In.ensures.value)
+    (done_by task c.fixed.new.self.task.now middle after
+    (λ x. record { state = state_of x.instance.now middle; tree = leaf denominator (pairs_of c.deref-in-In.result.now) })
+    c.in_ok-fixed-in-In.ensures.same done))))
+    c.add_leaf.ensures.added
 
 pub fixed-returns-in_ok-add_leaf-in-Out-clause-done : goal.fixed-returns-in_ok-add_leaf-in-Out-clause-done
 fixed-returns-in_ok-add_leaf-in-Out-clause-done g t c =
-    let task = c.args.task.now in
+    let task = c.args.self.now.task.now in
     let p = task.instance.now in
-    let before = c.args.progress.now in
+    let before = c.args.self.now.progress in
     let begun = c.split_on.new.progress in
-    let middle = c.add_leaf-in-Out.new.progress in
-    let after = c.fixed-in-Out.new.progress in
+    let middle = c.add_leaf-in-Out.new.self.progress in
+    let after = c.fixed-in-Out.new.self.progress in
     let go = handling task c.args.depth in
     let a = told_by (advice_of_code c.args.round.now.advice) in
     let w = pairs_of c.args.round.now.weights.items in
@@ -194,21 +200,24 @@ fixed-returns-in_ok-add_leaf-in-Out-clause-done g t c =
     let kept = fixed p (parts_of p) task.nodes go a rest c.in_ok-child-in-Out.child w (state_of p middle) in
     let leaf_added = done_as task begun middle _ _
     (ap (λ (ws : List ℤ). record { state = state_of p begun; tree = leaf denominator (pairs_of ws) }) c.deref-in-Out.ensures.value)
-    c.in_ok-add_leaf-in-Out.ensures in
+    c.in_ok-add_leaf-in-Out.ensures.added in
     let next = leaf_added.state ∙ begun_state p before begun k c.in_ok-split_on.ensures in
     let is = fixed_next task go a (k, stays_closed) rest (sides_as c.args.fixings.now) b c.in_ok-child-in-Out.child w s (state_of p middle)
     (some_free_by b k free.0) on_side (sym c.may_split.ensures ∙ c.if-not-may_split.false) c.in_ok-child-in-Out.ensures next in
     on_ok_weaker c.fixed-in-Out.result
     (λ done. done_as task before after _ _ is
-    (closed_done task before begun middle after k (before.made + 2) before.stop w kept c.in_ok-split_on.ensures leaf_added done))
+    (closed_done task before begun middle after k (before.made + 2) before.stop w kept c.in_ok-split_on.ensures leaf_added
+    (done_by task c.add_leaf-in-Out.new.self.task.now middle after
+    (λ x. fixed x.instance.now (parts_of x.instance.now) x.nodes (handling x c.args.depth) a rest c.in_ok-child-in-Out.child w (state_of x.instance.now middle))
+    c.in_ok-add_leaf-in-Out.ensures.same done)))
     c.fixed-in-Out.ensures.done
 
 -- ---- node
 
 pub node-returns-then-is_closed-clause-done : goal.node-returns-then-is_closed-clause-done
 node-returns-then-is_closed-clause-done g t c =
-    let task = c.args.task.now in
-    let before = c.args.progress.now in
+    let task = c.args.self.now.task.now in
+    let before = c.args.self.now.progress in
     let after = c.add_line.new.progress in
     let is = node_closed task c.args.depth c.args.branch.now (pairs_of c.args.weights.now) (state_of task.instance.now before)
     (omega (arith, c.requires.deep)) (sym c.is_closed.ensures ∙ c.if-is_closed.true) in
@@ -218,15 +227,15 @@ node-returns-then-is_closed-clause-done g t c =
 
 pub node-returns-then-is_some-clause-done : goal.node-returns-then-is_some-clause-done
 node-returns-then-is_some-clause-done g t c =
-    let task = c.args.task.now in
-    let before = c.args.progress.now in
+    let task = c.args.self.now.task.now in
+    let before = c.args.self.now.progress in
     let is = node_stopped task c.args.depth c.args.branch.now (pairs_of c.args.weights.now) (state_of task.instance.now before)
     (omega (arith, c.requires.deep)) (sym c.is_closed.ensures ∙ c.if-is_closed.false) (sym c.is_some.ensures ∙ c.if-is_some.true) in
-    on_ok_weaker c.stopped_leaf.result (λ done. done_as task before c.stopped_leaf.new.progress _ _ is done) c.stopped_leaf.ensures
+    on_ok_weaker c.stopped_leaf.result (λ done. done_as task before c.stopped_leaf.new.self.progress _ _ is done) c.stopped_leaf.ensures.stopped
 
 pub node-full_leaf-requires-clause-set : goal.node-full_leaf-requires-clause-set
 node-full_leaf-requires-clause-set g t c =
-    let p = c.args.task.now.instance.now in
+    let p = c.args.self.now.task.now.instance.now in
     let b = c.args.branch.now in
     let none = none_free b c.free.result.now c.is_empty.result c.free.ensures.value c.is_empty.ensures c.if-is_empty.true in
     subst (IsHubSet p) (sym c.inside.ensures.value)
@@ -234,67 +243,72 @@ node-full_leaf-requires-clause-set g t c =
 
 pub node-returns-then-is_empty-clause-done : goal.node-returns-then-is_empty-clause-done
 node-returns-then-is_empty-clause-done g t c =
-    let task = c.args.task.now in
+    let task = c.args.self.now.task.now in
     let p = task.instance.now in
     let b = c.args.branch.now in
-    let before = c.args.progress.now in
+    let before = c.args.self.now.progress in
     let s = state_of p before in
     let none = none_free b c.free.result.now c.is_empty.result c.free.ensures.value c.is_empty.ensures c.if-is_empty.true in
     let is = ap (λ (hs : List ℕ). full_on (parts_of p) hs s) c.inside.ensures.value
     ∙ node_full task c.args.depth b (pairs_of c.args.weights.now) s (omega (arith, c.requires.deep)) (sym c.is_closed.ensures ∙ c.if-is_closed.false)
     (sym c.is_some.ensures ∙ c.if-is_some.false) none in
-    on_ok_weaker c.full_leaf.result (λ done. done_as task before c.full_leaf.new.progress _ _ is done) c.full_leaf.ensures.full
+    on_ok_weaker c.full_leaf.result (λ done. done_as task before c.full_leaf.new.self.progress _ _ is done) c.full_leaf.ensures.full
 
 pub node-returns-then-closes_cost-clause-done : goal.node-returns-then-closes_cost-clause-done
 node-returns-then-closes_cost-clause-done g t c =
-    let task = c.args.task.now in
+    let task = c.args.self.now.task.now in
     let p = task.instance.now in
     let b = c.args.branch.now in
-    let before = c.args.progress.now in
-    let middle = c.rounds.new.progress in
-    let after = c.add_leaf.new.progress in
+    let before = c.args.self.now.progress in
+    let middle = c.rounds.new.self.progress in
+    let after = c.add_leaf.new.self.progress in
     let s = state_of p before in
     let go = handling task (c.args.depth - 1) in
     let some = some_free b c.free.result.now c.is_empty.result c.free.ensures.value c.is_empty.ensures c.if-is_empty.false in
     let left = c.in_ok-round.ensures.rounds in
     let r = round_as p middle c.in_ok-round.round in
-    let closes = c.closes_cost.ensures ∙ ap (λ (ws : List ℤ). steps.closes_at p (state_of p middle) b (pairs_of ws)) c.deref.ensures.value in
+    let same = c.in_ok-round.ensures.same in
+    let closes = c.closes_cost.ensures
+    ∙ ap (λ (x : Task). steps.closes_at x.instance.now (state_of x.instance.now middle) b (pairs_of c.deref.result.now)) same
+    ∙ ap (λ (ws : List ℤ). steps.closes_at p (state_of p middle) b (pairs_of ws)) c.deref.ensures.value in
     let is = ap (λ (ws : List ℤ). record { state = state_of p middle; tree = leaf denominator (pairs_of ws) }) c.deref-then-closes_cost.ensures.value
     ∙ sym (after_closed p (parts_of p) task.nodes go b r (sym closes ∙ c.if-closes_cost.true))
     ∙ node_explored task c.args.depth b (pairs_of c.args.weights.now) s r (omega (arith, c.requires.deep)) (sym c.is_closed.ensures ∙ c.if-is_closed.false)
     (sym c.is_some.ensures ∙ c.if-is_some.false) some left.is in
     on_ok_weaker c.add_leaf.result
-    (λ done. done_as task before after _ _ is (later_done task before middle after _ left.lines left.kept done))
-    c.add_leaf.ensures
+    (λ done. done_as task before after _ _ is (later_done task before middle after _ left.lines left.kept
+    (done_by task c.rounds.new.self.task.now middle after
+    (λ x. record { state = state_of x.instance.now middle; tree = leaf denominator (pairs_of c.deref-then-closes_cost.result.now) }) same done)))
+    c.add_leaf.ensures.added
 
 pub node-node_fixings-requires-clause-not_closed : goal.node-node_fixings-requires-clause-not_closed
 node-node_fixings-requires-clause-not_closed g t c =
-    let p = c.args.task.now.instance.now in
+    let p = c.rounds.new.self.task.now.instance.now in
     let b = c.args.branch.now in
-    let middle = c.rounds.new.progress in
+    let middle = c.rounds.new.self.progress in
     let closes = c.closes_cost.ensures ∙ ap (λ (ws : List ℤ). steps.closes_at p (state_of p middle) b (pairs_of ws))
-    (c.deref.ensures.value ∙ sym c.deref-3.ensures.value) in
-    open_in_each p middle b (pairs_of c.deref-3.result.now) (sym closes ∙ c.if-closes_cost.false)
+    (c.deref.ensures.value ∙ sym c.deref-2.ensures.value) in
+    open_in_each p middle b (pairs_of c.deref-2.result.now) (sym closes ∙ c.if-closes_cost.false)
 
 pub node-fixed-requires : goal.node-fixed-requires
 node-fixed-requires g t c κs within =
-    let task = c.args.task.now in
-    let p = task.instance.now in
+    let task = c.args.self.now.task.now in
+    let p = c.rounds.new.self.task.now.instance.now in
     let b = c.args.branch.now in
-    let middle = c.rounds.new.progress in
+    let middle = c.rounds.new.self.progress in
     let left = c.in_ok-round.ensures.rounds in
     let w = pairs_of c.in_ok-round.round.weights.items in
-    let are = ap (λ (fs : List (ℕ × code.Side)). sides_as fs) c.deref-4.ensures.value ∙ c.in_ok-fixings.ensures middle.hubs middle.made middle.stop
-    ∙ ap (λ (ws : List ℤ). fixings p (state_of p middle) b (pairs_of ws)) c.deref-3.ensures.value in (
+    let are = ap (λ (fs : List (ℕ × code.Side)). sides_as fs) c.deref-3.ensures.value ∙ c.in_ok-fixings.ensures middle.hubs middle.made middle.stop
+    ∙ ap (λ (ws : List ℤ). fixings p (state_of p middle) b (pairs_of ws)) c.deref-2.ensures.value in (
       search (rules, arith),
       (
         within,
         (
           c.in_ok-round.ensures.ready,
           (
-            left.going,
+            going_as task c.rounds.new.self.task.now middle c.in_ok-round.ensures.same left.going,
             (
-              c.requires.branch,
+              branch_as task c.rounds.new.self.task.now b c.in_ok-round.ensures.same c.requires.branch,
               (
                 left.weights,
                 (
@@ -310,58 +324,65 @@ node-fixed-requires g t c κs within =
 
 pub node-returns-clause-done : goal.node-returns-clause-done
 node-returns-clause-done g t c =
-    let task = c.args.task.now in
+    let task = c.args.self.now.task.now in
     let p = task.instance.now in
     let b = c.args.branch.now in
-    let before = c.args.progress.now in
-    let middle = c.rounds.new.progress in
-    let after = c.fixed.new.progress in
+    let before = c.args.self.now.progress in
+    let middle = c.rounds.new.self.progress in
+    let after = c.fixed.new.self.progress in
     let s = state_of p before in
     let go = handling task (c.args.depth - 1) in
     let some = some_free b c.free.result.now c.is_empty.result c.free.ensures.value c.is_empty.ensures c.if-is_empty.false in
     let left = c.in_ok-round.ensures.rounds in
     let r = round_as p middle c.in_ok-round.round in
-    let are = ap (λ (fs : List (ℕ × code.Side)). sides_as fs) c.deref-4.ensures.value ∙ c.in_ok-fixings.ensures middle.hubs middle.made middle.stop
-    ∙ ap (λ (ws : List ℤ). fixings p (state_of p middle) b (pairs_of ws)) c.deref-3.ensures.value in
-    let closes = c.closes_cost.ensures ∙ ap (λ (ws : List ℤ). steps.closes_at p (state_of p middle) b (pairs_of ws)) c.deref.ensures.value in
+    let same = c.in_ok-round.ensures.same in
+    let are = ap (λ (fs : List (ℕ × code.Side)). sides_as fs) c.deref-3.ensures.value ∙ c.in_ok-fixings.ensures middle.hubs middle.made middle.stop
+    ∙ ap (λ (x : Task). fixings x.instance.now (state_of x.instance.now middle) b (pairs_of c.deref-2.result.now)) same
+    ∙ ap (λ (ws : List ℤ). fixings p (state_of p middle) b (pairs_of ws)) c.deref-2.ensures.value in
+    let closes = c.closes_cost.ensures
+    ∙ ap (λ (x : Task). steps.closes_at x.instance.now (state_of x.instance.now middle) b (pairs_of c.deref.result.now)) same
+    ∙ ap (λ (ws : List ℤ). steps.closes_at p (state_of p middle) b (pairs_of ws)) c.deref.ensures.value in
     let is = ap (λ (fs : List (ℕ × steps.Side)). fixed p (parts_of p) task.nodes go r.advice fs b r.weights r.state) are
     ∙ sym (after_open p (parts_of p) task.nodes go b r (sym closes ∙ c.if-closes_cost.false))
     ∙ node_explored task c.args.depth b (pairs_of c.args.weights.now) s r (omega (arith, c.requires.deep)) (sym c.is_closed.ensures ∙ c.if-is_closed.false)
     (sym c.is_some.ensures ∙ c.if-is_some.false) some left.is in
     on_ok_weaker c.fixed.result
-    (λ done. done_as task before after _ _ is (later_done task before middle after _ left.lines left.kept done))
+    (λ done. done_as task before after _ _ is (later_done task before middle after _ left.lines left.kept
+    (done_by task c.rounds.new.self.task.now middle after
+    (λ x. fixed x.instance.now (parts_of x.instance.now) x.nodes (handling x (c.args.depth - 1)) r.advice (sides_as c.deref-3.result.now) b r.weights
+    (state_of x.instance.now middle)) same done)))
     c.fixed.ensures.done
 
 -- ---- parted
 
 pub parted-returns-then-is_empty-clause-done : goal.parted-returns-then-is_empty-clause-done
 parted-returns-then-is_empty-clause-done g t c =
-    let task = c.args.task.now in
-    let before = c.args.progress.now in
+    let task = c.args.self.now.task.now in
+    let before = c.args.self.now.progress in
     let b = c.args.branch.now in
     let none = none_free b c.free.result.now c.is_empty.result c.free.ensures.value c.is_empty.ensures c.if-is_empty.true in
     let is = parted_ended task (handling task c.args.depth) (told_by (advice_of_code c.args.round.now.advice)) b (pairs_of c.args.round.now.weights.items)
     (state_of task.instance.now before) none in
-    on_ok_weaker c.end_branch.result (λ done. done_as task before c.end_branch.new.progress _ _ is done) c.end_branch.ensures.ended
+    on_ok_weaker c.end_branch.result (λ done. done_as task before c.end_branch.new.self.progress _ _ is done) c.end_branch.ensures.ended
 
 pub parted-returns-then-not-may_split-clause-done : goal.parted-returns-then-not-may_split-clause-done
 parted-returns-then-not-may_split-clause-done g t c =
-    let task = c.args.task.now in
+    let task = c.args.self.now.task.now in
     let p = task.instance.now in
-    let before = c.args.progress.now in
+    let before = c.args.self.now.progress in
     let b = c.args.branch.now in
     let s = state_of p before in
     let some = some_free b c.free.result.now c.is_empty.result c.free.ensures.value c.is_empty.ensures c.if-is_empty.false in
     let is = ap (λ (ws : List ℤ). stopped_leaf p b (pairs_of ws) s) c.deref.ensures.value
     ∙ parted_stopped task (handling task c.args.depth) (told_by (advice_of_code c.args.round.now.advice)) b (pairs_of c.args.round.now.weights.items) s some
     (sym c.may_split.ensures ∙ c.if-not-may_split.true) in
-    on_ok_weaker c.stopped_leaf.result (λ done. done_as task before c.stopped_leaf.new.progress _ _ is done) c.stopped_leaf.ensures
+    on_ok_weaker c.stopped_leaf.result (λ done. done_as task before c.stopped_leaf.new.self.progress _ _ is done) c.stopped_leaf.ensures.stopped
 
 pub parted-node-requires : goal.parted-node-requires
 parted-node-requires g t c κs within =
-    let task = c.args.task.now in
+    let task = c.args.self.now.task.now in
     let p = task.instance.now in
-    let before = c.args.progress.now in
+    let before = c.args.self.now.progress in
     let begun = c.split_on.new.progress in
     let b = c.args.branch.now in
     let k = c.nearest-k.result in
@@ -392,16 +413,17 @@ parted-node-requires g t c κs within =
 
 pub parted-node-requires-2 : goal.parted-node-requires-2
 parted-node-requires-2 g t c κs within =
-    let task = c.args.task.now in
+    let task = c.args.self.now.task.now in
     let p = task.instance.now in
-    let before = c.args.progress.now in
+    let before = c.args.self.now.progress in
     let begun = c.split_on.new.progress in
-    let middle = c.node.new.progress in
+    let middle = c.node.new.self.progress in
     let b = c.args.branch.now in
     let k = c.nearest-k.result in
     let free = c.nearest-k.ensures.free in
     let child = c.in_ok-closed.ensures in
     let opened = c.in_ok-node.ensures.done in
+    let same = c.in_ok-node.ensures.same in
     let kept = line_kept before begun (branch_on k) (before.made + 2) before.stop c.in_ok-split_on.ensures in
     let fewer : length c.in_ok-closed.closed.free + 1 ≡ length b.free =
     ap (λ (x : Branching). length x.free + 1) child ∙ length-without k b.free free in (
@@ -411,9 +433,10 @@ parted-node-requires-2 g t c κs within =
         (
           c.in_ok-node.ensures.ready,
           (
-            opened.going,
+            going_as task c.node.new.self.task.now middle same opened.going,
             (
-              subst (IsBranch p) (sym child) (closed_branch p b k c.requires.branch free),
+              branch_as task c.node.new.self.task.now c.in_ok-closed.closed same
+                  (subst (IsBranch p) (sym child) (closed_branch p b k c.requires.branch free)),
               (
                 subst (AreNodeWeights (length middle.pool.entries)) (sym c.deref-3.ensures.value)
                     (weights_kept (length before.pool.entries) (length middle.pool.entries) c.args.round.now.weights.items
@@ -428,12 +451,12 @@ parted-node-requires-2 g t c κs within =
 
 pub parted-returns-clause-done : goal.parted-returns-clause-done
 parted-returns-clause-done g t c =
-    let task = c.args.task.now in
+    let task = c.args.self.now.task.now in
     let p = task.instance.now in
-    let before = c.args.progress.now in
+    let before = c.args.self.now.progress in
     let begun = c.split_on.new.progress in
-    let middle = c.node.new.progress in
-    let after = c.node-2.new.progress in
+    let middle = c.node.new.self.progress in
+    let after = c.node-2.new.self.progress in
     let go = handling task c.args.depth in
     let w = pairs_of c.args.round.now.weights.items in
     let b = c.args.branch.now in
@@ -452,5 +475,7 @@ parted-returns-clause-done g t c =
     (both_done task before begun middle after k (before.made + 2) before.stop (go first w (state_of p begun)) (go second w (go first w (state_of p begun)).state)
     c.in_ok-split_on.ensures opened
     (done_as task middle after _ _
-    (ap (λ (ws : List ℤ). go second (pairs_of ws) (state_of p middle)) c.deref-3.ensures.value ∙ ap (λ (x : State). go second w x) opened.state) done)))
+    (ap (λ (ws : List ℤ). go second (pairs_of ws) (state_of p middle)) c.deref-3.ensures.value ∙ ap (λ (x : State). go second w x) opened.state)
+    (done_by task c.node.new.self.task.now middle after
+    (λ x. handling x c.args.depth second (pairs_of c.deref-3.result.now) (state_of x.instance.now middle)) c.in_ok-node.ensures.same done))))
     c.node-2.ensures.done

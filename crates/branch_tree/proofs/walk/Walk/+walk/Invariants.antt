@@ -1,5 +1,5 @@
 use Rattle.std.proofs.Common.{◌+◌, ◌*◌, length}
-use Rattle.branch_tree.proofs.walking.+walk.Given as goal
+use Rattle.branch_tree.proofs.walk.Walk.+walk.Given as goal
 
 abbrev pub decreases-fixed : goal.decreases-fixed
 decreases-fixed g l = 3 * length l.branch.now.free + 1

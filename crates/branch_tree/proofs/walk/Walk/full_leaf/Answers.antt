@@ -8,18 +8,18 @@ use Rattle.branch_tree.specs.Findings.{parts_of}
 use Rattle.branch_tree.specs.Progressing.{state_of}
 use Rattle.branch_tree.proofs.AddedLines.{line_done, line_at, done_as}
 use Rattle.branch_tree.proofs.LeafSteps.{found_leaf, new_leaf, one_more}
-use Rattle.branch_tree.proofs.leaves.full_leaf.Goals as goal
+use Rattle.branch_tree.proofs.walk.Walk.full_leaf.Goals as goal
 
 pub whole_leaf-requires-2 : goal.whole_leaf-requires-2
 whole_leaf-requires-2 g c =
-    let more = one_more c.args.task.now c.args.progress.now c.separate.new.progress c.in_ok-set.set c.in_ok-order.order.items c.in_ok-separate.ensures.at in
+    let more = one_more c.args.self.now.task.now c.args.self.now.progress c.separate.new.self.progress c.in_ok-set.set c.in_ok-order.order.items c.in_ok-separate.ensures.at in
     omega (arith, more, c.len.ensures)
 
 pub returns-in-Some-clause-full : goal.returns-in-Some-clause-full
 returns-in-Some-clause-full g c =
-    let t = c.args.task.now in
+    let t = c.args.self.now.task.now in
     let p = t.instance.now in
-    let before = c.args.progress.now in
+    let before = c.args.self.now.progress in
     let s = state_of p before in
     let is = found_leaf p c.in_ok-set.set c.args.hubs.now s c.in-Some.number c.in_ok-set.ensures (sym (c.number_of.ensures.number p) ∙ c.in-Some.is) in
     on_ok_weaker c.add_line.result
@@ -30,10 +30,10 @@ returns-in-Some-clause-full g c =
 
 pub returns-clause-full : goal.returns-clause-full
 returns-clause-full g c =
-    let t = c.args.task.now in
+    let t = c.args.self.now.task.now in
     let p = t.instance.now in
-    let before = c.args.progress.now in
-    let middle = c.separate.new.progress in
+    let before = c.args.self.now.progress in
+    let middle = c.separate.new.self.progress in
     let set = c.in_ok-set.set in
     let order = c.in_ok-order.order.items in
     let s = state_of p before in

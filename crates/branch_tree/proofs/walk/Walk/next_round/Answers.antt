@@ -7,12 +7,12 @@ use Rattle.branch_tree.specs.Findings.{parts_of}
 use Rattle.branch_tree.specs.Progressing.{state_of}
 use Rattle.branch_tree.specs.Rounding.{round_as}
 use Rattle.branch_tree.proofs.NodeCases.{one_round}
-use Rattle.branch_tree.proofs.rounds.next_round.Goals as goal
+use Rattle.branch_tree.proofs.walk.Walk.next_round.Goals as goal
 
 pub returns-then-not-last-clause-round : goal.returns-then-not-last-clause-round
 returns-then-not-last-clause-round g c =
-    let p = c.args.task.now.instance.now in
-    let before = c.args.progress.now in
+    let p = c.args.self.now.task.now.instance.now in
+    let before = c.args.self.now.progress in
     record {
       is = sym (rounds_over 0 p (parts_of p) c.args.branch.now (round_as p before c.args.last) c.if-not-last.true);
       lines = refl;
@@ -23,9 +23,9 @@ returns-then-not-last-clause-round g c =
 
 pub returns-clause-round : goal.returns-clause-round
 returns-clause-round g c =
-    let p = c.args.task.now.instance.now in
-    let before = c.args.progress.now in
-    let after = c.round.new.progress in
+    let p = c.args.self.now.task.now.instance.now in
+    let before = c.args.self.now.progress in
+    let after = c.round.new.self.progress in
     IfOk-weaker c.round.result _ _
     (λ r one. record {
       is = one.is ∙ ap (λ (ws : List ℤ). round p (parts_of p) c.args.branch.now (pairs_of ws) (state_of p before)) c.deref.ensures.value

@@ -5,18 +5,23 @@ use Rattle.search_steps.specs.Weights.{pairs_of}
 use Rattle.branch_tree.specs.Findings.{parts_of}
 use Rattle.branch_tree.specs.Progressing.{state_of}
 use Rattle.branch_tree.proofs.NodeCases.{two_rounds}
-use Rattle.branch_tree.proofs.rounds.rounds.Goals as goal
+use Rattle.branch_tree.proofs.RoundSteps.{next_by}
+use Rattle.branch_tree.proofs.walk.Walk.rounds.Goals as goal
 
 pub returns-clause-rounds : goal.returns-clause-rounds
 returns-clause-rounds g c =
-    let p = c.args.task.now.instance.now in
+    let t = c.args.self.now.task.now in
+    let p = t.instance.now in
     let b = c.args.branch.now in
     let parts = parts_of p in
     let first = c.in_ok-first.ensures.round in
-    let second = c.in_ok-second.ensures.round in
-    let begun = round p parts b (pairs_of c.args.weights.now) (state_of p c.args.progress.now) in
+    let same = c.in_ok-first.ensures.same in
+    let second = next_by t c.round.new.self.task.now c.round.new.self.progress c.next_round.new.self.progress b c.in_ok-first.first c.in_ok-second.second same
+    c.in_ok-second.ensures.round in
+    let begun = round p parts b (pairs_of c.args.weights.now) (state_of p c.args.self.now.progress) in
     IfOk-weaker c.next_round-2.result _ _
-    (λ r third. record {
+    (λ r is. let third = next_by t c.next_round.new.self.task.now c.next_round.new.self.progress c.next_round-2.new.self.progress b c.in_ok-second.second r
+    (c.in_ok-second.ensures.same ∙ same) is in record {
       is = third.is ∙ ap (rounds 1 p parts b) (second.is ∙ ap (rounds 1 p parts b) first.is) ∙ two_rounds p parts b begun;
       lines = third.lines ∙ second.lines ∙ first.lines;
       going = third.going;

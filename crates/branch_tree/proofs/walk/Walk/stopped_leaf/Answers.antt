@@ -9,12 +9,12 @@ use Rattle.search_steps.specs.Weights.{pairs_of}
 use Rattle.branch_tree.specs.Progressing.{state_of}
 use Rattle.branch_tree.proofs.AddedLines.{line_done, line_after_stop, done_as}
 use Rattle.branch_tree.proofs.LeafSteps.{stopped_is}
-use Rattle.branch_tree.proofs.leaves.stopped_leaf.Goals as goal
+use Rattle.branch_tree.proofs.walk.Walk.stopped_leaf.Goals as goal
 
-pub returns : goal.returns
-returns c =
-    let p = c.args.task.now.instance.now in
-    let before = c.args.progress.now in
+pub returns-clause-stopped : goal.returns-clause-stopped
+returns-clause-stopped c =
+    let p = c.args.self.now.task.now.instance.now in
+    let before = c.args.self.now.progress in
     let after = c.add_line.new.progress in
     let b = c.args.branch.now in
     let w = pairs_of c.args.weights.now in
@@ -24,8 +24,8 @@ returns c =
     let is = stopped_is p b w s c.weights_bound-bound.result c.lesser.result (c.weights_bound-bound.ensures.value before.hubs before.cost before.made before.stop)
     (c.lesser.ensures ∙ ap (λ (x : ℕ). lesser x before.stop) (c.rounded_up.ensures ∙ ap rounded_up (to_z-of_z w128 c.weights_bound-bound.result fits))) in
     on_ok_weaker c.add_line.result
-    (λ has. done_as c.args.task.now before after _ _ is
-    (line_done c.args.task.now before after (leaf denominator w) line before.made (Some c.lesser.result) c.requires.going
+    (λ has. done_as c.args.self.now.task.now before after _ _ is
+    (line_done c.args.self.now.task.now before after (leaf denominator w) line before.made (Some c.lesser.result) c.requires.going
     (ap (λ (l : TreeLine). l ∷ []) (sym c.in_ok-line.ensures)) (omega arith)
     (line_after_stop before after line before.made (Some c.lesser.result) (Some c.lesser.result) has)))
     c.add_line.ensures
