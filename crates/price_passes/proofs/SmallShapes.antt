@@ -1,5 +1,5 @@
 -- An instance has no more candidates than nodes, so its shape is small.
-use Rattle.std.proofs.Common.{ℕ, ◌≤◌, length, arith}
+use Rattle.std.proofs.Common.{◌≤◌, length, arith}
 use Rattle.hub_spec.specs.Limits.{most_nodes}
 use Rattle.hub_spec.specs.Problem.{Problem, IsProblem}
 use Rattle.hub_spec.proofs.Limits.{few_candidates}

@@ -43,6 +43,7 @@ impl Lengths {
         let deliver = legs.delivery(alloc)?;
         let trunk = legs.trunk(alloc)?;
         let trunk_back = turned(alloc, &trunk, width)?;
+        let fixed_costs = fixed_costs(alloc, instance)?;
         Ok(Lengths {
             size,
             places,
@@ -55,8 +56,8 @@ impl Lengths {
             trunk,
             trunk_back,
             flows: flows_in(alloc, instance, units.flow)?,
-            fixed: fixed_in(alloc, instance, units)?,
-            fixed_costs: fixed_costs(alloc, instance)?,
+            fixed: fixed_in(alloc, &fixed_costs, units)?,
+            fixed_costs,
         })
     }
 
@@ -241,33 +242,29 @@ fn flows_in(alloc: Global, instance: &Instance, unit: u64) -> Result<Vec<u32>, A
     Ok(flows)
 }
 
-/// The fixed costs by place, in the worth of the units, rounded down.
-fn fixed_in(alloc: Global, instance: &Instance, units: Units) -> Result<Vec<i64>, AllocError> {
-    let worth = (units.length as u128)
-        .wrapping_mul(units.flow as u128)
-        .max(1);
-    let mut fixed = Vec::with_capacity(alloc, instance.candidates().len())?;
-    for k in instance.candidates() {
-        let cost = cost_at(instance, *k) / worth;
-        fixed.push(cost.min(1 << 60) as i64)?;
-    }
-    Ok(fixed)
-}
-
 /// The fixed costs by place, in 10^-12.
 fn fixed_costs(alloc: Global, instance: &Instance) -> Result<Vec<i128>, AllocError> {
     let mut fixed = Vec::with_capacity(alloc, instance.candidates().len())?;
     for k in instance.candidates() {
-        fixed.push(cost_at(instance, *k).min(1 << 120) as i128)?;
+        let cost = instance
+            .fixed_costs()
+            .get(*k as usize)
+            .copied()
+            .unwrap_or(0);
+        fixed.push(cost.min(1 << 120) as i128)?;
     }
     Ok(fixed)
 }
 
-/// The cost of opening a hub at the node.
-fn cost_at(instance: &Instance, k: u32) -> u128 {
-    if k < instance.size() {
-        instance.fixed_cost(k)
-    } else {
-        0
+/// Fixed costs in the worth of the units, rounded down.
+fn fixed_in(alloc: Global, costs: &[i128], units: Units) -> Result<Vec<i64>, AllocError> {
+    let worth = (units.length as u128)
+        .wrapping_mul(units.flow as u128)
+        .max(1);
+    let mut fixed = Vec::with_capacity(alloc, costs.len())?;
+    for cost in costs {
+        let cost = (*cost).max(0) as u128 / worth;
+        fixed.push(cost.min(1 << 60) as i64)?;
     }
+    Ok(fixed)
 }
