@@ -6,7 +6,7 @@ use Rattle.std.proofs.Math.Nat.{mul-le-mul, zero-div}
 use Rattle.std.proofs.lemmas.Int.{ints, clamps, to_z-of_z}
 use Rattle.std.proofs.lemmas.List.{length-map, get_or-map, take_more}
 use Rattle.std.proofs.lemmas.List.Elements.{All-nil, All-cons, All-get_or, All-weaker}
-use Rattle.hub_spec.specs.Limits.{most_nodes, most_cost, most_denominator, most_part}
+use Rattle.hub_spec.specs.Limits.{most_nodes, most_fixed_cost, most_denominator, most_part}
 use Rattle.hub_spec.specs.Sums.{sum_ints}
 use Rattle.hub_spec.specs.Trees.{Branching, branch_bound}
 use Rattle.hub_spec.proofs.SumLemmas.{sum_ints-append}
@@ -14,7 +14,7 @@ use Rattle.hub_model.specs.Amounts.{natural}
 use Rattle.hub_model.proofs.Signs.{pos-natural}
 use Rattle.leaf_bound.specs.declared.weightings.Weighting as lent
 use Rattle.leaf_bound.specs.Bounds.{Weighting, loads_of, weighted_total, gain_of, bound_of}
-use Rattle.leaf_bound.specs.Numbers.{naturals, rows_of, IsCost, IsSumOf, AreSumsOf, AreWeightingNumbers, IsBranchBelow}
+use Rattle.leaf_bound.specs.Numbers.{naturals, rows_of, IsSumOf, AreSumsOf, AreWeightingNumbers, IsBranchBelow}
 use Rattle.leaf_bound.specs.Weighing.{most_gain, most_bound, share_at, AreWeighed, AreWeighedLoads, IsWeighedTo, AreLoadsTo, column, IsWithin}
 use Rattle.leaf_bound.proofs.WeightedSums.{natural_le, weighed_next, weighed_limit}
 
@@ -214,9 +214,9 @@ loads_of-naturals [] k = refl
 loads_of-naturals (row ∷ rows) k = ap₂ (λ (x : ℕ) xs. x ∷ xs) (sym (natural_index row k)) (loads_of-naturals rows k)
 
 -- a gain, by its parts
-pub gain_within : (d s : ℕ) (x z : ℤ) → d ≤ most_denominator → IsCost x → s ≤ most_gain → z ≡ pos (d * natural x) -ℤ pos s → IsWithin most_gain z
+pub gain_within : (d s x : ℕ) (z : ℤ) → d ≤ most_denominator → x ≤ most_fixed_cost → s ≤ most_gain → z ≡ pos (d * x) -ℤ pos s → IsWithin most_gain z
 gain_within d s x z denom cost sum is =
-    let most : d * natural x ≤ most_gain = mul-le-mul denom (natural_le x most_cost cost.1) in
+    let most : d * x ≤ most_denominator * most_fixed_cost = mul-le-mul denom cost in
     record { least = omega (arith, ints, is, sum); most = omega (arith, ints, is, most) }
 
 -- ---- the loads of a cut

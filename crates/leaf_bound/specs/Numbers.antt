@@ -1,7 +1,7 @@
 -- The numbers that are lent, and their limits.
 use Rattle.std.specs.Prelude.{◌≡◌, ℕ, ◌<◌, ◌≤◌, ◌*◌, ℤ, pos, ◌≤ℤ◌, List, length, map, sum, All}
 use Rattle.std.specs.List.{AllZip}
-use Rattle.hub_spec.specs.Limits.{most_nodes, most_cost, most_denominator, most_part}
+use Rattle.hub_spec.specs.Limits.{most_nodes, most_cost, most_fixed_cost, most_denominator, most_part}
 use Rattle.hub_spec.specs.Trees.{Branching}
 use Rattle.hub_model.specs.Amounts.{natural, IsNatural}
 use Rattle.leaf_bound.specs.declared.weightings.Weighting as lent
@@ -10,10 +10,6 @@ use Rattle.leaf_bound.specs.Bounds.{Weighting, AreMultiples}
 -- natural numbers of a list of signed ones
 abbrev pub naturals : List ℤ → List ℕ
 naturals xs = map natural xs
-
--- a cost: at least 0, and at most 10^29
-abbrev pub IsCost : ℤ → Type 0
-IsCost z = (pos 0 ≤ℤ z) × (z ≤ℤ pos most_cost)
 
 -- a sum of a cut with this part: at least 0, and at most 10^29 for each unit of the part
 abbrev pub IsSumOf : ℕ → ℤ → Type 0
@@ -34,7 +30,7 @@ pub record AreWeightingNumbers (m : lent.Weighting) : Type 0 where
   pub are_parts : All (λ part. (1 ≤ part) × (part ≤ most_part)) m.parts.now
   pub are_totals : AllZip IsSumOf m.parts.now m.totals.now
   pub are_loads : AllZip (AreSumsOf (length m.fixed.now)) m.parts.now (rows_of m)
-  pub are_fixed_costs : All IsCost m.fixed.now
+  pub are_fixed_costs : All (λ cost. cost ≤ most_fixed_cost) m.fixed.now
   pub are_weights : All IsNatural m.weights.now
   pub are_multiples : AreMultiples (naturals m.weights.now) m.parts.now
   pub weights_limit : sum (naturals m.weights.now) ≤ natural m.denom
@@ -54,7 +50,7 @@ weighting_of m =
       totals = naturals m.totals.now;
       loads = map naturals (rows_of m);
       parts = m.parts.now;
-      fixed = naturals m.fixed.now;
+      fixed = m.fixed.now;
       weights = naturals m.weights.now;
       denom = natural m.denom;
     }

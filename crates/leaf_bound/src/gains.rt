@@ -2,11 +2,10 @@
 
 ghost use Rattle.std.specs.Prelude.{◌≡◌, ℕ, ◌*◌, ◌<◌, ◌≤◌, pos, ◌-ℤ◌, length, slice_index_or, All};
 ghost use Rattle.std.specs.Int.{int_min};
-ghost use Rattle.hub_spec.specs.Limits.{most_nodes, most_denominator};
+ghost use Rattle.hub_spec.specs.Limits.{most_nodes, most_denominator, most_fixed_cost};
 ghost use Rattle.hub_spec.specs.Sums.{sum_ints};
-ghost use Rattle.hub_model.specs.Amounts.{natural};
 ghost use Rattle.leaf_bound.specs.Bounds.{weighted_total, gain_of};
-ghost use Rattle.leaf_bound.specs.Numbers.{AreWeightingNumbers, IsCost, weighting_of};
+ghost use Rattle.leaf_bound.specs.Numbers.{AreWeightingNumbers, weighting_of};
 ghost use Rattle.leaf_bound.specs.Weighing.{most_gain, IsWithin};
 
 use crate::Weighting;
@@ -57,17 +56,17 @@ pub fn write_gains_and_base(weighting: &Weighting, gains: &mut [i128]) -> u128
 }
 
 // Writes for each node its fixed cost times the denominator, less its sum.
-fn write_differences(fixed: &[i128], denom: u128, sums: &[u128], gains: &mut [i128])
-    requires fixed { All IsCost fixed.now }
+fn write_differences(fixed: &[u128], denom: u128, sums: &[u128], gains: &mut [i128])
+    requires fixed { All (λ cost. cost ≤ most_fixed_cost) fixed.now }
     requires denom { denom ≤ most_denominator }
     requires sums { (k : ℕ) → k < length sums.now → slice_index_or sums.now k 0 ≤ most_gain }
     requires as_many { length sums.now ≡ length fixed.now }
     requires room { length gains.old ≡ length fixed.now }
     ensures { (k : ℕ) → k < length gains.new → slice_index_or gains.new k (pos 0)
-        ≡ pos (denom * natural (slice_index_or fixed.now k (pos 0))) -ℤ pos (slice_index_or sums.now k 0) }
+        ≡ pos (denom * slice_index_or fixed.now k 0) -ℤ pos (slice_index_or sums.now k 0) }
 {
     for k in 0..gains.len() {
-        gains[k] = difference(denom * unsigned(fixed[k]), sums[k]);
+        gains[k] = difference(denom * fixed[k], sums[k]);
     }
 }
 

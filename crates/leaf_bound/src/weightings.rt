@@ -10,7 +10,7 @@ pub struct Weighting<'a> {
     /// The part of each cut, from 1 to 1000.
     pub parts: &'a [u32],
     /// The fixed cost of each node, in 10^-12.
-    pub fixed: &'a [i128],
+    pub fixed: &'a [u128],
     /// The weight of each of the first cuts, a multiple of its part.
     pub weights: &'a [i128],
     /// The denominator, of which the weights are shares.
