@@ -12,4 +12,4 @@ mod tasks;
 
 pub use amounts::{WHOLE_WEIGHT, lesser, rounded_up};
 pub use lines::{add_line, whole_leaf};
-pub use tasks::{Task, fixed_costs};
+pub use tasks::Task;

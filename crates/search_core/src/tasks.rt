@@ -1,39 +1,26 @@
 //! What a search is to do.
 
-ghost use Rattle.std.specs.Prelude.{◌≡◌, ◌+◌, ◌<◌, ◌^◌, IsTrue, false, IfOk};
+ghost use Rattle.std.specs.Prelude.{◌≡◌, ◌+◌, ◌<◌, ◌^◌, IsTrue, false};
 ghost use Rattle.search_spec.specs.Findings.{AreWithin, IsSpent};
-ghost use Rattle.search_core.specs.Tasks.{AreFixedCosts, IsTaskOf, allows_two};
+ghost use Rattle.search_core.specs.Tasks.{IsTaskOf, allows_two};
 
 use hub_model::Instance;
-use std::alloc::{AllocError, Global};
 
-/// The instance that is searched, the fixed cost of each node, in 10^-12, and the most nodes of the tree, the root among
-/// them, where they are limited.
-#[derive(Drop)]
+/// The instance that is searched, and the most nodes of the tree, the root among them, where they are limited.
+#[derive(Clone, Copy)]
 pub struct Task<'a> {
     /// The instance.
     pub instance: &'a Instance,
-    /// The fixed cost of each node, in 10^-12.
-    pub fixed: Vec<i128>,
     /// The most nodes.
     pub nodes: Option<u64>,
 }
 
 impl<'a> Task<'a> {
     /// The task to search the instance with at most so many nodes.
-    pub fn new(
-        alloc: Global,
-        instance: &'a Instance,
-        nodes: Option<u64>,
-    ) -> Result<Task<'a>, AllocError>
-        ensures { IfOk result (IsTaskOf instance.now nodes) }
+    pub fn new(instance: &'a Instance, nodes: Option<u64>) -> Task<'a>
+        ensures { IsTaskOf instance.now nodes result }
     {
-        let fixed = fixed_costs(alloc, instance)?;
-        Ok(Task {
-            instance,
-            fixed,
-            nodes,
-        })
+        Task { instance, nodes }
     }
 
     /// Tells whether two nodes more are allowed, where so many were made.
@@ -48,16 +35,4 @@ impl<'a> Task<'a> {
             Some(most) => made + 2 <= most,
         }
     }
-}
-
-/// The fixed cost of each node of an instance, in 10^-12.
-pub fn fixed_costs(alloc: Global, instance: &Instance) -> Result<Vec<i128>, AllocError>
-    ensures { IfOk result (λ costs. AreFixedCosts instance.now costs.items) }
-{
-    let size = instance.size();
-    let mut costs = Vec::with_capacity(alloc, size as usize)?;
-    for k in 0..size {
-        costs.push(instance.fixed(k))?;
-    }
-    Ok(costs)
 }
