@@ -1,19 +1,25 @@
 -- The lines of a finding, by what is put: those of its certificate, cut by cut.
-use Rattle.std.proofs.Common.{◌≡◌, ℕ, ◌+◌, ◌-◌, ◌<◌, List, [], ◌++◌, length, map, flat_map, get_or, refl, sym, ap, ◌∙◌, arith}
+use Rattle.std.proofs.Common.{◌≡◌, ℕ, ◌+◌, ◌-◌, ◌<◌, List, [], ◌++◌, length, flat_map, get_or, ◌≤◌, inl, refl, sym, ap, ◌∙◌, arith}
 use Rattle.std.specs.List.{enumerate_from}
 use Rattle.std.proofs.lemmas.List.{length-map, get_or-map}
 use Rattle.std.proofs.lemmas.List.FromFn.{length-enumerate_from}
 use Rattle.hub_spec.specs.Problem.{Problem}
 use Rattle.hub_spec.specs.Plans.{Plan}
+use Rattle.hub_spec.specs.Ranges.{IsInRange}
 use Rattle.hub_spec.specs.Cuts.{Cut}
-use Rattle.hub_spec.specs.Trees.{Tree, preorder}
+use Rattle.hub_spec.specs.Trees.{Tree, empty, preorder}
 use Rattle.plan_model.specs.declared.tree_lines.TreeLine as model
 use Rattle.cert_spec.specs.Lines.{Item, says_cut}
-use Rattle.cert_spec.specs.Text.{line_bytes, cut_items, top_items, cuts_items, tree_items, certificate_text}
+use Rattle.cert_spec.specs.Text.{line_bytes, part_said, cut_items, top_items, cuts_items, tree_items, certificate_text}
 use Rattle.cert_spec.proofs.Items.{certificate_items-parts}
-use Rattle.cert_format.proofs.CutLines.{cut_text, cut_at, cut_text_by, three_texts}
-use Rattle.kept_cuts.specs.Kept.{Kept, by_set, KeptList, kept_cut, kept_cuts, kept_at}
-use Rattle.kept_cuts.specs.Findings.{lines_of, proof_of}
+use Rattle.hub_model.specs.Amounts.{natural}
+use Rattle.cert_scan.specs.Versions.{version_number}
+use Rattle.cert_format.specs.Parts.{IsHeadingOf}
+use Rattle.cert_format.specs.declared.headings.Heading.{Heading}
+use Rattle.cert_format.proofs.Joined.{three_texts}
+use Rattle.cert_format.proofs.CutLines.{cut_text, cut_at, cut_text_by}
+use Rattle.kept_cuts.specs.Kept.{Kept, by_set, KeptList, kept_cut, kept_cuts, kept_part, kept_at}
+use Rattle.kept_cuts.specs.Findings.{lines_of, proof_of, IsProved}
 use Rattle.kept_cuts.specs.declared.found.Found.{Found}
 use Rattle.proof_text.specs.Lenders.{kept_dual}
 use Rattle.proof_text.proofs.Lending.{kept_cut_is}
@@ -21,18 +27,27 @@ use Rattle.proof_text.specs.Texts.{kept_dual_items, found_top_items, found_items
 
 -- ---- the top
 
-pub top_text : (p : Problem) (found : Found) {n q cost bound cuts : ℕ} {plan : Plan} → n ≡ p.size → q ≡ length p.candidates
-    → cost ≡ found.cost → bound ≡ found.bound → plan ≡ found.plan → cuts ≡ length found.cuts.cuts
-    → flat_map line_bytes (top_items n q cost bound plan cuts) ≡ flat_map line_bytes (found_top_items p found)
-top_text p found size candidates paid least same count =
-    λ t. flat_map line_bytes (top_items (size t) (candidates t) (paid t) (least t) (same t) (count t))
+-- a finding is within the ranges of a certificate
+pub found_in_range : (p : Problem) (found : Found) (h : IsProved p found) → IsInRange (proof_of 1 p found h.tree)
+found_in_range p found h = h.in_range 1 (inl refl)
+
+pub top_text : (v : ℕ) (p : Problem) (found : Found) (heading : Heading) {cuts : ℕ} {plan : Plan}
+    → IsHeadingOf heading (proof_of v p found empty) → plan ≡ found.plan → cuts ≡ length found.cuts.cuts
+    → flat_map line_bytes (top_items (version_number heading.version) heading.size heading.candidates (natural heading.cost)
+    (natural heading.bound) plan cuts)
+    ≡ flat_map line_bytes (found_top_items v p found)
+top_text v p found heading is same count =
+    λ t. flat_map line_bytes (top_items (is.version t) (is.size t) (is.candidates t) (natural (is.cost t)) (natural (is.bound t)) (same t) (count t))
 
 -- ---- a cut
 
 -- the line of the cut and those of its duals are the cut's
-pub kept_cut_text : (p : Problem) (c : ℕ) (kept : Kept)
-    → line_bytes (says_cut c) ++ flat_map line_bytes (kept_dual_items p kept) ≡ flat_map line_bytes (cut_items p.size (c, kept_cut p kept))
-kept_cut_text p c kept = cut_text_by p.size c (kept_dual p kept) (kept_cut p kept) (kept_cut_is p kept)
+pub kept_cut_text : (v : ℕ) (p : Problem) (c part : ℕ) (kept : Kept) → 1 ≤ p.size → part ≡ kept_part kept
+    → line_bytes (says_cut c (part_said v part)) ++ flat_map line_bytes (kept_dual_items v p kept)
+    ≡ flat_map line_bytes (cut_items v p.size (c, kept_cut p kept))
+kept_cut_text v p c part kept some is =
+    ap (λ e. line_bytes (says_cut c (part_said v e)) ++ flat_map line_bytes (kept_dual_items v p kept)) is
+    ∙ cut_text_by v p.size c (kept_part kept) (kept_dual p kept) (kept_cut p kept) some (kept_cut_is p kept)
 
 -- ---- the cuts
 
@@ -49,33 +64,35 @@ same_place kept x =
     let place : (x + 1) - 1 ≡ x = omega arith in
     ap (λ (y : ℕ). get_or kept y (by_set [] [])) place
 
-pub kept_cut_at : (p : Problem) (kept : List Kept) (x : ℕ) (d : ℕ × Cut) (one : Kept) → x < length kept → one ≡ kept_at kept (x + 1)
-    → cut_text p.size (x + 1, kept_cut p one) ≡ cut_text p.size (get_or (numbered p kept) x d)
-kept_cut_at p kept x d one l is =
-    cut_at p.size (kept_cuts p kept) x d (kept_cut p one) (omega (arith, length-map kept (kept_cut p), l))
+pub kept_cut_at : (v : ℕ) (p : Problem) (kept : List Kept) (x : ℕ) (d : ℕ × Cut) (one : Kept) → x < length kept → one ≡ kept_at kept (x + 1)
+    → cut_text v p.size (x + 1, kept_cut p one) ≡ cut_text v p.size (get_or (numbered p kept) x d)
+kept_cut_at v p kept x d one l is =
+    cut_at v p.size (kept_cuts p kept) x d (kept_cut p one) (omega (arith, length-map kept (kept_cut p), l))
     (ap (kept_cut p) (is ∙ same_place kept x) ∙ sym (get_or-map (kept_cut p) kept x (by_set [] []) d.1 l))
 
 -- ---- the whole
 
-pub found_lines : (p : Problem) (found : Found) {cuts : KeptList} {lines : List model.TreeLine} → cuts ≡ found.cuts → lines ≡ found.tree.items
-    → flat_map line_bytes (found_top_items p found) ++ (flat_map line_bytes (cuts_items p.size 1 (kept_cuts p cuts.cuts)) ++ flat_map line_bytes (tree_items (lines_of lines)))
-    ≡ flat_map line_bytes (found_items p found)
-found_lines p found same tree =
-    (λ t. flat_map line_bytes (found_top_items p found) ++ (flat_map line_bytes (cuts_items p.size 1 (kept_cuts p (same t).cuts)) ++ flat_map line_bytes (tree_items (lines_of (tree t)))))
-    ∙ three_texts (found_top_items p found) (cuts_items p.size 1 (kept_cuts p found.cuts.cuts)) (tree_items (lines_of found.tree.items))
+pub found_lines : (v : ℕ) (p : Problem) (found : Found) {cuts : KeptList} {lines : List model.TreeLine} → cuts ≡ found.cuts → lines ≡ found.tree.items
+    → flat_map line_bytes (found_top_items v p found)
+    ++ (flat_map line_bytes (cuts_items v p.size 1 (kept_cuts p cuts.cuts)) ++ flat_map line_bytes (tree_items (lines_of lines)))
+    ≡ flat_map line_bytes (found_items v p found)
+found_lines v p found same tree =
+    (λ t. flat_map line_bytes (found_top_items v p found)
+    ++ (flat_map line_bytes (cuts_items v p.size 1 (kept_cuts p (same t).cuts)) ++ flat_map line_bytes (tree_items (lines_of (tree t)))))
+    ∙ three_texts (found_top_items v p found) (cuts_items v p.size 1 (kept_cuts p found.cuts.cuts)) (tree_items (lines_of found.tree.items))
 
-pub found_text_is : (p : Problem) (found : Found) → flat_map line_bytes (found_items p found) ≡ found_text p found
+pub found_text_is : (v : ℕ) (p : Problem) (found : Found) → flat_map line_bytes (found_items v p found) ≡ found_text v p found
 unfolding found_text
-found_text_is p found = refl
+found_text_is v p found = refl
 
 -- the text is that of the certificate with a tree of these lines
-pub found_text_certificate : (p : Problem) (found : Found) (tree : Tree) → lines_of found.tree.items ≡ preorder tree
-    → found_text p found ≡ certificate_text (proof_of p found tree)
+pub found_text_certificate : (v : ℕ) (p : Problem) (found : Found) (tree : Tree) → lines_of found.tree.items ≡ preorder tree
+    → found_text v p found ≡ certificate_text (proof_of v p found tree)
 unfolding found_text certificate_text
-found_text_certificate p found tree lines =
+found_text_certificate v p found tree lines =
     let cuts = kept_cuts p found.cuts.cuts in
-    let top : ℕ → List Item = λ x. top_items p.size (length p.candidates) found.cost found.bound found.plan x in
+    let top : ℕ → List Item = λ x. top_items v p.size (length p.candidates) found.cost found.bound found.plan x in
     let count : length found.cuts.cuts ≡ length cuts = sym (length-map found.cuts.cuts (kept_cut p)) in
     ap (flat_map line_bytes)
-    ((λ t. top (count t) ++ (cuts_items p.size 1 cuts ++ tree_items (lines t)))
-    ∙ sym (certificate_items-parts (proof_of p found tree)))
+    ((λ t. top (count t) ++ (cuts_items v p.size 1 cuts ++ tree_items (lines t)))
+    ∙ sym (certificate_items-parts (proof_of v p found tree)))

@@ -1,14 +1,20 @@
 -- Duals that a lender makes: they are those of the kept cut.
-use Rattle.std.proofs.Common.{◌≡◌, ℕ, map, refl}
-use Rattle.hub_spec.specs.Problem.{Problem, commodities}
-use Rattle.hub_spec.specs.Cuts.{cut_by}
+use Rattle.std.proofs.Common.{◌≡◌, ℕ, ◌+◌, ◌*◌, ◌<◌, ◌≤◌, List, length, map, All, refl, sym, ap, subst, ◌∙◌, arith}
+use Rattle.std.proofs.lemmas.List.{length-map, get_or-map}
+use Rattle.std.proofs.lemmas.List.Elements.{All-get_or, All-weaker, All-map}
+use Rattle.hub_spec.specs.Problem.{Problem, IsProblem, commodities}
+use Rattle.hub_spec.specs.Cuts.{Prices, Cut}
+use Rattle.hub_spec.specs.Ranges.{IsAmount, IsDualInRange}
 use Rattle.hub_spec.specs.Separation.{set_cut}
+use Rattle.hub_spec.proofs.Commodities.{commodity_index, commodity_at_index, length_commodities}
+use Rattle.hub_spec.proofs.Limits.{few_candidates}
 use Rattle.value_cuts.specs.Values.{value_cut}
-use Rattle.kept_cuts.specs.Kept.{Kept, by_values, by_set, kept_cut}
+use Rattle.kept_cuts.specs.Kept.{Kept, by_values, by_set, kept_cut, kept_part, IsKeptFor}
+use Rattle.kept_cuts.proofs.KeptCutLaws.{kept_in_range}
 use Rattle.proof_text.specs.Lenders.{kept_dual, LenderState, HasLegsOf, HasRowOf, IsReady, HasDuals}
 
--- a kept cut is that of its duals
-pub kept_cut_is : (p : Problem) (kept : Kept) → kept_cut p kept ≡ cut_by (map (kept_dual p kept) (commodities p.size))
+-- a kept cut is that of its part and its duals
+pub kept_cut_is : (p : Problem) (kept : Kept) → kept_cut p kept ≡ record { part = kept_part kept; duals = map (kept_dual p kept) (commodities p.size) }
 unfolding value_cut set_cut
 kept_cut_is p (by_values rows) = refl
 kept_cut_is p (by_set hubs order) = refl
@@ -20,3 +26,40 @@ legs_stay p (by_set hubs order) i s row = row.ready
 
 pub still_ready : (p : Problem) (kept : Kept) (i : ℕ) (s : LenderState) → HasDuals p kept i s → IsReady p kept s
 still_ready p kept i s has = record { lender = has.lender; legs = legs_stay p kept i s has.row }
+
+-- a dual that is held does not matter for those that can be made
+pub still_has : (p : Problem) (kept : Kept) (i : ℕ) (s t : LenderState) (d : Prices) → t ≡ record s { held = d } → HasDuals p kept i s
+    → HasDuals p kept i t
+still_has p (by_values rows) i s t d is has =
+    subst (HasDuals p (by_values rows) i) (sym is) (record { lender = has.lender; row = has.row })
+still_has p (by_set hubs order) i s t d is has =
+    subst (HasDuals p (by_set hubs order) i) (sym is) (record { lender = has.lender; row = has.row })
+
+-- ---- how many values a dual has
+
+dual_in_range : (p : Problem) (kept : Kept) (i j : ℕ) → IsProblem p → IsKeptFor p kept → i < p.size → j < p.size
+    → IsDualInRange p.size (kept_dual p kept (i, j))
+dual_in_range p kept i j ok fits from to =
+    let d = kept_dual p kept in
+    let at = i * p.size + j in
+    let below = commodity_index p.size i j from to in
+    let duals = subst (λ (cut : Cut). All (IsDualInRange p.size) cut.duals) (kept_cut_is p kept) (kept_in_range p kept ok fits).each in
+    subst (IsDualInRange p.size)
+    (get_or-map d (commodities p.size) at (0, 0) (d (0, 0)) (omega (arith, below, length_commodities p.size))
+    ∙ ap d (commodity_at_index p.size i j (0, 0) from to))
+    (All-get_or (IsDualInRange p.size) (map d (commodities p.size)) at (d (0, 0))
+    (omega (arith, below, length_commodities p.size, length-map (commodities p.size) d)) duals)
+
+pub few_values : (p : Problem) (kept : Kept) (i j : ℕ) → IsProblem p → IsKeptFor p kept → i < p.size → j < p.size
+    → length (kept_dual p kept (i, j)).u ≤ p.size
+few_values p kept i j ok fits from to =
+    let u = (kept_dual p kept (i, j)).u in
+    let is = dual_in_range p kept i j ok fits from to in
+    let nodes : List ℕ = map (λ (e : ℕ × ℕ). e.0) u in
+    omega (
+      arith,
+      length-map u (λ (e : ℕ × ℕ). e.0),
+      few_candidates nodes p.size is.ascend
+          (All-map (λ (k : ℕ). k < p.size) (λ (e : ℕ × ℕ). e.0) u
+          (All-weaker (λ (e : ℕ × ℕ). (e.0 < p.size) × (1 ≤ e.1) × IsAmount e.1) (λ (e : ℕ × ℕ). e.0 < p.size) (λ e h. h.0) u is.each)),
+    )

@@ -2,3 +2,4 @@ pub mod Lending
 pub mod FoundLines
 pub mod FoundCertificates
 pub mod CutRows
+pub mod RowLines

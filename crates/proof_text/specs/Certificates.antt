@@ -1,11 +1,12 @@
 -- The certificate of what a search found.
-use Rattle.std.specs.Prelude.{◌≡◌}
+use Rattle.std.specs.Prelude.{◌≡◌, ℕ}
 use Rattle.hub_spec.specs.Problem.{Problem}
 use Rattle.hub_spec.specs.Trees.{Tree, preorder}
 use Rattle.hub_spec.specs.Certificates.{Proof}
 use Rattle.kept_cuts.specs.Findings.{lines_of, proof_of}
 use Rattle.kept_cuts.specs.declared.found.Found.{Found}
 
--- this is the certificate with each tree that has the found lines
-abbrev pub IsCertificateOf : Problem → Found → Proof → Type 0
-IsCertificateOf p found k = (tree : Tree) → lines_of found.tree.items ≡ preorder tree → k ≡ proof_of p found tree
+-- this is the certificate of the version with each tree that has the found lines
+abbrev pub IsCertificateOf : ℕ → Problem → Found → Proof → Type 0
+IsCertificateOf version p found k =
+    (tree : Tree) → lines_of found.tree.items ≡ preorder tree → k ≡ proof_of version p found tree

@@ -35,10 +35,11 @@ pub record HasPricesFrom (p : Problem) (w : ValueRows) (i : ℕ) (s : RoomState)
 
 -- ---- duals of any kept cut
 
--- room for duals by values, and for those of a hub set
+-- room for duals by values, and for those of a hub set, and the dual that is held beside the one that was made last
 pub record LenderState : Type 0 where
   pub values : RoomState
   pub sets : ScratchParts
+  pub held : Prices
 
 -- the lender is for this problem
 abbrev pub IsLenderFor : Problem → LenderState → Type 0

@@ -1,4 +1,5 @@
 pub mod Lenders
 pub mod LenderParts
+pub mod HeldParts
 pub mod Texts
 pub mod Certificates

@@ -1,52 +1,54 @@
 //! The certificate of what a search found, with all of its duals.
 
-ghost use Rattle.std.specs.Prelude.{◌≡◌, IfOk, All, map};
-ghost use Rattle.cert_format.specs.Parts.{cut_of};
+ghost use Rattle.std.specs.Prelude.{◌≡◌, IfOk, All};
+ghost use Rattle.cert_spec.specs.Grammar.{IsVersion};
+ghost use Rattle.cert_scan.specs.Versions.{version_number};
 ghost use Rattle.kept_cuts.specs.Kept.{kept_of, kept_cut, kept_cuts, IsKeptFor};
 ghost use Rattle.kept_cuts.specs.Findings.{IsProved};
 ghost use Rattle.proof_text.specs.Certificates.{IsCertificateOf};
 ghost use Rattle.proof_text.specs.Lenders.{IsLenderFor, made_dual};
 
 use crate::DualLender;
-use cert_format::Certificate;
-use hub_model::{Instance, signed};
+use crate::headings::heading_of;
+use cert_format::{Certificate, StatedCut, Version};
+use hub_model::Instance;
 use kept_cuts::{Found, KeptCut, KeptCuts};
 use plan_model::{Dual, Plan, TreeLine};
 use std::alloc::{AllocError, Global};
 
-/// The certificate of what a search of the instance found, with the duals of each cut made anew.
+/// The certificate of what a search of the instance found in this version, with the duals of each cut made anew.
 pub fn certificate_of(
     alloc: Global,
     instance: &Instance,
     found: &Found,
+    version: Version,
 ) -> Result<Certificate, AllocError>
     requires proved { IsProved instance.now found.now }
-    ensures { IfOk result (IsCertificateOf instance.now found.now) }
+    requires version { IsVersion (version_number version) }
+    ensures { IfOk result (IsCertificateOf (version_number version) instance.now found.now) }
 {
-    let size = instance.size();
-    let candidates = instance.candidates().len() as u32;
-    let cost = signed(found.cost);
-    let bound = signed(found.bound);
+    let heading = heading_of(instance, found, version);
     let plan = plan_again(alloc, &found.plan)?;
-    let cuts = rows_of(alloc, instance, &found.cuts)?;
+    let cuts = stated_cuts(alloc, instance, &found.cuts)?;
     let tree = lines_again(alloc, &found.tree)?;
-    Ok(Certificate::new(size, candidates, cost, bound, plan, cuts, tree))
+    Ok(Certificate::new(heading, plan, cuts, tree))
 }
 
-// The duals of each cut.
-fn rows_of(
+// Each cut, with its duals.
+fn stated_cuts(
     alloc: Global,
     instance: &Instance,
     cuts: &KeptCuts,
-) -> Result<Vec<Vec<Dual>>, AllocError>
+) -> Result<Vec<StatedCut>, AllocError>
     requires { All (IsKeptFor instance.now) cuts.now.cuts }
-    ensures { IfOk result (λ rows. map cut_of rows.items ≡ kept_cuts instance.now cuts.now.cuts) }
+    ensures { IfOk result (λ stated. stated.items ≡ kept_cuts instance.now cuts.now.cuts) }
 {
     let mut lender = DualLender::new(alloc, instance)?;
     let mut all = Vec::with_capacity(alloc, cuts.len() as usize)?;
     for place in 0..cuts.len() {
         let kept = cuts.cut(place + 1);
-        all.push(duals_of(alloc, instance, kept, &mut lender)?)?;
+        let duals = duals_of(alloc, instance, kept, &mut lender)?;
+        all.push(StatedCut::new(kept.part(), duals))?;
     }
     Ok(all)
 }
@@ -61,7 +63,7 @@ fn duals_of(
     requires lender { IsLenderFor instance.now lender.old }
     requires fits { IsKeptFor instance.now (kept_of kept.now) }
     ensures lender { IsLenderFor instance.now lender.new }
-    ensures cut { IfOk result (λ duals. cut_of duals ≡ kept_cut instance.now (kept_of kept.now)) }
+    ensures duals { IfOk result (λ duals. duals.items ≡ (kept_cut instance.now (kept_of kept.now)).duals) }
 {
     let n = instance.size();
     let mut duals = Vec::with_capacity(alloc, n as usize * n as usize)?;

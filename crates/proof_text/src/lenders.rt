@@ -1,11 +1,12 @@
 //! Duals of kept cuts, lent one at a time.
 
-ghost use Rattle.std.specs.Prelude.{◌≡◌, ◌<◌, pos, IfOk};
+ghost use Rattle.std.specs.Prelude.{◌≡◌, ◌<◌, ◌≤◌, ◌↔◌, pos, length, IfOk, IsTrue};
 ghost use Rattle.hub_spec.specs.Separation.{AreListedValues};
 ghost use Rattle.plan_model.specs.Prices.{signed_values};
 ghost use Rattle.kept_cuts.specs.Kept.{kept_of, IsKeptFor};
 ghost use Rattle.proof_text.specs.Lenders.{kept_dual, IsLenderFor, IsReady, HasDuals, made_dual};
 
+use crate::held_duals::HeldDual;
 use crate::value_rooms::ValueRoom;
 use hub_model::Instance;
 use kept_cuts::KeptCut;
@@ -15,11 +16,13 @@ use std::marker::Model;
 
 /// Room to make the duals of an instance's kept cuts in, taken once, from which one dual at a time is lent.
 ///
-/// It is told the cut first, then an origin, then each destination; no call takes memory.
+/// It is told the cut first, then an origin, then each destination. A second dual can be held, so that the one made last
+/// is compared with it. No call takes memory.
 #[derive(Drop)]
 pub struct DualLender<'a> {
     values: ValueRoom<'a>,
     sets: Scratch,
+    held: HeldDual,
 }
 
 impl<'a> Model for DualLender<'a> {
@@ -28,9 +31,9 @@ impl<'a> Model for DualLender<'a> {
 
     ghost Value = { LenderState };
 
-    ghost view = { λ s. record { values = s.values; sets = s.sets } };
+    ghost view = { λ s. record { values = s.values; sets = s.sets; held = s.held.dual } };
 
-    ghost invariant = { λ s. s.values.problem.size ≤ s.sets.room };
+    ghost invariant = { λ s. (s.values.problem.size ≤ s.sets.room) × (s.values.problem.size ≤ s.held.room) };
 }
 
 impl<'a> DualLender<'a> {
@@ -41,6 +44,7 @@ impl<'a> DualLender<'a> {
         Ok(DualLender {
             values: ValueRoom::new(alloc, instance)?,
             sets: Scratch::new(alloc, instance)?,
+            held: HeldDual::new(alloc, instance.size() as usize)?,
         })
     }
 
@@ -77,6 +81,7 @@ impl<'a> DualLender<'a> {
         requires destination { j < instance.now.size }
         ensures duals { HasDuals instance.now (kept_of kept.now) i self.new }
         ensures made { made_dual (kept_of kept.now) self.new ≡ kept_dual instance.now (kept_of kept.now) (i, j) }
+        ensures held { self.new.held ≡ self.old.held }
     {
         match kept {
             KeptCut::Values(values) => self.values.make_dual(values, i, j),
@@ -94,5 +99,38 @@ impl<'a> DualLender<'a> {
             KeptCut::Values(_) => self.values.dual(),
             KeptCut::Set(..) => self.sets.dual(),
         }
+    }
+
+    /// Holds the dual that was made last of the cut, in place of the one that was held.
+    pub(crate) fn hold(&mut self, kept: &KeptCut)
+        requires few { length (made_dual (kept_of kept.now) self.old).u ≤ self.old.values.problem.size }
+        ensures { self.new ≡ record self.old { held = made_dual (kept_of kept.now) self.old } }
+    {
+        match kept {
+            KeptCut::Values(_) => {
+                let (a, u) = self.values.dual();
+                self.held.copy(a, u);
+            }
+            KeptCut::Set(..) => {
+                let (a, u) = self.sets.dual();
+                self.held.copy(a, u);
+            }
+        }
+    }
+
+    /// Tells whether the dual that was made last of the cut is the one that is held.
+    pub(crate) fn holds(&self, kept: &KeptCut) -> bool
+        ensures { IsTrue result ↔ (self.now.held ≡ made_dual (kept_of kept.now) self.now) }
+    {
+        let (a, u) = self.dual(kept);
+        self.held.is(a, u)
+    }
+
+    /// The price of the dual that is held, and its nodes with their values, ascending.
+    pub(crate) fn held(&self) -> (i128, &[(u32, i128)])
+        ensures price { result.0 ≡ pos self.now.held.a }
+        ensures values { result.1.now ≡ signed_values self.now.held.u }
+    {
+        self.held.dual()
     }
 }

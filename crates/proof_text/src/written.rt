@@ -1,8 +1,9 @@
 //! The text of the certificate of what a search found, put part by part.
 
-ghost use Rattle.std.specs.Prelude.{◌≡◌, All};
+ghost use Rattle.std.specs.Prelude.{◌≡◌, ◌≤◌, All};
 ghost use Rattle.cert_spec.specs.Text.{cut_items, cuts_items};
 ghost use Rattle.hub_io.specs.Outside.{Puts};
+ghost use Rattle.cert_scan.specs.Versions.{version_number};
 ghost use Rattle.cert_format.specs.Puts.{PutsLines};
 ghost use Rattle.kept_cuts.specs.Kept.{kept_of, kept_cut, kept_cuts, IsKeptFor};
 ghost use Rattle.kept_cuts.specs.Findings.{IsProved};
@@ -11,33 +12,37 @@ ghost use Rattle.proof_text.specs.Texts.{found_top_items, found_items, found_tex
 
 use crate::DualLender;
 use crate::dual_lines::put_kept_duals;
-use cert_format::{put_cut, put_top, put_tree};
+use crate::headings::heading_of;
+use cert_format::{Version, put_cut, put_top, put_tree};
 use hub_io::{Buffer, Failed, Sink};
-use hub_model::{Instance, signed};
+use hub_model::Instance;
 use kept_cuts::{Found, KeptCut, KeptCuts};
 
-/// Writes the certificate of what a search of the instance found, in puts of about 8192 bytes each. It takes no memory.
+/// Writes the certificate of what a search of the instance found, in this version, in puts of about 8192 bytes each. It
+/// takes no memory, and fails only where a put does.
 ///
 /// Each dual is made anew by the lender, which is for the instance.
 pub fn write_found<K: Sink>(
     instance: &Instance,
     found: &Found,
+    version: Version,
     lender: &mut DualLender,
     sink: &mut K,
 ) -> Result<(), Failed>
     requires lender { IsLenderFor instance.now lender.old }
     requires proved { IsProved instance.now found.now }
     ensures lender { IsLenderFor instance.now lender.new }
-    ensures text { Puts K.taken K.faults sink.old sink.new result (found_text instance.now found.now) }
+    ensures text { Puts K.taken K.faults sink.old sink.new result (found_text (version_number version) instance.now found.now) }
 {
     let mut buffer = Buffer::new();
-    put_found(instance, found, lender, &mut buffer, sink)?;
+    put_found(instance, found, version, lender, &mut buffer, sink)?;
     buffer.finish(sink)
 }
 
 fn put_found<K: Sink>(
     instance: &Instance,
     found: &Found,
+    version: Version,
     lender: &mut DualLender,
     buffer: &mut Buffer,
     sink: &mut K,
@@ -46,10 +51,10 @@ fn put_found<K: Sink>(
     requires proved { IsProved instance.now found.now }
     ensures lender { IsLenderFor instance.now lender.new }
     ensures lines { PutsLines K.taken K.faults sink.old sink.new buffer.old buffer.new result
-        (found_items instance.now found.now) }
+        (found_items (version_number version) instance.now found.now) }
 {
-    put_found_top(instance, found, buffer, sink)?;
-    put_kept_cuts(instance, &found.cuts, lender, buffer, sink)?;
+    put_found_top(instance, found, version, buffer, sink)?;
+    put_kept_cuts(version, instance, &found.cuts, lender, buffer, sink)?;
     put_tree(&found.tree, buffer, sink)
 }
 
@@ -57,53 +62,45 @@ fn put_found<K: Sink>(
 fn put_found_top<K: Sink>(
     instance: &Instance,
     found: &Found,
+    version: Version,
     buffer: &mut Buffer,
     sink: &mut K,
 ) -> Result<(), Failed>
     requires { IsProved instance.now found.now }
     ensures { PutsLines K.taken K.faults sink.old sink.new buffer.old buffer.new result
-        (found_top_items instance.now found.now) }
+        (found_top_items (version_number version) instance.now found.now) }
 {
-    let size = instance.size();
-    let candidates = instance.candidates().len() as u32;
-    let cost = signed(found.cost);
-    let bound = signed(found.bound);
+    let heading = heading_of(instance, found, version);
     let cuts = found.cuts.len();
-    put_top(
-        size,
-        candidates,
-        cost,
-        bound,
-        &found.plan,
-        cuts,
-        buffer,
-        sink,
-    )
+    put_top(&heading, &found.plan, cuts, buffer, sink)
 }
 
 // Puts the lines of the cuts.
 fn put_kept_cuts<K: Sink>(
+    version: Version,
     instance: &Instance,
     cuts: &KeptCuts,
     lender: &mut DualLender,
     buffer: &mut Buffer,
     sink: &mut K,
 ) -> Result<(), Failed>
+    requires some { 1 ≤ instance.now.size }
     requires lender { IsLenderFor instance.now lender.old }
     requires fit { All (IsKeptFor instance.now) cuts.now.cuts }
     ensures lender { IsLenderFor instance.now lender.new }
     ensures lines { PutsLines K.taken K.faults sink.old sink.new buffer.old buffer.new result
-        (cuts_items instance.now.size 1 (kept_cuts instance.now cuts.now.cuts)) }
+        (cuts_items (version_number version) instance.now.size 1 (kept_cuts instance.now cuts.now.cuts)) }
 {
     for place in 0..cuts.len() {
         let c = place + 1;
-        put_kept_cut(instance, c, cuts.cut(c), lender, buffer, sink)?;
+        put_kept_cut(version, instance, c, cuts.cut(c), lender, buffer, sink)?;
     }
     Ok(())
 }
 
 // Puts the lines of the cut, under this number.
 fn put_kept_cut<K: Sink>(
+    version: Version,
     instance: &Instance,
     c: u64,
     kept: &KeptCut,
@@ -111,12 +108,13 @@ fn put_kept_cut<K: Sink>(
     buffer: &mut Buffer,
     sink: &mut K,
 ) -> Result<(), Failed>
+    requires some { 1 ≤ instance.now.size }
     requires lender { IsLenderFor instance.now lender.old }
     requires fits { IsKeptFor instance.now (kept_of kept.now) }
     ensures lender { IsLenderFor instance.now lender.new }
     ensures lines { PutsLines K.taken K.faults sink.old sink.new buffer.old buffer.new result
-        (cut_items instance.now.size (c, kept_cut instance.now (kept_of kept.now))) }
+        (cut_items (version_number version) instance.now.size (c, kept_cut instance.now (kept_of kept.now))) }
 {
-    put_cut(c, buffer, sink)?;
-    put_kept_duals(instance, kept, lender, buffer, sink)
+    put_cut(version, c, kept.part(), buffer, sink)?;
+    put_kept_duals(version, instance, kept, lender, buffer, sink)
 }

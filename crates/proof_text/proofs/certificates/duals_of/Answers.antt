@@ -1,7 +1,7 @@
 use Rattle.std.proofs.Common.{ℕ, List, ◌+◌, ◌*◌, ◌≡◌, take, subst, ap, sym, ◌∙◌, arith}
 use Rattle.std.proofs.lemmas.List.{take_all}
 use Rattle.hub_spec.specs.Problem.{commodities}
-use Rattle.hub_spec.specs.Cuts.{cut_by}
+use Rattle.hub_spec.specs.Cuts.{Cut}
 use Rattle.hub_spec.proofs.Commodities.{next_route, length_commodities}
 use Rattle.kept_cuts.specs.Kept.{kept_of}
 use Rattle.proof_text.specs.Lenders.{kept_dual}
@@ -31,11 +31,11 @@ loop-i-preserved c =
       ready = still_ready p kept c.loop-i.i c.loop-j.lender c.loop-j.invariant.has;
     }
 
-pub returns-clause-cut : goal.returns-clause-cut
-returns-clause-cut c =
+pub returns-clause-duals : goal.returns-clause-duals
+returns-clause-duals c =
     let p = c.args.instance.now in
     let kept = kept_of c.args.kept.now in
     let square : c.loop-i.i * p.size ≡ p.size * p.size = ap (λ (m : ℕ). m * p.size) (omega arith) in
     let whole = subst (λ (cs : List (ℕ × ℕ)). AreDualsOf (kept_dual p kept) cs c.loop-i.duals.items)
     (take_all (c.loop-i.i * p.size) (commodities p.size) (omega (arith, square, length_commodities p.size))) c.loop-i.invariant.duals in
-    ap cut_by (duals_are (kept_dual p kept) (commodities p.size) c.loop-i.duals.items whole) ∙ sym (kept_cut_is p kept)
+    duals_are (kept_dual p kept) (commodities p.size) c.loop-i.duals.items whole ∙ sym (ap (λ (cut : Cut). cut.duals) (kept_cut_is p kept))

@@ -1,4 +1,4 @@
-use Rattle.std.proofs.Common.{◌≡◌, ◌+◌, ◌*◌, take}
+use Rattle.std.proofs.Common.{◌+◌, ◌*◌, take}
 use Rattle.hub_spec.specs.Problem.{commodities}
 use Rattle.kept_cuts.specs.Kept.{kept_of}
 use Rattle.proof_text.specs.Lenders.{kept_dual, IsReady, HasDuals}

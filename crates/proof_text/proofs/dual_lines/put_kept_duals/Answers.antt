@@ -5,7 +5,9 @@ use Rattle.cert_format.proofs.Following.{as_text, list_more, list_stop, list_end
 use Rattle.cert_format.specs.DualItems.{dual_items_from}
 use Rattle.kept_cuts.specs.Kept.{kept_of}
 use Rattle.proof_text.specs.Lenders.{kept_dual}
-use Rattle.cert_format.proofs.CutLines.{texts_joined, origin_at}
+use Rattle.cert_scan.specs.Versions.{version_number}
+use Rattle.cert_format.proofs.Joined.{texts_joined}
+use Rattle.cert_format.proofs.CutLines.{origin_at}
 use Rattle.proof_text.proofs.dual_lines.put_kept_duals.Goals as goal
 
 pub returns-in_err-put_origin-clause-lender : goal.returns-in_err-put_origin-clause-lender
@@ -15,10 +17,10 @@ pub returns-in_err-put_origin-clause-lines : goal.returns-in_err-put_origin-clau
 returns-in_err-put_origin-clause-lines g c =
     let p = c.args.instance.now in
     let d = kept_dual p (kept_of c.args.kept.now) in
-    as_text (texts_joined (dual_items_from p.size d) (range_with_len 0 p.size))
+    as_text (texts_joined (dual_items_from (version_number c.args.version) p.size d) (range_with_len 0 p.size))
     (list_stop 0 c.loop-i.invariant.put c.put_origin.ensures.lines (ap is_err c.in_err-put_origin.was) c.from_residual.ensures.0
     (omega (arith, length-range_with_len 0 p.size))
-    (origin_at p.size d c.loop-i.i (omega arith)))
+    (origin_at (version_number c.args.version) p.size d c.loop-i.i (omega arith)))
 
 pub loop-i-preserved : goal.loop-i-preserved
 loop-i-preserved g c =
@@ -27,7 +29,7 @@ loop-i-preserved g c =
       ready = c.put_origin.ensures.ready;
       put = list_more 0 c.loop-i.invariant.put c.put_origin.ensures.lines (ap is_ok c.in_ok-put_origin.was)
           (omega (arith, length-range_with_len 0 p.size))
-          (origin_at p.size (kept_dual p (kept_of c.args.kept.now)) c.loop-i.i (omega arith));
+          (origin_at (version_number c.args.version) p.size (kept_dual p (kept_of c.args.kept.now)) c.loop-i.i (omega arith));
     }
 
 pub returns-clause-lender : goal.returns-clause-lender
@@ -36,5 +38,5 @@ returns-clause-lender g c = c.loop-i.invariant.ready.lender
 pub returns-clause-lines : goal.returns-clause-lines
 returns-clause-lines g c =
     let p = c.args.instance.now in
-    as_text (texts_joined (dual_items_from p.size (kept_dual p (kept_of c.args.kept.now))) (range_with_len 0 p.size))
+    as_text (texts_joined (dual_items_from (version_number c.args.version) p.size (kept_dual p (kept_of c.args.kept.now))) (range_with_len 0 p.size))
     (list_end c.loop-i.invariant.put (omega (arith, length-range_with_len 0 p.size)))

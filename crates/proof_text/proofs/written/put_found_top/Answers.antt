@@ -1,15 +1,34 @@
-use Rattle.std.proofs.Common.{length, ap, ◌∙◌, rules}
-use Rattle.hub_model.specs.Amounts.{natural}
-use Rattle.cert_format.proofs.Amounts.{same_amount}
+use Rattle.std.proofs.Common.{sym, ap, ◌*◌, ◌∙◌, arith}
+use Rattle.hub_spec.specs.Trees.{empty}
+use Rattle.cert_scan.specs.Versions.{version_number}
 use Rattle.cert_format.proofs.Following.{as_text}
-use Rattle.proof_text.proofs.FoundLines.{top_text}
+use Rattle.proof_text.proofs.FoundLines.{found_in_range, top_text}
+use Rattle.proof_text.proofs.FoundCertificates.{least}
 use Rattle.proof_text.proofs.written.put_found_top.Goals as goal
+
+pub put_top-requires-clause-some : goal.put_top-requires-clause-some
+put_top-requires-clause-some g c =
+    let is = c.heading_of-heading.ensures empty in
+    omega (arith, is.size, (found_in_range c.args.instance.now c.args.found.now c.requires).some_node)
+
+pub put_top-requires-clause-few : goal.put_top-requires-clause-few
+put_top-requires-clause-few g c =
+    let is = c.heading_of-heading.ensures empty in
+    omega (arith, is.size, (found_in_range c.args.instance.now c.args.found.now c.requires).size)
+
+pub put_top-requires-clause-whole : goal.put_top-requires-clause-whole
+put_top-requires-clause-whole g c =
+    (found_in_range c.args.instance.now c.args.found.now c.requires).one_route_each
+    ∙ sym (ap (λ n. n * n) (c.heading_of-heading.ensures empty).size)
+
+pub put_top-requires-clause-cost : goal.put_top-requires-clause-cost
+put_top-requires-clause-cost g c = least c.heading_of-heading.result.cost c.args.found.now.cost (c.heading_of-heading.ensures empty).cost
+
+pub put_top-requires-clause-bound : goal.put_top-requires-clause-bound
+put_top-requires-clause-bound g c = least c.heading_of-heading.result.bound c.args.found.now.bound (c.heading_of-heading.ensures empty).bound
 
 pub returns : goal.returns
 returns g c =
-    as_text (top_text c.args.instance.now c.args.found.now c.size-size.ensures.value (ap length c.candidates.ensures.value)
-    (same_amount c.signed-cost.result (search rules) ∙ ap natural c.signed-cost.ensures)
-    (same_amount c.signed-bound.result (search rules) ∙ ap natural c.signed-bound.ensures)
-    (λ _. c.args.found.now.plan)
-    c.len-cuts.ensures)
+    as_text (top_text (version_number c.args.version) c.args.instance.now c.args.found.now c.heading_of-heading.result
+    (c.heading_of-heading.ensures empty) (λ _. c.args.found.now.plan) c.len-cuts.ensures)
     c.put_top.ensures

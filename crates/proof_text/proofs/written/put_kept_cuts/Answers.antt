@@ -2,9 +2,10 @@ use Rattle.std.proofs.Common.{[], ap, is_ok, is_err, sym, subst, ◌∙◌, arit
 use Rattle.std.proofs.lemmas.List.Elements.{All-get_or}
 use Rattle.hub_spec.specs.Cuts.{cut_by}
 use Rattle.cert_spec.specs.Text.{cut_items}
+use Rattle.cert_scan.specs.Versions.{version_number}
 use Rattle.cert_format.proofs.Following.{as_text, list_more, list_stop, list_end}
 use Rattle.kept_cuts.specs.Kept.{by_set, kept_of, IsKeptFor}
-use Rattle.cert_format.proofs.CutLines.{texts_joined}
+use Rattle.cert_format.proofs.Joined.{texts_joined}
 use Rattle.proof_text.proofs.FoundLines.{numbered, length_numbered, same_place, kept_cut_at}
 use Rattle.proof_text.proofs.written.put_kept_cuts.Goals as goal
 
@@ -22,10 +23,10 @@ pub returns-in_err-put_kept_cut-clause-lines : goal.returns-in_err-put_kept_cut-
 returns-in_err-put_kept_cut-clause-lines g c =
     let p = c.args.instance.now in
     let kept = c.args.cuts.now.cuts in
-    as_text (texts_joined (cut_items p.size) (numbered p kept))
+    as_text (texts_joined (cut_items (version_number c.args.version) p.size) (numbered p kept))
     (list_stop (0, cut_by []) c.loop-place.invariant.put c.put_kept_cut.ensures.lines (ap is_err c.in_err-put_kept_cut.was) c.from_residual.ensures.0
     (omega (arith, length_numbered p kept, c.len-place-end.ensures))
-    (kept_cut_at p kept c.loop-place.place (0, cut_by []) (kept_of c.cut.result.now) (omega (arith, c.len-place-end.ensures)) c.cut.ensures))
+    (kept_cut_at (version_number c.args.version) p kept c.loop-place.place (0, cut_by []) (kept_of c.cut.result.now) (omega (arith, c.len-place-end.ensures)) c.cut.ensures))
 
 pub loop-place-preserved : goal.loop-place-preserved
 loop-place-preserved g c =
@@ -35,7 +36,7 @@ loop-place-preserved g c =
       lender = c.put_kept_cut.ensures.lender;
       put = list_more (0, cut_by []) c.loop-place.invariant.put c.put_kept_cut.ensures.lines (ap is_ok c.in_ok-put_kept_cut.was)
           (omega (arith, length_numbered p kept, c.len-place-end.ensures))
-          (kept_cut_at p kept c.loop-place.place (0, cut_by []) (kept_of c.cut.result.now) (omega (arith, c.len-place-end.ensures)) c.cut.ensures);
+          (kept_cut_at (version_number c.args.version) p kept c.loop-place.place (0, cut_by []) (kept_of c.cut.result.now) (omega (arith, c.len-place-end.ensures)) c.cut.ensures);
     }
 
 pub returns-clause-lender : goal.returns-clause-lender
@@ -45,5 +46,5 @@ pub returns-clause-lines : goal.returns-clause-lines
 returns-clause-lines g c =
     let p = c.args.instance.now in
     let kept = c.args.cuts.now.cuts in
-    as_text (texts_joined (cut_items p.size) (numbered p kept))
+    as_text (texts_joined (cut_items (version_number c.args.version) p.size) (numbered p kept))
     (list_end c.loop-place.invariant.put (omega (arith, length_numbered p kept, c.len-place-end.ensures)))

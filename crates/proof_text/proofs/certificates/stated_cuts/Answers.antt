@@ -1,0 +1,29 @@
+use Rattle.std.proofs.Common.{◌≡◌, ℕ, List, [], sym, subst, ap₂, ◌∙◌, arith}
+use Rattle.std.proofs.lemmas.List.Elements.{All-get_or}
+use Rattle.hub_spec.specs.Cuts.{Prices}
+use Rattle.kept_cuts.specs.Kept.{by_set, kept_of, kept_cut, IsKeptFor}
+use Rattle.kept_cuts.proofs.KeptCutLaws.{kept_part_is}
+use Rattle.proof_text.proofs.FoundLines.{same_place}
+use Rattle.proof_text.proofs.CutRows.{next_stated}
+use Rattle.proof_text.proofs.certificates.stated_cuts.Goals as goal
+
+pub duals_of-requires-clause-fits : goal.duals_of-requires-clause-fits
+duals_of-requires-clause-fits c =
+    let p = c.args.instance.now in
+    let kept = c.args.cuts.now.cuts in
+    subst (IsKeptFor p) (sym (c.cut-kept.ensures ∙ same_place kept c.loop-place.place))
+    (All-get_or (IsKeptFor p) kept c.loop-place.place (by_set [] []) (omega (arith, c.len-place-end.ensures)) c.requires)
+
+pub loop-place-preserved : goal.loop-place-preserved
+loop-place-preserved c =
+    let p = c.args.instance.now in
+    let one = kept_of c.cut-kept.result.now in
+    let cut : c.new-in-loop-place.result ≡ kept_cut p one = c.new-in-loop-place.ensures
+    ∙ ap₂ (λ (part : ℕ) (duals : List Prices). record { part = part; duals = duals })
+    (c.part.ensures ∙ sym (kept_part_is p one)) c.in_ok-duals.ensures.duals in
+    record {
+      lender = c.in_ok-duals.ensures.lender;
+      stated = c.in_ok-push.ensures.items
+          ∙ next_stated p c.args.cuts.now.cuts c.loop-place.place one c.loop-place.all.items c.new-in-loop-place.result
+          (omega (arith, c.len-place-end.ensures)) c.cut-kept.ensures cut c.loop-place.invariant.stated;
+    }

@@ -1,0 +1,30 @@
+use Rattle.std.proofs.Common.{◌≤◌, length, refl, ap, arith, rules}
+use Rattle.cert_format.proofs.Amounts.{passed_on}
+use Rattle.proof_text.proofs.FoundLines.{found_in_range}
+use Rattle.proof_text.proofs.headings.heading_of.Goals as goal
+
+pub overflow_cast-result : goal.overflow_cast-result
+overflow_cast-result c =
+    let range = found_in_range c.args.instance.now c.args.found.now c.requires in
+    let same = ap length c.candidates.ensures.value in
+    let few : length c.candidates.result.now ≤ 200 = omega (arith, same, range.candidates, range.size) in
+    search (rules, arith)
+
+pub signed-requires : goal.signed-requires
+signed-requires c =
+    let range = found_in_range c.args.instance.now c.args.found.now c.requires in
+    omega (arith, range.cost)
+
+pub signed-requires-2 : goal.signed-requires-2
+signed-requires-2 c =
+    let range = found_in_range c.args.instance.now c.args.found.now c.requires in
+    omega (arith, range.bound)
+
+pub returns : goal.returns
+returns c = λ tree. record {
+  version = refl;
+  size = c.size.ensures.value;
+  candidates = ap length c.candidates.ensures.value;
+  cost = passed_on c.signed.result (search rules) c.signed.ensures;
+  bound = passed_on c.signed-2.result (search rules) c.signed-2.ensures;
+}

@@ -1,0 +1,24 @@
+//! The first lines of the text of what a search found.
+
+ghost use Rattle.hub_spec.specs.Trees.{Tree};
+ghost use Rattle.cert_scan.specs.Versions.{version_number};
+ghost use Rattle.cert_format.specs.Parts.{IsHeadingOf};
+ghost use Rattle.kept_cuts.specs.Findings.{IsProved, proof_of};
+
+use cert_format::{Heading, Version};
+use hub_model::{Instance, signed};
+use kept_cuts::Found;
+
+/// What the first lines of the certificate say, in this version.
+pub(crate) fn heading_of(instance: &Instance, found: &Found, version: Version) -> Heading
+    requires { IsProved instance.now found.now }
+    ensures { (tree : Tree) → IsHeadingOf result (proof_of (version_number version) instance.now found.now tree) }
+{
+    Heading {
+        version,
+        size: instance.size(),
+        candidates: instance.candidates().len() as u32,
+        cost: signed(found.cost),
+        bound: signed(found.bound),
+    }
+}
