@@ -12,10 +12,10 @@ sum_by_limit f m [] h = omega arith
 sum_by_limit f m (x ∷ xs) h =
     rw (sum_by-cons f x xs) (omega (arith, All-head (λ x. f x ≤ m) x xs h, sum_by_limit f m xs (All-tail (λ x. f x ≤ m) x xs h)))
 
-value_of_dual : (n : ℕ) (k : ℕ) (d : Prices) → IsDualInRange n d → value_at d.u k ≤ 10 ^ 30
+value_of_dual : (n : ℕ) (k : ℕ) (d : Prices) → IsDualInRange n d → value_at d.u k ≤ 10 ^ 33
 value_of_dual n k d h =
-    let one = value_at_short (10 ^ 30) d.u k (omega arith)
-    (All-weaker (λ (e : ℕ × ℕ). (e.0 < n) × (1 ≤ e.1) × (e.1 < 10 ^ 30)) (λ (e : ℕ × ℕ). e.1 < 10 ^ 30) (λ e h. h.2) d.u h.each) in
+    let one = value_at_short (10 ^ 33) d.u k (omega arith)
+    (All-weaker (λ (e : ℕ × ℕ). (e.0 < n) × (1 ≤ e.1) × (e.1 < 10 ^ 33)) (λ (e : ℕ × ℕ). e.1 < 10 ^ 33) (λ e h. h.2) d.u h.each) in
     omega (arith, one)
 
 pub loads_limit : (n : ℕ) (duals : List Prices) (i : ℕ) (loads : List ℕ) → length duals ≤ most_duals → All (IsDualInRange n) duals
@@ -23,6 +23,6 @@ pub loads_limit : (n : ℕ) (duals : List Prices) (i : ℕ) (loads : List ℕ) �
 loads_limit n duals i loads few are sums =
     All-from_get_or (λ x. x ≤ most_sum) loads 0 (λ k below.
     let part = sum_by-take-le (λ (d : Prices). value_at d.u k) duals i in
-    let whole = sum_by_limit (λ (d : Prices). value_at d.u k) (10 ^ 30) duals
-    (All-weaker (IsDualInRange n) (λ (d : Prices). value_at d.u k ≤ 10 ^ 30) (value_of_dual n k) duals are) in
+    let whole = sum_by_limit (λ (d : Prices). value_at d.u k) (10 ^ 33) duals
+    (All-weaker (IsDualInRange n) (λ (d : Prices). value_at d.u k ≤ 10 ^ 33) (value_of_dual n k) duals are) in
     omega (arith, sums k, part, whole, few))

@@ -1,10 +1,11 @@
 -- The values of a dual listed by node, and the conditions on it by that list.
-use Rattle.std.proofs.Common.{◌≡◌, ℕ, zero, suc, ◌+◌, ◌*◌, ◌^◌, ◌<◌, ◌≤◌, List, [], ◌∷◌, get_or, take, replicate, nat_eq, Bool, IsTrue, ◌↔◌, All, Contains, inl, inr, refl, ⊎_elim, mul-le-mul_left, arith}
+use Rattle.std.proofs.Common.{◌≡◌, ℕ, zero, suc, ◌+◌, ◌*◌, ◌^◌, ◌<◌, ◌≤◌, List, [], ◌∷◌, get_or, take, replicate, nat_eq, Bool, IsTrue, ◌↔◌, All, Contains, None, inl, inr, refl, ⊎_elim, mul-le-mul_left, arith}
 use Rattle.std.proofs.lemmas.Bool.{cases_eq, cond_both}
 use Rattle.std.proofs.lemmas.List.Elements.{All-head, All-tail, All-contains, All-from_get_or}
 use Rattle.hub_spec.specs.Problem.{Problem, flow, distance, route_cost}
 use Rattle.hub_spec.specs.Ranges.{IsAmount}
 use Rattle.hub_spec.specs.Cuts.{Prices, value_at, IsDual}
+use Rattle.hub_spec.proofs.PlanCosts.{any_allowed}
 use Rattle.hub_spec.proofs.Sets.{All-from_contains}
 use Rattle.cert_checker.specs.Duals.{AreValues, IsCovered, IsCoveredSingle, IsCoveredFrom, IsCoveredByAll}
 
@@ -21,54 +22,57 @@ value_at_short m (e ∷ u) k some h =
     cond_both (nat_eq e.0 k) e.1 (value_at u k) (λ v. v < m) (λ is. All-head (λ (e : ℕ × ℕ). e.1 < m) e u h)
     (λ is. value_at_short m u k some (All-tail (λ (e : ℕ × ℕ). e.1 < m) e u h))
 
-pub values_short : (u : List (ℕ × ℕ)) (values : List ℕ) → All (λ (e : ℕ × ℕ). e.1 < 10 ^ 30) u → AreValues u values
+pub values_short : (u : List (ℕ × ℕ)) (values : List ℕ) → All (λ (e : ℕ × ℕ). e.1 < 10 ^ 33) u → AreValues u values
     → All IsAmount values
 values_short u values h are =
     All-from_get_or IsAmount values 0 (λ i below.
-    let one = value_at_short (10 ^ 30) u i (omega arith) h in omega (arith, one, are i))
+    let one = value_at_short (10 ^ 33) u i (omega arith) h in omega (arith, one, are i))
 
 collection-le : (p : Problem) (i j k m : ℕ) → flow p i j * (p.collect * distance p i k) ≤ route_cost p i j k m
 unfolding route_cost
 collection-le p i j k m = mul-le-mul_left (flow p i j) (omega arith)
 
 -- where collection and the value of the first hub cover the price, each last hub does
-pub covered_by_collection : (p : Problem) (c : ℕ × ℕ) (a : ℕ) (values : List ℕ) (k : ℕ)
-    → a ≤ flow p c.0 c.1 * (p.collect * distance p c.0 k) + get_or values k 0 → IsCoveredFrom p c a values k
-covered_by_collection p c a values k h =
-    All-from_contains (IsCovered p c a values k) p.candidates (λ m in_m. let within = collection-le p c.0 c.1 k m in inr (omega (arith, h, within)))
+pub covered_by_collection : (p : Problem) (part : ℕ) (c : ℕ × ℕ) (a : ℕ) (values : List ℕ) (k : ℕ)
+    → a ≤ part * (flow p c.0 c.1 * (p.collect * distance p c.0 k)) + get_or values k 0 → IsCoveredFrom p part c a values k
+covered_by_collection p part c a values k h =
+    All-from_contains (IsCovered p part c a values k) p.candidates (λ m in_m.
+    let within = mul-le-mul_left part (collection-le p c.0 c.1 k m) in inr (omega (arith, h, within)))
 
--- ---- the conditions by the list of values
+-- ---- the conditions by the list of values, where any route is allowed
 
-dual_from_values : (p : Problem) (c : ℕ × ℕ) (d : Prices) (values : List ℕ) → AreValues d.u values
-    → All (λ (e : ℕ × ℕ). Contains p.candidates e.0) d.u → All (IsCoveredSingle p c d.a values) p.candidates
-    → All (IsCoveredFrom p c d.a values) p.candidates → IsDual p c d
-dual_from_values p c d values are listed singles pairs = record {
+dual_from_values : (p : Problem) (part : ℕ) (c : ℕ × ℕ) (d : Prices) (values : List ℕ) → AreValues d.u values
+    → All (λ (e : ℕ × ℕ). Contains p.candidates e.0) d.u → All (IsCoveredSingle p part c d.a values) p.candidates
+    → All (IsCoveredFrom p part c d.a values) p.candidates → IsDual p part c d
+dual_from_values p part c d values are listed singles pairs = record {
   are_candidates = listed;
-  one_hub = λ k in_k.
-      let h = All-contains (IsCoveredSingle p c d.a values) p.candidates k singles in_k in omega (arith, h, are k);
-  two_hubs = λ k m in_k in_m apart.
+  one_hub = λ k in_k allowed.
+      let h = All-contains (IsCoveredSingle p part c d.a values) p.candidates k singles in_k in omega (arith, h, are k);
+  two_hubs = λ k m in_k in_m apart allowed.
       ⊎_elim (λ same. absurd (apart same)) (λ h. omega (arith, h, are k, are m))
-      (All-contains (IsCovered p c d.a values k) p.candidates m
-      (All-contains (IsCoveredFrom p c d.a values) p.candidates k pairs in_k) in_m);
+      (All-contains (IsCovered p part c d.a values k) p.candidates m
+      (All-contains (IsCoveredFrom p part c d.a values) p.candidates k pairs in_k) in_m);
 }
 
-singles_from_dual : (p : Problem) (c : ℕ × ℕ) (d : Prices) (values : List ℕ) → AreValues d.u values → IsDual p c d
-    → All (IsCoveredSingle p c d.a values) p.candidates
-singles_from_dual p c d values are h =
-    All-from_contains (IsCoveredSingle p c d.a values) p.candidates (λ k in_k. let g = h.one_hub k in_k in omega (arith, g, are k))
+singles_from_dual : (p : Problem) (part : ℕ) (c : ℕ × ℕ) (d : Prices) (values : List ℕ) → p.longest ≡ None → AreValues d.u values → IsDual p part c d
+    → All (IsCoveredSingle p part c d.a values) p.candidates
+singles_from_dual p part c d values any are h =
+    All-from_contains (IsCoveredSingle p part c d.a values) p.candidates (λ k in_k.
+    let g = h.one_hub k in_k (any_allowed p c k k any) in omega (arith, g, are k))
 
-pairs_from_dual : (p : Problem) (c : ℕ × ℕ) (d : Prices) (values : List ℕ) → AreValues d.u values → IsDual p c d
-    → All (IsCoveredFrom p c d.a values) p.candidates
-pairs_from_dual p c d values are h =
-    All-from_contains (IsCoveredFrom p c d.a values) p.candidates (λ k in_k.
-    All-from_contains (IsCovered p c d.a values k) p.candidates (λ m in_m.
-    ⊎_elim (λ same. inl same) (λ apart. let g = h.two_hubs k m in_k in_m apart in inr (omega (arith, g, are k, are m)))
+pairs_from_dual : (p : Problem) (part : ℕ) (c : ℕ × ℕ) (d : Prices) (values : List ℕ) → p.longest ≡ None → AreValues d.u values → IsDual p part c d
+    → All (IsCoveredFrom p part c d.a values) p.candidates
+pairs_from_dual p part c d values any are h =
+    All-from_contains (IsCoveredFrom p part c d.a values) p.candidates (λ k in_k.
+    All-from_contains (IsCovered p part c d.a values k) p.candidates (λ m in_m.
+    ⊎_elim (λ same. inl same)
+    (λ apart. let g = h.two_hubs k m in_k in_m apart (any_allowed p c k m any) in inr (omega (arith, g, are k, are m)))
     (cases_eq k m)))
 
 -- the dual is feasible exactly where all routes and values cover its price
-pub dual_by_values : (p : Problem) (c : ℕ × ℕ) (d : Prices) (values : List ℕ) (covered : Bool) → AreValues d.u values
-    → All (λ (e : ℕ × ℕ). Contains p.candidates e.0) d.u → (IsTrue covered ↔ IsCoveredByAll p c d.a values) → (IsTrue covered ↔ IsDual p c d)
-dual_by_values p c d values covered are listed says = (
-  λ yes. dual_from_values p c d values are listed (says.0 yes).0 (says.0 yes).1,
-  λ dual. says.1 (singles_from_dual p c d values are dual, pairs_from_dual p c d values are dual),
+pub dual_by_values : (p : Problem) (part : ℕ) (c : ℕ × ℕ) (d : Prices) (values : List ℕ) (covered : Bool) → p.longest ≡ None → AreValues d.u values
+    → All (λ (e : ℕ × ℕ). Contains p.candidates e.0) d.u → (IsTrue covered ↔ IsCoveredByAll p part c d.a values) → (IsTrue covered ↔ IsDual p part c d)
+dual_by_values p part c d values covered any are listed says = (
+  λ yes. dual_from_values p part c d values are listed (says.0 yes).0 (says.0 yes).1,
+  λ dual. says.1 (singles_from_dual p part c d values any are dual, pairs_from_dual p part c d values any are dual),
 )

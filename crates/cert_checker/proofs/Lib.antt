@@ -1,9 +1,12 @@
 mod Reductions
 mod Parts
+mod RunPlaces
+mod RunClaims
 mod FirstFailing
 mod DualValues
 mod DualEntries
 mod DualSums
+mod Mixing
 mod TreeWalks
 mod WholeChecks
 mod CutLists

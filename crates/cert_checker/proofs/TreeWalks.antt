@@ -5,7 +5,7 @@ use Rattle.std.proofs.lemmas.List.{append-nil}
 use Rattle.std.proofs.lemmas.List.Elements.{All-nil, All-cons, All-head, All-tail}
 use Rattle.hub_spec.specs.Problem.{Problem}
 use Rattle.hub_spec.specs.Cuts.{Cut}
-use Rattle.hub_spec.specs.Trees.{Branching, open_child, closed_child, Tree, branch, leaf, empty, TreeLine, branch_on, preorder, line_count}
+use Rattle.hub_spec.specs.Trees.{Branching, open_child, closed_child, Tree, branch, leaf, empty, block, count, TreeLine, branch_on, preorder, line_count}
 use Rattle.cert_spec.specs.PartConditions.{tree_claims}
 use Rattle.cert_checker.specs.Walks.{line_claims, pending_after, walk_claims}
 
@@ -29,6 +29,8 @@ walk-tree p cuts target line b pending (branch k opened closed) rest =
     ∙ sym (append_assoc here there after))
 walk-tree p cuts target line b pending (leaf denom weights) rest = refl
 walk-tree p cuts target line b pending empty rest = refl
+walk-tree p cuts target line b pending (block commodity) rest = refl
+walk-tree p cuts target line b pending count rest = refl
 
 -- a whole tree, from its root branch
 pub walk-whole : (p : Problem) (cuts : List Cut) (target line : ℕ) (b : Branching) (t : Tree)

@@ -3,8 +3,8 @@ use Rattle.std.specs.Prelude.{◌≡◌, ℕ, ◌<◌, List, length, codes}
 use Rattle.hub_spec.specs.Problem.{Problem}
 use Rattle.hub_spec.specs.Plans.{NoPlanBelow, IsOptimal}
 use Rattle.hub_spec.specs.Certificates.{Proof, Holds}
-use Rattle.cert_spec.specs.Conditions.{Claim, Kind, Size, BoundOverCost, Hubs, Route, Cost, Dual, Sum, Branch, Empty, CutNumber, Weight, Leaf, AllHold, FailsFirst}
-use Rattle.cert_spec.specs.PartConditions.{hub_claims, claims}
+use Rattle.cert_spec.specs.Conditions.{Claim, Kind, Size, BoundOverCost, Hubs, Number, Route, Cost, Dual, Sum, Branch, Empty, Block, Count, CutNumber, Multiple, Weight, Leaf, AllHold, FailsFirst, conditions}
+use Rattle.cert_spec.specs.PartConditions.{hub_claims}
 use Rattle.cert_checker.specs.declared.kinds.Kind as code
 use Rattle.cert_checker.specs.declared.kinds.Verdict as answer
 use Rattle.cert_checker.specs.declared.failures.Failure.{Failure}
@@ -22,6 +22,7 @@ kind_of code.TheVariants.Sum = Sum
 kind_of code.TheVariants.Branch = Branch
 kind_of code.TheVariants.Empty = Empty
 kind_of code.TheVariants.CutNumber = CutNumber
+kind_of code.TheVariants.Multiple = Multiple
 kind_of code.TheVariants.Weight = Weight
 kind_of code.TheVariants.Leaf = Leaf
 
@@ -30,13 +31,17 @@ abbrev pub kind_name : Kind → List ℕ
 kind_name Size = codes "Size"
 kind_name BoundOverCost = codes "BoundOverCost"
 kind_name Hubs = codes "Hubs"
+kind_name Number = codes "Number"
 kind_name Route = codes "Route"
 kind_name Cost = codes "Cost"
 kind_name Dual = codes "Dual"
 kind_name Sum = codes "Sum"
 kind_name Branch = codes "Branch"
 kind_name Empty = codes "Empty"
+kind_name Block = codes "Block"
+kind_name Count = codes "Count"
 kind_name CutNumber = codes "CutNumber"
+kind_name Multiple = codes "Multiple"
 kind_name Weight = codes "Weight"
 kind_name Leaf = codes "Leaf"
 
@@ -55,9 +60,9 @@ hub_claims_of p k = hub_claims p k.size k.cost k.plan.hubs k.plan.routes
 
 -- the verdict is right, by the conditions in the order in which they are tried
 abbrev pub IsVerdict : Problem → Proof → answer.Verdict → Type 0
-IsVerdict p k answer.TheVariants.Optimal = AllHold (claims p k) × (k.bound ≡ k.cost)
-IsVerdict p k answer.TheVariants.Bounds = AllHold (claims p k) × (k.bound < k.cost)
-IsVerdict p k (answer.TheVariants.No kind line) = FailsFirst (claims p k) (kind_of kind) line
+IsVerdict p k answer.TheVariants.Optimal = AllHold (conditions p k) × (k.bound ≡ k.cost)
+IsVerdict p k answer.TheVariants.Bounds = AllHold (conditions p k) × (k.bound < k.cost)
+IsVerdict p k (answer.TheVariants.No kind line) = FailsFirst (conditions p k) (kind_of kind) line
 
 -- where the verdict is for the certificate, it holds for the instance, and no plan costs less than its bound
 abbrev pub ShowsBound : Problem → Proof → answer.Verdict → Type 0

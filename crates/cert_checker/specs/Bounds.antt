@@ -8,7 +8,7 @@ use Rattle.plan_model.specs.Mixtures.{Mixture}
 
 -- each cut's load of the node is within its limit
 abbrev pub AreLoadsWithin : List Cut → ℕ → Type 0
-AreLoadsWithin cuts k = All (λ (c : Cut). load c k ≤ most_cost) cuts
+AreLoadsWithin cuts k = All (λ (c : Cut). load c k ≤ c.part * most_cost) cuts
 
 -- what the mixed load of a free node exceeds its weighted fixed cost by
 abbrev pub loss : Problem → List Cut → Mixture → ℕ → ℕ

@@ -1,12 +1,11 @@
 -- The conditions on a dual whose values are listed by node, and the sums of a cut.
-use Rattle.std.specs.Prelude.{◌≡◌, ℕ, ◌+◌, ◌*◌, ◌^◌, ◌<◌, ◌≤◌, List, [], length, slice_index, slice_index_or, Option, All, ◌⊎◌}
+use Rattle.std.specs.Prelude.{◌≡◌, ℕ, ◌+◌, ◌*◌, ◌^◌, ◌<◌, ◌≤◌, List, length, slice_index, slice_index_or, Option, All, ◌⊎◌}
 use Rattle.std.specs.Option.{MatchOption}
-use Rattle.hub_spec.specs.Limits.{most_nodes}
-use Rattle.hub_spec.specs.Problem.{Problem, commodities, commodity_at, route_cost}
+use Rattle.hub_spec.specs.Limits.{most_nodes, most_part}
+use Rattle.hub_spec.specs.Problem.{Problem, commodity_at, route_cost}
 use Rattle.hub_spec.specs.Cuts.{Prices, value_at, IsDual, Cut, total, load}
 use Rattle.hub_spec.specs.Ranges.{IsDualInRange}
-use Rattle.cert_spec.specs.Conditions.{Dual, AllHold, FailsFirst}
-use Rattle.cert_spec.specs.PartConditions.{dual_claims}
+use Rattle.cert_checker.specs.Runs.{no_dual}
 
 -- of the duals of a cut
 abbrev pub most_duals : ℕ
@@ -14,28 +13,29 @@ most_duals = most_nodes * most_nodes
 
 -- of what the prices of a cut's duals, or their values of a node, are together
 abbrev pub most_sum : ℕ
-most_sum = most_duals * 10 ^ 30
+most_sum = most_duals * 10 ^ 33
 
 -- each node's value is that of the dual
 abbrev pub AreValues : List (ℕ × ℕ) → List ℕ → Type 0
 AreValues u values = (k : ℕ) → slice_index values k ≡ value_at u k
 
--- the route through one hub and the hub's value are no less than the price
-abbrev pub IsCoveredSingle : Problem → ℕ × ℕ → ℕ → List ℕ → ℕ → Type 0
-IsCoveredSingle p c a values k = a ≤ route_cost p c.0 c.1 k k + slice_index values k
+-- the route through one hub, as often as the part says, and the hub's value are no less than the price
+abbrev pub IsCoveredSingle : Problem → ℕ → ℕ × ℕ → ℕ → List ℕ → ℕ → Type 0
+IsCoveredSingle p part c a values k = a ≤ part * route_cost p c.0 c.1 k k + slice_index values k
 
--- the hubs are one, or the route through both and their values are no less than the price
-abbrev pub IsCovered : Problem → ℕ × ℕ → ℕ → List ℕ → ℕ → ℕ → Type 0
-IsCovered p c a values k m = (k ≡ m) ⊎ (a ≤ route_cost p c.0 c.1 k m + slice_index values k + slice_index values m)
+-- the hubs are one, or the route through both, as often, and their values are no less than the price
+abbrev pub IsCovered : Problem → ℕ → ℕ × ℕ → ℕ → List ℕ → ℕ → ℕ → Type 0
+IsCovered p part c a values k m =
+    (k ≡ m) ⊎ (a ≤ part * route_cost p c.0 c.1 k m + slice_index values k + slice_index values m)
 
 -- the first hub is covered with each candidate as the last
-abbrev pub IsCoveredFrom : Problem → ℕ × ℕ → ℕ → List ℕ → ℕ → Type 0
-IsCoveredFrom p c a values k = All (IsCovered p c a values k) p.candidates
+abbrev pub IsCoveredFrom : Problem → ℕ → ℕ × ℕ → ℕ → List ℕ → ℕ → Type 0
+IsCoveredFrom p part c a values k = All (IsCovered p part c a values k) p.candidates
 
 -- so it is with each candidate, and with each two
-abbrev pub IsCoveredByAll : Problem → ℕ × ℕ → ℕ → List ℕ → Type 0
-IsCoveredByAll p c a values =
-    All (IsCoveredSingle p c a values) p.candidates × All (IsCoveredFrom p c a values) p.candidates
+abbrev pub IsCoveredByAll : Problem → ℕ → ℕ × ℕ → ℕ → List ℕ → Type 0
+IsCoveredByAll p part c a values =
+    All (IsCoveredSingle p part c a values) p.candidates × All (IsCoveredFrom p part c a values) p.candidates
 
 -- the total and the loads are those of the cut
 pub record IsSummed (cut : Cut) (sum : ℕ) (loads : List ℕ) : Type 0 where
@@ -43,21 +43,23 @@ pub record IsSummed (cut : Cut) (sum : ℕ) (loads : List ℕ) : Type 0 where
   pub loads_are : (k : ℕ) → slice_index loads k ≡ load cut k
 
 -- the dual of the commodity of this number is feasible
-abbrev pub IsDualAt : Problem → List Prices → ℕ → Type 0
-IsDualAt p duals t = IsDual p (commodity_at p.size t) (slice_index_or duals t (record { a = 0; u = [] }))
+abbrev pub IsDualAt : Problem → ℕ → List Prices → ℕ → Type 0
+IsDualAt p part duals t = IsDual p part (commodity_at p.size t) (slice_index_or duals t no_dual)
 
--- there is a dual in range for each commodity, and a commodity of this number
-pub record MayTryDual (p : Problem) (duals : List Prices) (t : ℕ) : Type 0 where
+-- there is a dual in range for each commodity, a part in range, and a commodity of this number
+pub record MayTryDual (p : Problem) (part : ℕ) (duals : List Prices) (t : ℕ) : Type 0 where
+  pub part_most : part ≤ most_part
   pub below : t < p.size * p.size
   pub one_for_each : length duals ≡ p.size * p.size
   pub in_range : All (IsDualInRange p.size) duals
 
--- the conditions of the duals from this line on hold, or that of this number is the first to fail
-abbrev pub HoldsOrFails : Problem → List Prices → ℕ → Option ℕ → Type 0
-HoldsOrFails p duals line first =
-    MatchOption first (AllHold (dual_claims p line (commodities p.size) duals))
-    (λ t. FailsFirst (dual_claims p line (commodities p.size) duals) Dual (line + t))
+-- the dual of this number is not feasible, and those before it are
+pub record FailsAt (p : Problem) (part : ℕ) (duals : List Prices) (t : ℕ) : Type 0 where
+  pub within : t < length duals
+  pub before : (s : ℕ) → s < t → IsDualAt p part duals s
+  pub here : IsDualAt p part duals t → ⊥
 
--- so it is wherever they stand
-abbrev pub IsFirstFailing : Problem → List Prices → Option ℕ → Type 0
-IsFirstFailing p duals first = (line : ℕ) → HoldsOrFails p duals line first
+-- it is the first that is not feasible; where there is none, all are
+abbrev pub IsFirstFailing : Problem → ℕ → List Prices → Option ℕ → Type 0
+IsFirstFailing p part duals first =
+    MatchOption first ((s : ℕ) → s < length duals → IsDualAt p part duals s) (FailsAt p part duals)

@@ -1,4 +1,5 @@
 pub mod Answers
+pub mod Runs
 pub mod Duals
 pub mod Bounds
 pub mod Walks

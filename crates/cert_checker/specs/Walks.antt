@@ -2,21 +2,25 @@
 use Rattle.std.specs.Prelude.{◌≡◌, ℕ, ◌+◌, ◌≤◌, List, [], ◌∷◌, ◌++◌, length, reverse, All, Contains}
 use Rattle.hub_spec.specs.Problem.{Problem}
 use Rattle.hub_spec.specs.Cuts.{Cut}
-use Rattle.hub_spec.specs.Trees.{Branching, root, open_child, closed_child, weight_sum, leaf_bound, Closes, TreeLine, branch_on, leaf_of, no_hub, IsClosed}
+use Rattle.hub_spec.specs.Trees.{Branching, root, open_child, closed_child, weight_sum, leaf_bound, Closes, IsMultiple, HasRoom, LacksRoom, TreeLine, branch_on, leaf_of, no_hub, no_route, no_count, IsClosed, IsBlocked}
 use Rattle.plan_model.specs.Mixtures.{Mixture}
 use Rattle.plan_model.specs.Lines.{tree_line_of}
 use Rattle.plan_model.specs.declared.tree_lines.TreeLine as code
-use Rattle.cert_spec.specs.Conditions.{Claim, claim, Branch, CutNumber, Weight, Leaf, Empty}
+use Rattle.cert_spec.specs.Conditions.{Claim, claim, Branch, Count, CutNumber, Multiple, Weight, Leaf, Empty, Block}
 
 -- the conditions of one line of a branch's tree
 abbrev pub line_claims : Problem → List Cut → ℕ → ℕ → Branching → TreeLine → List Claim
 line_claims p cuts target line b (branch_on k) = claim Branch line (Contains b.free k) ∷ []
 line_claims p cuts target line b (leaf_of denom weights) =
-    claim CutNumber line (All (λ (e : ℕ × ℕ). e.0 ≤ length cuts) weights)
+    claim Count line (HasRoom p.wanted b)
+    ∷ claim CutNumber line (All (λ (e : ℕ × ℕ). e.0 ≤ length cuts) weights)
+    ∷ claim Multiple line (All (IsMultiple cuts) weights)
     ∷ claim Weight line (weight_sum weights ≤ denom)
     ∷ claim Leaf line (Closes denom target (leaf_bound p cuts denom weights b))
     ∷ []
 line_claims p cuts target line b no_hub = claim Empty line (IsClosed b) ∷ []
+line_claims p cuts target line b (no_route commodity) = claim Block line (IsBlocked p b commodity) ∷ []
+line_claims p cuts target line b no_count = claim Count line (LacksRoom p.wanted b) ∷ []
 
 -- those of a leaf with this mix
 abbrev pub leaf_claims : Problem → List Cut → ℕ → ℕ → Branching → Mixture → List Claim
@@ -31,6 +35,8 @@ abbrev pub pending_after : Branching → TreeLine → List Branching → List Br
 pending_after b (branch_on k) pending = open_child b k ∷ closed_child b k ∷ pending
 pending_after b (leaf_of denom weights) pending = pending
 pending_after b no_hub pending = pending
+pending_after b (no_route commodity) pending = pending
+pending_after b no_count pending = pending
 
 -- the children of a branch, as they are put on a stack
 abbrev pub children : Branching → ℕ → List Branching

@@ -4,7 +4,7 @@ ghost use Rattle.std.specs.Prelude.{◌≡◌, ℕ, ◌-◌, ◌*◌, ◌^◌, �
 ghost use Rattle.hub_spec.specs.Limits.{most_nodes, most_cost, most_denominator, most_fixed_cost};
 ghost use Rattle.hub_spec.specs.Problem.{fixed_cost, IsProblem};
 ghost use Rattle.hub_spec.specs.Cuts.{total, load, IsCut};
-ghost use Rattle.hub_spec.specs.Trees.{cut_at, mixed_total, mixed_load, leaf_bound, IsMix, IsBranch};
+ghost use Rattle.hub_spec.specs.Trees.{cut_at, share, mixed_total, mixed_load, leaf_bound, IsMix, IsBranch};
 ghost use Rattle.cert_checker.specs.Bounds.{AreLoadsWithin, loss};
 
 use crate::sums::SummedCut;
@@ -40,17 +40,18 @@ fn difference(more: u128, less: u128) -> i128
     more as i128 - less as i128
 }
 
-/// The weighted sum of the cuts' totals.
+/// The sum of the cuts' totals, each as often as its weight has its part.
 fn mixed_total(cuts: &[SummedCut<'_>], mix: &Mix) -> u128
     requires mix { IsMix cuts.now mix.now.denom mix.now.weights }
-    requires totals { All (λ c. total c ≤ most_cost) cuts.now }
+    requires parts { All (λ c. 1 ≤ c.part) cuts.now }
+    requires totals { All (λ c. total c ≤ c.part * most_cost) cuts.now }
     ensures value { result ≡ mixed_total cuts.now mix.now.weights }
     ensures limit { result ≤ most_denominator * most_cost }
 {
     let mut sum = 0;
     for at in 0..mix.count() {
         let (number, weight) = mix.weight(at);
-        sum += weight * total_at(cuts, number);
+        sum += share_at(cuts, number, weight) * total_at(cuts, number);
     }
     sum
 }
@@ -58,16 +59,38 @@ fn mixed_total(cuts: &[SummedCut<'_>], mix: &Mix) -> u128
 fn total_at(cuts: &[SummedCut<'_>], number: u128) -> u128
     requires least { 1 ≤ number }
     requires most { number ≤ length cuts.now }
-    requires totals { All (λ c. total c ≤ most_cost) cuts.now }
+    requires totals { All (λ c. total c ≤ c.part * most_cost) cuts.now }
     ensures value { result ≡ total (cut_at cuts.now number) }
-    ensures limit { result ≤ most_cost }
+    ensures limit { result ≤ (cut_at cuts.now number).part * most_cost }
 {
     cuts[number as usize - 1].total()
 }
 
-/// The weighted sum of the cuts' loads of the node.
+/// How often the weight has the part of the cut of this number.
+fn share_at(cuts: &[SummedCut<'_>], number: u128, weight: u128) -> u128
+    requires least { 1 ≤ number }
+    requires most { number ≤ length cuts.now }
+    requires parts { All (λ c. 1 ≤ c.part) cuts.now }
+    ensures { result ≡ share cuts.now (number, weight) }
+{
+    weight / part_at(cuts, number)
+}
+
+/// The part of the cut of this number.
+pub(crate) fn part_at(cuts: &[SummedCut<'_>], number: u128) -> u128
+    requires least { 1 ≤ number }
+    requires most { number ≤ length cuts.now }
+    requires parts { All (λ c. 1 ≤ c.part) cuts.now }
+    ensures value { result ≡ (cut_at cuts.now number).part }
+    ensures some { 1 ≤ result }
+{
+    cuts[number as usize - 1].part() as u128
+}
+
+/// The sum of the cuts' loads of the node, each as often as its weight has its part.
 fn mixed_load(cuts: &[SummedCut<'_>], mix: &Mix, k: u32) -> u128
     requires mix { IsMix cuts.now mix.now.denom mix.now.weights }
+    requires parts { All (λ c. 1 ≤ c.part) cuts.now }
     requires loads { AreLoadsWithin cuts.now k }
     ensures value { result ≡ mixed_load cuts.now mix.now.weights k }
     ensures limit { result ≤ most_denominator * most_cost }
@@ -75,7 +98,7 @@ fn mixed_load(cuts: &[SummedCut<'_>], mix: &Mix, k: u32) -> u128
     let mut sum = 0;
     for at in 0..mix.count() {
         let (number, weight) = mix.weight(at);
-        sum += weight * load_at(cuts, number, k);
+        sum += share_at(cuts, number, weight) * load_at(cuts, number, k);
     }
     sum
 }
@@ -85,7 +108,7 @@ fn load_at(cuts: &[SummedCut<'_>], number: u128, k: u32) -> u128
     requires most { number ≤ length cuts.now }
     requires loads { AreLoadsWithin cuts.now k }
     ensures value { result ≡ load (cut_at cuts.now number) k }
-    ensures limit { result ≤ most_cost }
+    ensures limit { result ≤ (cut_at cuts.now number).part * most_cost }
 {
     cuts[number as usize - 1].load(k)
 }
@@ -119,6 +142,7 @@ fn weighted_cost(instance: &Instance, denom: u128, k: u32) -> u128
 /// The sum of the mixed loads of these nodes.
 fn mixed_loads(cuts: &[SummedCut<'_>], mix: &Mix, nodes: &[u32]) -> u128
     requires mix { IsMix cuts.now mix.now.denom mix.now.weights }
+    requires parts { All (λ c. 1 ≤ c.part) cuts.now }
     requires few { length nodes.now ≤ most_nodes }
     requires loads { All (AreLoadsWithin cuts.now) nodes.now }
     ensures value { result ≡ sum_by (mixed_load cuts.now mix.now.weights) nodes.now }
@@ -135,6 +159,7 @@ fn mixed_loads(cuts: &[SummedCut<'_>], mix: &Mix, nodes: &[u32]) -> u128
 fn losses(instance: &Instance, cuts: &[SummedCut<'_>], mix: &Mix, nodes: &[u32]) -> u128
     requires problem { IsProblem instance.now }
     requires mix { IsMix cuts.now mix.now.denom mix.now.weights }
+    requires parts { All (λ c. 1 ≤ c.part) cuts.now }
     requires few { length nodes.now ≤ most_nodes }
     requires nodes { All (Contains instance.now.candidates) nodes.now }
     requires loads { All (AreLoadsWithin cuts.now) nodes.now }

@@ -131,8 +131,9 @@ fn check_cuts_of<'a, R: Threads + Sync>(
     ensures are_cuts { IfOk result (λ cuts. All (IsCut instance.now) cuts.items) }
     ensures fails { IfErr result (IsFailure (all_cut_claims instance.now certificate.now)) }
 {
-    let n = instance.size();
-    check_cuts(rt, alloc, instance, first_cut_line(n), certificate.cuts())
+    let version = certificate.version();
+    let first = first_cut_line(instance.size());
+    check_cuts(rt, alloc, instance, version, first, certificate.cuts())
 }
 
 fn check_tree_of(
@@ -148,7 +149,8 @@ fn check_tree_of(
     ensures fails { IfErr result (IsFailure (all_tree_claims instance.now certificate.now)) }
 {
     let lines = certificate.tree();
-    let first = first_tree_line(instance.size(), cuts.len());
+    let version = certificate.version();
+    let first = first_tree_line(version, instance.size(), certificate.cuts());
     let target = unsigned(certificate.bound());
     check_tree(alloc, instance, cuts, target, first, lines)
 }

@@ -1,73 +1,75 @@
 //! The conditions of a cut.
 
-ghost use Rattle.std.specs.Prelude.{◌≡◌, ℕ, ◌+◌, ◌*◌, ◌^◌, ◌<◌, ◌≤◌, ◌↔◌, length, map, IsTrue, IfOk, IfErr, OnOk, All};
-ghost use Rattle.hub_spec.specs.Limits.{most_cost};
-ghost use Rattle.hub_spec.specs.Cuts.{cut_by, load, IsCut, IsWithinSums};
+ghost use Rattle.std.specs.Prelude.{◌≡◌, ℕ, ◌+◌, ◌*◌, ◌^◌, ◌<◌, ◌≤◌, ◌↔◌, length, IsTrue, IfOk, IfErr, OnOk, All};
+ghost use Rattle.hub_spec.specs.Limits.{most_part, most_cost};
+ghost use Rattle.hub_spec.specs.Cuts.{load, IsCut, IsWithinSums};
 ghost use Rattle.hub_spec.specs.Ranges.{IsCutInRange};
-ghost use Rattle.cert_spec.specs.PartConditions.{cut_lines, one_cut_claims, cut_claims};
+ghost use Rattle.cert_spec.specs.PartConditions.{one_cut_claims, cut_claims};
 ghost use Rattle.cert_spec.specs.Conditions.{AllHold};
-ghost use Rattle.cert_format.specs.Parts.{cut_of};
+ghost use Rattle.cert_scan.specs.Versions.{version_number};
 ghost use Rattle.cert_checker.specs.Answers.{IsFailure};
 
-use crate::duals::check_duals;
+use crate::duals::{check_duals, times};
 use crate::failures::Failure;
 use crate::kinds::Kind;
 use crate::lines::{cut_lines, last_dual_line};
 use crate::sums::SummedCut;
+use cert_format::{StatedCut, Version};
 use hub_model::{Instance, MOST_COST};
-use plan_model::Dual;
 use std::alloc::Global;
 use std::thread::Threads;
 
-/// Tries the conditions of the cuts, each given by its duals, the first of which stands at this line, and gives them
+/// Tries the conditions of the cuts, the first of which stands at this line of a text in this version, and gives them
 /// with their sums.
 pub(crate) fn check_cuts<'a, R: Threads + Sync>(
     rt: &R,
     alloc: Global,
     instance: &Instance,
+    version: Version,
     line: u64,
-    cuts: &'a [Vec<Dual>],
+    cuts: &'a [StatedCut],
 ) -> Result<Vec<SummedCut<'a>>, Failure>
-    requires line { line + length cuts.now * cut_lines instance.now.size < 2 ^ 59 }
-    requires cuts { All (IsCutInRange instance.now.size) (map cut_of cuts.now) }
-    ensures same { IfOk result (λ summed. summed.items ≡ map cut_of cuts.now) }
-    ensures holds { OnOk result (AllHold (cut_claims instance.now line (map cut_of cuts.now))) }
+    requires line { line + length cuts.now * (instance.now.size * instance.now.size + 1) < 2 ^ 59 }
+    requires cuts { All (IsCutInRange instance.now.size) cuts.now }
+    ensures same { IfOk result (λ summed. summed.items ≡ cuts.now) }
+    ensures holds { OnOk result (AllHold (cut_claims instance.now (version_number version) line cuts.now)) }
     ensures are_cuts { IfOk result (λ summed. All (IsCut instance.now) summed.items) }
-    ensures fails { IfErr result (IsFailure (cut_claims instance.now line (map cut_of cuts.now))) }
+    ensures fails { IfErr result (IsFailure (cut_claims instance.now (version_number version) line cuts.now)) }
 {
-    let lines = cut_lines(instance.size());
+    let n = instance.size();
     let mut summed = Vec::new(alloc);
     let mut at = line;
-    for duals in cuts {
-        let cut = check_cut(rt, alloc, instance, at, duals.as_slice())?;
+    for stated in cuts {
+        let cut = check_cut(rt, alloc, instance, version, at, stated)?;
         summed.push(cut)?;
-        at += lines;
+        at += cut_lines(version, n, stated);
     }
     Ok(summed)
 }
 
-/// Tries the conditions of the cut of these duals, which stands at this line, and gives the cut with its sums.
+/// Tries the conditions of the cut, which stands at this line, and gives it with its sums.
 fn check_cut<'a, R: Threads + Sync>(
     rt: &R,
     alloc: Global,
     instance: &Instance,
+    version: Version,
     line: u64,
-    duals: &'a [Dual],
+    stated: &'a StatedCut,
 ) -> Result<SummedCut<'a>, Failure>
     requires line { line < 2 ^ 59 }
-    requires cut { IsCutInRange instance.now.size (cut_by duals.now) }
-    ensures cut { IfOk result (λ cut. cut ≡ cut_by duals.now) }
-    ensures holds { OnOk result (AllHold (one_cut_claims instance.now line (cut_by duals.now))) }
+    requires cut { IsCutInRange instance.now.size stated.now }
+    ensures cut { IfOk result (λ cut. cut ≡ stated.now) }
+    ensures holds { OnOk result (AllHold (one_cut_claims instance.now (version_number version) line stated.now)) }
     ensures is_cut { IfOk result (IsCut instance.now) }
-    ensures fails { IfErr result (IsFailure (one_cut_claims instance.now line (cut_by duals.now))) }
+    ensures fails { IfErr result (IsFailure (one_cut_claims instance.now (version_number version) line stated.now)) }
 {
     let n = instance.size();
-    check_duals(rt, instance, line + 1, duals)?;
-    let cut = SummedCut::of(alloc, n, duals)?;
+    check_duals(rt, instance, version, line + 1, stated)?;
+    let cut = SummedCut::of(alloc, n, stated)?;
     if !is_within_sums(instance, &cut) {
         return Err(Failure::Fails {
             kind: Kind::Sum,
-            line: last_dual_line(n, line),
+            line: last_dual_line(version, n, stated, line),
         });
     }
     Ok(cut)
@@ -75,28 +77,30 @@ fn check_cut<'a, R: Threads + Sync>(
 
 /// Tells whether the total of the cut and its loads of the candidates are within their limit.
 fn is_within_sums(instance: &Instance, cut: &SummedCut<'_>) -> bool
+    requires { cut.now.part ≤ most_part }
     ensures { IsTrue result ↔ IsWithinSums instance.now cut.now }
 {
-    if cut.total() > MOST_COST {
+    let limit = times(cut.part(), MOST_COST);
+    if cut.total() > limit {
         return false;
     }
-    are_loads_within_limit(instance, cut)
+    are_loads_within(instance, cut, limit)
 }
 
-fn are_loads_within_limit(instance: &Instance, cut: &SummedCut<'_>) -> bool
-    ensures { IsTrue result ↔ All (λ k. load cut.now k ≤ most_cost) instance.now.candidates }
+fn are_loads_within(instance: &Instance, cut: &SummedCut<'_>, limit: u128) -> bool
+    ensures { IsTrue result ↔ All (λ k. load cut.now k ≤ limit) instance.now.candidates }
 {
     let candidates = instance.candidates();
     for k in candidates {
-        if !is_load_within_limit(cut, *k) {
+        if !is_load_within(cut, *k, limit) {
             return false;
         }
     }
     true
 }
 
-fn is_load_within_limit(cut: &SummedCut<'_>, k: u32) -> bool
-    ensures { IsTrue result ↔ (load cut.now k ≤ most_cost) }
+fn is_load_within(cut: &SummedCut<'_>, k: u32, limit: u128) -> bool
+    ensures { IsTrue result ↔ (load cut.now k ≤ limit) }
 {
-    cut.load(k) <= MOST_COST
+    cut.load(k) <= limit
 }

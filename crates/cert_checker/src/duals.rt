@@ -1,17 +1,23 @@
 //! The conditions of the duals of a cut.
 
-ghost use Rattle.std.specs.Prelude.{◌≡◌, ℕ, ◌+◌, ◌*◌, ◌^◌, ◌<◌, ◌≤◌, ◌↔◌, [], length, slice_index_or, false, IsTrue, IfErr, OnOk, All, Contains};
+ghost use Rattle.std.specs.Prelude.{◌≡◌, ℕ, ◌+◌, ◌*◌, ◌^◌, ◌<◌, ◌≤◌, ◌↔◌, [], length, false, IsTrue, IfErr, OnOk, All, Contains};
+ghost use Rattle.std.specs.List.{AllZip};
+ghost use Rattle.hub_spec.specs.Limits.{most_part, most_cost};
 ghost use Rattle.hub_spec.specs.Problem.{commodities};
 ghost use Rattle.hub_spec.specs.Cuts.{IsDual};
+ghost use Rattle.hub_spec.specs.Ranges.{IsAmount, IsDualInRange, IsCutInRange};
+ghost use Rattle.cert_spec.specs.Text.{dual_runs};
 ghost use Rattle.cert_spec.specs.Conditions.{AllHold};
 ghost use Rattle.cert_spec.specs.PartConditions.{dual_claims};
-ghost use Rattle.hub_spec.specs.Ranges.{IsAmount, IsDualInRange};
+ghost use Rattle.cert_scan.specs.Versions.{version_number};
 ghost use Rattle.cert_checker.specs.Answers.{IsFailure};
 ghost use Rattle.cert_checker.specs.Duals.{AreValues, IsCovered, IsCoveredSingle, IsCoveredFrom, IsCoveredByAll, IsDualAt, MayTryDual, IsFirstFailing};
 
 use crate::failures::Failure;
 use crate::kinds::Kind;
 use crate::nodes::is_among;
+use crate::runs::run_place;
+use cert_format::{StatedCut, Version};
 use hub_model::{Instance, MOST_NODES};
 use plan_model::Dual;
 use rayon::prelude::*;
@@ -23,33 +29,42 @@ const DUALS_OF_A_THREAD: usize = 512;
 /// Room for a value of each node.
 const ROOM: usize = MOST_NODES as usize;
 
-/// Tries the duals of a cut, one for each commodity; the first dual stands at this line.
+/// Tries the duals of a cut, whose lines are those of their runs in this version; the first of them stands at this line.
 pub(crate) fn check_duals<R: Threads + Sync>(
     rt: &R,
     instance: &Instance,
+    version: Version,
     line: u64,
-    duals: &[Dual],
+    cut: &StatedCut,
 ) -> Result<(), Failure>
     requires line { line < 2 ^ 60 }
-    requires one_for_each { length duals.now ≡ instance.now.size * instance.now.size }
-    requires duals { All (IsDualInRange instance.now.size) duals.now }
-    ensures holds { OnOk result (AllHold (dual_claims instance.now line (commodities instance.now.size) duals.now)) }
-    ensures fails { IfErr result (IsFailure (dual_claims instance.now line (commodities instance.now.size) duals.now)) }
+    requires cut { IsCutInRange instance.now.size cut.now }
+    ensures holds { OnOk result (AllHold (dual_claims instance.now cut.now.part line 0 (dual_runs (version_number version) instance.now.size cut.now.duals))) }
+    ensures are_duals { OnOk result (AllZip (IsDual instance.now cut.now.part) (commodities instance.now.size) cut.now.duals) }
+    ensures fails { IfErr result (IsFailure (dual_claims instance.now cut.now.part line 0 (dual_runs (version_number version) instance.now.size cut.now.duals))) }
 {
-    match first_failing(rt, instance, duals) {
+    let n = instance.size();
+    let duals = cut.duals();
+    match first_failing(rt, instance, cut.part(), duals) {
         None => Ok(()),
         Some(t) => Err(Failure::Fails {
             kind: Kind::Dual,
-            line: line + t as u64,
+            line: line + run_place(version, n, duals, t),
         }),
     }
 }
 
 /// The number of the first commodity whose dual is not feasible. The duals are tried side by side, also those behind it.
-fn first_failing<R: Threads + Sync>(rt: &R, instance: &Instance, duals: &[Dual]) -> Option<u32>
+fn first_failing<R: Threads + Sync>(
+    rt: &R,
+    instance: &Instance,
+    part: u32,
+    duals: &[Dual],
+) -> Option<u32>
+    requires part { part ≤ most_part }
     requires one_for_each { length duals.now ≡ instance.now.size * instance.now.size }
     requires duals { All (IsDualInRange instance.now.size) duals.now }
-    ensures { IsFirstFailing instance.now duals.now result }
+    ensures { IsFirstFailing instance.now part duals.now result }
 {
     let n = instance.size();
     (0..n * n)
@@ -58,27 +73,28 @@ fn first_failing<R: Threads + Sync>(rt: &R, instance: &Instance, duals: &[Dual])
         .find_first(
             rt,
             |t: &u32| -> bool
-                requires { MayTryDual instance.now duals.now t.now }
-                ensures { (result ≡ false) ↔ IsDualAt instance.entry.now duals.entry.now t.entry.now }
-            { !is_dual_at(instance, duals, *t) },
+                requires { MayTryDual instance.now part duals.now t.now }
+                ensures { (result ≡ false) ↔ IsDualAt instance.entry.now part duals.entry.now t.entry.now }
+            { !is_dual_at(instance, part, duals, *t) },
         )
 }
 
 /// Tells whether the dual of the commodity of this number is feasible.
-fn is_dual_at(instance: &Instance, duals: &[Dual], t: u32) -> bool
-    requires { MayTryDual instance.now duals.now t }
-    ensures { IsTrue result ↔ IsDualAt instance.now duals.now t }
+fn is_dual_at(instance: &Instance, part: u32, duals: &[Dual], t: u32) -> bool
+    requires { MayTryDual instance.now part duals.now t }
+    ensures { IsTrue result ↔ IsDualAt instance.now part duals.now t }
 {
     let n = instance.size();
-    is_dual(instance, t / n, t % n, &duals[t as usize])
+    is_dual(instance, part, (t / n, t % n), &duals[t as usize])
 }
 
-/// Tells whether this is a feasible dual of the commodity from `i` to `j`.
-fn is_dual(instance: &Instance, i: u32, j: u32, dual: &Dual) -> bool
-    requires from { i < instance.now.size }
-    requires to { j < instance.now.size }
+/// Tells whether this is a feasible dual of the commodity with this part.
+fn is_dual(instance: &Instance, part: u32, commodity: (u32, u32), dual: &Dual) -> bool
+    requires part { part ≤ most_part }
+    requires from { commodity.0 < instance.now.size }
+    requires to { commodity.1 < instance.now.size }
     requires dual { IsDualInRange instance.now.size dual.now }
-    ensures { IsTrue result ↔ IsDual instance.now (i, j) dual.now }
+    ensures { IsTrue result ↔ IsDual instance.now part commodity dual.now }
 {
     if !lists_candidates(instance, dual) {
         return false;
@@ -86,19 +102,27 @@ fn is_dual(instance: &Instance, i: u32, j: u32, dual: &Dual) -> bool
     let mut room = [0; ROOM];
     let values = &mut room[..instance.size() as usize];
     spread(dual, values);
-    is_covered_by_all(instance, i, j, dual.price(), values)
+    is_covered_by_all(instance, part, commodity, dual.price(), values)
 }
 
-/// Tells whether the price is covered by the routes and values of each candidate and of each two.
-fn is_covered_by_all(instance: &Instance, i: u32, j: u32, a: u128, values: &[u128]) -> bool
-    requires from { i < instance.now.size }
-    requires to { j < instance.now.size }
+/// Tells whether the price is covered by the routes, as often as the part says, and the values of each candidate and of
+/// each two.
+fn is_covered_by_all(
+    instance: &Instance,
+    part: u32,
+    commodity: (u32, u32),
+    a: u128,
+    values: &[u128],
+) -> bool
+    requires part { part ≤ most_part }
+    requires from { commodity.0 < instance.now.size }
+    requires to { commodity.1 < instance.now.size }
     requires long { length values.now ≡ instance.now.size }
     requires short { All IsAmount values.now }
-    ensures { IsTrue result ↔ IsCoveredByAll instance.now (i, j) a values.now }
+    ensures { IsTrue result ↔ IsCoveredByAll instance.now part commodity a values.now }
 {
-    is_covered_by_singles(instance, i, j, a, values)
-        && is_covered_by_pairs(instance, i, j, a, values)
+    is_covered_by_singles(instance, part, commodity, a, values)
+        && is_covered_by_pairs(instance, part, commodity, a, values)
 }
 
 fn lists_candidates(instance: &Instance, dual: &Dual) -> bool
@@ -118,43 +142,66 @@ fn is_candidate(instance: &Instance, k: u32) -> bool
     is_among(instance.candidates(), k)
 }
 
-fn is_covered_by_singles(instance: &Instance, i: u32, j: u32, a: u128, values: &[u128]) -> bool
-    requires from { i < instance.now.size }
-    requires to { j < instance.now.size }
+fn is_covered_by_singles(
+    instance: &Instance,
+    part: u32,
+    commodity: (u32, u32),
+    a: u128,
+    values: &[u128],
+) -> bool
+    requires part { part ≤ most_part }
+    requires from { commodity.0 < instance.now.size }
+    requires to { commodity.1 < instance.now.size }
     requires long { length values.now ≡ instance.now.size }
     requires short { All IsAmount values.now }
-    ensures { IsTrue result ↔ All (IsCoveredSingle instance.now (i, j) a values.now) instance.now.candidates }
+    ensures { IsTrue result ↔ All (IsCoveredSingle instance.now part commodity a values.now) instance.now.candidates }
 {
     let candidates = instance.candidates();
     for k in candidates {
-        if !is_covered_by(instance, i, j, a, values, *k) {
+        if !is_covered_by(instance, part, commodity, a, values, *k) {
             return false;
         }
     }
     true
 }
 
-fn is_covered_by(instance: &Instance, i: u32, j: u32, a: u128, values: &[u128], k: u32) -> bool
-    requires from { i < instance.now.size }
-    requires to { j < instance.now.size }
+fn is_covered_by(
+    instance: &Instance,
+    part: u32,
+    commodity: (u32, u32),
+    a: u128,
+    values: &[u128],
+    k: u32,
+) -> bool
+    requires part { part ≤ most_part }
+    requires from { commodity.0 < instance.now.size }
+    requires to { commodity.1 < instance.now.size }
     requires long { length values.now ≡ instance.now.size }
     requires short { All IsAmount values.now }
     requires hub { k < instance.now.size }
-    ensures { IsTrue result ↔ IsCoveredSingle instance.now (i, j) a values.now k }
+    ensures { IsTrue result ↔ IsCoveredSingle instance.now part commodity a values.now k }
 {
-    a <= instance.cost_of_route(i, j, k, k) + values[k as usize]
+    let cost = instance.cost_of_route(commodity.0, commodity.1, k, k);
+    a <= times(part, cost) + values[k as usize]
 }
 
-fn is_covered_by_pairs(instance: &Instance, i: u32, j: u32, a: u128, values: &[u128]) -> bool
-    requires from { i < instance.now.size }
-    requires to { j < instance.now.size }
+fn is_covered_by_pairs(
+    instance: &Instance,
+    part: u32,
+    commodity: (u32, u32),
+    a: u128,
+    values: &[u128],
+) -> bool
+    requires part { part ≤ most_part }
+    requires from { commodity.0 < instance.now.size }
+    requires to { commodity.1 < instance.now.size }
     requires long { length values.now ≡ instance.now.size }
     requires short { All IsAmount values.now }
-    ensures { IsTrue result ↔ All (IsCoveredFrom instance.now (i, j) a values.now) instance.now.candidates }
+    ensures { IsTrue result ↔ All (IsCoveredFrom instance.now part commodity a values.now) instance.now.candidates }
 {
     let candidates = instance.candidates();
     for k in candidates {
-        if !is_covered_from(instance, i, j, a, values, *k) {
+        if !is_covered_from(instance, part, commodity, a, values, *k) {
             return false;
         }
     }
@@ -163,39 +210,68 @@ fn is_covered_by_pairs(instance: &Instance, i: u32, j: u32, a: u128, values: &[u
 
 /// Tells whether the first hub `k` is covered with each last hub. Where collection and its value alone cover the price,
 /// it is, and no last hub is visited.
-fn is_covered_from(instance: &Instance, i: u32, j: u32, a: u128, values: &[u128], k: u32) -> bool
-    requires from { i < instance.now.size }
-    requires to { j < instance.now.size }
+fn is_covered_from(
+    instance: &Instance,
+    part: u32,
+    commodity: (u32, u32),
+    a: u128,
+    values: &[u128],
+    k: u32,
+) -> bool
+    requires part { part ≤ most_part }
+    requires from { commodity.0 < instance.now.size }
+    requires to { commodity.1 < instance.now.size }
     requires long { length values.now ≡ instance.now.size }
     requires short { All IsAmount values.now }
     requires hub { k < instance.now.size }
-    ensures { IsTrue result ↔ IsCoveredFrom instance.now (i, j) a values.now k }
+    ensures { IsTrue result ↔ IsCoveredFrom instance.now part commodity a values.now k }
 {
-    if a <= instance.collection_cost(i, j, k) + values[k as usize] {
+    let collection = instance.collection_cost(commodity.0, commodity.1, k);
+    if a <= times(part, collection) + values[k as usize] {
         return true;
     }
     let candidates = instance.candidates();
     for m in candidates {
-        if !is_covered(instance, i, j, a, values, k, *m) {
+        if !is_covered(instance, part, commodity, a, values, k, *m) {
             return false;
         }
     }
     true
 }
 
-fn is_covered(instance: &Instance, i: u32, j: u32, a: u128, values: &[u128], k: u32, m: u32) -> bool
-    requires from { i < instance.now.size }
-    requires to { j < instance.now.size }
+fn is_covered(
+    instance: &Instance,
+    part: u32,
+    commodity: (u32, u32),
+    a: u128,
+    values: &[u128],
+    k: u32,
+    m: u32,
+) -> bool
+    requires part { part ≤ most_part }
+    requires from { commodity.0 < instance.now.size }
+    requires to { commodity.1 < instance.now.size }
     requires long { length values.now ≡ instance.now.size }
     requires short { All IsAmount values.now }
     requires first { k < instance.now.size }
     requires last { m < instance.now.size }
-    ensures { IsTrue result ↔ IsCovered instance.now (i, j) a values.now k m }
+    ensures { IsTrue result ↔ IsCovered instance.now part commodity a values.now k m }
 {
     if k == m {
         return true;
     }
-    a <= instance.cost_of_route(i, j, k, m) + values[k as usize] + values[m as usize]
+    let cost = instance.cost_of_route(commodity.0, commodity.1, k, m);
+    a <= times(part, cost) + values[k as usize] + values[m as usize]
+}
+
+/// The cost as often as the part says.
+pub(crate) fn times(part: u32, cost: u128) -> u128
+    requires part { part ≤ most_part }
+    requires cost { cost ≤ most_cost }
+    ensures value { result ≡ part * cost }
+    ensures limit { result ≤ most_part * most_cost }
+{
+    part as u128 * cost
 }
 
 /// Puts the values that the dual lists at their nodes.

@@ -16,6 +16,7 @@ pub enum Kind {
     Branch,
     Empty,
     CutNumber,
+    Multiple,
     Weight,
     Leaf,
 }
@@ -36,6 +37,7 @@ impl Kind {
             Kind::Branch => "Branch",
             Kind::Empty => "Empty",
             Kind::CutNumber => "CutNumber",
+            Kind::Multiple => "Multiple",
             Kind::Weight => "Weight",
             Kind::Leaf => "Leaf",
         }

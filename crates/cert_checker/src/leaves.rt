@@ -4,13 +4,13 @@ ghost use Rattle.std.specs.Prelude.{◌≡◌, ℕ, ◌*◌, ◌≤◌, ◌↔�
 ghost use Rattle.hub_spec.specs.Limits.{most_denominator};
 ghost use Rattle.hub_spec.specs.Problem.{IsProblem};
 ghost use Rattle.hub_spec.specs.Cuts.{IsCut};
-ghost use Rattle.hub_spec.specs.Trees.{weight_sum, Closes, leaf_of, IsBranch};
+ghost use Rattle.hub_spec.specs.Trees.{weight_sum, Closes, leaf_of, IsBranch, IsMultiple};
 ghost use Rattle.hub_spec.specs.Ranges.{IsShort, IsLineInRange};
 ghost use Rattle.cert_spec.specs.Conditions.{AllHold};
 ghost use Rattle.cert_checker.specs.Answers.{IsFailure};
 ghost use Rattle.cert_checker.specs.Walks.{leaf_claims};
 
-use crate::bounds::leaf_bound;
+use crate::bounds::{leaf_bound, part_at};
 use crate::failures::Failure;
 use crate::kinds::Kind;
 use crate::sums::SummedCut;
@@ -40,6 +40,12 @@ pub(crate) fn check_leaf(
             line,
         });
     }
+    if !are_multiples(cuts, mix) {
+        return Err(Failure::Fails {
+            kind: Kind::Multiple,
+            line,
+        });
+    }
     if !is_weight_within(mix) {
         return Err(Failure::Fails {
             kind: Kind::Weight,
@@ -65,6 +71,30 @@ fn are_within_cuts(cuts: &[SummedCut<'_>], mix: &Mix) -> bool
         }
     }
     true
+}
+
+/// Tells whether each weight is a multiple of its cut's part.
+fn are_multiples(cuts: &[SummedCut<'_>], mix: &Mix) -> bool
+    requires parts { All (λ c. 1 ≤ c.part) cuts.now }
+    requires numbers { All (λ e. (1 ≤ e.0) × (e.0 ≤ length cuts.now)) mix.now.weights }
+    ensures { IsTrue result ↔ All (IsMultiple cuts.now) mix.now.weights }
+{
+    for at in 0..mix.count() {
+        let (number, weight) = mix.weight(at);
+        if !is_multiple(cuts, number, weight) {
+            return false;
+        }
+    }
+    true
+}
+
+fn is_multiple(cuts: &[SummedCut<'_>], number: u128, weight: u128) -> bool
+    requires parts { All (λ c. 1 ≤ c.part) cuts.now }
+    requires least { 1 ≤ number }
+    requires most { number ≤ length cuts.now }
+    ensures { IsTrue result ↔ IsMultiple cuts.now (number, weight) }
+{
+    weight % part_at(cuts, number) == 0
 }
 
 /// Tells whether the sum of the weights is at most the denominator. It stops once the sum is above it.

@@ -16,6 +16,7 @@ mod plans;
 // The cuts.
 mod cuts;
 mod duals;
+mod runs;
 mod sums;
 
 // The tree.

@@ -1,8 +1,12 @@
 //! The lines of a certificate's text at which conditions are tried, counted from 1.
 
-ghost use Rattle.std.specs.Prelude.{◌≡◌, ◌*◌, ◌^◌, ◌<◌, ◌≤◌};
+ghost use Rattle.std.specs.Prelude.{◌≡◌, ◌+◌, ◌*◌, ◌^◌, ◌<◌, ◌≤◌, length, All};
 ghost use Rattle.hub_spec.specs.Limits.{most_nodes, most_cuts};
 ghost use Rattle.cert_spec.specs.PartConditions.{last_route_line, first_cut_line, cut_lines, last_dual_line, first_tree_line};
+ghost use Rattle.cert_scan.specs.Versions.{version_number};
+
+use crate::runs::run_count;
+use cert_format::{StatedCut, Version};
 
 /// The numbers of nodes and of candidates.
 pub(crate) const SIZE_LINE: u64 = 2;
@@ -32,30 +36,42 @@ pub(crate) fn first_cut_line(n: u32) -> u64
     7 + pairs(n)
 }
 
-/// How many lines a cut takes.
-pub(crate) fn cut_lines(n: u32) -> u64
-    requires { n ≤ most_nodes }
-    ensures { result ≡ cut_lines n }
+/// How many lines the cut takes in this version.
+pub(crate) fn cut_lines(version: Version, n: u32, cut: &StatedCut) -> u64
+    requires some { 1 ≤ n }
+    requires few { n ≤ most_nodes }
+    requires one_for_each { length cut.now.duals ≡ n * n }
+    ensures value { result ≡ cut_lines (version_number version) n cut.now }
+    ensures limit { result ≤ n * n + 1 }
 {
-    pairs(n) + 1
+    run_count(version, n, cut.duals()) + 1
 }
 
 /// The last dual of the cut that stands at this line.
-pub(crate) fn last_dual_line(n: u32, line: u64) -> u64
-    requires nodes { n ≤ most_nodes }
+pub(crate) fn last_dual_line(version: Version, n: u32, cut: &StatedCut, line: u64) -> u64
+    requires some { 1 ≤ n }
+    requires few { n ≤ most_nodes }
+    requires one_for_each { length cut.now.duals ≡ n * n }
     requires line { line < 2 ^ 59 }
-    ensures { result ≡ last_dual_line n line }
+    ensures { result ≡ last_dual_line (version_number version) n cut.now line }
 {
-    line + pairs(n)
+    line + run_count(version, n, cut.duals())
 }
 
-/// The first line of the tree after so many cuts.
-pub(crate) fn first_tree_line(n: u32, cuts: usize) -> u64
-    requires nodes { n ≤ most_nodes }
-    requires cuts { cuts ≤ most_cuts }
-    ensures { result ≡ first_tree_line n cuts }
+/// The first line of the tree after these cuts.
+pub(crate) fn first_tree_line(version: Version, n: u32, cuts: &[StatedCut]) -> u64
+    requires some { 1 ≤ n }
+    requires few { n ≤ most_nodes }
+    requires count { length cuts.now ≤ most_cuts }
+    requires one_for_each { All (λ c. length c.duals ≡ n * n) cuts.now }
+    ensures value { result ≡ first_tree_line (version_number version) n cuts.now }
+    ensures limit { result < 2 ^ 59 }
 {
-    8 + pairs(n) + cuts as u64 * cut_lines(n)
+    let mut line = 8 + pairs(n);
+    for cut in cuts {
+        line += cut_lines(version, n, cut);
+    }
+    line
 }
 
 // The number of pairs of nodes.

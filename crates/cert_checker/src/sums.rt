@@ -1,47 +1,59 @@
 //! Cuts with their sums.
 
 ghost use Rattle.std.specs.Prelude.{◌≡◌, ℕ, ◌+◌, ◌≤◌, length, slice_index, sum_by, IfOk, All};
-ghost use Rattle.hub_spec.specs.Cuts.{cut_by, value_at, total, load};
+ghost use Rattle.hub_spec.specs.Cuts.{value_at, total, load};
 ghost use Rattle.hub_spec.specs.Ranges.{IsAmount, IsDualInRange};
 ghost use Rattle.cert_checker.specs.Duals.{most_duals, most_sum};
 
+use cert_format::StatedCut;
 use plan_model::Dual;
 use std::alloc::{AllocError, Global};
 use std::marker::Model;
 
-/// A cut by the duals of its commodities, with the sum of their prices and, by node, the sums of their values.
+/// A cut as it is stated, with the sum of its duals' prices and, by node, the sums of their values.
 #[derive(Drop)]
 pub(crate) struct SummedCut<'a> {
-    duals: &'a [Dual],
+    stated: &'a StatedCut,
     total: u128,
     loads: Vec<u128>,
 }
 
 impl<'a> Model for SummedCut<'a> {
-    ghost use Rattle.hub_spec.specs.Cuts.{Cut, cut_by};
+    ghost use Rattle.hub_spec.specs.Cuts.{Cut};
     ghost use Rattle.cert_checker.specs.Duals.{IsSummed};
 
     ghost Value = { Cut };
 
-    ghost view = { λ c. cut_by c.duals.now };
+    ghost view = { λ c. c.stated.now };
 
-    ghost invariant = { λ c. IsSummed (cut_by c.duals.now) c.total c.loads.items };
+    ghost invariant = { λ c. IsSummed c.stated.now c.total c.loads.items };
 }
 
 impl<'a> SummedCut<'a> {
-    /// The cut of these duals of an instance of `n` nodes.
-    pub(crate) fn of(alloc: Global, n: u32, duals: &'a [Dual]) -> Result<SummedCut<'a>, AllocError>
-        requires few { length duals.now ≤ most_duals }
-        requires duals { All (IsDualInRange n) duals.now }
-        ensures { IfOk result (λ cut. cut ≡ cut_by duals.now) }
+    /// This cut of an instance of `n` nodes.
+    pub(crate) fn of(
+        alloc: Global,
+        n: u32,
+        stated: &'a StatedCut,
+    ) -> Result<SummedCut<'a>, AllocError>
+        requires few { length stated.now.duals ≤ most_duals }
+        requires duals { All (IsDualInRange n) stated.now.duals }
+        ensures { IfOk result (λ cut. cut ≡ stated.now) }
     {
-        let total = total_of(duals);
-        let loads = loads_of(alloc, n, duals)?;
+        let total = total_of(stated.duals());
+        let loads = loads_of(alloc, n, stated.duals())?;
         Ok(SummedCut {
-            duals,
+            stated,
             total,
             loads,
         })
+    }
+
+    /// The part.
+    pub(crate) fn part(&self) -> u32
+        ensures { result ≡ self.now.part }
+    {
+        self.stated.part()
     }
 
     /// The sum of the prices.
@@ -78,7 +90,7 @@ fn total_of(duals: &[Dual]) -> u128
 fn loads_of(alloc: Global, n: u32, duals: &[Dual]) -> Result<Vec<u128>, AllocError>
     requires few { length duals.now ≤ most_duals }
     requires duals { All (IsDualInRange n) duals.now }
-    ensures { IfOk result (λ loads. (k : ℕ) → slice_index loads.items k ≡ load (cut_by duals.now) k) }
+    ensures { IfOk result (λ loads. (k : ℕ) → slice_index loads.items k ≡ sum_by (λ d. value_at d.u k) duals.now) }
 {
     let mut loads = vec![in alloc; 0; n as usize]?;
     for dual in duals {

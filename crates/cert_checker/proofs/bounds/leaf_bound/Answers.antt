@@ -64,4 +64,4 @@ returns c =
     let less = ap₂ (λ x y. x + y) loads losses in
     let fits : FitsSigned w128 c.difference.result = search rules in
     to_z-of_z w128 c.difference.result fits ∙ c.difference.ensures ∙ ap₂ (λ x y. pos x -ℤ pos y) more less
-    ∙ leaf_bound_is p cuts denom weights b
+    ∙ leaf_bound_is p cuts denom weights b c.requires.problem.any_number

@@ -4,4 +4,4 @@ use Rattle.hub_spec.proofs.Mixes.{IsMixed}
 use Rattle.cert_checker.proofs.bounds.mixed_load.Given as goal
 
 abbrev pub invariant-loop-at : goal.invariant-loop-at
-invariant-loop-at l = IsMixed (λ c. load (cut_at l.cuts c) l.k) l.mix.weights l.at l.sum
+invariant-loop-at l = IsMixed l.cuts (λ c. load (cut_at l.cuts c) l.k) l.mix.weights l.at l.sum

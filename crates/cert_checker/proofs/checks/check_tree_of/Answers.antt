@@ -1,42 +1,33 @@
-use Rattle.std.proofs.Common.{◌≡◌, ℕ, ◌≤◌, List, [], ◌∷◌, length, map, All, ap, sym, subst, ◌∙◌, OnOk, IfErr, arith}
-use Rattle.std.proofs.Math.Nat.{mul-le-mul}
+use Rattle.std.proofs.Common.{◌≡◌, ℕ, List, [], ◌∷◌, length, map, All, ap, sym, subst, ◌∙◌, OnOk, IfErr, arith}
 use Rattle.std.proofs.lemmas.Int.{ints}
 use Rattle.std.proofs.lemmas.List.{length-map}
-use Rattle.hub_spec.specs.Limits.{most_cuts}
 use Rattle.hub_spec.specs.Cuts.{Cut}
 use Rattle.hub_spec.specs.Ranges.{IsLineInRange}
 use Rattle.hub_spec.specs.Trees.{root, TreeLine, preorder}
 use Rattle.hub_spec.proofs.Preorders.{length-preorder}
 use Rattle.plan_model.specs.Lines.{tree_line_of}
-use Rattle.cert_spec.specs.PartConditions.{first_tree_line, cut_lines, all_tree_claims}
+use Rattle.cert_spec.specs.PartConditions.{first_tree_line, all_tree_claims}
 use Rattle.cert_spec.specs.Conditions.{Claim, AllHold}
 use Rattle.cert_checker.specs.Answers.{IsFailure}
 use Rattle.cert_checker.specs.Walks.{walk_claims}
+use Rattle.cert_format.proofs.Putting.{whole_cuts}
 use Rattle.cert_checker.proofs.TreeWalks.{walk-whole, All-from_map}
 use Rattle.cert_checker.proofs.checks.check_tree_of.Goals as goal
 use Rattle.cert_checker.proofs.checks.check_tree_of.Goals.{After-check_tree, After-first_tree_line-first}
 
-pub first_tree_line-first-requires-clause-cuts : goal.first_tree_line-first-requires-clause-cuts
-first_tree_line-first-requires-clause-cuts c =
-    let long = ap length c.requires.same in omega (arith, long, c.tree-lines.ensures.in_range.cut_count)
+pub first_tree_line-first-requires-clause-one_for_each : goal.first_tree_line-first-requires-clause-one_for_each
+first_tree_line-first-requires-clause-one_for_each c =
+    whole_cuts c.size.result c.args.certificate.now c.cuts.result.now c.cuts.ensures.in_range c.cuts.ensures.value (c.size.ensures.value ∙ sym c.requires.size)
 
--- where the tree begins
-begins : (c : After-first_tree_line-first) → c.first_tree_line-first.result ≡ first_tree_line c.args.instance.now.size (length c.args.cuts.now)
-begins c =
-    c.first_tree_line-first.ensures ∙ ap (λ n. first_tree_line n (length c.args.cuts.now)) c.size.ensures.value
+pub first_tree_line-first-requires-clause-count : goal.first_tree_line-first-requires-clause-count
+first_tree_line-first-requires-clause-count c =
+    let long = ap length c.cuts.ensures.value in omega (arith, long, c.cuts.ensures.in_range.cut_count)
 
 pub check_tree-requires-clause-room : goal.check_tree-requires-clause-room
 check_tree-requires-clause-room c =
     let k = c.args.certificate.now in
-    let p = c.args.instance.now in
-    let few = mul-le-mul c.size.ensures.problem.size_limit c.size.ensures.problem.size_limit in
-    let most : cut_lines p.size ≤ 40001 = omega (arith, few) in
-    let long = ap length c.requires.same in
-    let count : length c.args.cuts.now ≤ most_cuts = omega (arith, long, c.tree-lines.ensures.in_range.cut_count) in
-    let lines = mul-le-mul count most in
     let tree = sym (length-map c.tree-lines.result.now tree_line_of) ∙ ap length c.tree-lines.ensures.value ∙ length-preorder k.tree in
-    let first = begins (goal.at.check_tree-requires-clause-room c).After-first_tree_line-first in
-    omega (arith, lines, few, first, tree, c.tree-lines.ensures.in_range.line_count)
+    omega (arith, c.first_tree_line-first.ensures.limit, tree, c.tree-lines.ensures.in_range.line_count)
 
 pub check_tree-requires-clause-lines : goal.check_tree-requires-clause-lines
 check_tree-requires-clause-lines c =
@@ -53,15 +44,15 @@ walked c =
     let p = c.args.instance.now in
     let k = c.args.certificate.now in
     let at = c.first_tree_line-first.result in
-    let first : at ≡ first_tree_line k.size (length k.cuts) =
-    c.first_tree_line-first.ensures ∙ ap (λ n. first_tree_line n (length c.args.cuts.now)) (c.size.ensures.value ∙ sym c.requires.size)
-    ∙ ap (λ (cs : List Cut). first_tree_line k.size (length cs)) c.requires.same in
+    let first : at ≡ first_tree_line k.version k.size k.cuts =
+    c.first_tree_line-first.ensures.value
+    ∙ (λ i. first_tree_line (c.version-version.ensures i) ((c.size.ensures.value ∙ sym c.requires.size) i) (c.cuts.ensures.value i)) in
     let target : c.unsigned-target.result ≡ k.bound = omega (arith, ints, c.unsigned-target.ensures.same, c.bound.ensures) in
     ap (λ (cs : List Cut). walk_claims p cs c.unsigned-target.result at (root p ∷ []) (map tree_line_of c.tree-lines.result.now)) c.requires.same
     ∙ ap (λ (ls : List TreeLine). walk_claims p k.cuts c.unsigned-target.result at (root p ∷ []) ls) c.tree-lines.ensures.value
     ∙ ap (λ t. walk_claims p k.cuts t at (root p ∷ []) (preorder k.tree)) target
     ∙ ap (λ m. walk_claims p k.cuts k.bound m (root p ∷ []) (preorder k.tree)) first
-    ∙ walk-whole p k.cuts k.bound (first_tree_line k.size (length k.cuts)) (root p) k.tree
+    ∙ walk-whole p k.cuts k.bound (first_tree_line k.version k.size k.cuts) (root p) k.tree
 
 pub returns-clause-holds : goal.returns-clause-holds
 returns-clause-holds c =

@@ -1,6 +1,6 @@
 use Rattle.std.proofs.Common.{◌≡◌, arith}
 use Rattle.std.proofs.lemmas.Int.{ints}
-use Rattle.cert_checker.proofs.Shown.{shown_bound, shown_optimal}
+use Rattle.cert_checker.proofs.Shown.{shown_bound, shown_optimal, lines_hold}
 use Rattle.cert_checker.proofs.checks.verdict_of.Goals as goal
 
 pub returns-then-bound-cost-clause-bound : goal.returns-then-bound-cost-clause-bound
@@ -15,3 +15,14 @@ returns-then-bound-cost-clause-optimal c =
 pub returns-clause-bound : goal.returns-clause-bound
 returns-clause-bound c =
     shown_bound c.args.instance.now c.args.certificate.now c.requires.problem c.requires.in_range c.requires.holds
+
+pub returns-then-bound-cost-clause-verdict : goal.returns-then-bound-cost-clause-verdict
+returns-then-bound-cost-clause-verdict c =
+    (lines_hold c.args.instance.now c.args.certificate.now c.requires.in_range c.requires.holds, omega (arith, ints))
+
+pub returns-clause-verdict : goal.returns-clause-verdict
+returns-clause-verdict c =
+    let p = c.args.instance.now in
+    let k = c.args.certificate.now in
+    let holds = shown_bound p k c.requires.problem c.requires.in_range c.requires.holds in
+    (lines_hold p k c.requires.in_range c.requires.holds, omega (arith, ints, holds.0.bound))

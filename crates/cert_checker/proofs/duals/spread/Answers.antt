@@ -8,6 +8,6 @@ pub returns-clause-short : goal.returns-clause-short
 returns-clause-short c =
     let none : c.loop-left.left ≡ 0 = omega arith in
     values_short c.args.dual.now.u c.loop-left.values
-    (All-weaker (λ (e : ℕ × ℕ). (e.0 < length c.args.values.now) × (1 ≤ e.1) × (e.1 < 10 ^ 30)) (λ (e : ℕ × ℕ). e.1 < 10 ^ 30) (λ e h. h.2)
+    (All-weaker (λ (e : ℕ × ℕ). (e.0 < length c.args.values.now) × (1 ≤ e.1) × (e.1 < 10 ^ 33)) (λ (e : ℕ × ℕ). e.1 < 10 ^ 33) (λ e h. h.2)
     c.args.dual.now.u c.requires.dual.each)
     (λ k. c.loop-left.invariant.are k ∙ ap (λ m. value_at (drop m c.args.dual.now.u) k) none)

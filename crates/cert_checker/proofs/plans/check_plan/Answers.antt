@@ -12,7 +12,7 @@ check_routes-requires c =
 pub returns-in_err-check_routes-clause-fails : goal.returns-in_err-check_routes-clause-fails
 returns-in_err-check_routes-clause-fails c =
     let p = err_from_is_err_and c.from_residual.result c.from_residual.ensures.1 in
-    rw (p.1, p.2) (routes_fail c.args.instance.now c.args.instance.now.size c.args.cost c.args.hubs.now c.args.routes.now _
+    rw (p.1, p.2) (routes_fail c.args.instance.now c.args.instance.now.size c.args.cost c.args.hubs.now c.args.routes.now _ c.size-n.ensures.problem.any_number
     (c.are_candidates.ensures.0 c.if-not-are_candidates.false) c.in_err-check_routes.ensures.fails)
 
 pub cost_of-requires-clause-routes : goal.cost_of-requires-clause-routes
@@ -23,12 +23,12 @@ cost_of-requires-clause-routes c =
 pub returns-then-cost-cost_of-clause-fails : goal.returns-then-cost-cost_of-clause-fails
 returns-then-cost-cost_of-clause-fails c =
     cost_fails c.args.instance.now c.args.instance.now.size c.args.cost c.last_route_line.result c.args.hubs.now c.args.routes.now
-    (c.last_route_line.ensures ∙ ap last_route_line c.size-n.ensures.value)
+    (c.last_route_line.ensures ∙ ap last_route_line c.size-n.ensures.value) c.size-n.ensures.problem.any_number
     (c.are_candidates.ensures.0 c.if-not-are_candidates.false) c.in_ok-check_routes.ensures.holds
     (λ e. c.if-cost-cost_of.true (e ∙ sym c.cost_of.ensures.value))
 
 pub returns-clause-holds : goal.returns-clause-holds
 returns-clause-holds c =
-    plan_holds c.args.instance.now c.args.instance.now.size c.args.cost c.args.hubs.now c.args.routes.now
+    plan_holds c.args.instance.now c.args.instance.now.size c.args.cost c.args.hubs.now c.args.routes.now c.size-n.ensures.problem.any_number
     (c.are_candidates.ensures.0 c.if-not-are_candidates.false) c.in_ok-check_routes.ensures.holds
     (c.if-cost-cost_of.false ∙ c.cost_of.ensures.value)
