@@ -37,8 +37,7 @@ pub(crate) fn put_runs<K: Sink>(
     lender.hold(kept);
     for j in 1..size {
         lender.make(instance, kept, i, j);
-        let other = !lender.holds(kept);
-        if other {
+        if !lender.holds(kept) {
             put_run(i, first, j - first, lender, buffer, sink)?;
             lender.hold(kept);
             first = j;

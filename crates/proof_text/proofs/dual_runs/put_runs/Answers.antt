@@ -8,7 +8,7 @@ use Rattle.proof_text.specs.Lenders.{kept_dual, made_dual, LenderState}
 use Rattle.proof_text.proofs.Lending.{still_has, few_values}
 use Rattle.proof_text.proofs.RowLines.{text_from, IsRunOf, run_begins, run_grows, run_ended, run_last}
 use Rattle.proof_text.proofs.dual_runs.put_runs.Goals as goal
-use Rattle.proof_text.proofs.dual_runs.put_runs.Goals.{then-other+in_ok-put_run, else-other}
+use Rattle.proof_text.proofs.dual_runs.put_runs.Goals.{then-not-holds+in_ok-put_run, else-not-holds}
 
 pub hold-requires : goal.hold-requires
 hold-requires g c =
@@ -46,10 +46,10 @@ returns-in_err-put_run-clause-lines g c =
     c.loop-j.invariant.put c.put_run.ensures (ap is_err c.in_err-put_run.was) c.from_residual.ensures.0
     (run_ended p.size d c.args.i c.loop-j.first c.loop-j.j (c.loop-j.j - c.loop-j.first) c.make-in-loop-j.new.self.held refl run
     (omega (arith, c.loop-j-test.true, c.size-size.ensures.value))
-    (λ same. false≢true (sym c.if-other.true ∙ c.holds.ensures.1 (same ∙ sym c.make-in-loop-j.ensures.made))))
+    (λ same. false≢true (sym c.if-not-holds.true ∙ c.holds.ensures.1 (same ∙ sym c.make-in-loop-j.ensures.made))))
 
-pub hold-requires-then-other : goal.hold-requires-then-other
-hold-requires-then-other g c =
+pub hold-requires-then-not-holds : goal.hold-requires-then-not-holds
+hold-requires-then-not-holds g c =
     let p = c.args.instance.now in
     let same = ap (λ (d : Prices). length d.u) c.make-in-loop-j.ensures.made in
     let size = ap (λ (q : Problem). q.size) c.make-in-loop-j.ensures.duals.lender in
@@ -71,21 +71,21 @@ loop-j-preserved g c =
     let held = c.make-in-loop-j.new.self.held in
     let less : c.loop-j.j < p.size = omega (arith, c.loop-j-test.true, c.size-size.ensures.value) in
     let run = subst (IsRunOf p.size d c.args.i c.loop-j.first c.loop-j.j) (sym c.make-in-loop-j.ensures.held) c.loop-j.invariant.run in
-    elim c.if-other.branch [
-      | then-other+in_ok-put_run w ↦
-          let now : w.hold-then-other.new.self.held ≡ d (c.args.i, c.loop-j.j) =
-          ap (λ (s : LenderState). s.held) w.hold-then-other.ensures ∙ c.make-in-loop-j.ensures.made in
+    elim c.if-not-holds.branch [
+      | then-not-holds+in_ok-put_run w ↦
+          let now : w.hold-then-not-holds.new.self.held ≡ d (c.args.i, c.loop-j.j) =
+          ap (λ (s : LenderState). s.held) w.hold-then-not-holds.ensures ∙ c.make-in-loop-j.ensures.made in
           rw (w.lender-is, w.buffer-is, w.sink-is, w.first-is) (record {
-            duals = still_has p kept c.args.i c.make-in-loop-j.new.self w.hold-then-other.new.self (made_dual kept c.make-in-loop-j.new.self)
-                w.hold-then-other.ensures c.make-in-loop-j.ensures.duals;
-            run = run_begins p.size d c.args.i c.loop-j.j w.hold-then-other.new.self.held less now;
+            duals = still_has p kept c.args.i c.make-in-loop-j.new.self w.hold-then-not-holds.new.self (made_dual kept c.make-in-loop-j.new.self)
+                w.hold-then-not-holds.ensures c.make-in-loop-j.ensures.duals;
+            run = run_begins p.size d c.args.i c.loop-j.j w.hold-then-not-holds.new.self.held less now;
             put = front_more (text_from 2 p.size d c.args.i c.loop-j.j) c.loop-j.invariant.put w.put_run.ensures (ap is_ok w.in_ok-put_run.was)
                 (run_ended p.size d c.args.i c.loop-j.first c.loop-j.j (c.loop-j.j - c.loop-j.first) held refl run less
-                (λ same. false≢true (sym w.if-other.true ∙ c.holds.ensures.1 (same ∙ sym c.make-in-loop-j.ensures.made))));
+                (λ same. false≢true (sym w.if-not-holds.true ∙ c.holds.ensures.1 (same ∙ sym c.make-in-loop-j.ensures.made))));
           })
-      | else-other w ↦ rw (w.lender-is, w.buffer-is, w.sink-is, w.first-is) (record {
+      | else-not-holds w ↦ rw (w.lender-is, w.buffer-is, w.sink-is, w.first-is) (record {
         duals = c.make-in-loop-j.ensures.duals;
-        run = run_grows p.size d c.args.i c.loop-j.first c.loop-j.j held less (c.holds.ensures.0 w.if-other.false ∙ c.make-in-loop-j.ensures.made) run;
+        run = run_grows p.size d c.args.i c.loop-j.first c.loop-j.j held less (c.holds.ensures.0 w.if-not-holds.false ∙ c.make-in-loop-j.ensures.made) run;
         put = c.loop-j.invariant.put;
       })
     ]
