@@ -49,9 +49,9 @@ parts_of_rows : (f : List ℕ → List ℕ) (loads : List (Vec ℤ Global))
 parts_of_rows f [] = refl
 parts_of_rows f (v ∷ loads) = ap (λ ys. f (map natural v.items) ++ ys) (parts_of_rows f loads)
 
-pub greatest_by : (totals fixed : List ℤ) (loads : List (Vec ℤ Global)) (b : Branching) (most result : ℕ)
+pub greatest_by : (totals : List ℤ) (fixed : List ℕ) (loads : List (Vec ℤ Global)) (b : Branching) (most result : ℕ)
     → most ≡ fold max 0 (map natural totals ++ flat_map (λ (v : Vec ℤ Global). at_nodes (candidates_of b) (map natural v.items)) loads)
-    → result ≡ fold max most (at_nodes (candidates_of b) (map natural fixed))
+    → result ≡ fold max most (at_nodes (candidates_of b) fixed)
     → result ≡ greatest_number (master_of totals (map (λ (v : Vec ℤ Global). v.items) loads) fixed) b
 unfolding greatest_number greatest
 greatest_by totals fixed loads b most result most_is result_is =
@@ -102,9 +102,9 @@ rows_within a nodes (t ∷ totals) (v ∷ loads) within low =
     (row_within a nodes (map natural v.items) (mapped_within a v.items row))
     (rows_within a nodes totals loads within.1 (All-tail (λ x. x ≤ a) (natural t) (map natural totals) low))
 
-pub greatest_within : (totals fixed : List ℤ) (loads : List (Vec ℤ Global)) (b : Branching) (most result : ℕ)
+pub greatest_within : (totals : List ℤ) (fixed : List ℕ) (loads : List (Vec ℤ Global)) (b : Branching) (most result : ℕ)
     → AreWithinTotals totals (map (λ (v : Vec ℤ Global). v.items) loads)
-    → most ≡ fold max 0 (map natural totals) → result ≡ fold max most (at_nodes (candidates_of b) (map natural fixed))
+    → most ≡ fold max 0 (map natural totals) → result ≡ fold max most (at_nodes (candidates_of b) fixed)
     → result ≡ greatest_number (master_of totals (map (λ (v : Vec ℤ Global). v.items) loads) fixed) b
 greatest_within totals fixed loads b most result within most_is result_is =
     let of_totals = map natural totals in

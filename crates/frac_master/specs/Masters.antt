@@ -15,18 +15,17 @@ pub record MasterNumbers : Type 0 where
   pub loads : List (List ℕ)
   pub fixed : List ℕ
 
--- the numbers that these signed ones are
-abbrev pub master_of : List ℤ → List (List ℤ) → List ℤ → MasterNumbers
+-- the numbers of a master, of which totals and loads come as signed ones
+abbrev pub master_of : List ℤ → List (List ℤ) → List ℕ → MasterNumbers
 master_of totals loads fixed =
-    record { totals = map natural totals; loads = map (map natural) loads; fixed = map natural fixed }
+    record { totals = map natural totals; loads = map (map natural) loads; fixed = fixed }
 
 -- each cut has a load of each node, and no number is below 0
-pub record AreMasterNumbers (totals : List ℤ) (loads : List (List ℤ)) (fixed : List ℤ) : Type 0 where
+pub record AreMasterNumbers (totals : List ℤ) (loads : List (List ℤ)) (fixed : List ℕ) : Type 0 where
   pub one_each : length loads ≡ length totals
   pub as_long : All (λ row. length row ≡ length fixed) loads
   pub totals_low : All IsNatural totals
   pub loads_low : All (λ row. All IsNatural row) loads
-  pub fixed_low : All IsNatural fixed
 
 -- the number after h halvings, each of them rounded down
 abbrev pub halved : ℕ → ℕ → ℕ

@@ -34,7 +34,7 @@ pub fn advise(
     alloc: Global,
     totals: &[i128],
     loads: &[Vec<i128>],
-    fixed: &[i128],
+    fixed: &[u128],
     branch: &Branch,
 ) -> Result<Advice, AllocError>
     requires numbers { AreMasterNumbers totals.now (map (λ v. v.items) loads.now) fixed.now }
@@ -56,7 +56,7 @@ pub fn advise_by_totals(
     totals: &[i128],
     loads: &[Vec<i128>],
     short: Option<ShortRows<'_>>,
-    fixed: &[i128],
+    fixed: &[u128],
     branch: &Branch,
 ) -> Result<Advice, AllocError>
     requires numbers { AreMasterNumbers totals.now (map (λ v. v.items) loads.now) fixed.now }
@@ -77,7 +77,7 @@ fn advise_under(
     totals: &[i128],
     loads: &[Vec<i128>],
     short: Option<ShortRows<'_>>,
-    fixed: &[i128],
+    fixed: &[u128],
     branch: &Branch,
     greatest: u128,
 ) -> Result<Advice, AllocError>

@@ -14,7 +14,7 @@ const MOST_SCALED: u128 = 4095;
 pub(crate) fn greatest_number(
     totals: &[i128],
     loads: &[Vec<i128>],
-    fixed: &[i128],
+    fixed: &[u128],
     branch: &Branch,
 ) -> u128
     requires numbers { AreMasterNumbers totals.now (map (λ v. v.items) loads.now) fixed.now }
@@ -28,14 +28,14 @@ pub(crate) fn greatest_number(
     for row in loads {
         most = greatest_of_candidates(most, row, branch);
     }
-    greatest_of_candidates(most, fixed, branch)
+    greatest_cost(most, fixed, branch)
 }
 
 /// The same where no load is above its cut's total, so that the loads are not looked at.
 pub(crate) fn greatest_by_totals(
     totals: &[i128],
     loads: &[Vec<i128>],
-    fixed: &[i128],
+    fixed: &[u128],
     branch: &Branch,
 ) -> u128
     requires numbers { AreMasterNumbers totals.now (map (λ v. v.items) loads.now) fixed.now }
@@ -47,7 +47,28 @@ pub(crate) fn greatest_by_totals(
     for total in totals {
         most = unsigned(*total).max(most);
     }
-    greatest_of_candidates(most, fixed, branch)
+    greatest_cost(most, fixed, branch)
+}
+
+// The greatest of this number and the candidates' fixed costs.
+fn greatest_cost(most: u128, fixed: &[u128], branch: &Branch) -> u128
+    requires { All (λ k. k < length fixed.now) (candidates_of branch.now) }
+    ensures { result ≡ fold max most (at_nodes (candidates_of branch.now) fixed.now) }
+{
+    let most = greatest_cost_of(most, fixed, branch.inside());
+    let most = greatest_cost_of(most, fixed, branch.outside());
+    greatest_cost_of(most, fixed, branch.free())
+}
+
+fn greatest_cost_of(most: u128, fixed: &[u128], nodes: &[u32]) -> u128
+    requires { All (λ k. k < length fixed.now) nodes.now }
+    ensures { result ≡ fold max most (at_nodes nodes.now fixed.now) }
+{
+    let mut greatest = most;
+    for k in nodes {
+        greatest = greatest.max(fixed[*k as usize]);
+    }
+    greatest
 }
 
 // The greatest of this number and the candidates' numbers of the row.

@@ -7,7 +7,7 @@ use Rattle.frac_master.proofs.scaling.greatest_by_totals.Goals as goal
 
 pub returns : goal.returns
 returns c =
-    greatest_within c.args.totals.now c.args.fixed.now c.args.loads.now c.args.branch.now c.loop-total.most c.greatest_of_candidates.result
+    greatest_within c.args.totals.now c.args.fixed.now c.args.loads.now c.args.branch.now c.loop-total.most c.greatest_cost.result
     c.requires.within
     (c.loop-total.invariant ∙ ap (λ xs. fold max 0 (map natural xs)) (take_all c.loop-total.total-index c.args.totals.now c.loop-total-test.false))
-    c.greatest_of_candidates.ensures
+    c.greatest_cost.ensures
