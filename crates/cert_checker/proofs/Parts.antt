@@ -6,8 +6,7 @@ use Rattle.hub_spec.specs.Problem.{Problem, commodities}
 use Rattle.hub_spec.specs.Plans.{IsRoute, HasWanted, plan_cost}
 use Rattle.hub_spec.specs.Cuts.{IsDual, Cut, IsCut, IsWithinSums}
 use Rattle.hub_spec.specs.Ranges.{IsCutInRange}
-use Rattle.cert_spec.specs.Text.{dual_runs}
-use Rattle.cert_spec.specs.PartConditions.{hubs_line, first_route_line, last_route_line, first_dual_line, last_dual_line, route_claims, dual_claims, hub_claims, one_cut_claims}
+use Rattle.cert_spec.specs.PartConditions.{hubs_line, first_route_line, last_route_line, first_dual_line, last_dual_line, route_claims, hub_claims, one_cut_claims}
 use Rattle.cert_spec.specs.Conditions.{AllHold, FailsFirst, Claim, claim, Hubs, Number, Route, Cost, Sum}
 use Rattle.cert_spec.proofs.Claims.{AllHold-append}
 use Rattle.hub_spec.proofs.Commodities.{length_commodities}
@@ -16,6 +15,7 @@ use Rattle.cert_checker.specs.declared.failures.Failure.{Failure}
 use Rattle.cert_checker.specs.declared.failures.Failure.TheVariants.{Fails}
 use Rattle.cert_checker.specs.declared.kinds.Kind.TheVariants as code
 use Rattle.cert_checker.specs.Answers.{IsFailure}
+use Rattle.cert_checker.specs.Duals.{claims_of_duals}
 
 pub route_claims_at : (hubs : List ℕ) (line : ℕ) (rs : List (ℕ × ℕ)) (i : ℕ) → i < length rs
     → route_claims hubs (line + i) (drop i rs)
@@ -87,19 +87,16 @@ pub cut_from_duals : (p : Problem) (cut : Cut) → IsCutInRange p.size cut → A
     → IsCut p cut
 cut_from_duals p cut range duals sums = record { part_least = range.part_least; part_most = range.part_most; duals = duals; sums = sums }
 
-abbrev cut_dual_claims : Problem → ℕ → ℕ → Cut → List Claim
-cut_dual_claims p v line cut = dual_claims p cut.part (first_dual_line line) 0 (dual_runs v p.size cut.duals)
-
 abbrev sum_claims : Problem → ℕ → ℕ → Cut → List Claim
 sum_claims p v line cut = claim Sum (last_dual_line v p.size cut line) (IsWithinSums p cut) ∷ []
 
-pub duals_fail : (p : Problem) (v line : ℕ) (cut : Cut) (f : Failure) → IsFailure (cut_dual_claims p v line cut) f → IsFailure (one_cut_claims p v line cut) f
-duals_fail p v line cut f h = failure_early (cut_dual_claims p v line cut) (sum_claims p v line cut) f h
+pub duals_fail : (p : Problem) (v line : ℕ) (cut : Cut) (f : Failure) → IsFailure (claims_of_duals p v (first_dual_line line) cut) f → IsFailure (one_cut_claims p v line cut) f
+duals_fail p v line cut f h = failure_early (claims_of_duals p v (first_dual_line line) cut) (sum_claims p v line cut) f h
 
-pub sum_fails : (p : Problem) (v line at : ℕ) (cut : Cut) → at ≡ last_dual_line v p.size cut line → AllHold (cut_dual_claims p v line cut)
+pub sum_fails : (p : Problem) (v line at : ℕ) (cut : Cut) → at ≡ last_dual_line v p.size cut line → AllHold (claims_of_duals p v (first_dual_line line) cut)
     → (IsWithinSums p cut → ⊥) → FailsFirst (one_cut_claims p v line cut) Sum at
 sum_fails p v line at cut is duals other =
-    failure_later (cut_dual_claims p v line cut) (sum_claims p v line cut) (Fails code.Sum at) duals (inl (other, refl, sym is))
+    failure_later (claims_of_duals p v (first_dual_line line) cut) (sum_claims p v line cut) (Fails code.Sum at) duals (inl (other, refl, sym is))
 
-pub cut_holds : (p : Problem) (v line : ℕ) (cut : Cut) → AllHold (cut_dual_claims p v line cut) → IsWithinSums p cut → AllHold (one_cut_claims p v line cut)
-cut_holds p v line cut duals sums = AllHold-append (cut_dual_claims p v line cut) (sum_claims p v line cut) duals (sums, tt)
+pub cut_holds : (p : Problem) (v line : ℕ) (cut : Cut) → AllHold (claims_of_duals p v (first_dual_line line) cut) → IsWithinSums p cut → AllHold (one_cut_claims p v line cut)
+cut_holds p v line cut duals sums = AllHold-append (claims_of_duals p v (first_dual_line line) cut) (sum_claims p v line cut) duals (sums, tt)

@@ -5,7 +5,14 @@ use Rattle.hub_spec.specs.Limits.{most_nodes, most_part}
 use Rattle.hub_spec.specs.Problem.{Problem, commodity_at, route_cost}
 use Rattle.hub_spec.specs.Cuts.{Prices, value_at, IsDual, Cut, total, load}
 use Rattle.hub_spec.specs.Ranges.{IsDualInRange}
+use Rattle.cert_spec.specs.Text.{dual_runs}
+use Rattle.cert_spec.specs.Conditions.{Claim}
+use Rattle.cert_spec.specs.PartConditions.{dual_claims}
 use Rattle.cert_checker.specs.Runs.{no_dual}
+
+-- the conditions of the duals of a cut, run by run from this line on
+abbrev pub claims_of_duals : Problem → ℕ → ℕ → Cut → List Claim
+claims_of_duals p v line cut = dual_claims p cut.part line 0 (dual_runs v p.size cut.duals)
 
 -- of the duals of a cut
 abbrev pub most_duals : ℕ

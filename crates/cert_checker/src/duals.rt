@@ -6,12 +6,10 @@ ghost use Rattle.hub_spec.specs.Limits.{most_part, most_cost};
 ghost use Rattle.hub_spec.specs.Problem.{commodities};
 ghost use Rattle.hub_spec.specs.Cuts.{IsDual};
 ghost use Rattle.hub_spec.specs.Ranges.{IsAmount, IsDualInRange, IsCutInRange};
-ghost use Rattle.cert_spec.specs.Text.{dual_runs};
 ghost use Rattle.cert_spec.specs.Conditions.{AllHold};
-ghost use Rattle.cert_spec.specs.PartConditions.{dual_claims};
 ghost use Rattle.cert_scan.specs.Versions.{version_number};
 ghost use Rattle.cert_checker.specs.Answers.{IsFailure};
-ghost use Rattle.cert_checker.specs.Duals.{AreValues, IsCovered, IsCoveredSingle, IsCoveredFrom, IsCoveredByAll, IsDualAt, MayTryDual, IsFirstFailing};
+ghost use Rattle.cert_checker.specs.Duals.{claims_of_duals, AreValues, IsCovered, IsCoveredSingle, IsCoveredFrom, IsCoveredByAll, IsDualAt, MayTryDual, IsFirstFailing};
 
 use crate::failures::Failure;
 use crate::kinds::Kind;
@@ -39,9 +37,9 @@ pub(crate) fn check_duals<R: Threads + Sync>(
 ) -> Result<(), Failure>
     requires line { line < 2 ^ 60 }
     requires cut { IsCutInRange instance.now.size cut.now }
-    ensures holds { OnOk result (AllHold (dual_claims instance.now cut.now.part line 0 (dual_runs (version_number version) instance.now.size cut.now.duals))) }
+    ensures holds { OnOk result (AllHold (claims_of_duals instance.now (version_number version) line cut.now)) }
     ensures are_duals { OnOk result (AllZip (IsDual instance.now cut.now.part) (commodities instance.now.size) cut.now.duals) }
-    ensures fails { IfErr result (IsFailure (dual_claims instance.now cut.now.part line 0 (dual_runs (version_number version) instance.now.size cut.now.duals))) }
+    ensures fails { IfErr result (IsFailure (claims_of_duals instance.now (version_number version) line cut.now)) }
 {
     let n = instance.size();
     let duals = cut.duals();

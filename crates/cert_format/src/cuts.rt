@@ -46,7 +46,8 @@ impl StatedCut {
     /// Adds the dual of a run of so many commodities.
     pub(crate) fn add(&mut self, run: u32, dual: Dual) -> Result<(), AllocError>
         requires { 1 ≤ run }
-        ensures { IfOk result (λ _. self.new ≡ record { part = self.old.part; duals = self.old.duals ++ replicate run dual }) }
+        ensures { IfOk result (λ _.
+            self.new ≡ record { part = self.old.part; duals = self.old.duals ++ replicate run dual }) }
     {
         push_run(&mut self.duals, run, dual)
     }

@@ -62,7 +62,8 @@ pub fn put_top<K: Sink>(
     requires cost { IsNatural heading.now.cost }
     requires bound { IsNatural heading.now.bound }
     ensures { PutsLines K.taken K.faults sink.old sink.new buffer.old buffer.new result
-        (top_items (version_number heading.now.version) heading.now.size heading.now.candidates (natural heading.now.cost) (natural heading.now.bound) plan.now cuts) }
+        (top_items (version_number heading.now.version) heading.now.size heading.now.candidates
+        (natural heading.now.cost) (natural heading.now.bound) plan.now cuts) }
 {
     let hubs = plan.hubs();
     let routes = plan.routes();
