@@ -4,12 +4,11 @@ use Rattle.std.specs.Prelude.{option_to_list}
 use Rattle.std.specs.List.{list_all}
 use Rattle.std.proofs.lemmas.Bool.{false≢true, and_from, and_parts, cases_eq, or_left, or_right, not_from_false, ne_eqb, cond-true, le-leb, lt-ltb, eq-eqb, leb-true, ltb-true}
 use Rattle.hub_spec.specs.Limits.{most_nodes, most_denominator, most_cuts, most_tree_lines}
-use Rattle.hub_spec.specs.Problem.{commodity_at}
 use Rattle.hub_spec.specs.Trees.{TreeLine, branch_on, leaf_of, no_hub, no_route, no_count}
 use Rattle.cert_spec.specs.Lines.{Item as Line, says_version, says_size, says_cost, says_bound, says_hubs, says_route, says_cuts, says_cut, says_dual, says_nodes, says_tree, says_end}
 use Rattle.cert_spec.specs.Grammar as grammar
 use Rattle.cert_spec.specs.Grammar.{Wants, IsOpen, want_hubs, shape}
-use Rattle.cert_spec.specs.Reading.{IsStage, IsSize, ascends, is_amount, is_short, wants, is_dual_text, is_first_dual, is_first_line, is_weights_text, is_open, same_pair, is_tree_line_text}
+use Rattle.cert_spec.specs.Reading.{IsStage, IsSize, ascends, is_amount, is_short, wants, is_dual_text, is_first_dual, is_first_line, is_weights_text, is_open, is_tree_line_text}
 use Rattle.cert_spec.proofs.Wanted.{wants_decides, dual_decides, first_dual_decides}
 use Rattle.cert_spec.proofs.Versions.{second_is}
 use Rattle.cert_scan.specs.Moves.{move, more_by, whole_by, open_by, taken_by, allowed, within, follows, may_fill, commodity_by, stage_after_route, stage_after_cuts, stage_after_dual, stage_after_tree, stage_after_filled}

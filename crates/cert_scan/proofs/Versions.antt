@@ -1,6 +1,5 @@
 -- The versions of a text by their numbers.
-use Rattle.std.proofs.Common.{◌≡◌, ℕ, ◌⊎◌, inl, inr, refl, sym, ap, ◌∙◌}
-use Rattle.cert_spec.specs.Text.{is_first}
+use Rattle.std.proofs.Common.{◌≡◌, ℕ, inl, inr, refl, sym, ap, ◌∙◌}
 use Rattle.cert_spec.specs.Grammar.{IsVersion}
 use Rattle.cert_spec.proofs.Versions.{second_is, second_later}
 use Rattle.cert_scan.specs.Versions.{version_number, version_of}
