@@ -1,28 +1,30 @@
 -- What the numbers before a place of a line say, and what the number at the place makes of them.
-use Rattle.std.proofs.Common.{◌≡◌, ℕ, ◌+◌, ◌^◌, ◌<◌, ◌≤◌, Bool, true, false, List, [], ◌∷◌, ◌++◌, map, codes, Option, Some, None, nat_lt, nat_le, refl, sym, ap, ◌∙◌, subst, append-nil}
-use Rattle.std.specs.Prelude.{option_to_list}
+use Rattle.std.proofs.Common.{◌≡◌, ℕ, ◌+◌, ◌^◌, ◌<◌, ◌≤◌, Bool, true, false, List, [], ◌∷◌, ◌++◌, map, codes, Option, Some, None, nat_eq, nat_lt, nat_le, refl, sym, ap, ◌∙◌, subst, append-nil}
+use Rattle.std.specs.Prelude.{◌-◌, option_to_list, if◌then◌else◌}
 use Rattle.std.proofs.lemmas.Bool.{and_parts, cond_both, leb-true, ltb-true}
 use Rattle.hub_spec.specs.Limits.{most_nodes, most_denominator}
-use Rattle.cert_spec.specs.Lines.{Item as Line, keyword, numbers, value_numbers, weight_numbers}
+use Rattle.cert_spec.specs.Lines.{Item as Line, keyword, numbers, run_numbers, value_numbers, weight_numbers}
 use Rattle.cert_spec.specs.Grammar.{Wants, after}
-use Rattle.cert_scan.specs.Moves.{refusal, more_by, whole_by, open_by, allowed, within, follows, may_fill}
-use Rattle.cert_scan.specs.Scans.{nodes_by}
+use Rattle.cert_scan.specs.Moves.{refusal, more_by, whole_by, open_by, allowed, within, follows, may_fill, amount_limit}
+use Rattle.cert_scan.specs.Scans.{shape_by}
 use Rattle.cert_scan.specs.Parts.{parts_of, open_hubs, open_values, open_weights}
 use Rattle.cert_scan.proofs.Climbs.{Climbs}
-use Rattle.cert_scan.proofs.StagesAt.{stage_at, IsAt}
+use Rattle.cert_scan.proofs.StagesAt.{stage_at, IsRunOf, IsAt}
 use Rattle.cert_scan.proofs.Accepts.{is_hub, is_value, is_weight, node_of}
+use Rattle.cert_scan.specs.declared.items.Version.TheVariants.{Second}
 use Rattle.cert_scan.specs.declared.items.Item.{Item}
 use Rattle.cert_scan.specs.declared.items.Item.TheVariants.{Dual as dual_item, Leaf}
 use Rattle.cert_scan.specs.declared.bytes.Move.{Move}
 use Rattle.cert_scan.specs.declared.bytes.Position.{Position}
 use Rattle.cert_scan.specs.declared.bytes.Position.TheVariants.{Start, Number}
 use Rattle.cert_scan.specs.declared.places.Place.{Place}
-use Rattle.cert_scan.specs.declared.places.Place.TheVariants.{VersionNumber, NodeCount, CandidateCount, CostAmount, BoundAmount, HubNode, RouteFrom, RouteTo, RouteFirst, RouteLast, CutCount, CutNumber, DualFrom, DualTo, DualPrice, ValueNode, ValueAmount, LineCount, BranchNode, Denominator, WeightCut, WeightAmount}
+use Rattle.cert_scan.specs.declared.places.Place.TheVariants.{VersionNumber, NodeCount, CandidateCount, CostAmount, BoundAmount, HubNode, RouteFrom, RouteTo, RouteFirst, RouteLast, CutCount, CutNumber, CutPart, DualFrom, DualTo, RunFrom, RunTo, RunLength, DualPrice, ValueNode, ValueAmount, LineCount, BranchNode, Denominator, WeightCut, WeightAmount}
 use Rattle.cert_scan.specs.declared.stages.Commodity.{Commodity}
-use Rattle.cert_scan.specs.declared.stages.DualAt.{DualAt}
 use Rattle.cert_scan.specs.declared.stages.TreeAt.{TreeAt}
 use Rattle.cert_scan.specs.declared.stages.Stage.{Stage}
 use Rattle.cert_scan.specs.declared.stages.Stage.TheVariants.{Version, Size, Cost, Bound, Hubs, Route, Cuts, Cut, Dual, Nodes, Tree}
+use Rattle.cert_scan.specs.declared.stages.Run.{Run}
+use Rattle.cert_scan.specs.declared.stages.Shape.{Shape}
 
 -- the stage of the line in which a place is
 abbrev pub stage_of : Place → Stage
@@ -38,16 +40,24 @@ stage_of (RouteFirst c) = Route c
 stage_of (RouteLast c k) = Route c
 stage_of CutCount = Cuts
 stage_of (CutNumber all before) = Cut all before
+stage_of (CutPart all number) = Cut all (number - 1)
 stage_of (DualFrom d) = Dual d
 stage_of (DualTo d) = Dual d
-stage_of (DualPrice d) = Dual d
-stage_of (ValueNode d before) = Dual d
-stage_of (ValueAmount d number) = Dual d
+stage_of (RunFrom d) = Dual d
+stage_of (RunTo d) = Dual d
+stage_of (RunLength d) = Dual d
+stage_of (DualPrice run) = Dual run.first
+stage_of (ValueNode run before) = Dual run.first
+stage_of (ValueAmount run number) = Dual run.first
 stage_of LineCount = Nodes
 stage_of (BranchNode t) = Tree t
 stage_of (Denominator t) = Tree t
 stage_of (WeightCut t before) = Tree t
 stage_of (WeightAmount t number) = Tree t
+
+-- the keyword of the dual of so many commodities
+abbrev pub dual_word : ℕ → List ℕ
+dual_word length = if nat_eq length 1 then codes "dual" else codes "duals"
 
 -- its keyword
 abbrev pub word_of : Place → List ℕ
@@ -63,11 +73,15 @@ word_of (RouteFirst c) = codes "route"
 word_of (RouteLast c k) = codes "route"
 word_of CutCount = codes "cuts"
 word_of (CutNumber all before) = codes "cut"
+word_of (CutPart all number) = codes "cut"
 word_of (DualFrom d) = codes "dual"
 word_of (DualTo d) = codes "dual"
-word_of (DualPrice d) = codes "dual"
-word_of (ValueNode d before) = codes "dual"
-word_of (ValueAmount d number) = codes "dual"
+word_of (RunFrom d) = codes "duals"
+word_of (RunTo d) = codes "duals"
+word_of (RunLength d) = codes "duals"
+word_of (DualPrice run) = dual_word run.length
+word_of (ValueNode run before) = dual_word run.length
+word_of (ValueAmount run number) = dual_word run.length
 word_of LineCount = codes "nodes"
 word_of (BranchNode t) = codes "branch"
 word_of (Denominator t) = codes "leaf"
@@ -79,30 +93,50 @@ pub record Are (wanted ns : List ℕ) (given : List Item) : Type 0 where
   pub numbers : ns ≡ wanted
   pub given_none : given ≡ []
 
+-- and the version is the second
+pub record SecondAre (sh : Shape) (wanted ns : List ℕ) (given : List Item) : Type 0 where
+  pub are : Are wanted ns given
+  pub second : sh.version ≡ Second
+
+-- the number of a cut, behind which its part stands
+pub record CutIs (sh : Shape) (number : ℕ) (ns : List ℕ) (given : List Item) : Type 0 where
+  pub are : Are (number ∷ []) ns given
+  pub second : sh.version ≡ Second
+  pub some : 1 ≤ number
+
+-- the nodes of the first commodity of a run, and how many it has where it has more than one
+abbrev pub run_front : Run → List ℕ
+run_front run = (run.first.commodity.from + 1) ∷ (run.first.commodity.to + 1) ∷ run_numbers run.length
+
+pub record RunIs (sh : Shape) (run : Run) (ns : List ℕ) (given : List Item) : Type 0 where
+  pub are : Are (run_front run) ns given
+  pub is_run : IsRunOf sh run
+
 -- some hubs, up to the one of this number
-pub record HubsAre (n before : ℕ) (ns : List ℕ) (given : List Item) : Type 0 where
+pub record HubsAre (sh : Shape) (before : ℕ) (ns : List ℕ) (given : List Item) : Type 0 where
   pub hubs : List ℕ
   pub numbers : ns ≡ map (λ k. k + 1) hubs
   pub given_hubs : given ≡ open_hubs hubs
-  pub climbs : Climbs (is_hub n) (λ k. k) 0 hubs before
+  pub climbs : Climbs (is_hub sh.n) (λ k. k) 0 hubs before
 
--- the nodes of a commodity, a price, and some values, up to that of the node of this number
-pub record ValuesAre (n : ℕ) (d : DualAt) (before : ℕ) (ns : List ℕ) (given : List Item) : Type 0 where
+-- a run, a price, and some values, up to that of the node of this number
+pub record ValuesAre (sh : Shape) (run : Run) (before : ℕ) (ns : List ℕ) (given : List Item) : Type 0 where
   pub a : ℕ
   pub u : List (ℕ × ℕ)
-  pub numbers : ns ≡ (d.commodity.from + 1) ∷ (d.commodity.to + 1) ∷ a ∷ value_numbers u
-  pub given_values : given ≡ dual_item d.commodity.from d.commodity.to 1 a false ∷ open_values u
-  pub short : a < 10 ^ 30
-  pub climbs : Climbs (is_value n) node_of 0 u before
+  pub numbers : ns ≡ run_front run ++ a ∷ value_numbers u
+  pub given_values : given ≡ dual_item run.first.commodity.from run.first.commodity.to run.length a false ∷ open_values u
+  pub is_run : IsRunOf sh run
+  pub short : a < amount_limit sh.version
+  pub climbs : Climbs (is_value sh) node_of 0 u before
 
 -- and the number of another node
-pub record ValueAre (n : ℕ) (d : DualAt) (number : ℕ) (ns : List ℕ) (given : List Item) : Type 0 where
+pub record ValueAre (sh : Shape) (run : Run) (number : ℕ) (ns : List ℕ) (given : List Item) : Type 0 where
   pub front : List ℕ
   pub before : ℕ
-  pub values : ValuesAre n d before front given
+  pub values : ValuesAre sh run before front given
   pub numbers : ns ≡ front ++ number ∷ []
   pub above : before < number
-  pub node : number ≤ n
+  pub node : number ≤ sh.n
 
 -- a denominator, and some weights, up to that of the cut of this number
 pub record WeightsAre (t : TreeAt) (before : ℕ) (ns : List ℕ) (given : List Item) : Type 0 where
@@ -129,71 +163,75 @@ pub record NodesAre (nodes : ℕ) (ns : List ℕ) (given : List Item) : Type 0 w
   pub some : 1 ≤ nodes
   pub few : nodes ≤ most_nodes
 
-pub record FirstIs (n : ℕ) (c : Commodity) (k : ℕ) (ns : List ℕ) (given : List Item) : Type 0 where
+pub record FirstIs (sh : Shape) (c : Commodity) (k : ℕ) (ns : List ℕ) (given : List Item) : Type 0 where
   pub are : Are ((c.from + 1) ∷ (c.to + 1) ∷ (k + 1) ∷ []) ns given
-  pub node : k < n
+  pub node : k < sh.n
 
 -- what the numbers before a place are, and what is given
-abbrev pub Described : ℕ → Place → List ℕ → List Item → Type 0
-Described n (CandidateCount nodes) ns given = NodesAre nodes ns given
-Described n (HubNode before) ns given = HubsAre n before ns given
-Described n (RouteTo c) ns given = Are ((c.from + 1) ∷ []) ns given
-Described n (RouteFirst c) ns given = Are ((c.from + 1) ∷ (c.to + 1) ∷ []) ns given
-Described n (RouteLast c k) ns given = FirstIs n c k ns given
-Described n (DualTo d) ns given = Are ((d.commodity.from + 1) ∷ []) ns given
-Described n (DualPrice d) ns given = Are ((d.commodity.from + 1) ∷ (d.commodity.to + 1) ∷ []) ns given
-Described n (ValueNode d before) ns given = ValuesAre n d before ns given
-Described n (ValueAmount d number) ns given = ValueAre n d number ns given
-Described n (WeightCut t before) ns given = WeightsAre t before ns given
-Described n (WeightAmount t number) ns given = WeightAre t number ns given
-Described n place ns given = Are [] ns given
+abbrev pub Described : Shape → Place → List ℕ → List Item → Type 0
+Described sh (CandidateCount nodes) ns given = NodesAre nodes ns given
+Described sh (HubNode before) ns given = HubsAre sh before ns given
+Described sh (RouteTo c) ns given = Are ((c.from + 1) ∷ []) ns given
+Described sh (RouteFirst c) ns given = Are ((c.from + 1) ∷ (c.to + 1) ∷ []) ns given
+Described sh (RouteLast c k) ns given = FirstIs sh c k ns given
+Described sh (CutPart all number) ns given = CutIs sh number ns given
+Described sh (DualTo d) ns given = Are ((d.commodity.from + 1) ∷ []) ns given
+Described sh (RunFrom d) ns given = SecondAre sh [] ns given
+Described sh (RunTo d) ns given = SecondAre sh ((d.commodity.from + 1) ∷ []) ns given
+Described sh (RunLength d) ns given = SecondAre sh ((d.commodity.from + 1) ∷ (d.commodity.to + 1) ∷ []) ns given
+Described sh (DualPrice run) ns given = RunIs sh run ns given
+Described sh (ValueNode run before) ns given = ValuesAre sh run before ns given
+Described sh (ValueAmount run number) ns given = ValueAre sh run number ns given
+Described sh (WeightCut t before) ns given = WeightsAre t before ns given
+Described sh (WeightAmount t number) ns given = WeightAre t number ns given
+Described sh place ns given = Are [] ns given
 
 -- another number is wanted, at this place
-pub record MidIs (n : ℕ) (place next : Place) (ns : List ℕ) (given : List Item) (item : Option Item) : Type 0 where
+pub record MidIs (sh : Shape) (place next : Place) (ns : List ℕ) (given : List Item) (item : Option Item) : Type 0 where
   pub stage : stage_of next ≡ stage_of place
   pub word : word_of next ≡ word_of place
-  pub same : nodes_by n item ≡ n
-  pub described : Described n next ns (given ++ option_to_list item)
+  pub same : shape_by sh item ≡ sh
+  pub described : Described sh next ns (given ++ option_to_list item)
 
 -- the numbers make a line that may stand there, behind which this stage is
-pub record EndIs (n : ℕ) (place : Place) (stage : Stage) (ns : List ℕ) (given : List Item) (item : Option Item) : Type 0 where
+pub record EndIs (sh : Shape) (place : Place) (stage : Stage) (ns : List ℕ) (given : List Item) (item : Option Item) : Type 0 where
   pub line : Line
-  pub wanted : Wants (stage_at n (stage_of place)) line
+  pub wanted : Wants (stage_at sh (stage_of place)) line
   pub keyword_is : keyword line ≡ word_of place
   pub numbers_are : numbers line ≡ ns
   pub parts : given ++ option_to_list item ≡ parts_of line
-  pub behind : IsAt (nodes_by n item) stage (after (stage_at n (stage_of place)) line)
+  pub behind : IsAt (shape_by sh item) stage (after (stage_at sh (stage_of place)) line)
 
 -- what a number makes of those before it
-abbrev pub OutcomeAt : ℕ → Place → List ℕ → List Item → Option Item → Position → Type 0
-OutcomeAt n place ns given item (Start stage) = EndIs n place stage ns given item
-OutcomeAt n place ns given item (Number next None) = MidIs n place next ns given item
-OutcomeAt n place ns given item position = item ≡ None
+abbrev pub OutcomeAt : Shape → Place → List ℕ → List Item → Option Item → Position → Type 0
+OutcomeAt sh place ns given item (Start stage) = EndIs sh place stage ns given item
+OutcomeAt sh place ns given item (Number next None) = MidIs sh place next ns given item
+OutcomeAt sh place ns given item position = item ≡ None
 
-abbrev pub Outcome : ℕ → Place → List ℕ → List Item → Move → Type 0
-Outcome n place ns given next = OutcomeAt n place ns given next.item next.position
+abbrev pub Outcome : Shape → Place → List ℕ → List Item → Move → Type 0
+Outcome sh place ns given next = OutcomeAt sh place ns given next.item next.position
 
-pub refused_is : (n : ℕ) (place : Place) (ns : List ℕ) (given : List Item) (last : Bool) → Outcome n place ns given (refusal last)
-refused_is n place ns given true = refl
-refused_is n place ns given false = refl
+pub refused_is : (sh : Shape) (place : Place) (ns : List ℕ) (given : List Item) (last : Bool) → Outcome sh place ns given (refusal last)
+refused_is sh place ns given true = refl
+refused_is sh place ns given false = refl
 
-pub allowed_is : (n : ℕ) (place : Place) (ns : List ℕ) (given : List Item) (test last : Bool) (next : Move) → (test ≡ true → Outcome n place ns given next)
-    → Outcome n place ns given (allowed test last next)
-allowed_is n place ns given test last next h = cond_both test next (refusal last) (Outcome n place ns given) h (λ e. refused_is n place ns given last)
+pub allowed_is : (sh : Shape) (place : Place) (ns : List ℕ) (given : List Item) (test last : Bool) (next : Move) → (test ≡ true → Outcome sh place ns given next)
+    → Outcome sh place ns given (allowed test last next)
+allowed_is sh place ns given test last next h = cond_both test next (refusal last) (Outcome sh place ns given) h (λ e. refused_is sh place ns given last)
 
-pub more_is : (n : ℕ) (place : Place) (ns : List ℕ) (given : List Item) (last : Bool) (next : Place) → MidIs n place next ns given None → Outcome n place ns given (more_by last next)
-more_is n place ns given true next h = refl
-more_is n place ns given false next h = h
+pub more_is : (sh : Shape) (place : Place) (ns : List ℕ) (given : List Item) (last : Bool) (next : Place) → MidIs sh place next ns given None → Outcome sh place ns given (more_by last next)
+more_is sh place ns given true next h = refl
+more_is sh place ns given false next h = h
 
-pub whole_is : (n : ℕ) (place : Place) (ns : List ℕ) (given : List Item) (last : Bool) (item : Option Item) (stage : Stage) → EndIs n place stage ns given item
-    → Outcome n place ns given (whole_by last item stage)
-whole_is n place ns given true item stage h = h
-whole_is n place ns given false item stage h = refl
+pub whole_is : (sh : Shape) (place : Place) (ns : List ℕ) (given : List Item) (last : Bool) (item : Option Item) (stage : Stage) → EndIs sh place stage ns given item
+    → Outcome sh place ns given (whole_by last item stage)
+whole_is sh place ns given true item stage h = h
+whole_is sh place ns given false item stage h = refl
 
-pub open_is : (n : ℕ) (place : Place) (ns : List ℕ) (given : List Item) (last : Bool) (item : Bool → Item) (next : Place) (stage : Stage)
-    → EndIs n place stage ns given (Some (item true)) → MidIs n place next ns given (Some (item false)) → Outcome n place ns given (open_by last (item last) next stage)
-open_is n place ns given true item next stage h k = h
-open_is n place ns given false item next stage h k = k
+pub open_is : (sh : Shape) (place : Place) (ns : List ℕ) (given : List Item) (last : Bool) (item : Bool → Item) (next : Place) (stage : Stage)
+    → EndIs sh place stage ns given (Some (item true)) → MidIs sh place next ns given (Some (item false)) → Outcome sh place ns given (open_by last (item last) next stage)
+open_is sh place ns given true item next stage h k = h
+open_is sh place ns given false item next stage h k = k
 
 -- numbers behind numbers that are known
 pub more_numbers : (wanted ns : List ℕ) (given : List Item) (m : ℕ) → Are wanted ns given → Are (wanted ++ m ∷ []) (ns ++ m ∷ []) (given ++ [])
@@ -203,11 +241,11 @@ pub with_numbers : (wanted : List ℕ) {ns : List ℕ} (given : List Item) (m k 
 with_numbers wanted {ns = ns} given m k h e = subst (λ x. Are (wanted ++ x ∷ []) (ns ++ m ∷ []) (given ++ [])) e (more_numbers wanted ns given m h)
 
 -- a line of known numbers
-pub end_is : (n : ℕ) (place : Place) (stage : Stage) (wanted ns : List ℕ) (given : List Item) (item : Option Item) (m : ℕ) (line : Line) → Are wanted ns given
-    → Wants (stage_at n (stage_of place)) line → keyword line ≡ word_of place → numbers line ≡ wanted ++ m ∷ [] → option_to_list item ≡ parts_of line
-    → IsAt (nodes_by n item) stage (after (stage_at n (stage_of place)) line)
-    → EndIs n place stage (ns ++ m ∷ []) given item
-end_is n place stage wanted ns given item m line h w k l p b = record {
+pub end_is : (sh : Shape) (place : Place) (stage : Stage) (wanted ns : List ℕ) (given : List Item) (item : Option Item) (m : ℕ) (line : Line) → Are wanted ns given
+    → Wants (stage_at sh (stage_of place)) line → keyword line ≡ word_of place → numbers line ≡ wanted ++ m ∷ [] → option_to_list item ≡ parts_of line
+    → IsAt (shape_by sh item) stage (after (stage_at sh (stage_of place)) line)
+    → EndIs sh place stage (ns ++ m ∷ []) given item
+end_is sh place stage wanted ns given item m line h w k l p b = record {
   line = line;
   wanted = w;
   keyword_is = k;

@@ -16,13 +16,15 @@ use Rattle.cert_spec.proofs.TextOrFault.{each_is_text_or_fault_lem}
 use Rattle.cert_scan.specs.Scans.{fault_at, fault_by}
 use Rattle.cert_scan.specs.Parts.{parts_of, items_of}
 use Rattle.cert_scan.specs.Scanned.{HasScanned, AreCountable, fault_of, Tells, IsLineAtHand}
-use Rattle.cert_scan.proofs.StagesAt.{stage_at}
+use Rattle.cert_scan.specs.Repeats.{DualSoFar}
+use Rattle.cert_scan.proofs.Tight.{wanted_at}
 use Rattle.cert_scan.proofs.Tracks.{Tracks, HasFailed, ArePlain, scanned_tracks}
 use Rattle.cert_scan.specs.declared.items.Item.{Item}
 use Rattle.cert_scan.specs.declared.items.Fault.{Fault}
 use Rattle.cert_scan.specs.declared.items.Fault.TheVariants.{BadLine, Ended}
 use Rattle.cert_scan.specs.declared.bytes.Position.{Position}
 use Rattle.cert_scan.specs.declared.bytes.Position.TheVariants.{Start, Number, Keyword, Spoiled, Failed}
+use Rattle.cert_scan.specs.declared.stages.Shape.{Shape}
 use Rattle.cert_scan.specs.declared.stages.Stage.{Stage}
 use Rattle.cert_scan.specs.declared.stages.Stage.TheVariants.{Version, Size, Cost, Bound, Hubs, Route, Cuts, Cut, Dual, Nodes, Tree, End, Nothing}
 use Rattle.cert_scan.specs.declared.scanner.Scan.{Scan}
@@ -63,35 +65,24 @@ fault_behind_all first last line (item ∷ items) rest fault s h f =
     (fault_behind first line item (flat_map line_bytes items ++ rest) fault s h.0 later)
 
 -- the fault of what has come of a line is that of the text
-text_fault : {bytes : List ℕ} {given : List Item} {n line : ℕ} {position : Position} (h : Tracks bytes given n line position) (fault : TextFault)
-    → IsFaultFrom (stage_at h.nodes h.stage) (length h.lines + 1) (parts h.sofar) fault → IsTextFault bytes fault
+text_fault : {bytes : List ℕ} {given : List Item} {sh : Shape} {line : ℕ} {position : Position} {so_far : DualSoFar} (h : Tracks bytes given sh line position so_far) (fault : TextFault)
+    → IsFaultFrom (wanted_at h.shape h.held h.stage) (length h.lines + 1) (parts h.sofar) fault → IsTextFault bytes fault
 text_fault h fault f =
     let turn : length h.lines + 1 ≡ 1 + length h.lines = omega arith in
     subst (λ b. IsTextFault b fault) (sym h.front)
-    (fault_behind_all want_version (stage_at h.nodes h.stage) 1 h.lines h.sofar fault tt h.lead (subst (λ l. IsFaultFrom (stage_at h.nodes h.stage) l (parts h.sofar) fault) turn f))
+    (fault_behind_all want_version (wanted_at h.shape h.held h.stage) 1 h.lines h.sofar fault tt h.lead (subst (λ l. IsFaultFrom (wanted_at h.shape h.held h.stage) l (parts h.sofar) fault) turn f))
 
 -- a line whose end has not come
-last_ended : (n : ℕ) (stage : Stage) (line : ℕ) (last : List ℕ) → (stage ≡ Nothing → ⊥) → LastFault (stage_at n stage) line last (ended line)
-last_ended n Version line last h = refl
-last_ended n Size line last h = refl
-last_ended n Cost line last h = refl
-last_ended n Bound line last h = refl
-last_ended n Hubs line last h = refl
-last_ended n (Route c) line last h = refl
-last_ended n Cuts line last h = refl
-last_ended n (Cut all before) line last h = refl
-last_ended n (Dual d) line last h = refl
-last_ended n Nodes line last h = refl
-last_ended n (Tree d) line last h = refl
-last_ended n End line last h = refl
-last_ended n Nothing line last h = absurd (h refl)
+last_ended : (sh : Shape) (held : DualSoFar) (stage : Stage) (line : ℕ) (last : List ℕ) → (stage ≡ Nothing → ⊥) → LastFault (wanted_at sh held stage) line last (ended line)
+last_ended sh held Nothing line last h = absurd (h refl)
+last_ended sh held stage line last h = refl
 
-ended_fault : {bytes : List ℕ} {given : List Item} {n line : ℕ} {position : Position} (h : Tracks bytes given n line position) → ArePlain h.sofar → (h.stage ≡ Nothing → ⊥)
+ended_fault : {bytes : List ℕ} {given : List Item} {sh : Shape} {line : ℕ} {position : Position} {so_far : DualSoFar} (h : Tracks bytes given sh line position so_far) → ArePlain h.sofar → (h.stage ≡ Nothing → ⊥)
     → IsTextFault bytes (ended (length h.lines + 1))
 ended_fault h plain some =
     text_fault h (ended (length h.lines + 1))
-    (subst (λ ps. IsFaultFrom (stage_at h.nodes h.stage) (length h.lines + 1) ps (ended (length h.lines + 1))) (sym (slice_split_none (λ b. nat_eq b 10) h.sofar plain))
-    (last_ended h.nodes h.stage (length h.lines + 1) h.sofar some))
+    (subst (λ ps. IsFaultFrom (wanted_at h.shape h.held h.stage) (length h.lines + 1) ps (ended (length h.lines + 1))) (sym (slice_split_none (λ b. nat_eq b 10) h.sofar plain))
+    (last_ended h.shape h.held h.stage (length h.lines + 1) h.sofar some))
 
 -- something stands where nothing may
 extra_from : (line : ℕ) (bytes : List ℕ) (ps : List (List ℕ)) → bytes ≢ [] → parts bytes ≡ ps → IsFaultFrom want_nothing line ps (bad_line line)
@@ -99,16 +90,17 @@ extra_from line bytes [] some e = absurd (omega (arith, ap length e, length-slic
 extra_from line bytes (last ∷ []) some e = ((λ none. some (sym (join_with_byte-slice_split 10 bytes) ∙ ap (join_with_byte 10) e ∙ none)), refl)
 extra_from line bytes (part ∷ next ∷ rest) some e = inr ((λ item is. is.wanted), refl)
 
-bad_from : (nodes : ℕ) (stage : Stage) (line : ℕ) (sofar : List ℕ) → HasFailed nodes stage sofar → IsFaultFrom (stage_at nodes stage) line (parts sofar) (bad_line line)
-bad_from nodes stage line sofar (inl bad) =
+bad_from : (sh : Shape) (held : DualSoFar) (stage : Stage) (line : ℕ) (sofar : List ℕ) → HasFailed (wanted_at sh held stage) stage sofar
+    → IsFaultFrom (wanted_at sh held stage) line (parts sofar) (bad_line line)
+bad_from sh held stage line sofar (inl bad) =
     let more = some_part bad.rest (parts bad.rest) refl in
-    subst (λ ps. IsFaultFrom (stage_at nodes stage) line ps (bad_line line))
+    subst (λ ps. IsFaultFrom (wanted_at sh held stage) line ps (bad_line line))
     (sym (ap parts bad.text ∙ parts_line bad.part bad.rest bad.plain ∙ ap (λ ps. bad.part ∷ ps) more.are)) (inr (bad.none, refl))
-bad_from nodes stage line sofar (inr over) =
-    subst (λ s. IsFaultFrom (stage_at nodes s) line (parts sofar) (bad_line line)) (sym over.0) (extra_from line sofar (parts sofar) over.1 refl)
+bad_from sh held stage line sofar (inr over) =
+    subst (λ s. IsFaultFrom (wanted_at sh held s) line (parts sofar) (bad_line line)) (sym over.0) (extra_from line sofar (parts sofar) over.1 refl)
 
-bad_fault : {bytes : List ℕ} {given : List Item} {n line : ℕ} (h : Tracks bytes given n line Failed) → IsTextFault bytes (bad_line (length h.lines + 1))
-bad_fault h = text_fault h (bad_line (length h.lines + 1)) (bad_from h.nodes h.stage (length h.lines + 1) h.sofar h.now)
+bad_fault : {bytes : List ℕ} {given : List Item} {sh : Shape} {line : ℕ} {so_far : DualSoFar} (h : Tracks bytes given sh line Failed so_far) → IsTextFault bytes (bad_line (length h.lines + 1))
+bad_fault h = text_fault h (bad_line (length h.lines + 1)) (bad_from h.shape h.held h.stage (length h.lines + 1) h.sofar h.now)
 
 -- the text is whole
 record IsWhole (bytes : List ℕ) (given : List Item) : Type 0 where
@@ -116,10 +108,10 @@ record IsWhole (bytes : List ℕ) (given : List Item) : Type 0 where
   spells : Spells bytes proof
   items : given ≡ items_of proof
 
-whole : {bytes : List ℕ} {given : List Item} {n line : ℕ} → Tracks bytes given n line (Start Nothing) → IsWhole bytes given
+whole : {bytes : List ℕ} {given : List Item} {sh : Shape} {line : ℕ} {so_far : DualSoFar} → Tracks bytes given sh line (Start Nothing) so_far → IsWhole bytes given
 unfolding certificate_text
 whole {bytes = bytes} {given = given} h =
-    let is : stage_at h.nodes h.stage ≡ want_nothing = ap (stage_at h.nodes) (sym h.now.here.0) in
+    let is : wanted_at h.shape h.held h.stage ≡ want_nothing = ap (wanted_at h.shape h.held) (sym h.now.here.0) in
     let text = each_lead_is_text_lem h.lines (subst (Leads want_version h.lines) is h.lead) in
     record {
       proof = text.0;
@@ -137,7 +129,7 @@ record HasFault (bytes : List ℕ) (position : Position) (line : ℕ) (lines : �
   fault : line ≡ lines → IsTextFault bytes (fault_of told)
   some : (f : TextFault) × IsTextFault bytes f
 
-ended_there : {bytes : List ℕ} {given : List Item} {n line : ℕ} {position : Position} (h : Tracks bytes given n line position) → ArePlain h.sofar → (h.stage ≡ Nothing → ⊥)
+ended_there : {bytes : List ℕ} {given : List Item} {sh : Shape} {line : ℕ} {position : Position} {so_far : DualSoFar} (h : Tracks bytes given sh line position so_far) → ArePlain h.sofar → (h.stage ≡ Nothing → ⊥)
     → fault_at line position ≡ Some (Ended line) → HasFault bytes position line (length h.lines + 1)
 ended_there {bytes = bytes} {line = line} h plain some e = record {
   told = Ended line;
@@ -146,10 +138,10 @@ ended_there {bytes = bytes} {line = line} h plain some e = record {
   some = (ended (length h.lines + 1), ended_fault h plain some);
 }
 
-Outcome : (bytes : List ℕ) (given : List Item) (n line : ℕ) (position : Position) → Tracks bytes given n line position → Type 0
-Outcome bytes given n line position h = ((fault_at line position ≡ None) × IsWhole bytes given) ⊎ HasFault bytes position line (length h.lines + 1)
+Outcome : (bytes : List ℕ) (given : List Item) (sh : Shape) (line : ℕ) (position : Position) (so_far : DualSoFar) → Tracks bytes given sh line position so_far → Type 0
+Outcome bytes given sh line position so_far h = ((fault_at line position ≡ None) × IsWhole bytes given) ⊎ HasFault bytes position line (length h.lines + 1)
 
-start_outcome : {bytes : List ℕ} {given : List Item} {n line : ℕ} (s : Stage) (h : Tracks bytes given n line (Start s)) → Outcome bytes given n line (Start s) h
+start_outcome : {bytes : List ℕ} {given : List Item} {sh : Shape} {line : ℕ} {so_far : DualSoFar} (s : Stage) (h : Tracks bytes given sh line (Start s) so_far) → Outcome bytes given sh line (Start s) so_far h
 unfolding Outcome
 start_outcome Version h = let is = h.now.here.0 in inr (ended_there h h.now.plain (λ e. cc) refl)
 start_outcome Size h = let is = h.now.here.0 in inr (ended_there h h.now.plain (λ e. cc) refl)
@@ -165,7 +157,7 @@ start_outcome (Tree d) h = let is = h.now.here.0 in inr (ended_there h h.now.pla
 start_outcome End h = let is = h.now.here.0 in inr (ended_there h h.now.plain (λ e. cc) refl)
 start_outcome Nothing h = inl (refl, whole h)
 
-outcome_at : {bytes : List ℕ} {given : List Item} {n line : ℕ} (position : Position) (h : Tracks bytes given n line position) → Outcome bytes given n line position h
+outcome_at : {bytes : List ℕ} {given : List Item} {sh : Shape} {line : ℕ} {so_far : DualSoFar} (position : Position) (h : Tracks bytes given sh line position so_far) → Outcome bytes given sh line position so_far h
 unfolding Outcome
 outcome_at (Start s) h = start_outcome s h
 outcome_at (Keyword head matched) h = inr (ended_there h h.now.plain h.now.busy refl)
@@ -227,7 +219,7 @@ told_ended line told (Start Nothing) h e = cc
 told_ended line told Failed h e = absurd (h refl)
 told_ended line told position h e = cc
 
-no_bad_line : {bytes : List ℕ} {given : List Item} {n line : ℕ} (position : Position) (h : Tracks bytes given n line position) → (position ≡ Failed → ⊥) → line ≡ length h.lines + 1
+no_bad_line : {bytes : List ℕ} {given : List Item} {sh : Shape} {line : ℕ} {so_far : DualSoFar} (position : Position) (h : Tracks bytes given sh line position so_far) → (position ≡ Failed → ⊥) → line ≡ length h.lines + 1
     → (bad : ℕ) → IsTextFault bytes (bad_line bad) → ⊥
 unfolding Outcome
 no_bad_line {bytes = bytes} {line = line} position h good same bad f = elim (outcome_at position h) [
@@ -238,10 +230,10 @@ no_bad_line {bytes = bytes} {line = line} position h good same bad f = elim (out
       cc)
 ]
 
-line_good : {bytes : List ℕ} {given : List Item} {n line : ℕ} (position : Position) (h : Tracks bytes given n line position) → ArePlain h.sofar → (position ≡ Failed → ⊥)
+line_good : {bytes : List ℕ} {given : List Item} {sh : Shape} {line : ℕ} {so_far : DualSoFar} (position : Position) (h : Tracks bytes given sh line position so_far) → ArePlain h.sofar → (position ≡ Failed → ⊥)
     → line ≡ length h.lines + 1 → IsLineAtHand bytes line
 line_good {bytes = bytes} position h plain good same =
-    let here = length-parts want_version (stage_at h.nodes h.stage) h.lines h.sofar tt h.lead plain in
+    let here = length-parts want_version (wanted_at h.shape h.held h.stage) h.lines h.sofar tt h.lead plain in
     record {
       good = λ none. omega (arith, same, length-slice_split (λ b. nat_eq b 10) bytes, ap (λ b. length (parts b)) h.front, here);
       bad = λ bad f. absurd (no_bad_line position h good same bad f);
@@ -250,7 +242,7 @@ line_good {bytes = bytes} position h plain good same =
 same_line : (a b : ℕ) → bad_line a ≡ bad_line b → a ≡ b
 same_line a b e = cc
 
-line_of : {bytes : List ℕ} {given : List Item} {n line : ℕ} (position : Position) (h : Tracks bytes given n line position) → line ≡ length h.lines + 1 → IsLineAtHand bytes line
+line_of : {bytes : List ℕ} {given : List Item} {sh : Shape} {line : ℕ} {so_far : DualSoFar} (position : Position) (h : Tracks bytes given sh line position so_far) → line ≡ length h.lines + 1 → IsLineAtHand bytes line
 line_of (Start s) h same = line_good (Start s) h h.now.plain (λ e. cc) same
 line_of (Keyword head matched) h same = line_good (Keyword head matched) h h.now.plain (λ e. cc) same
 line_of (Number place value) h same = line_good (Number place value) h h.now.plain (λ e. cc) same

@@ -2,16 +2,19 @@
 use Rattle.std.proofs.Common.{◌≡◌, ℕ, ◌<◌, Bool, true, false, List, [], ◌∷◌, length, get_or, Option, None, nat_lt, refl, arith, zero, suc}
 use Rattle.std.specs.List.{list_all}
 use Rattle.std.proofs.lemmas.Bool.{cond_both, and_parts, ltb-true}
-use Rattle.cert_scan.specs.Moves.{taken_by, refusal, more_by, whole_by, open_by, allowed, keyword_of}
+use Rattle.cert_scan.specs.Moves.{taken_by, cut_by, refusal, more_by, whole_by, open_by, allowed, keyword_of}
 use Rattle.cert_scan.specs.declared.items.Item.{Item}
 use Rattle.cert_scan.specs.declared.bytes.Move.{Move}
 use Rattle.cert_scan.specs.declared.bytes.Position.{Position}
 use Rattle.cert_scan.specs.declared.bytes.Position.TheVariants.{Start, Number, Spoiled, Failed}
 use Rattle.cert_scan.specs.declared.heads.Head.{Head}
-use Rattle.cert_scan.specs.declared.heads.Head.TheVariants.{VersionLine, SizeLine, CostLine, BoundLine, HubsLine, RouteLine, CutsLine, CutLine, DualLine, NodesLine, BranchLine, LeafLine, EmptyLine, EndLine}
+use Rattle.cert_scan.specs.declared.heads.Head.TheVariants.{VersionLine, SizeLine, CostLine, BoundLine, HubsLine, RouteLine, CutsLine, CutLine, DualLine, DualsLine, NodesLine, BranchLine, LeafLine, EmptyLine, EndLine}
 use Rattle.cert_scan.specs.declared.places.Place.{Place}
-use Rattle.cert_scan.specs.declared.places.Place.TheVariants.{VersionNumber, NodeCount, CandidateCount, CostAmount, BoundAmount, HubNode, RouteFrom, RouteTo, RouteFirst, RouteLast, CutCount, CutNumber, DualFrom, DualTo, DualPrice, ValueNode, ValueAmount, LineCount, BranchNode, Denominator, WeightCut, WeightAmount}
+use Rattle.cert_scan.specs.declared.places.Place.TheVariants.{VersionNumber, NodeCount, CandidateCount, CostAmount, BoundAmount, HubNode, RouteFrom, RouteTo, RouteFirst, RouteLast, CutCount, CutNumber, CutPart, DualFrom, DualTo, RunFrom, RunTo, RunLength, DualPrice, ValueNode, ValueAmount, LineCount, BranchNode, Denominator, WeightCut, WeightAmount}
+use Rattle.cert_scan.specs.declared.items.Version.{Version as TextVersion}
+use Rattle.cert_scan.specs.declared.items.Version.TheVariants.{First, Second}
 use Rattle.cert_scan.specs.declared.stages.Stage.{Stage}
+use Rattle.cert_scan.specs.declared.stages.Shape.{Shape}
 
 -- behind the last number of a line a line begins or was bad, and behind another one a number begins or the line is spoiled
 abbrev pub Leaves : Bool → Position → Type 0
@@ -43,29 +46,37 @@ turns_open false item place stage = tt
 turns_allowed : (test last : Bool) (next : Move) → Turns last next → Turns last (allowed test last next)
 turns_allowed test last next h = cond_both test next (refusal last) (Turns last) (λ e. h) (λ e. turns_refused last)
 
-pub taken_leaves : (n : ℕ) (place : Place) (v : ℕ) (last : Bool) → Leaves last (taken_by n place v last).position
-taken_leaves n VersionNumber v last = turns_allowed _ last _ (turns_whole last _ _)
-taken_leaves n NodeCount v last = turns_allowed _ last _ (turns_more last _)
-taken_leaves n (CandidateCount nodes) v last = turns_allowed _ last _ (turns_whole last _ _)
-taken_leaves n CostAmount v last = turns_whole last _ _
-taken_leaves n BoundAmount v last = turns_whole last _ _
-taken_leaves n (HubNode before) v last = turns_allowed _ last _ (turns_open last _ _ _)
-taken_leaves n (RouteFrom c) v last = turns_allowed _ last _ (turns_more last _)
-taken_leaves n (RouteTo c) v last = turns_allowed _ last _ (turns_more last _)
-taken_leaves n (RouteFirst c) v last = turns_allowed _ last _ (turns_more last _)
-taken_leaves n (RouteLast c k) v last = turns_allowed _ last _ (turns_whole last _ _)
-taken_leaves n CutCount v last = turns_allowed _ last _ (turns_whole last _ _)
-taken_leaves n (CutNumber all before) v last = turns_allowed _ last _ (turns_whole last _ _)
-taken_leaves n (DualFrom d) v last = turns_allowed _ last _ (turns_more last _)
-taken_leaves n (DualTo d) v last = turns_allowed _ last _ (turns_more last _)
-taken_leaves n (DualPrice d) v last = turns_open last _ _ _
-taken_leaves n (ValueNode d before) v last = turns_allowed _ last _ (turns_more last _)
-taken_leaves n (ValueAmount d number) v last = turns_allowed _ last _ (turns_open last _ _ _)
-taken_leaves n LineCount v last = turns_allowed _ last _ (turns_whole last _ _)
-taken_leaves n (BranchNode t) v last = turns_allowed _ last _ (turns_whole last _ _)
-taken_leaves n (Denominator t) v last = turns_allowed _ last _ (turns_open last _ _ _)
-taken_leaves n (WeightCut t before) v last = turns_allowed _ last _ (turns_more last _)
-taken_leaves n (WeightAmount t number) v last = turns_allowed _ last _ (turns_open last _ _ _)
+turns_cut : (version : TextVersion) (all number : ℕ) (last : Bool) → Turns last (cut_by version all number last)
+turns_cut First all number last = turns_whole last _ _
+turns_cut Second all number last = turns_more last _
+
+pub taken_leaves : (sh : Shape) (place : Place) (v : ℕ) (last : Bool) → Leaves last (taken_by sh place v last).position
+taken_leaves sh VersionNumber v last = turns_allowed _ last _ (turns_whole last _ _)
+taken_leaves sh NodeCount v last = turns_allowed _ last _ (turns_more last _)
+taken_leaves sh (CandidateCount nodes) v last = turns_allowed _ last _ (turns_whole last _ _)
+taken_leaves sh CostAmount v last = turns_allowed _ last _ (turns_whole last _ _)
+taken_leaves sh BoundAmount v last = turns_allowed _ last _ (turns_whole last _ _)
+taken_leaves sh (HubNode before) v last = turns_allowed _ last _ (turns_open last _ _ _)
+taken_leaves sh (RouteFrom c) v last = turns_allowed _ last _ (turns_more last _)
+taken_leaves sh (RouteTo c) v last = turns_allowed _ last _ (turns_more last _)
+taken_leaves sh (RouteFirst c) v last = turns_allowed _ last _ (turns_more last _)
+taken_leaves sh (RouteLast c k) v last = turns_allowed _ last _ (turns_whole last _ _)
+taken_leaves sh CutCount v last = turns_allowed _ last _ (turns_whole last _ _)
+taken_leaves sh (CutNumber all before) v last = turns_allowed _ last _ (turns_cut sh.version all v last)
+taken_leaves sh (CutPart all number) v last = turns_allowed _ last _ (turns_whole last _ _)
+taken_leaves sh (DualFrom d) v last = turns_allowed _ last _ (turns_more last _)
+taken_leaves sh (DualTo d) v last = turns_allowed _ last _ (turns_more last _)
+taken_leaves sh (RunFrom d) v last = turns_allowed _ last _ (turns_more last _)
+taken_leaves sh (RunTo d) v last = turns_allowed _ last _ (turns_more last _)
+taken_leaves sh (RunLength d) v last = turns_allowed _ last _ (turns_more last _)
+taken_leaves sh (DualPrice run) v last = turns_allowed _ last _ (turns_open last _ _ _)
+taken_leaves sh (ValueNode d before) v last = turns_allowed _ last _ (turns_more last _)
+taken_leaves sh (ValueAmount d number) v last = turns_allowed _ last _ (turns_open last _ _ _)
+taken_leaves sh LineCount v last = turns_allowed _ last _ (turns_whole last _ _)
+taken_leaves sh (BranchNode t) v last = turns_allowed _ last _ (turns_whole last _ _)
+taken_leaves sh (Denominator t) v last = turns_allowed _ last _ (turns_open last _ _ _)
+taken_leaves sh (WeightCut t before) v last = turns_allowed _ last _ (turns_more last _)
+taken_leaves sh (WeightAmount t number) v last = turns_allowed _ last _ (turns_open last _ _ _)
 
 -- the bytes of a keyword are letters
 abbrev is_letter : ℕ → Bool
@@ -81,6 +92,7 @@ letters (RouteLine c) = refl
 letters CutsLine = refl
 letters (CutLine all before) = refl
 letters (DualLine d) = refl
+letters (DualsLine d) = refl
 letters NodesLine = refl
 letters (BranchLine t) = refl
 letters (LeafLine t) = refl

@@ -15,3 +15,9 @@ pub mod OnTime
 pub mod Stepping
 pub mod PairRuns
 pub mod ShortDigits
+pub mod Leftover
+pub mod Walks
+pub mod Repeated
+pub mod Tight
+pub mod Sifted
+pub mod ScanBytes

@@ -1,36 +1,40 @@
 -- What each number makes of the line so far.
-use Rattle.std.proofs.Common.{◌≡◌, ℕ, ◌+◌, ◌-◌, ◌^◌, ◌<◌, ◌≤◌, Bool, true, false, ◌&&◌, List, [], ◌∷◌, ◌++◌, length, map, All, Some, None, nat_lt, nat_le, nat_eq, inl, refl, sym, ap, ◌∙◌, subst, append_assoc, append-nil, arith, map-id}
+use Rattle.std.proofs.Common.{◌≡◌, codes, ℕ, ◌+◌, ◌-◌, ◌^◌, ◌<◌, ◌≤◌, Bool, true, false, ◌&&◌, List, [], ◌∷◌, ◌++◌, length, map, All, Some, None, nat_lt, nat_le, nat_eq, inl, inr, refl, sym, ap, ◌∙◌, subst, append_assoc, append-nil, arith, map-id}
 use Rattle.std.specs.List.{list_all}
 use Rattle.std.specs.List.Sorted.{IsStrictlyIncreasing}
 use Rattle.std.proofs.lemmas.List.Elements.{All-nil}
-use Rattle.std.proofs.lemmas.Bool.{and_from, and_parts, eqb-true, leb-true, ltb-true, le-leb, lt-ltb}
+use Rattle.std.proofs.lemmas.Bool.{and_from, and_parts, eqb-true, leb-true, ltb-true, le-leb, lt-ltb, ne_eqb}
 use Rattle.std.proofs.lemmas.List.{map-append, length-append}
-use Rattle.hub_spec.specs.Limits.{most_nodes, most_denominator, most_cuts, most_tree_lines}
+use Rattle.hub_spec.specs.Limits.{most_nodes, most_part, most_denominator, most_cuts, most_tree_lines}
 use Rattle.std.proofs.lemmas.Option.{none-some}
 use Rattle.hub_spec.specs.Cuts.{Prices}
 use Rattle.hub_spec.specs.Trees.{branch_on, leaf_of}
-use Rattle.hub_spec.specs.Ranges.{IsDualInRange, IsFirstDual}
+use Rattle.hub_spec.specs.Ranges.{IsDualInRange, IsFirstDual, IsSecond}
 use Rattle.cert_spec.specs.Lines.{says_version, says_size, says_cost, says_bound, says_hubs, says_route, says_cuts, says_cut, says_dual, says_nodes, says_tree, value_numbers, weight_numbers}
-use Rattle.cert_spec.specs.Grammar.{Wants, want_hubs, IsRun, shape}
+use Rattle.cert_spec.specs.Grammar.{Wants, IsVersion, want_hubs, want_version}
 use Rattle.cert_spec.specs.Grammar as grammar
-use Rattle.cert_spec.specs.Reading.{IsStage, IsSize, ascends, is_amount, is_short, is_dual_text, is_first_dual, is_weights_text, is_tree_line_text, is_first_line}
+use Rattle.cert_spec.specs.Reading.{IsStage, IsSize, is_version, ascends, is_amount, is_short, is_dual_text, is_first_dual, is_weights_text, is_tree_line_text, is_first_line}
 use Rattle.cert_spec.proofs.Wanted.{wants_decides, dual_decides, first_dual_decides}
-use Rattle.cert_scan.specs.Versions.{version_of}
-use Rattle.cert_scan.specs.Moves.{taken_by, more_by, whole_by, open_by, within, follows, may_fill, commodity_by, stage_after_route, stage_after_cuts, stage_after_dual, stage_after_tree, stage_after_filled}
+use Rattle.cert_scan.specs.Versions.{version_number, version_of}
+use Rattle.cert_scan.proofs.Versions.{number_back}
+use Rattle.cert_scan.specs.Moves.{taken_by, more_by, whole_by, open_by, within, follows, may_fill, commodity_by, amount_limit, cut_by, alone, first_dual_of, stage_after_route, stage_after_cuts, stage_after_dual, stage_after_tree, stage_after_filled}
 use Rattle.cert_scan.specs.Parts.{none_left, hub_parts, value_parts, weight_parts, open_hubs, open_values, open_weights}
 use Rattle.cert_scan.proofs.Climbs.{Climbs, climbs_more, climbs_ascend, climbs_pass, all_pass}
-use Rattle.cert_scan.proofs.StagesAt.{stage_at, number_of, IsCommodity, NamesNodes, commodity_named, first_commodity, route_at, cuts_at, dual_at, tree_at}
-use Rattle.cert_scan.proofs.Accepts.{is_hub, is_value, is_listed, is_short_value, is_weight, node_of}
-use Rattle.cert_scan.proofs.Described.{stage_of, Are, HubsAre, ValuesAre, ValueAre, WeightsAre, WeightAre, NodesAre, FirstIs, Described, EndIs, Outcome, allowed_is, more_is, whole_is, open_is, more_numbers, with_numbers, end_is, is_in, is_next}
-use Rattle.cert_scan.specs.declared.items.Version.TheVariants.{First}
+use Rattle.cert_scan.proofs.StagesAt.{stage_at, text_shape, number_of, IsRunOf, run_of, IsAt, IsCommodity, NamesNodes, commodity_named, first_commodity, route_at, cuts_at, dual_at, tree_at}
+use Rattle.cert_scan.proofs.Accepts.{first_dual_at, limit_most, is_hub, is_value, is_listed, is_short_value, is_weight, node_of}
+use Rattle.cert_scan.proofs.Described.{stage_of, dual_word, run_front, Are, SecondAre, CutIs, RunIs, HubsAre, ValuesAre, ValueAre, WeightsAre, WeightAre, NodesAre, FirstIs, Described, EndIs, Outcome, allowed_is, more_is, whole_is, open_is, more_numbers, with_numbers, end_is, is_in, is_next}
+use Rattle.cert_scan.specs.declared.items.Version.{Version as TextVersion}
+use Rattle.cert_scan.specs.declared.items.Version.TheVariants.{First, Second}
 use Rattle.cert_scan.specs.declared.items.Item.{Item}
 use Rattle.cert_scan.specs.declared.items.Item.TheVariants.{Version as version_item, Size as size_item, Cost as cost_item, Bound as bound_item, Hub as hub_item, Route as route_item, Cuts as cuts_item, Cut as cut_item, Dual as dual_item, DualPair as pair_item, Nodes as nodes_item, Branch as branch_item, Leaf as leaf_item, LeafPair as weight_item}
 use Rattle.cert_scan.specs.declared.places.Place.{Place}
-use Rattle.cert_scan.specs.declared.places.Place.TheVariants.{VersionNumber, NodeCount, CandidateCount, CostAmount, BoundAmount, HubNode, RouteFrom, RouteTo, RouteFirst, RouteLast, CutCount, CutNumber, DualFrom, DualTo, DualPrice, ValueNode, ValueAmount, LineCount, BranchNode, Denominator, WeightCut, WeightAmount}
+use Rattle.cert_scan.specs.declared.places.Place.TheVariants.{VersionNumber, NodeCount, CandidateCount, CostAmount, BoundAmount, HubNode, RouteFrom, RouteTo, RouteFirst, RouteLast, CutCount, CutNumber, CutPart, DualFrom, DualTo, RunFrom, RunTo, RunLength, DualPrice, ValueNode, ValueAmount, LineCount, BranchNode, Denominator, WeightCut, WeightAmount}
 use Rattle.cert_scan.specs.declared.stages.Commodity.{Commodity}
 use Rattle.cert_scan.specs.declared.stages.DualAt.{DualAt}
 use Rattle.cert_scan.specs.declared.stages.TreeAt.{TreeAt}
-use Rattle.cert_scan.specs.declared.stages.Stage.TheVariants.{Size, Cost, Bound, Hubs, Route, Dual, Tree}
+use Rattle.cert_scan.specs.declared.stages.Run.{Run}
+use Rattle.cert_scan.specs.declared.stages.Shape.{Shape}
+use Rattle.cert_scan.specs.declared.stages.Stage.TheVariants.{Size, Cost, Bound, Hubs, Route, Cut, Dual, Tree}
 
 -- ---- hubs
 
@@ -39,62 +43,62 @@ hub_parts-last [] k = refl
 hub_parts-last (x ∷ []) k = refl
 hub_parts-last (x ∷ y ∷ rest) k = ap (λ l. hub_item x false ∷ l) (hub_parts-last (y ∷ rest) k)
 
-hubs_more : (n before : ℕ) (ns : List ℕ) (given : List Item) (k : ℕ) → HubsAre n before ns given → before ≤ k → k < n
-    → HubsAre n (k + 1) (ns ++ (k + 1) ∷ []) (given ++ hub_item k false ∷ [])
-hubs_more n before ns given k h low high = record {
+hubs_more : (sh : Shape) (before : ℕ) (ns : List ℕ) (given : List Item) (k : ℕ) → HubsAre sh before ns given → before ≤ k → k < sh.n
+    → HubsAre sh (k + 1) (ns ++ (k + 1) ∷ []) (given ++ hub_item k false ∷ [])
+hubs_more sh before ns given k h low high = record {
   hubs = h.hubs ++ k ∷ [];
   numbers = ap (λ l. l ++ (k + 1) ∷ []) h.numbers ∙ sym (map-append (λ x. x + 1) h.hubs (k ∷ []));
   given_hubs = ap (λ g. g ++ hub_item k false ∷ []) h.given_hubs ∙ sym (map-append (λ x. hub_item x false) h.hubs (k ∷ []));
-  climbs = climbs_more (is_hub n) (λ x. x) 0 h.hubs before k h.climbs low (lt-ltb k n high);
+  climbs = climbs_more (is_hub sh.n) (λ x. x) 0 h.hubs before k h.climbs low (lt-ltb k sh.n high);
 }
 
-hubs_wanted : (n : ℕ) (hubs : List ℕ) (k high : ℕ) → Climbs (is_hub n) (λ x. x) 0 (hubs ++ k ∷ []) high → Wants (want_hubs (shape 1 n)) (says_hubs (hubs ++ k ∷ []))
-hubs_wanted n hubs k high h =
+hubs_wanted : (sh : Shape) (hubs : List ℕ) (k high : ℕ) → Climbs (is_hub sh.n) (λ x. x) 0 (hubs ++ k ∷ []) high → Wants (want_hubs (text_shape sh)) (says_hubs (hubs ++ k ∷ []))
+hubs_wanted sh hubs k high h =
     let all = hubs ++ k ∷ [] in
-    let up : ascends (hubs ++ k ∷ []) ≡ true = ap ascends (sym (map-id (hubs ++ k ∷ []))) ∙ climbs_ascend (is_hub n) (λ x. x) 0 (hubs ++ k ∷ []) high h in
-    let pass = climbs_pass (is_hub n) (λ x. x) 0 (hubs ++ k ∷ []) high h in
-    (wants_decides (want_hubs (shape 1 n)) (says_hubs (hubs ++ k ∷ []))).0
+    let up : ascends (hubs ++ k ∷ []) ≡ true = ap ascends (sym (map-id (hubs ++ k ∷ []))) ∙ climbs_ascend (is_hub sh.n) (λ x. x) 0 (hubs ++ k ∷ []) high h in
+    let pass = climbs_pass (is_hub sh.n) (λ x. x) 0 (hubs ++ k ∷ []) high h in
+    (wants_decides (want_hubs (text_shape sh)) (says_hubs (hubs ++ k ∷ []))).0
     (and_from (nat_le 1 (length (hubs ++ k ∷ []))) _ (le-leb 1 (length (hubs ++ k ∷ [])) (omega (arith, length-append hubs (k ∷ []))))
-    (and_from (ascends (hubs ++ k ∷ [])) (list_all (is_hub n) (hubs ++ k ∷ [])) up pass))
+    (and_from (ascends (hubs ++ k ∷ [])) (list_all (is_hub sh.n) (hubs ++ k ∷ [])) up pass))
 
 -- hubs that climb ascend, and are nodes
-pub hubs_range : (n : ℕ) (hubs : List ℕ) (high : ℕ) → Climbs (is_hub n) (λ x. x) 0 hubs high → IsStrictlyIncreasing hubs × All (λ k. k < n) hubs
-hubs_range n [] high h = ((λ k l. absurd (omega (arith, l))), All-nil (λ k. k < n))
-hubs_range n (x ∷ rest) high h =
-    let up : ascends (x ∷ rest) ≡ true = ap ascends (sym (map-id (x ∷ rest))) ∙ climbs_ascend (is_hub n) (λ x. x) 0 (x ∷ rest) high h in
-    let pass = climbs_pass (is_hub n) (λ x. x) 0 (x ∷ rest) high h in
-    let w = (wants_decides (want_hubs (shape 1 n)) (says_hubs (x ∷ rest))).0
-    (and_from (nat_le 1 (length (x ∷ rest))) _ (le-leb 1 (length (x ∷ rest)) (omega arith)) (and_from (ascends (x ∷ rest)) (list_all (is_hub n) (x ∷ rest)) up pass)) in
+pub hubs_range : (sh : Shape) (hubs : List ℕ) (high : ℕ) → Climbs (is_hub sh.n) (λ x. x) 0 hubs high → IsStrictlyIncreasing hubs × All (λ k. k < sh.n) hubs
+hubs_range sh [] high h = ((λ k l. absurd (omega (arith, l))), All-nil (λ k. k < sh.n))
+hubs_range sh (x ∷ rest) high h =
+    let up : ascends (x ∷ rest) ≡ true = ap ascends (sym (map-id (x ∷ rest))) ∙ climbs_ascend (is_hub sh.n) (λ x. x) 0 (x ∷ rest) high h in
+    let pass = climbs_pass (is_hub sh.n) (λ x. x) 0 (x ∷ rest) high h in
+    let w = (wants_decides (want_hubs (text_shape sh)) (says_hubs (x ∷ rest))).0
+    (and_from (nat_le 1 (length (x ∷ rest))) _ (le-leb 1 (length (x ∷ rest)) (omega arith)) (and_from (ascends (x ∷ rest)) (list_all (is_hub sh.n) (x ∷ rest)) up pass)) in
     (w.1, w.2)
 
-hubs_end : (n before : ℕ) (ns : List ℕ) (given : List Item) (k : ℕ) → HubsAre n before ns given → IsSize n → before ≤ k → k < n
-    → EndIs n (HubNode before) (Route (commodity_by 0 0)) (ns ++ (k + 1) ∷ []) given (Some (hub_item k true))
+hubs_end : (sh : Shape) (before : ℕ) (ns : List ℕ) (given : List Item) (k : ℕ) → HubsAre sh before ns given → IsSize sh.n → before ≤ k → k < sh.n
+    → EndIs sh (HubNode before) (Route (commodity_by 0 0)) (ns ++ (k + 1) ∷ []) given (Some (hub_item k true))
 unfolding hubs_more
-hubs_end n before ns given k h size low high = record {
+hubs_end sh before ns given k h size low high = record {
   line = says_hubs (h.hubs ++ k ∷ []);
-  wanted = hubs_wanted n h.hubs k (k + 1) (hubs_more n before ns given k h low high).climbs;
+  wanted = hubs_wanted sh h.hubs k (k + 1) (hubs_more sh before ns given k h low high).climbs;
   keyword_is = refl;
-  numbers_are = sym (hubs_more n before ns given k h low high).numbers;
+  numbers_are = sym (hubs_more sh before ns given k h low high).numbers;
   parts = ap (λ g. g ++ hub_item k true ∷ []) h.given_hubs ∙ hub_parts-last h.hubs k;
-  behind = record { is = ap (grammar.want_route (shape 1 n)) (omega arith); names = first_commodity n size.0 };
+  behind = record { is = ap (grammar.want_route (text_shape sh)) (omega arith); names = first_commodity sh.n size.0 };
 }
 
-hub_outcome : (n before : ℕ) (ns : List ℕ) (given : List Item) (v : ℕ) (last : Bool) → IsSize n → HubsAre n before ns given
-    → Outcome n (HubNode before) (ns ++ v ∷ []) given (taken_by n (HubNode before) v last)
-hub_outcome n before ns given v last size h =
-    allowed_is n (HubNode before) (ns ++ v ∷ []) given (follows n before v) last (open_by last (hub_item (v - 1) last) (HubNode v) (Route (commodity_by 0 0)))
-    (λ e. (let f = is_next n before v e in
+hub_outcome : (sh : Shape) (before : ℕ) (ns : List ℕ) (given : List Item) (v : ℕ) (last : Bool) → IsSize sh.n → HubsAre sh before ns given
+    → Outcome sh (HubNode before) (ns ++ v ∷ []) given (taken_by sh (HubNode before) v last)
+hub_outcome sh before ns given v last size h =
+    allowed_is sh (HubNode before) (ns ++ v ∷ []) given (follows sh.n before v) last (open_by last (hub_item (v - 1) last) (HubNode v) (Route (commodity_by 0 0)))
+    (λ e. (let f = is_next sh.n before v e in
     let low = f.low in
     let high = f.high in
     let is : v - 1 + 1 ≡ v = omega arith in
-    open_is n (HubNode before) (ns ++ v ∷ []) given last (hub_item (v - 1)) (HubNode v) (Route (commodity_by 0 0))
-    (subst (λ x. EndIs n (HubNode before) (Route (commodity_by 0 0)) (ns ++ x ∷ []) given (Some (hub_item (v - 1) true))) is
-    (hubs_end n before ns given (v - 1) h size (omega arith) (omega arith)))
+    open_is sh (HubNode before) (ns ++ v ∷ []) given last (hub_item (v - 1)) (HubNode v) (Route (commodity_by 0 0))
+    (subst (λ x. EndIs sh (HubNode before) (Route (commodity_by 0 0)) (ns ++ x ∷ []) given (Some (hub_item (v - 1) true))) is
+    (hubs_end sh before ns given (v - 1) h size (omega arith) (omega arith)))
     (record {
       stage = refl;
       word = refl;
       same = refl;
-      described = subst (λ x. HubsAre n x (ns ++ x ∷ []) (given ++ hub_item (v - 1) false ∷ [])) is (hubs_more n before ns given (v - 1) h (omega arith) (omega arith));
+      described = subst (λ x. HubsAre sh x (ns ++ x ∷ []) (given ++ hub_item (v - 1) false ∷ [])) is (hubs_more sh before ns given (v - 1) h (omega arith) (omega arith));
     })))
 
 -- ---- values
@@ -112,114 +116,143 @@ value_numbers-more : (u : List (ℕ × ℕ)) (k v : ℕ) → value_numbers (u ++
 value_numbers-more [] k v = refl
 value_numbers-more (e ∷ u) k v = ap (λ l. (e.0 + 1) ∷ e.1 ∷ l) (value_numbers-more u k v)
 
--- the nodes of a commodity and a price stand before the values
-abbrev priced : DualAt → ℕ → List (ℕ × ℕ) → List ℕ
-priced d a u = (d.commodity.from + 1) ∷ (d.commodity.to + 1) ∷ a ∷ value_numbers u
+-- a run and a price stand before the values
+abbrev priced : Run → ℕ → List (ℕ × ℕ) → List ℕ
+priced run a u = run_front run ++ a ∷ value_numbers u
 
-value_more : (n : ℕ) (d : DualAt) (number : ℕ) (ns : List ℕ) (given : List Item) (v : ℕ) → ValueAre n d number ns given → 1 ≤ v → v < 10 ^ 30
-    → ValuesAre n d number (ns ++ v ∷ []) (given ++ pair_item (number - 1) v false ∷ [])
-value_more n d number ns given v h some short =
+priced-more : (run : Run) (a : ℕ) (u : List (ℕ × ℕ)) (k v : ℕ) → priced run a u ++ (k + 1) ∷ v ∷ [] ≡ priced run a (u ++ (k, v) ∷ [])
+priced-more run a u k v =
+    append_assoc (run_front run) (a ∷ value_numbers u) ((k + 1) ∷ v ∷ [])
+    ∙ ap (λ l. run_front run ++ a ∷ l) (sym (value_numbers-more u k v))
+
+-- what a run gives with its price
+abbrev dual_begun : Run → ℕ → Bool → Item
+dual_begun run a last = dual_item run.first.commodity.from run.first.commodity.to run.length a last
+
+value_more : (sh : Shape) (run : Run) (number : ℕ) (ns : List ℕ) (given : List Item) (v : ℕ) → ValueAre sh run number ns given → 1 ≤ v → v < amount_limit sh.version
+    → ValuesAre sh run number (ns ++ v ∷ []) (given ++ pair_item (number - 1) v false ∷ [])
+value_more sh run number ns given v h some short =
     let w = h.values in
     let above = h.above in
     let node = h.node in
-    let k = number - 1 in
     let is : number - 1 + 1 ≡ number = omega arith in
-    let text : priced d w.a w.u ++ number ∷ v ∷ [] ≡ priced d w.a (w.u ++ (number - 1, v) ∷ []) =
-    ap (λ l. (d.commodity.from + 1) ∷ (d.commodity.to + 1) ∷ w.a ∷ l)
-    (ap (λ x. value_numbers w.u ++ x ∷ v ∷ []) (sym is) ∙ sym (value_numbers-more w.u (number - 1) v)) in
-    let below : number - 1 < n = omega arith in
+    let text : priced run w.a w.u ++ number ∷ v ∷ [] ≡ priced run w.a (w.u ++ (number - 1, v) ∷ []) =
+    ap (λ x. priced run w.a w.u ++ x ∷ v ∷ []) (sym is) ∙ priced-more run w.a w.u (number - 1) v in
+    let below : number - 1 < sh.n = omega arith in
     let least : h.before ≤ number - 1 = omega arith in
-    let test : is_value n (number - 1, v) ≡ true = and_from (nat_lt (number - 1) n) _ (lt-ltb (number - 1) n below)
-    (and_from (nat_le 1 v) (is_short v) (le-leb 1 v some) (lt-ltb v (10 ^ 30) short)) in
+    let test : is_value sh (number - 1, v) ≡ true = and_from (nat_lt (number - 1) sh.n) _ (lt-ltb (number - 1) sh.n below)
+    (and_from (nat_le 1 v) (nat_lt v (amount_limit sh.version)) (le-leb 1 v some) (lt-ltb v (amount_limit sh.version) short)) in
     record {
       a = w.a;
       u = w.u ++ (number - 1, v) ∷ [];
       numbers = ap (λ l. l ++ v ∷ []) h.numbers ∙ append_assoc h.front (number ∷ []) (v ∷ []) ∙ ap (λ l. l ++ number ∷ v ∷ []) w.numbers ∙ text;
       given_values = ap (λ g. g ++ pair_item (number - 1) v false ∷ []) w.given_values
-          ∙ ap (λ l. dual_item d.commodity.from d.commodity.to 1 w.a false ∷ l) (sym (map-append (λ (e : ℕ × ℕ). pair_item e.0 e.1 false) w.u ((number - 1, v) ∷ [])));
+          ∙ ap (λ l. dual_begun run w.a false ∷ l) (sym (map-append (λ (e : ℕ × ℕ). pair_item e.0 e.1 false) w.u ((number - 1, v) ∷ [])));
+      is_run = w.is_run;
       short = w.short;
-      climbs = subst (λ x. Climbs (is_value n) node_of 0 (w.u ++ (number - 1, v) ∷ []) x) is
-          (climbs_more (is_value n) node_of 0 w.u h.before (number - 1, v) w.climbs least test);
+      climbs = subst (λ x. Climbs (is_value sh) node_of 0 (w.u ++ (number - 1, v) ∷ []) x) is
+          (climbs_more (is_value sh) node_of 0 w.u h.before (number - 1, v) w.climbs least test);
     }
 
 -- a price and values that climb are a dual that a line can list
-pub record Listed (n : ℕ) (dual : Prices) : Type 0 where
-  pub in_range : IsDualInRange n dual
-  pub first : IsFirstDual dual
+pub record Listed (sh : Shape) (dual : Prices) : Type 0 where
+  pub in_range : IsDualInRange sh.n dual
+  pub first : version_number sh.version ≡ 1 → IsFirstDual dual
 
-value_listed : (n : ℕ) (e : ℕ × ℕ) → is_value n e ≡ true → is_listed n e ≡ true
-value_listed n e h =
-    let k = and_parts (nat_lt e.0 n) (nat_le 1 e.1 && is_short e.1) h in
-    let m = and_parts (nat_le 1 e.1) (is_short e.1) k.1 in
-    let short = ltb-true e.1 (10 ^ 30) m.1 in
-    and_from (nat_lt e.0 n) (nat_le 1 e.1 && is_amount e.1) k.0
-    (and_from (nat_le 1 e.1) (is_amount e.1) m.0 (lt-ltb e.1 (10 ^ 33) (omega arith)))
+-- an amount of the first version is short
+limit_first : (v : TextVersion) → version_number v ≡ 1 → amount_limit v ≡ 10 ^ 30
+limit_first First e = refl
+limit_first Second e = absurd (omega (arith, e))
 
-value_short : (n : ℕ) (e : ℕ × ℕ) → is_value n e ≡ true → is_short_value e ≡ true
-value_short n e h =
-    let k = and_parts (nat_lt e.0 n) (nat_le 1 e.1 && is_short e.1) h in (and_parts (nat_le 1 e.1) (is_short e.1) k.1).1
+value_listed : (sh : Shape) (e : ℕ × ℕ) → is_value sh e ≡ true → is_listed sh.n e ≡ true
+value_listed sh e h =
+    let k = and_parts (nat_lt e.0 sh.n) (nat_le 1 e.1 && nat_lt e.1 (amount_limit sh.version)) h in
+    let m = and_parts (nat_le 1 e.1) (nat_lt e.1 (amount_limit sh.version)) k.1 in
+    let short = ltb-true e.1 (amount_limit sh.version) m.1 in
+    and_from (nat_lt e.0 sh.n) (nat_le 1 e.1 && is_amount e.1) k.0
+    (and_from (nat_le 1 e.1) (is_amount e.1) m.0 (lt-ltb e.1 (10 ^ 33) (omega (arith, short, limit_most sh.version))))
 
-pub climbs_dual : (n a : ℕ) (u : List (ℕ × ℕ)) (high : ℕ) → a < 10 ^ 30 → Climbs (is_value n) node_of 0 u high → Listed n (record { a = a; u = u })
-climbs_dual n a u high short h =
+value_short : (sh : Shape) (first : version_number sh.version ≡ 1) (e : ℕ × ℕ) → is_value sh e ≡ true → is_short_value e ≡ true
+value_short sh first e h =
+    let k = and_parts (nat_lt e.0 sh.n) (nat_le 1 e.1 && nat_lt e.1 (amount_limit sh.version)) h in
+    let short = ltb-true e.1 (amount_limit sh.version) (and_parts (nat_le 1 e.1) (nat_lt e.1 (amount_limit sh.version)) k.1).1 in
+    lt-ltb e.1 (10 ^ 30) (omega (arith, short, limit_first sh.version first))
+
+pub climbs_dual : (sh : Shape) (a : ℕ) (u : List (ℕ × ℕ)) (high : ℕ) → a < amount_limit sh.version → Climbs (is_value sh) node_of 0 u high
+    → Listed sh (record { a = a; u = u })
+climbs_dual sh a u high short h =
     let dual : Prices = record { a = a; u = u } in
-    let pass = climbs_pass (is_value n) node_of 0 u high h in
-    let up = climbs_ascend (is_value n) node_of 0 u high h in
-    let amounts : is_dual_text n (record { a = a; u = u }) ≡ true =
-    and_from (is_amount a) (ascends (map node_of u) && list_all (is_listed n) u) (lt-ltb a (10 ^ 33) (omega arith))
-    (and_from (ascends (map node_of u)) (list_all (is_listed n) u) up (all_pass (is_value n) (is_listed n) u (value_listed n) pass)) in
-    let few : is_first_dual (record { a = a; u = u }) ≡ true =
-    and_from (is_short a) (list_all is_short_value u) (lt-ltb a (10 ^ 30) short) (all_pass (is_value n) is_short_value u (value_short n) pass) in
-    record { in_range = (dual_decides n dual).0 amounts; first = (first_dual_decides dual).0 few }
+    let pass = climbs_pass (is_value sh) node_of 0 u high h in
+    let up = climbs_ascend (is_value sh) node_of 0 u high h in
+    let amounts : is_dual_text sh.n (record { a = a; u = u }) ≡ true =
+    and_from (is_amount a) (ascends (map node_of u) && list_all (is_listed sh.n) u) (lt-ltb a (10 ^ 33) (omega (arith, short, limit_most sh.version)))
+    (and_from (ascends (map node_of u)) (list_all (is_listed sh.n) u) up (all_pass (is_value sh) (is_listed sh.n) u (value_listed sh) pass)) in
+    let few : version_number sh.version ≡ 1 → is_first_dual (record { a = a; u = u }) ≡ true =
+    λ first. and_from (is_short a) (list_all is_short_value u) (lt-ltb a (10 ^ 30) (omega (arith, short, limit_first sh.version first)))
+    (all_pass (is_value sh) is_short_value u (value_short sh first) pass) in
+    record { in_range = (dual_decides sh.n dual).0 amounts; first = λ first. (first_dual_decides dual).0 (few first) }
 
--- one commodity is a run
-pub one_run : (n t : ℕ) → 1 ≤ n → IsRun (shape 1 n) t 1
-one_run n t some = (omega arith, omega arith, λ e. refl)
-
-dual_wanted : (n : ℕ) (d : DualAt) (a : ℕ) (u : List (ℕ × ℕ)) (high : ℕ) → IsCommodity n d.commodity → a < 10 ^ 30 → Climbs (is_value n) node_of 0 u high
-    → Wants (stage_at n (Dual d)) (says_dual (d.commodity.from, d.commodity.to) 1 (record { a = a; u = u }))
-dual_wanted n d a u high c short h =
+dual_wanted : (sh : Shape) (run : Run) (a : ℕ) (u : List (ℕ × ℕ)) (high : ℕ) → IsCommodity sh.n run.first.commodity → IsRunOf sh run → a < amount_limit sh.version
+    → Climbs (is_value sh) node_of 0 u high
+    → Wants (stage_at sh (Dual run.first)) (says_dual (run.first.commodity.from, run.first.commodity.to) run.length (record { a = a; u = u }))
+dual_wanted sh run a u high c is short h =
     let dual : Prices = record { a = a; u = u } in
-    let listed = climbs_dual n a u high short h in
-    let some = c.from in (
-      sym (commodity_named n d.commodity c),
-      one_run n (number_of n d.commodity) (omega arith),
+    let listed = climbs_dual sh a u high short h in (
+      sym (commodity_named sh.n run.first.commodity c),
+      run_of sh run c is,
       listed.in_range,
-      (λ e. listed.first),
+      listed.first,
       (λ e. none-some dual e),
     )
 
-value_end : (n : ℕ) (d : DualAt) (number : ℕ) (ns : List ℕ) (given : List Item) (v : ℕ) → ValueAre n d number ns given → d.before < d.all → IsCommodity n d.commodity → 1 ≤ v → v < 10 ^ 30
-    → EndIs n (ValueAmount d number) (stage_after_dual n d) (ns ++ v ∷ []) given (Some (pair_item (number - 1) v true))
+value_end : (sh : Shape) (run : Run) (number : ℕ) (ns : List ℕ) (given : List Item) (v : ℕ) → ValueAre sh run number ns given → run.first.before < run.first.all
+    → IsCommodity sh.n run.first.commodity → 1 ≤ v → v < amount_limit sh.version
+    → EndIs sh (ValueAmount run number) (stage_after_dual sh.n run) (ns ++ v ∷ []) given (Some (pair_item (number - 1) v true))
 unfolding value_more
-value_end n d number ns given v h place c some short =
+value_end sh run number ns given v h place c some short =
     let w = h.values in
-    let more = value_more n d number ns given v h some short in
+    let more = value_more sh run number ns given v h some short in
     record {
-      line = says_dual (d.commodity.from, d.commodity.to) 1 (record { a = w.a; u = w.u ++ (number - 1, v) ∷ [] });
-      wanted = dual_wanted n d w.a (w.u ++ (number - 1, v) ∷ []) number c w.short more.climbs;
+      line = says_dual (run.first.commodity.from, run.first.commodity.to) run.length (record { a = w.a; u = w.u ++ (number - 1, v) ∷ [] });
+      wanted = dual_wanted sh run w.a (w.u ++ (number - 1, v) ∷ []) number c w.is_run w.short more.climbs;
       keyword_is = refl;
       numbers_are = sym more.numbers;
       parts = ap (λ g. g ++ pair_item (number - 1) v true ∷ []) w.given_values
-          ∙ ap (λ l. dual_item d.commodity.from d.commodity.to 1 w.a false ∷ l) (value_parts-last w.u (number - 1, v))
-          ∙ ap (λ b. dual_item d.commodity.from d.commodity.to 1 w.a b ∷ value_parts (w.u ++ (number - 1, v) ∷ [])) (sym (none_left-more w.u (number - 1, v)));
-      behind = dual_at n d place c;
+          ∙ ap (λ l. dual_begun run w.a false ∷ l) (value_parts-last w.u (number - 1, v))
+          ∙ ap (λ b. dual_begun run w.a b ∷ value_parts (w.u ++ (number - 1, v) ∷ [])) (sym (none_left-more w.u (number - 1, v)));
+      behind = dual_at sh run
+          (grammar.kept_dual (text_shape sh) (number_of sh.n run.first.commodity + run.length) (record { a = w.a; u = w.u ++ (number - 1, v) ∷ [] })) place c w.is_run;
     }
 
-value_outcome : (n : ℕ) (d : DualAt) (number : ℕ) (ns : List ℕ) (given : List Item) (v : ℕ) (last : Bool) → d.before < d.all → IsCommodity n d.commodity → v < 10 ^ 30 → ValueAre n d number ns given
-    → Outcome n (ValueAmount d number) (ns ++ v ∷ []) given (taken_by n (ValueAmount d number) v last)
-value_outcome n d number ns given v last place c short h =
-    allowed_is n (ValueAmount d number) (ns ++ v ∷ []) given (nat_le 1 v) last (open_by last (pair_item (number - 1) v last) (ValueNode d number) (stage_after_dual n d))
-    (λ e. (let some = leb-true 1 v e in
-    open_is n (ValueAmount d number) (ns ++ v ∷ []) given last (pair_item (number - 1) v) (ValueNode d number) (stage_after_dual n d)
-    (value_end n d number ns given v h place c some short)
-    (record { stage = refl; word = refl; same = refl; described = value_more n d number ns given v h some short })))
+value_outcome : (sh : Shape) (run : Run) (number : ℕ) (ns : List ℕ) (given : List Item) (v : ℕ) (last : Bool) → run.first.before < run.first.all
+    → IsCommodity sh.n run.first.commodity → ValueAre sh run number ns given
+    → Outcome sh (ValueAmount run number) (ns ++ v ∷ []) given (taken_by sh (ValueAmount run number) v last)
+value_outcome sh run number ns given v last place c h =
+    allowed_is sh (ValueAmount run number) (ns ++ v ∷ []) given (nat_le 1 v && nat_lt v (amount_limit sh.version)) last
+    (open_by last (pair_item (number - 1) v last) (ValueNode run number) (stage_after_dual sh.n run))
+    (λ e. (let k = and_parts (nat_le 1 v) (nat_lt v (amount_limit sh.version)) e in
+    let some = leb-true 1 v k.0 in
+    let short = ltb-true v (amount_limit sh.version) k.1 in
+    open_is sh (ValueAmount run number) (ns ++ v ∷ []) given last (pair_item (number - 1) v) (ValueNode run number) (stage_after_dual sh.n run)
+    (value_end sh run number ns given v h place c some short)
+    (record { stage = refl; word = refl; same = refl; described = value_more sh run number ns given v h some short })))
 
-price_outcome : (n : ℕ) (d : DualAt) (ns : List ℕ) (given : List Item) (v : ℕ) (last : Bool) → d.before < d.all → IsCommodity n d.commodity → v < 10 ^ 30
-    → Are ((d.commodity.from + 1) ∷ (d.commodity.to + 1) ∷ []) ns given → Outcome n (DualPrice d) (ns ++ v ∷ []) given (taken_by n (DualPrice d) v last)
-price_outcome n d ns given v last place c short h =
-    open_is n (DualPrice d) (ns ++ v ∷ []) given last (dual_item d.commodity.from d.commodity.to 1 v) (ValueNode d 0) (stage_after_dual n d)
-    (end_is n (DualPrice d) (stage_after_dual n d) ((d.commodity.from + 1) ∷ (d.commodity.to + 1) ∷ []) ns given (Some (dual_item d.commodity.from d.commodity.to 1 v true)) v
-    (says_dual (d.commodity.from, d.commodity.to) 1 (record { a = v; u = [] })) h (dual_wanted n d v [] 0 c short refl) refl refl refl (dual_at n d place c))
+price_end : (sh : Shape) (run : Run) (ns : List ℕ) (given : List Item) (v : ℕ) → run.first.before < run.first.all → IsCommodity sh.n run.first.commodity → RunIs sh run ns given
+    → v < amount_limit sh.version → EndIs sh (DualPrice run) (stage_after_dual sh.n run) (ns ++ v ∷ []) given (Some (dual_begun run v true))
+price_end sh run ns given v place c h short =
+    end_is sh (DualPrice run) (stage_after_dual sh.n run) (run_front run) ns given (Some (dual_begun run v true)) v
+    (says_dual (run.first.commodity.from, run.first.commodity.to) run.length (record { a = v; u = [] })) h.are (dual_wanted sh run v [] 0 c h.is_run short refl)
+    refl refl refl
+    (dual_at sh run (grammar.kept_dual (text_shape sh) (number_of sh.n run.first.commodity + run.length) (record { a = v; u = [] })) place c h.is_run)
+
+price_outcome : (sh : Shape) (run : Run) (ns : List ℕ) (given : List Item) (v : ℕ) (last : Bool) → run.first.before < run.first.all → IsCommodity sh.n run.first.commodity
+    → RunIs sh run ns given → Outcome sh (DualPrice run) (ns ++ v ∷ []) given (taken_by sh (DualPrice run) v last)
+price_outcome sh run ns given v last place c h =
+    allowed_is sh (DualPrice run) (ns ++ v ∷ []) given (nat_lt v (amount_limit sh.version)) last
+    (open_by last (dual_begun run v last) (ValueNode run 0) (stage_after_dual sh.n run))
+    (λ e. (let short = ltb-true v (amount_limit sh.version) e in
+    open_is sh (DualPrice run) (ns ++ v ∷ []) given last (dual_begun run v) (ValueNode run 0) (stage_after_dual sh.n run)
+    (price_end sh run ns given v place c h short)
     (record {
       stage = refl;
       word = refl;
@@ -227,24 +260,25 @@ price_outcome n d ns given v last place c short h =
       described = record {
         a = v;
         u = [];
-        numbers = ap (λ l. l ++ v ∷ []) h.numbers;
-        given_values = ap (λ g. g ++ dual_item d.commodity.from d.commodity.to 1 v false ∷ []) h.given_none;
+        numbers = ap (λ l. l ++ v ∷ []) h.are.numbers;
+        given_values = ap (λ g. g ++ dual_begun run v false ∷ []) h.are.given_none;
+        is_run = h.is_run;
         short = short;
         climbs = refl;
       };
-    })
+    })))
 
-value_node_outcome : (n : ℕ) (d : DualAt) (before : ℕ) (ns : List ℕ) (given : List Item) (v : ℕ) (last : Bool) → ValuesAre n d before ns given
-    → Outcome n (ValueNode d before) (ns ++ v ∷ []) given (taken_by n (ValueNode d before) v last)
-value_node_outcome n d before ns given v last h =
-    allowed_is n (ValueNode d before) (ns ++ v ∷ []) given (follows n before v) last (more_by last (ValueAmount d v))
-    (λ e. (let f = is_next n before v e in
-    more_is n (ValueNode d before) (ns ++ v ∷ []) given last (ValueAmount d v)
+value_node_outcome : (sh : Shape) (run : Run) (before : ℕ) (ns : List ℕ) (given : List Item) (v : ℕ) (last : Bool) → ValuesAre sh run before ns given
+    → Outcome sh (ValueNode run before) (ns ++ v ∷ []) given (taken_by sh (ValueNode run before) v last)
+value_node_outcome sh run before ns given v last h =
+    allowed_is sh (ValueNode run before) (ns ++ v ∷ []) given (follows sh.n before v) last (more_by last (ValueAmount run v))
+    (λ e. (let f = is_next sh.n before v e in
+    more_is sh (ValueNode run before) (ns ++ v ∷ []) given last (ValueAmount run v)
     (record {
       stage = refl;
       word = refl;
       same = refl;
-      described = record { front = ns; before = before; values = subst (ValuesAre n d before ns) (sym (append-nil given)) h; numbers = refl; above = f.low; node = f.high };
+      described = record { front = ns; before = before; values = subst (ValuesAre sh run before ns) (sym (append-nil given)) h; numbers = refl; above = f.low; node = f.high };
     })))
 
 -- ---- weights
@@ -279,62 +313,65 @@ weight_more t number ns given v h some short =
       climbs = climbs_more is_weight node_of 1 w.weights (h.before + 1) (number, v) w.climbs (omega arith) test;
     }
 
-pub leaf_wanted : (n : ℕ) (t : TreeAt) (denom : ℕ) (w : List (ℕ × ℕ)) (high : ℕ) → 1 ≤ denom → denom ≤ most_denominator → may_fill t ≡ true → Climbs is_weight node_of 1 w high
-    → Wants (stage_at n (Tree t)) (says_tree (leaf_of denom w))
-leaf_wanted n t denom w high some few room h =
-    (wants_decides (stage_at n (Tree t)) (says_tree (leaf_of denom w))).0
-    (and_from (is_tree_line_text n (leaf_of denom w)) (is_first_line (leaf_of denom w) && may_fill t)
+pub leaf_wanted : (sh : Shape) (t : TreeAt) (denom : ℕ) (w : List (ℕ × ℕ)) (high : ℕ) → 1 ≤ denom → denom ≤ most_denominator → may_fill t ≡ true → Climbs is_weight node_of 1 w high
+    → Wants (stage_at sh (Tree t)) (says_tree (leaf_of denom w))
+leaf_wanted sh t denom w high some few room h =
+    (wants_decides (stage_at sh (Tree t)) (says_tree (leaf_of denom w))).0
+    (and_from (is_tree_line_text sh.n (leaf_of denom w)) (is_first_line (leaf_of denom w) && may_fill t)
     (and_from (nat_le 1 denom) _ (le-leb 1 denom some) (and_from (nat_le denom most_denominator) (is_weights_text w) (le-leb denom most_denominator few)
     (and_from (ascends (map node_of w)) (list_all is_weight w) (climbs_ascend is_weight node_of 1 w high h) (climbs_pass is_weight node_of 1 w high h))))
     room)
 
-weight_end : (n : ℕ) (t : TreeAt) (number : ℕ) (ns : List ℕ) (given : List Item) (v : ℕ) → WeightAre t number ns given → 1 ≤ v → v < 10 ^ 30
-    → EndIs n (WeightAmount t number) (stage_after_filled t) (ns ++ v ∷ []) given (Some (weight_item number v true))
+weight_end : (sh : Shape) (t : TreeAt) (number : ℕ) (ns : List ℕ) (given : List Item) (v : ℕ) → WeightAre t number ns given → 1 ≤ v → v < 10 ^ 30
+    → EndIs sh (WeightAmount t number) (stage_after_filled t) (ns ++ v ∷ []) given (Some (weight_item number v true))
 unfolding weight_more
-weight_end n t number ns given v h some short =
+weight_end sh t number ns given v h some short =
     let w = h.weights in
     let more = weight_more t number ns given v h some short in
     record {
       line = says_tree (leaf_of w.denom (w.weights ++ (number, v) ∷ []));
-      wanted = leaf_wanted n t w.denom (w.weights ++ (number, v) ∷ []) (number + 1) w.some w.few w.room more.climbs;
+      wanted = leaf_wanted sh t w.denom (w.weights ++ (number, v) ∷ []) (number + 1) w.some w.few w.room more.climbs;
       keyword_is = refl;
       numbers_are = sym more.numbers;
       parts = ap (λ g. g ++ weight_item number v true ∷ []) w.given_weights
           ∙ ap (λ l. leaf_item w.denom false ∷ l) (weight_parts-last w.weights (number, v))
           ∙ ap (λ b. leaf_item w.denom b ∷ weight_parts (w.weights ++ (number, v) ∷ [])) (sym (none_left-more w.weights (number, v)));
-      behind = tree_at n (t.places - 1) (t.left - 1);
+      behind = tree_at sh (t.places - 1) (t.left - 1);
     }
 
-weight_outcome : (n : ℕ) (t : TreeAt) (number : ℕ) (ns : List ℕ) (given : List Item) (v : ℕ) (last : Bool) → v < 10 ^ 30 → WeightAre t number ns given
-    → Outcome n (WeightAmount t number) (ns ++ v ∷ []) given (taken_by n (WeightAmount t number) v last)
-weight_outcome n t number ns given v last short h =
-    allowed_is n (WeightAmount t number) (ns ++ v ∷ []) given (nat_le 1 v) last (open_by last (weight_item number v last) (WeightCut t number) (stage_after_filled t))
-    (λ e. (let some = leb-true 1 v e in
-    open_is n (WeightAmount t number) (ns ++ v ∷ []) given last (weight_item number v) (WeightCut t number) (stage_after_filled t)
-    (weight_end n t number ns given v h some short)
+weight_outcome : (sh : Shape) (t : TreeAt) (number : ℕ) (ns : List ℕ) (given : List Item) (v : ℕ) (last : Bool) → WeightAre t number ns given
+    → Outcome sh (WeightAmount t number) (ns ++ v ∷ []) given (taken_by sh (WeightAmount t number) v last)
+weight_outcome sh t number ns given v last h =
+    allowed_is sh (WeightAmount t number) (ns ++ v ∷ []) given (nat_le 1 v && is_short v) last (open_by last (weight_item number v last) (WeightCut t number) (stage_after_filled t))
+    (λ e. (let k = and_parts (nat_le 1 v) (is_short v) e in
+    let some = leb-true 1 v k.0 in
+    let short = ltb-true v (10 ^ 30) k.1 in
+    open_is sh (WeightAmount t number) (ns ++ v ∷ []) given last (weight_item number v) (WeightCut t number) (stage_after_filled t)
+    (weight_end sh t number ns given v h some short)
     (record { stage = refl; word = refl; same = refl; described = weight_more t number ns given v h some short })))
 
-weight_cut_outcome : (n : ℕ) (t : TreeAt) (before : ℕ) (ns : List ℕ) (given : List Item) (v : ℕ) (last : Bool) → v < 10 ^ 30 → WeightsAre t before ns given
-    → Outcome n (WeightCut t before) (ns ++ v ∷ []) given (taken_by n (WeightCut t before) v last)
-weight_cut_outcome n t before ns given v last short h =
-    allowed_is n (WeightCut t before) (ns ++ v ∷ []) given (nat_lt before v) last (more_by last (WeightAmount t v))
-    (λ e. more_is n (WeightCut t before) (ns ++ v ∷ []) given last (WeightAmount t v)
+weight_cut_outcome : (sh : Shape) (t : TreeAt) (before : ℕ) (ns : List ℕ) (given : List Item) (v : ℕ) (last : Bool) → WeightsAre t before ns given
+    → Outcome sh (WeightCut t before) (ns ++ v ∷ []) given (taken_by sh (WeightCut t before) v last)
+weight_cut_outcome sh t before ns given v last h =
+    allowed_is sh (WeightCut t before) (ns ++ v ∷ []) given (nat_lt before v && is_short v) last (more_by last (WeightAmount t v))
+    (λ e. (let k = and_parts (nat_lt before v) (is_short v) e in
+    more_is sh (WeightCut t before) (ns ++ v ∷ []) given last (WeightAmount t v)
     (record {
       stage = refl;
       word = refl;
       same = refl;
-      described = record { front = ns; before = before; weights = subst (WeightsAre t before ns) (sym (append-nil given)) h; numbers = refl; above = ltb-true before v e; short = short };
-    }))
+      described = record { front = ns; before = before; weights = subst (WeightsAre t before ns) (sym (append-nil given)) h; numbers = refl; above = ltb-true before v k.0; short = ltb-true v (10 ^ 30) k.1 };
+    })))
 
-denominator_outcome : (n : ℕ) (t : TreeAt) (ns : List ℕ) (given : List Item) (v : ℕ) (last : Bool) → Are [] ns given
-    → Outcome n (Denominator t) (ns ++ v ∷ []) given (taken_by n (Denominator t) v last)
-denominator_outcome n t ns given v last h =
-    allowed_is n (Denominator t) (ns ++ v ∷ []) given (within v most_denominator && may_fill t) last (open_by last (leaf_item v last) (WeightCut t 0) (stage_after_filled t))
+denominator_outcome : (sh : Shape) (t : TreeAt) (ns : List ℕ) (given : List Item) (v : ℕ) (last : Bool) → Are [] ns given
+    → Outcome sh (Denominator t) (ns ++ v ∷ []) given (taken_by sh (Denominator t) v last)
+denominator_outcome sh t ns given v last h =
+    allowed_is sh (Denominator t) (ns ++ v ∷ []) given (within v most_denominator && may_fill t) last (open_by last (leaf_item v last) (WeightCut t 0) (stage_after_filled t))
     (λ e. (let k = and_parts (within v most_denominator) (may_fill t) e in
     let i = is_in v most_denominator k.0 in
-    open_is n (Denominator t) (ns ++ v ∷ []) given last (leaf_item v) (WeightCut t 0) (stage_after_filled t)
-    (end_is n (Denominator t) (stage_after_filled t) [] ns given (Some (leaf_item v true)) v (says_tree (leaf_of v [])) h (leaf_wanted n t v [] 1 i.low i.high k.1 refl) refl refl refl
-    (tree_at n (t.places - 1) (t.left - 1)))
+    open_is sh (Denominator t) (ns ++ v ∷ []) given last (leaf_item v) (WeightCut t 0) (stage_after_filled t)
+    (end_is sh (Denominator t) (stage_after_filled t) [] ns given (Some (leaf_item v true)) v (says_tree (leaf_of v [])) h (leaf_wanted sh t v [] 1 i.low i.high k.1 refl) refl refl refl
+    (tree_at sh (t.places - 1) (t.left - 1)))
     (record {
       stage = refl;
       word = refl;
@@ -353,147 +390,252 @@ denominator_outcome n t ns given v last h =
 
 -- ---- lines of a few numbers
 
-version_outcome : (n : ℕ) (ns : List ℕ) (given : List Item) (v : ℕ) (last : Bool) → Are [] ns given → Outcome n VersionNumber (ns ++ v ∷ []) given (taken_by n VersionNumber v last)
-version_outcome n ns given v last h =
-    allowed_is n VersionNumber (ns ++ v ∷ []) given (nat_eq v 1) last (whole_by last (Some (version_item First)) Size)
-    (λ e. (let one = eqb-true v 1 e in
-    whole_is n VersionNumber (ns ++ v ∷ []) given last (Some (version_item First)) Size
-    (end_is n VersionNumber Size [] ns given (Some (version_item First)) v (says_version v) h (inl one) refl refl (ap (λ x. version_item (version_of x) ∷ []) (sym one))
-    (record { is = ap grammar.want_size (sym one); names = tt }))))
+version_outcome : (sh : Shape) (ns : List ℕ) (given : List Item) (v : ℕ) (last : Bool) → Are [] ns given → Outcome sh VersionNumber (ns ++ v ∷ []) given (taken_by sh VersionNumber v last)
+version_outcome sh ns given v last h =
+    allowed_is sh VersionNumber (ns ++ v ∷ []) given (is_version v) last (whole_by last (Some (version_item (version_of v))) Size)
+    (λ e. (let is : IsVersion v = (wants_decides want_version (says_version v)).0 e in
+    whole_is sh VersionNumber (ns ++ v ∷ []) given last (Some (version_item (version_of v))) Size
+    (end_is sh VersionNumber Size [] ns given (Some (version_item (version_of v))) v (says_version v) h is refl refl refl
+    (record { is = ap grammar.want_size (number_back v is); names = tt }))))
 
-nodes_outcome : (n : ℕ) (ns : List ℕ) (given : List Item) (v : ℕ) (last : Bool) → Are [] ns given → Outcome n NodeCount (ns ++ v ∷ []) given (taken_by n NodeCount v last)
-nodes_outcome n ns given v last h =
-    allowed_is n NodeCount (ns ++ v ∷ []) given (within v most_nodes) last (more_by last (CandidateCount v))
-    (λ e. (let i = is_in v most_nodes e in more_is n NodeCount (ns ++ v ∷ []) given last (CandidateCount v)
+nodes_outcome : (sh : Shape) (ns : List ℕ) (given : List Item) (v : ℕ) (last : Bool) → Are [] ns given → Outcome sh NodeCount (ns ++ v ∷ []) given (taken_by sh NodeCount v last)
+nodes_outcome sh ns given v last h =
+    allowed_is sh NodeCount (ns ++ v ∷ []) given (within v most_nodes) last (more_by last (CandidateCount v))
+    (λ e. (let i = is_in v most_nodes e in more_is sh NodeCount (ns ++ v ∷ []) given last (CandidateCount v)
     (record { stage = refl; word = refl; same = refl; described = record { are = more_numbers [] ns given v h; some = i.low; few = i.high } })))
 
-candidates_outcome : (n nodes : ℕ) (ns : List ℕ) (given : List Item) (v : ℕ) (last : Bool) → NodesAre nodes ns given
-    → Outcome n (CandidateCount nodes) (ns ++ v ∷ []) given (taken_by n (CandidateCount nodes) v last)
-candidates_outcome n nodes ns given v last h =
-    allowed_is n (CandidateCount nodes) (ns ++ v ∷ []) given (within v nodes) last (whole_by last (Some (size_item nodes v)) Cost)
-    (λ e. (let i = is_in v nodes e in whole_is n (CandidateCount nodes) (ns ++ v ∷ []) given last (Some (size_item nodes v)) Cost
-    (end_is n (CandidateCount nodes) Cost (nodes ∷ []) ns given (Some (size_item nodes v)) v (says_size nodes v) h.are (h.some, h.few, i.low, i.high) refl refl refl
+candidates_outcome : (sh : Shape) (nodes : ℕ) (ns : List ℕ) (given : List Item) (v : ℕ) (last : Bool) → NodesAre nodes ns given
+    → Outcome sh (CandidateCount nodes) (ns ++ v ∷ []) given (taken_by sh (CandidateCount nodes) v last)
+candidates_outcome sh nodes ns given v last h =
+    allowed_is sh (CandidateCount nodes) (ns ++ v ∷ []) given (within v nodes) last (whole_by last (Some (size_item nodes v)) Cost)
+    (λ e. (let i = is_in v nodes e in whole_is sh (CandidateCount nodes) (ns ++ v ∷ []) given last (Some (size_item nodes v)) Cost
+    (end_is sh (CandidateCount nodes) Cost (nodes ∷ []) ns given (Some (size_item nodes v)) v (says_size nodes v) h.are (h.some, h.few, i.low, i.high) refl refl refl
     (record { is = refl; names = tt }))))
 
-route_from_outcome : (n : ℕ) (c : Commodity) (ns : List ℕ) (given : List Item) (v : ℕ) (last : Bool) → Are [] ns given
-    → Outcome n (RouteFrom c) (ns ++ v ∷ []) given (taken_by n (RouteFrom c) v last)
-route_from_outcome n c ns given v last h =
-    allowed_is n (RouteFrom c) (ns ++ v ∷ []) given (nat_eq v (c.from + 1)) last (more_by last (RouteTo c))
-    (λ e. more_is n (RouteFrom c) (ns ++ v ∷ []) given last (RouteTo c)
+route_from_outcome : (sh : Shape) (c : Commodity) (ns : List ℕ) (given : List Item) (v : ℕ) (last : Bool) → Are [] ns given
+    → Outcome sh (RouteFrom c) (ns ++ v ∷ []) given (taken_by sh (RouteFrom c) v last)
+route_from_outcome sh c ns given v last h =
+    allowed_is sh (RouteFrom c) (ns ++ v ∷ []) given (nat_eq v (c.from + 1)) last (more_by last (RouteTo c))
+    (λ e. more_is sh (RouteFrom c) (ns ++ v ∷ []) given last (RouteTo c)
     (record { stage = refl; word = refl; same = refl; described = with_numbers [] given v (c.from + 1) h (eqb-true v (c.from + 1) e) }))
 
-route_to_outcome : (n : ℕ) (c : Commodity) (ns : List ℕ) (given : List Item) (v : ℕ) (last : Bool) → Are ((c.from + 1) ∷ []) ns given
-    → Outcome n (RouteTo c) (ns ++ v ∷ []) given (taken_by n (RouteTo c) v last)
-route_to_outcome n c ns given v last h =
-    allowed_is n (RouteTo c) (ns ++ v ∷ []) given (nat_eq v (c.to + 1)) last (more_by last (RouteFirst c))
-    (λ e. more_is n (RouteTo c) (ns ++ v ∷ []) given last (RouteFirst c)
+route_to_outcome : (sh : Shape) (c : Commodity) (ns : List ℕ) (given : List Item) (v : ℕ) (last : Bool) → Are ((c.from + 1) ∷ []) ns given
+    → Outcome sh (RouteTo c) (ns ++ v ∷ []) given (taken_by sh (RouteTo c) v last)
+route_to_outcome sh c ns given v last h =
+    allowed_is sh (RouteTo c) (ns ++ v ∷ []) given (nat_eq v (c.to + 1)) last (more_by last (RouteFirst c))
+    (λ e. more_is sh (RouteTo c) (ns ++ v ∷ []) given last (RouteFirst c)
     (record { stage = refl; word = refl; same = refl; described = with_numbers ((c.from + 1) ∷ []) given v (c.to + 1) h (eqb-true v (c.to + 1) e) }))
 
-route_first_outcome : (n : ℕ) (c : Commodity) (ns : List ℕ) (given : List Item) (v : ℕ) (last : Bool) → Are ((c.from + 1) ∷ (c.to + 1) ∷ []) ns given
-    → Outcome n (RouteFirst c) (ns ++ v ∷ []) given (taken_by n (RouteFirst c) v last)
-route_first_outcome n c ns given v last h =
-    allowed_is n (RouteFirst c) (ns ++ v ∷ []) given (within v n) last (more_by last (RouteLast c (v - 1)))
-    (λ e. (let i = is_in v n e in
+route_first_outcome : (sh : Shape) (c : Commodity) (ns : List ℕ) (given : List Item) (v : ℕ) (last : Bool) → Are ((c.from + 1) ∷ (c.to + 1) ∷ []) ns given
+    → Outcome sh (RouteFirst c) (ns ++ v ∷ []) given (taken_by sh (RouteFirst c) v last)
+route_first_outcome sh c ns given v last h =
+    allowed_is sh (RouteFirst c) (ns ++ v ∷ []) given (within v sh.n) last (more_by last (RouteLast c (v - 1)))
+    (λ e. (let i = is_in v sh.n e in
     let low = i.low in
     let high = i.high in
-    more_is n (RouteFirst c) (ns ++ v ∷ []) given last (RouteLast c (v - 1))
+    more_is sh (RouteFirst c) (ns ++ v ∷ []) given last (RouteLast c (v - 1))
     (record { stage = refl; word = refl; same = refl; described = record { are = with_numbers ((c.from + 1) ∷ (c.to + 1) ∷ []) given v (v - 1 + 1) h (omega arith); node = omega arith } })))
 
-route_last_outcome : (n : ℕ) (c : Commodity) (k : ℕ) (ns : List ℕ) (given : List Item) (v : ℕ) (last : Bool) → IsCommodity n c → FirstIs n c k ns given
-    → Outcome n (RouteLast c k) (ns ++ v ∷ []) given (taken_by n (RouteLast c k) v last)
-route_last_outcome n c k ns given v last nodes h =
-    allowed_is n (RouteLast c k) (ns ++ v ∷ []) given (within v n) last (whole_by last (Some (route_item c.from c.to k (v - 1))) (stage_after_route n c))
-    (λ e. (let i = is_in v n e in
+route_last_outcome : (sh : Shape) (c : Commodity) (k : ℕ) (ns : List ℕ) (given : List Item) (v : ℕ) (last : Bool) → IsCommodity sh.n c → FirstIs sh c k ns given
+    → Outcome sh (RouteLast c k) (ns ++ v ∷ []) given (taken_by sh (RouteLast c k) v last)
+route_last_outcome sh c k ns given v last nodes h =
+    allowed_is sh (RouteLast c k) (ns ++ v ∷ []) given (within v sh.n) last (whole_by last (Some (route_item c.from c.to k (v - 1))) (stage_after_route sh.n c))
+    (λ e. (let i = is_in v sh.n e in
     let low = i.low in
     let high = i.high in
     let is : v - 1 + 1 ≡ v = omega arith in
-    whole_is n (RouteLast c k) (ns ++ v ∷ []) given last (Some (route_item c.from c.to k (v - 1))) (stage_after_route n c)
-    (end_is n (RouteLast c k) (stage_after_route n c) ((c.from + 1) ∷ (c.to + 1) ∷ (k + 1) ∷ []) ns given (Some (route_item c.from c.to k (v - 1))) v
-    (says_route (c.from, c.to) (k, v - 1)) h.are (sym (commodity_named n c nodes), h.node, omega arith) refl
-    (ap (λ x. (c.from + 1) ∷ (c.to + 1) ∷ (k + 1) ∷ x ∷ []) is) refl (route_at n c nodes))))
+    whole_is sh (RouteLast c k) (ns ++ v ∷ []) given last (Some (route_item c.from c.to k (v - 1))) (stage_after_route sh.n c)
+    (end_is sh (RouteLast c k) (stage_after_route sh.n c) ((c.from + 1) ∷ (c.to + 1) ∷ (k + 1) ∷ []) ns given (Some (route_item c.from c.to k (v - 1))) v
+    (says_route (c.from, c.to) (k, v - 1)) h.are (sym (commodity_named sh.n c nodes), h.node, omega arith) refl
+    (ap (λ x. (c.from + 1) ∷ (c.to + 1) ∷ (k + 1) ∷ x ∷ []) is) refl (route_at sh c nodes))))
 
-cut_outcome : (n all before : ℕ) (ns : List ℕ) (given : List Item) (v : ℕ) (last : Bool) → IsSize n → Are [] ns given
-    → Outcome n (CutNumber all before) (ns ++ v ∷ []) given (taken_by n (CutNumber all before) v last)
-cut_outcome n all before ns given v last size h =
-    allowed_is n (CutNumber all before) (ns ++ v ∷ []) given (nat_eq v (before + 1) && nat_le v most_cuts) last
-    (whole_by last (Some (cut_item v 1)) (Dual (record { all = all; before = before; commodity = commodity_by 0 0 })))
+-- a cut of the first version is whole, and one of the second has its part behind
+cut_begins : (sh : Shape) (version : TextVersion) (all before : ℕ) (ns : List ℕ) (given : List Item) (v : ℕ) (last : Bool) → sh.version ≡ version → IsSize sh.n → v ≡ before + 1
+    → Are [] ns given → Outcome sh (CutNumber all before) (ns ++ v ∷ []) given (cut_by version all v last)
+cut_begins sh First all before ns given v last e size number h =
+    let back : v - 1 ≡ before = omega (arith, number) in
+    whole_is sh (CutNumber all before) (ns ++ v ∷ []) given last (Some (cut_item v 1)) (first_dual_of all (v - 1))
+    (end_is sh (CutNumber all before) (first_dual_of all (v - 1)) [] ns given (Some (cut_item v 1)) v (says_cut v None) h
+    (number, ap version_number e) refl refl refl
+    (subst (λ x. IsAt sh (first_dual_of all x) (grammar.want_dual (text_shape sh) all before 0 None)) (sym back) (first_dual_at sh all before size)))
+cut_begins sh Second all before ns given v last e size number h =
+    more_is sh (CutNumber all before) (ns ++ v ∷ []) given last (CutPart all v)
+    (record {
+      stage = (let back : v - 1 ≡ before = omega (arith, number) in ap (Cut all) back);
+      word = refl;
+      same = refl;
+      described = record { are = more_numbers [] ns given v h; second = e; some = omega (arith, number) };
+    })
+
+cut_outcome : (sh : Shape) (all before : ℕ) (ns : List ℕ) (given : List Item) (v : ℕ) (last : Bool) → IsSize sh.n → Are [] ns given
+    → Outcome sh (CutNumber all before) (ns ++ v ∷ []) given (taken_by sh (CutNumber all before) v last)
+cut_outcome sh all before ns given v last size h =
+    allowed_is sh (CutNumber all before) (ns ++ v ∷ []) given (nat_eq v (before + 1) && nat_le v most_cuts) last (cut_by sh.version all v last)
     (λ e. (let k = and_parts (nat_eq v (before + 1)) (nat_le v most_cuts) e in
-    whole_is n (CutNumber all before) (ns ++ v ∷ []) given last (Some (cut_item v 1)) (Dual (record { all = all; before = before; commodity = commodity_by 0 0 }))
-    (end_is n (CutNumber all before) (Dual (record { all = all; before = before; commodity = commodity_by 0 0 })) [] ns given (Some (cut_item v 1)) v (says_cut v None) h
-    (eqb-true v (before + 1) k.0, refl) refl refl refl (record { is = ap (λ t. grammar.want_dual (shape 1 n) all before t None) (omega arith); names = first_commodity n size.0 }))))
+    cut_begins sh sh.version all before ns given v last refl size (eqb-true v (before + 1) k.0) h))
 
-dual_from_outcome : (n : ℕ) (d : DualAt) (ns : List ℕ) (given : List Item) (v : ℕ) (last : Bool) → Are [] ns given
-    → Outcome n (DualFrom d) (ns ++ v ∷ []) given (taken_by n (DualFrom d) v last)
-dual_from_outcome n d ns given v last h =
-    allowed_is n (DualFrom d) (ns ++ v ∷ []) given (nat_eq v (d.commodity.from + 1)) last (more_by last (DualTo d))
-    (λ e. more_is n (DualFrom d) (ns ++ v ∷ []) given last (DualTo d)
+-- a version that is not the first
+second_of : (v : TextVersion) → v ≡ Second → IsVersion (version_number v) → IsSecond (version_number v)
+second_of v e (inl first) = absurd (omega (arith, first, ap version_number e))
+second_of v e (inr second) = second
+
+part_outcome : (sh : Shape) (all number : ℕ) (ns : List ℕ) (given : List Item) (v : ℕ) (last : Bool) → IsSize sh.n → IsVersion (version_number sh.version) → CutIs sh number ns given
+    → Outcome sh (CutPart all number) (ns ++ v ∷ []) given (taken_by sh (CutPart all number) v last)
+part_outcome sh all number ns given v last size version h =
+    allowed_is sh (CutPart all number) (ns ++ v ∷ []) given (within v most_part) last
+    (whole_by last (Some (cut_item number v)) (first_dual_of all (number - 1)))
+    (λ e. (let i = is_in v most_part e in
+    let some = h.some in
+    whole_is sh (CutPart all number) (ns ++ v ∷ []) given last (Some (cut_item number v)) (first_dual_of all (number - 1))
+    (end_is sh (CutPart all number) (first_dual_of all (number - 1)) (number ∷ []) ns given (Some (cut_item number v)) v (says_cut number (Some v)) h.are
+    (omega arith, (second_of sh.version h.second version, i.low, i.high)) refl refl refl (first_dual_at sh all (number - 1) size))))
+
+dual_from_outcome : (sh : Shape) (d : DualAt) (ns : List ℕ) (given : List Item) (v : ℕ) (last : Bool) → Are [] ns given
+    → Outcome sh (DualFrom d) (ns ++ v ∷ []) given (taken_by sh (DualFrom d) v last)
+dual_from_outcome sh d ns given v last h =
+    allowed_is sh (DualFrom d) (ns ++ v ∷ []) given (nat_eq v (d.commodity.from + 1)) last (more_by last (DualTo d))
+    (λ e. more_is sh (DualFrom d) (ns ++ v ∷ []) given last (DualTo d)
     (record { stage = refl; word = refl; same = refl; described = with_numbers [] given v (d.commodity.from + 1) h (eqb-true v (d.commodity.from + 1) e) }))
 
-dual_to_outcome : (n : ℕ) (d : DualAt) (ns : List ℕ) (given : List Item) (v : ℕ) (last : Bool) → Are ((d.commodity.from + 1) ∷ []) ns given
-    → Outcome n (DualTo d) (ns ++ v ∷ []) given (taken_by n (DualTo d) v last)
-dual_to_outcome n d ns given v last h =
-    allowed_is n (DualTo d) (ns ++ v ∷ []) given (nat_eq v (d.commodity.to + 1)) last (more_by last (DualPrice d))
-    (λ e. more_is n (DualTo d) (ns ++ v ∷ []) given last (DualPrice d)
-    (record { stage = refl; word = refl; same = refl; described = with_numbers ((d.commodity.from + 1) ∷ []) given v (d.commodity.to + 1) h (eqb-true v (d.commodity.to + 1) e) }))
+dual_to_outcome : (sh : Shape) (d : DualAt) (ns : List ℕ) (given : List Item) (v : ℕ) (last : Bool) → IsCommodity sh.n d.commodity → Are ((d.commodity.from + 1) ∷ []) ns given
+    → Outcome sh (DualTo d) (ns ++ v ∷ []) given (taken_by sh (DualTo d) v last)
+dual_to_outcome sh d ns given v last c h =
+    let to = c.to in
+    allowed_is sh (DualTo d) (ns ++ v ∷ []) given (nat_eq v (d.commodity.to + 1)) last (more_by last (DualPrice (alone d)))
+    (λ e. more_is sh (DualTo d) (ns ++ v ∷ []) given last (DualPrice (alone d))
+    (record {
+      stage = refl;
+      word = refl;
+      same = refl;
+      described = record {
+        are = with_numbers ((d.commodity.from + 1) ∷ []) given v (d.commodity.to + 1) h (eqb-true v (d.commodity.to + 1) e);
+        is_run = record { some = omega arith; within = omega arith; first = λ one. refl };
+      };
+    }))
 
-branch_outcome : (n : ℕ) (t : TreeAt) (ns : List ℕ) (given : List Item) (v : ℕ) (last : Bool) → Are [] ns given
-    → Outcome n (BranchNode t) (ns ++ v ∷ []) given (taken_by n (BranchNode t) v last)
-branch_outcome n t ns given v last h =
-    allowed_is n (BranchNode t) (ns ++ v ∷ []) given (within v n && nat_lt t.places (t.left - 1)) last
+run_from_outcome : (sh : Shape) (d : DualAt) (ns : List ℕ) (given : List Item) (v : ℕ) (last : Bool) → SecondAre sh [] ns given
+    → Outcome sh (RunFrom d) (ns ++ v ∷ []) given (taken_by sh (RunFrom d) v last)
+run_from_outcome sh d ns given v last h =
+    allowed_is sh (RunFrom d) (ns ++ v ∷ []) given (nat_eq v (d.commodity.from + 1)) last (more_by last (RunTo d))
+    (λ e. more_is sh (RunFrom d) (ns ++ v ∷ []) given last (RunTo d)
+    (record {
+      stage = refl;
+      word = refl;
+      same = refl;
+      described = record { are = with_numbers [] given v (d.commodity.from + 1) h.are (eqb-true v (d.commodity.from + 1) e); second = h.second };
+    }))
+
+run_to_outcome : (sh : Shape) (d : DualAt) (ns : List ℕ) (given : List Item) (v : ℕ) (last : Bool) → SecondAre sh ((d.commodity.from + 1) ∷ []) ns given
+    → Outcome sh (RunTo d) (ns ++ v ∷ []) given (taken_by sh (RunTo d) v last)
+run_to_outcome sh d ns given v last h =
+    allowed_is sh (RunTo d) (ns ++ v ∷ []) given (nat_eq v (d.commodity.to + 1)) last (more_by last (RunLength d))
+    (λ e. more_is sh (RunTo d) (ns ++ v ∷ []) given last (RunLength d)
+    (record {
+      stage = refl;
+      word = refl;
+      same = refl;
+      described = record {
+        are = with_numbers ((d.commodity.from + 1) ∷ []) given v (d.commodity.to + 1) h.are (eqb-true v (d.commodity.to + 1) e);
+        second = h.second;
+      };
+    }))
+
+-- how many commodities a run has, where it has more than one
+length_known : (d : DualAt) (v : ℕ) (ns : List ℕ) (given : List Item) → 2 ≤ v → Are ((d.commodity.from + 1) ∷ (d.commodity.to + 1) ∷ []) ns given
+    → Are (run_front (record { first = d; length = v })) (ns ++ v ∷ []) (given ++ [])
+length_known d v ns given several h =
+    let other : nat_eq v 1 ≡ false = ne_eqb v 1 (λ e. omega (arith, e, several)) in
+    rw other (more_numbers ((d.commodity.from + 1) ∷ (d.commodity.to + 1) ∷ []) ns given v h)
+
+run_length_outcome : (sh : Shape) (d : DualAt) (ns : List ℕ) (given : List Item) (v : ℕ) (last : Bool)
+    → SecondAre sh ((d.commodity.from + 1) ∷ (d.commodity.to + 1) ∷ []) ns given → Outcome sh (RunLength d) (ns ++ v ∷ []) given (taken_by sh (RunLength d) v last)
+run_length_outcome sh d ns given v last h =
+    allowed_is sh (RunLength d) (ns ++ v ∷ []) given (nat_le 2 v && nat_le (d.commodity.to + v) sh.n) last (more_by last (DualPrice (record { first = d; length = v })))
+    (λ e. (let k = and_parts (nat_le 2 v) (nat_le (d.commodity.to + v) sh.n) e in
+    let several = leb-true 2 v k.0 in
+    let other : nat_eq v 1 ≡ false = ne_eqb v 1 (λ one. omega (arith, one, several)) in
+    let word : dual_word v ≡ codes "duals" = rw other refl in
+    more_is sh (RunLength d) (ns ++ v ∷ []) given last (DualPrice (record { first = d; length = v }))
+    (record {
+      stage = refl;
+      word = word;
+      same = refl;
+      described = record {
+        are = length_known d v ns given several h.are;
+        is_run = record {
+          some = omega (arith, several);
+          within = leb-true (d.commodity.to + v) sh.n k.1;
+          first = λ one. absurd (omega (arith, one, ap version_number h.second));
+        };
+      };
+    })))
+
+branch_outcome : (sh : Shape) (t : TreeAt) (ns : List ℕ) (given : List Item) (v : ℕ) (last : Bool) → Are [] ns given
+    → Outcome sh (BranchNode t) (ns ++ v ∷ []) given (taken_by sh (BranchNode t) v last)
+branch_outcome sh t ns given v last h =
+    allowed_is sh (BranchNode t) (ns ++ v ∷ []) given (within v sh.n && nat_lt t.places (t.left - 1)) last
     (whole_by last (Some (branch_item (v - 1))) (stage_after_tree (t.places + 1) (t.left - 1)))
-    (λ e. (let k = and_parts (within v n) (nat_lt t.places (t.left - 1)) e in
-    let i = is_in v n k.0 in
+    (λ e. (let k = and_parts (within v sh.n) (nat_lt t.places (t.left - 1)) e in
+    let i = is_in v sh.n k.0 in
     let low = i.low in
     let high = i.high in
     let room = ltb-true t.places (t.left - 1) k.1 in
     let is : v - 1 + 1 ≡ v = omega arith in
-    whole_is n (BranchNode t) (ns ++ v ∷ []) given last (Some (branch_item (v - 1))) (stage_after_tree (t.places + 1) (t.left - 1))
-    (end_is n (BranchNode t) (stage_after_tree (t.places + 1) (t.left - 1)) [] ns given (Some (branch_item (v - 1))) v (says_tree (branch_on (v - 1))) h
-    (omega arith, tt, (omega arith, λ none. absurd (omega arith))) refl (ap (λ x. x ∷ []) is) refl (tree_at n (t.places + 1) (t.left - 1)))))
+    whole_is sh (BranchNode t) (ns ++ v ∷ []) given last (Some (branch_item (v - 1))) (stage_after_tree (t.places + 1) (t.left - 1))
+    (end_is sh (BranchNode t) (stage_after_tree (t.places + 1) (t.left - 1)) [] ns given (Some (branch_item (v - 1))) v (says_tree (branch_on (v - 1))) h
+    (omega arith, tt, (omega arith, λ none. absurd (omega arith))) refl (ap (λ x. x ∷ []) is) refl (tree_at sh (t.places + 1) (t.left - 1)))))
 
-cut_count_outcome : (n : ℕ) (ns : List ℕ) (given : List Item) (v : ℕ) (last : Bool) → Are [] ns given → Outcome n CutCount (ns ++ v ∷ []) given (taken_by n CutCount v last)
-cut_count_outcome n ns given v last h =
-    allowed_is n CutCount (ns ++ v ∷ []) given (nat_le v most_cuts) last (whole_by last (Some (cuts_item v)) (stage_after_cuts v))
-    (λ e. whole_is n CutCount (ns ++ v ∷ []) given last (Some (cuts_item v)) (stage_after_cuts v)
-    (end_is n CutCount (stage_after_cuts v) [] ns given (Some (cuts_item v)) v (says_cuts v) h (leb-true v most_cuts e) refl refl refl (cuts_at n v)))
+cut_count_outcome : (sh : Shape) (ns : List ℕ) (given : List Item) (v : ℕ) (last : Bool) → Are [] ns given → Outcome sh CutCount (ns ++ v ∷ []) given (taken_by sh CutCount v last)
+cut_count_outcome sh ns given v last h =
+    allowed_is sh CutCount (ns ++ v ∷ []) given (nat_le v most_cuts) last (whole_by last (Some (cuts_item v)) (stage_after_cuts v))
+    (λ e. whole_is sh CutCount (ns ++ v ∷ []) given last (Some (cuts_item v)) (stage_after_cuts v)
+    (end_is sh CutCount (stage_after_cuts v) [] ns given (Some (cuts_item v)) v (says_cuts v) h (leb-true v most_cuts e) refl refl refl (cuts_at sh v)))
 
-line_count_outcome : (n : ℕ) (ns : List ℕ) (given : List Item) (v : ℕ) (last : Bool) → Are [] ns given → Outcome n LineCount (ns ++ v ∷ []) given (taken_by n LineCount v last)
-line_count_outcome n ns given v last h =
-    allowed_is n LineCount (ns ++ v ∷ []) given (within v most_tree_lines) last (whole_by last (Some (nodes_item v)) (Tree (record { places = 1; left = v })))
+line_count_outcome : (sh : Shape) (ns : List ℕ) (given : List Item) (v : ℕ) (last : Bool) → Are [] ns given → Outcome sh LineCount (ns ++ v ∷ []) given (taken_by sh LineCount v last)
+line_count_outcome sh ns given v last h =
+    allowed_is sh LineCount (ns ++ v ∷ []) given (within v most_tree_lines) last (whole_by last (Some (nodes_item v)) (Tree (record { places = 1; left = v })))
     (λ e. (let i = is_in v most_tree_lines e in
-    whole_is n LineCount (ns ++ v ∷ []) given last (Some (nodes_item v)) (Tree (record { places = 1; left = v }))
-    (end_is n LineCount (Tree (record { places = 1; left = v })) [] ns given (Some (nodes_item v)) v (says_nodes v) h (i.low, i.high) refl refl refl (record { is = refl; names = tt }))))
+    whole_is sh LineCount (ns ++ v ∷ []) given last (Some (nodes_item v)) (Tree (record { places = 1; left = v }))
+    (end_is sh LineCount (Tree (record { places = 1; left = v })) [] ns given (Some (nodes_item v)) v (says_nodes v) h (i.low, i.high) refl refl refl (record { is = refl; names = tt }))))
 
-cost_outcome : (n : ℕ) (ns : List ℕ) (given : List Item) (v : ℕ) (last : Bool) → v < 10 ^ 30 → Are [] ns given → Outcome n CostAmount (ns ++ v ∷ []) given (taken_by n CostAmount v last)
-cost_outcome n ns given v last short h = whole_is n CostAmount (ns ++ v ∷ []) given last (Some (cost_item v)) Bound
-    (end_is n CostAmount Bound [] ns given (Some (cost_item v)) v (says_cost v) h short refl refl refl (record { is = refl; names = tt }))
+cost_outcome : (sh : Shape) (ns : List ℕ) (given : List Item) (v : ℕ) (last : Bool) → Are [] ns given → Outcome sh CostAmount (ns ++ v ∷ []) given (taken_by sh CostAmount v last)
+cost_outcome sh ns given v last h =
+    allowed_is sh CostAmount (ns ++ v ∷ []) given (is_short v) last (whole_by last (Some (cost_item v)) Bound)
+    (λ e. whole_is sh CostAmount (ns ++ v ∷ []) given last (Some (cost_item v)) Bound
+    (end_is sh CostAmount Bound [] ns given (Some (cost_item v)) v (says_cost v) h (ltb-true v (10 ^ 30) e) refl refl refl (record { is = refl; names = tt })))
 
-bound_outcome : (n : ℕ) (ns : List ℕ) (given : List Item) (v : ℕ) (last : Bool) → v < 10 ^ 30 → Are [] ns given → Outcome n BoundAmount (ns ++ v ∷ []) given (taken_by n BoundAmount v last)
-bound_outcome n ns given v last short h = whole_is n BoundAmount (ns ++ v ∷ []) given last (Some (bound_item v)) Hubs
-    (end_is n BoundAmount Hubs [] ns given (Some (bound_item v)) v (says_bound v) h short refl refl refl (record { is = refl; names = tt }))
+bound_outcome : (sh : Shape) (ns : List ℕ) (given : List Item) (v : ℕ) (last : Bool) → Are [] ns given → Outcome sh BoundAmount (ns ++ v ∷ []) given (taken_by sh BoundAmount v last)
+bound_outcome sh ns given v last h =
+    allowed_is sh BoundAmount (ns ++ v ∷ []) given (is_short v) last (whole_by last (Some (bound_item v)) Hubs)
+    (λ e. whole_is sh BoundAmount (ns ++ v ∷ []) given last (Some (bound_item v)) Hubs
+    (end_is sh BoundAmount Hubs [] ns given (Some (bound_item v)) v (says_bound v) h (ltb-true v (10 ^ 30) e) refl refl refl (record { is = refl; names = tt })))
 
 -- the number at any place
-pub outcome : (n : ℕ) (place : Place) (ns : List ℕ) (given : List Item) (v : ℕ) (last : Bool) → IsStage (stage_at n (stage_of place)) → NamesNodes n (stage_of place) → v < 10 ^ 30
-    → Described n place ns given → Outcome n place (ns ++ v ∷ []) given (taken_by n place v last)
-outcome n VersionNumber ns given v last s names short h = version_outcome n ns given v last h
-outcome n NodeCount ns given v last s names short h = nodes_outcome n ns given v last h
-outcome n (CandidateCount nodes) ns given v last s names short h = candidates_outcome n nodes ns given v last h
-outcome n CostAmount ns given v last s names short h = cost_outcome n ns given v last short h
-outcome n BoundAmount ns given v last s names short h = bound_outcome n ns given v last short h
-outcome n (HubNode before) ns given v last s names short h = hub_outcome n before ns given v last s.0 h
-outcome n (RouteFrom c) ns given v last s names short h = route_from_outcome n c ns given v last h
-outcome n (RouteTo c) ns given v last s names short h = route_to_outcome n c ns given v last h
-outcome n (RouteFirst c) ns given v last s names short h = route_first_outcome n c ns given v last h
-outcome n (RouteLast c k) ns given v last s names short h = route_last_outcome n c k ns given v last names h
-outcome n CutCount ns given v last s names short h = cut_count_outcome n ns given v last h
-outcome n (CutNumber all before) ns given v last s names short h = cut_outcome n all before ns given v last s.0.0 h
-outcome n (DualFrom d) ns given v last s names short h = dual_from_outcome n d ns given v last h
-outcome n (DualTo d) ns given v last s names short h = dual_to_outcome n d ns given v last h
-outcome n (DualPrice d) ns given v last s names short h = price_outcome n d ns given v last s.1.0 names short h
-outcome n (ValueNode d before) ns given v last s names short h = value_node_outcome n d before ns given v last h
-outcome n (ValueAmount d number) ns given v last s names short h = value_outcome n d number ns given v last s.1.0 names short h
-outcome n LineCount ns given v last s names short h = line_count_outcome n ns given v last h
-outcome n (BranchNode t) ns given v last s names short h = branch_outcome n t ns given v last h
-outcome n (Denominator t) ns given v last s names short h = denominator_outcome n t ns given v last h
-outcome n (WeightCut t before) ns given v last s names short h = weight_cut_outcome n t before ns given v last short h
-outcome n (WeightAmount t number) ns given v last s names short h = weight_outcome n t number ns given v last short h
+pub outcome : (sh : Shape) (place : Place) (ns : List ℕ) (given : List Item) (v : ℕ) (last : Bool) → IsStage (stage_at sh (stage_of place)) → NamesNodes sh (stage_of place)
+    → Described sh place ns given → Outcome sh place (ns ++ v ∷ []) given (taken_by sh place v last)
+outcome sh VersionNumber ns given v last s names h = version_outcome sh ns given v last h
+outcome sh NodeCount ns given v last s names h = nodes_outcome sh ns given v last h
+outcome sh (CandidateCount nodes) ns given v last s names h = candidates_outcome sh nodes ns given v last h
+outcome sh CostAmount ns given v last s names h = cost_outcome sh ns given v last h
+outcome sh BoundAmount ns given v last s names h = bound_outcome sh ns given v last h
+outcome sh (HubNode before) ns given v last s names h = hub_outcome sh before ns given v last s.0 h
+outcome sh (RouteFrom c) ns given v last s names h = route_from_outcome sh c ns given v last h
+outcome sh (RouteTo c) ns given v last s names h = route_to_outcome sh c ns given v last h
+outcome sh (RouteFirst c) ns given v last s names h = route_first_outcome sh c ns given v last h
+outcome sh (RouteLast c k) ns given v last s names h = route_last_outcome sh c k ns given v last names h
+outcome sh CutCount ns given v last s names h = cut_count_outcome sh ns given v last h
+outcome sh (CutNumber all before) ns given v last s names h = cut_outcome sh all before ns given v last s.0.0 h
+outcome sh (CutPart all number) ns given v last s names h = part_outcome sh all number ns given v last s.0.0 s.0.1 h
+outcome sh (DualFrom d) ns given v last s names h = dual_from_outcome sh d ns given v last h
+outcome sh (DualTo d) ns given v last s names h = dual_to_outcome sh d ns given v last names h
+outcome sh (RunFrom d) ns given v last s names h = run_from_outcome sh d ns given v last h
+outcome sh (RunTo d) ns given v last s names h = run_to_outcome sh d ns given v last h
+outcome sh (RunLength d) ns given v last s names h = run_length_outcome sh d ns given v last h
+outcome sh (DualPrice run) ns given v last s names h = price_outcome sh run ns given v last s.1.0 names h
+outcome sh (ValueNode run before) ns given v last s names h = value_node_outcome sh run before ns given v last h
+outcome sh (ValueAmount run number) ns given v last s names h = value_outcome sh run number ns given v last s.1.0 names h
+outcome sh LineCount ns given v last s names h = line_count_outcome sh ns given v last h
+outcome sh (BranchNode t) ns given v last s names h = branch_outcome sh t ns given v last h
+outcome sh (Denominator t) ns given v last s names h = denominator_outcome sh t ns given v last h
+outcome sh (WeightCut t before) ns given v last s names h = weight_cut_outcome sh t before ns given v last h
+outcome sh (WeightAmount t number) ns given v last s names h = weight_outcome sh t number ns given v last h

@@ -1,78 +1,134 @@
 -- A run that takes a node and a value of a dual.
-use Rattle.std.proofs.Common.{◌≡◌, ℕ, ◌+◌, ◌-◌, ◌<◌, ◌≤◌, Bool, true, false, List, length, take, drop, get_or, Option, Some, None, nat_le, nat_lt, refl, sym, ap, ◌∙◌, subst, arith}
-use Rattle.std.proofs.lemmas.Bool.{cond-true, and_from, le-leb, lt-ltb}
-use Rattle.cert_scan.specs.Moves.{moved_by, taken_by, move, follows}
-use Rattle.cert_scan.specs.Scans.{nodes_by, line_by}
+use Rattle.std.proofs.Common.{◌≡◌, ℕ, ◌+◌, ◌-◌, ◌^◌, ◌&&◌, ◌<◌, ◌≤◌, Bool, true, false, List, length, take, drop, get_or, Option, Some, None, nat_le, nat_lt, refl, sym, ap, ◌∙◌, subst, arith}
+use Rattle.std.proofs.lemmas.List.{length-drop, length-take-le}
+use Rattle.std.proofs.lemmas.Bool.{cond_both, cond-true, and_from, le-leb, lt-ltb}
+use Rattle.cert_scan.specs.Moves.{moved_by, taken_by, move, refusal, open_by, amount_limit, stage_after_dual, follows}
+use Rattle.cert_scan.specs.Repeats.{repeats_by}
+use Rattle.cert_scan.specs.Scans.{sifted, moved}
 use Rattle.cert_scan.specs.Runs.{Runs}
 use Rattle.cert_scan.specs.PairAhead.{IsPairAhead}
-use Rattle.cert_scan.proofs.Goes.{state, moved}
-use Rattle.cert_scan.proofs.Stepping.{HasRun, digits_after, digits_nothing, digits_scanned, digits_give, run_digits, run_byte, run_item}
+use Rattle.cert_scan.proofs.ScanBytes.{put, quiet_step, quiet_gives}
+use Rattle.cert_scan.proofs.Stepping.{HasRun, digits_after, digits_nothing, digits_scanned, digits_give, run_digits, run_byte, run_item, run_end, failed_after, failed_nothing}
+use Rattle.cert_scan.specs.declared.items.Version.{Version as TextVersion}
+use Rattle.cert_scan.specs.declared.items.Version.TheVariants.{First, Second}
+use Rattle.cert_scan.specs.declared.stages.Stage.{Stage}
 use Rattle.cert_scan.specs.declared.items.Item.{Item}
+use Rattle.cert_scan.specs.declared.items.Item.TheVariants.{DualPair as pair_item}
 use Rattle.cert_scan.specs.declared.bytes.Move.{Move}
 use Rattle.cert_scan.specs.declared.bytes.Position.{Position}
-use Rattle.cert_scan.specs.declared.bytes.Position.TheVariants.{Number}
+use Rattle.cert_scan.specs.declared.bytes.Position.TheVariants.{Number, Failed}
 use Rattle.cert_scan.specs.declared.places.Place.{Place}
 use Rattle.cert_scan.specs.declared.places.Place.TheVariants.{ValueNode, ValueAmount}
-use Rattle.cert_scan.specs.declared.stages.DualAt.{DualAt}
+use Rattle.cert_scan.specs.declared.stages.Run.{Run}
+use Rattle.cert_scan.specs.declared.stages.Shape.{Shape}
 use Rattle.cert_scan.specs.declared.pairs.Pair.{Pair}
 use Rattle.cert_scan.specs.declared.scanner.Scan.{Scan}
 
 -- the space behind a node's number
-node_goes : (n before number : ℕ) (at : DualAt) → before < number → number ≤ n
-    → moved_by n (Number (ValueNode at before) (Some number)) 32 ≡ move (Number (ValueAmount at number) None) None
-node_goes n before number at above within =
-    cond-true (follows n before number) _ _ (and_from (nat_lt before number) (nat_le number n) (lt-ltb before number above) (le-leb number n within))
+node_goes : (sh : Shape) (before number : ℕ) (run : Run) → before < number → number ≤ sh.n
+    → moved_by sh (Number (ValueNode run before) (Some number)) 32 ≡ move (Number (ValueAmount run number) None) None
+node_goes sh before number run above within =
+    cond-true (follows sh.n before number) _ _ (and_from (nat_lt before number) (nat_le number sh.n) (lt-ltb before number above) (le-leb number sh.n within))
 
 -- the byte behind a value
-value_goes : (n number value byte : ℕ) (at : DualAt) (last : Bool) → (last ≡ true → byte ≡ 10) → (last ≡ false → byte ≡ 32)
-    → moved_by n (Number (ValueAmount at number) (Some value)) byte ≡ taken_by n (ValueAmount at number) value last
-value_goes n number value byte at true end more =
-    subst (λ b. moved_by n (Number (ValueAmount at number) (Some value)) b ≡ taken_by n (ValueAmount at number) value true) (sym (end refl)) refl
-value_goes n number value byte at false end more =
-    subst (λ b. moved_by n (Number (ValueAmount at number) (Some value)) b ≡ taken_by n (ValueAmount at number) value false) (sym (more refl)) refl
-
--- a value gives an item
-value_given : (n number value : ℕ) (at : DualAt) (last : Bool) → 1 ≤ value → (taken_by n (ValueAmount at number) value last).item ≡ None → ⊥
-value_given n number value at true some e =
-    let is = ap (λ (m : Move). m.item) (cond-true (nat_le 1 value) _ _ (le-leb 1 value some)) in absurd (let h = sym is ∙ e in cc)
-value_given n number value at false some e =
-    let is = ap (λ (m : Move). m.item) (cond-true (nat_le 1 value) _ _ (le-leb 1 value some)) in absurd (let h = sym is ∙ e in cc)
+value_goes : (sh : Shape) (number value byte : ℕ) (run : Run) (last : Bool) → (last ≡ true → byte ≡ 10) → (last ≡ false → byte ≡ 32)
+    → moved_by sh (Number (ValueAmount run number) (Some value)) byte ≡ taken_by sh (ValueAmount run number) value last
+value_goes sh number value byte run true end more =
+    subst (λ b. moved_by sh (Number (ValueAmount run number) (Some value)) b ≡ taken_by sh (ValueAmount run number) value true) (sym (end refl)) refl
+value_goes sh number value byte run false end more =
+    subst (λ b. moved_by sh (Number (ValueAmount run number) (Some value)) b ≡ taken_by sh (ValueAmount run number) value false) (sym (more refl)) refl
 
 -- where a scan stands, by what was matched
-pub stands_at : (position : Position) (place : Place) (value : Option ℕ) (at : DualAt) (before : ℕ) → position ≡ Number place value
-    → place ≡ ValueNode at before → value ≡ None → position ≡ Number (ValueNode at before) None
+pub stands_at : (position : Position) (place : Place) (value : Option ℕ) (run : Run) (before : ℕ) → position ≡ Number place value
+    → place ≡ ValueNode run before → value ≡ None → position ≡ Number (ValueNode run before) None
 stands_at position place value at before e f g = e ∙ (λ i. Number (f i) (g i))
 
--- a scan by its parts
-pub goes_to : (new : Scan) (n line : ℕ) (next : Move) → new.n ≡ nodes_by n next.item → new.line ≡ line_by line next.position → new.position ≡ next.position
-    → new ≡ moved n line next
-goes_to new n line next a b p = λ i. record { n = a i; line = b i; position = p i }
-
-pub pair_runs : (old new : Scan) (at : DualAt) (before : ℕ) (bytes : List ℕ) (pair : Pair) (item : Option Item) (next : Move)
-    → old.position ≡ Number (ValueNode at before) None → IsPairAhead old.n before bytes pair
-    → next ≡ taken_by old.n (ValueAmount at pair.number) pair.value pair.last → item ≡ next.item → new ≡ moved old.n old.line next
-    → Runs old bytes (pair.front + 1 + pair.back + 1) item new
-pair_runs old new at before bytes pair item next is ahead taken gives after =
-    let n = old.n in
-    let line = old.line in
+-- the bytes before the last one of the pair
+pair_front : (old : Scan) (run : Run) (before : ℕ) (bytes : List ℕ) (pair : Pair) → old.position ≡ Number (ValueNode run before) None
+    → IsPairAhead old.shape.n before bytes pair
+    → HasRun old bytes (pair.front + 1 + pair.back) (put old (Number (ValueAmount run pair.number) (Some pair.value)))
+pair_front old run before bytes pair is ahead =
     let room = ahead.room in
-    let noded : Scan = state n line (Number (ValueNode at before) (Some pair.number)) in
-    let spaced : Scan = state n line (Number (ValueAmount at pair.number) None) in
-    let valued : Scan = state n line (Number (ValueAmount at pair.number) (Some pair.value)) in
+    let noded = put old (Number (ValueNode run before) (Some pair.number)) in
+    let spaced = put old (Number (ValueAmount run pair.number) None) in
+    let valued = put old (Number (ValueAmount run pair.number) (Some pair.value)) in
     let digits = take pair.back (take (length bytes - (pair.front + 1)) (drop (pair.front + 1) bytes)) in
-    let first : HasRun old bytes pair.front noded = record {
+    let first : HasRun old bytes pair.front (put old (Number (ValueNode run before) (Some pair.number))) = record {
       within = omega arith;
-      after = digits_after old (ValueNode at before) None (Some pair.number) (take pair.front bytes) is ahead.node;
-      nothing = digits_nothing old (ValueNode at before) None (Some pair.number) (take pair.front bytes) is ahead.node;
+      after = digits_after old (ValueNode run before) None (Some pair.number) (take pair.front bytes) is ahead.node;
+      nothing = digits_nothing old (ValueNode run before) None (Some pair.number) (take pair.front bytes) is ahead.node;
     } in
-    let node = node_goes n before pair.number at ahead.above ahead.within in
-    let second : HasRun old bytes (pair.front + 1) spaced = run_byte old noded spaced bytes pair.front 32 None first (omega arith) (sym ahead.space)
-    (ap (λ (m : Move). m.item) (sym node)) (ap (moved n line) (sym node)) refl in
-    let third : HasRun old bytes (pair.front + 1 + pair.back) valued = run_digits old spaced valued bytes (pair.front + 1) pair.back second ahead.fits
-    (sym (digits_scanned n line (ValueAmount at pair.number) None digits (Some pair.value) ahead.amount))
-    (digits_give n line (ValueAmount at pair.number) None digits (Some pair.value) ahead.amount) in
+    let node = node_goes old.shape before pair.number run ahead.above ahead.within in
+    let second : HasRun old bytes (pair.front + 1) (put old (Number (ValueAmount run pair.number) None)) =
+    run_byte old noded spaced bytes pair.front 32 None first (omega arith) (sym ahead.space)
+    (sym (quiet_gives noded 32 (Number (ValueAmount run pair.number) None) node)) (sym (quiet_step noded 32 (Number (ValueAmount run pair.number) None) node)) refl in
+    run_digits old spaced valued bytes (pair.front + 1) pair.back second ahead.fits
+    (sym (digits_scanned old (ValueAmount run pair.number) None digits (Some pair.value) ahead.amount))
+    (digits_give old (ValueAmount run pair.number) None digits (Some pair.value) ahead.amount)
+
+-- what the last byte of the pair moves
+pair_goes : (old : Scan) (run : Run) (before : ℕ) (bytes : List ℕ) (pair : Pair) (next : Move) → IsPairAhead old.shape.n before bytes pair
+    → next ≡ taken_by old.shape (ValueAmount run pair.number) pair.value pair.last
+    → next ≡ moved_by old.shape (Number (ValueAmount run pair.number) (Some pair.value)) (get_or bytes (pair.front + 1 + pair.back) 0)
+pair_goes old run before bytes pair next ahead taken =
+    taken ∙ sym (value_goes old.shape pair.number pair.value (get_or bytes (pair.front + 1 + pair.back) 0) run pair.last ahead.line_end ahead.more)
+
+-- the pair is taken, and gives its item
+pub pair_runs : (old new : Scan) (run : Run) (before : ℕ) (bytes : List ℕ) (pair : Pair) (item : Option Item) (next : Move)
+    → old.position ≡ Number (ValueNode run before) None → IsPairAhead old.shape.n before bytes pair
+    → next ≡ taken_by old.shape (ValueAmount run pair.number) pair.value pair.last → item ≡ (sifted old next).item → new ≡ moved old next
+    → (item ≡ None → ⊥) → Runs old bytes (pair.front + 1 + pair.back + 1) item new
+pair_runs old new run before bytes pair item next is ahead taken gives after some =
+    let valued = put old (Number (ValueAmount run pair.number) (Some pair.value)) in
     let byte = get_or bytes (pair.front + 1 + pair.back) 0 in
-    let value = value_goes n pair.number pair.value byte at pair.last ahead.line_end ahead.more in
-    run_item old valued new bytes (pair.front + 1 + pair.back) byte item third ahead.room refl
-    (gives ∙ ap (λ (m : Move). m.item) (taken ∙ sym value)) (after ∙ ap (moved n line) (taken ∙ sym value))
-    (λ none. value_given n pair.number pair.value at pair.last ahead.some (sym (ap (λ (m : Move). m.item) taken) ∙ sym gives ∙ none))
+    let goes = pair_goes old run before bytes pair next ahead taken in
+    run_item old valued new bytes (pair.front + 1 + pair.back) byte item (pair_front old run before bytes pair is ahead) ahead.room refl
+    (gives ∙ ap (λ m. (sifted old m).item) goes) (after ∙ ap (moved old) goes) some
+
+limit_least : (v : TextVersion) → 2 ^ 64 ≤ amount_limit v
+limit_least First = omega arith
+limit_least Second = omega arith
+
+open_given : (last : Bool) (item : Item) (place : Place) (stage : Stage) → (open_by last item place stage).item ≡ None → ⊥
+open_given true item place stage e = cc
+open_given false item place stage e = cc
+
+-- a value in range gives an item
+value_given : (sh : Shape) (run : Run) (number value : ℕ) (last : Bool) → 1 ≤ value → value < 2 ^ 64
+    → (taken_by sh (ValueAmount run number) value last).item ≡ None → ⊥
+value_given sh run number value last some few e =
+    let fits : (nat_le 1 value && nat_lt value (amount_limit sh.version)) ≡ true =
+    and_from (nat_le 1 value) (nat_lt value (amount_limit sh.version)) (le-leb 1 value some)
+    (lt-ltb value (amount_limit sh.version) (omega (arith, few, limit_least sh.version))) in
+    open_given last (pair_item (number - 1) value last) (ValueNode run number) (stage_after_dual sh.n run)
+    (sym (ap (λ (m : Move). m.item) (cond-true (nat_le 1 value && nat_lt value (amount_limit sh.version)) _ (refusal last) fits)) ∙ e)
+
+-- a move with an item that is not given fails
+sifted_failed : (s : Scan) (next : Move) → (next.item ≡ None → ⊥) → (sifted s next).item ≡ None → (sifted s next).position ≡ Failed
+sifted_failed s next some none =
+    cond_both (repeats_by s.shape.version s.so_far next.item) (refusal true) next (λ m. m.item ≡ None → m.position ≡ Failed)
+    (λ e n. refl) (λ e n. absurd (some n)) none
+
+-- where it gives none, its dual repeats the one before it, and the line was bad
+pub pair_fails : (old new : Scan) (run : Run) (before : ℕ) (bytes : List ℕ) (pair : Pair) (item : Option Item) (next : Move)
+    → old.position ≡ Number (ValueNode run before) None → IsPairAhead old.shape.n before bytes pair
+    → next ≡ taken_by old.shape (ValueAmount run pair.number) pair.value pair.last → item ≡ (sifted old next).item → new ≡ moved old next
+    → item ≡ None → Runs old bytes (length bytes) None new
+pair_fails old new run before bytes pair item next is ahead taken gives after none =
+    let valued = put old (Number (ValueAmount run pair.number) (Some pair.value)) in
+    let byte = get_or bytes (pair.front + 1 + pair.back) 0 in
+    let goes = pair_goes old run before bytes pair next ahead taken in
+    let count = pair.front + 1 + pair.back + 1 in
+    let rest = take (length bytes - count) (take (length bytes - count) (drop count bytes)) in
+    let room = ahead.room in
+    let some : next.item ≡ None → ⊥ =
+    λ e. value_given old.shape run pair.number pair.value pair.last ahead.some ahead.few (sym (ap (λ (m : Move). m.item) taken) ∙ e) in
+    let failed : new.position ≡ Failed = ap (λ s. s.position) after ∙ sifted_failed old next some (sym gives ∙ none) in
+    let pair_run = run_byte old valued new bytes (pair.front + 1 + pair.back) byte item (pair_front old run before bytes pair is ahead) ahead.room refl
+    (gives ∙ ap (λ m. (sifted old m).item) goes) (after ∙ ap (moved old) goes) none in
+    let long : length (take (length bytes - count) (drop count bytes)) ≡ length bytes - count =
+    length-take-le (length bytes - count) (drop count bytes) (omega (arith, length-drop count bytes)) in
+    let all : HasRun old bytes (count + (length bytes - count)) new =
+    run_digits old new new bytes count (length bytes - count) pair_run (omega (arith, long)) (failed_after new rest failed) (failed_nothing new rest failed) in
+    let whole : count + (length bytes - count) ≡ length bytes = omega (arith, room) in
+    run_end old new bytes (length bytes) (subst (λ k. HasRun old bytes k new) whole all) (omega arith)

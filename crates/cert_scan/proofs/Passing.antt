@@ -1,4 +1,4 @@
--- Pieces of a text that lead a scan on, each giving what it tells with its last byte.
+-- Pieces of a text that lead a walk on, each giving what it tells with its last byte.
 use Rattle.std.proofs.Common.{◌≡◌, ℕ, ◌+◌, ◌-◌, ◌<◌, ◌≤◌, List, [], ◌∷◌, ◌++◌, length, take, drop, map, flat_map, decimal, nat_eq, nat_le, Option, Some, None, refl, sym, ap, ◌∙◌, subst, append_assoc, append-nil, arith, suc}
 use Rattle.std.specs.Prelude.{option_to_list}
 use Rattle.std.specs.List.{join_with_byte}
@@ -9,16 +9,15 @@ use Rattle.hub_spec.specs.Trees.{branch_on, leaf_of, no_hub, no_route, no_count}
 use Rattle.hub_spec.proofs.SumLemmas.{by_test}
 use Rattle.cert_spec.specs.Lines.{Item as Line, says_version, says_size, says_cost, says_bound, says_hubs, says_route, says_cuts, says_cut, says_dual, says_nodes, says_tree, says_end, keyword, numbers, value_numbers, weight_numbers, line_text}
 use Rattle.cert_spec.specs.Text.{certificate_items, certificate_text, line_bytes}
-use Rattle.cert_scan.specs.Scans.{scanned, given_all}
+use Rattle.cert_scan.proofs.Walks.{Walk, scanned, given_all}
 use Rattle.cert_scan.specs.Parts.{none_left, parts_of, hub_parts, value_parts, weight_parts}
 use Rattle.cert_scan.specs.Pieces.{Piece, told_hubs, told_values, told_weights, told_numbers, told_keyword, word_piece, number_pieces, pieces_of, bytes_of, told_by, PiecesAreText, whole_within}
 use Rattle.cert_scan.proofs.Goes.{Goes, goes_append, given_all-append, nil_front}
 use Rattle.cert_scan.specs.declared.items.Item.{Item}
 use Rattle.cert_scan.specs.declared.items.Item.TheVariants.{Hub, DualPair, Dual, Leaf, LeafPair}
-use Rattle.cert_scan.specs.declared.scanner.Scan.{Scan}
 
 -- the bytes of a piece lead from a to b, and what it tells is given with the last of them
-pub record Passes (a : Scan) (p : Piece) (b : Scan) : Type 0 where
+pub record Passes (a : Walk) (p : Piece) (b : Walk) : Type 0 where
   pub front : List ℕ
   pub last : ℕ
   pub split : p.bytes ≡ front ++ last ∷ []
@@ -26,15 +25,15 @@ pub record Passes (a : Scan) (p : Piece) (b : Scan) : Type 0 where
   pub goes : Goes a p.bytes (option_to_list p.tells) b
 
 -- those of pieces one after another
-abbrev pub PassAll : Scan → List Piece → Scan → Type 0
+abbrev pub PassAll : Walk → List Piece → Walk → Type 0
 PassAll a [] b = a ≡ b
-PassAll a (p ∷ pieces) b = (mid : Scan) × Passes a p mid × PassAll mid pieces b
+PassAll a (p ∷ pieces) b = (mid : Walk) × Passes a p mid × PassAll mid pieces b
 
-pub pass_all-append : (a b c : Scan) (ps qs : List Piece) → PassAll a ps b → PassAll b qs c → PassAll a (ps ++ qs) c
+pub pass_all-append : (a b c : Walk) (ps qs : List Piece) → PassAll a ps b → PassAll b qs c → PassAll a (ps ++ qs) c
 pass_all-append a b c [] qs h k = subst (λ s. PassAll s qs c) (sym h) k
 pass_all-append a b c (p ∷ ps) qs h k = (h.0, h.1, pass_all-append h.0 b c ps qs h.2 k)
 
-pub pass_all_goes : (a b : Scan) (ps : List Piece) → PassAll a ps b → Goes a (bytes_of ps) (told_by ps) b
+pub pass_all_goes : (a b : Walk) (ps : List Piece) → PassAll a ps b → Goes a (bytes_of ps) (told_by ps) b
 pass_all_goes a b [] h = record { scan = h; items = refl }
 pass_all_goes a b (p ∷ ps) h = goes_append a h.0 b p.bytes (bytes_of ps) (option_to_list p.tells) (told_by ps) h.1.goes (pass_all_goes h.0 b ps h.2)
 
@@ -49,7 +48,7 @@ take_past : (xs ys : List ℕ) (n : ℕ) → length xs ≤ n → take n (xs ++ y
 take_past xs ys n h = let e : n ≡ length xs + (n - length xs) = omega arith in ap (λ k. take k (xs ++ ys)) e ∙ take-append-add xs ys (n - length xs)
 
 -- nothing before the last byte of a piece has come
-open_gives : (a b : Scan) (p : Piece) (rest : List ℕ) (count : ℕ) → Passes a p b → count < length p.bytes → given_all a (take count (p.bytes ++ rest)) ≡ []
+open_gives : (a b : Walk) (p : Piece) (rest : List ℕ) (count : ℕ) → Passes a p b → count < length p.bytes → given_all a (take count (p.bytes ++ rest)) ≡ []
 open_gives a b p rest count h low =
     let fits : count ≤ length h.front = omega (arith, ap length h.split, length-append h.front (h.last ∷ [])) in
     let front : take count (p.bytes ++ rest) ≡ take count h.front =
@@ -59,7 +58,7 @@ open_gives a b p rest count h low =
     ap (given_all a) front ∙ nil_front (given_all a (take count h.front)) _ all
 
 -- so many bytes give the items of the pieces that lie whole within them
-pub pieces_give : (a b : Scan) (ps : List Piece) (count : ℕ) → PassAll a ps b → given_all a (take count (bytes_of ps)) ≡ told_by (whole_within count ps)
+pub pieces_give : (a b : Walk) (ps : List Piece) (count : ℕ) → PassAll a ps b → given_all a (take count (bytes_of ps)) ≡ told_by (whole_within count ps)
 pieces_give a b [] count h = ap (given_all a) (take_all count [] (omega arith))
 pieces_give a b (p ∷ ps) count h =
     cond_both (nat_le (length p.bytes) count) (p ∷ whole_within (count - length p.bytes) ps) [] (λ w. given_all a (take count (p.bytes ++ bytes_of ps)) ≡ told_by w)
@@ -136,7 +135,7 @@ weights_tell : (w : List (ℕ × ℕ)) → told_by (number_pieces (told_weights 
 weights_tell [] = refl
 weights_tell (e ∷ rest) = ap (λ l. LeafPair e.0 e.1 (none_left rest) ∷ l) (weights_tell rest)
 
-line_pieces_tell : (line : Line) → told_by (pieces_of line) ≡ parts_of line
+pub line_pieces_tell : (line : Line) → told_by (pieces_of line) ≡ parts_of line
 line_pieces_tell (says_version v) = refl
 line_pieces_tell (says_size n q) = refl
 line_pieces_tell (says_cost c) = refl

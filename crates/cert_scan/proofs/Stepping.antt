@@ -4,15 +4,16 @@ use Rattle.std.specs.Prelude.{option_to_list, is_some, unwrap_or, slice_index, �
 use Rattle.memchr.specs.Find.{IsFirstByte, is_byte}
 use Rattle.std.proofs.lemmas.List.{take_more, take_all, length-drop}
 use Rattle.std.proofs.lemmas.Bool.{cond-true, and_from, le-leb}
-use Rattle.cert_scan.specs.Moves.{moved_by, with_digit_of, refusal, spelled_by}
+use Rattle.cert_scan.specs.Moves.{move, moved_by, with_digit_of, refusal, spelled_by}
 use Rattle.cert_scan.specs.Scans.{new_scan, given_by, stepped, scanned, given_all}
 use Rattle.cert_scan.specs.Given.{IsGiven}
 use Rattle.cert_scan.specs.Scanned.{HasScanned, IsLost}
 use Rattle.cert_scan.specs.Runs.{SpellsOn, HasNoLineEnd, Runs}
-use Rattle.cert_scan.proofs.Goes.{scanned-append, given_all-append, nil_front, state, moved}
+use Rattle.cert_scan.proofs.Goes.{nil_front}
+use Rattle.cert_scan.proofs.ScanBytes.{scanned-append, given_all-append, put, quiet_step, quiet_gives, quiet_scanned, quiet_given}
+use Rattle.cert_scan.specs.declared.stages.Shape.{Shape}
 use Rattle.cert_scan.proofs.Tracks.{scanned_given}
 use Rattle.cert_scan.specs.declared.items.Item.{Item}
-use Rattle.cert_scan.specs.declared.bytes.Move.{Move}
 use Rattle.cert_scan.specs.declared.bytes.Position.{Position}
 use Rattle.cert_scan.specs.declared.bytes.Position.TheVariants.{Number, Spoiled, Failed}
 use Rattle.cert_scan.specs.declared.places.Place.{Place}
@@ -37,23 +38,22 @@ step_given old new byte item gives after bytes given h =
     scanned_given (bytes ++ byte ∷ []) (given ++ option_to_list item) new (scanned_step old new byte item gives after bytes given h)
 
 -- nothing comes where a line was lost
-LostBy : Move → Type 0
-LostBy next = (next.item ≡ None) × ((next.position ≡ Spoiled) ⊎ (next.position ≡ Failed))
+lost_move : (sh : Shape) (byte : ℕ) (position : Position) → (position ≡ Spoiled) ⊎ (position ≡ Failed)
+    → (last : Bool) × (moved_by sh position byte ≡ refusal last)
+lost_move sh byte position (inl e) = (_, ap (λ p. moved_by sh p byte) e)
+lost_move sh byte position (inr e) = (true, ap (λ p. moved_by sh p byte) e)
 
-refusal_lost : (last : Bool) → LostBy (refusal last)
-unfolding LostBy
-refusal_lost true = (refl, inr refl)
-refusal_lost false = (refl, inl refl)
-
-lost_by : (n byte : ℕ) (position : Position) → (position ≡ Spoiled) ⊎ (position ≡ Failed) → LostBy (moved_by n position byte)
-lost_by n byte position (inl e) = subst (λ p. LostBy (moved_by n p byte)) (sym e) (refusal_lost _)
-lost_by n byte position (inr e) = subst (λ p. LostBy (moved_by n p byte)) (sym e) (refusal_lost true)
+-- where a refusal leads
+refusal_at : (last : Bool) → (position : Position) × (refusal last ≡ move position None) × ((position ≡ Spoiled) ⊎ (position ≡ Failed))
+refusal_at true = (Failed, refl, inr refl)
+refusal_at false = (Spoiled, refl, inl refl)
 
 pub step_lost : (old new : Scan) (byte : ℕ) (item : Option Item) → item ≡ given_by old byte → new ≡ stepped old byte → IsLost old → (item ≡ None) × IsLost new
-unfolding LostBy
 step_lost old new byte item gives after lost =
-    let h = lost_by old.n byte old.position lost in
-    (gives ∙ h.0, subst IsLost (sym after) h.1)
+    let next = lost_move old.shape byte old.position lost in
+    let there = refusal_at next.0 in
+    let e : moved_by old.shape old.position byte ≡ move there.0 None = next.1 ∙ there.1 in
+    (gives ∙ quiet_gives old byte there.0 e, subst IsLost (sym (after ∙ quiet_step old byte there.0 e)) there.2)
 
 -- ---- digits
 
@@ -61,21 +61,24 @@ pub spells_more : (first : Option ℕ) (bytes : List ℕ) (byte : ℕ) (value la
 spells_more first [] byte value last h k = subst (λ v. SpellsOn v (byte ∷ []) last) (sym h) k
 spells_more first (b ∷ bytes) byte value last h k = (h.0, h.1, h.2, h.3, spells_more (Some h.0) bytes byte value last h.4 k)
 
-digit_moves : (n : ℕ) (place : Place) (value : Option ℕ) (byte more : ℕ) → 48 ≤ byte → byte ≤ 57 → with_digit_of value (byte - 48) ≡ Some more
-    → moved_by n (Number place value) byte ≡ spelled_by place (Some more)
-digit_moves n place value byte more low high e =
+digit_moves : (sh : Shape) (place : Place) (value : Option ℕ) (byte more : ℕ) → 48 ≤ byte → byte ≤ 57 → with_digit_of value (byte - 48) ≡ Some more
+    → moved_by sh (Number place value) byte ≡ move (Number place (Some more)) None
+digit_moves sh place value byte more low high e =
     cond-true (nat_le 48 byte && nat_le byte 57) _ _ (and_from (nat_le 48 byte) (nat_le byte 57) (le-leb 48 byte low) (le-leb byte 57 high)) ∙ ap (spelled_by place) e
 
-pub digits_scanned : (n line : ℕ) (place : Place) (value : Option ℕ) (bytes : List ℕ) (last : Option ℕ) → SpellsOn value bytes last
-    → scanned (state n line (Number place value)) bytes ≡ state n line (Number place last)
-digits_scanned n line place value [] last h = ap (λ v. state n line (Number place v)) h
-digits_scanned n line place value (byte ∷ bytes) last h =
-    ap (λ m. scanned (moved n line m) bytes) (digit_moves n place value byte h.0 h.1 h.2 h.3) ∙ digits_scanned n line place (Some h.0) bytes last h.4
+pub digits_scanned : (s : Scan) (place : Place) (value : Option ℕ) (bytes : List ℕ) (last : Option ℕ) → SpellsOn value bytes last
+    → scanned (put s (Number place value)) bytes ≡ put s (Number place last)
+digits_scanned s place value [] last h = ap (λ v. put s (Number place v)) h
+digits_scanned s place value (byte ∷ bytes) last h =
+    quiet_scanned (put s (Number place value)) (put s (Number place last)) byte (Number place (Some h.0)) bytes (digit_moves s.shape place value byte h.0 h.1 h.2 h.3)
+    (digits_scanned s place (Some h.0) bytes last h.4)
 
-pub digits_give : (n line : ℕ) (place : Place) (value : Option ℕ) (bytes : List ℕ) (last : Option ℕ) → SpellsOn value bytes last → given_all (state n line (Number place value)) bytes ≡ []
-digits_give n line place value [] last h = refl
-digits_give n line place value (byte ∷ bytes) last h =
-    ap (λ (m : Move). option_to_list m.item ++ given_all (moved n line m) bytes) (digit_moves n place value byte h.0 h.1 h.2 h.3) ∙ digits_give n line place (Some h.0) bytes last h.4
+pub digits_give : (s : Scan) (place : Place) (value : Option ℕ) (bytes : List ℕ) (last : Option ℕ) → SpellsOn value bytes last
+    → given_all (put s (Number place value)) bytes ≡ []
+digits_give s place value [] last h = refl
+digits_give s place value (byte ∷ bytes) last h =
+    quiet_given (put s (Number place value)) byte (Number place (Some h.0)) bytes (digit_moves s.shape place value byte h.0 h.1 h.2 h.3)
+    (digits_give s place (Some h.0) bytes last h.4)
 
 -- ---- runs
 
@@ -180,47 +183,44 @@ run_given old new bytes taken item r front given h =
 
 -- digits that go on with a number
 pub digits_after : (scan : Scan) (place : Place) (value last : Option ℕ) (bytes : List ℕ) → scan.position ≡ Number place value → SpellsOn value bytes last
-    → state scan.n scan.line (Number place last) ≡ scanned scan bytes
-digits_after scan place value last bytes e h =
-    sym (digits_scanned scan.n scan.line place value bytes last h) ∙ ap (λ p. scanned (state scan.n scan.line p) bytes) (sym e)
+    → put scan (Number place last) ≡ scanned scan bytes
+digits_after scan place value last bytes e h = sym (digits_scanned scan place value bytes last h) ∙ ap (λ p. scanned (put scan p) bytes) (sym e)
 
 pub digits_nothing : (scan : Scan) (place : Place) (value last : Option ℕ) (bytes : List ℕ) → scan.position ≡ Number place value → SpellsOn value bytes last
     → given_all scan bytes ≡ []
-digits_nothing scan place value last bytes e h =
-    ap (λ p. given_all (state scan.n scan.line p) bytes) e ∙ digits_give scan.n scan.line place value bytes last h
+digits_nothing scan place value last bytes e h = ap (λ p. given_all (put scan p) bytes) e ∙ digits_give scan place value bytes last h
 
 -- ---- bytes behind a place that is not as wanted
 
-failed_scanned : (n line : ℕ) (bytes : List ℕ) → scanned (state n line Failed) bytes ≡ state n line Failed
-failed_scanned n line [] = refl
-failed_scanned n line (byte ∷ bytes) = failed_scanned n line bytes
+failed_scanned : (s : Scan) (bytes : List ℕ) → scanned (put s Failed) bytes ≡ put s Failed
+failed_scanned s [] = refl
+failed_scanned s (byte ∷ bytes) = quiet_scanned (put s Failed) (put s Failed) byte Failed bytes refl (failed_scanned s bytes)
 
-failed_gives : (n line : ℕ) (bytes : List ℕ) → given_all (state n line Failed) bytes ≡ []
-failed_gives n line [] = refl
-failed_gives n line (byte ∷ bytes) = failed_gives n line bytes
+failed_gives : (s : Scan) (bytes : List ℕ) → given_all (put s Failed) bytes ≡ []
+failed_gives s [] = refl
+failed_gives s (byte ∷ bytes) = quiet_given (put s Failed) byte Failed bytes refl (failed_gives s bytes)
 
-spoiled_scanned : (n line : ℕ) (bytes : List ℕ) → HasNoLineEnd bytes → scanned (state n line Spoiled) bytes ≡ state n line Spoiled
-spoiled_scanned n line [] h = refl
-spoiled_scanned n line (byte ∷ bytes) h = ap (λ last. scanned (moved n line (refusal last)) bytes) h.0 ∙ spoiled_scanned n line bytes h.1
+spoiled_scanned : (s : Scan) (bytes : List ℕ) → HasNoLineEnd bytes → scanned (put s Spoiled) bytes ≡ put s Spoiled
+spoiled_scanned s [] h = refl
+spoiled_scanned s (byte ∷ bytes) h = quiet_scanned (put s Spoiled) (put s Spoiled) byte Spoiled bytes (ap refusal h.0) (spoiled_scanned s bytes h.1)
 
-spoiled_gives : (n line : ℕ) (bytes : List ℕ) → HasNoLineEnd bytes → given_all (state n line Spoiled) bytes ≡ []
-spoiled_gives n line [] h = refl
-spoiled_gives n line (byte ∷ bytes) h =
-    ap (λ last. option_to_list (refusal last).item ++ given_all (moved n line (refusal last)) bytes) h.0 ∙ spoiled_gives n line bytes h.1
+spoiled_gives : (s : Scan) (bytes : List ℕ) → HasNoLineEnd bytes → given_all (put s Spoiled) bytes ≡ []
+spoiled_gives s [] h = refl
+spoiled_gives s (byte ∷ bytes) h = quiet_given (put s Spoiled) byte Spoiled bytes (ap refusal h.0) (spoiled_gives s bytes h.1)
 
 pub failed_after : (scan : Scan) (bytes : List ℕ) → scan.position ≡ Failed → scan ≡ scanned scan bytes
 failed_after scan bytes e =
-    subst (λ p. state scan.n scan.line p ≡ scanned (state scan.n scan.line p) bytes) (sym e) (sym (failed_scanned scan.n scan.line bytes))
+    subst (λ p. put scan p ≡ scanned (put scan p) bytes) (sym e) (sym (failed_scanned scan bytes))
 
 pub failed_nothing : (scan : Scan) (bytes : List ℕ) → scan.position ≡ Failed → given_all scan bytes ≡ []
-failed_nothing scan bytes e = ap (λ p. given_all (state scan.n scan.line p) bytes) e ∙ failed_gives scan.n scan.line bytes
+failed_nothing scan bytes e = ap (λ p. given_all (put scan p) bytes) e ∙ failed_gives scan bytes
 
 pub spoiled_after : (scan : Scan) (bytes : List ℕ) → scan.position ≡ Spoiled → HasNoLineEnd bytes → scan ≡ scanned scan bytes
 spoiled_after scan bytes e h =
-    subst (λ p. state scan.n scan.line p ≡ scanned (state scan.n scan.line p) bytes) (sym e) (sym (spoiled_scanned scan.n scan.line bytes h))
+    subst (λ p. put scan p ≡ scanned (put scan p) bytes) (sym e) (sym (spoiled_scanned scan bytes h))
 
 pub spoiled_nothing : (scan : Scan) (bytes : List ℕ) → scan.position ≡ Spoiled → HasNoLineEnd bytes → given_all scan bytes ≡ []
-spoiled_nothing scan bytes e h = ap (λ p. given_all (state scan.n scan.line p) bytes) e ∙ spoiled_gives scan.n scan.line bytes h
+spoiled_nothing scan bytes e h = ap (λ p. given_all (put scan p) bytes) e ∙ spoiled_gives scan bytes h
 
 is_no : (answer : Bool) → (answer ≡ true → ⊥) → answer ≡ false
 is_no true h = absurd (h refl)

@@ -1,20 +1,27 @@
 -- How far a text has been scanned.
-use Rattle.std.proofs.Common.{◌≡◌, ◌≢◌, ℕ, ◌+◌, ◌-◌, ◌^◌, ◌<◌, ◌≤◌, false, List, [], ◌∷◌, ◌++◌, length, flat_map, All, Option, None, nat_lt, nat_eq, ◌⊎◌, inl, inr, refl, sym, ap, ◌∙◌, subst, append_assoc, append-nil, arith}
+use Rattle.std.proofs.Common.{◌≡◌, ◌≢◌, true, ◌&&◌, ◌||◌, Some, ℕ, ◌+◌, ◌-◌, ◌^◌, ◌<◌, ◌≤◌, false, List, [], ◌∷◌, ◌++◌, length, flat_map, All, Option, None, nat_lt, nat_eq, ◌⊎◌, inl, inr, refl, sym, ap, ◌∙◌, subst, append_assoc, append-nil, arith}
 use Rattle.std.specs.Prelude.{option_to_list}
-use Rattle.std.proofs.lemmas.Bool.{cond-true, lt-ltb}
+use Rattle.std.specs.List.{AllByRecursion}
+use Rattle.std.proofs.lemmas.Bool.{cond-true, cond_both, lt-ltb, false≢true}
 use Rattle.std.proofs.lemmas.List.{length-append}
 use Rattle.std.proofs.lemmas.List.Concat.{flat_map-append}
 use Rattle.std.proofs.lemmas.List.Elements.{All-nil, All-cons, All-append}
-use Rattle.cert_spec.specs.Lines.{Item as Line}
+use Rattle.cert_spec.specs.Lines.{Item as Line, line_text}
 use Rattle.cert_spec.specs.Text.{line_bytes}
 use Rattle.cert_spec.specs.Grammar as grammar
 use Rattle.cert_spec.specs.Grammar.{want_version, Wants, after, Leads, IsLine}
 use Rattle.cert_spec.specs.Reading.{IsStage}
-use Rattle.cert_spec.proofs.Leads.{Leads-append}
+use Rattle.cert_spec.proofs.Leads.{Leads-append, recursion_split}
+use Rattle.cert_spec.proofs.Wanted.{one_item, line_has_no_feed}
 use Rattle.cert_spec.proofs.Stages.{stage_after}
-use Rattle.cert_scan.specs.Moves.{moved_by}
-use Rattle.cert_scan.specs.Scans.{new_scan, given_by, nodes_by, line_by, stepped, scanned, given_all}
-use Rattle.cert_scan.specs.Parts.{parts_of}
+use Rattle.cert_scan.specs.Moves.{moved_by, refusal}
+use Rattle.cert_scan.specs.Scans as scan
+use Rattle.cert_scan.specs.Scans.{new_shape, shape_by, line_by, new_scan}
+use Rattle.cert_scan.specs.Repeats.{DualSoFar, no_dual, ends_dual, is_repeated, noted, noted_by, repeats_by}
+use Rattle.cert_scan.proofs.Walks.{Walk, stepped, scanned}
+use Rattle.cert_scan.proofs.Repeated.{noted_all, noted_all-append, shape_all, shape_all-append, repeats_in, repeats_in-append, line_repeats, dual_repeats, noted_one, none_repeats, repeats_one, shape_one}
+use Rattle.cert_scan.proofs.Tight.{wanted_at, untight, tight_wants, wanted_repeats, wanted_stage, wanted_begun, wanted_next}
+use Rattle.cert_scan.specs.Parts.{parts_of, open_hubs, open_values, open_weights}
 use Rattle.cert_scan.specs.Pieces.{pieces_of}
 use Rattle.cert_scan.specs.Given.{IsBegun, IsGiven}
 use Rattle.cert_scan.specs.Scanned.{HasScanned}
@@ -28,8 +35,11 @@ use Rattle.cert_scan.specs.declared.items.Item.{Item}
 use Rattle.cert_scan.specs.declared.bytes.Move.{Move}
 use Rattle.cert_scan.specs.declared.bytes.Position.{Position}
 use Rattle.cert_scan.specs.declared.bytes.Position.TheVariants.{Start, Number, Keyword, Spoiled, Failed}
+use Rattle.cert_scan.specs.declared.items.Version.{Version as TextVersion}
+use Rattle.cert_scan.specs.declared.items.Version.TheVariants.{First, Second}
+use Rattle.cert_scan.specs.declared.stages.Shape.{Shape}
 use Rattle.cert_scan.specs.declared.stages.Stage.{Stage}
-use Rattle.cert_scan.specs.declared.stages.Stage.TheVariants.{Version, Nothing}
+use Rattle.cert_scan.specs.declared.stages.Stage.TheVariants.{Version, Size, Cost, Bound, Hubs, Route, Cuts, Cut, Dual, Nodes, Tree, End, Nothing}
 use Rattle.cert_scan.specs.declared.scanner.Scan.{Scan}
 
 -- bytes without a line feed
@@ -41,62 +51,80 @@ abbrev pub Busy : Stage → Position → Type 0
 Busy stage (Start at) = Unit {0}
 Busy stage position = stage ≡ Nothing → ⊥
 
--- a line stands, of which these bytes have come
-pub record InLine (nodes : ℕ) (stage : Stage) (n : ℕ) (position : Position) (sofar : List ℕ) (more : List Item) : Type 0 where
-  pub same : n ≡ nodes
-  pub here : Here nodes stage position sofar more
+-- a line stands, of which these bytes have come, behind lines of this shape with this dual held
+pub record InLine (start : Shape) (held : DualSoFar) (stage : Stage) (sh : Shape) (so_far : DualSoFar) (position : Position) (sofar : List ℕ) (more : List Item) : Type 0 where
+  pub same : sh ≡ start
+  pub here : Here start stage position sofar more
   pub busy : Busy stage position
   pub plain : ArePlain sofar
-  pub came : (line : ℕ) → scanned (state nodes line (Start stage)) sofar ≡ state nodes line position
+  pub came : (line : ℕ) → scanned (state start line (Start stage)) sofar ≡ state start line position
+  pub holds : so_far ≡ noted_all start held more
+  pub quiet : repeats_in start held more ≡ false
+  pub kept : shape_all start more ≡ start
 
--- these bytes begin with a whole line that may not stand at this stage
-pub record BadLineAt (nodes : ℕ) (stage : Stage) (sofar : List ℕ) : Type 0 where
+-- these bytes begin with a whole line that may not stand at this stage of the grammar
+pub record BadLineAt (wanted : grammar.Stage) (sofar : List ℕ) : Type 0 where
   pub part : List ℕ
   pub rest : List ℕ
   pub text : sofar ≡ part ++ 10 ∷ rest
   pub plain : ArePlain part
-  pub none : (item : Line) → IsLine (stage_at nodes stage) part item → ⊥
+  pub none : (item : Line) → IsLine wanted part item → ⊥
 
 -- a line was bad, or something stands behind the last line
-abbrev pub HasFailed : ℕ → Stage → List ℕ → Type 0
-HasFailed nodes stage sofar = BadLineAt nodes stage sofar ⊎ ((stage ≡ Nothing) × (sofar ≢ []))
+abbrev pub HasFailed : grammar.Stage → Stage → List ℕ → Type 0
+HasFailed wanted stage sofar = BadLineAt wanted sofar ⊎ ((stage ≡ Nothing) × (sofar ≢ []))
 
-abbrev pub Now : ℕ → Stage → ℕ → List ℕ → List Item → Position → Type 0
-Now nodes stage n sofar more Failed = HasFailed nodes stage sofar
-Now nodes stage n sofar more position = InLine nodes stage n position sofar more
+abbrev pub Now : Shape → DualSoFar → Stage → Shape → DualSoFar → List ℕ → List Item → Position → Type 0
+Now start held stage sh so_far sofar more Failed = HasFailed (wanted_at start held stage) stage sofar
+Now start held stage sh so_far sofar more position = InLine start held stage sh so_far position sofar more
 
 -- whole lines have come, and some bytes behind them
-pub record Tracks (bytes : List ℕ) (given : List Item) (n line : ℕ) (position : Position) : Type 0 where
+pub record Tracks (bytes : List ℕ) (given : List Item) (sh : Shape) (line : ℕ) (position : Position) (so_far : DualSoFar) : Type 0 where
   pub lines : List Line
-  pub nodes : ℕ
+  -- what was told and held behind the lines
+  pub shape : Shape
+  pub held : DualSoFar
   pub stage : Stage
   pub sofar : List ℕ
   pub more : List Item
-  pub lead : Leads want_version lines (stage_at nodes stage)
-  pub names : NamesNodes nodes stage
+  pub lead : Leads want_version lines (wanted_at shape held stage)
+  pub names : NamesNodes shape stage
   pub front : bytes ≡ flat_map line_bytes lines ++ sofar
   pub parts : given ≡ flat_map parts_of lines ++ more
-  pub begun : IsBegun (stage_at nodes stage) more
+  pub begun : IsBegun (wanted_at shape held stage) more
   pub count : length lines ≤ length bytes
   pub line_is : length bytes < 2 ^ 64 - 1 → line ≡ length lines + 1
-  pub now : Now nodes stage n sofar more position
+  pub now : Now shape held stage sh so_far sofar more position
 
 pub stage_led : (first last : grammar.Stage) (items : List Line) → IsStage first → Leads first items last → IsStage last
 stage_led first last [] s h = subst IsStage h s
 stage_led first last (item ∷ items) s h = stage_led (after first item) last items (stage_after first item s h.0) h.1
 
-here_begun : (n : ℕ) (stage : Stage) (position : Position) (bytes : List ℕ) (given : List Item) → NamesNodes n stage → Here n stage position bytes given → IsBegun (stage_at n stage) given
-here_begun n stage (Start at) bytes given names h = begun_nothing n stage given h.2
-here_begun n stage (Keyword head matched) bytes given names h = begun_nothing n stage given h.given_none
-here_begun n stage (Number place value) bytes given names h =
-    subst (λ x. IsBegun (stage_at n x) given) h.stage_is (described_begun n place h.ns given (subst (NamesNodes n) (sym h.stage_is) names) h.described)
-here_begun n stage Spoiled bytes given names h = h
-here_begun n stage Failed bytes given names h = h
+here_begun : (sh : Shape) (stage : Stage) (position : Position) (bytes : List ℕ) (given : List Item) → NamesNodes sh stage → Here sh stage position bytes given → IsBegun (stage_at sh stage) given
+here_begun sh stage (Start at) bytes given names h = begun_nothing sh stage given h.2
+here_begun sh stage (Keyword head matched) bytes given names h = begun_nothing sh stage given h.given_none
+here_begun sh stage (Number place value) bytes given names h =
+    subst (λ x. IsBegun (stage_at sh x) given) h.stage_is (described_begun sh place h.ns given (subst (NamesNodes sh) (sym h.stage_is) names) h.described)
+here_begun sh stage Spoiled bytes given names h = h
+here_begun sh stage Failed bytes given names h = h
 
-pub tracks_new : Tracks [] [] 0 1 (Start Version)
+line_begins : (sh : Shape) (so_far : DualSoFar) (stage : Stage) → InLine sh so_far stage sh so_far (Start stage) [] []
+line_begins sh so_far stage = record {
+  same = refl;
+  here = (refl, refl, refl);
+  busy = tt;
+  plain = All-nil (λ b. nat_eq b 10 ≡ false);
+  came = λ line. refl;
+  holds = refl;
+  quiet = refl;
+  kept = refl;
+}
+
+pub tracks_new : Tracks [] [] new_shape 1 (Start Version) no_dual
 tracks_new = record {
   lines = [];
-  nodes = 0;
+  shape = new_shape;
+  held = no_dual;
   stage = Version;
   sofar = [];
   more = [];
@@ -107,7 +135,7 @@ tracks_new = record {
   begun = refl;
   count = omega arith;
   line_is = λ few. refl;
-  now = record { same = refl; here = (refl, refl, refl); busy = tt; plain = All-nil (λ b. nat_eq b 10 ≡ false); came = λ line. refl };
+  now = line_begins new_shape no_dual Version;
 }
 
 -- ---- one byte more
@@ -121,43 +149,75 @@ more_given given front more item e = ap (λ g. g ++ option_to_list item) e ∙ a
 counted : (line lines : ℕ) (s : Stage) → line ≡ lines + 1 → lines + 1 < 2 ^ 64 - 1 → line_by line (Start s) ≡ lines + 1 + 1
 counted line lines s e few = cond-true (nat_lt line 18446744073709551615) (line + 1) line (lt-ltb line 18446744073709551615 (omega arith)) ∙ omega arith
 
-line_ended : {bytes : List ℕ} {given : List Item} {n line : ℕ} {position : Position} (byte : ℕ) (item : Option Item) (s : Stage) (h : Tracks bytes given n line position)
-    → n ≡ h.nodes → Whole h.nodes h.stage s byte (h.sofar ++ byte ∷ []) h.more item
-    → Tracks (bytes ++ byte ∷ []) (given ++ option_to_list item) (nodes_by n item) (line_by line (Start s)) (Start s)
-line_ended {bytes = bytes} {given = given} {n = n} {line = line} byte item s h same w = record {
-  lines = h.lines ++ w.line ∷ [];
-  nodes = nodes_by h.nodes item;
-  stage = s;
-  sofar = [];
-  more = [];
-  lead = Leads-append want_version (stage_at h.nodes h.stage) (stage_at (nodes_by h.nodes item) s) h.lines (w.line ∷ []) h.lead (w.wanted, sym w.behind.is);
-  names = w.behind.names;
-  front = snoc_front bytes (flat_map line_bytes h.lines) h.sofar byte h.front ∙ ap (λ t. flat_map line_bytes h.lines ++ t) (w.text ∙ sym (append-nil (line_bytes w.line)))
-      ∙ sym (flat_map-append line_bytes h.lines (w.line ∷ [])) ∙ sym (append-nil (flat_map line_bytes (h.lines ++ w.line ∷ [])));
-  parts = more_given given (flat_map parts_of h.lines) h.more item h.parts ∙ ap (λ t. flat_map parts_of h.lines ++ t) (w.parts ∙ sym (append-nil (parts_of w.line)))
-      ∙ sym (flat_map-append parts_of h.lines (w.line ∷ [])) ∙ sym (append-nil (flat_map parts_of (h.lines ++ w.line ∷ [])));
-  begun = begun_none (nodes_by h.nodes item) s;
-  count = omega (arith, length-append h.lines (w.line ∷ []), length-append bytes (byte ∷ []), h.count);
-  line_is = λ few. (let long = length-append bytes (byte ∷ []) in
-      let fits : length bytes < 2 ^ 64 - 1 = omega arith in
-      let count = h.count in
-      counted line (length h.lines) s (h.line_is fits) (omega arith) ∙ omega (arith, length-append h.lines (w.line ∷ [])));
-  now = record {
-    same = ap (λ x. nodes_by x item) same;
-    here = (refl, refl, refl);
-    busy = tt;
-    plain = All-nil (λ b. nat_eq b 10 ≡ false);
-    came = λ l. refl;
-  };
-}
+-- ---- what an item leaves
+
+-- with an item in a line
+item_noted : {start sh : Shape} {held so_far : DualSoFar} {stage : Stage} {position : Position} {sofar : List ℕ} {more : List Item} (item : Option Item)
+    → InLine start held stage sh so_far position sofar more → noted_by sh.version so_far item ≡ noted_all start held (more ++ option_to_list item)
+item_noted {start = start} {held = held} {more = more} item now =
+    (λ i. noted_by (now.same i).version (now.holds i) item) ∙ sym (noted_one start (noted_all start held more) item)
+    ∙ ap (λ s. noted_all s (noted_all start held more) (option_to_list item)) (sym now.kept) ∙ sym (noted_all-append start held more (option_to_list item))
+
+item_repeats : {start sh : Shape} {held so_far : DualSoFar} {stage : Stage} {position : Position} {sofar : List ℕ} {more : List Item} (item : Option Item)
+    → InLine start held stage sh so_far position sofar more → repeats_in start held (more ++ option_to_list item) ≡ repeats_by sh.version so_far item
+item_repeats {start = start} {held = held} {so_far = so_far} {more = more} item now =
+    repeats_in-append start held more (option_to_list item)
+    ∙ (λ i. now.quiet i || repeats_in (now.kept i) (sym now.holds i) (option_to_list item)) ∙ repeats_one start so_far item
+    ∙ (λ i. repeats_by (sym now.same i).version so_far item)
+
+item_shape : {start sh : Shape} {held so_far : DualSoFar} {stage : Stage} {position : Position} {sofar : List ℕ} {more : List Item} (item : Option Item)
+    → InLine start held stage sh so_far position sofar more → shape_all start (more ++ option_to_list item) ≡ shape_by start item
+item_shape {start = start} {more = more} item now =
+    shape_all-append start more (option_to_list item) ∙ ap (λ s. shape_all s (option_to_list item)) now.kept ∙ shape_one start item
+
+-- ---- a line has ended
+
+line_ended : {bytes : List ℕ} {given : List Item} {sh : Shape} {line : ℕ} {position : Position} {so_far : DualSoFar} (byte : ℕ) (item : Option Item) (s : Stage)
+    (h : Tracks bytes given sh line position so_far) → InLine h.shape h.held h.stage sh so_far position h.sofar h.more → IsStage (stage_at h.shape h.stage)
+    → repeats_by sh.version so_far item ≡ false → Whole h.shape h.stage s byte (h.sofar ++ byte ∷ []) h.more item
+    → Tracks (bytes ++ byte ∷ []) (given ++ option_to_list item) (shape_by sh item) (line_by line (Start s)) (Start s) (noted_by sh.version so_far item)
+line_ended {bytes = bytes} {given = given} {sh = sh} {line = line} {so_far = so_far} byte item s h now size quiet w =
+    let next = noted_by sh.version so_far item in
+    let repeats : dual_repeats h.shape.version h.held w.line ≡ false =
+    sym (line_repeats h.shape h.held w.line) ∙ ap (repeats_in h.shape h.held) (sym w.parts) ∙ item_repeats item now ∙ quiet in
+    let held : noted_all h.shape h.held (parts_of w.line) ≡ noted_by sh.version so_far item =
+    ap (noted_all h.shape h.held) (sym w.parts) ∙ sym (item_noted item now) in
+    let told : shape_by h.shape item ≡ shape_by sh item = ap (λ x. shape_by x item) (sym now.same) in
+    let behind : after (wanted_at h.shape h.held h.stage) w.line ≡ wanted_at (shape_by sh item) (noted_by sh.version so_far item) s =
+    wanted_next h.shape (shape_by h.shape item) h.held h.stage s w.line size w.wanted w.behind ∙ (λ i. wanted_at (told i) (held i) s) in
+    record {
+      lines = h.lines ++ w.line ∷ [];
+      shape = shape_by sh item;
+      held = noted_by sh.version so_far item;
+      stage = s;
+      sofar = [];
+      more = [];
+      lead = Leads-append want_version (wanted_at h.shape h.held h.stage) (wanted_at (shape_by sh item) next s) h.lines (w.line ∷ []) h.lead
+          (tight_wants h.shape h.held h.stage w.line w.wanted repeats, behind);
+      names = subst (λ x. NamesNodes x s) told w.behind.names;
+      front = snoc_front bytes (flat_map line_bytes h.lines) h.sofar byte h.front ∙ ap (λ t. flat_map line_bytes h.lines ++ t) (w.text ∙ sym (append-nil (line_bytes w.line)))
+          ∙ sym (flat_map-append line_bytes h.lines (w.line ∷ [])) ∙ sym (append-nil (flat_map line_bytes (h.lines ++ w.line ∷ [])));
+      parts = more_given given (flat_map parts_of h.lines) h.more item h.parts ∙ ap (λ t. flat_map parts_of h.lines ++ t) (w.parts ∙ sym (append-nil (parts_of w.line)))
+          ∙ sym (flat_map-append parts_of h.lines (w.line ∷ [])) ∙ sym (append-nil (flat_map parts_of (h.lines ++ w.line ∷ [])));
+      begun = wanted_begun (shape_by sh item) next s [] (begun_none (shape_by sh item) s);
+      count = omega (arith, length-append h.lines (w.line ∷ []), length-append bytes (byte ∷ []), h.count);
+      line_is = λ few. (let long = length-append bytes (byte ∷ []) in
+          let fits : length bytes < 2 ^ 64 - 1 = omega arith in
+          let count = h.count in
+          counted line (length h.lines) s (h.line_is fits) (omega arith) ∙ omega (arith, length-append h.lines (w.line ∷ [])));
+      now = line_begins (shape_by sh item) next s;
+    }
 
 -- what stays where no line has ended
-abbrev stays : {bytes : List ℕ} {given : List Item} {n line : ℕ} {position : Position} (byte : ℕ) (item : Option Item) (m l : ℕ) (next : Position) (h : Tracks bytes given n line position)
-    → (length bytes < 2 ^ 64 - 1 → l ≡ length h.lines + 1) → IsBegun (stage_at h.nodes h.stage) (h.more ++ option_to_list item)
-    → Now h.nodes h.stage m (h.sofar ++ byte ∷ []) (h.more ++ option_to_list item) next → Tracks (bytes ++ byte ∷ []) (given ++ option_to_list item) m l next
-stays {bytes = bytes} {given = given} byte item m l next h line begun now = record {
+abbrev stays : {bytes : List ℕ} {given : List Item} {sh : Shape} {line : ℕ} {position : Position} {so_far : DualSoFar} (byte : ℕ) (item : Option Item) (m : Shape) (l : ℕ)
+    (next : Position) (held : DualSoFar) (h : Tracks bytes given sh line position so_far) → (length bytes < 2 ^ 64 - 1 → l ≡ length h.lines + 1)
+    → IsBegun (wanted_at h.shape h.held h.stage) (h.more ++ option_to_list item)
+    → Now h.shape h.held h.stage m held (h.sofar ++ byte ∷ []) (h.more ++ option_to_list item) next
+    → Tracks (bytes ++ byte ∷ []) (given ++ option_to_list item) m l next held
+stays {bytes = bytes} {given = given} byte item m l next held h line begun now = record {
   lines = h.lines;
-  nodes = h.nodes;
+  shape = h.shape;
+  held = h.held;
   stage = h.stage;
   sofar = h.sofar ++ byte ∷ [];
   more = h.more ++ option_to_list item;
@@ -171,7 +231,7 @@ stays {bytes = bytes} {given = given} byte item m l next h line begun now = reco
   now = now;
 }
 
-came_more : (nodes : ℕ) (stage : Stage) (position : Position) (sofar : List ℕ) (byte line : ℕ) (next : Scan) → scanned (state nodes line (Start stage)) sofar ≡ state nodes line position
+came_more : (nodes : Shape) (stage : Stage) (position : Position) (sofar : List ℕ) (byte line : ℕ) (next : Walk) → scanned (state nodes line (Start stage)) sofar ≡ state nodes line position
     → stepped (state nodes line position) byte ≡ next → scanned (state nodes line (Start stage)) (sofar ++ byte ∷ []) ≡ next
 came_more nodes stage position sofar byte line next came e =
     scanned-append (state nodes line (Start stage)) sofar (byte ∷ []) ∙ ap (λ s. scanned s (byte ∷ [])) came ∙ e
@@ -180,33 +240,33 @@ plain_more : (sofar : List ℕ) (byte : ℕ) → ArePlain sofar → nat_eq byte 
 plain_more sofar byte h e = All-append (λ b. nat_eq b 10 ≡ false) sofar (byte ∷ []) h (All-cons (λ b. nat_eq b 10 ≡ false) byte [] e (All-nil (λ b. nat_eq b 10 ≡ false)))
 
 -- a line that ended and led to no further line may not stand there
-none_there : (nodes : ℕ) (stage : Stage) (part : List ℕ) (end : Scan) → NamesNodes nodes stage → IsStage (stage_at nodes stage) → scanned (state nodes 0 (Start stage)) (part ++ 10 ∷ []) ≡ end
-    → end.position ≡ Failed → (item : Line) → IsLine (stage_at nodes stage) part item → ⊥
-none_there nodes stage part end names s e failed item is =
-    let ends = accepts nodes 0 stage item names s is.wanted in
+none_there : (start : Shape) (held : DualSoFar) (stage : Stage) (part : List ℕ) (end : Walk) → NamesNodes start stage → IsStage (stage_at start stage)
+    → scanned (state start 0 (Start stage)) (part ++ 10 ∷ []) ≡ end → end.position ≡ Failed → (item : Line) → IsLine (wanted_at start held stage) part item → ⊥
+none_there start held stage part end names s e failed item is =
+    let ends = accepts start 0 stage item names s (untight start held stage item is.wanted) in
     let bytes : line_bytes item ≡ part ++ 10 ∷ [] = ap (λ b. b ++ 10 ∷ []) (sym is.text) in
-    let goes = pass_all_goes (state nodes 0 (Start stage)) (state ends.nodes ends.line (Start ends.stage)) (pieces_of item) ends.passes in
-    let start : Start ends.stage ≡ end.position =
-    ap (λ x. x.position) (sym goes.scan ∙ ap (scanned (state nodes 0 (Start stage))) (line_pieces_text item ∙ bytes) ∙ e) in
+    let goes = pass_all_goes (state start 0 (Start stage)) (state ends.shape ends.line (Start ends.stage)) (pieces_of item) ends.passes in
+    let start_is : Start ends.stage ≡ end.position =
+    ap (λ x. x.position) (sym goes.scan ∙ ap (scanned (state start 0 (Start stage))) (line_pieces_text item ∙ bytes) ∙ e) in
     cc
 
 none_empty : (sofar : List ℕ) (byte : ℕ) → sofar ++ byte ∷ [] ≢ []
 none_empty [] byte e = cc
 none_empty (b ∷ bs) byte e = cc
 
-has_failed : (nodes : ℕ) (stage : Stage) (n : ℕ) (position : Position) (sofar : List ℕ) (more : List Item) (byte : ℕ) (next : Move) → NamesNodes nodes stage → IsStage (stage_at nodes stage)
-    → InLine nodes stage n position sofar more → moved_by nodes position byte ≡ next → next.position ≡ Failed → (byte ≡ 10) ⊎ (stage ≡ Nothing)
-    → HasFailed nodes stage (sofar ++ byte ∷ [])
-has_failed nodes stage n position sofar more byte next names s now e failed (inl feed) = inl (record {
+has_failed : (start : Shape) (held : DualSoFar) (stage : Stage) (sh : Shape) (so_far : DualSoFar) (position : Position) (sofar : List ℕ) (more : List Item) (byte : ℕ) (next : Move)
+    → NamesNodes start stage → IsStage (stage_at start stage) → InLine start held stage sh so_far position sofar more → moved_by start position byte ≡ next
+    → next.position ≡ Failed → (byte ≡ 10) ⊎ (stage ≡ Nothing) → HasFailed (wanted_at start held stage) stage (sofar ++ byte ∷ [])
+has_failed start held stage sh so_far position sofar more byte next names s now e failed (inl feed) = inl (record {
   part = sofar;
   rest = [];
   text = ap (λ b. sofar ++ b ∷ []) feed;
   plain = now.plain;
-  none = none_there nodes stage sofar (stepped (state nodes 0 position) 10) names s
-      (came_more nodes stage position sofar 10 0 (stepped (state nodes 0 position) 10) (now.came 0) refl)
-      (ap (λ b. (moved_by nodes position b).position) (sym feed) ∙ ap (λ m. m.position) e ∙ failed);
+  none = none_there start held stage sofar (stepped (state start 0 position) 10) names s
+      (came_more start stage position sofar 10 0 (stepped (state start 0 position) 10) (now.came 0) refl)
+      (ap (λ b. (moved_by start position b).position) (sym feed) ∙ ap (λ m. m.position) e ∙ failed);
 })
-has_failed nodes stage n position sofar more byte next names s now e failed (inr over) = inr (over, none_empty sofar byte)
+has_failed start held stage sh so_far position sofar more byte next names s now e failed (inr over) = inr (over, none_empty sofar byte)
 
 busy_next : (stage : Stage) (position : Position) → (stage ≡ Nothing → ⊥) → Busy stage position
 busy_next stage (Start at) h = tt
@@ -215,97 +275,215 @@ busy_next stage (Number place value) h = h
 busy_next stage Spoiled h = h
 busy_next stage Failed h = h
 
-step_is : (nodes : ℕ) (position : Position) (byte : ℕ) (item : Option Item) (next : Position) → moved_by nodes position byte ≡ record { position = next; item = item }
-    → ((l : ℕ) → line_by l next ≡ l) → nodes_by nodes item ≡ nodes → (l : ℕ) → stepped (state nodes l position) byte ≡ state nodes l next
-step_is nodes position byte item next e line same l =
-    ap (λ (m : Move). state (nodes_by nodes m.item) (line_by l m.position) m.position) e ∙ (λ i. state (same i) (line l i) next)
+step_is : (start : Shape) (position : Position) (byte : ℕ) (item : Option Item) (next : Position) → moved_by start position byte ≡ record { position = next; item = item }
+    → ((l : ℕ) → line_by l next ≡ l) → shape_by start item ≡ start → (l : ℕ) → stepped (state start l position) byte ≡ state start l next
+step_is start position byte item next e line same l =
+    ap (λ (m : Move). state (shape_by start m.item) (line_by l m.position) m.position) e ∙ (λ i. state (same i) (line l i) next)
+
+-- what is given of a line that goes on
+more_begun : {bytes : List ℕ} {given : List Item} {sh : Shape} {line : ℕ} {position : Position} {so_far : DualSoFar} (byte : ℕ) (item : Option Item) (next : Position)
+    (h : Tracks bytes given sh line position so_far) → Goes_on h.shape h.stage byte next (h.sofar ++ byte ∷ []) h.more item
+    → IsBegun (wanted_at h.shape h.held h.stage) (h.more ++ option_to_list item)
+more_begun byte item next h a =
+    wanted_begun h.shape h.held h.stage (h.more ++ option_to_list item)
+    (here_begun h.shape h.stage next (h.sofar ++ byte ∷ []) (h.more ++ option_to_list item) h.names a.here)
 
 -- the line goes on
-goes_on : {bytes : List ℕ} {given : List Item} {n line : ℕ} {position : Position} (byte : ℕ) (item : Option Item) (next : Position) (h : Tracks bytes given n line position)
-    → InLine h.nodes h.stage n position h.sofar h.more → ((l : ℕ) → stepped (state h.nodes l position) byte ≡ state h.nodes l next)
-    → Goes_on h.nodes h.stage byte next (h.sofar ++ byte ∷ []) h.more item
-    → InLine h.nodes h.stage (nodes_by n item) next (h.sofar ++ byte ∷ []) (h.more ++ option_to_list item)
-goes_on {position = position} byte item next h now step g = record {
-  same = ap (λ x. nodes_by x item) now.same ∙ g.same;
+goes_on : {bytes : List ℕ} {given : List Item} {sh : Shape} {line : ℕ} {position : Position} {so_far : DualSoFar} (byte : ℕ) (item : Option Item) (next : Position)
+    (h : Tracks bytes given sh line position so_far) → InLine h.shape h.held h.stage sh so_far position h.sofar h.more
+    → ((l : ℕ) → stepped (state h.shape l position) byte ≡ state h.shape l next) → repeats_by sh.version so_far item ≡ false
+    → Goes_on h.shape h.stage byte next (h.sofar ++ byte ∷ []) h.more item
+    → InLine h.shape h.held h.stage (shape_by sh item) (noted_by sh.version so_far item) next (h.sofar ++ byte ∷ []) (h.more ++ option_to_list item)
+goes_on {position = position} byte item next h now step quiet g = record {
+  same = ap (λ x. shape_by x item) now.same ∙ g.same;
   here = g.here;
   busy = busy_next h.stage next g.some;
   plain = plain_more h.sofar byte now.plain g.no_feed;
-  came = λ l. came_more h.nodes h.stage position h.sofar byte l (state h.nodes l next) (now.came l) (step l);
+  came = λ l. came_more h.shape h.stage position h.sofar byte l (state h.shape l next) (now.came l) (step l);
+  holds = item_noted item now;
+  quiet = item_repeats item now ∙ quiet;
+  kept = item_shape item now ∙ g.same;
 }
 
--- where a move leads, by the position behind it
-moved_at : {bytes : List ℕ} {given : List Item} {n line : ℕ} {position : Position} (byte : ℕ) (item : Option Item) (next : Position) (h : Tracks bytes given n line position)
-    → InLine h.nodes h.stage n position h.sofar h.more → IsStage (stage_at h.nodes h.stage) → moved_by h.nodes position byte ≡ record { position = next; item = item }
-    → AfterAt h.nodes h.stage byte (h.sofar ++ byte ∷ []) h.more item next
-    → Tracks (bytes ++ byte ∷ []) (given ++ option_to_list item) (nodes_by n item) (line_by line next) next
-moved_at {n = n} {line = line} {position = position} byte item (Start s) h now stage e a = line_ended byte item s h now.same a
-moved_at {n = n} {line = line} {position = position} byte item Failed h now stage e a =
-    stays byte item (nodes_by n item) line Failed h h.line_is
-    (subst (λ x. IsBegun (stage_at h.nodes h.stage) (h.more ++ option_to_list x)) (sym a.none) (subst (IsBegun (stage_at h.nodes h.stage)) (sym (append-nil h.more)) a.begun))
-    (has_failed h.nodes h.stage n position h.sofar h.more byte (record { position = Failed; item = item }) h.names stage now e refl a.ends)
-moved_at {n = n} {line = line} {position = position} byte item (Keyword head matched) h now stage e a =
-    stays byte item (nodes_by n item) line (Keyword head matched) h h.line_is (here_begun h.nodes h.stage (Keyword head matched) (h.sofar ++ byte ∷ []) (h.more ++ option_to_list item) h.names a.here)
-    (goes_on byte item (Keyword head matched) h now (step_is h.nodes position byte item (Keyword head matched) e (λ l. refl) a.same) a)
-moved_at {n = n} {line = line} {position = position} byte item (Number place value) h now stage e a =
-    stays byte item (nodes_by n item) line (Number place value) h h.line_is (here_begun h.nodes h.stage (Number place value) (h.sofar ++ byte ∷ []) (h.more ++ option_to_list item) h.names a.here)
-    (goes_on byte item (Number place value) h now (step_is h.nodes position byte item (Number place value) e (λ l. refl) a.same) a)
-moved_at {n = n} {line = line} {position = position} byte item Spoiled h now stage e a =
-    stays byte item (nodes_by n item) line Spoiled h h.line_is (here_begun h.nodes h.stage Spoiled (h.sofar ++ byte ∷ []) (h.more ++ option_to_list item) h.names a.here)
-    (goes_on byte item Spoiled h now (step_is h.nodes position byte item Spoiled e (λ l. refl) a.same) a)
+-- where a move leads that repeats no dual, by the position behind it
+moved_at : {bytes : List ℕ} {given : List Item} {sh : Shape} {line : ℕ} {position : Position} {so_far : DualSoFar} (byte : ℕ) (item : Option Item) (next : Position)
+    (h : Tracks bytes given sh line position so_far) → InLine h.shape h.held h.stage sh so_far position h.sofar h.more → IsStage (stage_at h.shape h.stage)
+    → moved_by h.shape position byte ≡ record { position = next; item = item } → repeats_by sh.version so_far item ≡ false
+    → AfterAt h.shape h.stage byte (h.sofar ++ byte ∷ []) h.more item next
+    → Tracks (bytes ++ byte ∷ []) (given ++ option_to_list item) (shape_by sh item) (line_by line next) next (noted_by sh.version so_far item)
+moved_at byte item (Start s) h now stage e quiet a = line_ended byte item s h now stage quiet a
+moved_at {sh = sh} {line = line} {position = position} {so_far = so_far} byte item Failed h now stage e quiet a =
+    stays byte item (shape_by sh item) line Failed (noted_by sh.version so_far item) h h.line_is
+    (subst (λ x. IsBegun (wanted_at h.shape h.held h.stage) (h.more ++ option_to_list x)) (sym a.none)
+    (subst (IsBegun (wanted_at h.shape h.held h.stage)) (sym (append-nil h.more)) (wanted_begun h.shape h.held h.stage h.more a.begun)))
+    (has_failed h.shape h.held h.stage sh so_far position h.sofar h.more byte (record { position = Failed; item = item }) h.names stage now e refl a.ends)
+moved_at {sh = sh} {line = line} {position = position} {so_far = so_far} byte item (Keyword head matched) h now stage e quiet a =
+    stays byte item (shape_by sh item) line (Keyword head matched) (noted_by sh.version so_far item) h h.line_is (more_begun byte item (Keyword head matched) h a)
+    (goes_on byte item (Keyword head matched) h now (step_is h.shape position byte item (Keyword head matched) e (λ l. refl) a.same) quiet a)
+moved_at {sh = sh} {line = line} {position = position} {so_far = so_far} byte item (Number place value) h now stage e quiet a =
+    stays byte item (shape_by sh item) line (Number place value) (noted_by sh.version so_far item) h h.line_is (more_begun byte item (Number place value) h a)
+    (goes_on byte item (Number place value) h now (step_is h.shape position byte item (Number place value) e (λ l. refl) a.same) quiet a)
+moved_at {sh = sh} {line = line} {position = position} {so_far = so_far} byte item Spoiled h now stage e quiet a =
+    stays byte item (shape_by sh item) line Spoiled (noted_by sh.version so_far item) h h.line_is (more_begun byte item Spoiled h a)
+    (goes_on byte item Spoiled h now (step_is h.shape position byte item Spoiled e (λ l. refl) a.same) quiet a)
 
-line_failed : (nodes : ℕ) (stage : Stage) (sofar : List ℕ) (byte : ℕ) → HasFailed nodes stage sofar → HasFailed nodes stage (sofar ++ byte ∷ [])
-line_failed nodes stage sofar byte (inl bad) = inl (record {
+-- ---- a dual that repeats the one before it
+
+-- the item does not end a dual
+abbrev IsOpen : Item → Type 0
+IsOpen item = ends_dual item ≡ false
+
+open_hubs_are : (hubs : List ℕ) → AllByRecursion IsOpen (open_hubs hubs)
+open_hubs_are [] = tt
+open_hubs_are (k ∷ rest) = (refl, open_hubs_are rest)
+
+open_values_are : (u : List (ℕ × ℕ)) → AllByRecursion IsOpen (open_values u)
+open_values_are [] = tt
+open_values_are (e ∷ rest) = (refl, open_values_are rest)
+
+open_weights_are : (w : List (ℕ × ℕ)) → AllByRecursion IsOpen (open_weights w)
+open_weights_are [] = tt
+open_weights_are (e ∷ rest) = (refl, open_weights_are rest)
+
+are_open : (given items : List Item) → given ≡ items → AllByRecursion IsOpen items → AllByRecursion IsOpen given
+are_open given items e h = subst (AllByRecursion IsOpen) (sym e) h
+
+-- what is given of a line whose end was not given is open
+begun_open : (sh : Shape) (stage : Stage) (given : List Item) → IsBegun (stage_at sh stage) given → AllByRecursion IsOpen given
+begun_open sh Hubs given h = are_open given (open_hubs h.hubs) h.are (open_hubs_are h.hubs)
+begun_open sh (Dual d) given (inl none) = are_open given [] none tt
+begun_open sh (Dual d) given (inr h) = subst (AllByRecursion IsOpen) (sym h.are) (refl, open_values_are h.dual.u)
+begun_open sh (Tree t) given (inl none) = are_open given [] none tt
+begun_open sh (Tree t) given (inr h) = subst (AllByRecursion IsOpen) (sym h.are) (refl, open_weights_are h.weights)
+begun_open sh Version given h = are_open given [] h tt
+begun_open sh Size given h = are_open given [] h tt
+begun_open sh Cost given h = are_open given [] h tt
+begun_open sh Bound given h = are_open given [] h tt
+begun_open sh (Route c) given h = are_open given [] h tt
+begun_open sh Cuts given h = are_open given [] h tt
+begun_open sh (Cut all before) given h = are_open given [] h tt
+begun_open sh Nodes given h = are_open given [] h tt
+begun_open sh End given h = are_open given [] h tt
+begun_open sh Nothing given h = are_open given [] h tt
+
+open_quiet : (v : TextVersion) (so_far : DualSoFar) (item : Option Item) → AllByRecursion IsOpen (option_to_list item) → repeats_by v so_far item ≡ false
+open_quiet First so_far item h = refl
+open_quiet Second so_far None h = refl
+open_quiet Second so_far (Some x) h = ap (λ b. b && is_repeated (noted so_far x).left) h.0
+
+-- where the line goes on, no dual ends
+goes_quiet : {bytes : List ℕ} {given : List Item} {sh : Shape} {line : ℕ} {position : Position} {so_far : DualSoFar} (byte : ℕ) (item : Option Item) (next : Position)
+    (h : Tracks bytes given sh line position so_far) → Goes_on h.shape h.stage byte next (h.sofar ++ byte ∷ []) h.more item → repeats_by sh.version so_far item ≡ false
+goes_quiet {sh = sh} {so_far = so_far} byte item next h a =
+    open_quiet sh.version so_far item (recursion_split IsOpen h.more (option_to_list item)
+    (begun_open h.shape h.stage (h.more ++ option_to_list item)
+    (here_begun h.shape h.stage next (h.sofar ++ byte ∷ []) (h.more ++ option_to_list item) h.names a.here))).1
+
+-- a whole line that repeats a dual may not stand there
+repeated_line : {bytes : List ℕ} {given : List Item} {sh : Shape} {line : ℕ} {position : Position} {so_far : DualSoFar} (byte : ℕ) (item : Option Item) (s : Stage)
+    (h : Tracks bytes given sh line position so_far) → InLine h.shape h.held h.stage sh so_far position h.sofar h.more → IsStage (stage_at h.shape h.stage)
+    → repeats_by sh.version so_far item ≡ true → Whole h.shape h.stage s byte (h.sofar ++ byte ∷ []) h.more item
+    → BadLineAt (wanted_at h.shape h.held h.stage) (h.sofar ++ byte ∷ [])
+repeated_line byte item s h now size repeats w =
+    let is : dual_repeats h.shape.version h.held w.line ≡ true =
+    sym (line_repeats h.shape h.held w.line) ∙ ap (repeats_in h.shape h.held) (sym w.parts) ∙ item_repeats item now ∙ repeats in
+    record {
+      part = line_text w.line;
+      rest = [];
+      text = w.text;
+      plain = line_has_no_feed (stage_at h.shape h.stage) w.line size w.wanted;
+      none = λ other line. (let there = untight h.shape h.held h.stage other line.wanted in
+          let same : other ≡ w.line = one_item (stage_at h.shape h.stage) (line_text w.line) other w.line size (record { wanted = there; text = line.text })
+          (record { wanted = w.wanted; text = refl }) in
+          false≢true (sym (wanted_repeats h.shape h.held h.stage other line.wanted) ∙ ap (dual_repeats h.shape.version h.held) same ∙ is));
+    }
+
+repeated_at : {bytes : List ℕ} {given : List Item} {sh : Shape} {line : ℕ} {position : Position} {so_far : DualSoFar} (byte : ℕ) (item : Option Item) (next : Position)
+    (h : Tracks bytes given sh line position so_far) → InLine h.shape h.held h.stage sh so_far position h.sofar h.more → IsStage (stage_at h.shape h.stage)
+    → repeats_by sh.version so_far item ≡ true → AfterAt h.shape h.stage byte (h.sofar ++ byte ∷ []) h.more item next
+    → BadLineAt (wanted_at h.shape h.held h.stage) (h.sofar ++ byte ∷ [])
+repeated_at byte item (Start s) h now stage repeats a = repeated_line byte item s h now stage repeats a
+repeated_at {sh = sh} {so_far = so_far} byte item Failed h now stage repeats a =
+    absurd (false≢true (sym (ap (repeats_by sh.version so_far) a.none ∙ none_repeats sh.version so_far) ∙ repeats))
+repeated_at byte item (Keyword head matched) h now stage repeats a = absurd (false≢true (sym (goes_quiet byte item (Keyword head matched) h a) ∙ repeats))
+repeated_at byte item (Number place value) h now stage repeats a = absurd (false≢true (sym (goes_quiet byte item (Number place value) h a) ∙ repeats))
+repeated_at byte item Spoiled h now stage repeats a = absurd (false≢true (sym (goes_quiet byte item Spoiled h a) ∙ repeats))
+
+-- ---- any byte
+
+line_failed : (g : grammar.Stage) (stage : Stage) (sofar : List ℕ) (byte : ℕ) → HasFailed g stage sofar → HasFailed g stage (sofar ++ byte ∷ [])
+line_failed g stage sofar byte (inl bad) = inl (record {
   part = bad.part;
   rest = bad.rest ++ byte ∷ [];
   text = ap (λ b. b ++ byte ∷ []) bad.text ∙ append_assoc bad.part (10 ∷ bad.rest) (byte ∷ []);
   plain = bad.plain;
   none = bad.none;
 })
-line_failed nodes stage sofar byte (inr over) = inr (over.0, none_empty sofar byte)
+line_failed g stage sofar byte (inr over) = inr (over.0, none_empty sofar byte)
+
+-- a scan by its parts
+abbrev scan_at : Shape → ℕ → Position → DualSoFar → Scan
+scan_at sh line position so_far = record { shape = sh; line = line; position = position; so_far = so_far }
+
+-- what a move leaves
+abbrev Behind : List ℕ → List Item → Shape → ℕ → Position → DualSoFar → ℕ → Option Item → Move → Type 0
+Behind bytes given sh line position so_far byte item kept =
+    Tracks (bytes ++ byte ∷ []) (given ++ option_to_list kept.item) (shape_by sh kept.item) (line_by line kept.position) kept.position (noted_by sh.version so_far item)
 
 -- one byte more, at any position
-step_at : {bytes : List ℕ} {given : List Item} (n line : ℕ) (position : Position) (byte : ℕ) (next : Move) (h : Tracks bytes given n line position) → (position ≡ Failed → ⊥)
-    → InLine h.nodes h.stage n position h.sofar h.more → moved_by n position byte ≡ next
-    → Tracks (bytes ++ byte ∷ []) (given ++ option_to_list next.item) (nodes_by n next.item) (line_by line next.position) next.position
-step_at n line position byte next h no_failure now e =
-    let size = stage_led want_version (stage_at h.nodes h.stage) h.lines tt h.lead in
-    let there : moved_by h.nodes position byte ≡ next = ap (λ x. moved_by x position byte) (sym now.same) ∙ e in
-    let after = moves h.nodes h.stage position byte h.sofar h.more size h.names no_failure (λ is. subst (Busy h.stage) is now.busy) now.here in
-    moved_at byte next.item next.position h now size there
-    (subst (After h.nodes h.stage byte (h.sofar ++ byte ∷ []) h.more) there after)
+step_at : {bytes : List ℕ} {given : List Item} (sh : Shape) (line : ℕ) (position : Position) (so_far : DualSoFar) (byte : ℕ) (next : Move)
+    (h : Tracks bytes given sh line position so_far) → (position ≡ Failed → ⊥) → InLine h.shape h.held h.stage sh so_far position h.sofar h.more → moved_by sh position byte ≡ next
+    → Behind bytes given sh line position so_far byte next.item (scan.sifted (scan_at sh line position so_far) next)
+step_at {bytes = bytes} {given = given} sh line position so_far byte next h no_failure now e =
+    let size = wanted_stage h.shape h.held h.stage (stage_led want_version (wanted_at h.shape h.held h.stage) h.lines tt h.lead) in
+    let there : moved_by h.shape position byte ≡ next = ap (λ x. moved_by x position byte) (sym now.same) ∙ e in
+    let after = moves h.shape h.stage position byte h.sofar h.more size h.names no_failure (λ is. subst (Busy h.stage) is now.busy) now.here in
+    let came = subst (After h.shape h.stage byte (h.sofar ++ byte ∷ []) h.more) there after in
+    cond_both (repeats_by sh.version so_far next.item) (refusal true) next (Behind bytes given sh line position so_far byte next.item)
+    (λ repeats. stays byte None sh line Failed (noted_by sh.version so_far next.item) h h.line_is
+    (subst (IsBegun (wanted_at h.shape h.held h.stage)) (sym (append-nil h.more)) h.begun)
+    (inl (repeated_at byte next.item next.position h now size repeats came)))
+    (λ quiet. moved_at byte next.item next.position h now size there quiet came)
 
-track_step : {bytes : List ℕ} {given : List Item} (n line : ℕ) (position : Position) (byte : ℕ) → Tracks bytes given n line position
-    → Tracks (bytes ++ byte ∷ []) (given ++ option_to_list (moved_by n position byte).item) (nodes_by n (moved_by n position byte).item)
-    (line_by line (moved_by n position byte).position) (moved_by n position byte).position
-track_step n line (Start at) byte h = step_at n line (Start at) byte (moved_by n (Start at) byte) h (λ e. cc) h.now refl
-track_step n line (Keyword head matched) byte h = step_at n line (Keyword head matched) byte (moved_by n (Keyword head matched) byte) h (λ e. cc) h.now refl
-track_step n line (Number place value) byte h = step_at n line (Number place value) byte (moved_by n (Number place value) byte) h (λ e. cc) h.now refl
-track_step n line Spoiled byte h = step_at n line Spoiled byte (moved_by n Spoiled byte) h (λ e. cc) h.now refl
-track_step n line Failed byte h =
-    stays byte None n line Failed h h.line_is (subst (IsBegun (stage_at h.nodes h.stage)) (sym (append-nil h.more)) h.begun) (line_failed h.nodes h.stage h.sofar byte h.now)
+track_step : {bytes : List ℕ} {given : List Item} (sh : Shape) (line : ℕ) (position : Position) (so_far : DualSoFar) (byte : ℕ) → Tracks bytes given sh line position so_far
+    → Behind bytes given sh line position so_far byte (moved_by sh position byte).item (scan.sifted (scan_at sh line position so_far) (moved_by sh position byte))
+track_step sh line (Start at) so_far byte h = step_at sh line (Start at) so_far byte (moved_by sh (Start at) byte) h (λ e. cc) h.now refl
+track_step sh line (Keyword head matched) so_far byte h = step_at sh line (Keyword head matched) so_far byte (moved_by sh (Keyword head matched) byte) h (λ e. cc) h.now refl
+track_step sh line (Number place value) so_far byte h = step_at sh line (Number place value) so_far byte (moved_by sh (Number place value) byte) h (λ e. cc) h.now refl
+track_step sh line Spoiled so_far byte h = step_at sh line Spoiled so_far byte (moved_by sh Spoiled byte) h (λ e. cc) h.now refl
+track_step {bytes = bytes} {given = given} sh line Failed so_far byte h =
+    cond_both (repeats_by sh.version so_far None) (refusal true) (refusal true) (Behind bytes given sh line Failed so_far byte None)
+    (λ repeats. absurd (false≢true (sym (none_repeats sh.version so_far) ∙ repeats)))
+    (λ quiet. stays byte None sh line Failed (noted_by sh.version so_far None) h h.line_is
+    (subst (IsBegun (wanted_at h.shape h.held h.stage)) (sym (append-nil h.more)) h.begun)
+    (line_failed (wanted_at h.shape h.held h.stage) h.stage h.sofar byte h.now))
 
 -- ---- all bytes
 
-tracks_more : (bytes rest : List ℕ) (given : List Item) (scan : Scan) → Tracks bytes given scan.n scan.line scan.position
-    → Tracks (bytes ++ rest) (given ++ given_all scan rest) (scanned scan rest).n (scanned scan rest).line (scanned scan rest).position
-tracks_more bytes [] given scan h =
-    subst (λ b. Tracks b (given ++ []) scan.n scan.line scan.position) (sym (append-nil bytes))
-    (subst (λ g. Tracks bytes g scan.n scan.line scan.position) (sym (append-nil given)) h)
-tracks_more bytes (byte ∷ rest) given scan h =
-    let next = stepped scan byte in
-    let more = tracks_more (bytes ++ byte ∷ []) rest (given ++ option_to_list (given_by scan byte)) (stepped scan byte) (track_step scan.n scan.line scan.position byte h) in
-    let end = scanned (stepped scan byte) rest in
-    subst (λ b. Tracks b (given ++ (option_to_list (given_by scan byte) ++ given_all (stepped scan byte) rest)) end.n end.line end.position) (append_assoc bytes (byte ∷ []) rest)
-    (subst (λ g. Tracks ((bytes ++ byte ∷ []) ++ rest) g end.n end.line end.position) (append_assoc given (option_to_list (given_by scan byte)) (given_all (stepped scan byte) rest)) more)
+tracks_more : (bytes rest : List ℕ) (given : List Item) (s : Scan) → Tracks bytes given s.shape s.line s.position s.so_far
+    → Tracks (bytes ++ rest) (given ++ scan.given_all s rest) (scan.scanned s rest).shape (scan.scanned s rest).line (scan.scanned s rest).position (scan.scanned s rest).so_far
+tracks_more bytes [] given s h =
+    subst (λ b. Tracks b (given ++ []) s.shape s.line s.position s.so_far) (sym (append-nil bytes))
+    (subst (λ g. Tracks bytes g s.shape s.line s.position s.so_far) (sym (append-nil given)) h)
+tracks_more bytes (byte ∷ rest) given s h =
+    let next = scan.stepped s byte in
+    let more = tracks_more (bytes ++ byte ∷ []) rest (given ++ option_to_list (scan.given_by s byte)) (scan.stepped s byte)
+    (track_step s.shape s.line s.position s.so_far byte h) in
+    let end = scan.scanned (scan.stepped s byte) rest in
+    subst (λ b. Tracks b (given ++ (option_to_list (scan.given_by s byte) ++ scan.given_all (scan.stepped s byte) rest)) end.shape end.line end.position end.so_far)
+    (append_assoc bytes (byte ∷ []) rest)
+    (subst (λ g. Tracks ((bytes ++ byte ∷ []) ++ rest) g end.shape end.line end.position end.so_far)
+    (append_assoc given (option_to_list (scan.given_by s byte)) (scan.given_all (scan.stepped s byte) rest)) more)
 
-pub scanned_tracks : (bytes : List ℕ) (given : List Item) (scan : Scan) → HasScanned bytes given scan → Tracks bytes given scan.n scan.line scan.position
-scanned_tracks bytes given scan h =
+pub scanned_tracks : (bytes : List ℕ) (given : List Item) (s : Scan) → HasScanned bytes given s → Tracks bytes given s.shape s.line s.position s.so_far
+scanned_tracks bytes given s h =
     let all = tracks_more [] bytes [] new_scan tracks_new in
-    subst (λ s. Tracks bytes given s.n s.line s.position) h.reached
-    (subst (λ g. Tracks bytes g (scanned new_scan bytes).n (scanned new_scan bytes).line (scanned new_scan bytes).position) h.gives all)
+    let end = scan.scanned new_scan bytes in
+    subst (λ x. Tracks bytes given x.shape x.line x.position x.so_far) h.reached
+    (subst (λ g. Tracks bytes g end.shape end.line end.position end.so_far) h.gives all)
 
 -- what is given at any time
-pub scanned_given : (bytes : List ℕ) (given : List Item) (scan : Scan) → HasScanned bytes given scan → IsGiven given
-scanned_given bytes given scan h =
-    let t = scanned_tracks bytes given scan h in
-    record { lines = t.lines; stage = stage_at t.nodes t.stage; more = t.more; lead = t.lead; are = t.parts; begun = t.begun }
+pub scanned_given : (bytes : List ℕ) (given : List Item) (s : Scan) → HasScanned bytes given s → IsGiven given
+scanned_given bytes given s h =
+    let t = scanned_tracks bytes given s h in
+    record { lines = t.lines; stage = wanted_at t.shape t.held t.stage; more = t.more; lead = t.lead; are = t.parts; begun = t.begun }

@@ -1,5 +1,6 @@
 pub mod Versions
 pub mod Moves
+pub mod Repeats
 pub mod Scans
 pub mod Parts
 pub mod Given

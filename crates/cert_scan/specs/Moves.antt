@@ -1,18 +1,23 @@
 -- What a scan makes of one byte, by the line that is wanted and the place in it.
 use Rattle.std.specs.Prelude.{ℕ, ◌+◌, ◌-◌, ◌*◌, ◌^◌, Bool, true, false, not, ◌&&◌, ◌||◌, List, length, codes, Option, Some, None, slice_index, nat_eq, nat_lt, nat_le, if◌then◌else◌}
-use Rattle.hub_spec.specs.Limits.{most_nodes, most_denominator, most_cuts, most_tree_lines}
-use Rattle.cert_scan.specs.declared.items.Version.TheVariants.{First}
+use Rattle.hub_spec.specs.Limits.{most_nodes, most_part, most_denominator, most_cuts, most_tree_lines}
+use Rattle.cert_spec.specs.Reading.{is_version, is_short}
+use Rattle.cert_scan.specs.Versions.{version_of}
+use Rattle.cert_scan.specs.declared.items.Version.{Version as TextVersion}
+use Rattle.cert_scan.specs.declared.items.Version.TheVariants.{First, Second}
 use Rattle.cert_scan.specs.declared.items.Item.{Item}
 use Rattle.cert_scan.specs.declared.items.Item.TheVariants.{Version as version_item, Size as size_item, Cost as cost_item, Bound as bound_item, Hub as hub_item, Route as route_item, Cuts as cuts_item, Cut as cut_item, Dual as dual_item, DualPair as pair_item, Nodes as nodes_item, Branch as branch_item, Leaf as leaf_item, LeafPair as weight_item, Empty as empty_item, End as end_item}
 use Rattle.cert_scan.specs.declared.stages.Commodity.{Commodity}
 use Rattle.cert_scan.specs.declared.stages.DualAt.{DualAt}
+use Rattle.cert_scan.specs.declared.stages.Run.{Run}
+use Rattle.cert_scan.specs.declared.stages.Shape.{Shape}
 use Rattle.cert_scan.specs.declared.stages.TreeAt.{TreeAt}
 use Rattle.cert_scan.specs.declared.stages.Stage.{Stage}
 use Rattle.cert_scan.specs.declared.stages.Stage.TheVariants.{Version, Size, Cost, Bound, Hubs, Route, Cuts, Cut, Dual, Nodes, Tree, End, Nothing}
 use Rattle.cert_scan.specs.declared.heads.Head.{Head}
-use Rattle.cert_scan.specs.declared.heads.Head.TheVariants.{VersionLine, SizeLine, CostLine, BoundLine, HubsLine, RouteLine, CutsLine, CutLine, DualLine, NodesLine, BranchLine, LeafLine, EmptyLine, EndLine}
+use Rattle.cert_scan.specs.declared.heads.Head.TheVariants.{VersionLine, SizeLine, CostLine, BoundLine, HubsLine, RouteLine, CutsLine, CutLine, DualLine, DualsLine, NodesLine, BranchLine, LeafLine, EmptyLine, EndLine}
 use Rattle.cert_scan.specs.declared.places.Place.{Place}
-use Rattle.cert_scan.specs.declared.places.Place.TheVariants.{VersionNumber, NodeCount, CandidateCount, CostAmount, BoundAmount, HubNode, RouteFrom, RouteTo, RouteFirst, RouteLast, CutCount, CutNumber, DualFrom, DualTo, DualPrice, ValueNode, ValueAmount, LineCount, BranchNode, Denominator, WeightCut, WeightAmount}
+use Rattle.cert_scan.specs.declared.places.Place.TheVariants.{VersionNumber, NodeCount, CandidateCount, CostAmount, BoundAmount, HubNode, RouteFrom, RouteTo, RouteFirst, RouteLast, CutCount, CutNumber, CutPart, DualFrom, DualTo, RunFrom, RunTo, RunLength, DualPrice, ValueNode, ValueAmount, LineCount, BranchNode, Denominator, WeightCut, WeightAmount}
 use Rattle.cert_scan.specs.declared.bytes.Position.{Position}
 use Rattle.cert_scan.specs.declared.bytes.Position.TheVariants.{Start, Keyword, Number, Spoiled, Failed}
 use Rattle.cert_scan.specs.declared.bytes.Move.{Move}
@@ -23,10 +28,10 @@ use Rattle.cert_scan.specs.declared.bytes.Move.{Move}
 abbrev pub commodity_by : ℕ → ℕ → Commodity
 commodity_by i j = record { from = i; to = j }
 
--- the commodity after this one, between n nodes
-abbrev pub next_commodity_of : ℕ → Commodity → Option Commodity
-next_commodity_of n c =
-    if nat_lt c.to (n - 1) then Some (commodity_by c.from (c.to + 1))
+-- the commodity behind so many of one origin, from this one on, between n nodes
+abbrev pub next_commodity_of : ℕ → ℕ → Commodity → Option Commodity
+next_commodity_of n length c =
+    if nat_lt (c.to + length) n then Some (commodity_by c.from (c.to + length))
     else (if nat_lt c.from (n - 1) then Some (commodity_by (c.from + 1) 0) else None)
 
 -- a route of this commodity is wanted, or the number of cuts
@@ -35,7 +40,7 @@ route_or_cuts (Some c) = Route c
 route_or_cuts None = Cuts
 
 abbrev pub stage_after_route : ℕ → Commodity → Stage
-stage_after_route n c = route_or_cuts (next_commodity_of n c)
+stage_after_route n c = route_or_cuts (next_commodity_of n 1 c)
 
 abbrev pub stage_after_cuts : ℕ → Stage
 stage_after_cuts all = if nat_lt 0 all then Cut all 0 else Nodes
@@ -48,8 +53,12 @@ abbrev pub dual_or_cut : DualAt → Option Commodity → Stage
 dual_or_cut at (Some c) = Dual (record { all = at.all; before = at.before; commodity = c })
 dual_or_cut at None = stage_after_cut at.all at.before
 
-abbrev pub stage_after_dual : ℕ → DualAt → Stage
-stage_after_dual n at = dual_or_cut at (next_commodity_of n at.commodity)
+abbrev pub stage_after_dual : ℕ → Run → Stage
+stage_after_dual n run = dual_or_cut run.first (next_commodity_of n run.length run.first.commodity)
+
+-- the first dual of the cut behind so many others is wanted
+abbrev pub first_dual_of : ℕ → ℕ → Stage
+first_dual_of all before = Dual (record { all = all; before = before; commodity = commodity_by 0 0 })
 
 abbrev pub stage_after_tree : ℕ → ℕ → Stage
 stage_after_tree places left = if nat_eq left 0 then End else Tree (record { places = places; left = left })
@@ -86,38 +95,38 @@ head_at (Tree at) byte = tree_head_at at byte
 head_at End byte = Some EndLine
 head_at Nothing byte = None
 
-abbrev pub keyword_of : Head → List ℕ
-keyword_of VersionLine = codes "HUBCERT"
-keyword_of SizeLine = codes "size"
-keyword_of CostLine = codes "cost"
-keyword_of BoundLine = codes "bound"
-keyword_of HubsLine = codes "hubs"
-keyword_of (RouteLine c) = codes "route"
-keyword_of CutsLine = codes "cuts"
-keyword_of (CutLine all before) = codes "cut"
-keyword_of (DualLine at) = codes "dual"
-keyword_of NodesLine = codes "nodes"
-keyword_of (BranchLine at) = codes "branch"
-keyword_of (LeafLine at) = codes "leaf"
-keyword_of (EmptyLine at) = codes "empty"
-keyword_of EndLine = codes "end"
+-- the first word of a line, and where its first number stands, if it has one
+abbrev pub form_of : Head → List ℕ × Option Place
+form_of VersionLine = (codes "HUBCERT", Some VersionNumber)
+form_of SizeLine = (codes "size", Some NodeCount)
+form_of CostLine = (codes "cost", Some CostAmount)
+form_of BoundLine = (codes "bound", Some BoundAmount)
+form_of HubsLine = (codes "hubs", Some (HubNode 0))
+form_of (RouteLine c) = (codes "route", Some (RouteFrom c))
+form_of CutsLine = (codes "cuts", Some CutCount)
+form_of (CutLine all before) = (codes "cut", Some (CutNumber all before))
+form_of (DualLine at) = (codes "dual", Some (DualFrom at))
+form_of (DualsLine at) = (codes "duals", Some (RunFrom at))
+form_of NodesLine = (codes "nodes", Some LineCount)
+form_of (BranchLine at) = (codes "branch", Some (BranchNode at))
+form_of (LeafLine at) = (codes "leaf", Some (Denominator at))
+form_of (EmptyLine at) = (codes "empty", None)
+form_of EndLine = (codes "end", None)
 
--- where the first number of the line stands
+abbrev pub keyword_of : Head → List ℕ
+keyword_of head = (form_of head).0
+
 abbrev pub first_place_of : Head → Option Place
-first_place_of VersionLine = Some VersionNumber
-first_place_of SizeLine = Some NodeCount
-first_place_of CostLine = Some CostAmount
-first_place_of BoundLine = Some BoundAmount
-first_place_of HubsLine = Some (HubNode 0)
-first_place_of (RouteLine c) = Some (RouteFrom c)
-first_place_of CutsLine = Some CutCount
-first_place_of (CutLine all before) = Some (CutNumber all before)
-first_place_of (DualLine at) = Some (DualFrom at)
-first_place_of NodesLine = Some LineCount
-first_place_of (BranchLine at) = Some (BranchNode at)
-first_place_of (LeafLine at) = Some (Denominator at)
-first_place_of (EmptyLine at) = None
-first_place_of EndLine = None
+first_place_of head = (form_of head).1
+
+-- the duals of neighbours as one line, which the second version has
+abbrev pub duals_line_of : TextVersion → Head → Option Head
+duals_line_of Second (DualLine at) = Some (DualsLine at)
+duals_line_of version head = None
+
+-- another line, whose first word begins with as many letters of this one's and goes on with the byte
+abbrev pub turned_by : TextVersion → Head → ℕ → ℕ → Option Head
+turned_by version head matched byte = if nat_eq byte 115 && nat_eq matched 4 then duals_line_of version head else None
 
 -- ---- moves
 
@@ -152,49 +161,75 @@ within value most = nat_le 1 value && nat_le value most
 abbrev pub follows : ℕ → ℕ → ℕ → Bool
 follows n before value = nat_lt before value && nat_le value n
 
--- the number at a place, between n nodes, and behind it the line's end or a space
-abbrev pub taken_by : ℕ → Place → ℕ → Bool → Move
-taken_by n VersionNumber value last = allowed (nat_eq value 1) last (whole_by last (Some (version_item First)) Size)
-taken_by n NodeCount value last = allowed (within value most_nodes) last (more_by last (CandidateCount value))
-taken_by n (CandidateCount nodes) value last =
+-- what an amount of a dual is below
+abbrev pub amount_limit : TextVersion → ℕ
+amount_limit First = 10 ^ 30
+amount_limit Second = 10 ^ 33
+
+-- the number of the cut that begins; its part stands behind it, but in the first version, where it is 1
+abbrev pub cut_by : TextVersion → ℕ → ℕ → Bool → Move
+cut_by First all number last = whole_by last (Some (cut_item number 1)) (first_dual_of all (number - 1))
+cut_by Second all number last = more_by last (CutPart all number)
+
+-- the dual of this commodity alone
+abbrev pub alone : DualAt → Run
+alone at = record { first = at; length = 1 }
+
+-- the number at a place of a text of this shape, and behind it the line's end or a space
+abbrev pub taken_by : Shape → Place → ℕ → Bool → Move
+taken_by s VersionNumber value last =
+    allowed (is_version value) last (whole_by last (Some (version_item (version_of value))) Size)
+taken_by s NodeCount value last = allowed (within value most_nodes) last (more_by last (CandidateCount value))
+taken_by s (CandidateCount nodes) value last =
     allowed (within value nodes) last (whole_by last (Some (size_item nodes value)) Cost)
-taken_by n CostAmount value last = whole_by last (Some (cost_item value)) Bound
-taken_by n BoundAmount value last = whole_by last (Some (bound_item value)) Hubs
-taken_by n (HubNode before) value last =
-    allowed (follows n before value) last
+taken_by s CostAmount value last = allowed (is_short value) last (whole_by last (Some (cost_item value)) Bound)
+taken_by s BoundAmount value last = allowed (is_short value) last (whole_by last (Some (bound_item value)) Hubs)
+taken_by s (HubNode before) value last =
+    allowed (follows s.n before value) last
     (open_by last (hub_item (value - 1) last) (HubNode value) (Route (commodity_by 0 0)))
-taken_by n (RouteFrom c) value last = allowed (nat_eq value (c.from + 1)) last (more_by last (RouteTo c))
-taken_by n (RouteTo c) value last = allowed (nat_eq value (c.to + 1)) last (more_by last (RouteFirst c))
-taken_by n (RouteFirst c) value last = allowed (within value n) last (more_by last (RouteLast c (value - 1)))
-taken_by n (RouteLast c k) value last =
-    allowed (within value n) last
-    (whole_by last (Some (route_item c.from c.to k (value - 1))) (stage_after_route n c))
-taken_by n CutCount value last =
+taken_by s (RouteFrom c) value last = allowed (nat_eq value (c.from + 1)) last (more_by last (RouteTo c))
+taken_by s (RouteTo c) value last = allowed (nat_eq value (c.to + 1)) last (more_by last (RouteFirst c))
+taken_by s (RouteFirst c) value last = allowed (within value s.n) last (more_by last (RouteLast c (value - 1)))
+taken_by s (RouteLast c k) value last =
+    allowed (within value s.n) last
+    (whole_by last (Some (route_item c.from c.to k (value - 1))) (stage_after_route s.n c))
+taken_by s CutCount value last =
     allowed (nat_le value most_cuts) last (whole_by last (Some (cuts_item value)) (stage_after_cuts value))
-taken_by n (CutNumber all before) value last =
-    allowed (nat_eq value (before + 1) && nat_le value most_cuts) last
-    (whole_by last (Some (cut_item value 1)) (Dual (record { all = all; before = before; commodity = commodity_by 0 0 })))
-taken_by n (DualFrom at) value last = allowed (nat_eq value (at.commodity.from + 1)) last (more_by last (DualTo at))
-taken_by n (DualTo at) value last = allowed (nat_eq value (at.commodity.to + 1)) last (more_by last (DualPrice at))
-taken_by n (DualPrice at) value last =
-    open_by last (dual_item at.commodity.from at.commodity.to 1 value last) (ValueNode at 0) (stage_after_dual n at)
-taken_by n (ValueNode at before) value last =
-    allowed (follows n before value) last (more_by last (ValueAmount at value))
-taken_by n (ValueAmount at number) value last =
-    allowed (nat_le 1 value) last
-    (open_by last (pair_item (number - 1) value last) (ValueNode at number) (stage_after_dual n at))
-taken_by n LineCount value last =
+taken_by s (CutNumber all before) value last =
+    allowed (nat_eq value (before + 1) && nat_le value most_cuts) last (cut_by s.version all value last)
+taken_by s (CutPart all number) value last =
+    allowed (within value most_part) last (whole_by last (Some (cut_item number value)) (first_dual_of all (number - 1)))
+taken_by s (DualFrom at) value last = allowed (nat_eq value (at.commodity.from + 1)) last (more_by last (DualTo at))
+taken_by s (DualTo at) value last =
+    allowed (nat_eq value (at.commodity.to + 1)) last (more_by last (DualPrice (alone at)))
+taken_by s (RunFrom at) value last = allowed (nat_eq value (at.commodity.from + 1)) last (more_by last (RunTo at))
+taken_by s (RunTo at) value last = allowed (nat_eq value (at.commodity.to + 1)) last (more_by last (RunLength at))
+taken_by s (RunLength at) value last =
+    allowed (nat_le 2 value && nat_le (at.commodity.to + value) s.n) last
+    (more_by last (DualPrice (record { first = at; length = value })))
+taken_by s (DualPrice run) value last =
+    allowed (nat_lt value (amount_limit s.version)) last
+    (open_by last (dual_item run.first.commodity.from run.first.commodity.to run.length value last) (ValueNode run 0)
+    (stage_after_dual s.n run))
+taken_by s (ValueNode run before) value last =
+    allowed (follows s.n before value) last (more_by last (ValueAmount run value))
+taken_by s (ValueAmount run number) value last =
+    allowed (nat_le 1 value && nat_lt value (amount_limit s.version)) last
+    (open_by last (pair_item (number - 1) value last) (ValueNode run number) (stage_after_dual s.n run))
+taken_by s LineCount value last =
     allowed (within value most_tree_lines) last
     (whole_by last (Some (nodes_item value)) (Tree (record { places = 1; left = value })))
-taken_by n (BranchNode at) value last =
-    allowed (within value n && nat_lt at.places (at.left - 1)) last
+taken_by s (BranchNode at) value last =
+    allowed (within value s.n && nat_lt at.places (at.left - 1)) last
     (whole_by last (Some (branch_item (value - 1))) (stage_after_tree (at.places + 1) (at.left - 1)))
-taken_by n (Denominator at) value last =
+taken_by s (Denominator at) value last =
     allowed (within value most_denominator && may_fill at) last
     (open_by last (leaf_item value last) (WeightCut at 0) (stage_after_filled at))
-taken_by n (WeightCut at before) value last = allowed (nat_lt before value) last (more_by last (WeightAmount at value))
-taken_by n (WeightAmount at number) value last =
-    allowed (nat_le 1 value) last (open_by last (weight_item number value last) (WeightCut at number) (stage_after_filled at))
+taken_by s (WeightCut at before) value last =
+    allowed (nat_lt before value && is_short value) last (more_by last (WeightAmount at value))
+taken_by s (WeightAmount at number) value last =
+    allowed (nat_le 1 value && is_short value) last
+    (open_by last (weight_item number value last) (WeightCut at number) (stage_after_filled at))
 
 -- ---- bytes
 
@@ -213,34 +248,44 @@ bare_by (EmptyLine at) = allowed (may_fill at) true (move (Start (stage_after_fi
 bare_by EndLine = move (Start Nothing) (Some end_item)
 bare_by head = refusal true
 
--- a byte behind the whole keyword
+-- a byte behind the whole first word
 abbrev pub behind_keyword_by : Head → ℕ → Move
 behind_keyword_by head byte =
     if nat_eq byte 32 then first_number_by (first_place_of head)
     else (if nat_eq byte 10 then bare_by head else move Spoiled None)
 
--- a byte where so many of the keyword have come
-abbrev pub keyword_by : Head → ℕ → ℕ → Move
-keyword_by head matched byte =
-    if nat_lt matched (length (keyword_of head))
-    then (if nat_eq byte (slice_index (keyword_of head) matched) then move (Keyword head (matched + 1)) None else spoiled_by byte)
-    else behind_keyword_by head byte
+-- a byte with which the first word of a line does not go on, where so many of its letters have come
+abbrev pub unmatched_by : Head → ℕ → ℕ → Move
+unmatched_by head matched byte =
+    if nat_lt matched (length (keyword_of head)) then spoiled_by byte else behind_keyword_by head byte
+
+-- it may make the line another one
+abbrev pub turned_or : Option Head → Head → ℕ → ℕ → Move
+turned_or (Some other) head matched byte = move (Keyword other (matched + 1)) None
+turned_or None head matched byte = unmatched_by head matched byte
+
+-- a byte where so many of the first word have come
+abbrev pub keyword_by : TextVersion → Head → ℕ → ℕ → Move
+keyword_by version head matched byte =
+    if nat_lt matched (length (keyword_of head)) && nat_eq byte (slice_index (keyword_of head) matched)
+    then move (Keyword head (matched + 1)) None
+    else turned_or (turned_by version head matched byte) head matched byte
 
 -- the first byte of a line that is to be this
-abbrev pub begun_as : Option Head → ℕ → Move
-begun_as (Some head) byte = keyword_by head 0 byte
-begun_as None byte = spoiled_by byte
+abbrev pub begun_as : TextVersion → Option Head → ℕ → Move
+begun_as version (Some head) byte = keyword_by version head 0 byte
+begun_as version None byte = spoiled_by byte
 
 -- the first byte of a line
-abbrev pub begun_by : Stage → ℕ → Move
-begun_by Nothing byte = refusal true
-begun_by stage byte = begun_as (head_at stage byte) byte
+abbrev pub begun_by : TextVersion → Stage → ℕ → Move
+begun_by version Nothing byte = refusal true
+begun_by version stage byte = begun_as version (head_at stage byte) byte
 
--- a number of less than 30 digits
+-- a number of less than 33 digits
 abbrev pub nearly_longest : ℕ
-nearly_longest = 10 ^ 29
+nearly_longest = 10 ^ 32
 
--- the number that is spelled with a digit behind: none stands behind a zero, and no more than 30 in all
+-- the number that is spelled with a digit behind: none stands behind a zero, and no more than 33 in all
 abbrev pub with_digit_of : Option ℕ → ℕ → Option ℕ
 with_digit_of None digit = Some digit
 with_digit_of (Some value) digit = if nat_le 1 value && nat_lt value nearly_longest then Some (value * 10 + digit) else None
@@ -251,21 +296,21 @@ spelled_by place (Some value) = move (Number place (Some value)) None
 spelled_by place None = move Spoiled None
 
 -- a byte behind the whole number at a place
-abbrev pub behind_number_by : ℕ → Place → Option ℕ → ℕ → Move
-behind_number_by n place None byte = spoiled_by byte
-behind_number_by n place (Some value) byte =
-    if nat_eq byte 10 then taken_by n place value true
-    else (if nat_eq byte 32 then taken_by n place value false else move Spoiled None)
+abbrev pub behind_number_by : Shape → Place → Option ℕ → ℕ → Move
+behind_number_by s place None byte = spoiled_by byte
+behind_number_by s place (Some value) byte =
+    if nat_eq byte 10 then taken_by s place value true
+    else (if nat_eq byte 32 then taken_by s place value false else move Spoiled None)
 
 -- a byte of a number, or behind it
-abbrev pub number_by : ℕ → Place → Option ℕ → ℕ → Move
-number_by n place value byte =
-    if nat_le 48 byte && nat_le byte 57 then spelled_by place (with_digit_of value (byte - 48)) else behind_number_by n place value byte
+abbrev pub number_by : Shape → Place → Option ℕ → ℕ → Move
+number_by s place value byte =
+    if nat_le 48 byte && nat_le byte 57 then spelled_by place (with_digit_of value (byte - 48)) else behind_number_by s place value byte
 
--- a byte of a text between n nodes
-abbrev pub moved_by : ℕ → Position → ℕ → Move
-moved_by n (Start stage) byte = begun_by stage byte
-moved_by n (Keyword head matched) byte = keyword_by head matched byte
-moved_by n (Number place value) byte = number_by n place value byte
-moved_by n Spoiled byte = spoiled_by byte
-moved_by n Failed byte = refusal true
+-- a byte of a text of this shape
+abbrev pub moved_by : Shape → Position → ℕ → Move
+moved_by s (Start stage) byte = begun_by s.version stage byte
+moved_by s (Keyword head matched) byte = keyword_by s.version head matched byte
+moved_by s (Number place value) byte = number_by s place value byte
+moved_by s Spoiled byte = spoiled_by byte
+moved_by s Failed byte = refusal true

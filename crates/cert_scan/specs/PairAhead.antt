@@ -1,5 +1,5 @@
 -- A node and a value that a dual lists, whole in the bytes at hand.
-use Rattle.std.specs.Prelude.{◌≡◌, ℕ, ◌+◌, ◌-◌, ◌<◌, ◌≤◌, List, length, take, drop, slice_index, Some, None, true, false}
+use Rattle.std.specs.Prelude.{◌≡◌, ℕ, ◌+◌, ◌-◌, ◌^◌, ◌<◌, ◌≤◌, List, length, take, drop, slice_index, Some, None, true, false}
 use Rattle.cert_scan.specs.Runs.{SpellsOn}
 use Rattle.cert_scan.specs.declared.pairs.Pair.{Pair}
 
@@ -11,6 +11,7 @@ pub record IsPairAhead (n before : ℕ) (bytes : List ℕ) (pair : Pair) : Type 
   pub space : slice_index bytes pair.front ≡ 32
   pub amount : SpellsOn None (take pair.back (take (length bytes - (pair.front + 1)) (drop (pair.front + 1) bytes))) (Some pair.value)
   pub some : 1 ≤ pair.value
+  pub few : pair.value < 2 ^ 64
   pub room : pair.front + 1 + pair.back < length bytes
   pub fits : pair.back ≤ length (take (length bytes - (pair.front + 1)) (drop (pair.front + 1) bytes))
   pub line_end : pair.last ≡ true → slice_index bytes (pair.front + 1 + pair.back) ≡ 10

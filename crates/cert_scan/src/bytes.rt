@@ -1,10 +1,12 @@
 //! What one byte makes of a line.
-ghost use Rattle.std.specs.Prelude.{◌≡◌, ◌-◌, ◌≤◌, true};
+ghost use Rattle.std.specs.Prelude.{◌≡◌, ◌-◌, ◌≤◌, true, None};
+ghost use Rattle.cert_scan.specs.declared.bytes.Position.TheVariants.{Keyword};
 ghost use Rattle.cert_scan.specs.declared.heads.Head.TheVariants.{EmptyLine};
 ghost use Rattle.cert_scan.specs.Moves.{
+  move,
   refusal,
-  with_digit_of,
   first_place_of,
+  with_digit_of,
   spoiled_by,
   begun_by,
   bare_by,
@@ -16,10 +18,10 @@ ghost use Rattle.cert_scan.specs.Moves.{
   moved_by,
 };
 
-use crate::heads::{Head, first_place, head_of, keyword};
-use crate::items::Item;
+use crate::heads::{Head, form, head_of, turned};
+use crate::items::{Item, Version};
 use crate::places::{Place, refused, take};
-use crate::stages::{Stage, TreeAt, after_filled, may_be_filled};
+use crate::stages::{Shape, Stage, TreeAt, after_filled, may_be_filled};
 
 // Where in a line a scan stands.
 #[derive(Clone, Copy)]
@@ -43,17 +45,17 @@ pub(crate) struct Move {
     pub item: Option<Item>,
 }
 
-// A number that this is not below takes no further digit: it has 30 already.
-const NEARLY_LONGEST: u128 = 100_000_000_000_000_000_000_000_000_000;
+// A number that this is not below takes no further digit: it has 33 already.
+const NEARLY_LONGEST: u128 = 100_000_000_000_000_000_000_000_000_000_000;
 
-// What a byte of a text between `n` nodes makes of a position.
-pub(crate) fn after_byte(n: u32, position: Position, byte: u8) -> Move
-    ensures { result ≡ moved_by n position byte }
+// What a byte of a text of this shape makes of a position.
+pub(crate) fn after_byte(shape: Shape, position: Position, byte: u8) -> Move
+    ensures { result ≡ moved_by shape position byte }
 {
     match position {
-        Position::Start(stage) => begin(stage, byte),
-        Position::Keyword(head, matched) => in_keyword(head, matched, byte),
-        Position::Number(place, value) => in_number(n, place, value, byte),
+        Position::Start(stage) => begin(shape.version, stage, byte),
+        Position::Keyword(head, matched) => in_keyword(shape.version, head, matched, byte),
+        Position::Number(place, value) => in_number(shape, place, value, byte),
         Position::Spoiled => spoil(byte),
         Position::Failed => fail(),
     }
@@ -72,39 +74,49 @@ fn spoil(byte: u8) -> Move
     refused(byte == b'\n')
 }
 
-fn begin(stage: Stage, byte: u8) -> Move
-    ensures { result ≡ begun_by stage byte }
+fn begin(version: Version, stage: Stage, byte: u8) -> Move
+    ensures { result ≡ begun_by version stage byte }
 {
     if let Stage::Nothing = stage {
         return fail();
     }
     match head_of(stage, byte) {
-        Some(head) => in_keyword(head, 0, byte),
+        Some(head) => in_keyword(version, head, 0, byte),
         None => spoil(byte),
     }
 }
 
-fn in_keyword(head: Head, matched: usize, byte: u8) -> Move
-    ensures { result ≡ keyword_by head matched byte }
+fn in_keyword(version: Version, head: Head, matched: usize, byte: u8) -> Move
+    ensures { result ≡ keyword_by version head matched byte }
 {
-    let word = keyword(head);
-    if matched >= word.len() {
-        return behind_keyword(head, byte);
+    let (word, place) = form(head);
+    if matched < word.len() && byte == word[matched] {
+        return goes_on(head, matched + 1);
     }
-    if byte != word[matched] {
+    if let Some(other) = turned(version, head, matched, byte) {
+        return goes_on(other, matched + 1);
+    }
+    if matched < word.len() {
         return spoil(byte);
     }
+    behind_keyword(head, place, byte)
+}
+
+fn goes_on(head: Head, matched: usize) -> Move
+    ensures { result ≡ move (Keyword head matched) None }
+{
     Move {
-        position: Position::Keyword(head, matched + 1),
+        position: Position::Keyword(head, matched),
         item: None,
     }
 }
 
-fn behind_keyword(head: Head, byte: u8) -> Move
+fn behind_keyword(head: Head, place: Option<Place>, byte: u8) -> Move
+    requires { place ≡ first_place_of head }
     ensures { result ≡ behind_keyword_by head byte }
 {
     if byte == b' ' {
-        return first_number(head);
+        return first_number(place);
     }
     if byte == b'\n' {
         return end_bare(head);
@@ -112,10 +124,10 @@ fn behind_keyword(head: Head, byte: u8) -> Move
     refused(false)
 }
 
-fn first_number(head: Head) -> Move
-    ensures { result ≡ first_number_by (first_place_of head) }
+fn first_number(place: Option<Place>) -> Move
+    ensures { result ≡ first_number_by place }
 {
-    let Some(place) = first_place(head) else {
+    let Some(place) = place else {
         return refused(false);
     };
     Move {
@@ -150,11 +162,11 @@ fn end_empty(at: TreeAt) -> Move
     }
 }
 
-fn in_number(n: u32, place: Place, value: Option<u128>, byte: u8) -> Move
-    ensures { result ≡ number_by n place value byte }
+fn in_number(shape: Shape, place: Place, value: Option<u128>, byte: u8) -> Move
+    ensures { result ≡ number_by shape place value byte }
 {
     if byte < b'0' || byte > b'9' {
-        return behind_number(n, place, value, byte);
+        return behind_number(shape, place, value, byte);
     }
     let Some(sum) = with_digit(value, byte) else {
         return refused(false);
@@ -180,17 +192,17 @@ pub(crate) fn with_digit(value: Option<u128>, byte: u8) -> Option<u128>
     Some(front * 10 + digit)
 }
 
-fn behind_number(n: u32, place: Place, value: Option<u128>, byte: u8) -> Move
-    ensures { result ≡ behind_number_by n place value byte }
+fn behind_number(shape: Shape, place: Place, value: Option<u128>, byte: u8) -> Move
+    ensures { result ≡ behind_number_by shape place value byte }
 {
     let Some(number) = value else {
         return spoil(byte);
     };
     if byte == b'\n' {
-        return take(n, place, number, true);
+        return take(shape, place, number, true);
     }
     if byte == b' ' {
-        return take(n, place, number, false);
+        return take(shape, place, number, false);
     }
     refused(false)
 }

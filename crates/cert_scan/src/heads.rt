@@ -1,7 +1,8 @@
 //! The first word of a line, by what the line is.
 ghost use Rattle.std.specs.Prelude.{◌≡◌};
-ghost use Rattle.cert_scan.specs.Moves.{head_at, keyword_of, first_place_of};
+ghost use Rattle.cert_scan.specs.Moves.{head_at, keyword_of, first_place_of, duals_line_of, turned_by};
 
+use crate::items::Version;
 use crate::places::Place;
 use crate::stages::{Commodity, DualAt, Stage, TreeAt};
 
@@ -17,6 +18,7 @@ pub(crate) enum Head {
     CutsLine,
     CutLine(u32, u32),
     DualLine(DualAt),
+    DualsLine(DualAt),
     NodesLine,
     BranchLine(TreeAt),
     LeafLine(TreeAt),
@@ -59,44 +61,45 @@ fn tree_head(at: TreeAt, byte: u8) -> Option<Head>
     }
 }
 
-pub(crate) fn keyword(head: Head) -> &'static [u8]
-    ensures { result.now ≡ keyword_of head }
+// The first word of a line, and where its first number stands, if it has one.
+pub(crate) fn form(head: Head) -> (&'static [u8], Option<Place>)
+    ensures word { result.0.now ≡ keyword_of head }
+    ensures place { result.1 ≡ first_place_of head }
 {
     match head {
-        Head::VersionLine => b"HUBCERT",
-        Head::SizeLine => b"size",
-        Head::CostLine => b"cost",
-        Head::BoundLine => b"bound",
-        Head::HubsLine => b"hubs",
-        Head::RouteLine(_) => b"route",
-        Head::CutsLine => b"cuts",
-        Head::CutLine(..) => b"cut",
-        Head::DualLine(_) => b"dual",
-        Head::NodesLine => b"nodes",
-        Head::BranchLine(_) => b"branch",
-        Head::LeafLine(_) => b"leaf",
-        Head::EmptyLine(_) => b"empty",
-        Head::EndLine => b"end",
+        Head::VersionLine => (b"HUBCERT", Some(Place::VersionNumber)),
+        Head::SizeLine => (b"size", Some(Place::NodeCount)),
+        Head::CostLine => (b"cost", Some(Place::CostAmount)),
+        Head::BoundLine => (b"bound", Some(Place::BoundAmount)),
+        Head::HubsLine => (b"hubs", Some(Place::HubNode(0))),
+        Head::RouteLine(commodity) => (b"route", Some(Place::RouteFrom(commodity))),
+        Head::CutsLine => (b"cuts", Some(Place::CutCount)),
+        Head::CutLine(all, before) => (b"cut", Some(Place::CutNumber(all, before))),
+        Head::DualLine(at) => (b"dual", Some(Place::DualFrom(at))),
+        Head::DualsLine(at) => (b"duals", Some(Place::RunFrom(at))),
+        Head::NodesLine => (b"nodes", Some(Place::LineCount)),
+        Head::BranchLine(at) => (b"branch", Some(Place::BranchNode(at))),
+        Head::LeafLine(at) => (b"leaf", Some(Place::Denominator(at))),
+        Head::EmptyLine(_) => (b"empty", None),
+        Head::EndLine => (b"end", None),
     }
 }
 
-// Where the first number of the line stands, if it has one.
-pub(crate) fn first_place(head: Head) -> Option<Place>
-    ensures { result ≡ first_place_of head }
+// The line that this one turns out to be, where its first word goes on with the byte behind so many letters.
+pub(crate) fn turned(version: Version, head: Head, matched: usize, byte: u8) -> Option<Head>
+    ensures { result ≡ turned_by version head matched byte }
 {
-    Some(match head {
-        Head::VersionLine => Place::VersionNumber,
-        Head::SizeLine => Place::NodeCount,
-        Head::CostLine => Place::CostAmount,
-        Head::BoundLine => Place::BoundAmount,
-        Head::HubsLine => Place::HubNode(0),
-        Head::RouteLine(commodity) => Place::RouteFrom(commodity),
-        Head::CutsLine => Place::CutCount,
-        Head::CutLine(all, before) => Place::CutNumber(all, before),
-        Head::DualLine(at) => Place::DualFrom(at),
-        Head::NodesLine => Place::LineCount,
-        Head::BranchLine(at) => Place::BranchNode(at),
-        Head::LeafLine(at) => Place::Denominator(at),
-        Head::EmptyLine(_) | Head::EndLine => return None,
-    })
+    if byte == b's' && matched == 4 {
+        return duals_line(version, head);
+    }
+    None
+}
+
+fn duals_line(version: Version, head: Head) -> Option<Head>
+    ensures { result ≡ duals_line_of version head }
+{
+    match (version, head) {
+        (Version::Second, Head::DualLine(at)) => Some(Head::DualsLine(at)),
+        _ => None,
+    }
 }

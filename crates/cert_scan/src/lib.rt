@@ -1,7 +1,7 @@
 //! The text of a certificate scanned byte by byte: its items one after another, with no memory taken.
 //!
 //! - [`Scan`] takes the bytes of a text, one at a time by `step` or many by `run`, and gives an [`Item`] as soon as one
-//!   is told. It holds a few numbers, however long the text is.
+//!   is told. It holds a few numbers and the pairs of one dual, however long the text is.
 //! - `finish` tells the [`Fault`] of the bytes so far, or that they are the whole text of a certificate.
 //!
 //! An item is given with the byte that ends it, and so before its line has ended: the text of a certificate is made of
@@ -11,7 +11,8 @@
 //! the first on, and the first items of one more line, of which all that they say is in range.
 //!
 //! The text is defined in the crate `cert_spec`. A line begins at a stage of the text (`stages`), has a keyword
-//! (`heads`) and numbers at places (`places`); what one byte makes of it all is in `bytes`.
+//! (`heads`) and numbers at places (`places`); what one byte makes of it all is in `bytes`. In the second version no dual
+//! may repeat the one before it in its origin: `repeats` tells that by the items.
 #![tactic(auto)]
 
 mod bytes;
@@ -21,6 +22,7 @@ mod items;
 mod pairs;
 mod pieces;
 mod places;
+mod repeats;
 mod scanner;
 mod stages;
 

@@ -1,6 +1,16 @@
 //! The numbers of a line: where each stands, and what it makes of the line.
 ghost use Rattle.std.specs.Prelude.{◌≡◌, ℕ, ◌+◌, nat_eq};
-ghost use Rattle.cert_scan.specs.Moves.{refusal, more_by, whole_by, open_by, allowed, taken_by};
+ghost use Rattle.cert_spec.specs.Reading.{is_short, is_second};
+ghost use Rattle.cert_scan.specs.Moves.{
+  refusal,
+  more_by,
+  whole_by,
+  open_by,
+  allowed,
+  amount_limit,
+  cut_by,
+  taken_by,
+};
 ghost use Rattle.cert_scan.specs.declared.places.Place.TheVariants.{
   VersionNumber,
   NodeCount,
@@ -10,6 +20,8 @@ ghost use Rattle.cert_scan.specs.declared.places.Place.TheVariants.{
   RouteLast,
   CutCount,
   CutNumber,
+  CutPart,
+  RunLength,
   DualPrice,
   ValueNode,
   ValueAmount,
@@ -23,10 +35,19 @@ ghost use Rattle.cert_scan.specs.declared.places.Place.TheVariants.{
 use crate::bytes::{Move, Position};
 use crate::items::{Item, Version};
 use crate::stages::{
-    Commodity, DualAt, FIRST, Stage, TreeAt, after_cuts, after_dual, after_filled, after_route,
-    after_tree, may_be_filled,
+    Commodity, DualAt, FIRST, Run, Shape, Stage, TreeAt, after_cuts, after_dual, after_filled,
+    after_route, after_tree, first_dual, may_be_filled,
 };
 use hub_model::{MOST_CUTS, MOST_DENOMINATOR, MOST_NODES, MOST_TREE_LINES};
+
+// Of a cut's part.
+const MOST_PART: u128 = 1000;
+
+// A number of at most 30 digits is below this.
+const SHORT_LIMIT: u128 = 1_000_000_000_000_000_000_000_000_000_000;
+
+// A number of at most 33 digits is below this.
+const LONG_LIMIT: u128 = 1_000_000_000_000_000_000_000_000_000_000_000;
 
 // What the next number of a line is. Nodes and cuts are numbered from 1, as in the text.
 #[derive(Clone, Copy)]
@@ -47,13 +68,18 @@ pub(crate) enum Place {
     CutCount,
     // How many cuts there are to be, and stand already.
     CutNumber(u32, u32),
+    // How many cuts there are to be, and the number of this one.
+    CutPart(u32, u32),
     DualFrom(DualAt),
     DualTo(DualAt),
-    DualPrice(DualAt),
+    RunFrom(DualAt),
+    RunTo(DualAt),
+    RunLength(DualAt),
+    DualPrice(Run),
     // The node before it, 0 for none.
-    ValueNode(DualAt, u32),
+    ValueNode(Run, u32),
     // Its node.
-    ValueAmount(DualAt, u32),
+    ValueAmount(Run, u32),
     LineCount,
     BranchNode(TreeAt),
     Denominator(TreeAt),
@@ -125,17 +151,17 @@ fn open(last: bool, item: Item, place: Place, stage: Stage) -> Move
     }
 }
 
-// Takes the number at a place, between `n` nodes; `last` says that the line ends behind it.
-pub(crate) fn take(n: u32, place: Place, value: u128, last: bool) -> Move
-    ensures { result ≡ taken_by n place value last }
+// Takes the number at a place of a text of this shape; `last` says that the line ends behind it.
+pub(crate) fn take(shape: Shape, place: Place, value: u128, last: bool) -> Move
+    ensures { result ≡ taken_by shape place value last }
 {
     match place {
-        Place::VersionNumber => take_version(value, last),
-        Place::NodeCount => take_nodes(value, last),
-        Place::CandidateCount(nodes) => take_candidates(nodes, value, last),
-        Place::CostAmount => whole(last, Some(Item::Cost(value)), Stage::Bound),
-        Place::BoundAmount => whole(last, Some(Item::Bound(value)), Stage::Hubs),
-        Place::HubNode(before) => take_hub(n, before, value, last),
+        Place::VersionNumber => take_version(shape, value, last),
+        Place::NodeCount => take_nodes(shape, value, last),
+        Place::CandidateCount(nodes) => take_candidates(shape, nodes, value, last),
+        Place::CostAmount => take_short(Item::Cost(value), Stage::Bound, value, last),
+        Place::BoundAmount => take_short(Item::Bound(value), Stage::Hubs, value, last),
+        Place::HubNode(before) => take_hub(shape, before, value, last),
         Place::RouteFrom(commodity) => take_node(
             commodity.from,
             Place::RouteTo(commodity),
@@ -148,34 +174,54 @@ pub(crate) fn take(n: u32, place: Place, value: u128, last: bool) -> Move
             value,
             last,
         ),
-        Place::RouteFirst(commodity) => take_first(n, commodity, value, last),
-        Place::RouteLast(commodity, k) => take_last(n, commodity, k, value, last),
-        Place::CutCount => take_cut_count(value, last),
-        Place::CutNumber(all, before) => take_cut(all, before, value, last),
+        Place::RouteFirst(commodity) => take_first(shape, commodity, value, last),
+        Place::RouteLast(commodity, k) => take_last(shape, commodity, k, value, last),
+        Place::CutCount => take_cut_count(shape, value, last),
+        Place::CutNumber(all, before) => take_cut(shape, all, before, value, last),
+        Place::CutPart(all, number) => take_part(shape, all, number, value, last),
         Place::DualFrom(at) => take_node(at.commodity.from, Place::DualTo(at), value, last),
-        Place::DualTo(at) => take_node(at.commodity.to, Place::DualPrice(at), value, last),
-        Place::DualPrice(at) => take_price(n, at, value, last),
-        Place::ValueNode(at, before) => take_value_node(n, at, before, value, last),
-        Place::ValueAmount(at, number) => take_value(n, at, number, value, last),
-        Place::LineCount => take_line_count(value, last),
-        Place::BranchNode(at) => take_branch(n, at, value, last),
-        Place::Denominator(at) => take_denominator(at, value, last),
-        Place::WeightCut(at, before) => take_weight_cut(at, before, value, last),
-        Place::WeightAmount(at, number) => take_weight(at, number, value, last),
+        Place::DualTo(at) => {
+            let alone = Run {
+                first: at,
+                length: 1,
+            };
+            take_node(at.commodity.to, Place::DualPrice(alone), value, last)
+        }
+        Place::RunFrom(at) => take_node(at.commodity.from, Place::RunTo(at), value, last),
+        Place::RunTo(at) => take_node(at.commodity.to, Place::RunLength(at), value, last),
+        Place::RunLength(at) => take_run_length(shape, at, value, last),
+        Place::DualPrice(run) => take_price(shape, run, value, last),
+        Place::ValueNode(run, before) => take_value_node(shape, run, before, value, last),
+        Place::ValueAmount(run, number) => take_value(shape, run, number, value, last),
+        Place::LineCount => take_line_count(shape, value, last),
+        Place::BranchNode(at) => take_branch(shape, at, value, last),
+        Place::Denominator(at) => take_denominator(shape, at, value, last),
+        Place::WeightCut(at, before) => take_weight_cut(shape, at, before, value, last),
+        Place::WeightAmount(at, number) => take_weight(shape, at, number, value, last),
     }
 }
 
-fn take_version(value: u128, last: bool) -> Move
-    ensures { result ≡ taken_by 0 VersionNumber value last }
+// Whether the number is that of the second version: no text is of it yet.
+fn is_second_version(_number: u128) -> bool
+    ensures { result ≡ is_second _number }
 {
-    if value != 1 {
-        return refused(last);
-    }
-    whole(last, Some(Item::Version(Version::First)), Stage::Size)
+    false
 }
 
-fn take_nodes(value: u128, last: bool) -> Move
-    ensures { result ≡ taken_by 0 NodeCount value last }
+fn take_version(shape: Shape, value: u128, last: bool) -> Move
+    ensures { result ≡ taken_by shape VersionNumber value last }
+{
+    if value == 1 {
+        return whole(last, Some(Item::Version(Version::First)), Stage::Size);
+    }
+    if is_second_version(value) {
+        return whole(last, Some(Item::Version(Version::Second)), Stage::Size);
+    }
+    refused(last)
+}
+
+fn take_nodes(shape: Shape, value: u128, last: bool) -> Move
+    ensures { result ≡ taken_by shape NodeCount value last }
 {
     if value < 1 || value > MOST_NODES as u128 {
         return refused(last);
@@ -183,8 +229,8 @@ fn take_nodes(value: u128, last: bool) -> Move
     more(last, Place::CandidateCount(value as u32))
 }
 
-fn take_candidates(nodes: u32, value: u128, last: bool) -> Move
-    ensures { result ≡ taken_by 0 (CandidateCount nodes) value last }
+fn take_candidates(shape: Shape, nodes: u32, value: u128, last: bool) -> Move
+    ensures { result ≡ taken_by shape (CandidateCount nodes) value last }
 {
     if value < 1 || value > nodes as u128 {
         return refused(last);
@@ -196,10 +242,20 @@ fn take_candidates(nodes: u32, value: u128, last: bool) -> Move
     whole(last, Some(size), Stage::Cost)
 }
 
-fn take_hub(n: u32, before: u32, value: u128, last: bool) -> Move
-    ensures { result ≡ taken_by n (HubNode before) value last }
+// An amount that is no dual's.
+fn take_short(item: Item, stage: Stage, value: u128, last: bool) -> Move
+    ensures { result ≡ allowed (is_short value) last (whole_by last (Some item) stage) }
 {
-    if value <= before as u128 || value > n as u128 {
+    if value >= SHORT_LIMIT {
+        return refused(last);
+    }
+    whole(last, Some(item), stage)
+}
+
+fn take_hub(shape: Shape, before: u32, value: u128, last: bool) -> Move
+    ensures { result ≡ taken_by shape (HubNode before) value last }
+{
+    if value <= before as u128 || value > shape.n as u128 {
         return refused(last);
     }
     let number = value as u32;
@@ -220,19 +276,19 @@ fn take_node(node: u32, next: Place, value: u128, last: bool) -> Move
     more(last, next)
 }
 
-fn take_first(n: u32, commodity: Commodity, value: u128, last: bool) -> Move
-    ensures { result ≡ taken_by n (RouteFirst commodity) value last }
+fn take_first(shape: Shape, commodity: Commodity, value: u128, last: bool) -> Move
+    ensures { result ≡ taken_by shape (RouteFirst commodity) value last }
 {
-    if value < 1 || value > n as u128 {
+    if value < 1 || value > shape.n as u128 {
         return refused(last);
     }
     more(last, Place::RouteLast(commodity, value as u32 - 1))
 }
 
-fn take_last(n: u32, commodity: Commodity, k: u32, value: u128, last: bool) -> Move
-    ensures { result ≡ taken_by n (RouteLast commodity k) value last }
+fn take_last(shape: Shape, commodity: Commodity, k: u32, value: u128, last: bool) -> Move
+    ensures { result ≡ taken_by shape (RouteLast commodity k) value last }
 {
-    if value < 1 || value > n as u128 {
+    if value < 1 || value > shape.n as u128 {
         return refused(last);
     }
     let Commodity { from, to } = commodity;
@@ -242,11 +298,11 @@ fn take_last(n: u32, commodity: Commodity, k: u32, value: u128, last: bool) -> M
         k,
         m: value as u32 - 1,
     };
-    whole(last, Some(route), after_route(n, commodity))
+    whole(last, Some(route), after_route(shape.n, commodity))
 }
 
-fn take_cut_count(value: u128, last: bool) -> Move
-    ensures { result ≡ taken_by 0 CutCount value last }
+fn take_cut_count(shape: Shape, value: u128, last: bool) -> Move
+    ensures { result ≡ taken_by shape CutCount value last }
 {
     if value > MOST_CUTS as u128 {
         return refused(last);
@@ -255,51 +311,105 @@ fn take_cut_count(value: u128, last: bool) -> Move
     whole(last, Some(Item::Cuts(all)), after_cuts(all))
 }
 
-fn take_cut(all: u32, before: u32, value: u128, last: bool) -> Move
-    ensures { result ≡ taken_by 0 (CutNumber all before) value last }
+fn take_cut(shape: Shape, all: u32, before: u32, value: u128, last: bool) -> Move
+    ensures { result ≡ taken_by shape (CutNumber all before) value last }
 {
     if value != before as u128 + 1 || value > MOST_CUTS as u128 {
         return refused(last);
     }
-    let first = Stage::Dual(DualAt {
-        all,
-        before,
-        commodity: FIRST,
-    });
-    let cut = Item::Cut {
-        x: value as u32,
-        part: 1,
-    };
-    whole(last, Some(cut), first)
+    begin_cut(shape.version, all, value as u32, last)
 }
 
-fn take_price(n: u32, at: DualAt, value: u128, last: bool) -> Move
-    ensures { result ≡ taken_by n (DualPrice at) value last }
+// A cut of the first version is whole with its number, and has the part 1.
+fn begin_cut(version: Version, all: u32, number: u32, last: bool) -> Move
+    ensures { result ≡ cut_by version all number last }
 {
-    let Commodity { from, to } = at.commodity;
+    match version {
+        Version::First => {
+            let first_cut = Item::Cut { x: number, part: 1 };
+            whole(
+                last,
+                Some(first_cut),
+                first_dual(all, number.saturating_sub(1)),
+            )
+        }
+        Version::Second => more(last, Place::CutPart(all, number)),
+    }
+}
+
+fn take_part(shape: Shape, all: u32, number: u32, value: u128, last: bool) -> Move
+    ensures { result ≡ taken_by shape (CutPart all number) value last }
+{
+    if value < 1 || value > MOST_PART {
+        return refused(last);
+    }
+    let cut = Item::Cut {
+        x: number,
+        part: value as u32,
+    };
+    whole(last, Some(cut), first_dual(all, number.saturating_sub(1)))
+}
+
+// A run has more than one commodity, all of one origin.
+fn take_run_length(shape: Shape, first: DualAt, value: u128, last: bool) -> Move
+    ensures { result ≡ taken_by shape (RunLength first) value last }
+{
+    let most = shape.n.saturating_sub(first.commodity.to);
+    if value < 2 || value > most as u128 {
+        return refused(last);
+    }
+    let run = Run {
+        first,
+        length: value as u32,
+    };
+    more(last, Place::DualPrice(run))
+}
+
+// What an amount of a dual is below.
+fn limit_of_amounts(version: Version) -> u128
+    ensures { result ≡ amount_limit version }
+{
+    match version {
+        Version::First => SHORT_LIMIT,
+        Version::Second => LONG_LIMIT,
+    }
+}
+
+fn take_price(shape: Shape, run: Run, value: u128, last: bool) -> Move
+    ensures { result ≡ taken_by shape (DualPrice run) value last }
+{
+    if value >= limit_of_amounts(shape.version) {
+        return refused(last);
+    }
+    let Commodity { from, to } = run.first.commodity;
     let dual = Item::Dual {
         i: from,
         j: to,
-        run: 1,
+        run: run.length,
         a: value,
         last,
     };
-    open(last, dual, Place::ValueNode(at, 0), after_dual(n, at))
+    open(
+        last,
+        dual,
+        Place::ValueNode(run, 0),
+        after_dual(shape.n, run),
+    )
 }
 
-fn take_value_node(n: u32, at: DualAt, before: u32, value: u128, last: bool) -> Move
-    ensures { result ≡ taken_by n (ValueNode at before) value last }
+fn take_value_node(shape: Shape, run: Run, before: u32, value: u128, last: bool) -> Move
+    ensures { result ≡ taken_by shape (ValueNode run before) value last }
 {
-    if value <= before as u128 || value > n as u128 {
+    if value <= before as u128 || value > shape.n as u128 {
         return refused(last);
     }
-    more(last, Place::ValueAmount(at, value as u32))
+    more(last, Place::ValueAmount(run, value as u32))
 }
 
-pub(crate) fn take_value(n: u32, at: DualAt, number: u32, value: u128, last: bool) -> Move
-    ensures { result ≡ taken_by n (ValueAmount at number) value last }
+pub(crate) fn take_value(shape: Shape, run: Run, number: u32, value: u128, last: bool) -> Move
+    ensures { result ≡ taken_by shape (ValueAmount run number) value last }
 {
-    if value < 1 {
+    if value < 1 || value >= limit_of_amounts(shape.version) {
         return refused(last);
     }
     let pair = Item::DualPair {
@@ -307,11 +417,16 @@ pub(crate) fn take_value(n: u32, at: DualAt, number: u32, value: u128, last: boo
         u: value,
         last,
     };
-    open(last, pair, Place::ValueNode(at, number), after_dual(n, at))
+    open(
+        last,
+        pair,
+        Place::ValueNode(run, number),
+        after_dual(shape.n, run),
+    )
 }
 
-fn take_line_count(value: u128, last: bool) -> Move
-    ensures { result ≡ taken_by 0 LineCount value last }
+fn take_line_count(shape: Shape, value: u128, last: bool) -> Move
+    ensures { result ≡ taken_by shape LineCount value last }
 {
     if value < 1 || value > MOST_TREE_LINES as u128 {
         return refused(last);
@@ -324,19 +439,19 @@ fn take_line_count(value: u128, last: bool) -> Move
     )
 }
 
-fn take_branch(n: u32, at: TreeAt, value: u128, last: bool) -> Move
-    ensures { result ≡ taken_by n (BranchNode at) value last }
+fn take_branch(shape: Shape, at: TreeAt, value: u128, last: bool) -> Move
+    ensures { result ≡ taken_by shape (BranchNode at) value last }
 {
     let left = at.left.saturating_sub(1);
-    if value < 1 || value > n as u128 || at.places >= left {
+    if value < 1 || value > shape.n as u128 || at.places >= left {
         return refused(last);
     }
     let node = Item::Branch(value as u32 - 1);
     whole(last, Some(node), after_tree(at.places + 1, left))
 }
 
-fn take_denominator(at: TreeAt, value: u128, last: bool) -> Move
-    ensures { result ≡ taken_by 0 (Denominator at) value last }
+fn take_denominator(shape: Shape, at: TreeAt, value: u128, last: bool) -> Move
+    ensures { result ≡ taken_by shape (Denominator at) value last }
 {
     if value < 1 || value > MOST_DENOMINATOR as u128 || !may_be_filled(at) {
         return refused(last);
@@ -348,19 +463,19 @@ fn take_denominator(at: TreeAt, value: u128, last: bool) -> Move
     open(last, leaf, Place::WeightCut(at, 0), after_filled(at))
 }
 
-fn take_weight_cut(at: TreeAt, before: u128, value: u128, last: bool) -> Move
-    ensures { result ≡ taken_by 0 (WeightCut at before) value last }
+fn take_weight_cut(shape: Shape, at: TreeAt, before: u128, value: u128, last: bool) -> Move
+    ensures { result ≡ taken_by shape (WeightCut at before) value last }
 {
-    if value <= before {
+    if value <= before || value >= SHORT_LIMIT {
         return refused(last);
     }
     more(last, Place::WeightAmount(at, value))
 }
 
-fn take_weight(at: TreeAt, number: u128, value: u128, last: bool) -> Move
-    ensures { result ≡ taken_by 0 (WeightAmount at number) value last }
+fn take_weight(shape: Shape, at: TreeAt, number: u128, value: u128, last: bool) -> Move
+    ensures { result ≡ taken_by shape (WeightAmount at number) value last }
 {
-    if value < 1 {
+    if value < 1 || value >= SHORT_LIMIT {
         return refused(last);
     }
     let pair = Item::LeafPair {

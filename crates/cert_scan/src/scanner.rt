@@ -8,7 +8,10 @@ ghost use Rattle.cert_scan.specs.Scans.{
   scanned,
   given_all,
   given_by,
-  nodes_by,
+  shape_by,
+  sifted,
+  with_item,
+  moved,
   line_by,
   fault_at,
   fault_by,
@@ -22,19 +25,22 @@ ghost use Rattle.cert_scan.specs.declared.items.Item.{Item as ItemOf};
 
 use crate::bytes::{Move, Position, after_byte};
 use crate::digits::more_digits;
-use crate::items::{Fault, Item};
+use crate::items::{Fault, Item, Version};
 use crate::pairs::pair_ahead;
-use crate::places::{Place, take_value};
-use crate::stages::Stage;
+use crate::places::{Place, refused, take_value};
+use crate::repeats::DualSoFar;
+use crate::stages::{Shape, Stage};
 use memchr::memchr;
 
-/// The scan of a text, of which some bytes have come. It takes no memory.
-#[derive(Clone, Copy)]
+/// The scan of a text, of which some bytes have come. It takes no memory, but has room for the pairs of one dual.
+#[derive(Drop)]
 pub struct Scan {
-    // The number of nodes, once the text has told it.
-    n: u32,
+    // The version and the number of nodes, once the text has told them.
+    shape: Shape,
     line: u64,
     position: Position,
+    // In the first version, as at the start.
+    so_far: DualSoFar,
 }
 
 impl Scan {
@@ -43,9 +49,13 @@ impl Scan {
         ensures { HasScanned [] [] result }
     {
         Scan {
-            n: 0,
+            shape: Shape {
+                version: Version::First,
+                n: 0,
+            },
             line: 1,
             position: Position::Start(Stage::Version),
+            so_far: DualSoFar::new(),
         }
     }
 
@@ -101,15 +111,19 @@ impl Scan {
         let Position::Number(place, value) = self.position else {
             return None;
         };
-        let Place::ValueNode(at, before) = place else {
+        let Place::ValueNode(of, before) = place else {
             return None;
         };
         if value.is_some() {
             return None;
         }
-        let pair = pair_ahead(self.n, before, bytes)?;
-        let next = take_value(self.n, at, pair.number, pair.value as u128, pair.last);
+        let pair = pair_ahead(self.shape.n, before, bytes)?;
+        let next = take_value(self.shape, of, pair.number, pair.value as u128, pair.last);
         let item = self.go(next);
+        if item.is_none() {
+            // The dual repeats the one before it, so that nothing comes any more.
+            return Some((bytes.len(), None));
+        }
         Some((pair.front + 1 + pair.back + 1, item))
     }
 
@@ -174,19 +188,35 @@ impl Scan {
         ensures given { result ≡ given_by self.old byte }
         ensures after { self.new ≡ stepped self.old byte }
     {
-        self.go(after_byte(self.n, self.position, byte))
+        self.go(after_byte(self.shape, self.position, byte))
     }
 
     fn go(&mut self, next: Move) -> Option<Item>
-        ensures given { result ≡ next.item }
-        ensures nodes { self.new.n ≡ nodes_by self.old.n next.item }
-        ensures line { self.new.line ≡ line_by self.old.line next.position }
-        ensures position { self.new.position ≡ next.position }
+        ensures given { result ≡ (sifted self.old next).item }
+        ensures after { self.new ≡ moved self.old next }
     {
-        self.n = nodes_after(self.n, next.item);
-        self.line = line_after(self.line, next.position);
-        self.position = next.position;
-        next.item
+        let kept = self.sift(next);
+        self.shape = shape_after(self.shape, kept.item);
+        self.line = line_after(self.line, kept.position);
+        self.position = kept.position;
+        kept.item
+    }
+
+    // The move, if no dual ends with it that repeats the one before it.
+    fn sift(&mut self, next: Move) -> Move
+        ensures kept { result ≡ sifted self.old next }
+        ensures noted { self.new ≡ with_item self.old next.item }
+    {
+        let Some(item) = next.item else {
+            return next;
+        };
+        if let Version::First = self.shape.version {
+            return next;
+        }
+        if self.so_far.note(item) {
+            return refused(true);
+        }
+        next
     }
 }
 
@@ -208,12 +238,19 @@ fn fault_of(line: u64, position: Position) -> Option<Fault>
     }
 }
 
-fn nodes_after(n: u32, item: Option<Item>) -> u32
-    ensures { result ≡ nodes_by n item }
+fn shape_after(shape: Shape, item: Option<Item>) -> Shape
+    ensures { result ≡ shape_by shape item }
 {
     match item {
-        Some(Item::Size { n: nodes, .. }) => nodes,
-        _ => n,
+        Some(Item::Version(version)) => Shape {
+            version,
+            n: shape.n,
+        },
+        Some(Item::Size { n, .. }) => Shape {
+            version: shape.version,
+            n,
+        },
+        _ => shape,
     }
 }
 

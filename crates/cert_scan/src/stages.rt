@@ -5,11 +5,21 @@ ghost use Rattle.cert_scan.specs.Moves.{
   stage_after_route,
   stage_after_cuts,
   stage_after_cut,
+  first_dual_of,
   stage_after_dual,
   stage_after_tree,
   stage_after_filled,
   may_fill,
 };
+
+use crate::items::Version;
+
+// What the first lines say of the others: the version, and the number of nodes.
+#[derive(Clone, Copy)]
+pub(crate) struct Shape {
+    pub version: Version,
+    pub n: u32,
+}
 
 // The nodes of a commodity, from the first to the last.
 #[derive(Clone, Copy)]
@@ -24,6 +34,13 @@ pub(crate) struct DualAt {
     pub all: u32,
     pub before: u32,
     pub commodity: Commodity,
+}
+
+// A dual is of so many commodities of one origin, from the first on.
+#[derive(Clone, Copy)]
+pub(crate) struct Run {
+    pub first: DualAt,
+    pub length: u32,
 }
 
 // How many places of the tree are still to be filled, and tree lines still to come.
@@ -54,12 +71,17 @@ pub(crate) enum Stage {
 // The commodity of no nodes before.
 pub(crate) const FIRST: Commodity = Commodity { from: 0, to: 0 };
 
-fn next_commodity(n: u32, commodity: Commodity) -> Option<Commodity>
-    ensures { result ≡ next_commodity_of n commodity }
+// The commodity behind so many of one origin, from this one on.
+fn next_commodity(n: u32, length: u32, commodity: Commodity) -> Option<Commodity>
+    ensures { result ≡ next_commodity_of n length commodity }
 {
     let Commodity { from, to } = commodity;
-    if to < n.saturating_sub(1) {
-        return Some(Commodity { from, to: to + 1 });
+    let next = to as u64 + length as u64;
+    if next < n as u64 {
+        return Some(Commodity {
+            from,
+            to: next as u32,
+        });
     }
     if from < n.saturating_sub(1) {
         return Some(Commodity {
@@ -73,7 +95,7 @@ fn next_commodity(n: u32, commodity: Commodity) -> Option<Commodity>
 pub(crate) fn after_route(n: u32, commodity: Commodity) -> Stage
     ensures { result ≡ stage_after_route n commodity }
 {
-    match next_commodity(n, commodity) {
+    match next_commodity(n, 1, commodity) {
         Some(next) => Stage::Route(next),
         None => Stage::Cuts,
     }
@@ -101,16 +123,32 @@ fn after_cut(all: u32, before: u32) -> Stage
     }
 }
 
-pub(crate) fn after_dual(n: u32, at: DualAt) -> Stage
-    ensures { result ≡ stage_after_dual n at }
+// What is wanted where the duals of a cut begin, behind so many others.
+pub(crate) fn first_dual(all: u32, before: u32) -> Stage
+    ensures { result ≡ first_dual_of all before }
 {
-    match next_commodity(n, at.commodity) {
+    Stage::Dual(DualAt {
+        all,
+        before,
+        commodity: FIRST,
+    })
+}
+
+pub(crate) fn after_dual(n: u32, run: Run) -> Stage
+    ensures { result ≡ stage_after_dual n run }
+{
+    let DualAt {
+        all,
+        before,
+        commodity,
+    } = run.first;
+    match next_commodity(n, run.length, commodity) {
         Some(commodity) => Stage::Dual(DualAt {
-            all: at.all,
-            before: at.before,
+            all,
+            before,
             commodity,
         }),
-        None => after_cut(at.all, at.before),
+        None => after_cut(all, before),
     }
 }
 
