@@ -189,9 +189,9 @@ is_tree_line_text n no_hub = true
 is_tree_line_text n (no_route commodity) = nat_lt commodity.0 n && nat_lt commodity.1 n
 is_tree_line_text n no_count = true
 
--- the second version: no text is of it yet
+-- the second version
 abbrev pub is_second : ℕ → Bool
-is_second v = false
+is_second v = nat_eq v 2
 
 -- a version that there is, and a part, a dual and a tree line that the version can say
 abbrev pub is_version : ℕ → Bool

@@ -61,9 +61,9 @@ pub record IsFirst (k : Proof) : Type 0 where
   pub cuts : All IsFirstCut k.cuts
   pub tree : All IsFirstLine (preorder k.tree)
 
--- the version is the second; no text is of it yet
+-- the version is the second
 abbrev pub IsSecond : ℕ → Type 0
-IsSecond version = ⊥
+IsSecond version = version ≡ 2
 
 -- a version that has a text for what the certificate says; no text says yet that a commodity is blocked or a number lacking
 abbrev pub IsVersionOf : Proof → Type 0
