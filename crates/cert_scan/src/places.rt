@@ -201,11 +201,11 @@ pub(crate) fn take(shape: Shape, place: Place, value: u128, last: bool) -> Move
     }
 }
 
-// Whether the number is that of the second version: no text is of it yet.
-fn is_second_version(_number: u128) -> bool
-    ensures { result ≡ is_second _number }
+// Whether the number is that of the second version.
+fn is_second_version(number: u128) -> bool
+    ensures { result ≡ is_second number }
 {
-    false
+    number == 2
 }
 
 fn take_version(shape: Shape, value: u128, last: bool) -> Move
