@@ -128,8 +128,8 @@ impl KeptCuts {
     }
 }
 
-// The same amounts, signed.
-fn signed_row(alloc: Global, amounts: &[u128]) -> Result<Vec<i128>, AllocError>
+/// The same amounts, signed: loads as a store has them.
+pub fn signed_row(alloc: Global, amounts: &[u128]) -> Result<Vec<i128>, AllocError>
     requires { All (λ l. l ≤ most_cost) amounts.now }
     ensures { IfOk result (λ row. row.items ≡ map pos amounts.now) }
 {
