@@ -4,18 +4,20 @@ use Rattle.std.proofs.lemmas.Int.{ints}
 use Rattle.std.proofs.lemmas.List.{length-map}
 use Rattle.std.proofs.lemmas.List.Elements.{All-nil, All-cons}
 use Rattle.hub_spec.specs.Limits.{most_cuts}
-use Rattle.hub_spec.specs.Problem.{Problem}
+use Rattle.hub_spec.specs.Problem.{Problem, IsProblem}
 use Rattle.hub_spec.specs.Cuts.{Cut}
 use Rattle.hub_spec.specs.Trees.{Branching, cut_at, leaf_bound, IsMix, Closes, TreeLine, leaf_of}
 use Rattle.hub_spec.specs.Ranges.{AreWeightsInRange, IsLineInRange}
+use Rattle.hub_spec.proofs.Mixes.{AreWhole, whole_multiples}
 use Rattle.leaf_bound.specs.Weighing.{most_bound, IsWithin}
 use Rattle.search_spec.specs.States.{denominator, whole_on, lesser, rounded_up}
-use Rattle.search_spec.proofs.Bounds.{rounded_closes}
+use Rattle.search_spec.proofs.Bounds.{any_room, rounded_closes}
 use Rattle.search_spec.proofs.Keeping.{closes_less}
 use Rattle.tree_walks.specs.Walks.{IsSoundLine}
 use Rattle.kept_cuts.specs.Kept.{Kept, kept_cut, kept_cuts}
 use Rattle.closing_search.specs.declared.leaves.Choice.{Choice}
 use Rattle.closing_search.specs.SingleCuts.{cut_bound, weights_on, IsChoice}
+use Rattle.closing_search.proofs.KeptSums.{kept_are_whole}
 use Rattle.closing_search.proofs.SingleBounds.{bare_not_below}
 use Rattle.closing_search.proofs.Steps.{stop_below}
 
@@ -61,18 +63,21 @@ pub record IsNumber (cuts : List Cut) (number : Option ℕ) : Type 0 where
 pub number_of : (p : Problem) (kept : List Kept) (c : ℕ) → 1 ≤ c → c ≤ length kept → IsNumber (kept_cuts p kept) (Some c)
 number_of p kept c least most = record { least = least; most = omega (arith, length-map kept (kept_cut p), most) }
 
-pub mix_on : (cuts : List Cut) (number : Option ℕ) → IsNumber cuts number → IsMix cuts denominator (weights_on number)
-mix_on cuts None is = record {
+mix_on : (cuts : List Cut) (number : Option ℕ) → AreWhole cuts → IsNumber cuts number
+    → IsMix cuts denominator (weights_on number)
+mix_on cuts None whole is = record {
   denom_least = omega arith;
   denom_most = omega arith;
   numbers = All-nil (λ (e : ℕ × ℕ). (1 ≤ e.0) × (e.0 ≤ length cuts));
+  multiples = whole_multiples cuts [] whole;
   most = omega arith;
 }
-mix_on cuts (Some c) is = record {
+mix_on cuts (Some c) whole is = record {
   denom_least = omega arith;
   denom_most = omega arith;
   numbers = All-cons (λ (e : ℕ × ℕ). (1 ≤ e.0) × (e.0 ≤ length cuts)) (c, denominator) [] (is.least, is.most)
       (All-nil (λ (e : ℕ × ℕ). (1 ≤ e.0) × (e.0 ≤ length cuts)));
+  multiples = whole_multiples cuts (whole_on c) whole;
   most = omega arith;
 }
 
@@ -88,10 +93,12 @@ weights_in_range cuts (Some c) few is = record {
       (All-nil (λ (e : ℕ × ℕ). (1 ≤ e.0) × (e.0 < 10 ^ 30) × (1 ≤ e.1) × (e.1 < 10 ^ 30)));
 }
 
-pub leaf_sound : (p : Problem) (cuts : List Cut) (target : ℕ) (b : Branching) (number : Option ℕ) (line : TreeLine) → IsNumber cuts number
-    → line ≡ leaf_of denominator (weights_on number) → Closes denominator target (leaf_bound p cuts denominator (weights_on number) b)
-    → IsSoundLine p cuts target b line
-leaf_sound p cuts target b number line is same closes = rw same (mix_on cuts number is, closes)
+pub leaf_sound : (p : Problem) (kept : List Kept) (target : ℕ) (b : Branching) (number : Option ℕ) (line : TreeLine)
+    → IsProblem p → IsNumber (kept_cuts p kept) number → line ≡ leaf_of denominator (weights_on number)
+    → Closes denominator target (leaf_bound p (kept_cuts p kept) denominator (weights_on number) b)
+    → IsSoundLine p (kept_cuts p kept) target b line
+leaf_sound p kept target b number line ok is same closes =
+    rw same (any_room p b ok.any_number, mix_on (kept_cuts p kept) number (kept_are_whole p kept) is, closes)
 
 pub leaf_in_range : (n : ℕ) (cuts : List Cut) (number : Option ℕ) (line : TreeLine) → length cuts ≤ most_cuts → IsNumber cuts number
     → line ≡ leaf_of denominator (weights_on number) → IsLineInRange n line

@@ -1,5 +1,5 @@
 -- What a search found, as a certificate that holds.
-use Rattle.std.proofs.Common.{◌≡◌, ℕ, ◌+◌, ◌^◌, ◌<◌, ◌≤◌, pos, List, [], ◌∷◌, length, map, All, Option, None, Some, IsSome, IsNone, is_some, true≢false, refl, sym, ap, subst, ◌∙◌, arith}
+use Rattle.std.proofs.Common.{◌≡◌, ℕ, ◌+◌, ◌^◌, ◌<◌, ◌≤◌, List, [], ◌∷◌, length, All, Option, None, Some, IsSome, IsNone, ◌⊎◌, is_some, true≢false, refl, sym, ap, subst, ◌∙◌, arith}
 use Rattle.std.specs.List.{AllZip}
 use Rattle.std.proofs.lemmas.List.{length-map}
 use Rattle.std.proofs.lemmas.List.Elements.{All-nil, All-cons, All-weaker, All-map, All-contains_itself}
@@ -10,7 +10,7 @@ use Rattle.hub_spec.specs.Plans.{Plan, IsHubSet, IsSetCost, IsLeastRoute, IsPlan
 use Rattle.hub_spec.specs.Cuts.{IsCut}
 use Rattle.hub_spec.specs.Trees.{root, Tree, preorder, IsSound}
 use Rattle.hub_spec.specs.Certificates.{Holds}
-use Rattle.hub_spec.specs.Ranges.{IsCutInRange, IsLineInRange, IsInRange}
+use Rattle.hub_spec.specs.Ranges.{IsCutInRange, IsLineInRange, IsSecond, IsInRange}
 use Rattle.hub_spec.proofs.Commodities.{length_commodities}
 use Rattle.hub_spec.proofs.Limits.{AreNodes, few_candidates, hubs_are_nodes, least_route_nodes, plan_cost_limit}
 use Rattle.hub_spec.proofs.Preorders.{length-preorder}
@@ -19,6 +19,7 @@ use Rattle.hub_spec.proofs.WeakDuality.{no_plan_below_bound}
 use Rattle.plan_model.specs.Lines.{tree_line_of}
 use Rattle.search_spec.specs.States.{lesser}
 use Rattle.search_spec.specs.Findings.{AreWithin, IsSpent, IsEnough}
+use Rattle.search_spec.proofs.Bounds.{any_wanted}
 use Rattle.search_spec.proofs.Invariants.{lesser_least}
 use Rattle.tree_walks.specs.Walks.{Walks}
 use Rattle.tree_walks.proofs.Walking.{is_tree}
@@ -26,6 +27,7 @@ use Rattle.kept_cuts.specs.Kept.{Kept, kept_cut, kept_cuts, IsKeptFor}
 use Rattle.kept_cuts.specs.declared.found.Found.{Found}
 use Rattle.kept_cuts.specs.Findings.{lines_of, proof_of, IsProved}
 use Rattle.kept_cuts.proofs.KeptCutLaws.{kept_is_cut, kept_in_range}
+use Rattle.kept_cuts.proofs.Versions.{has_text}
 use Rattle.search_core.specs.Tasks.{AreFixedCosts}
 use Rattle.search_core.specs.declared.tasks.Task.{Task}
 use Rattle.closing_search.specs.declared.progress.Progress.{Progress}
@@ -74,15 +76,16 @@ module _ (t : Task) (s : Progress) (found : Found) (over : IsOver t s) (is : IsF
   pub found_within : found.bound ≤ found.cost
   found_within = omega (arith, is.bound, is.cost, lesser_least s.cost s.stop)
 
-  found_holds : (h : HasTree t.instance.now found) → Holds t.instance.now (proof_of t.instance.now found h.tree)
-  found_holds h =
+  found_holds : (h : HasTree t.instance.now found) (version : ℕ)
+      → Holds t.instance.now (proof_of version t.instance.now found h.tree)
+  found_holds h version =
       let p = t.instance.now in
       record {
         size = refl;
         candidates = refl;
         bound = found_within;
         plan = found_plan;
-        wanted = tt;
+        wanted = any_wanted p found.plan.hubs over.going.costs.problem.any_number;
         cost = found_cost;
         cuts = All-map (IsCut p) (kept_cut p) found.cuts.cuts
             (All-weaker (IsKeptFor p) (λ (k : Kept). IsCut p (kept_cut p k)) (λ k fits. kept_is_cut p k over.going.costs.problem fits)
@@ -90,14 +93,16 @@ module _ (t : Task) (s : Progress) (found : Found) (over : IsOver t s) (is : IsF
         tree = h.sound;
       }
 
-  found_in_range : (h : HasTree t.instance.now found) → IsInRange (proof_of t.instance.now found h.tree)
-  found_in_range h =
+  found_in_range : (h : HasTree t.instance.now found) (version : ℕ) → (version ≡ 1) ⊎ IsSecond version
+      → IsInRange (proof_of version t.instance.now found h.tree)
+  found_in_range h version there =
       let p = t.instance.now in
       let ok = over.going.costs.problem in
       let cost = plan_cost_limit p found.plan ok found_plan in
       let nodes = least_route_nodes p found.plan.hubs (commodities p.size) found.plan.routes ok.limits found_set is.routes in
       let lines : All (IsLineInRange p.size) (lines_of found.tree.items) = rw is.lines over.going.in_range in
       record {
+        version = has_text p found h.tree version ok found_kept (sym h.lines) there;
         some_node = ok.some_node;
         size = ok.size_limit;
         some_candidate = ok.some_candidate;
@@ -132,7 +137,8 @@ module _ (t : Task) (s : Progress) (found : Found) (over : IsOver t s) (is : IsF
   pub found_below : NoPlanBelow t.instance.now found.bound
   found_below =
       let h = found_tree t s found over is in
-      no_plan_below_bound t.instance.now (proof_of t.instance.now found h.tree) over.going.costs.problem (found_holds h)
+      let p = t.instance.now in
+      no_plan_below_bound p (proof_of 1 p found h.tree) over.going.costs.problem (found_holds h 1)
 
   found_made : length found.tree.items ≡ s.made
   found_made = ap length is.lines ∙ over.lines

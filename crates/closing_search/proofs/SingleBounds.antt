@@ -1,53 +1,72 @@
 -- The bound of a branch by one cut alone, and by none.
-use Rattle.std.proofs.Common.{◌≡◌, ℕ, ◌+◌, ◌<◌, ◌≤◌, ℤ, pos, ◌≤ℤ◌, List, [], ◌∷◌, length, map, get_or, All, Contains, refl, sym, ap, subst, ◌∙◌, true≢false, arith}
+use Rattle.std.proofs.Common.{◌≡◌, ℕ, ◌-◌, ◌*◌, ◌<◌, ◌≤◌, ℤ, pos, ◌≤ℤ◌, List, [], ◌∷◌, length, map, get_or, sum_by, All, Contains, Option, Some, None, refl, sym, ap, ap₂, subst, ◌∙◌, true≢false, arith}
 use Rattle.std.specs.List.{AllZip}
 use Rattle.std.specs.Int.{int_min}
 use Rattle.std.proofs.lemmas.Int.{ints, clamps}
 use Rattle.std.proofs.lemmas.List.{length-map}
 use Rattle.std.proofs.lemmas.List.Elements.{All-nil, All-cons, All-weaker, All-map, All-from_get_or, All-contains}
-use Rattle.hub_spec.specs.Limits.{most_cost, most_fixed_cost}
+use Rattle.std.proofs.lemmas.List.Sums.{sum_by-cons}
+use Rattle.hub_spec.specs.Limits.{most_part, most_cost, most_fixed_cost}
 use Rattle.hub_spec.specs.Sums.{sum_ints}
 use Rattle.hub_spec.specs.Problem.{Problem, IsProblem, fixed_cost, commodities}
 use Rattle.hub_spec.specs.Cuts.{Prices, value_at, IsDual, Cut, load, IsCut}
-use Rattle.hub_spec.specs.Trees.{Branching, IsBranch, mixed_gain, leaf_bound}
+use Rattle.hub_spec.specs.Trees.{Branching, IsBranch, mixed_total, mixed_gain, bound_by, leaf_bound}
+use Rattle.hub_spec.proofs.LeastSums.{least_not_below}
 use Rattle.hub_spec.proofs.SumLemmas.{by_test}
-use Rattle.std.proofs.lemmas.List.Sums.{sum_by-cons}
 use Rattle.hub_spec.proofs.Sets.{is_in, is_in-yes, Contains-from_is_in}
 use Rattle.hub_spec.proofs.SetCuts.{unlisted_value}
 use Rattle.hub_spec.proofs.Mixes.{candidate_is_node}
-use Rattle.hub_model.specs.Amounts.{IsNatural}
+use Rattle.hub_model.specs.Amounts.{natural, IsNatural}
 use Rattle.hub_model.proofs.Signs.{natural-pos}
+use Rattle.leaf_bound.specs.declared.weightings.Weighting as lent
 use Rattle.leaf_bound.specs.Bounds.{bound_of}
-use Rattle.leaf_bound.specs.Numbers.{naturals, IsCost, AreWeightingNumbers, IsBranchBelow, weighting_of}
-use Rattle.leaf_bound.specs.Theorems.{IsWeightingOf}
+use Rattle.leaf_bound.specs.Numbers.{naturals, IsCost, IsSumOf, AreWeightingNumbers, IsBranchBelow, weighting_of}
+use Rattle.leaf_bound.specs.Theorems.{weight_pairs, AreLoadsOf, IsWeightingOf}
 use Rattle.leaf_bound.proofs.LeafWeights.{leaf_has_bound}
 use Rattle.search_spec.specs.States.{denominator}
 use Rattle.search_core.specs.Tasks.{AreFixedCosts}
-use Rattle.closing_search.specs.SingleCuts.{AreLoads, AreSumsOf, cut_bound}
+use Rattle.closing_search.specs.SingleCuts.{AreLoads, IsOnCut, IsOnNone, cut_bound}
 
 -- ---- the loads of a cut are within their limit, at each node
 
-no_loads : (p : Problem) (k : ℕ) (cs : List (ℕ × ℕ)) (duals : List Prices) → (Contains p.candidates k → ⊥) → AllZip (IsDual p) cs duals
-    → load (record { duals = duals }) k ≡ 0
-no_loads p k [] [] none are = refl
-no_loads p k [] (d ∷ ds) none are = absurd are
-no_loads p k (c ∷ cs) [] none are = absurd are
-no_loads p k (c ∷ cs) (d ∷ ds) none are =
+no_loads : (p : Problem) (k part : ℕ) (cs : List (ℕ × ℕ)) (duals : List Prices) → (Contains p.candidates k → ⊥)
+    → AllZip (IsDual p part) cs duals → sum_by (λ (d : Prices). value_at d.u k) duals ≡ 0
+no_loads p k part [] [] none are = refl
+no_loads p k part [] (d ∷ ds) none are = absurd are
+no_loads p k part (c ∷ cs) [] none are = absurd are
+no_loads p k part (c ∷ cs) (d ∷ ds) none are =
     let here = unlisted_value p.candidates d.u k are.0.are_candidates none in
-    rw (sum_by-cons (λ (x : Prices). value_at x.u k) d ds) (omega (arith, here, no_loads p k cs ds none are.1))
+    rw (sum_by-cons (λ (x : Prices). value_at x.u k) d ds) (omega (arith, here, no_loads p k part cs ds none are.1))
 
-pub load_within : (p : Problem) (cut : Cut) (k : ℕ) → IsCut p cut → load cut k ≤ most_cost
-load_within p cut k is =
+load_within : (p : Problem) (cut : Cut) (k : ℕ) → IsCut p cut → cut.part ≡ 1 → load cut k ≤ most_cost
+load_within p cut k is whole =
+    let times = ap (λ (e : ℕ). e * most_cost) whole in
+    let limit = is.sums.load_limit in
     by_test (is_in p.candidates k)
-    (λ e. All-contains (λ m. load cut m ≤ most_cost) p.candidates k is.sums.load_limit (Contains-from_is_in p.candidates k e))
-    (λ e. let none = no_loads p k (commodities p.size) cut.duals (λ c. absurd (true≢false (sym (is_in-yes p.candidates k c) ∙ e))) is.duals in omega (arith, none))
+    (λ e. let here = Contains-from_is_in p.candidates k e in
+    let low = All-contains (λ m. load cut m ≤ cut.part * most_cost) p.candidates k limit here in
+    omega (arith, low, times))
+    (λ e. let outside : Contains p.candidates k → ⊥ = λ c. absurd (true≢false (sym (is_in-yes p.candidates k c) ∙ e)) in
+    let none = no_loads p k cut.part (commodities p.size) cut.duals outside is.duals in omega (arith, none))
+
+pub loads_within : (p : Problem) (cut : Cut) (sum : ℕ) (loads : List ℕ) → AreLoads p cut sum loads
+    → All (λ l. l ≤ most_cost) loads
+loads_within p cut sum loads are =
+    All-from_get_or (λ (l : ℕ). l ≤ most_cost) loads 0
+    (λ k low. let node : k < p.size = omega (arith, low, are.long) in
+    omega (arith, are.are_loads k node, load_within p cut k are.is_cut are.whole))
+
+pub total_within : (p : Problem) (cut : Cut) (sum : ℕ) (loads : List ℕ) → AreLoads p cut sum loads → sum ≤ most_cost
+total_within p cut sum loads are =
+    let times = ap (λ (e : ℕ). e * most_cost) are.whole in
+    omega (arith, are.is_total, are.is_cut.sums.total_limit, times)
 
 -- ---- numbers
 
-is_cost : (n : ℕ) → n ≤ most_cost → IsCost (pos n)
-is_cost n low = (omega (arith, ints), omega (arith, ints, low))
+is_sum : (n : ℕ) → n ≤ most_cost → IsSumOf 1 (pos n)
+is_sum n low = (omega (arith, ints), omega (arith, ints, low))
 
-pub fixed_long : (p : Problem) (fixed : List ℤ) → AreFixedCosts p fixed → length fixed ≡ p.size
+fixed_long : (p : Problem) (fixed : List ℤ) → AreFixedCosts p fixed → length fixed ≡ p.size
 fixed_long p fixed are = ap length are.costs ∙ length-map p.fixed_costs pos ∙ are.problem.cost_for_each_node
 
 fixed_are_costs : (p : Problem) (fixed : List ℤ) → AreFixedCosts p fixed → All IsCost fixed
@@ -66,92 +85,111 @@ below_size p b ok is = record {
   free = nodes_below p b.free ok is.free_are;
 }
 
-pub branch_below : (p : Problem) (fixed : List ℤ) (b : Branching) → AreFixedCosts p fixed → IsBranch p b → IsBranchBelow (length fixed) b
-branch_below p fixed b costs is =
-    subst (λ (n : ℕ). IsBranchBelow n b) (sym (fixed_long p fixed costs)) (below_size p b costs.problem is)
+pub branch_below : (p : Problem) (fixed : List ℤ) (m : lent.Weighting) (b : Branching) → AreFixedCosts p fixed
+    → m.fixed.now ≡ fixed → IsBranch p b → IsBranchBelow (length m.fixed.now) b
+branch_below p fixed m b costs same is =
+    let long : length m.fixed.now ≡ p.size = ap length same ∙ fixed_long p fixed costs in
+    subst (λ (n : ℕ). IsBranchBelow n b) (sym long) (below_size p b costs.problem is)
 
-row_costs : (p : Problem) (cut : Cut) (sum : ℕ) (loads : List ℕ) → AreLoads p cut sum loads → All IsCost (map pos loads)
-row_costs p cut sum loads are =
-    All-map IsCost pos loads (All-from_get_or (λ (x : ℕ). IsCost (pos x)) loads 0
+row_sums : (p : Problem) (cut : Cut) (sum : ℕ) (loads : List ℕ) → AreLoads p cut sum loads
+    → All (IsSumOf 1) (map pos loads)
+row_sums p cut sum loads are =
+    All-map (IsSumOf 1) pos loads (All-from_get_or (λ (x : ℕ). IsSumOf 1 (pos x)) loads 0
     (λ k low. let node : k < p.size = omega (arith, low, are.long) in
-    is_cost (get_or loads k 0) (omega (arith, are.are_loads k node, load_within p cut k are.is_cut))))
+    is_sum (get_or loads k 0) (omega (arith, are.are_loads k node, load_within p cut k are.is_cut are.whole))))
 
-numbers_of : (p : Problem) (cut : Cut) (sum : ℕ) (loads : List ℕ) (fixed : List ℤ) → AreFixedCosts p fixed → AreLoads p cut sum loads
-    → AreWeightingNumbers (pos sum ∷ []) (map pos loads ∷ []) fixed (pos 1000000 ∷ []) (pos 1000000)
-numbers_of p cut sum loads fixed costs are = record {
-  some_nodes = omega (arith, fixed_long p fixed costs, costs.problem.size_limit);
-  one_load_each = refl;
-  few_weights = omega arith;
-  are_totals = All-cons IsCost (pos sum) [] (is_cost sum (omega (arith, are.is_total, are.is_cut.sums.total_limit))) (All-nil IsCost);
-  are_loads = All-cons (λ (row : List ℤ). (length row ≡ length fixed) × All IsCost row) (map pos loads) []
-      (length-map loads pos ∙ are.long ∙ sym (fixed_long p fixed costs), row_costs p cut sum loads are)
-      (All-nil (λ (row : List ℤ). (length row ≡ length fixed) × All IsCost row));
-  are_fixed_costs = fixed_are_costs p fixed costs;
-  are_weights = All-cons IsNatural (pos 1000000) [] (omega (arith, ints)) (All-nil IsNatural);
-  weights_limit = omega arith;
-  denom_least = omega (arith, ints);
-  denom_most = omega (arith, ints);
-}
+-- the limits of a part
+abbrev IsPart : ℕ → Type 0
+IsPart part = (1 ≤ part) × (part ≤ most_part)
 
-pub single_numbers : (p : Problem) (cut : Cut) (totals : List ℤ) (rows : List (List ℤ)) (fixed : List ℤ) → AreFixedCosts p fixed
-    → AreSumsOf p cut totals rows → AreWeightingNumbers totals rows fixed (pos 1000000 ∷ []) (pos 1000000)
-single_numbers p cut totals rows fixed costs sums =
-    rw (sums.totals_are, sums.rows_are) (numbers_of p cut sums.sum sums.loads fixed costs sums.are)
+pub cut_numbers : (p : Problem) (cut : Cut) (fixed : List ℤ) (m : lent.Weighting) → AreFixedCosts p fixed
+    → IsOnCut p cut fixed m → AreWeightingNumbers m
+cut_numbers p cut fixed m costs on =
+    let ns = on.lent_of in
+    let n = length m.fixed.now in
+    let long : n ≡ p.size = ap length on.fixed_are ∙ fixed_long p fixed costs in
+    record {
+      some_nodes = omega (arith, long, costs.problem.size_limit);
+      few_weights = omega (arith, ap length on.weights_are, ap length ns.totals_are);
+      are_parts = subst (All IsPart) (sym ns.parts_are)
+          (All-cons IsPart 1 [] (omega arith, omega arith) (All-nil IsPart));
+      are_totals = rw (ns.parts_are, ns.totals_are) (is_sum ns.sum (total_within p cut ns.sum ns.loads ns.are), tt);
+      are_loads = rw (ns.parts_are, ns.rows_are)
+          ((length-map ns.loads pos ∙ ns.are.long ∙ sym long, row_sums p cut ns.sum ns.loads ns.are), tt);
+      are_fixed_costs = subst (All IsCost) (sym on.fixed_are) (fixed_are_costs p fixed costs);
+      are_weights = subst (All IsNatural) (sym on.weights_are)
+          (All-cons IsNatural (pos denominator) [] (omega (arith, ints)) (All-nil IsNatural));
+      are_multiples = rw (on.weights_are, ns.parts_are) (refl, tt);
+      weights_limit = rw (on.weights_are, on.denom_is) (omega arith);
+      denom_least = rw on.denom_is (omega (arith, ints));
+      denom_most = rw on.denom_is (omega (arith, ints));
+    }
 
-pub bare_numbers : (p : Problem) (fixed : List ℤ) → AreFixedCosts p fixed → AreWeightingNumbers [] [] fixed [] (pos 1000000)
-bare_numbers p fixed costs = record {
-  some_nodes = omega (arith, fixed_long p fixed costs, costs.problem.size_limit);
-  one_load_each = refl;
-  few_weights = omega arith;
-  are_totals = All-nil IsCost;
-  are_loads = All-nil (λ (row : List ℤ). (length row ≡ length fixed) × All IsCost row);
-  are_fixed_costs = fixed_are_costs p fixed costs;
-  are_weights = All-nil IsNatural;
-  weights_limit = omega arith;
-  denom_least = omega (arith, ints);
-  denom_most = omega (arith, ints);
+pub none_numbers : (p : Problem) (fixed : List ℤ) (m : lent.Weighting) → AreFixedCosts p fixed → IsOnNone fixed m
+    → AreWeightingNumbers m
+none_numbers p fixed m costs on = record {
+  some_nodes = omega (arith, ap length on.fixed_are, fixed_long p fixed costs, costs.problem.size_limit);
+  few_weights = omega (arith, ap length on.weights_are);
+  are_parts = subst (All IsPart) (sym on.parts_are) (All-nil IsPart);
+  are_totals = rw (on.parts_are, on.totals_are) tt;
+  are_loads = rw (on.parts_are, on.rows_are) tt;
+  are_fixed_costs = subst (All IsCost) (sym on.fixed_are) (fixed_are_costs p fixed costs);
+  are_weights = subst (All IsNatural) (sym on.weights_are) (All-nil IsNatural);
+  are_multiples = rw on.weights_are tt;
+  weights_limit = rw on.weights_are (omega arith);
+  denom_least = rw on.denom_is (omega (arith, ints));
+  denom_most = rw on.denom_is (omega (arith, ints));
 }
 
 -- ---- bounds
 
-fixed_at : (p : Problem) (fixed : List ℤ) (k : ℕ) → AreFixedCosts p fixed → get_or (naturals fixed) k 0 ≡ fixed_cost p k
+fixed_at : (p : Problem) (fixed costs : List ℤ) (k : ℕ) → AreFixedCosts p fixed → costs ≡ fixed
+    → get_or (naturals costs) k 0 ≡ fixed_cost p k
 unfolding fixed_cost
-fixed_at p fixed k are = ap (λ (xs : List ℕ). get_or xs k 0) (ap naturals are.costs ∙ natural-pos p.fixed_costs)
+fixed_at p fixed costs k are same =
+    ap (λ (xs : List ℕ). get_or xs k 0) (ap naturals (same ∙ are.costs) ∙ natural-pos p.fixed_costs)
 
-weighting_is : (p : Problem) (cut : Cut) (sum : ℕ) (loads : List ℕ) (fixed : List ℤ) → AreFixedCosts p fixed → AreLoads p cut sum loads
-    → IsWeightingOf p (cut ∷ []) (weighting_of (pos sum ∷ []) (map pos loads ∷ []) fixed (pos 1000000 ∷ []) (pos 1000000))
-weighting_is p cut sum loads fixed costs are = record {
-  totals = ap (λ (x : ℕ). x ∷ []) are.is_total;
-  loads = (λ k node. ap (λ (row : List ℕ). get_or row k 0) (natural-pos loads) ∙ are.are_loads k node, tt);
-  fixed = λ k node. fixed_at p fixed k costs;
-  few_weights = omega arith;
+on_cut : (p : Problem) (cut : Cut) (fixed : List ℤ) (m : lent.Weighting) → AreFixedCosts p fixed → IsOnCut p cut fixed m
+    → IsWeightingOf p (cut ∷ []) (weighting_of m)
+on_cut p cut fixed m costs on =
+    let ns = on.lent_of in
+    record {
+      totals = ap naturals ns.totals_are ∙ ap (λ (x : ℕ). x ∷ []) ns.are.is_total;
+      loads = subst (λ (rows : List (List ℤ)). AllZip (AreLoadsOf p) (cut ∷ []) (map naturals rows)) (sym ns.rows_are)
+          (λ k node. ap (λ (row : List ℕ). get_or row k 0) (natural-pos ns.loads) ∙ ns.are.are_loads k node, tt);
+      fixed = λ k node. fixed_at p fixed m.fixed.now k costs on.fixed_are;
+      parts = ns.parts_are ∙ ap (λ (e : ℕ). e ∷ []) (sym ns.are.whole);
+      few_weights = omega (arith, length-map m.weights.now natural, ap length on.weights_are);
+    }
+
+-- the bound by these weights, as they are lent
+lent_bound : (p : Problem) (cuts : List Cut) (m : lent.Weighting) (ws : List ℤ) (b : Branching) → IsProblem p
+    → IsBranch p b → IsWeightingOf p cuts (weighting_of m) → m.weights.now ≡ ws → m.denom ≡ pos denominator
+    → bound_of (weighting_of m) b ≡ leaf_bound p cuts denominator (weight_pairs (naturals ws)) b
+lent_bound p cuts m ws b ok is on weights denom =
+    sym (leaf_has_bound p cuts (weighting_of m) b ok.any_number on (below_size p b ok is))
+    ∙ ap₂ (λ (d : ℕ) (xs : List ℤ). leaf_bound p cuts d (weight_pairs (naturals xs)) b) (ap natural denom) weights
+
+pub cut_bound_is : (p : Problem) (cut : Cut) (fixed : List ℤ) (m : lent.Weighting) (b : Branching)
+    → AreFixedCosts p fixed → IsBranch p b → IsOnCut p cut fixed m → bound_of (weighting_of m) b ≡ cut_bound p cut b
+cut_bound_is p cut fixed m b costs is on =
+    lent_bound p (cut ∷ []) m (pos denominator ∷ []) b costs.problem is (on_cut p cut fixed m costs on) on.weights_are
+    on.denom_is
+
+on_none : (p : Problem) (fixed : List ℤ) (m : lent.Weighting) → AreFixedCosts p fixed → IsOnNone fixed m
+    → IsWeightingOf p [] (weighting_of m)
+on_none p fixed m costs on = record {
+  totals = ap naturals on.totals_are;
+  loads = subst (λ (rows : List (List ℤ)). AllZip (AreLoadsOf p) [] (map naturals rows)) (sym on.rows_are) tt;
+  fixed = λ k node. fixed_at p fixed m.fixed.now k costs on.fixed_are;
+  parts = on.parts_are;
+  few_weights = omega (arith, length-map m.weights.now natural, ap length on.weights_are);
 }
 
-single_is_of : (p : Problem) (cut : Cut) (sum : ℕ) (loads : List ℕ) (fixed : List ℤ) (b : Branching) → AreFixedCosts p fixed
-    → AreLoads p cut sum loads → IsBranch p b
-    → bound_of (weighting_of (pos sum ∷ []) (map pos loads ∷ []) fixed (pos 1000000 ∷ []) (pos 1000000)) b ≡ cut_bound p cut b
-single_is_of p cut sum loads fixed b costs are is =
-    sym (leaf_has_bound p (cut ∷ []) (weighting_of (pos sum ∷ []) (map pos loads ∷ []) fixed (pos 1000000 ∷ []) (pos 1000000)) b
-    (weighting_is p cut sum loads fixed costs are) (below_size p b costs.problem is))
-
-pub single_is : (p : Problem) (cut : Cut) (totals : List ℤ) (rows : List (List ℤ)) (fixed : List ℤ) (b : Branching) → AreFixedCosts p fixed
-    → IsBranch p b → AreSumsOf p cut totals rows
-    → bound_of (weighting_of totals rows fixed (pos 1000000 ∷ []) (pos 1000000)) b ≡ cut_bound p cut b
-single_is p cut totals rows fixed b costs is sums =
-    rw (sums.totals_are, sums.rows_are) (single_is_of p cut sums.sum sums.loads fixed b costs sums.are is)
-
-bare_weighting : (p : Problem) (fixed : List ℤ) → AreFixedCosts p fixed → IsWeightingOf p [] (weighting_of [] [] fixed [] (pos 1000000))
-bare_weighting p fixed costs = record {
-  totals = refl;
-  loads = tt;
-  fixed = λ k node. fixed_at p fixed k costs;
-  few_weights = omega arith;
-}
-
-pub bare_is : (p : Problem) (fixed : List ℤ) (b : Branching) → AreFixedCosts p fixed → IsBranch p b
-    → bound_of (weighting_of [] [] fixed [] (pos 1000000)) b ≡ leaf_bound p [] denominator [] b
-bare_is p fixed b costs is =
-    sym (leaf_has_bound p [] (weighting_of [] [] fixed [] (pos 1000000)) b (bare_weighting p fixed costs) (below_size p b costs.problem is))
+pub none_bound_is : (p : Problem) (fixed : List ℤ) (m : lent.Weighting) (b : Branching) → AreFixedCosts p fixed
+    → IsBranch p b → IsOnNone fixed m → bound_of (weighting_of m) b ≡ leaf_bound p [] denominator [] b
+none_bound_is p fixed m b costs is on =
+    lent_bound p [] m [] b costs.problem is (on_none p fixed m costs on) on.weights_are on.denom_is
 
 -- ---- the bound by no cut is not below 0
 
@@ -163,20 +201,12 @@ no_losses : (p : Problem) (ks : List ℕ) → pos 0 ≤ℤ sum_ints (λ k. int_m
 no_losses p [] = omega (arith, ints)
 no_losses p (k ∷ ks) = omega (arith, ints, clamps, no_losses p ks)
 
+bare_by : (p : Problem) (wanted : Option ℕ) (b : Branching)
+    → pos 0 ≤ℤ bound_by wanted (mixed_total [] []) (mixed_gain p [] denominator []) b
+bare_by p None b = omega (arith, ints, no_gains p b.inside, no_losses p b.free)
+bare_by p (Some n) b =
+    let g = mixed_gain p [] denominator [] in
+    omega (arith, ints, no_gains p b.inside, least_not_below (n - length b.inside) g b.free (λ k. omega (arith, ints)))
+
 pub bare_not_below : (p : Problem) (b : Branching) → pos 0 ≤ℤ leaf_bound p [] denominator [] b
-bare_not_below p b = omega (arith, ints, no_gains p b.inside, no_losses p b.free)
-
--- ---- the sums of one
-
-pub sums_of : (p : Problem) (cut : Cut) (sum : ℕ) (loads : List ℕ) (totals : List ℤ) (rows : List (List ℤ)) → AreLoads p cut sum loads
-    → totals ≡ pos sum ∷ [] → rows ≡ map pos loads ∷ [] → AreSumsOf p cut totals rows
-sums_of p cut sum loads totals rows are totals_are rows_are =
-    record { sum = sum; loads = loads; are = are; totals_are = totals_are; rows_are = rows_are }
-
-pub loads_within : (p : Problem) (cut : Cut) (sum : ℕ) (loads : List ℕ) → AreLoads p cut sum loads → All (λ l. l ≤ most_cost) loads
-loads_within p cut sum loads are =
-    All-from_get_or (λ (l : ℕ). l ≤ most_cost) loads 0
-    (λ k low. let node : k < p.size = omega (arith, low, are.long) in omega (arith, are.are_loads k node, load_within p cut k are.is_cut))
-
-pub total_within : (p : Problem) (cut : Cut) (sum : ℕ) (loads : List ℕ) → AreLoads p cut sum loads → sum ≤ most_cost
-total_within p cut sum loads are = omega (arith, are.is_total, are.is_cut.sums.total_limit)
+bare_not_below p b = bare_by p p.wanted b

@@ -5,24 +5,44 @@ use Rattle.hub_spec.specs.Plans.{IsHubSet}
 use Rattle.hub_spec.specs.Cuts.{Cut, total, load, IsCut}
 use Rattle.hub_spec.specs.Separation.{IsOrder}
 use Rattle.hub_spec.specs.Trees.{Branching, leaf_bound, Closes}
+use Rattle.leaf_bound.specs.declared.weightings.Weighting as lent
+use Rattle.leaf_bound.specs.Numbers.{rows_of}
 use Rattle.search_spec.specs.States.{denominator, whole_on}
 use Rattle.closing_search.specs.declared.leaves.Choice.{Choice}
 use Rattle.closing_search.specs.declared.leaves.OrderedSet.{OrderedSet}
 
--- the total of a cut of the problem, and its load of each node
+-- the total of a cut of the problem with the part 1, and its load of each node
 pub record AreLoads (p : Problem) (cut : Cut) (sum : ℕ) (loads : List ℕ) : Type 0 where
   pub is_cut : IsCut p cut
+  pub whole : cut.part ≡ 1
   pub is_total : sum ≡ total cut
   pub long : length loads ≡ p.size
   pub are_loads : (k : ℕ) → k < p.size → slice_index loads k ≡ load cut k
 
--- the same, signed, in lists of one
-pub record AreSumsOf (p : Problem) (cut : Cut) (totals : List ℤ) (rows : List (List ℤ)) : Type 0 where
+-- the total, the loads and the part of the cut as they are lent, each in a list of one
+pub record AreLentOf (p : Problem) (cut : Cut) (totals : List ℤ) (rows : List (List ℤ)) (parts : List ℕ) : Type 0 where
   pub sum : ℕ
   pub loads : List ℕ
   pub are : AreLoads p cut sum loads
   pub totals_are : totals ≡ pos sum ∷ []
   pub rows_are : rows ≡ map pos loads ∷ []
+  pub parts_are : parts ≡ 1 ∷ []
+
+-- the weighting has these fixed costs, and the whole weight on the cut alone
+pub record IsOnCut (p : Problem) (cut : Cut) (fixed : List ℤ) (m : lent.Weighting) : Type 0 where
+  pub lent_of : AreLentOf p cut m.totals.now (rows_of m) m.parts.now
+  pub fixed_are : m.fixed.now ≡ fixed
+  pub weights_are : m.weights.now ≡ pos denominator ∷ []
+  pub denom_is : m.denom ≡ pos denominator
+
+-- the weighting has these fixed costs, and no cut
+pub record IsOnNone (fixed : List ℤ) (m : lent.Weighting) : Type 0 where
+  pub totals_are : m.totals.now ≡ []
+  pub rows_are : rows_of m ≡ []
+  pub parts_are : m.parts.now ≡ []
+  pub fixed_are : m.fixed.now ≡ fixed
+  pub weights_are : m.weights.now ≡ []
+  pub denom_is : m.denom ≡ pos denominator
 
 -- the bound of a branch by the cut alone
 abbrev pub cut_bound : Problem → Cut → Branching → ℤ

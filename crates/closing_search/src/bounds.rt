@@ -1,38 +1,63 @@
 //! The bound of one cut alone.
 
-ghost use Rattle.std.specs.Prelude.{◌≡◌, ◌≤◌, [], map, pos, IsTrue, length, All, IfOk};
-ghost use Rattle.hub_spec.specs.Cuts.{Cut, total};
+ghost use Rattle.std.specs.Prelude.{◌≡◌, ◌≤◌, [], map, length, IsTrue, IfOk};
+ghost use Rattle.hub_spec.specs.Cuts.{Cut};
 ghost use Rattle.hub_spec.specs.Trees.{IsBranch, leaf_bound, cut_at, Closes};
 ghost use Rattle.hub_spec.specs.Limits.{most_cost};
 ghost use Rattle.leaf_bound.specs.Weighing.{most_bound, IsWithin};
 ghost use Rattle.search_spec.specs.States.{denominator};
 ghost use Rattle.closing_search.specs.Progressing.{cuts_of, target_of, IsGoing};
-ghost use Rattle.closing_search.specs.SingleCuts.{AreSumsOf, AreLoads, cut_bound, ClosesBy};
+ghost use Rattle.closing_search.specs.SingleCuts.{AreLoads, AreLentOf, IsOnCut, IsOnNone, cut_bound, ClosesBy};
 ghost use Rattle.search_core.specs.Tasks.{AreFixedCosts};
 
 use crate::progress::{Progress, target};
 use crate::walk::Walk;
 use hub_model::signed;
+use kept_cuts::signed_row;
+use leaf_bound::{Weighting, bound, threshold};
 use plan_model::Branch;
 use search_core::{Task, WHOLE_WEIGHT};
-use std::alloc::{AllocError, Global};
+use std::alloc::AllocError;
 
-/// The bound of the branch by the cut of this total and these loads alone, in 10^-12 times the whole weight.
-pub(crate) fn single_bound(
-    task: &Task,
-    branch: &Branch,
-    totals: &[i128],
-    loads: &[Vec<i128>],
-) -> i128
-    requires costs { AreFixedCosts task.now.instance.now task.now.fixed.items }
-    requires branch { IsBranch task.now.instance.now branch.now }
-    requires sums { (cut : Cut) × AreSumsOf task.now.instance.now cut totals.now (map (λ v. v.items) loads.now) }
-    ensures bound { (cut : Cut) → AreSumsOf task.now.instance.now cut totals.now (map (λ v. v.items) loads.now)
-        → result ≡ cut_bound task.now.instance.now cut branch.now }
-    ensures limit { IsWithin most_bound result }
+/// The whole weight, on one cut.
+static WHOLE: [i128; 1] = [WHOLE_WEIGHT as i128];
+
+/// The part of each cut whose sums the bench works out.
+static PART: [u32; 1] = [1];
+
+// What the bound by one cut is made of: its numbers, each in a list of one, and the whole weight on it.
+fn cut_weighting<'a>(
+    task: &'a Task,
+    totals: &'a [i128],
+    loads: &'a [Vec<i128>],
+    parts: &'a [u32],
+) -> Weighting<'a>
+    ensures { let p = task.now.instance.now in
+        (cut : Cut) → AreLentOf p cut totals.now (map (λ v. v.items) loads.now) parts.now
+        → IsOnCut p cut task.now.fixed.items result }
 {
-    let whole = WHOLE_WEIGHT as i128;
-    leaf_bound::bound(totals, loads, &task.fixed, &[whole], whole, branch)
+    Weighting {
+        totals,
+        loads,
+        parts,
+        fixed: &task.fixed,
+        weights: &WHOLE,
+        denom: WHOLE_WEIGHT as i128,
+    }
+}
+
+// What the bound by no cut is made of.
+fn bare_weighting<'a>(task: &'a Task) -> Weighting<'a>
+    ensures { IsOnNone task.now.fixed.items result }
+{
+    Weighting {
+        totals: &[],
+        loads: &[],
+        parts: &[],
+        fixed: &task.fixed,
+        weights: &[],
+        denom: WHOLE_WEIGHT as i128,
+    }
 }
 
 /// The bound of the branch by no cut.
@@ -42,7 +67,7 @@ pub(crate) fn bare_bound(task: &Task, branch: &Branch) -> i128
     ensures bound { result ≡ leaf_bound task.now.instance.now [] denominator [] branch.now }
     ensures limit { IsWithin most_bound result }
 {
-    leaf_bound::bound(&[], &[], &task.fixed, &[], WHOLE_WEIGHT as i128, branch)
+    bound(&bare_weighting(task), branch)
 }
 
 /// The bound of the branch by the kept cut of this number alone.
@@ -57,7 +82,8 @@ pub(crate) fn kept_bound(task: &Task, branch: &Branch, progress: &Progress, numb
     let start = (number - 1) as usize;
     let totals = &progress.cuts.totals()[start..start + 1];
     let loads = &progress.cuts.loads()[start..start + 1];
-    single_bound(task, branch, totals, loads)
+    let parts = &progress.cuts.parts()[start..start + 1];
+    bound(&cut_weighting(task, totals, loads, parts), branch)
 }
 
 impl Walk<'_> {
@@ -73,8 +99,9 @@ impl Walk<'_> {
     {
         let row = signed_row(self.alloc, self.bench.loads())?;
         let rows = vec![in self.alloc; row]?;
-        let bound = single_bound(self.task, branch, &[signed(total)], &rows);
-        Ok(is_above(bound, target(&self.progress)))
+        let totals = [signed(total)];
+        let weighting = cut_weighting(self.task, &totals, &rows, &PART);
+        Ok(is_above(bound(&weighting, branch), target(&self.progress)))
     }
 }
 
@@ -83,17 +110,5 @@ pub(crate) fn is_above(bound: i128, target: u128) -> bool
     requires target { target ≤ most_cost }
     ensures { IsTrue result → Closes denominator target bound }
 {
-    bound > leaf_bound::threshold(WHOLE_WEIGHT as i128, signed(target))
-}
-
-// The same amounts, signed.
-fn signed_row(alloc: Global, amounts: &[u128]) -> Result<Vec<i128>, AllocError>
-    requires { All (λ l. l ≤ most_cost) amounts.now }
-    ensures { IfOk result (λ row. row.items ≡ map pos amounts.now) }
-{
-    let mut row = Vec::with_capacity(alloc, amounts.len())?;
-    for amount in amounts {
-        row.push(signed(*amount))?;
-    }
-    Ok(row)
+    bound > threshold(WHOLE_WEIGHT as i128, signed(target))
 }

@@ -1,23 +1,22 @@
-use Rattle.std.proofs.Common.{List, ap, ◌∙◌, pos, FitsSigned, rules}
-use Rattle.std.specs.Prelude.{ℤ, []}
+use Rattle.std.proofs.Common.{◌∙◌, FitsSigned, rules}
 use Rattle.std.specs.Int.{w128}
 use Rattle.std.proofs.lemmas.Int.{to_z-of_z}
-use Rattle.leaf_bound.specs.Numbers.{weighting_of}
-use Rattle.leaf_bound.specs.Bounds.{bound_of}
-use Rattle.closing_search.proofs.SingleBounds.{bare_numbers, branch_below, bare_is}
+use Rattle.closing_search.proofs.SingleBounds.{none_numbers, branch_below, none_bound_is}
 use Rattle.closing_search.proofs.bounds.bare_bound.Goals as goal
 
 pub bound-requires-clause-numbers : goal.bound-requires-clause-numbers
 bound-requires-clause-numbers c =
-    rw c.deref.ensures.value (bare_numbers c.args.task.now.instance.now c.args.task.now.fixed.items c.requires.costs)
+    none_numbers c.args.task.now.instance.now c.args.task.now.fixed.items c.bare_weighting.result c.requires.costs
+    c.bare_weighting.ensures
 
 pub bound-requires-clause-nodes : goal.bound-requires-clause-nodes
 bound-requires-clause-nodes c =
-    rw c.deref.ensures.value (branch_below c.args.task.now.instance.now c.args.task.now.fixed.items c.args.branch.now c.requires.costs c.requires.branch)
+    branch_below c.args.task.now.instance.now c.args.task.now.fixed.items c.bare_weighting.result c.args.branch.now
+    c.requires.costs c.bare_weighting.ensures.fixed_are c.requires.branch
 
 pub returns-clause-bound : goal.returns-clause-bound
 returns-clause-bound c =
-    let p = c.args.task.now.instance.now in
     let fits : FitsSigned w128 c.bound.result = search rules in
-    to_z-of_z w128 c.bound.result fits ∙ c.bound.ensures.value ∙ ap (λ (fs : List ℤ). bound_of (weighting_of [] [] fs [] (pos 1000000)) c.args.branch.now) c.deref.ensures.value
-    ∙ bare_is p c.args.task.now.fixed.items c.args.branch.now c.requires.costs c.requires.branch
+    to_z-of_z w128 c.bound.result fits ∙ c.bound.ensures.value
+    ∙ none_bound_is c.args.task.now.instance.now c.args.task.now.fixed.items c.bare_weighting.result c.args.branch.now
+    c.requires.costs c.requires.branch c.bare_weighting.ensures

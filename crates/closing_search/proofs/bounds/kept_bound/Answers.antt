@@ -4,29 +4,47 @@ use Rattle.std.specs.Int.{w128}
 use Rattle.std.proofs.lemmas.Int.{to_z-of_z}
 use Rattle.hub_spec.specs.Problem.{Problem, IsProblem}
 use Rattle.hub_spec.specs.Trees.{cut_at}
-use Rattle.kept_cuts.specs.Kept.{KeptList, kept_cuts, AreKeptFor}
-use Rattle.closing_search.specs.SingleCuts.{AreSumsOf}
+use Rattle.kept_cuts.specs.Kept.{KeptList, kept_cuts, kept_part, AreKeptFor}
+use Rattle.closing_search.specs.Progressing.{cuts_of}
+use Rattle.closing_search.specs.SingleCuts.{AreLentOf, IsOnCut}
 use Rattle.closing_search.proofs.KeptSums.{map-slice_range, kept_at_number}
+use Rattle.closing_search.proofs.SingleBounds.{cut_numbers, branch_below, cut_bound_is}
 use Rattle.closing_search.proofs.bounds.kept_bound.Goals as goal
+use Rattle.closing_search.proofs.bounds.kept_bound.Goals.{After-cut_weighting}
 
-sums : (p : Problem) (k : KeptList) (n : ℕ) (totals : List ℤ) (loads : List (Vec ℤ Global)) → IsProblem p → AreKeptFor p k → 1 ≤ n → n ≤ length k.cuts
-    → totals ≡ map pos k.totals → map (λ v. v.items) loads ≡ map (λ xs. map pos xs) k.loads
-    → AreSumsOf p (cut_at (kept_cuts p k.cuts) n) (slice_range totals (n - 1) (n - 1 + 1)) (map (λ v. v.items) (slice_range loads (n - 1) (n - 1 + 1)))
-sums p k n totals loads ok are least most is_totals is_loads =
-    rw (is_totals, map-slice_range (λ (v : Vec ℤ Global). v.items) loads (n - 1) (n - 1 + 1), is_loads) (kept_at_number p k n ok are least most)
+numbers : (p : Problem) (k : KeptList) (n : ℕ) (totals : List ℤ) (loads : List (Vec ℤ Global)) (parts : List ℕ)
+    → IsProblem p → AreKeptFor p k → 1 ≤ n → n ≤ length k.cuts → totals ≡ map pos k.totals
+    → map (λ v. v.items) loads ≡ map (λ xs. map pos xs) k.loads → parts ≡ map kept_part k.cuts
+    → AreLentOf p (cut_at (kept_cuts p k.cuts) n) (slice_range totals (n - 1) (n - 1 + 1))
+    (map (λ v. v.items) (slice_range loads (n - 1) (n - 1 + 1))) (slice_range parts (n - 1) (n - 1 + 1))
+numbers p k n totals loads parts ok are least most is_totals is_loads is_parts =
+    rw (is_totals, map-slice_range (λ (v : Vec ℤ Global). v.items) loads (n - 1) (n - 1 + 1), is_loads, is_parts)
+    (kept_at_number p k n ok are least most)
 
-pub single_bound-requires-clause-sums : goal.single_bound-requires-clause-sums
-single_bound-requires-clause-sums c =
-    let going = c.requires.going in (
-      _,
-      sums c.args.task.now.instance.now c.args.progress.now.cuts c.args.number c.totals.result.now c.loads.result.now going.costs.problem going.kept
-          c.requires.least c.requires.most c.totals.ensures.value c.loads.ensures.value,
-    )
+-- the numbers of the kept cut
+on_cut : (c : After-cut_weighting) → let p = c.args.task.now.instance.now in
+    IsOnCut p (cut_at (cuts_of p c.args.progress.now) c.args.number) c.args.task.now.fixed.items c.cut_weighting.result
+on_cut c =
+    let going = c.requires.going in
+    c.cut_weighting.ensures _
+    (numbers c.args.task.now.instance.now c.args.progress.now.cuts c.args.number c.totals.result.now c.loads.result.now
+    c.parts.result.now going.costs.problem going.kept c.requires.least c.requires.most c.totals.ensures.value
+    c.loads.ensures.value c.parts.ensures.value)
+
+pub bound-requires-clause-numbers : goal.bound-requires-clause-numbers
+bound-requires-clause-numbers c =
+    cut_numbers c.args.task.now.instance.now _ c.args.task.now.fixed.items c.cut_weighting.result c.requires.going.costs
+    (on_cut (goal.at.bound-requires-clause-numbers c).After-cut_weighting)
+
+pub bound-requires-clause-nodes : goal.bound-requires-clause-nodes
+bound-requires-clause-nodes c =
+    branch_below c.args.task.now.instance.now c.args.task.now.fixed.items c.cut_weighting.result c.args.branch.now
+    c.requires.going.costs (on_cut (goal.at.bound-requires-clause-nodes c).After-cut_weighting).fixed_are
+    c.requires.branch
 
 pub returns-clause-bound : goal.returns-clause-bound
 returns-clause-bound c =
-    let going = c.requires.going in
-    let fits : FitsSigned w128 c.single_bound.result = search rules in
-    to_z-of_z w128 c.single_bound.result fits ∙ c.single_bound.ensures.bound _
-    (sums c.args.task.now.instance.now c.args.progress.now.cuts c.args.number c.totals.result.now c.loads.result.now going.costs.problem going.kept
-    c.requires.least c.requires.most c.totals.ensures.value c.loads.ensures.value)
+    let fits : FitsSigned w128 c.bound.result = search rules in
+    to_z-of_z w128 c.bound.result fits ∙ c.bound.ensures.value
+    ∙ cut_bound_is c.args.task.now.instance.now _ c.args.task.now.fixed.items c.cut_weighting.result c.args.branch.now
+    c.requires.going.costs c.requires.branch (on_cut (goal.at.returns-clause-bound c).After-cut_weighting)

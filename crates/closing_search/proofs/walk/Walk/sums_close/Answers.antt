@@ -1,8 +1,11 @@
-use Rattle.std.proofs.Common.{◌≡◌, ℤ, pos, List, [], ◌∷◌, map, ap, ◌∙◌, to_z, of_z, FitsSigned, Vec, Global, rules, arith}
+use Rattle.std.proofs.Common.{◌≡◌, ℤ, pos, [], ◌∷◌, map, refl, ap, ◌∙◌, to_z, of_z, FitsSigned, Vec, Global, rules, arith}
 use Rattle.std.specs.Int.{w128}
 use Rattle.std.proofs.lemmas.Int.{to_z-of_z}
-use Rattle.closing_search.proofs.SingleBounds.{sums_of, loads_within, total_within}
+use Rattle.hub_spec.specs.Cuts.{Cut}
+use Rattle.closing_search.specs.SingleCuts.{AreLoads, IsOnCut}
+use Rattle.closing_search.proofs.SingleBounds.{loads_within, total_within, cut_numbers, branch_below, cut_bound_is}
 use Rattle.closing_search.proofs.walk.Walk.sums_close.Goals as goal
+use Rattle.closing_search.proofs.walk.Walk.sums_close.Goals.{After-cut_weighting-weighting}
 
 pub signed_row-requires : goal.signed_row-requires
 signed_row-requires c =
@@ -15,17 +18,43 @@ signed-requires c =
     let low = total_within c.args.self.now.task.now.instance.now sums.0 c.args.total c.args.self.now.bench.loads sums.1 in
     omega (arith, low)
 
-pub returns : goal.returns
-returns c cut are above =
+-- the numbers of the cut, as they are lent
+on_cut : (c : After-cut_weighting-weighting) (cut : Cut) → let t = c.args.self.now.task.now in
+    AreLoads t.instance.now cut c.args.total c.args.self.now.bench.loads
+    → IsOnCut t.instance.now cut t.fixed.items c.cut_weighting-weighting.result
+on_cut c cut are =
     let fits_sum : FitsSigned w128 c.signed.result = search rules in
     let totals_are : to_z w128 (of_z w128 c.signed.result) ∷ [] ≡ pos c.args.total ∷ [] =
     ap (λ (z : ℤ). z ∷ []) (to_z-of_z w128 c.signed.result fits_sum ∙ c.signed.ensures) in
-    let rows_are : map (λ (v : Vec ℤ Global). v.items) c.deref.result.now ≡ map pos c.args.self.now.bench.loads ∷ [] = search rules in
-    let bound =
-    c.single_bound-bound.ensures.bound cut
-    (sums_of c.args.self.now.task.now.instance.now cut c.args.total c.args.self.now.bench.loads _ _ are totals_are rows_are) in
-    let fits : FitsSigned w128 c.single_bound-bound.result = search rules in
-    let same = to_z-of_z w128 c.single_bound-bound.result fits in
+    let sum = c.args.total in
+    let loads = c.args.self.now.bench.loads in
+    let rows_are : map (λ (v : Vec ℤ Global). v.items) c.deref.result.now ≡ map pos loads ∷ [] = search rules in
+    c.cut_weighting-weighting.ensures cut
+    (record { sum = sum; loads = loads; are = are; totals_are = totals_are; rows_are = rows_are; parts_are = refl })
+
+pub bound-requires-clause-numbers : goal.bound-requires-clause-numbers
+bound-requires-clause-numbers c =
+    let t = c.args.self.now.task.now in
+    let sums = c.requires.sums in
+    cut_numbers t.instance.now sums.0 t.fixed.items c.cut_weighting-weighting.result c.requires.going.costs
+    (on_cut (goal.at.bound-requires-clause-numbers c).After-cut_weighting-weighting sums.0 sums.1)
+
+pub bound-requires-clause-nodes : goal.bound-requires-clause-nodes
+bound-requires-clause-nodes c =
+    let t = c.args.self.now.task.now in
+    let sums = c.requires.sums in
+    branch_below t.instance.now t.fixed.items c.cut_weighting-weighting.result c.args.branch.now c.requires.going.costs
+    (on_cut (goal.at.bound-requires-clause-nodes c).After-cut_weighting-weighting sums.0 sums.1).fixed_are
+    c.requires.branch
+
+pub returns : goal.returns
+returns c cut are above =
+    let t = c.args.self.now.task.now in
+    let bound = c.bound.ensures.value
+    ∙ cut_bound_is t.instance.now cut t.fixed.items c.cut_weighting-weighting.result c.args.branch.now
+    c.requires.going.costs c.requires.branch (on_cut (goal.at.returns c).After-cut_weighting-weighting cut are) in
+    let fits : FitsSigned w128 c.bound.result = search rules in
+    let same = to_z-of_z w128 c.bound.result fits in
     let target = c.target.ensures in
     let closes = c.is_above.ensures above in
     search rules

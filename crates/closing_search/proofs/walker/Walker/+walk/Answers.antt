@@ -5,7 +5,6 @@ use Rattle.hub_spec.proofs.ChildLists.{open_branch, closed_branch}
 use Rattle.search_spec.proofs.Parting.{length-without}
 use Rattle.search_core.specs.declared.tasks.Task.{Task}
 use Rattle.closing_search.specs.Progressing.{IsDone, IsAdvised}
-use Rattle.closing_search.specs.Walking.{IsWalking, IsSameWalk}
 use Rattle.closing_search.proofs.Steps.{at_done, halved_done}
 use Rattle.closing_search.proofs.Walks.{walks_on}
 use Rattle.closing_search.proofs.walker.Walker.+walk.Goals as goal
