@@ -1,22 +1,26 @@
 -- The items of the cuts.
-use Rattle.std.proofs.Common.{◌≡◌, ◌≢◌, ℕ, ◌+◌, ◌*◌, ◌<◌, ◌≤◌, List, [], ◌∷◌, ◌++◌, length, get_or, nat_eq, None, All, Contains, refl, sym, ap, ap₂, subst, ◌∙◌, mul-pos, length-append, arith, ⊎_elim, eq-eqb, ne_eqb}
+use Rattle.std.proofs.Common.{◌≡◌, ◌≢◌, ℕ, ◌+◌, ◌*◌, ◌/◌, ◌%◌, ◌<◌, ◌≤◌, List, [], ◌∷◌, ◌++◌, length, replicate, get_or, nat_eq, Option, None, All, Contains, sum_by, refl, sym, ap, ap₂, subst, ◌∙◌, mul-pos, div-add-mod', length-append, arith, ⊎_elim, eq-eqb, ne_eqb}
 use Rattle.std.proofs.lemmas.Bool.{eqb-true, cases_eq, cases_lt, cond-true, cond-false, cond_both}
-use Rattle.std.proofs.lemmas.List.{get_or_past}
-use Rattle.std.proofs.lemmas.List.Sums.{sum_by-cons, sum_by_push}
-use Rattle.std.proofs.lemmas.List.Elements.{All-push, All-nil, All-head, All-tail, All-get_or, All-from_get_or, All-contains}
+use Rattle.std.proofs.lemmas.List.{length-replicate, get_or_past}
+use Rattle.std.proofs.lemmas.List.Folds.{sum_by-replicate}
+use Rattle.std.proofs.lemmas.List.Sums.{sum_by-cons, sum_by-append}
+use Rattle.std.proofs.lemmas.List.Elements.{All-append, All-replicate, All-nil, All-head, All-tail, All-get_or, All-from_get_or, All-contains}
+use Rattle.std.proofs.lemmas.Nat.{div-mul-add, mod-mul-add}
 use Rattle.std.proofs.lemmas.Slice.Zip.{all_zipped_more}
 use Rattle.hub_spec.specs.Limits.{most_cost}
-use Rattle.hub_spec.specs.Problem.{Problem}
-use Rattle.hub_spec.specs.Cuts.{Prices, value_at, IsDual, cut_by, load, IsWithinSums}
+use Rattle.hub_spec.specs.Problem.{Problem, commodity_at}
+use Rattle.hub_spec.specs.Cuts.{Prices, Cut, value_at, IsDual, load, IsWithinSums}
 use Rattle.hub_spec.proofs.Decisions.{decided_contains}
-use Rattle.cert_spec.specs.Lines.{says_cuts, says_cut, says_dual}
-use Rattle.cert_spec.specs.Grammar.{Shape, Stage, want_cuts, want_cut, want_dual, after_dual}
-use Rattle.cert_spec.specs.Conditions.{claim, AllHold, Dual, Sum, if_time}
+use Rattle.cert_spec.specs.Lines.{part_of, says_cuts, says_cut, says_dual}
+use Rattle.cert_spec.specs.Grammar.{Shape, Stage, want_cuts, want_cut, want_dual, IsRun, kept_dual, after_dual}
+use Rattle.cert_spec.specs.Conditions.{claim, AllHold, Dual, Sum, IsDualOfRun, if_time}
 use Rattle.cert_spec.specs.Progress.{Progress, with_duals}
 use Rattle.cert_spec.proofs.Leads.{after_dual-all, after_dual-more}
-use Rattle.cert_stream.specs.Sums.{CutTally, IsNoDual, IsDualAdded, AreSumsOf, AreWithin, last_of}
-use Rattle.cert_stream.specs.Steps.{ended, CutTaken, cut_with, DualEnds, dual_with}
-use Rattle.cert_stream.specs.Taken.{Part, nothing, some_values, StandsFirm, AreSumsOfCut, AreCutSums, Keeps}
+use Rattle.cert_spec.proofs.Stages.{run_within}
+use Rattle.dual_lines.specs.Lines.{ListedDual}
+use Rattle.cert_stream.specs.Sums.{CutTally, IsNoDual, IsRunAdded, AreSumsOf, AreWithin, last_of}
+use Rattle.cert_stream.specs.Steps.{ended, CutTaken, cut_with, IsDualOfEach, DualEnds, dual_with}
+use Rattle.cert_stream.specs.Taken.{Part, nothing, some_values, StandsFirm, AreSumsOfCut, AreCutSums, Lists, Keeps}
 use Rattle.cert_stream.specs.declared.checks.Checks.{Checks}
 use Rattle.cert_stream.proofs.Loads.{last_of-last}
 use Rattle.cert_stream.proofs.Counting.{cut_cases}
@@ -35,12 +39,17 @@ close_cuts c s sh all new st k h = record {
   keeps = λ held. (st, cut_cases (λ g. Keeps c (record s { line = s.line + 1 }) g nothing) sh all 0 (λ e. k) (λ n. k));
 }
 
-no_sums : (n : ℕ) (sums : CutTally) → IsNoDual n sums → AreSumsOf n [] sums
-no_sums n sums h = record { count_is = h.count_is; total_is = h.total_is; long = h.long; loads_are = h.loads_are }
+-- a cut with this part and these duals
+abbrev cut_of : ℕ → List Prices → Cut
+cut_of part duals = record { part = part; duals = duals }
 
-pub close_cut : (c : Checks) (s : Progress) (sh : Shape) (all x number : ℕ) (new : Checks) → StandsFirm c s → Keeps c s (want_cut sh all x) nothing
-    → CutTaken c new → Closed c s (want_cut sh all x) (says_cut number) new
-close_cut c s sh all x number new st k h =
+no_sums_yet : (n part : ℕ) (sums : CutTally) → IsNoDual n part sums → AreSumsOf n (cut_of part []) sums
+no_sums_yet n part sums h =
+    record { part_is = h.part_is; count_is = h.count_is; total_is = h.total_is; long = h.long; loads_are = h.loads_are }
+
+pub close_cut : (c : Checks) (s : Progress) (sh : Shape) (all x number : ℕ) (part : Option ℕ) (new : Checks) → StandsFirm c s
+    → Keeps c s (want_cut sh all x) nothing → CutTaken c (part_of part) new → Closed c s (want_cut sh all x) (says_cut number part) new
+close_cut c s sh all x number part new st k h =
     let p = c.instance.now in
     record {
       kept = cut_with c (c.cuts ++ h.sums ∷ []);
@@ -58,7 +67,8 @@ close_cut c s sh all x number new st k h =
             last = h.sums;
             split = refl;
             front_are = k.1.sums_are;
-            last_is = subst (λ (ds : List Prices). AreSumsOf p.size ds h.sums) (sym k.1.no_dual) (no_sums p.size h.sums h.none);
+            last_is = subst (λ (ds : List Prices). AreSumsOf p.size (cut_of (part_of part) ds) h.sums) (sym k.1.no_dual)
+                (no_sums_yet p.size (part_of part) h.sums h.none);
             candidates = subst (All (λ (d : Prices). All (λ (e : ℕ × ℕ). Contains p.candidates e.0) d.u)) (sym k.1.no_dual)
                 (All-nil (λ (d : Prices). All (λ (e : ℕ × ℕ). Contains p.candidates e.0) d.u));
             count = ap length k.1.no_dual;
@@ -71,22 +81,48 @@ close_cut c s sh all x number new st k h =
 
 -- ---- a dual that is listed
 
-pub grow_dual : (c : Checks) (s : Progress) (sh : Shape) (all x t : ℕ) (commodity : ℕ × ℕ) (dual : Prices) (new : Checks) → StandsFirm c s
-    → (part : Part) → Keeps c s (want_dual sh all x t) part → new ≡ dual_with c commodity dual
-    → Grown c s (want_dual sh all x t) (some_values commodity dual) new
-grow_dual c s sh all x t commodity dual new st part k h =
-    subst (λ (n : Checks). Grown c s (want_dual sh all x t) (some_values commodity dual) n) (sym h)
-    (record { same = refl; line_is = refl; failure_is = refl; firm = st; keeps = (k.0, k.1, (refl, refl)) })
+-- with another dual of the same instance listed
+pub dual_firm : (c : Checks) (s : Progress) (listed : ListedDual) → StandsFirm c s → listed.problem ≡ c.dual.problem
+    → StandsFirm (dual_with c listed) s
+dual_firm c s listed st same = record {
+  problem = st.problem;
+  dual_is = same ∙ st.dual_is;
+  size_is = st.size_is;
+  candidates_are = st.candidates_are;
+  long = st.long;
+  cost_is = st.cost_is;
+  bound_is = st.bound_is;
+  short = st.short;
+}
+
+pub grow_dual : (c : Checks) (s : Progress) (sh : Shape) (all x t : ℕ) (before : Option Prices) (commodity : ℕ × ℕ) (run : ℕ) (dual : Prices)
+    (listed : ListedDual) (new : Checks) → StandsFirm c s → (part : Part) → Keeps c s (want_dual sh all x t before) part
+    → listed.problem ≡ c.dual.problem → Lists listed s.part commodity run dual → new ≡ dual_with c listed
+    → Grown c s (want_dual sh all x t before) (some_values commodity run dual) new
+grow_dual c s sh all x t before commodity run dual listed new st part k same lists h =
+    subst (λ (n : Checks). Grown c s (want_dual sh all x t before) (some_values commodity run dual) n) (sym h)
+    (record {
+      same = refl;
+      line_is = refl;
+      failure_is = refl;
+      firm = dual_firm c s listed st same;
+      keeps = (k.0, k.1, lists);
+    })
 
 -- ---- the sums of a cut
 
-sums_more : (n : ℕ) (duals : List Prices) (dual : Prices) (sums later : CutTally) → AreSumsOf n duals sums → IsDualAdded sums dual later
-    → AreSumsOf n (duals ++ dual ∷ []) later
-sums_more n duals dual sums later h a = record {
-  count_is = omega (arith, h.count_is, a.count_is, length-append duals (dual ∷ []));
-  total_is = omega (arith, h.total_is, a.total_is, sum_by_push (λ (d : Prices). d.a) duals dual);
+load_more : (duals : List Prices) (run : ℕ) (dual : Prices) (f : Prices → ℕ) → sum_by f (duals ++ replicate run dual) ≡ sum_by f duals + run * f dual
+load_more duals run dual f = sum_by-append f duals (replicate run dual) ∙ ap (λ x. sum_by f duals + x) (sum_by-replicate f run dual)
+
+sums_more : (n part : ℕ) (duals : List Prices) (run : ℕ) (dual : Prices) (sums later : CutTally) → AreSumsOf n (cut_of part duals) sums
+    → IsRunAdded sums run dual later → AreSumsOf n (cut_of part (duals ++ replicate run dual)) later
+sums_more n part duals run dual sums later h a = record {
+  part_is = a.part_is ∙ h.part_is;
+  count_is = omega (arith, h.count_is, a.count_is, length-append duals (replicate run dual), length-replicate run dual);
+  total_is = a.total_is ∙ ap (λ x. x + run * dual.a) h.total_is ∙ sym (load_more duals run dual (λ (d : Prices). d.a));
   long = a.long ∙ h.long;
-  loads_are = λ k. omega (arith, h.loads_are k, a.loads_are k, sum_by_push (λ (d : Prices). value_at d.u k) duals dual);
+  loads_are = λ k. a.loads_are k ∙ ap (λ x. x + run * value_at dual.u k) (h.loads_are k)
+      ∙ sym (load_more duals run dual (λ (d : Prices). value_at d.u k));
 }
 
 -- each node that a dual lists is a candidate
@@ -100,100 +136,157 @@ no_value p (e ∷ u) k none h =
     (λ is. absurd (none (subst (Contains p.candidates) (eqb-true e.0 k is) (All-head (λ (e : ℕ × ℕ). Contains p.candidates e.0) e u h))))
     (λ is. no_value p u k none (All-tail (λ (e : ℕ × ℕ). Contains p.candidates e.0) e u h))
 
-no_load : (p : Problem) (duals : List Prices) (k : ℕ) → (Contains p.candidates k → ⊥) → All (ListsCandidates p) duals → load (cut_by duals) k ≡ 0
-no_load p [] k none h = refl
-no_load p (d ∷ duals) k none h =
-    omega (arith, sum_by-cons (λ (d : Prices). value_at d.u k) d duals, no_value p d.u k none (All-head (ListsCandidates p) d duals h), no_load p duals k none (All-tail (ListsCandidates p) d duals h))
+no_load : (p : Problem) (part : ℕ) (duals : List Prices) (k : ℕ) → (Contains p.candidates k → ⊥) → All (ListsCandidates p) duals
+    → load (cut_of part duals) k ≡ 0
+no_load p part [] k none h = refl
+no_load p part (d ∷ duals) k none h =
+    omega (
+      arith,
+      sum_by-cons (λ (d : Prices). value_at d.u k) d duals,
+      no_value p d.u k none (All-head (ListsCandidates p) d duals h),
+      no_load p part duals k none (All-tail (ListsCandidates p) d duals h),
+    )
 
-within_cut : (p : Problem) (n : ℕ) (duals : List Prices) (sums : CutTally) → AreSumsOf n duals sums → AreWithin sums → IsWithinSums p (cut_by duals)
-within_cut p n duals sums h w = record {
-  total_limit = omega (arith, h.total_is, w.0);
-  load_limit = All-from_get_or (λ k. load (cut_by duals) k ≤ most_cost) p.candidates 0 (λ i below.
-      let k = get_or p.candidates i 0 in
-      ⊎_elim (λ (inside : k < length sums.loads). omega (arith, h.loads_are k, All-get_or (λ (x : ℕ). x ≤ most_cost) sums.loads k 0 inside w.1))
-      (λ (outside : length sums.loads ≤ k). omega (arith, h.loads_are k, get_or_past sums.loads k 0 outside)) (cases_lt k (length sums.loads)));
+within_cut : (p : Problem) (n : ℕ) (cut : Cut) (sums : CutTally) → AreSumsOf n cut sums → AreWithin sums → IsWithinSums p cut
+within_cut p n cut sums h w =
+    let limit : sums.part * most_cost ≡ cut.part * most_cost = ap (λ e. e * most_cost) h.part_is in
+    record {
+      total_limit = omega (arith, h.total_is, w.0, limit);
+      load_limit = All-from_get_or (λ k. load cut k ≤ cut.part * most_cost) p.candidates 0 (λ i below.
+          let k = get_or p.candidates i 0 in
+          ⊎_elim (λ (inside : k < length sums.loads).
+          omega (arith, limit, h.loads_are k, All-get_or (λ (x : ℕ). x ≤ sums.part * most_cost) sums.loads k 0 inside w.1))
+          (λ (outside : length sums.loads ≤ k). omega (arith, h.loads_are k, get_or_past sums.loads k 0 outside))
+          (cases_lt k (length sums.loads)));
+    }
+
+within_sums : (p : Problem) (n part : ℕ) (duals : List Prices) (sums : CutTally) → AreSumsOf n (cut_of part duals) sums
+    → All (ListsCandidates p) duals → IsWithinSums p (cut_of part duals) → AreWithin sums
+within_sums p n part duals sums h are w =
+    let limit : sums.part * most_cost ≡ part * most_cost = ap (λ e. e * most_cost) h.part_is in (
+      omega (arith, h.total_is, w.total_limit, limit),
+      All-from_get_or (λ (x : ℕ). x ≤ sums.part * most_cost) sums.loads 0 (λ k below.
+          ⊎_elim
+          (λ inside. omega (
+            arith,
+            limit,
+            h.loads_are k,
+            All-contains (λ k. load (cut_of part duals) k ≤ part * most_cost) p.candidates k w.load_limit inside,
+          ))
+          (λ none. omega (arith, h.loads_are k, no_load p part duals k none are)) (decided_contains p.candidates k)),
+    )
+
+-- ---- the commodities of a run
+
+commodity_on : (n t s : ℕ) → t % n + s < n → commodity_at n (t + s) ≡ (t / n, t % n + s)
+commodity_on n t s less =
+    let place : t + s ≡ t / n * n + (t % n + s) = omega (arith, div-add-mod' t n) in
+    ap (commodity_at n) place ∙ ap₂ (λ i j. (i, j)) (div-mul-add (t / n) n (t % n + s) less) (mod-mul-add (t / n) n (t % n + s) less)
+
+-- the dual of a run of an instance, of which the first commodity has number t
+abbrev listed_at : Problem → ℕ → ℕ → ℕ → Prices → ListedDual
+listed_at p part t run dual = record { problem = p; commodity = commodity_at p.size t; part = part; run = run; dual = dual }
+
+each_of_run : (p : Problem) (part t run : ℕ) (dual : Prices) → t % p.size + run ≤ p.size → IsDualOfRun p part t (run, dual)
+    → IsDualOfEach (listed_at p part t run dual)
+each_of_run p part t run dual fits h s less =
+    subst (λ (c : ℕ × ℕ). IsDual p part c dual) (commodity_on p.size t s (omega arith)) (h.each s less)
+
+run_of_each : (p : Problem) (part t run : ℕ) (dual : Prices) → t % p.size + run ≤ p.size → IsDualOfEach (listed_at p part t run dual)
+    → IsDualOfRun p part t (run, dual)
+run_of_each p part t run dual fits h = record {
+  each = λ s less. subst (λ (c : ℕ × ℕ). IsDual p part c dual) (sym (commodity_on p.size t s (omega arith))) (h s less);
 }
 
-within_sums : (p : Problem) (n : ℕ) (duals : List Prices) (sums : CutTally) → AreSumsOf n duals sums → All (ListsCandidates p) duals
-    → IsWithinSums p (cut_by duals) → AreWithin sums
-within_sums p n duals sums h are w = (
-  omega (arith, h.total_is, w.total_limit),
-  All-from_get_or (λ (x : ℕ). x ≤ most_cost) sums.loads 0 (λ k below.
-      ⊎_elim (λ inside. omega (arith, h.loads_are k, All-contains (λ k. load (cut_by duals) k ≤ most_cost) p.candidates k w.load_limit inside))
-      (λ none. omega (arith, h.loads_are k, no_load p duals k none are)) (decided_contains p.candidates k)),
-)
+listed_is : (d : ListedDual) (p : Problem) (part t run : ℕ) (dual : Prices) → d.problem ≡ p → Lists d part (commodity_at p.size t) run dual
+    → d ≡ listed_at p part t run dual
+listed_is d p part t run dual same h =
+    λ i. record { problem = same i; commodity = h.commodity_is i; part = h.part_is i; run = h.run_is i; dual = h.dual_is i }
 
 -- ---- the end of a dual
 
-same_dual : (p q : Problem) (a b : ℕ × ℕ) (d e : Prices) → p ≡ q → a ≡ b → d ≡ e → IsDual p a d → IsDual q b e
-same_dual p q a b d e pq ab de h = subst (λ x. IsDual x b e) pq (subst (λ x. IsDual p x e) ab (subst (IsDual p a) de h))
-
 whole_duals : (s : Progress) (duals : List Prices) → length duals ≡ s.size * s.size
-    → with_duals s duals ≡ record s { line = s.line + 1; cuts = s.cuts ++ cut_by duals ∷ []; duals = [] }
-whole_duals s duals e = cond-true (nat_eq (length duals) (s.size * s.size)) (record s { line = s.line + 1; cuts = s.cuts ++ cut_by duals ∷ []; duals = [] })
+    → with_duals s duals ≡ record s { line = s.line + 1; cuts = s.cuts ++ cut_of s.part duals ∷ []; part = 1; duals = [] }
+whole_duals s duals e =
+    cond-true (nat_eq (length duals) (s.size * s.size)) (record s { line = s.line + 1; cuts = s.cuts ++ cut_of s.part duals ∷ []; part = 1; duals = [] })
     (record s { line = s.line + 1; duals = duals }) (eq-eqb (length duals) (s.size * s.size) e)
 
 more_duals : (s : Progress) (duals : List Prices) → length duals ≢ s.size * s.size → with_duals s duals ≡ record s { line = s.line + 1; duals = duals }
-more_duals s duals n = cond-false (nat_eq (length duals) (s.size * s.size)) (record s { line = s.line + 1; cuts = s.cuts ++ cut_by duals ∷ []; duals = [] })
+more_duals s duals n =
+    cond-false (nat_eq (length duals) (s.size * s.size)) (record s { line = s.line + 1; cuts = s.cuts ++ cut_of s.part duals ∷ []; part = 1; duals = [] })
     (record s { line = s.line + 1; duals = duals }) (ne_eqb (length duals) (s.size * s.size) n)
 
-pub close_dual : (c : Checks) (s : Progress) (sh : Shape) (all x t : ℕ) (commodity : ℕ × ℕ) (dual : Prices) (new : Checks) → c.line ≡ s.line
-    → StandsFirm c s → Keeps c s (want_dual sh all x t) (some_values commodity dual) → DualEnds c new
-    → Closed c s (want_dual sh all x t) (says_dual commodity dual) new
-close_dual c s sh all x t commodity dual new e st k h =
+pub close_dual : (c : Checks) (s : Progress) (sh : Shape) (all x t : ℕ) (before : Option Prices) (commodity : ℕ × ℕ) (run : ℕ) (dual : Prices)
+    (new : Checks) → c.line ≡ s.line → commodity ≡ commodity_at sh.size t → IsRun sh t run → StandsFirm c s
+    → Keeps c s (want_dual sh all x t before) (some_values commodity run dual) → DualEnds c new
+    → Closed c s (want_dual sh all x t before) (says_dual commodity run dual) new
+close_dual c s sh all x t before commodity run dual new e at is_run st k h =
     let p = c.instance.now in
     let d = k.1 in
     let w = h.added d.front d.last d.split in
     let later = w.0 in
     let kept = cut_with c h.cuts in
-    let duals = s.duals ++ dual ∷ [] in
-    let sums : AreSumsOf p.size duals later =
-    sums_more p.size s.duals dual d.last later d.last_is (subst (λ (y : Prices). IsDualAdded d.last y later) k.2.1 w.1) in
+    let part = s.part in
+    let place = length s.duals in
+    let duals = s.duals ++ replicate run dual in
+    let cut = cut_of part duals in
+    let sums : AreSumsOf p.size cut later =
+    sums_more p.size part s.duals run dual d.last later d.last_is
+    (subst (λ (y : Prices). IsRunAdded d.last run y later) k.2.dual_is (subst (λ r. IsRunAdded d.last r c.dual.dual later) k.2.run_is w.1)) in
     let last_is : last_of h.cuts ≡ later = ap last_of w.2 ∙ last_of-last d.front later in
-    let count : length duals ≡ t + 1 = omega (arith, length-append s.duals (dual ∷ []), d.count) in
+    let count : length duals ≡ t + run = omega (arith, length-append s.duals (replicate run dual), length-replicate run dual, d.count) in
     let sizes : p.size * p.size ≡ s.size * s.size = ap (λ n. n * n) (sym k.0.said_is) in
     let square : sh.size * sh.size ≡ p.size * p.size = ap (λ n. n * n) k.0.wanted_is in
-    let are : IsDual p commodity dual → All (ListsCandidates p) duals =
-    λ is. All-push (ListsCandidates p) s.duals dual d.candidates is.are_candidates in
-    let within : IsDual p commodity dual → IsWithinSums p (cut_by duals) → AreWithin later =
-    λ is y. within_sums p p.size duals later sums (are is) y in
+    let fits : place % p.size + run ≤ p.size =
+    subst (λ n. place % n + run ≤ n) k.0.wanted_is (subst (λ y. y % sh.size + run ≤ sh.size) (sym d.count) is_run.1) in
+    let most : t + run ≤ sh.size * sh.size = run_within sh.size t run (omega (arith, d.more, square)) is_run.1 in
+    let first : commodity ≡ commodity_at p.size place = at ∙ ap₂ commodity_at k.0.wanted_is (sym d.count) in
+    let listed : c.dual ≡ listed_at p part place run dual =
+    listed_is c.dual p part place run dual st.dual_is (subst (λ y. Lists c.dual part y run dual) first k.2) in
+    let to_run : IsDualOfEach c.dual → IsDualOfRun p part place (run, dual) = λ y. run_of_each p part place run dual fits (subst IsDualOfEach listed y) in
+    let to_each : IsDualOfRun p part place (run, dual) → IsDualOfEach c.dual =
+    λ y. subst IsDualOfEach (sym listed) (each_of_run p part place run dual fits y) in
+    let are : IsDualOfRun p part place (run, dual) → All (ListsCandidates p) duals =
+    λ is. All-append (ListsCandidates p) s.duals (replicate run dual) d.candidates
+    (All-replicate (ListsCandidates p) run dual (is.each 0 is_run.0).are_candidates) in
+    let within : IsDualOfRun p part place (run, dual) → IsWithinSums p cut → AreWithin later =
+    λ is y. within_sums p p.size part duals later sums (are is) y in
     let Q : Progress → Stage → Type 0 = λ after_it g. StandsFirm kept after_it × Keeps kept after_it g nothing in
+    let last = kept_dual sh (t + run) dual in
     record {
       kept = kept;
       found = h.ends.found;
       is = h.ends.is;
       same = refl;
       line_is = refl;
-      tried = tried_cons Dual c.line s.line c.line (IsDual c.dual.problem c.dual.commodity c.dual.dual) (IsDual p commodity dual)
+      tried = tried_cons Dual c.line s.line c.line (IsDualOfEach c.dual) (IsDualOfRun p part place (run, dual))
           (if_time (nat_eq (last_of h.cuts).count (p.size * p.size)) (claim Sum c.line (AreWithin (last_of h.cuts))))
-          (if_time (nat_eq (length duals) (s.size * s.size)) (claim Sum s.line (IsWithinSums p (cut_by duals))))
-          h.ends.found e
-          (same_dual c.dual.problem p c.dual.commodity commodity c.dual.dual dual st.dual_is k.2.0 k.2.1)
-          (same_dual p c.dual.problem commodity c.dual.commodity dual c.dual.dual (sym st.dual_is) (sym k.2.0) (sym k.2.1))
+          (if_time (nat_eq (length duals) (s.size * s.size)) (claim Sum s.line (IsWithinSums p cut)))
+          h.ends.found e to_run to_each
           (λ is. tried_time (nat_eq (last_of h.cuts).count (p.size * p.size)) (nat_eq (length duals) (s.size * s.size)) Sum c.line s.line c.line
-          (AreWithin (last_of h.cuts)) (IsWithinSums p (cut_by duals)) h.ends.found
+          (AreWithin (last_of h.cuts)) (IsWithinSums p cut) h.ends.found
           (ap₂ nat_eq (ap (λ (y : CutTally). y.count) last_is ∙ sums.count_is) sizes) e
-          (λ whole y. within_cut p p.size duals later sums (subst AreWithin last_is y))
+          (λ whole y. within_cut p p.size cut later sums (subst AreWithin last_is y))
           (λ whole y. subst AreWithin (sym last_is) (within is y)))
           h.ends.tried;
       keeps = λ held. ⊎_elim
           (λ (whole : length duals ≡ s.size * s.size).
-          let all_are : t + 1 ≡ sh.size * sh.size = sym count ∙ whole ∙ sym sizes ∙ sym square in
-          let tested : IsWithinSums p (cut_by duals) =
-          (subst (λ b. AllHold (if_time b (claim Sum s.line (IsWithinSums p (cut_by duals))))) (eq-eqb (length duals) (s.size * s.size) whole) held.1).0 in
-          let cuts : AreCutSums p (s.cuts ++ cut_by duals ∷ []) h.cuts =
-          subst (AreCutSums p (s.cuts ++ cut_by duals ∷ [])) (sym w.2)
-          (all_zipped_more (AreSumsOfCut p) s.cuts d.front (cut_by duals) later d.front_are (record { are = sums; within = within held.0 tested })) in
-          let after_it : Progress = record s { line = s.line + 1; cuts = s.cuts ++ cut_by duals ∷ []; duals = [] } in
-          subst (λ y. Q y (after_dual sh all x (t + 1))) (sym (whole_duals s duals whole))
-          (subst (Q after_it) (sym (after_dual-all sh all x (t + 1) all_are))
+          let all_are : t + run ≡ sh.size * sh.size = sym count ∙ whole ∙ sym sizes ∙ sym square in
+          let tested : IsWithinSums p cut =
+          (subst (λ b. AllHold (if_time b (claim Sum s.line (IsWithinSums p cut)))) (eq-eqb (length duals) (s.size * s.size) whole) held.1).0 in
+          let cuts : AreCutSums p (s.cuts ++ cut ∷ []) h.cuts =
+          subst (AreCutSums p (s.cuts ++ cut ∷ [])) (sym w.2)
+          (all_zipped_more (AreSumsOfCut p) s.cuts d.front cut later d.front_are (record { are = sums; within = within held.0 tested })) in
+          let after_it : Progress = record s { line = s.line + 1; cuts = s.cuts ++ cut ∷ []; part = 1; duals = [] } in
+          subst (λ y. Q y (after_dual sh all x (t + run) last)) (sym (whole_duals s duals whole))
+          (subst (Q after_it) (sym (after_dual-all sh all x (t + run) last all_are))
           (cut_cases (Q after_it) sh all (x + 1) (λ y. (st, (k.0, record { sums_are = cuts; no_dual = refl })))
           (λ y. (st, (k.0, record { sums_are = cuts; no_dual = refl }))))))
-          (λ (part : length duals ≢ s.size * s.size).
-          let not_all : t + 1 ≢ sh.size * sh.size = λ y. part (count ∙ y ∙ square ∙ sizes) in
+          (λ (some : length duals ≢ s.size * s.size).
+          let not_all : t + run ≢ sh.size * sh.size = λ y. some (count ∙ y ∙ square ∙ sizes) in
           let after_it : Progress = record s { line = s.line + 1; duals = duals } in
-          subst (λ y. Q y (after_dual sh all x (t + 1))) (sym (more_duals s duals part))
-          (subst (Q after_it) (sym (after_dual-more sh all x (t + 1) not_all)) (
+          subst (λ y. Q y (after_dual sh all x (t + run) last)) (sym (more_duals s duals some))
+          (subst (Q after_it) (sym (after_dual-more sh all x (t + run) last not_all)) (
             st,
             (
               k.0,
@@ -205,7 +298,7 @@ close_dual c s sh all x t commodity dual new e st k h =
                 last_is = sums;
                 candidates = are held.0;
                 count = count;
-                more = omega (arith, d.more, not_all, square);
+                more = omega (arith, most, not_all, square);
               },
               tt,
             ),

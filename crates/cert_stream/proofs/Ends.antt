@@ -5,6 +5,8 @@ use Rattle.hub_spec.specs.Certificates.{Proof}
 use Rattle.cert_spec.specs.Text.{Spells}
 use Rattle.cert_spec.specs.Verdicts.{Why, certificate_limit}
 use Rattle.cert_spec.proofs.Claims.{holds_exactly_by_claims}
+use Rattle.cert_spec.proofs.ByLines.{conditions_of_lines}
+use Rattle.cert_checker.specs.Answers.{kind_of}
 use Rattle.cert_checker.specs.Shows.{verdict_of}
 use Rattle.cert_checker.specs.declared.texts.Ending.{Ending}
 use Rattle.cert_checker.specs.declared.texts.Ending.TheVariants.{Optimal, Bounds, No, BadLine, Ended, TooLong}
@@ -56,7 +58,8 @@ why_ends p bytes k (Bounds bound cost) short spells h = (
     certificate = (k, spells, (holds_exactly_by_claims p k spells.in_range).0 h.0, sym h.2, sym h.3);
   },
 )
-why_ends p bytes k (No kind line) short spells h = (short, (k, spells, h))
+why_ends p bytes k (No kind line) short spells h =
+    (short, (k, spells, ((conditions_of_lines p k spells.in_range).fail (kind_of kind) line).0 h))
 why_ends p bytes k (BadLine line) short spells h = absurd h
 why_ends p bytes k (Ended line) short spells h = absurd h
 why_ends p bytes k TooLong short spells h = absurd h

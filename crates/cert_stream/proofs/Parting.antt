@@ -1,16 +1,18 @@
 -- Where the last item of some stands: in a line that goes on, or at the end of one.
-use Rattle.std.proofs.Common.{◌≡◌, ℕ, ◌+◌, ◌-◌, ◌*◌, ◌<◌, ◌≤◌, ◌^◌, Bool, true, false, cond, nat_eq, List, [], ◌∷◌, ◌++◌, length, map, flat_map, All, ◌⊎◌, inl, inr, refl, sym, ap, subst, ◌∙◌, append_assoc, append-nil, arith}
+use Rattle.std.proofs.Common.{◌≡◌, ℕ, ◌<◌, ◌≤◌, ◌^◌, true, false, List, [], ◌∷◌, ◌++◌, length, map, flat_map, Option, All, ◌⊎◌, inl, inr, refl, sym, ap, subst, ◌∙◌, append_assoc, append-nil, arith}
 use Rattle.std.specs.List.Sorted.{IsStrictlyIncreasing}
 use Rattle.std.proofs.lemmas.List.{same_from_push, map-append}
 use Rattle.std.proofs.lemmas.List.Concat.{flat_map-append}
 use Rattle.hub_spec.specs.Problem.{commodity_at}
-use Rattle.hub_spec.specs.Trees.{branch_on, leaf_of, no_hub}
+use Rattle.hub_spec.specs.Cuts.{Prices}
+use Rattle.hub_spec.specs.Trees.{branch_on, leaf_of, no_hub, no_route, no_count}
 use Rattle.hub_spec.specs.Ranges.{IsDualInRange, IsLineInRange}
-use Rattle.cert_spec.specs.Lines.{Item as Line, says_version, says_size, says_cost, says_bound, says_hubs, says_route, says_cuts, says_cut, says_dual, says_nodes, says_tree, says_end}
-use Rattle.cert_spec.specs.Grammar.{Shape, Stage, want_version, want_size, want_end, want_cost, want_bound, want_hubs, want_cuts, want_nodes, want_route, want_cut, want_dual, want_tree, Wants, places_after, after_cut, after, Leads}
+use Rattle.cert_spec.specs.Lines.{part_of, Item as Line, says_version, says_size, says_cost, says_bound, says_hubs, says_route, says_cuts, says_cut, says_dual, says_nodes, says_tree, says_end}
+use Rattle.cert_spec.specs.Grammar.{Shape, Stage, want_version, want_size, want_end, want_cost, want_bound, want_hubs, want_cuts, want_nodes, want_route, want_cut, want_dual, want_tree, Wants, IsRun, after, Leads}
+use Rattle.cert_scan.specs.Versions.{version_of}
 use Rattle.cert_scan.specs.Parts.{parts_of, none_left, hub_parts, value_parts, weight_parts, open_hubs, open_values, open_weights}
 use Rattle.cert_scan.specs.declared.items.Item.{Item}
-use Rattle.cert_scan.specs.declared.items.Item.TheVariants.{Size, Cost, Bound, Hub, Route, Cuts, Cut, Dual, DualPair, Nodes, Branch, Leaf, LeafPair, Empty, End}
+use Rattle.cert_scan.specs.declared.items.Item.TheVariants.{Version, Size, Cost, Bound, Hub, Route, Cuts, Cut, Dual, DualPair, Nodes, Branch, Leaf, LeafPair, Empty, End}
 use Rattle.cert_stream.specs.Taken.{Part, nothing, some_hubs, some_values, some_weights, part_items, IsPart}
 use Rattle.cert_stream.proofs.Lists.{by_last, ascend_front, not_nil, all_front}
 
@@ -18,32 +20,34 @@ use Rattle.cert_stream.proofs.Lists.{by_last, ascend_front, not_nil, all_front}
 abbrev pub Growing : Part → Part → Item → Type 0
 Growing nothing before i = ⊥
 Growing (some_hubs hubs) before i = (front : List ℕ) × (k : ℕ) × (hubs ≡ front ++ k ∷ []) × (before ≡ some_hubs front) × (i ≡ Hub k false)
-Growing (some_values c dual) before i =
-    ((dual.u ≡ []) × (before ≡ nothing) × (i ≡ Dual c.0 c.1 dual.a false))
-    ⊎ ((front : List (ℕ × ℕ)) × (e : ℕ × ℕ) × (dual.u ≡ front ++ e ∷ []) × (before ≡ some_values c (record { a = dual.a; u = front })) × (i ≡ DualPair e.0 e.1 false))
+Growing (some_values c run dual) before i =
+    ((dual.u ≡ []) × (before ≡ nothing) × (i ≡ Dual c.0 c.1 run dual.a false))
+    ⊎ ((front : List (ℕ × ℕ)) × (e : ℕ × ℕ) × (dual.u ≡ front ++ e ∷ []) × (before ≡ some_values c run (record { a = dual.a; u = front })) × (i ≡ DualPair e.0 e.1 false))
 Growing (some_weights denom weights) before i =
     ((weights ≡ []) × (before ≡ nothing) × (i ≡ Leaf denom false))
     ⊎ ((front : List (ℕ × ℕ)) × (e : ℕ × ℕ) × (weights ≡ front ++ e ∷ []) × (before ≡ some_weights denom front) × (i ≡ LeafPair e.0 e.1 false))
 
 -- the item ends this line, of which this was before it
 abbrev pub Closing : Line → Part → Item → Type 0
-Closing says_version before i = ⊥
+Closing (says_version v) before i = (before ≡ nothing) × (i ≡ Version (version_of v))
 Closing (says_size n q) before i = (before ≡ nothing) × (i ≡ Size n q)
 Closing (says_cost c) before i = (before ≡ nothing) × (i ≡ Cost c)
 Closing (says_bound b) before i = (before ≡ nothing) × (i ≡ Bound b)
 Closing (says_hubs hubs) before i = (front : List ℕ) × (k : ℕ) × (hubs ≡ front ++ k ∷ []) × (before ≡ some_hubs front) × (i ≡ Hub k true)
 Closing (says_route c r) before i = (before ≡ nothing) × (i ≡ Route c.0 c.1 r.0 r.1)
 Closing (says_cuts all) before i = (before ≡ nothing) × (i ≡ Cuts all)
-Closing (says_cut number) before i = (before ≡ nothing) × (i ≡ Cut number)
-Closing (says_dual c dual) before i =
-    ((dual.u ≡ []) × (before ≡ nothing) × (i ≡ Dual c.0 c.1 dual.a true))
-    ⊎ ((front : List (ℕ × ℕ)) × (e : ℕ × ℕ) × (dual.u ≡ front ++ e ∷ []) × (before ≡ some_values c (record { a = dual.a; u = front })) × (i ≡ DualPair e.0 e.1 true))
+Closing (says_cut number part) before i = (before ≡ nothing) × (i ≡ Cut number (part_of part))
+Closing (says_dual c run dual) before i =
+    ((dual.u ≡ []) × (before ≡ nothing) × (i ≡ Dual c.0 c.1 run dual.a true))
+    ⊎ ((front : List (ℕ × ℕ)) × (e : ℕ × ℕ) × (dual.u ≡ front ++ e ∷ []) × (before ≡ some_values c run (record { a = dual.a; u = front })) × (i ≡ DualPair e.0 e.1 true))
 Closing (says_nodes all) before i = (before ≡ nothing) × (i ≡ Nodes all)
 Closing (says_tree (branch_on k)) before i = (before ≡ nothing) × (i ≡ Branch k)
 Closing (says_tree (leaf_of denom weights)) before i =
     ((weights ≡ []) × (before ≡ nothing) × (i ≡ Leaf denom true))
     ⊎ ((front : List (ℕ × ℕ)) × (e : ℕ × ℕ) × (weights ≡ front ++ e ∷ []) × (before ≡ some_weights denom front) × (i ≡ LeafPair e.0 e.1 true))
 Closing (says_tree no_hub) before i = (before ≡ nothing) × (i ≡ Empty)
+Closing (says_tree (no_route commodity)) before i = ⊥
+Closing (says_tree no_count) before i = ⊥
 Closing says_end before i = (before ≡ nothing) × (i ≡ End)
 
 -- an item that grows a part at a stage
@@ -96,7 +100,7 @@ pub dual_front : (n a : ℕ) (front : List (ℕ × ℕ)) (e : ℕ × ℕ) → Is
 dual_front n a front e h = record {
   a = h.a;
   ascend = ascend_keys front e h.ascend;
-  each = all_front (λ (x : ℕ × ℕ). (x.0 < n) × (1 ≤ x.1) × (x.1 < 10 ^ 30)) front e h.each;
+  each = all_front (λ (x : ℕ × ℕ). (x.0 < n) × (1 ≤ x.1) × (x.1 < 10 ^ 33)) front e h.each;
 }
 
 pub leaf_front : (n denom : ℕ) (front : List (ℕ × ℕ)) (e : ℕ × ℕ) → IsLineInRange n (leaf_of denom (front ++ e ∷ [])) → IsLineInRange n (leaf_of denom front)
@@ -136,16 +140,16 @@ ends_hubs s hubs some up nodes =
           )
     ]
 
-ends_dual : (s : Shape) (all x t : ℕ) (c : ℕ × ℕ) (a : ℕ) (u : List (ℕ × ℕ)) → c ≡ commodity_at s.size t → IsDualInRange s.size (record { a = a; u = u })
-    → Ending (want_dual s all x t) (says_dual c (record { a = a; u = u }))
-ends_dual s all x t c a u at range =
-    elim (by_last u) as (λ v. Ending (want_dual s all x t) (says_dual c (record { a = a; u = u }))) [
+ends_dual : (s : Shape) (all x t : ℕ) (prior : Option Prices) (c : ℕ × ℕ) (run a : ℕ) (u : List (ℕ × ℕ)) → c ≡ commodity_at s.size t → IsRun s t run
+    → IsDualInRange s.size (record { a = a; u = u }) → Ending (want_dual s all x t prior) (says_dual c run (record { a = a; u = u }))
+ends_dual s all x t prior c run a u at is_run range =
+    elim (by_last u) as (λ v. Ending (want_dual s all x t prior) (says_dual c run (record { a = a; u = u }))) [
       | inl none ↦ (
-        Dual c.0 c.1 a true,
+        Dual c.0 c.1 run a true,
         record {
           before = nothing;
           may = tt;
-          items = ap (λ (l : List (ℕ × ℕ)). Dual c.0 c.1 a (none_left l) ∷ value_parts l) none;
+          items = ap (λ (l : List (ℕ × ℕ)). Dual c.0 c.1 run a (none_left l) ∷ value_parts l) none;
           closing = inl (none, refl, refl);
         },
       )
@@ -154,11 +158,11 @@ ends_dual s all x t c a u at range =
           let e = h.1 in (
             DualPair e.0 e.1 true,
             record {
-              before = some_values c (record { a = a; u = front });
-              may = (at, dual_front s.size a front e (subst (λ (l : List (ℕ × ℕ)). IsDualInRange s.size (record { a = a; u = l })) h.2 range));
-              items = ap (λ (l : List (ℕ × ℕ)). Dual c.0 c.1 a (none_left l) ∷ value_parts l) h.2
-                  ∙ ap (λ b. Dual c.0 c.1 a b ∷ value_parts (front ++ e ∷ [])) (none_left-push front e)
-                  ∙ ap (λ l. Dual c.0 c.1 a false ∷ l) (value_parts-last front e);
+              before = some_values c run (record { a = a; u = front });
+              may = (at, is_run, dual_front s.size a front e (subst (λ (l : List (ℕ × ℕ)). IsDualInRange s.size (record { a = a; u = l })) h.2 range));
+              items = ap (λ (l : List (ℕ × ℕ)). Dual c.0 c.1 run a (none_left l) ∷ value_parts l) h.2
+                  ∙ ap (λ b. Dual c.0 c.1 run a b ∷ value_parts (front ++ e ∷ [])) (none_left-push front e)
+                  ∙ ap (λ l. Dual c.0 c.1 run a false ∷ l) (value_parts-last front e);
               closing = inr (front, e, h.2, refl, refl);
             },
           )
@@ -192,30 +196,29 @@ ends_leaf s places left denom weights range =
           )
     ]
 
--- the stage is behind the first line
-abbrev pub IsLater : Stage → Type 0
-IsLater want_version = ⊥
-IsLater stage = Unit {0}
-
--- a line behind the first ends with an item
-pub each_ends : (stage : Stage) (l : Line) → Wants stage l → IsLater stage → Ending stage l
-each_ends want_version l h not = absurd not
-each_ends want_size (says_size n q) h not = (Size n q, whole want_size (says_size n q) (Size n q) tt refl (refl, refl))
-each_ends (want_cost s) (says_cost c) h not = (Cost c, whole (want_cost s) (says_cost c) (Cost c) tt refl (refl, refl))
-each_ends (want_bound s) (says_bound b) h not = (Bound b, whole (want_bound s) (says_bound b) (Bound b) tt refl (refl, refl))
-each_ends (want_hubs s) (says_hubs hubs) h not = ends_hubs s hubs h.0 h.1 h.2
-each_ends (want_route s t) (says_route c r) h not =
+-- a line ends with an item
+pub each_ends : (stage : Stage) (l : Line) → Wants stage l → Ending stage l
+each_ends want_version (says_version v) h =
+    (Version (version_of v), whole want_version (says_version v) (Version (version_of v)) tt refl (refl, refl))
+each_ends (want_size v) (says_size n q) h = (Size n q, whole (want_size v) (says_size n q) (Size n q) tt refl (refl, refl))
+each_ends (want_cost s) (says_cost c) h = (Cost c, whole (want_cost s) (says_cost c) (Cost c) tt refl (refl, refl))
+each_ends (want_bound s) (says_bound b) h = (Bound b, whole (want_bound s) (says_bound b) (Bound b) tt refl (refl, refl))
+each_ends (want_hubs s) (says_hubs hubs) h = ends_hubs s hubs h.0 h.1 h.2
+each_ends (want_route s t) (says_route c r) h =
     (Route c.0 c.1 r.0 r.1, whole (want_route s t) (says_route c r) (Route c.0 c.1 r.0 r.1) tt refl (refl, refl))
-each_ends (want_cuts s) (says_cuts all) h not = (Cuts all, whole (want_cuts s) (says_cuts all) (Cuts all) tt refl (refl, refl))
-each_ends (want_cut s all x) (says_cut number) h not = (Cut number, whole (want_cut s all x) (says_cut number) (Cut number) tt refl (refl, refl))
-each_ends (want_dual s all x t) (says_dual c dual) h not = ends_dual s all x t c dual.a dual.u h.0 h.1
-each_ends (want_nodes s) (says_nodes all) h not = (Nodes all, whole (want_nodes s) (says_nodes all) (Nodes all) tt refl (refl, refl))
-each_ends (want_tree s places left) (says_tree (branch_on k)) h not =
+each_ends (want_cuts s) (says_cuts all) h = (Cuts all, whole (want_cuts s) (says_cuts all) (Cuts all) tt refl (refl, refl))
+each_ends (want_cut s all x) (says_cut number part) h =
+    (Cut number (part_of part), whole (want_cut s all x) (says_cut number part) (Cut number (part_of part)) tt refl (refl, refl))
+each_ends (want_dual s all x t prior) (says_dual c run dual) h = ends_dual s all x t prior c run dual.a dual.u h.0 h.1 h.2
+each_ends (want_nodes s) (says_nodes all) h = (Nodes all, whole (want_nodes s) (says_nodes all) (Nodes all) tt refl (refl, refl))
+each_ends (want_tree s places left) (says_tree (branch_on k)) h =
     (Branch k, whole (want_tree s places left) (says_tree (branch_on k)) (Branch k) tt refl (refl, refl))
-each_ends (want_tree s places left) (says_tree (leaf_of denom weights)) h not = ends_leaf s places left denom weights h.0
-each_ends (want_tree s places left) (says_tree no_hub) h not = (Empty, whole (want_tree s places left) (says_tree no_hub) Empty tt refl (refl, refl))
-each_ends want_end says_end h not = (End, whole want_end says_end End tt refl (refl, refl))
-each_ends stage l h not = absurd h
+each_ends (want_tree s places left) (says_tree (leaf_of denom weights)) h = ends_leaf s places left denom weights h.0
+each_ends (want_tree s places left) (says_tree no_hub) h = (Empty, whole (want_tree s places left) (says_tree no_hub) Empty tt refl (refl, refl))
+each_ends (want_tree s places left) (says_tree (no_route commodity)) h = absurd h.1
+each_ends (want_tree s places left) (says_tree no_count) h = absurd h.1
+each_ends want_end says_end h = (End, whole want_end says_end End tt refl (refl, refl))
+each_ends stage l h = absurd h
 
 -- ---- the last item of a part
 
@@ -241,16 +244,16 @@ grown_hubs s hubs may =
           )
     ]
 
-grown_values : (s : Shape) (all x t : ℕ) (c : ℕ × ℕ) (a : ℕ) (u : List (ℕ × ℕ)) → IsPart (want_dual s all x t) (some_values c (record { a = a; u = u }))
-    → Grown (want_dual s all x t) (some_values c (record { a = a; u = u }))
-grown_values s all x t c a u may =
-    elim (by_last u) as (λ v. Grown (want_dual s all x t) (some_values c (record { a = a; u = u }))) [
+grown_values : (s : Shape) (all x t : ℕ) (prior : Option Prices) (c : ℕ × ℕ) (run a : ℕ) (u : List (ℕ × ℕ))
+    → IsPart (want_dual s all x t prior) (some_values c run (record { a = a; u = u })) → Grown (want_dual s all x t prior) (some_values c run (record { a = a; u = u }))
+grown_values s all x t prior c run a u may =
+    elim (by_last u) as (λ v. Grown (want_dual s all x t prior) (some_values c run (record { a = a; u = u }))) [
       | inl none ↦ inr (
-        Dual c.0 c.1 a false,
+        Dual c.0 c.1 run a false,
         record {
           before = nothing;
           may = tt;
-          items = ap (λ (l : List (ℕ × ℕ)). Dual c.0 c.1 a false ∷ open_values l) none;
+          items = ap (λ (l : List (ℕ × ℕ)). Dual c.0 c.1 run a false ∷ open_values l) none;
           growing = inl (none, refl, refl);
         },
       )
@@ -260,10 +263,10 @@ grown_values s all x t c a u may =
           inr (
             DualPair e.0 e.1 false,
             record {
-              before = some_values c (record { a = a; u = front });
-              may = (may.0, dual_front s.size a front e (subst (λ (l : List (ℕ × ℕ)). IsDualInRange s.size (record { a = a; u = l })) h.2 may.1));
-              items = ap (λ (l : List (ℕ × ℕ)). Dual c.0 c.1 a false ∷ open_values l) h.2
-                  ∙ ap (λ l. Dual c.0 c.1 a false ∷ l) (map-append (λ (e : ℕ × ℕ). DualPair e.0 e.1 false) front (e ∷ []));
+              before = some_values c run (record { a = a; u = front });
+              may = (may.0, may.1, dual_front s.size a front e (subst (λ (l : List (ℕ × ℕ)). IsDualInRange s.size (record { a = a; u = l })) h.2 may.2));
+              items = ap (λ (l : List (ℕ × ℕ)). Dual c.0 c.1 run a false ∷ open_values l) h.2
+                  ∙ ap (λ l. Dual c.0 c.1 run a false ∷ l) (map-append (λ (e : ℕ × ℕ). DualPair e.0 e.1 false) front (e ∷ []));
               growing = inr (front, e, h.2, refl, refl);
             },
           )
@@ -299,7 +302,7 @@ grown_weights s places left denom weights may =
 
 pub each_grown : (stage : Stage) (part : Part) → IsPart stage part → Grown stage part
 each_grown (want_hubs s) (some_hubs hubs) may = grown_hubs s hubs may
-each_grown (want_dual s all x t) (some_values c dual) may = grown_values s all x t c dual.a dual.u may
+each_grown (want_dual s all x t prior) (some_values c run dual) may = grown_values s all x t prior c run dual.a dual.u may
 each_grown (want_tree s places left) (some_weights denom weights) may = grown_weights s places left denom weights may
 each_grown stage nothing may = inl refl
 each_grown stage part may = absurd may
@@ -312,42 +315,15 @@ pub leads_last : (first : Stage) (front : List Line) (l : Line) (last : Stage) �
 leads_last first [] l last h = (first, refl, h.0, h.1)
 leads_last first (x ∷ front) l last h = let r = leads_last (after first x) front l last h.1 in (r.0, (h.0, r.1), r.2, r.3)
 
-later_both : (b : Bool) (x y : Stage) → IsLater x → IsLater y → IsLater (cond b x y)
-later_both true x y h k = h
-later_both false x y h k = k
-
-later_cut : (s : Shape) (all x : ℕ) → IsLater (after_cut s all x)
-later_cut s all x = later_both (nat_eq x all) (want_nodes s) (want_cut s all x) tt tt
-
-later_after : (stage : Stage) (l : Line) → Wants stage l → IsLater (after stage l)
-later_after want_version says_version h = tt
-later_after want_size (says_size n q) h = tt
-later_after (want_cost s) (says_cost c) h = tt
-later_after (want_bound s) (says_bound b) h = tt
-later_after (want_hubs s) (says_hubs hubs) h = tt
-later_after (want_route s t) (says_route c r) h = later_both (nat_eq (t + 1) (s.size * s.size)) (want_cuts s) (want_route s (t + 1)) tt tt
-later_after (want_cuts s) (says_cuts all) h = later_cut s all 0
-later_after (want_cut s all x) (says_cut number) h = tt
-later_after (want_dual s all x t) (says_dual c dual) h =
-    later_both (nat_eq (t + 1) (s.size * s.size)) (after_cut s all (x + 1)) (want_dual s all x (t + 1)) (later_cut s all (x + 1)) tt
-later_after (want_nodes s) (says_nodes all) h = tt
-later_after (want_tree s places left) (says_tree line) h = later_both (nat_eq (left - 1) 0) want_end (want_tree s (places_after places line) (left - 1)) tt tt
-later_after want_end says_end h = tt
-later_after stage l h = absurd h
-
-later_leads : (first : Stage) (lines : List Line) (last : Stage) → IsLater first → Leads first lines last → IsLater last
-later_leads first [] last h e = subst IsLater e h
-later_leads first (l ∷ lines) last h lead = later_leads (after first l) lines last (later_after first l lead.0) lead.1
-
 -- what an item that is the last of some is of their lines
 pub data Coming (given : List Item) (i : Item) (lines : List Line) (stage : Stage) (part : Part) : Type 0 where
   goes_on : (before : Part) → IsPart stage before → given ≡ flat_map parts_of lines ++ part_items before → Growing part before i
       → Coming given i lines stage part
-  ends : (front : List Line) (l : Line) (at : Stage) (before : Part) → lines ≡ front ++ l ∷ [] → Leads want_size front at → Wants at l
+  ends : (front : List Line) (l : Line) (at : Stage) (before : Part) → lines ≡ front ++ l ∷ [] → Leads want_version front at → Wants at l
       → stage ≡ after at l → part_items part ≡ [] → IsPart at before → given ≡ flat_map parts_of front ++ part_items before
       → Closing l before i → Coming given i lines stage part
 
-coming_end : (given : List Item) (i : Item) (lines : List Line) (stage : Stage) (part : Part) → Leads want_size lines stage
+coming_end : (given : List Item) (i : Item) (lines : List Line) (stage : Stage) (part : Part) → Leads want_version lines stage
     → part_items part ≡ [] → given ++ i ∷ [] ≡ flat_map parts_of lines → Coming given i lines stage part
 coming_end given i lines stage part lead none are =
     elim (by_last lines) as (λ v. Coming given i lines stage part) [
@@ -355,15 +331,15 @@ coming_end given i lines stage part lead none are =
       | inr h ↦
           let front = h.0 in
           let l = h.1 in
-          let r = leads_last want_size front l stage (subst (λ ls. Leads want_size ls stage) h.2 lead) in
-          let e = each_ends r.0 l r.2 (later_leads want_size front r.0 tt r.1) in
+          let r = leads_last want_version front l stage (subst (λ ls. Leads want_version ls stage) h.2 lead) in
+          let e = each_ends r.0 l r.2 in
           let same = same_from_push given (flat_map parts_of front ++ part_items e.1.before) i e.0
           (are ∙ ap (flat_map parts_of) h.2 ∙ flat_map-append parts_of front (l ∷ []) ∙ ap (λ x. flat_map parts_of front ++ x) (append-nil (parts_of l) ∙ e.1.items)
           ∙ sym (append_assoc (flat_map parts_of front) (part_items e.1.before) (e.0 ∷ []))) in
           ends front l r.0 e.1.before h.2 r.1 r.2 (sym r.3) none e.1.may same.0 (subst (Closing l e.1.before) (sym same.1) e.1.closing)
     ]
 
-pub coming : (given : List Item) (i : Item) (lines : List Line) (stage : Stage) (part : Part) → Leads want_size lines stage
+pub coming : (given : List Item) (i : Item) (lines : List Line) (stage : Stage) (part : Part) → Leads want_version lines stage
     → IsPart stage part → given ++ i ∷ [] ≡ flat_map parts_of lines ++ part_items part → Coming given i lines stage part
 coming given i lines stage part lead may are =
     elim (each_grown stage part may) as (λ v. Coming given i lines stage part) [

@@ -1,15 +1,15 @@
 -- The items up to the last route.
-use Rattle.std.proofs.Common.{◌≡◌, ℕ, ◌+◌, ◌*◌, ◌<◌, ◌≤◌, ◌↔◌, Bool, true, false, IsTrue, List, [], ◌∷◌, ◌++◌, length, nat_eq, None, All, Contains, refl, sym, ap, ap₂, subst, ◌∙◌, mul-pos, div-add-mod', length-append, arith}
+use Rattle.std.proofs.Common.{◌≡◌, ℕ, ◌+◌, ◌*◌, ◌<◌, ◌≤◌, ◌↔◌, Bool, true, false, IsTrue, List, [], ◌∷◌, ◌++◌, length, nat_eq, None, IfSome, All, Contains, refl, sym, ap, ap₂, subst, ◌∙◌, mul-pos, div-add-mod', length-append, arith}
 use Rattle.std.proofs.lemmas.Bool.{eqb-true}
 use Rattle.std.proofs.lemmas.List.Sums.{sum_by_push}
 use Rattle.std.proofs.lemmas.List.Elements.{All-push, All-nil}
 use Rattle.hub_spec.specs.Problem.{Problem, IsProblem, fixed_cost, commodity_at}
-use Rattle.hub_spec.specs.Plans.{plan_cost}
+use Rattle.hub_spec.specs.Plans.{plan_cost, HasWanted}
 use Rattle.hub_spec.specs.Ranges.{IsShort}
 use Rattle.hub_spec.proofs.Commodities.{commodity_nodes}
-use Rattle.cert_spec.specs.Lines.{says_size, says_cost, says_bound, says_hubs, says_route}
-use Rattle.cert_spec.specs.Grammar.{Shape, want_size, want_cost, want_bound, want_hubs, want_route}
-use Rattle.cert_spec.specs.Conditions.{claim, Size, BoundOverCost, Hubs, Route, Cost, if_time}
+use Rattle.cert_spec.specs.Lines.{says_version, says_size, says_cost, says_bound, says_hubs, says_route}
+use Rattle.cert_spec.specs.Grammar.{Shape, want_version, want_size, want_cost, want_bound, want_hubs, want_route}
+use Rattle.cert_spec.specs.Conditions.{claim, Size, BoundOverCost, Hubs, Number, Route, Cost, if_time}
 use Rattle.cert_spec.specs.Progress.{Progress}
 use Rattle.plan_lines.specs.Tallies.{PlanTally, no_plan, with_hub, with_route, IsTallyOf}
 use Rattle.plan_lines.proofs.PlanTallies.{costs_plan, has_route}
@@ -18,12 +18,17 @@ use Rattle.cert_stream.specs.Taken.{nothing, some_hubs, StandsFirm, HubsStand, K
 use Rattle.cert_stream.specs.declared.checks.Checks.{Checks}
 use Rattle.cert_stream.proofs.Lists.{all_front, all_last}
 use Rattle.cert_stream.proofs.Counting.{route_cases}
-use Rattle.cert_stream.proofs.Trying.{tried_cons, tried_one, tried_time}
+use Rattle.cert_stream.proofs.Trying.{tried_more, tried_cons, tried_one, tried_time}
 use Rattle.cert_stream.proofs.Kept.{Closed, Grown}
 
-pub close_size : (c : Checks) (s : Progress) (n q : ℕ) (new : Checks) → c.line ≡ s.line → StandsFirm c s → Keeps c s want_size nothing
-    → Ends (size_tests c n q) c new → Closed c s want_size (says_size n q) new
-close_size c s n q new e st k h =
+pub close_version : (c : Checks) (s : Progress) (v : ℕ) (new : Checks) → StandsFirm c s → Keeps c s want_version nothing
+    → new ≡ ended c None → Closed c s want_version (says_version v) new
+close_version c s v new st k h =
+    record { kept = c; found = None; is = h; same = refl; line_is = refl; tried = tt; keeps = λ all. (st, k) }
+
+pub close_size : (c : Checks) (s : Progress) (v n q : ℕ) (new : Checks) → c.line ≡ s.line → StandsFirm c s → Keeps c s (want_size v) nothing
+    → Ends (size_tests c n q) c new → Closed c s (want_size v) (says_size n q) new
+close_size c s v n q new e st k h =
     let P : Type 0 = (n ≡ c.instance.now.size) × (q ≡ length c.instance.now.candidates) in
     record {
       kept = c;
@@ -129,6 +134,10 @@ grow_hub c s sh front k new st keeps h =
       keeps = (keeps.0, hubs_more c.instance.now front k s.routes c.plan c.are_candidates h.are keeps.1 h.known, keeps.2);
     })
 
+-- where no number of hubs is wanted, any is
+any_wanted : (p : Problem) (hubs : List ℕ) → p.wanted ≡ None → HasWanted p hubs
+any_wanted p hubs any = subst (λ o. IfSome o (λ n. length hubs ≡ n)) (sym any) tt
+
 some_square : (p : Problem) → IsProblem p → 0 < p.size * p.size
 some_square p ok = mul-pos ok.some_node ok.some_node
 
@@ -143,7 +152,9 @@ close_hubs c s sh front k new e st keeps h =
       is = h.goes.is;
       same = refl;
       line_is = refl;
-      tried = tried_one Hubs c.line s.line c.line (IsTrue h.are) (All (Contains p.candidates) (front ++ k ∷ [])) h.goes.found e more.known.0 more.known.1 h.goes.tried;
+      tried = tried_more (claim Hubs s.line (All (Contains p.candidates) (front ++ k ∷ [])) ∷ [])
+          (claim Number s.line (HasWanted p (front ++ k ∷ [])) ∷ []) h.goes.found c.line (any_wanted p (front ++ k ∷ []) st.problem.any_number, tt)
+          (tried_one Hubs c.line s.line c.line (IsTrue h.are) (All (Contains p.candidates) (front ++ k ∷ [])) h.goes.found e more.known.0 more.known.1 h.goes.tried);
       keeps = λ all. (
         st,
         (

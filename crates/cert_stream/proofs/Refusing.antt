@@ -1,19 +1,20 @@
 -- A check asks for memory where a cut begins, and no cut begins behind the number of the tree's lines.
-use Rattle.std.proofs.Common.{◌≡◌, ℕ, ◌-◌, List, [], ◌∷◌, ◌++◌, length, take, drop, flat_map, false, Some, nat_eq, ◌⊎◌, inl, inr, refl, sym, ap, subst, ◌∙◌, append_assoc, append-nil, arith}
+use Rattle.std.proofs.Common.{◌≡◌, ℕ, ◌-◌, List, [], ◌∷◌, ◌++◌, length, take, drop, flat_map, false, Option, Some, nat_eq, ◌⊎◌, inl, inr, refl, sym, ap, subst, ◌∙◌, append_assoc, append-nil, arith}
 use Rattle.std.specs.Prelude.{All, Contains, Result, Ok, Err, OnErr}
 use Rattle.std.proofs.lemmas.Bool.{cond_both}
 use Rattle.std.proofs.lemmas.List.{take-append-drop, take_rest}
 use Rattle.std.proofs.lemmas.List.Elements.{All-nil, All-cons, All-head, All-tail, All-append, All-map, All-weaker, All-contains, Contains-append_right, Contains-append_cases}
 use Rattle.hub_spec.specs.Problem.{commodity_at}
-use Rattle.hub_spec.specs.Trees.{TreeLine, branch_on, leaf_of, no_hub}
+use Rattle.hub_spec.specs.Trees.{TreeLine, branch_on, leaf_of, no_hub, no_route, no_count}
 use Rattle.cert_spec.specs.Lines.{Item as Line, says_version, says_size, says_cost, says_bound, says_hubs, says_route, says_cuts, says_cut, says_dual, says_nodes, says_tree, says_end}
 use Rattle.cert_spec.specs.Grammar.{Shape, Stage, want_version, want_end, want_nothing, want_hubs, want_nodes, want_dual, want_tree, Wants, places_after, after, after_tree, Leads}
 use Rattle.cert_scan.specs.Scans.{new_scan, scanned, given_all}
+use Rattle.cert_scan.specs.Versions.{version_of}
 use Rattle.cert_scan.specs.Parts.{parts_of, hub_parts, value_parts, weight_parts, tree_parts, none_left, open_values, open_weights}
 use Rattle.cert_scan.specs.Given.{IsBegun}
 use Rattle.cert_scan.specs.Runs.{Runs}
 use Rattle.cert_scan.specs.declared.items.Item.{Item}
-use Rattle.cert_scan.specs.declared.items.Item.TheVariants.{Size, Cost, Bound, Hub, Route, Cuts, Cut, Dual, DualPair, Nodes, Branch, Leaf, LeafPair, Empty, End}
+use Rattle.cert_scan.specs.declared.items.Item.TheVariants.{Version, Size, Cost, Bound, Hub, Route, Cuts, Cut, Dual, DualPair, Nodes, Branch, Leaf, LeafPair, Empty, End}
 use Rattle.cert_scan.specs.declared.scanner.Scan.{Scan}
 use Rattle.cert_scan.proofs.Goes.{scanned-append, given_all-append}
 use Rattle.cert_scan.proofs.Tracks.{scanned_given}
@@ -51,14 +52,14 @@ IsNoCount i = IsCount i → ⊥
 -- it is one of a line that lists
 abbrev IsOfList : Item → Type 0
 IsOfList (Hub k last) = Unit {0}
-IsOfList (Dual i j a last) = Unit {0}
+IsOfList (Dual i j run a last) = Unit {0}
 IsOfList (DualPair k u last) = Unit {0}
 IsOfList (Leaf denom last) = Unit {0}
 IsOfList (LeafPair c w last) = Unit {0}
 IsOfList other = ⊥
 
 list_no_cut : (i : Item) → IsOfList i → IsNoCut i
-list_no_cut (Cut number) h = λ is. h
+list_no_cut (Cut number part) h = λ is. h
 list_no_cut other h = λ is. is
 
 list_no_count : (i : Item) → IsOfList i → IsNoCount i
@@ -87,9 +88,9 @@ weights_of_list (e ∷ rest) = All-cons IsOfList (LeafPair e.0 e.1 (none_left re
 begun_of_list : (stage : Stage) (given : List Item) → IsBegun stage given → All IsOfList given
 begun_of_list (want_hubs s) given h =
     subst (All IsOfList) (sym h.are) (All-map IsOfList (λ (k : ℕ). Hub k false) h.hubs (each (λ (k : ℕ). IsOfList (Hub k false)) (λ k. tt) h.hubs))
-begun_of_list (want_dual s all x t) given (inl none) = subst (All IsOfList) (sym none) (All-nil IsOfList)
-begun_of_list (want_dual s all x t) given (inr h) =
-    subst (All IsOfList) (sym h.are) (All-cons IsOfList (Dual (commodity_at s.size t).0 (commodity_at s.size t).1 h.dual.a false) (open_values h.dual.u) tt
+begun_of_list (want_dual s all x t before) given (inl none) = subst (All IsOfList) (sym none) (All-nil IsOfList)
+begun_of_list (want_dual s all x t before) given (inr h) =
+    subst (All IsOfList) (sym h.are) (All-cons IsOfList (Dual (commodity_at s.size t).0 (commodity_at s.size t).1 h.run h.dual.a false) (open_values h.dual.u) tt
     (All-map IsOfList (λ (e : ℕ × ℕ). DualPair e.0 e.1 false) h.dual.u (each (λ (e : ℕ × ℕ). IsOfList (DualPair e.0 e.1 false)) (λ e. tt) h.dual.u)))
 begun_of_list (want_tree s places left) given (inl none) = subst (All IsOfList) (sym none) (All-nil IsOfList)
 begun_of_list (want_tree s places left) given (inr h) =
@@ -105,10 +106,12 @@ tree_no_cut (branch_on k) = All-cons IsNoCut (Branch k) [] (λ is. is) (All-nil 
 tree_no_cut (leaf_of denom weights) =
     All-cons IsNoCut (Leaf denom (none_left weights)) (weight_parts weights) (λ is. is) (All-weaker IsOfList IsNoCut list_no_cut (weight_parts weights) (weights_of_list weights))
 tree_no_cut no_hub = All-cons IsNoCut Empty [] (λ is. is) (All-nil IsNoCut)
+tree_no_cut (no_route commodity) = All-nil IsNoCut
+tree_no_cut no_count = All-nil IsNoCut
 
 -- a line begins a cut, or none of its items does
-pub cut_or_none : (line : Line) → ((number : ℕ) × (line ≡ says_cut number)) ⊎ All IsNoCut (parts_of line)
-cut_or_none says_version = inr (All-nil IsNoCut)
+pub cut_or_none : (line : Line) → ((number : ℕ) × (part : Option ℕ) × (line ≡ says_cut number part)) ⊎ All IsNoCut (parts_of line)
+cut_or_none (says_version v) = inr (All-cons IsNoCut (Version (version_of v)) [] (λ is. is) (All-nil IsNoCut))
 cut_or_none (says_size n q) = inr (All-cons IsNoCut (Size n q) [] (λ is. is) (All-nil IsNoCut))
 cut_or_none (says_cost c) = inr (All-cons IsNoCut (Cost c) [] (λ is. is) (All-nil IsNoCut))
 cut_or_none (says_bound b) = inr (All-cons IsNoCut (Bound b) [] (λ is. is) (All-nil IsNoCut))
@@ -116,9 +119,9 @@ cut_or_none (says_hubs hubs) = inr (All-weaker IsOfList IsNoCut list_no_cut (hub
 cut_or_none (says_route commodity route) =
     inr (All-cons IsNoCut (Route commodity.0 commodity.1 route.0 route.1) [] (λ is. is) (All-nil IsNoCut))
 cut_or_none (says_cuts all) = inr (All-cons IsNoCut (Cuts all) [] (λ is. is) (All-nil IsNoCut))
-cut_or_none (says_cut number) = inl (number, refl)
-cut_or_none (says_dual commodity dual) =
-    inr (All-cons IsNoCut (Dual commodity.0 commodity.1 dual.a (none_left dual.u)) (value_parts dual.u) (λ is. is)
+cut_or_none (says_cut number part) = inl (number, part, refl)
+cut_or_none (says_dual commodity run dual) =
+    inr (All-cons IsNoCut (Dual commodity.0 commodity.1 run dual.a (none_left dual.u)) (value_parts dual.u) (λ is. is)
     (All-weaker IsOfList IsNoCut list_no_cut (value_parts dual.u) (values_of_list dual.u)))
 cut_or_none (says_nodes all) = inr (All-cons IsNoCut (Nodes all) [] (λ is. is) (All-nil IsNoCut))
 cut_or_none (says_tree line) = inr (tree_no_cut line)
@@ -170,18 +173,20 @@ tree_in_turn : (line : TreeLine) (rest : List Item) → InTurn rest → InTurn (
 tree_in_turn (branch_on k) rest h = ((λ is. absurd is), h)
 tree_in_turn (leaf_of denom weights) rest h = ((λ is. absurd is), list_in_turn (weight_parts weights) rest (weights_of_list weights) h)
 tree_in_turn no_hub rest h = ((λ is. absurd is), h)
+tree_in_turn (no_route commodity) rest h = h
+tree_in_turn no_count rest h = h
 
 line_in_turn : (line : Line) (stage : Stage) (rest : List Item) → Wants stage line → InTurn rest → (IsInTree (after stage line) → All IsNoCut rest)
     → InTurn (parts_of line ++ rest)
-line_in_turn says_version stage rest w h none = h
+line_in_turn (says_version v) stage rest w h none = ((λ is. absurd is), h)
 line_in_turn (says_size n q) stage rest w h none = ((λ is. absurd is), h)
 line_in_turn (says_cost c) stage rest w h none = ((λ is. absurd is), h)
 line_in_turn (says_bound b) stage rest w h none = ((λ is. absurd is), h)
 line_in_turn (says_hubs hubs) stage rest w h none = list_in_turn (hub_parts hubs) rest (hubs_of_list hubs) h
 line_in_turn (says_route commodity route) stage rest w h none = ((λ is. absurd is), h)
 line_in_turn (says_cuts all) stage rest w h none = ((λ is. absurd is), h)
-line_in_turn (says_cut number) stage rest w h none = ((λ is. absurd is), h)
-line_in_turn (says_dual commodity dual) stage rest w h none = ((λ is. absurd is), list_in_turn (value_parts dual.u) rest (values_of_list dual.u) h)
+line_in_turn (says_cut number part) stage rest w h none = ((λ is. absurd is), h)
+line_in_turn (says_dual commodity run dual) stage rest w h none = ((λ is. absurd is), list_in_turn (value_parts dual.u) rest (values_of_list dual.u) h)
 line_in_turn (says_nodes all) (want_nodes s) rest w h none = ((λ is. none tt), h)
 line_in_turn (says_nodes all) stage rest w h none = absurd w
 line_in_turn (says_tree line) stage rest w h none = tree_in_turn line rest h
@@ -195,13 +200,13 @@ lines_in_turn stage (line ∷ lines) last more lead begun =
     (line_in_turn line stage (flat_map parts_of lines ++ more) lead.0 (lines_in_turn (after stage line) lines last more lead.1 begun)
     (λ h. tree_lines_no_cut (after stage line) lines last more h lead.1 begun))
 
-no_cut_behind : (xs ys : List Item) (all number : ℕ) → InTurn (xs ++ ys) → Contains xs (Nodes all) → Contains ys (Cut number) → ⊥
-no_cut_behind [] ys all number h counts cut = absurd (omega (arith, counts.1))
-no_cut_behind (x ∷ xs) ys all number h counts cut =
-    let behind : IsNoCount x = λ is. All-contains IsNoCut (xs ++ ys) (Cut number) (h.0 is) (Contains-append_right xs ys (Cut number) cut) tt in
+no_cut_behind : (xs ys : List Item) (all number part : ℕ) → InTurn (xs ++ ys) → Contains xs (Nodes all) → Contains ys (Cut number part) → ⊥
+no_cut_behind [] ys all number part h counts cut = absurd (omega (arith, counts.1))
+no_cut_behind (x ∷ xs) ys all number part h counts cut =
+    let behind : IsNoCount x = λ is. All-contains IsNoCut (xs ++ ys) (Cut number part) (h.0 is) (Contains-append_right xs ys (Cut number part) cut) tt in
     elim (Contains-append_cases (x ∷ []) xs (Nodes all) counts) [
       | inl here ↦ All-contains IsNoCount (x ∷ []) (Nodes all) (All-cons IsNoCount x [] behind (All-nil IsNoCount)) here tt
-      | inr later ↦ no_cut_behind xs ys all number h.1 later cut
+      | inr later ↦ no_cut_behind xs ys all number part h.1 later cut
     ]
 
 -- once the number of the tree's lines has come, no piece begins a cut
@@ -209,23 +214,23 @@ pub no_cut_once_counted : (bytes piece : List ℕ) → CountsTree (items_in byte
 no_cut_once_counted bytes piece counts cut =
     let all = scanned_given (bytes ++ piece) (given_all new_scan (bytes ++ piece)) (scanned new_scan (bytes ++ piece)) (record { reached = refl; gives = refl }) in
     let in_turn : InTurn (given_all new_scan (bytes ++ piece)) = subst InTurn (sym all.are) (lines_in_turn want_version all.lines all.stage all.more all.lead all.begun) in
-    no_cut_behind (items_in bytes) (items_behind bytes piece) counts.0 cut.0 (subst InTurn (given_all-append new_scan bytes piece) in_turn) counts.1 cut.1
+    no_cut_behind (items_in bytes) (items_behind bytes piece) counts.0 cut.0 cut.1 (subst InTurn (given_all-append new_scan bytes piece) in_turn) counts.1 cut.2
 
 -- ---- the item that is refused
 
-cut_number : (i : Item) → IsCut i → (number : ℕ) × (i ≡ Cut number)
-cut_number (Cut number) h = (number, refl)
-cut_number other h = absurd h
+cut_numbers : (i : Item) → IsCut i → (number part : ℕ) × (i ≡ Cut number part)
+cut_numbers (Cut number part) h = (number, part, refl)
+cut_numbers other h = absurd h
 
 -- it is one that the bytes give
 pub run_begins_cut : (old new : Scan) (bytes : List ℕ) (taken : ℕ) (i : Item) → Runs old bytes taken (Some i) new → IsCut i → BeginsCut (given_all old bytes)
 run_begins_cut old new bytes taken i r is =
-    let cut = cut_number i is in
+    let cut = cut_numbers i is in
     let later = given_all (scanned old (take taken bytes)) (drop taken bytes) in
-    let all : given_all old bytes ≡ Cut cut.0 ∷ later =
+    let all : given_all old bytes ≡ Cut cut.0 cut.1 ∷ later =
     ap (given_all old) (sym (take-append-drop taken bytes)) ∙ given_all-append old (take taken bytes) (drop taken bytes)
-    ∙ ap (λ g. g ++ later) (r.given ∙ ap (λ x. x ∷ []) cut.1) in
-    (cut.0, subst (λ g. Contains g (Cut cut.0)) (sym all) (0, omega arith, refl))
+    ∙ ap (λ g. g ++ later) (r.given ∙ ap (λ x. x ∷ []) cut.2) in
+    (cut.0, cut.1, subst (λ g. Contains g (Cut cut.0 cut.1)) (sym all) (0, omega arith, refl))
 
 -- and so one that the whole piece gives
 pub later_begins_cut : (bytes piece : List ℕ) (at : ℕ) (old now : Scan) → scanned new_scan bytes ≡ old → scanned new_scan (bytes ++ take at piece) ≡ now
@@ -236,4 +241,4 @@ later_begins_cut bytes piece at old now first second cut =
     let all : given_all old piece ≡ given_all old (take at piece) ++ given_all now rest =
     ap (given_all old) (sym (take-append-drop at piece)) ∙ given_all-append old (take at piece) (drop at piece)
     ∙ (λ i. given_all old (take at piece) ++ given_all (there i) (sym (take_rest piece at) i)) in
-    (cut.0, subst (λ g. Contains g (Cut cut.0)) (sym all) (Contains-append_right (given_all old (take at piece)) (given_all now rest) (Cut cut.0) cut.1))
+    (cut.0, cut.1, subst (λ g. Contains g (Cut cut.0 cut.1)) (sym all) (Contains-append_right (given_all old (take at piece)) (given_all now rest) (Cut cut.0 cut.1) cut.2))

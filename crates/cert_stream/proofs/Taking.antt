@@ -1,23 +1,27 @@
 -- One item of any line.
-use Rattle.std.proofs.Common.{◌≡◌, ℕ, ◌-◌, true, false, List, [], ◌∷◌, ◌++◌, None, inl, inr, refl, sym, ap, subst, ◌∙◌}
+use Rattle.std.proofs.Common.{◌≡◌, ℕ, ◌-◌, true, false, List, [], ◌∷◌, ◌++◌, Option, None, inl, inr, refl, sym, ap, subst, ◌∙◌}
 use Rattle.hub_spec.specs.Cuts.{Prices}
-use Rattle.hub_spec.specs.Trees.{branch_on, leaf_of, no_hub}
+use Rattle.hub_spec.specs.Trees.{branch_on, leaf_of, no_hub, no_route, no_count}
 use Rattle.hub_spec.specs.Problem.{commodity_at}
 use Rattle.hub_spec.specs.Ranges.{IsDualInRange, IsLineInRange}
-use Rattle.cert_spec.specs.Lines.{Item as Line, says_version, says_size, says_cost, says_bound, says_hubs, says_route, says_cuts, says_cut, says_dual, says_nodes, says_tree, says_end}
-use Rattle.cert_spec.specs.Grammar.{Shape, Stage, want_version, want_size, want_end, want_cost, want_bound, want_hubs, want_cuts, want_nodes, want_route, want_cut, want_dual, want_tree, IsOpen, Wants}
+use Rattle.cert_spec.specs.Lines.{part_of, Item as Line, says_version, says_size, says_cost, says_bound, says_hubs, says_route, says_cuts, says_cut, says_dual, says_nodes, says_tree, says_end}
+use Rattle.cert_spec.specs.Grammar.{Shape, Stage, want_version, want_size, want_end, want_cost, want_bound, want_hubs, want_cuts, want_nodes, want_route, want_cut, want_dual, want_tree, IsRun, IsOpen, Wants}
 use Rattle.cert_spec.specs.Progress.{Progress}
+use Rattle.dual_lines.specs.Lines.{ListedDual}
+use Rattle.cert_scan.specs.Versions.{version_of}
 use Rattle.cert_scan.specs.declared.items.Item.{Item}
-use Rattle.cert_scan.specs.declared.items.Item.TheVariants.{Size, Cost, Bound, Hub, Route, Cuts, Cut, Dual, DualPair, Nodes, Branch, Leaf, LeafPair, Empty, End}
-use Rattle.cert_stream.specs.Steps.{IsTaken, MayCome, dual_with, leaf_with, LeafEnds}
-use Rattle.cert_stream.specs.Taken.{Part, nothing, some_hubs, some_values, some_weights, IsPart, StandsFirm, Keeps}
+use Rattle.cert_scan.specs.declared.items.Item.TheVariants.{Version, Size, Cost, Bound, Hub, Route, Cuts, Cut, Dual, DualPair, Nodes, Branch, Leaf, LeafPair, Empty, End}
+use Rattle.cert_stream.specs.Steps.{IsTaken, MayCome, begun_dual, with_value, dual_with, leaf_with, LeafEnds}
+use Rattle.cert_stream.specs.Taken.{Part, nothing, some_hubs, some_values, some_weights, IsPart, StandsFirm, Lists, Keeps}
 use Rattle.cert_stream.specs.declared.checks.Checks.{Checks}
+use Rattle.cert_stream.specs.Sums.{CutTally, last_of}
+use Rattle.cert_stream.proofs.Loads.{last_of-last}
 use Rattle.cert_stream.proofs.Parting.{Growing, Closing}
 use Rattle.cert_stream.proofs.Kept.{Closed, Grown}
-use Rattle.cert_stream.proofs.PlanSteps.{close_size, close_cost, close_bound, grow_hub, close_hubs, close_route}
-use Rattle.cert_stream.proofs.CutSteps.{close_cuts, close_cut, grow_dual, close_dual}
+use Rattle.cert_stream.proofs.PlanSteps.{close_version, close_size, close_cost, close_bound, grow_hub, close_hubs, close_route}
+use Rattle.cert_stream.proofs.CutSteps.{close_cuts, close_cut, dual_firm, grow_dual, close_dual}
 use Rattle.cert_stream.proofs.TreeSteps.{close_nodes, close_end, close_branch, close_empty, begun_leaf, weighed_as, weighed_leaf, close_leaf}
-use Rattle.cert_stream.proofs.MayCome.{may_hub, may_route, may_dual, may_value, may_fill, may_end_leaf, may_weight}
+use Rattle.cert_stream.proofs.MayCome.{may_hub, may_route, may_cut, may_dual, may_value, may_fill, may_end_leaf, may_weight}
 
 -- what an item is for a check that keeps what it should: it may come, and so it leaves the check
 pub record IsSafe (c : Checks) (i : Item) (After : Checks → Type 0) : Type 0 where
@@ -48,30 +52,54 @@ grows_hubs c s sh hubs before i may g st keeps =
       leaves = λ new h. grow_hub c s sh front k new st kept h;
     }) may)
 
-grows_dual : (c : Checks) (s : Progress) (sh : Shape) (all x t : ℕ) (commodity : ℕ × ℕ) (a : ℕ) (u : List (ℕ × ℕ)) (before : Part) (i : Item)
-    → commodity ≡ commodity_at sh.size t → IsDualInRange sh.size (record { a = a; u = u })
-    → Growing (some_values commodity (record { a = a; u = u })) before i → StandsFirm c s → Keeps c s (want_dual sh all x t) before
-    → IsSafe c i (Grown c s (want_dual sh all x t) (some_values commodity (record { a = a; u = u })))
-grows_dual c s sh all x t commodity a u before i at range (inl g) st keeps =
+-- the dual of a run that stands, with a value more
+more_listed : (d : ListedDual) (part : ℕ) (commodity : ℕ × ℕ) (run a : ℕ) (front : List (ℕ × ℕ)) (e : ℕ × ℕ)
+    → Lists d part commodity run (record { a = a; u = front }) → Lists (with_value d e) part commodity run (record { a = a; u = front ++ e ∷ [] })
+more_listed d part commodity run a front e h = record {
+  commodity_is = h.commodity_is;
+  part_is = h.part_is;
+  run_is = h.run_is;
+  dual_is = ap (λ (d : Prices). let y : Prices = record { a = d.a; u = d.u ++ e ∷ [] } in y) h.dual_is;
+}
+
+-- the dual of a run that begins
+begun_listed : (c : Checks) (s : Progress) (sh : Shape) (all x t : ℕ) (before : Option Prices) (part : Part) (commodity : ℕ × ℕ) (run a : ℕ)
+    → Keeps c s (want_dual sh all x t before) part → Lists (begun_dual c commodity run a) s.part commodity run (record { a = a; u = [] })
+begun_listed c s sh all x t before part commodity run a keeps =
+    let d = keeps.1 in
+    record {
+      commodity_is = refl;
+      part_is = ap (λ (l : List CutTally). (last_of l).part) d.split ∙ ap (λ (y : CutTally). y.part) (last_of-last d.front d.last) ∙ d.last_is.part_is;
+      run_is = refl;
+      dual_is = refl;
+    }
+
+grows_dual : (c : Checks) (s : Progress) (sh : Shape) (all x t : ℕ) (prior : Option Prices) (commodity : ℕ × ℕ) (run a : ℕ) (u : List (ℕ × ℕ))
+    (before : Part) (i : Item) → commodity ≡ commodity_at sh.size t → IsRun sh t run → IsDualInRange sh.size (record { a = a; u = u })
+    → Growing (some_values commodity run (record { a = a; u = u })) before i → StandsFirm c s → Keeps c s (want_dual sh all x t prior) before
+    → IsSafe c i (Grown c s (want_dual sh all x t prior) (some_values commodity run (record { a = a; u = u })))
+grows_dual c s sh all x t prior commodity run a u before i at is_run range (inl g) st keeps =
+    let stage = want_dual sh all x t prior in
     let D : List (ℕ × ℕ) → Prices = λ l. record { a = a; u = l } in
-    by_item c i (Dual commodity.0 commodity.1 a false) (Grown c s (want_dual sh all x t) (some_values commodity (D u))) g.2
+    by_item c i (Dual commodity.0 commodity.1 run a false) (Grown c s stage (some_values commodity run (D u))) g.2
     (record {
-      may = may_dual c s sh all x t commodity a before st keeps at range.a;
-      leaves = λ new h. subst (λ l. Grown c s (want_dual sh all x t) (some_values commodity (D l)) new) (sym g.0)
-          (grow_dual c s sh all x t commodity (D []) new st before keeps h);
+      may = may_dual c s sh all x t prior commodity run a before st keeps at is_run range.a;
+      leaves = λ new h. subst (λ l. Grown c s stage (some_values commodity run (D l)) new) (sym g.0)
+          (grow_dual c s sh all x t prior commodity run (D []) (begun_dual c commodity run a) new st before keeps refl
+          (begun_listed c s sh all x t prior before commodity run a keeps) h);
     })
-grows_dual c s sh all x t commodity a u before i at range (inr g) st keeps =
+grows_dual c s sh all x t prior commodity run a u before i at is_run range (inr g) st keeps =
+    let stage = want_dual sh all x t prior in
     let D : List (ℕ × ℕ) → Prices = λ l. record { a = a; u = l } in
     let front = g.0 in
     let e = g.1 in
-    let kept = keeps_at c s (want_dual sh all x t) before (some_values commodity (D front)) g.3 keeps in
-    let same : record { a = c.dual.dual.a; u = c.dual.dual.u ++ e ∷ [] } ≡ D (front ++ e ∷ []) = ap (λ (d : Prices). let y : Prices = record { a = d.a; u = d.u ++ e ∷ [] } in y) kept.2.1 in
-    by_item c i (DualPair e.0 e.1 false) (Grown c s (want_dual sh all x t) (some_values commodity (D u))) g.4
+    let kept = keeps_at c s stage before (some_values commodity run (D front)) g.3 keeps in
+    by_item c i (DualPair e.0 e.1 false) (Grown c s stage (some_values commodity run (D u))) g.4
     (record {
-      may = may_value c s sh all x t commodity a front e st kept (subst (λ l. IsDualInRange sh.size (D l)) g.2 range);
-      leaves = λ new h. subst (λ l. Grown c s (want_dual sh all x t) (some_values commodity (D l)) new) (sym g.2)
-          (grow_dual c s sh all x t commodity (D (front ++ e ∷ [])) new st before keeps
-          (h ∙ ap (λ d. dual_with c c.dual.commodity d) same ∙ ap (λ k. dual_with c k (D (front ++ e ∷ []))) kept.2.0));
+      may = may_value c s sh all x t prior commodity run a front e st kept is_run (subst (λ l. IsDualInRange sh.size (D l)) g.2 range);
+      leaves = λ new h. subst (λ l. Grown c s stage (some_values commodity run (D l)) new) (sym g.2)
+          (grow_dual c s sh all x t prior commodity run (D (front ++ e ∷ [])) (with_value c.dual e) new st before keeps refl
+          (more_listed c.dual s.part commodity run a front e kept.2) h);
     })
 
 grows_leaf : (c : Checks) (s : Progress) (sh : Shape) (places left denom : ℕ) (weights : List (ℕ × ℕ)) (before : Part) (i : Item)
@@ -109,8 +137,8 @@ grows_leaf c s sh places left denom weights before i range (inr g) st keeps =
 pub grows : (at : Stage) (part before : Part) (i : Item) (c : Checks) (s : Progress) → IsPart at part → Growing part before i → StandsFirm c s
     → Keeps c s at before → IsSafe c i (Grown c s at part)
 grows (want_hubs sh) (some_hubs hubs) before i c s may g st keeps = grows_hubs c s sh hubs before i may g st keeps
-grows (want_dual sh all x t) (some_values commodity dual) before i c s may g st keeps =
-    grows_dual c s sh all x t commodity dual.a dual.u before i may.0 may.1 g st keeps
+grows (want_dual sh all x t prior) (some_values commodity run dual) before i c s may g st keeps =
+    grows_dual c s sh all x t prior commodity run dual.a dual.u before i may.0 may.1 may.2 g st keeps
 grows (want_tree sh places left) (some_weights denom weights) before i c s may g st keeps =
     grows_leaf c s sh places left denom weights before i may g st keeps
 grows at nothing before i c s may g st keeps = absurd g
@@ -132,30 +160,35 @@ closes_hubs c s sh hubs before i e wants g st keeps =
       leaves = λ new h. close_hubs c s sh front k new e st kept h;
     }) wants)
 
-closes_dual : (c : Checks) (s : Progress) (sh : Shape) (all x t : ℕ) (commodity : ℕ × ℕ) (a : ℕ) (u : List (ℕ × ℕ)) (before : Part) (i : Item)
-    → c.line ≡ s.line → commodity ≡ commodity_at sh.size t → IsDualInRange sh.size (record { a = a; u = u })
-    → Closing (says_dual commodity (record { a = a; u = u })) before i → StandsFirm c s → Keeps c s (want_dual sh all x t) before
-    → IsSafe c i (Closed c s (want_dual sh all x t) (says_dual commodity (record { a = a; u = u })))
-closes_dual c s sh all x t commodity a u before i line at range (inl g) st keeps =
+closes_dual : (c : Checks) (s : Progress) (sh : Shape) (all x t : ℕ) (prior : Option Prices) (commodity : ℕ × ℕ) (run a : ℕ) (u : List (ℕ × ℕ))
+    (before : Part) (i : Item) → c.line ≡ s.line → commodity ≡ commodity_at sh.size t → IsRun sh t run
+    → IsDualInRange sh.size (record { a = a; u = u }) → Closing (says_dual commodity run (record { a = a; u = u })) before i → StandsFirm c s
+    → Keeps c s (want_dual sh all x t prior) before
+    → IsSafe c i (Closed c s (want_dual sh all x t prior) (says_dual commodity run (record { a = a; u = u })))
+closes_dual c s sh all x t prior commodity run a u before i line at is_run range (inl g) st keeps =
+    let stage = want_dual sh all x t prior in
     let D : List (ℕ × ℕ) → Prices = λ l. record { a = a; u = l } in
-    by_item c i (Dual commodity.0 commodity.1 a true) (Closed c s (want_dual sh all x t) (says_dual commodity (D u))) g.2
+    let listed = begun_dual c commodity run a in
+    by_item c i (Dual commodity.0 commodity.1 run a true) (Closed c s stage (says_dual commodity run (D u))) g.2
     (record {
-      may = may_dual c s sh all x t commodity a before st keeps at range.a;
-      leaves = λ new h. subst (λ l. Closed c s (want_dual sh all x t) (says_dual commodity (D l)) new) (sym g.0)
-          (close_dual (dual_with c commodity (D [])) s sh all x t commodity (D []) new line st (keeps.0, keeps.1, (refl, refl)) h);
+      may = may_dual c s sh all x t prior commodity run a before st keeps at is_run range.a;
+      leaves = λ new h. subst (λ l. Closed c s stage (says_dual commodity run (D l)) new) (sym g.0)
+          (close_dual (dual_with c listed) s sh all x t prior commodity run (D []) new line at is_run (dual_firm c s listed st refl)
+          (keeps.0, keeps.1, begun_listed c s sh all x t prior before commodity run a keeps) h);
     })
-closes_dual c s sh all x t commodity a u before i line at range (inr g) st keeps =
+closes_dual c s sh all x t prior commodity run a u before i line at is_run range (inr g) st keeps =
+    let stage = want_dual sh all x t prior in
     let D : List (ℕ × ℕ) → Prices = λ l. record { a = a; u = l } in
     let front = g.0 in
     let e = g.1 in
-    let kept = keeps_at c s (want_dual sh all x t) before (some_values commodity (D front)) g.3 keeps in
-    let same : record { a = c.dual.dual.a; u = c.dual.dual.u ++ e ∷ [] } ≡ D (front ++ e ∷ []) = ap (λ (d : Prices). let y : Prices = record { a = d.a; u = d.u ++ e ∷ [] } in y) kept.2.1 in
-    by_item c i (DualPair e.0 e.1 true) (Closed c s (want_dual sh all x t) (says_dual commodity (D u))) g.4
+    let listed = with_value c.dual e in
+    let kept = keeps_at c s stage before (some_values commodity run (D front)) g.3 keeps in
+    by_item c i (DualPair e.0 e.1 true) (Closed c s stage (says_dual commodity run (D u))) g.4
     (record {
-      may = may_value c s sh all x t commodity a front e st kept (subst (λ l. IsDualInRange sh.size (D l)) g.2 range);
-      leaves = λ new h. subst (λ l. Closed c s (want_dual sh all x t) (says_dual commodity (D l)) new) (sym g.2)
-          (close_dual (dual_with c c.dual.commodity (record { a = c.dual.dual.a; u = c.dual.dual.u ++ e ∷ [] })) s sh all x t commodity (D (front ++ e ∷ [])) new line st
-          (kept.0, kept.1, (kept.2.0, same)) h);
+      may = may_value c s sh all x t prior commodity run a front e st kept is_run (subst (λ l. IsDualInRange sh.size (D l)) g.2 range);
+      leaves = λ new h. subst (λ l. Closed c s stage (says_dual commodity run (D l)) new) (sym g.2)
+          (close_dual (dual_with c listed) s sh all x t prior commodity run (D (front ++ e ∷ [])) new line at is_run (dual_firm c s listed st refl)
+          (kept.0, kept.1, more_listed c.dual s.part commodity run a front e kept.2) h);
     })
 
 closes_leaf : (c : Checks) (s : Progress) (sh : Shape) (places left denom : ℕ) (weights : List (ℕ × ℕ)) (before : Part) (i : Item) → c.line ≡ s.line
@@ -192,10 +225,12 @@ closes_leaf c s sh places left denom weights before i line range opens (inr g) s
 
 pub closes : (at : Stage) (l : Line) (before : Part) (i : Item) (c : Checks) (s : Progress) → c.line ≡ s.line → Wants at l → Closing l before i
     → StandsFirm c s → Keeps c s at before → IsSafe c i (Closed c s at l)
-closes want_version says_version before i c s e w g st keeps = absurd g
-closes want_size (says_size n q) before i c s e w g st keeps =
-    by_item c i (Size n q) (Closed c s want_size (says_size n q)) g.1
-    (record { may = tt; leaves = λ new h. close_size c s n q new e st (keeps_at c s want_size before nothing g.0 keeps) h })
+closes want_version (says_version v) before i c s e w g st keeps =
+    by_item c i (Version (version_of v)) (Closed c s want_version (says_version v)) g.1
+    (record { may = tt; leaves = λ new h. close_version c s v new st (keeps_at c s want_version before nothing g.0 keeps) h })
+closes (want_size v) (says_size n q) before i c s e w g st keeps =
+    by_item c i (Size n q) (Closed c s (want_size v) (says_size n q)) g.1
+    (record { may = tt; leaves = λ new h. close_size c s v n q new e st (keeps_at c s (want_size v) before nothing g.0 keeps) h })
 closes (want_cost sh) (says_cost v) before i c s e w g st keeps =
     by_item c i (Cost v) (Closed c s (want_cost sh) (says_cost v)) g.1
     (record { may = tt; leaves = λ new h. close_cost c s sh v new st (keeps_at c s (want_cost sh) before nothing g.0 keeps) h })
@@ -214,11 +249,14 @@ closes (want_route sh t) (says_route commodity route) before i c s e w g st keep
 closes (want_cuts sh) (says_cuts all) before i c s e w g st keeps =
     by_item c i (Cuts all) (Closed c s (want_cuts sh) (says_cuts all)) g.1
     (record { may = tt; leaves = λ new h. close_cuts c s sh all new st (keeps_at c s (want_cuts sh) before nothing g.0 keeps) h })
-closes (want_cut sh all x) (says_cut number) before i c s e w g st keeps =
-    by_item c i (Cut number) (Closed c s (want_cut sh all x) (says_cut number)) g.1
-    (record { may = tt; leaves = λ new h. close_cut c s sh all x number new st (keeps_at c s (want_cut sh all x) before nothing g.0 keeps) h })
-closes (want_dual sh all x t) (says_dual commodity dual) before i c s e w g st keeps =
-    closes_dual c s sh all x t commodity dual.a dual.u before i e w.0 w.1 g st keeps
+closes (want_cut sh all x) (says_cut number part) before i c s e w g st keeps =
+    by_item c i (Cut number (part_of part)) (Closed c s (want_cut sh all x) (says_cut number part)) g.1
+    (record {
+      may = may_cut sh.version part w.1;
+      leaves = λ new h. close_cut c s sh all x number part new st (keeps_at c s (want_cut sh all x) before nothing g.0 keeps) h;
+    })
+closes (want_dual sh all x t prior) (says_dual commodity run dual) before i c s e w g st keeps =
+    closes_dual c s sh all x t prior commodity run dual.a dual.u before i e w.0 w.1 w.2 g st keeps
 closes (want_nodes sh) (says_nodes all) before i c s e w g st keeps =
     by_item c i (Nodes all) (Closed c s (want_nodes sh) (says_nodes all)) g.1
     (record { may = tt; leaves = λ new h. close_nodes c s sh all new st (keeps_at c s (want_nodes sh) before nothing g.0 keeps) h })
@@ -227,17 +265,19 @@ closes (want_tree sh places left) (says_tree (branch_on k)) before i c s e w g s
     by_item c i (Branch k) (Closed c s at (says_tree (branch_on k))) g.1
     (record {
       may = may_fill c s sh places left before keeps;
-      leaves = λ new h. close_branch c s sh places left k new e w.1 st (keeps_at c s at before nothing g.0 keeps) h;
+      leaves = λ new h. close_branch c s sh places left k new e w.2 st (keeps_at c s at before nothing g.0 keeps) h;
     })
 closes (want_tree sh places left) (says_tree (leaf_of denom weights)) before i c s e w g st keeps =
-    closes_leaf c s sh places left denom weights before i e w.0 w.1 g st keeps
+    closes_leaf c s sh places left denom weights before i e w.0 w.2 g st keeps
 closes (want_tree sh places left) (says_tree no_hub) before i c s e w g st keeps =
     let at = want_tree sh places left in
     by_item c i Empty (Closed c s at (says_tree no_hub)) g.1
     (record {
       may = may_fill c s sh places left before keeps;
-      leaves = λ new h. close_empty c s sh places left new e w.1 st (keeps_at c s at before nothing g.0 keeps) h;
+      leaves = λ new h. close_empty c s sh places left new e w.2 st (keeps_at c s at before nothing g.0 keeps) h;
     })
+closes (want_tree sh places left) (says_tree (no_route commodity)) before i c s e w g st keeps = absurd w.1
+closes (want_tree sh places left) (says_tree no_count) before i c s e w g st keeps = absurd w.1
 closes want_end says_end before i c s e w g st keeps =
     by_item c i End (Closed c s want_end says_end) g.1 (record { may = tt; leaves = λ new h. close_end c s new st h })
 closes at l before i c s e w g st keeps = absurd w

@@ -1,29 +1,29 @@
 -- The items of the tree.
-use Rattle.std.proofs.Common.{◌≡◌, ◌≢◌, ℕ, zero, suc, ◌+◌, ◌-◌, ◌*◌, ◌<◌, ◌≤◌, List, [], ◌∷◌, ◌++◌, length, get_or, Option, Some, None, MatchOption, All, Contains, inl, inr, refl, sym, ap, ap₂, subst, ◌∙◌, arith, ⊎_elim}
+use Rattle.std.proofs.Common.{◌≡◌, ◌≢◌, ℕ, zero, suc, ◌+◌, ◌-◌, ◌*◌, ◌/◌, ◌<◌, ◌≤◌, List, [], ◌∷◌, ◌++◌, length, get_or, Option, Some, None, MatchOption, All, Contains, inl, inr, refl, sym, ap, ap₂, subst, ◌∙◌, arith, ⊎_elim}
 use Rattle.std.specs.List.{AllZip}
 use Rattle.std.proofs.lemmas.List.Sums.{sum_by_push}
 use Rattle.std.proofs.lemmas.List.Elements.{All-push, All-nil, All-cons, All-head, All-tail}
 use Rattle.std.proofs.lemmas.Slice.Zip.{AllZip-long}
 use Rattle.hub_spec.specs.Problem.{Problem, IsProblem}
 use Rattle.hub_spec.specs.Cuts.{Cut, cut_by, total, load}
-use Rattle.hub_spec.specs.Trees.{Branching, root, open_child, closed_child, IsBranch, IsClosed, cut_at, weight_sum, leaf_bound, Closes, TreeLine, branch_on, leaf_of, no_hub}
+use Rattle.hub_spec.specs.Trees.{Branching, root, open_child, closed_child, IsBranch, IsClosed, cut_at, share, IsMultiple, weight_sum, HasRoom, leaf_bound, Closes, TreeLine, branch_on, leaf_of, no_hub}
 use Rattle.hub_spec.proofs.ChildLists.{root_branch, open_branch, closed_branch}
 use Rattle.cert_spec.specs.Lines.{says_nodes, says_tree, says_end}
 use Rattle.cert_spec.specs.Grammar.{Shape, want_nodes, want_tree, want_end, IsOpen, places_after, after_tree}
-use Rattle.cert_spec.specs.Conditions.{Claim, claim, Kind, AllHold, Empty, CutNumber, Weight, Leaf, tree_conditions}
+use Rattle.cert_spec.specs.Conditions.{Claim, claim, AllHold, Empty, Count, CutNumber, Multiple, Weight, Leaf, tree_conditions}
 use Rattle.cert_spec.specs.Progress.{Progress, filled}
 use Rattle.cert_checker.specs.declared.kinds.Kind as code
 use Rattle.tree_lines.specs.Trails.{undecided}
 use Rattle.tree_lines.specs.Paths.{next, behind_next}
-use Rattle.tree_lines.specs.Tallies.{Tally, IsBegun, IsAdded, tally_bound, AreSumsOf}
+use Rattle.tree_lines.specs.Tallies.{Tally, IsMultipleOf, IsBegun, IsAdded, tally_bound, AreSumsOf}
 use Rattle.tree_lines.proofs.TallyBounds.{bounds_leaf}
-use Rattle.cert_stream.specs.Sums.{CutTally, numbered}
-use Rattle.cert_stream.specs.Steps.{Tried, ended, Ends, rooted, branched, path_filled, BranchTaken, empty_tests, leaf_with, LeafEnds, IsWeighed, no_cut, failed, too_much, added}
+use Rattle.cert_stream.specs.Sums.{CutTally, no_sums, numbered}
+use Rattle.cert_stream.specs.Steps.{Tried, ended, Ends, rooted, branched, path_filled, BranchTaken, empty_tests, leaf_with, LeafEnds, no_multiple, IsWeighed, no_cut, not_multiple, failed, too_much, added}
 use Rattle.cert_stream.specs.Taken.{nothing, some_weights, StandsFirm, AreSumsOfCut, AreCutSums, TreeStands, AreNumbers, WeightsStand, Sized, Cutted, Keeps}
 use Rattle.cert_stream.specs.declared.checks.Checks.{Checks}
 use Rattle.cert_stream.proofs.Lists.{all_front, all_last}
 use Rattle.cert_stream.proofs.Counting.{tree_cases}
-use Rattle.cert_stream.proofs.Trying.{tried_one}
+use Rattle.cert_stream.proofs.Trying.{tried_behind, tried_one}
 use Rattle.cert_stream.proofs.Kept.{Closed}
 
 pub close_nodes : (c : Checks) (s : Progress) (sh : Shape) (all : ℕ) (new : Checks) → StandsFirm c s → Keeps c s (want_nodes sh) nothing
@@ -175,17 +175,21 @@ no_weights n cuts denom sums h = record {
   loads_are = h.loads_are;
 }
 
-weight_more : (n : ℕ) (cuts : List Cut) (denom : ℕ) (weights : List (ℕ × ℕ)) (e : ℕ × ℕ) (loads : List ℕ) (sum : ℕ) (sums later : Tally)
-    → AreSumsOf n cuts denom weights sums → sum ≡ total (cut_at cuts e.0) → ((k : ℕ) → get_or loads k 0 ≡ load (cut_at cuts e.0) k)
-    → IsAdded sums e.1 sum loads later → AreSumsOf n cuts denom (weights ++ e ∷ []) later
-weight_more n cuts denom weights e loads sum sums later h totals each a = record {
-  denom_is = a.denom_is ∙ h.denom_is;
-  weight_is = omega (arith, a.weight_is, h.weight_is, sum_by_push (λ (e : ℕ × ℕ). e.1) weights e);
-  base_is = a.base_is ∙ ap₂ (λ x y. x + e.1 * y) h.base_is totals ∙ sym (sum_by_push (λ (e : ℕ × ℕ). e.1 * total (cut_at cuts e.0)) weights e);
-  count = a.count ∙ h.count;
-  loads_are = λ k below. a.loads_are k (omega (arith, h.count)) ∙ ap₂ (λ x y. x + e.1 * y) (h.loads_are k below) (each k)
-      ∙ sym (sum_by_push (λ (e : ℕ × ℕ). e.1 * load (cut_at cuts e.0) k) weights e);
-}
+weight_more : (n : ℕ) (cuts : List Cut) (denom : ℕ) (weights : List (ℕ × ℕ)) (e : ℕ × ℕ) (loads : List ℕ) (part sum : ℕ) (sums later : Tally)
+    → AreSumsOf n cuts denom weights sums → part ≡ (cut_at cuts e.0).part → sum ≡ total (cut_at cuts e.0)
+    → ((k : ℕ) → get_or loads k 0 ≡ load (cut_at cuts e.0) k) → IsAdded sums e.1 part sum loads later
+    → AreSumsOf n cuts denom (weights ++ e ∷ []) later
+weight_more n cuts denom weights e loads part sum sums later h parts totals each a =
+    let times : e.1 / part ≡ share cuts e = ap (λ x. e.1 / x) parts in
+    record {
+      denom_is = a.denom_is ∙ h.denom_is;
+      weight_is = omega (arith, a.weight_is, h.weight_is, sum_by_push (λ (e : ℕ × ℕ). e.1) weights e);
+      base_is = a.base_is ∙ ap₂ (λ x y. x + y) h.base_is (ap₂ (λ x y. x * y) times totals)
+          ∙ sym (sum_by_push (λ (e : ℕ × ℕ). share cuts e * total (cut_at cuts e.0)) weights e);
+      count = a.count ∙ h.count;
+      loads_are = λ k below. a.loads_are k (omega (arith, h.count)) ∙ ap₂ (λ x y. x + y) (h.loads_are k below) (ap₂ (λ x y. x * y) times (each k))
+          ∙ sym (sum_by_push (λ (e : ℕ × ℕ). share cuts e * load (cut_at cuts e.0) k) weights e);
+    }
 
 -- what the leaf's sums are after a weight, and what failed
 pub record IsWeighedAs (c : Checks) (cuts : List Cut) (denom : ℕ) (weights : List (ℕ × ℕ)) (kept : Checks) : Type 0 where
@@ -195,14 +199,41 @@ pub record IsWeighedAs (c : Checks) (cuts : List Cut) (denom : ℕ) (weights : L
   pub long : length sums.loads ≡ length c.leaf.loads
   pub stands : WeightsStand c.instance.now cuts sums denom weights failure
 
+-- the weight of one more pair
+pushed_weight : (weights : List (ℕ × ℕ)) (e : ℕ × ℕ) → weight_sum (weights ++ e ∷ []) ≡ weight_sum weights + e.1
+pushed_weight weights e = sum_by_push (λ (e : ℕ × ℕ). e.1) weights e
+
+-- the numbers with one more
+numbers_more : (cuts : List Cut) (weights : List (ℕ × ℕ)) (e : ℕ × ℕ) → AreNumbers cuts weights → e.0 ≤ length cuts → AreNumbers cuts (weights ++ e ∷ [])
+numbers_more cuts weights e h within = All-push (λ (e : ℕ × ℕ). e.0 ≤ length cuts) weights e h within
+
 still_failed : (p : Problem) (cuts : List Cut) (sums : Tally) (denom : ℕ) (weights : List (ℕ × ℕ)) (e : ℕ × ℕ) (f : Option code.Kind) → f ≢ None
-    → e.0 ≤ length cuts → WeightsStand p cuts sums denom weights f → WeightsStand p cuts sums denom (weights ++ e ∷ []) f
-still_failed p cuts sums denom weights e None some within h = absurd (some refl)
-still_failed p cuts sums denom weights e (Some code.TheVariants.Weight) some within h =
-    (All-push (λ (e : ℕ × ℕ). e.0 ≤ length cuts) weights e h.0 within, omega (arith, h.1, sum_by_push (λ (e : ℕ × ℕ). e.1) weights e))
-still_failed p cuts sums denom weights e (Some code.TheVariants.CutNumber) some within h =
+    → e.0 ≤ length cuts → IsMultiple cuts e → WeightsStand p cuts sums denom weights f → WeightsStand p cuts sums denom (weights ++ e ∷ []) f
+still_failed p cuts sums denom weights e None some within is h = absurd (some refl)
+still_failed p cuts sums denom weights e (Some code.TheVariants.Weight) some within is h = (
+  numbers_more cuts weights e h.0 within,
+  All-push (IsMultiple cuts) weights e h.1 is,
+  omega (arith, h.2, pushed_weight weights e),
+)
+still_failed p cuts sums denom weights e (Some code.TheVariants.Multiple) some within is h =
+    (numbers_more cuts weights e h.0 within, λ all. h.1 (all_front (IsMultiple cuts) weights e all))
+still_failed p cuts sums denom weights e (Some code.TheVariants.CutNumber) some within is h =
     λ all. h (all_front (λ (e : ℕ × ℕ). e.0 ≤ length cuts) weights e all)
-still_failed p cuts sums denom weights e (Some other) some within h = absurd h
+still_failed p cuts sums denom weights e (Some other) some within is h = absurd h
+
+-- with a weight that is no multiple
+none_multiple : (p : Problem) (cuts : List Cut) (sums : Tally) (denom : ℕ) (weights : List (ℕ × ℕ)) (e : ℕ × ℕ) (f : Option code.Kind)
+    → e.0 ≤ length cuts → (IsMultiple cuts e → ⊥) → WeightsStand p cuts sums denom weights f
+    → WeightsStand p cuts sums denom (weights ++ e ∷ []) (no_multiple f)
+none_multiple p cuts sums denom weights e None within not h =
+    (numbers_more cuts weights e h.0 within, λ all. not (all_last (IsMultiple cuts) weights e all))
+none_multiple p cuts sums denom weights e (Some code.TheVariants.Weight) within not h =
+    (numbers_more cuts weights e h.0 within, λ all. not (all_last (IsMultiple cuts) weights e all))
+none_multiple p cuts sums denom weights e (Some code.TheVariants.Multiple) within not h =
+    (numbers_more cuts weights e h.0 within, λ all. not (all_last (IsMultiple cuts) weights e all))
+none_multiple p cuts sums denom weights e (Some code.TheVariants.CutNumber) within not h =
+    λ all. h (all_front (λ (e : ℕ × ℕ). e.0 ≤ length cuts) weights e all)
+none_multiple p cuts sums denom weights e (Some other) within not h = absurd h
 
 zip_at : {A B : Type 0} (R : A → B → Type 0) (xs : List A) (ys : List B) (i : ℕ) (d : A) (e : B) → AllZip R xs ys → i < length xs
     → R (get_or xs i d) (get_or ys i e)
@@ -215,7 +246,7 @@ zip_at R (x ∷ xs) (y ∷ ys) (suc i) d e h below = zip_at R xs ys i d e h.1 (o
 pub cut_numbered : (p : Problem) (cuts : List Cut) (sums : List CutTally) (number : ℕ) → AreCutSums p cuts sums → 1 ≤ number → number ≤ length sums
     → AreSumsOfCut p (cut_at cuts number) (numbered sums number)
 cut_numbered p cuts sums number h least most =
-    zip_at (AreSumsOfCut p) cuts sums (number - 1) (cut_by []) (record { count = 0; total = 0; loads = [] }) h
+    zip_at (AreSumsOfCut p) cuts sums (number - 1) (cut_by []) no_sums h
     (omega (arith, AllZip-long (AreSumsOfCut p) cuts sums h))
 
 pub weighed_as : (c kept : Checks) (cuts : List Cut) (denom : ℕ) (weights : List (ℕ × ℕ)) (e : ℕ × ℕ) → AreCutSums c.instance.now cuts c.cuts
@@ -229,39 +260,58 @@ weighed_as c kept cuts denom weights e are least h (no_cut above is) = record {
   stands = λ all. let x : e.0 ≤ length cuts = all_last (λ (e : ℕ × ℕ). e.0 ≤ length cuts) weights e all in
       absurd (omega (arith, AllZip-long (AreSumsOfCut c.instance.now) cuts c.cuts are));
 }
-weighed_as c kept cuts denom weights e are least h (failed within some is) = record {
-  sums = c.leaf;
-  failure = c.leaf_failure;
-  is = is;
-  long = refl;
-  stands = still_failed c.instance.now cuts c.leaf denom weights e c.leaf_failure some
-      (omega (arith, AllZip-long (AreSumsOfCut c.instance.now) cuts c.cuts are)) h;
-}
-weighed_as c kept cuts denom weights e are least h (too_much within none above is) =
-    let so_far = subst (WeightsStand c.instance.now cuts c.leaf denom weights) none h in
+weighed_as c kept cuts denom weights e are least h (not_multiple within not is) =
+    let p = c.instance.now in
+    let cut = cut_numbered p cuts c.cuts e.0 are least within in
+    record {
+      sums = c.leaf;
+      failure = no_multiple c.leaf_failure;
+      is = is;
+      long = refl;
+      stands = none_multiple p cuts c.leaf denom weights e c.leaf_failure (omega (arith, AllZip-long (AreSumsOfCut p) cuts c.cuts are))
+          (λ m. not (subst (λ x. IsMultipleOf x e.1) (sym cut.are.part_is) m)) h;
+    }
+weighed_as c kept cuts denom weights e are least h (failed within multiple some is) =
+    let p = c.instance.now in
+    let cut = cut_numbered p cuts c.cuts e.0 are least within in
+    record {
+      sums = c.leaf;
+      failure = c.leaf_failure;
+      is = is;
+      long = refl;
+      stands = still_failed p cuts c.leaf denom weights e c.leaf_failure some (omega (arith, AllZip-long (AreSumsOfCut p) cuts c.cuts are))
+          (subst (λ x. IsMultipleOf x e.1) cut.are.part_is multiple) h;
+    }
+weighed_as c kept cuts denom weights e are least h (too_much within multiple none above is) =
+    let p = c.instance.now in
+    let so_far = subst (WeightsStand p cuts c.leaf denom weights) none h in
+    let cut = cut_numbered p cuts c.cuts e.0 are least within in
     record {
       sums = c.leaf;
       failure = Some code.TheVariants.Weight;
       is = is;
       long = refl;
       stands = (
-        All-push (λ (e : ℕ × ℕ). e.0 ≤ length cuts) weights e so_far.0 (omega (arith, AllZip-long (AreSumsOfCut c.instance.now) cuts c.cuts are)),
-        omega (arith, so_far.2.denom_is, so_far.2.weight_is, sum_by_push (λ (e : ℕ × ℕ). e.1) weights e),
+        numbers_more cuts weights e so_far.0 (omega (arith, AllZip-long (AreSumsOfCut p) cuts c.cuts are)),
+        All-push (IsMultiple cuts) weights e so_far.1 (subst (λ x. IsMultipleOf x e.1) cut.are.part_is multiple),
+        omega (arith, so_far.3.denom_is, so_far.3.weight_is, pushed_weight weights e),
       );
     }
-weighed_as c kept cuts denom weights e are least h (added sums within none fits adds is) =
-    let so_far = subst (WeightsStand c.instance.now cuts c.leaf denom weights) none h in
-    let cut = cut_numbered c.instance.now cuts c.cuts e.0 are least within in
+weighed_as c kept cuts denom weights e are least h (added sums within multiple none fits adds is) =
+    let p = c.instance.now in
+    let so_far = subst (WeightsStand p cuts c.leaf denom weights) none h in
+    let cut = cut_numbered p cuts c.cuts e.0 are least within in
     record {
       sums = sums;
       failure = None;
       is = is ∙ ap (λ f. leaf_with c sums f) none;
       long = adds.count;
       stands = (
-        All-push (λ (e : ℕ × ℕ). e.0 ≤ length cuts) weights e so_far.0 (omega (arith, AllZip-long (AreSumsOfCut c.instance.now) cuts c.cuts are)),
-        omega (arith, fits, so_far.2.denom_is, so_far.2.weight_is, sum_by_push (λ (e : ℕ × ℕ). e.1) weights e),
-        weight_more c.instance.now.size cuts denom weights e (numbered c.cuts e.0).loads (numbered c.cuts e.0).total c.leaf sums so_far.2
-            cut.are.total_is cut.are.loads_are adds,
+        numbers_more cuts weights e so_far.0 (omega (arith, AllZip-long (AreSumsOfCut p) cuts c.cuts are)),
+        All-push (IsMultiple cuts) weights e so_far.1 (subst (λ x. IsMultipleOf x e.1) cut.are.part_is multiple),
+        omega (arith, fits, so_far.3.denom_is, so_far.3.weight_is, pushed_weight weights e),
+        weight_more p.size cuts denom weights e (numbered c.cuts e.0).loads (numbered c.cuts e.0).part (numbered c.cuts e.0).total c.leaf sums
+            so_far.3 cut.are.part_is cut.are.total_is cut.are.loads_are adds,
       );
     }
 
@@ -293,6 +343,7 @@ begun_leaf c s sh places left denom sums st k h = (
     k.2,
     (
       All-nil (λ (e : ℕ × ℕ). e.0 ≤ length s.cuts),
+      All-nil (IsMultiple s.cuts),
       omega arith,
       subst (λ n. AreSumsOf n s.cuts denom [] sums) st.long (no_weights (length c.leaf.loads) s.cuts denom sums h),
     ),
@@ -307,10 +358,6 @@ pub weighed_leaf : (c kept : Checks) (s : Progress) (sh : Shape) (places left de
 weighed_leaf c kept s sh places left denom weights e st k w =
     (leaf_firm c s w.sums w.failure st w.long, (k.0, k.1, k.2, w.stands))
 
-tried_behind : (kind : Kind) (n m : ℕ) (P : Type 0) (cs : List Claim) (found : Option code.Kind) → P → Tried cs found m → Tried (claim kind n P ∷ cs) found m
-tried_behind kind n m P cs None h t = (h, t)
-tried_behind kind n m P cs (Some k) h t = inr (h, t)
-
 closes_same : (p : Problem) (cuts : List Cut) (denom : ℕ) (weights : List (ℕ × ℕ)) (b : Branching) (sums : Tally) (bound said : ℕ) (l : List Branching)
     → IsProblem p → IsBranch p b → AreSumsOf p.size cuts denom weights sums → bound ≡ said → next l ≡ b
     → Closes sums.denom bound (tally_bound p sums (next l)) ≡ Closes denom said (leaf_bound p cuts denom weights b)
@@ -319,6 +366,46 @@ closes_same p cuts denom weights b sums bound said l ok branch h e n =
     ∙ ap (λ x. Closes sums.denom bound x) (bounds_leaf p cuts denom weights b sums ok branch h)
     ∙ ap₂ (λ x y. Closes x y (leaf_bound p cuts denom weights b)) h.denom_is e
 
+-- where no number of hubs is wanted, any can be had
+any_room : (p : Problem) (b : Branching) → p.wanted ≡ None → HasRoom p.wanted b
+any_room p b any = subst (λ o. HasRoom o b) (sym any) tt
+
+-- the conditions of a leaf from that of its weights' sum on, from that of their multiples on, and from that of their cuts
+abbrev sum_claims : Problem → Progress → ℕ → List (ℕ × ℕ) → Branching → List Claim
+sum_claims p s denom weights b =
+    claim Weight s.line (weight_sum weights ≤ denom) ∷ claim Leaf s.line (Closes denom s.bound (leaf_bound p s.cuts denom weights b)) ∷ []
+
+abbrev multiple_claims : Problem → Progress → ℕ → List (ℕ × ℕ) → Branching → List Claim
+multiple_claims p s denom weights b = claim Multiple s.line (All (IsMultiple s.cuts) weights) ∷ sum_claims p s denom weights b
+
+abbrev weight_claims : Problem → Progress → ℕ → List (ℕ × ℕ) → Branching → List Claim
+weight_claims p s denom weights b = claim CutNumber s.line (AreNumbers s.cuts weights) ∷ multiple_claims p s denom weights b
+
+weights_tried : (c : Checks) (s : Progress) (denom : ℕ) (weights : List (ℕ × ℕ)) (b : Branching) (rest : List Branching) (f found : Option code.Kind)
+    → c.line ≡ s.line → StandsFirm c s → IsBranch c.instance.now b → c.path.pending ≡ b ∷ rest
+    → WeightsStand c.instance.now s.cuts c.leaf denom weights f
+    → MatchOption f
+    (Tried (claim Leaf c.line (Closes c.leaf.denom c.bound (tally_bound c.instance.now c.leaf (next c.path.pending))) ∷ []) found c.line)
+    (λ kind. found ≡ Some kind)
+    → Tried (weight_claims c.instance.now s denom weights b) found c.line
+weights_tried c s denom weights b rest None found e st branch path h t =
+    let p = c.instance.now in
+    let same = closes_same p s.cuts denom weights b c.leaf c.bound s.bound c.path.pending st.problem branch h.3 st.bound_is (ap next path) in
+    tried_behind CutNumber s.line c.line (AreNumbers s.cuts weights) (multiple_claims p s denom weights b) found h.0
+    (tried_behind Multiple s.line c.line (All (IsMultiple s.cuts) weights) (sum_claims p s denom weights b) found h.1
+    (tried_behind Weight s.line c.line (weight_sum weights ≤ denom)
+    (claim Leaf s.line (Closes denom s.bound (leaf_bound p s.cuts denom weights b)) ∷ []) found h.2
+    (tried_one Leaf c.line s.line c.line (Closes c.leaf.denom c.bound (tally_bound p c.leaf (next c.path.pending)))
+    (Closes denom s.bound (leaf_bound p s.cuts denom weights b)) found e (subst (λ (x : Type 0). x) same) (subst (λ (x : Type 0). x) (sym same)) t)))
+weights_tried c s denom weights b rest (Some code.TheVariants.Weight) found e st branch path h t =
+    subst (λ x. Tried (weight_claims c.instance.now s denom weights b) x c.line) (sym t)
+    (inr (h.0, inr (h.1, inl ((λ (x : weight_sum weights ≤ denom). omega (arith, h.2)), refl, sym e))))
+weights_tried c s denom weights b rest (Some code.TheVariants.Multiple) found e st branch path h t =
+    subst (λ x. Tried (weight_claims c.instance.now s denom weights b) x c.line) (sym t) (inr (h.0, inl (h.1, refl, sym e)))
+weights_tried c s denom weights b rest (Some code.TheVariants.CutNumber) found e st branch path h t =
+    subst (λ x. Tried (weight_claims c.instance.now s denom weights b) x c.line) (sym t) (inl (h, refl, sym e))
+weights_tried c s denom weights b rest (Some other) found e st branch path h t = absurd h
+
 leaf_tried : (c : Checks) (s : Progress) (denom : ℕ) (weights : List (ℕ × ℕ)) (b : Branching) (rest : List Branching) (f found : Option code.Kind)
     → c.line ≡ s.line → StandsFirm c s → IsBranch c.instance.now b → c.path.pending ≡ b ∷ rest
     → WeightsStand c.instance.now s.cuts c.leaf denom weights f
@@ -326,21 +413,10 @@ leaf_tried : (c : Checks) (s : Progress) (denom : ℕ) (weights : List (ℕ × �
     (Tried (claim Leaf c.line (Closes c.leaf.denom c.bound (tally_bound c.instance.now c.leaf (next c.path.pending))) ∷ []) found c.line)
     (λ kind. found ≡ Some kind)
     → Tried (tree_conditions c.instance.now s (b ∷ rest) (leaf_of denom weights)) found c.line
-leaf_tried c s denom weights b rest None found e st branch path h t =
+leaf_tried c s denom weights b rest f found e st branch path h t =
     let p = c.instance.now in
-    let same = closes_same p s.cuts denom weights b c.leaf c.bound s.bound c.path.pending st.problem branch h.2 st.bound_is (ap next path) in
-    tried_behind CutNumber s.line c.line (AreNumbers s.cuts weights)
-    (claim Weight s.line (weight_sum weights ≤ denom) ∷ claim Leaf s.line (Closes denom s.bound (leaf_bound p s.cuts denom weights b)) ∷ []) found h.0
-    (tried_behind Weight s.line c.line (weight_sum weights ≤ denom)
-    (claim Leaf s.line (Closes denom s.bound (leaf_bound p s.cuts denom weights b)) ∷ []) found h.1
-    (tried_one Leaf c.line s.line c.line (Closes c.leaf.denom c.bound (tally_bound p c.leaf (next c.path.pending)))
-    (Closes denom s.bound (leaf_bound p s.cuts denom weights b)) found e (subst (λ (x : Type 0). x) same) (subst (λ (x : Type 0). x) (sym same)) t))
-leaf_tried c s denom weights b rest (Some code.TheVariants.Weight) found e st branch path h t =
-    subst (λ x. Tried (tree_conditions c.instance.now s (b ∷ rest) (leaf_of denom weights)) x c.line) (sym t)
-    (inr (h.0, inl ((λ (x : weight_sum weights ≤ denom). omega (arith, h.1)), refl, sym e)))
-leaf_tried c s denom weights b rest (Some code.TheVariants.CutNumber) found e st branch path h t =
-    subst (λ x. Tried (tree_conditions c.instance.now s (b ∷ rest) (leaf_of denom weights)) x c.line) (sym t) (inl (h, refl, sym e))
-leaf_tried c s denom weights b rest (Some other) found e st branch path h t = absurd h
+    tried_behind Count s.line c.line (HasRoom p.wanted b) (weight_claims p s denom weights b) found (any_room p b st.problem.any_number)
+    (weights_tried c s denom weights b rest f found e st branch path h t)
 
 pub close_leaf : (c : Checks) (s : Progress) (sh : Shape) (places left denom : ℕ) (weights : List (ℕ × ℕ)) (new : Checks) → c.line ≡ s.line
     → IsOpen (places - 1) (left - 1) → StandsFirm c s → Keeps c s (want_tree sh places left) (some_weights denom weights) → LeafEnds c new

@@ -1,12 +1,11 @@
 -- A check as the items that have come make it, with one more.
-use Rattle.std.proofs.Common.{◌≡◌, ◌≢◌, ℕ, ◌+◌, ◌-◌, ◌*◌, ◌^◌, ◌<◌, Bool, true, false, cond, nat_eq, List, [], ◌∷◌, ◌++◌, length, flat_map, Option, Some, None, ◌⊎◌, inl, inr, refl, sym, ap, subst, ◌∙◌, append-nil, arith, ⊎_elim}
+use Rattle.std.proofs.Common.{◌≡◌, ◌≢◌, ℕ, ◌+◌, ◌-◌, ◌*◌, ◌^◌, ◌<◌, Bool, true, false, cond, nat_eq, List, [], ◌∷◌, ◌++◌, length, replicate, flat_map, Option, Some, None, ◌⊎◌, inl, inr, refl, sym, ap, subst, ◌∙◌, append-nil, arith, ⊎_elim}
 use Rattle.hub_spec.specs.Problem.{Problem, commodity_at}
 use Rattle.hub_spec.specs.Certificates.{Proof}
 use Rattle.hub_spec.specs.Ranges.{IsInRange}
-use Rattle.hub_spec.specs.Cuts.{cut_by}
 use Rattle.cert_spec.specs.Lines.{Item as Line, says_version, says_size, says_cost, says_bound, says_hubs, says_route, says_cuts, says_cut, says_dual, says_nodes, says_tree, says_end}
-use Rattle.hub_spec.specs.Trees.{branch_on, leaf_of, no_hub}
-use Rattle.cert_spec.specs.Grammar.{Shape, Stage, want_version, want_size, want_end, want_nothing, want_cost, want_bound, want_hubs, want_cuts, want_nodes, want_route, want_cut, want_dual, want_tree, Wants, places_after, after_cut, after, shape, Leads}
+use Rattle.hub_spec.specs.Trees.{branch_on, leaf_of, no_hub, no_route, no_count}
+use Rattle.cert_spec.specs.Grammar.{Shape, Stage, want_version, want_size, want_end, want_nothing, want_cost, want_bound, want_hubs, want_cuts, want_nodes, want_route, want_cut, want_dual, want_tree, Wants, places_after, kept_dual, after_cut, after, shape, Leads}
 use Rattle.cert_spec.specs.Conditions.{Claim, Kind, AllHold, FailsFirst, ComesToTheSame, line_conditions, conditions_from}
 use Rattle.cert_spec.specs.PartConditions.{claims}
 use Rattle.cert_spec.specs.Text.{certificate_items}
@@ -21,17 +20,16 @@ use Rattle.cert_scan.specs.Parts.{parts_of, items_of}
 use Rattle.cert_scan.specs.Given.{IsGiven, IsBegun}
 use Rattle.cert_scan.specs.declared.items.Item.{Item}
 use Rattle.cert_stream.specs.Steps.{Tried, ended, ends, failed_at, Steps, MayTake}
-use Rattle.cert_stream.specs.Taken.{Part, nothing, some_hubs, some_values, some_weights, part_items, IsPart, StandsFirm, Keeps, second_line, Stands, HasTaken, TellsFirst}
+use Rattle.cert_stream.specs.Taken.{Part, nothing, some_hubs, some_values, some_weights, part_items, IsPart, StandsFirm, Keeps, Stands, HasTaken, TellsFirst}
 use Rattle.cert_stream.specs.declared.checks.Checks.{Checks}
-use Rattle.cert_stream.proofs.Lists.{not_nil}
 use Rattle.cert_stream.proofs.Parting.{Growing, Closing, Coming, goes_on, ends as ends_line, coming}
 use Rattle.cert_stream.proofs.Counting.{few_lines, line-after, line-after_lines, after_lines-append}
 use Rattle.cert_stream.proofs.Trying.{tells_more, fails_before}
 use Rattle.cert_stream.proofs.Taking.{grows, closes}
 
--- what the lines behind the first leave
+-- what the lines leave
 abbrev behind : Problem → List Line → Progress
-behind p lines = after_lines p second_line lines
+behind p lines = after_lines p at_start lines
 
 -- ---- nothing, or a value
 
@@ -44,14 +42,14 @@ some_not_none o x e n = cc
 
 -- ---- the number of the line
 
-pub line_now : (p : Problem) (lines : List Line) → (behind p lines).line ≡ 2 + length lines
-line_now p lines = line-after_lines p second_line lines
+pub line_now : (p : Problem) (lines : List Line) → (behind p lines).line ≡ 1 + length lines
+line_now p lines = line-after_lines p at_start lines
 
-line_fits : (c : Checks) (lines : List Line) (stage : Stage) (part : Part) → Leads want_size lines stage → Stands c lines stage part → c.line < 2 ^ 64 - 1
+line_fits : (c : Checks) (lines : List Line) (stage : Stage) (part : Part) → Leads want_version lines stage → Stands c lines stage part → c.line < 2 ^ 64 - 1
 line_fits c lines stage part lead st = omega (arith, st.line, line_now c.instance.now lines, few_lines lines stage lead)
 
 line_more : (p : Problem) (front : List Line) (l : Line) → (behind p (front ++ l ∷ [])).line ≡ (behind p front).line + 1
-line_more p front l = ap (λ (s : Progress). s.line) (after_lines-append p second_line front l) ∙ line-after p (behind p front) l
+line_more p front l = ap (λ (s : Progress). s.line) (after_lines-append p at_start front l) ∙ line-after p (behind p front) l
 
 -- ---- a part that is empty
 
@@ -59,9 +57,9 @@ empty_keeps : (c : Checks) (s : Progress) (stage : Stage) (part : Part) → IsPa
 empty_keeps c s (want_hubs sh) (some_hubs []) may none k = k
 empty_keeps c s (want_hubs sh) (some_hubs (x ∷ hubs)) may none k = cc
 empty_keeps c s (want_hubs sh) nothing may none k = absurd may
-empty_keeps c s (want_hubs sh) (some_values commodity dual) may none k = absurd may
+empty_keeps c s (want_hubs sh) (some_values commodity run dual) may none k = absurd may
 empty_keeps c s (want_hubs sh) (some_weights denom weights) may none k = absurd may
-empty_keeps c s (want_dual sh all x t) (some_values commodity dual) may none k = cc
+empty_keeps c s (want_dual sh all x t before) (some_values commodity run dual) may none k = cc
 empty_keeps c s (want_tree sh places left) (some_weights denom weights) may none k = cc
 empty_keeps c s stage nothing may none k = k
 empty_keeps c s stage part may none k = absurd may
@@ -71,48 +69,51 @@ empty_keeps c s stage part may none k = absurd may
 grown_goes : (part before : Part) (i : Item) → Growing part before i → ends i ≡ false
 grown_goes nothing before i g = absurd g
 grown_goes (some_hubs hubs) before i g = ap ends g.4
-grown_goes (some_values c dual) before i (inl g) = ap ends g.2
-grown_goes (some_values c dual) before i (inr g) = ap ends g.4
+grown_goes (some_values c run dual) before i (inl g) = ap ends g.2
+grown_goes (some_values c run dual) before i (inr g) = ap ends g.4
 grown_goes (some_weights denom weights) before i (inl g) = ap ends g.2
 grown_goes (some_weights denom weights) before i (inr g) = ap ends g.4
 
 closed_ends : (l : Line) (before : Part) (i : Item) → Closing l before i → ends i ≡ true
-closed_ends says_version before i g = absurd g
+closed_ends (says_version v) before i g = ap ends g.1
 closed_ends (says_size n q) before i g = ap ends g.1
 closed_ends (says_cost v) before i g = ap ends g.1
 closed_ends (says_bound v) before i g = ap ends g.1
 closed_ends (says_hubs hubs) before i g = ap ends g.4
 closed_ends (says_route c r) before i g = ap ends g.1
 closed_ends (says_cuts all) before i g = ap ends g.1
-closed_ends (says_cut number) before i g = ap ends g.1
-closed_ends (says_dual c dual) before i (inl g) = ap ends g.2
-closed_ends (says_dual c dual) before i (inr g) = ap ends g.4
+closed_ends (says_cut number part) before i g = ap ends g.1
+closed_ends (says_dual c run dual) before i (inl g) = ap ends g.2
+closed_ends (says_dual c run dual) before i (inr g) = ap ends g.4
 closed_ends (says_nodes all) before i g = ap ends g.1
 closed_ends (says_tree (branch_on k)) before i g = ap ends g.1
 closed_ends (says_tree (leaf_of denom weights)) before i (inl g) = ap ends g.2
 closed_ends (says_tree (leaf_of denom weights)) before i (inr g) = ap ends g.4
 closed_ends (says_tree no_hub) before i g = ap ends g.1
+closed_ends (says_tree (no_route commodity)) before i g = absurd g
+closed_ends (says_tree no_count) before i g = absurd g
 closed_ends says_end before i g = ap ends g.1
 
 -- ---- the items are those of lines
 
--- items behind the first line, and a part
+-- items of lines, and of a part of another
 pub record AreParted (given : List Item) : Type 0 where
   pub lines : List Line
   pub stage : Stage
   pub part : Part
-  pub lead : Leads want_size lines stage
+  pub lead : Leads want_version lines stage
   pub are : given ≡ flat_map parts_of lines ++ part_items part
   pub may : IsPart stage part
 
 begun_part : (stage : Stage) (more : List Item) → IsBegun stage more → (part : Part) × IsPart stage part × (more ≡ part_items part)
 begun_part (want_hubs s) more h = (some_hubs h.hubs, (h.ascend, h.nodes), h.are)
-begun_part (want_dual s all x t) more (inl e) = (nothing, tt, e)
-begun_part (want_dual s all x t) more (inr h) = (some_values (commodity_at s.size t) h.dual, (refl, h.in_range), h.are)
+begun_part (want_dual s all x t before) more (inl e) = (nothing, tt, e)
+begun_part (want_dual s all x t before) more (inr h) =
+    (some_values (commodity_at s.size t) h.run h.dual, (refl, h.is_run, h.in_range), h.are)
 begun_part (want_tree s places left) more (inl e) = (nothing, tt, e)
 begun_part (want_tree s places left) more (inr h) = (some_weights h.denom h.weights, h.in_range, h.are)
 begun_part want_version more h = (nothing, tt, h)
-begun_part want_size more h = (nothing, tt, h)
+begun_part (want_size v) more h = (nothing, tt, h)
 begun_part (want_cost s) more h = (nothing, tt, h)
 begun_part (want_bound s) more h = (nothing, tt, h)
 begun_part (want_route s t) more h = (nothing, tt, h)
@@ -122,23 +123,15 @@ begun_part (want_nodes s) more h = (nothing, tt, h)
 begun_part want_end more h = (nothing, tt, h)
 begun_part want_nothing more h = (nothing, tt, h)
 
-parted_by : (given : List Item) (i : Item) (lines : List Line) (stage : Stage) (more : List Item) → Leads want_version lines stage
-    → given ++ i ∷ [] ≡ flat_map parts_of lines ++ more → IsBegun stage more → AreParted (given ++ i ∷ [])
-parted_by given i [] stage more lead are begun =
-    let none : more ≡ [] = subst (λ g. IsBegun g more) (sym lead) begun in
-    absurd (not_nil given i (are ∙ none))
-parted_by given i (says_version ∷ lines) stage more lead are begun =
-    let b = begun_part stage more begun in
-    record { lines = lines; stage = stage; part = b.0; lead = lead.1; are = are ∙ ap (λ x. flat_map parts_of lines ++ x) b.2; may = b.1 }
-parted_by given i (l ∷ lines) stage more lead are begun = absurd lead.0
-
 pub parted : (given : List Item) (i : Item) → IsGiven (given ++ i ∷ []) → AreParted (given ++ i ∷ [])
-parted given i g = parted_by given i g.lines g.stage g.more g.lead g.are g.begun
+parted given i g =
+    let b = begun_part g.stage g.more g.begun in
+    record { lines = g.lines; stage = g.stage; part = b.0; lead = g.lead; are = g.are ∙ ap (λ x. flat_map parts_of g.lines ++ x) b.2; may = b.1 }
 
 -- ---- an item may come
 
 came : (given : List Item) (i : Item) (c : Checks) (lines : List Line) (stage : Stage) (part : Part) → HasTaken given c
-    → Coming given i lines stage part → Leads want_size lines stage → IsPart stage part → MayTake c i
+    → Coming given i lines stage part → Leads want_version lines stage → IsPart stage part → MayTake c i
 came given i c lines stage part has (goes_on before may are growing) lead may_part =
     let st = has lines stage before lead are may in
     record {
@@ -163,7 +156,7 @@ may_take given i c has g =
 abbrev StandsFor : Problem → Checks → List Line → Stage → Part → Type 0
 StandsFor p c lines stage part =
     (c.line ≡ (behind p lines).line)
-    × TellsFirst (conditions_from p second_line lines) c.failure
+    × TellsFirst (conditions_from p at_start lines) c.failure
     × (c.failure ≡ None → StandsFirm c (behind p lines))
     × (c.failure ≡ None → Keeps c (behind p lines) stage part)
 
@@ -181,7 +174,7 @@ grown_stands c new lines stage part before i may growing st h =
     ⊎_elim (λ (none : c.failure ≡ None).
     let g = (grows stage part before i c (behind p lines) may growing (st.standing none) (st.keeps none)).leaves new (h.first none) in
     stands_for p new lines stage part g.same
-    (g.line_is ∙ st.line, subst (TellsFirst (conditions_from p second_line lines)) (sym g.failure_is) st.tells, (λ n. g.firm), (λ n. g.keeps)))
+    (g.line_is ∙ st.line, subst (TellsFirst (conditions_from p at_start lines)) (sym g.failure_is) st.tells, (λ n. g.firm), (λ n. g.keeps)))
     (λ (some : (x : code.Kind × ℕ) × (c.failure ≡ Some x)).
     let not_none = some_not_none c.failure some.0 some.1 in
     subst (λ (n : Checks). Stands n lines stage part) (sym (h.later not_none))
@@ -194,18 +187,18 @@ grown_stands c new lines stage part before i may growing st h =
     (none_or c.failure)
 
 fails_on : (p : Problem) (front : List Line) (l : Line) (o : Option (code.Kind × ℕ)) (f : code.Kind × ℕ) → o ≡ Some f
-    → TellsFirst (conditions_from p second_line front) o → TellsFirst (conditions_from p second_line (front ++ l ∷ [])) o
+    → TellsFirst (conditions_from p at_start front) o → TellsFirst (conditions_from p at_start (front ++ l ∷ [])) o
 fails_on p front l None f e h = cc
 fails_on p front l (Some x) f e h =
-    subst (λ cs. TellsFirst cs (Some x)) (sym (conditions-append p second_line front (l ∷ [])))
-    (fails_before (conditions_from p second_line front) (conditions_from p (behind p front) (l ∷ [])) (kind_of x.0) x.1 h)
+    subst (λ cs. TellsFirst cs (Some x)) (sym (conditions-append p at_start front (l ∷ [])))
+    (fails_before (conditions_from p at_start front) (conditions_from p (behind p front) (l ∷ [])) (kind_of x.0) x.1 h)
 
 -- what is told with one line more
-told_more : (p : Problem) (front : List Line) (l : Line) (found : Option code.Kind) (line : ℕ) → AllHold (conditions_from p second_line front)
-    → Tried (line_conditions p (behind p front) l) found line → TellsFirst (conditions_from p second_line (front ++ l ∷ [])) (failed_at line found)
+told_more : (p : Problem) (front : List Line) (l : Line) (found : Option code.Kind) (line : ℕ) → AllHold (conditions_from p at_start front)
+    → Tried (line_conditions p (behind p front) l) found line → TellsFirst (conditions_from p at_start (front ++ l ∷ [])) (failed_at line found)
 told_more p front l found line held tried =
-    subst (λ cs. TellsFirst cs (failed_at line found)) (sym (conditions-append p second_line front (l ∷ [])))
-    (tells_more (conditions_from p second_line front) (conditions_from p (behind p front) (l ∷ [])) found line held
+    subst (λ cs. TellsFirst cs (failed_at line found)) (sym (conditions-append p at_start front (l ∷ [])))
+    (tells_more (conditions_from p at_start front) (conditions_from p (behind p front) (l ∷ [])) found line held
     (subst (λ cs. Tried cs found line) (sym (append-nil (line_conditions p (behind p front) l))) tried))
 
 none_found : (line : ℕ) (found : Option code.Kind) → failed_at line found ≡ None → found ≡ None
@@ -218,17 +211,17 @@ closed_stands : (c new : Checks) (front : List Line) (l : Line) (at : Stage) (be
 closed_stands c new front l at before part i wants closing may empty st h =
     let p = c.instance.now in
     let s = behind p front in
-    let next : behind p (front ++ l ∷ []) ≡ after_line p s l = after_lines-append p second_line front l in
+    let next : behind p (front ++ l ∷ []) ≡ after_line p s l = after_lines-append p at_start front l in
     ⊎_elim (λ (none : c.failure ≡ None).
     let g = (closes at l before i c s st.line wants closing (st.standing none) (st.keeps none)).leaves new (h.first none) in
-    let held : AllHold (conditions_from p second_line front) = subst (TellsFirst (conditions_from p second_line front)) none st.tells in
-    let told : TellsFirst (conditions_from p second_line (front ++ l ∷ [])) (failed_at c.line g.found) = told_more p front l g.found c.line held g.tried in
+    let held : AllHold (conditions_from p at_start front) = subst (TellsFirst (conditions_from p at_start front)) none st.tells in
+    let told : TellsFirst (conditions_from p at_start (front ++ l ∷ [])) (failed_at c.line g.found) = told_more p front l g.found c.line held g.tried in
     let kept : g.found ≡ None → StandsFirm g.kept (after_line p s l) × Keeps g.kept (after_line p s l) (after at l) nothing =
     λ n. g.keeps (subst (λ f. Tried (line_conditions p s l) f c.line) n g.tried) in
     subst (λ (n : Checks). Stands n (front ++ l ∷ []) (after at l) part) (sym g.is)
     (stands_for p (ended g.kept g.found) (front ++ l ∷ []) (after at l) part g.same (
       ap (λ x. x + 1) (g.line_is ∙ st.line) ∙ sym (line_more p front l),
-      subst (λ n. TellsFirst (conditions_from p second_line (front ++ l ∷ [])) (failed_at n g.found)) (sym g.line_is) told,
+      subst (λ n. TellsFirst (conditions_from p at_start (front ++ l ∷ [])) (failed_at n g.found)) (sym g.line_is) told,
       (λ n. subst (StandsFirm g.kept) (sym next) (kept (none_found g.kept.line g.found n)).0),
       (λ n. empty_keeps g.kept (behind p (front ++ l ∷ [])) (after at l) part may empty
           (subst (λ x. Keeps g.kept x (after at l) nothing) (sym next) (kept (none_found g.kept.line g.found n)).1)),
@@ -245,7 +238,7 @@ closed_stands c new front l at before part i wants closing may empty st h =
     (none_or c.failure)
 
 taken_stands : (given : List Item) (i : Item) (c new : Checks) (lines : List Line) (stage : Stage) (part : Part) → HasTaken given c → Steps c i new
-    → Coming given i lines stage part → Leads want_size lines stage → IsPart stage part → Stands new lines stage part
+    → Coming given i lines stage part → Leads want_version lines stage → IsPart stage part → Stands new lines stage part
 taken_stands given i c new lines stage part has h (goes_on before may are growing) lead may_part =
     grown_stands c new lines stage part before i may_part growing (has lines stage before lead are may) h
 taken_stands given i c new lines stage part has h (ends_line front l at before split leads wants stage_is none may are closing) lead may_part =
@@ -272,13 +265,13 @@ none_failed cs (Some f) h all = absurd (not_both cs (kind_of f.0) f.1 all h)
 empty_part : (stage : Stage) → (part : Part) × IsPart stage part × (part_items part ≡ [])
 empty_part (want_hubs s) = (some_hubs [], ((λ k h. absurd (omega (arith, h))), All-nil (λ k. k < s.size)), refl)
 empty_part want_version = (nothing, tt, refl)
-empty_part want_size = (nothing, tt, refl)
+empty_part (want_size v) = (nothing, tt, refl)
 empty_part (want_cost s) = (nothing, tt, refl)
 empty_part (want_bound s) = (nothing, tt, refl)
 empty_part (want_route s t) = (nothing, tt, refl)
 empty_part (want_cuts s) = (nothing, tt, refl)
 empty_part (want_cut s all x) = (nothing, tt, refl)
-empty_part (want_dual s all x t) = (nothing, tt, refl)
+empty_part (want_dual s all x t before) = (nothing, tt, refl)
 empty_part (want_nodes s) = (nothing, tt, refl)
 empty_part (want_tree s places left) = (nothing, tt, refl)
 empty_part want_end = (nothing, tt, refl)
@@ -291,24 +284,20 @@ pub record TellsWhole (c : Checks) (lines : List Line) : Type 0 where
   pub bound_is : c.failure ≡ None → c.bound ≡ (after_lines c.instance.now at_start lines).bound
 
 pub tells_whole : (c : Checks) (lines : List Line) (stage : Stage) → Leads want_version lines stage → HasTaken (flat_map parts_of lines) c → TellsWhole c lines
-tells_whole c [] stage lead has =
-    let st = has [] want_size nothing refl refl tt in
-    record { tells = st.tells; cost_is = λ n. (st.standing n).cost_is; bound_is = λ n. (st.standing n).bound_is }
-tells_whole c (says_version ∷ lines) stage lead has =
+tells_whole c lines stage lead has =
     let e = empty_part stage in
-    let st = has lines stage e.0 lead.1 (sym (ap (λ x. flat_map parts_of lines ++ x) e.2 ∙ append-nil (flat_map parts_of lines))) e.1 in
+    let st = has lines stage e.0 lead (sym (ap (λ x. flat_map parts_of lines ++ x) e.2 ∙ append-nil (flat_map parts_of lines))) e.1 in
     record { tells = st.tells; cost_is = λ n. (st.standing n).cost_is; bound_is = λ n. (st.standing n).bound_is }
-tells_whole c (l ∷ lines) stage lead has = absurd lead.0
 
 -- ---- the check of which no item has come
 
 pub record IsNew (c : Checks) : Type 0 where
-  pub line_is : c.line ≡ 2
+  pub line_is : c.line ≡ 1
   pub failure_is : c.failure ≡ None
-  pub firm : StandsFirm c second_line
-  pub keeps : Keeps c second_line want_size nothing
+  pub firm : StandsFirm c at_start
+  pub keeps : Keeps c at_start want_version nothing
 
-begun_stands : (c : Checks) (part : Part) → IsNew c → IsPart want_size part → Stands c [] want_size part
+begun_stands : (c : Checks) (part : Part) → IsNew c → IsPart want_version part → Stands c [] want_version part
 begun_stands c nothing h may = record {
   line = h.line_is;
   tells = subst (TellsFirst []) (sym h.failure_is) tt;
@@ -320,7 +309,7 @@ begun_stands c part h may = absurd may
 pub new_taken : (c : Checks) → IsNew c → HasTaken [] c
 new_taken c h [] stage part lead are may =
     subst (λ g. Stands c [] g part) lead (begun_stands c part h (subst (λ g. IsPart g part) (sym lead) may))
-new_taken c h (says_size n q ∷ lines) stage part lead are may = cc
+new_taken c h (says_version v ∷ lines) stage part lead are may = cc
 new_taken c h (l ∷ lines) stage part lead are may = absurd lead.0
 
 -- ---- a certificate
@@ -341,7 +330,7 @@ tells_certificate c k range has =
 -- the stage is behind the line of the bound
 abbrev IsPastBound : Stage → Type 0
 IsPastBound want_version = ⊥
-IsPastBound want_size = ⊥
+IsPastBound (want_size v) = ⊥
 IsPastBound (want_cost s) = ⊥
 IsPastBound (want_bound s) = ⊥
 IsPastBound stage = Unit {0}
@@ -357,15 +346,16 @@ past_after : (stage : Stage) (l : Line) → IsPastBound stage → Wants stage l 
 past_after (want_hubs s) (says_hubs hubs) h w = tt
 past_after (want_route s t) (says_route c r) h w = past_both (nat_eq (t + 1) (s.size * s.size)) (want_cuts s) (want_route s (t + 1)) tt tt
 past_after (want_cuts s) (says_cuts all) h w = past_cut s all 0
-past_after (want_cut s all x) (says_cut number) h w = tt
-past_after (want_dual s all x t) (says_dual c dual) h w =
-    past_both (nat_eq (t + 1) (s.size * s.size)) (after_cut s all (x + 1)) (want_dual s all x (t + 1)) (past_cut s all (x + 1)) tt
+past_after (want_cut s all x) (says_cut number part) h w = tt
+past_after (want_dual s all x t before) (says_dual c run dual) h w =
+    past_both (nat_eq (t + run) (s.size * s.size)) (after_cut s all (x + 1)) (want_dual s all x (t + run) (kept_dual s (t + run) dual))
+    (past_cut s all (x + 1)) tt
 past_after (want_nodes s) (says_nodes all) h w = tt
 past_after (want_tree s places left) (says_tree line) h w =
     past_both (nat_eq (left - 1) 0) want_end (want_tree s (places_after places line) (left - 1)) tt tt
 past_after want_end says_end h w = tt
-past_after want_version says_version h w = absurd h
-past_after want_size (says_size n q) h w = absurd h
+past_after want_version (says_version v) h w = absurd h
+past_after (want_size v) (says_size n q) h w = absurd h
 past_after (want_cost s) (says_cost v) h w = absurd h
 past_after (want_bound s) (says_bound v) h w = absurd h
 past_after stage l h w = absurd w
@@ -382,15 +372,17 @@ said_after : (p : Problem) (s : Progress) (stage : Stage) (l : Line) → IsPastB
 said_after p s (want_hubs sh) (says_hubs hubs) h w = refl
 said_after p s (want_route sh t) (says_route c r) h w = refl
 said_after p s (want_cuts sh) (says_cuts all) h w = refl
-said_after p s (want_cut sh all x) (says_cut number) h w = refl
-said_after p s (want_dual sh all x t) (says_dual c dual) h w =
-    said_both (nat_eq (length (s.duals ++ dual ∷ [])) (s.size * s.size)) (record s { line = s.line + 1; cuts = s.cuts ++ cut_by (s.duals ++ dual ∷ []) ∷ []; duals = [] })
-    (record s { line = s.line + 1; duals = s.duals ++ dual ∷ [] }) s refl refl
+said_after p s (want_cut sh all x) (says_cut number part) h w = refl
+said_after p s (want_dual sh all x t before) (says_dual c run dual) h w =
+    let duals = s.duals ++ replicate run dual in
+    said_both (nat_eq (length duals) (s.size * s.size))
+    (record s { line = s.line + 1; cuts = s.cuts ++ record { part = s.part; duals = duals } ∷ []; part = 1; duals = [] })
+    (record s { line = s.line + 1; duals = duals }) s refl refl
 said_after p s (want_nodes sh) (says_nodes all) h w = refl
 said_after p s (want_tree sh places left) (says_tree line) h w = refl
 said_after p s want_end says_end h w = refl
-said_after p s want_version says_version h w = absurd h
-said_after p s want_size (says_size n q) h w = absurd h
+said_after p s want_version (says_version v) h w = absurd h
+said_after p s (want_size v) (says_size n q) h w = absurd h
 said_after p s (want_cost sh) (says_cost v) h w = absurd h
 said_after p s (want_bound sh) (says_bound v) h w = absurd h
 said_after p s stage l h w = absurd w
@@ -401,11 +393,11 @@ said_later p s stage [] last h lead = refl
 said_later p s stage (l ∷ lines) last h lead =
     said_later p (after_line p s l) (after stage l) lines last (past_after stage l h lead.0) lead.1 ∙ said_after p s stage l h lead.0
 
-said_lines : (p : Problem) (n q v b : ℕ) (rest : List Line) (last : Stage)
-    → Leads want_version (says_version ∷ says_size n q ∷ says_cost v ∷ says_bound b ∷ rest) last
-    → said (after_lines p at_start (says_version ∷ says_size n q ∷ says_cost v ∷ says_bound b ∷ rest)) ≡ (v, b)
-said_lines p n q v b rest last lead =
-    said_later p (record at_start { line = 5; size = n; cost = v; bound = b }) (want_hubs (shape n)) rest last tt lead.1.1.1.1
+said_lines : (p : Problem) (version n q v b : ℕ) (rest : List Line) (last : Stage)
+    → Leads want_version (says_version version ∷ says_size n q ∷ says_cost v ∷ says_bound b ∷ rest) last
+    → said (after_lines p at_start (says_version version ∷ says_size n q ∷ says_cost v ∷ says_bound b ∷ rest)) ≡ (v, b)
+said_lines p version n q v b rest last lead =
+    said_later p (record at_start { line = 5; size = n; cost = v; bound = b }) (want_hubs (shape version n)) rest last tt lead.1.1.1.1
 
 -- all but the first line
 abbrev others : List Line → List Line
@@ -414,7 +406,7 @@ others (l ∷ lines) = lines
 
 said_certificate : (p : Problem) (k : Proof) → IsInRange k → said (after_lines p at_start (certificate_items k)) ≡ (k.cost, k.bound)
 said_certificate p k range =
-    said_lines p k.size k.candidates k.cost k.bound (others (others (others (others (certificate_items k))))) want_nothing (each_text_leads_lem k range)
+    said_lines p k.version k.size k.candidates k.cost k.bound (others (others (others (others (certificate_items k))))) want_nothing (each_text_leads_lem k range)
 
 pub said_by : (c : Checks) (k : Proof) → IsInRange k → HasTaken (items_of k) c → AllHold (claims c.instance.now k) → (c.cost ≡ k.cost) × (c.bound ≡ k.bound)
 said_by c k range has all =

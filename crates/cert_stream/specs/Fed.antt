@@ -1,5 +1,5 @@
 -- A stream as the bytes that were fed make it.
-use Rattle.std.specs.Prelude.{◌≡◌, ℕ, ◌+◌, ◌<◌, Bool, true, false, List, [], ◌∷◌, ◌++◌, length, flat_map, Contains}
+use Rattle.std.specs.Prelude.{◌≡◌, ℕ, ◌+◌, ◌<◌, Bool, true, false, List, [], ◌∷◌, ◌++◌, length, flat_map, Option, Contains}
 use Rattle.cert_spec.specs.Verdicts.{certificate_limit}
 use Rattle.cert_spec.specs.Lines.{Item as Line, says_cut, says_nodes}
 use Rattle.cert_spec.specs.Text.{line_bytes}
@@ -28,7 +28,7 @@ HasFed bytes s = HasFedUnless s.is_too_long bytes s
 
 -- one of the items begins a cut
 abbrev pub BeginsCut : List Item → Type 0
-BeginsCut items = (number : ℕ) × Contains items (Cut number)
+BeginsCut items = (number part : ℕ) × Contains items (Cut number part)
 
 -- the bytes begin with lines that may stand so from the first on, the last of which is this
 pub record HasLine (bytes : List ℕ) (line : Line) : Type 0 where
@@ -41,7 +41,8 @@ pub record HasLine (bytes : List ℕ) (line : Line) : Type 0 where
 -- a line that begins a cut ends with one of the bytes of the piece, which comes behind these bytes
 pub record EndsCutLine (bytes piece : List ℕ) : Type 0 where
   pub number : ℕ
-  pub line : HasLine (bytes ++ piece) (says_cut number)
+  pub part : Option ℕ
+  pub line : HasLine (bytes ++ piece) (says_cut number part)
   pub ends : length line.rest < length piece
 
 -- the line has come that tells how many lines the tree has; no cut begins behind it

@@ -1,7 +1,7 @@
 -- What an item makes of a check.
 use Rattle.std.specs.Prelude.{◌≡◌, ◌≢◌, ℕ, ◌+◌, ◌-◌, ◌*◌, ◌^◌, ◌<◌, ◌≤◌, ◌↔◌, Bool, true, false, IsTrue, List, [], ◌∷◌, ◌++◌, length, Option, Some, None, MatchOption, nat_eq, All, Contains, ◌⊎◌, if◌then◌else◌}
-use Rattle.hub_spec.specs.Limits.{most_cost, most_denominator}
-use Rattle.hub_spec.specs.Cuts.{Prices, IsDual}
+use Rattle.hub_spec.specs.Limits.{most_part, most_denominator}
+use Rattle.hub_spec.specs.Cuts.{IsDual}
 use Rattle.hub_spec.specs.Trees.{Closes, IsClosed, open_child, closed_child}
 use Rattle.hub_spec.specs.Ranges.{IsShort, IsAmount}
 use Rattle.cert_spec.specs.Conditions.{Claim, claim, Size, BoundOverCost, Hubs, Route, Cost, Dual, Sum, Empty, Leaf, AllHold, FailsFirst, if_time}
@@ -9,16 +9,17 @@ use Rattle.cert_checker.specs.Answers.{kind_of}
 use Rattle.cert_checker.specs.declared.kinds.Kind as code
 use Rattle.cert_scan.specs.declared.items.Item as item
 use Rattle.plan_lines.specs.Tallies.{with_hub, with_route}
+use Rattle.dual_lines.specs.Lines.{ListedDual}
 use Rattle.tree_lines.specs.Trails.{undecided}
 use Rattle.tree_lines.specs.Paths.{next, behind_next}
-use Rattle.tree_lines.specs.Tallies.{Tally, IsBegun, IsAdded, tally_bound}
+use Rattle.tree_lines.specs.Tallies.{Tally, IsMultipleOf, IsBegun, IsAdded, tally_bound}
 use Rattle.cert_stream.specs.Sums.{CutTally, most_duals, IsNoDual, AreWithin, last_of, numbered, IsLastAdded}
 use Rattle.cert_stream.specs.declared.checks.Checks.{Checks}
 
 -- the item is the last of its line
 abbrev pub ends : item.Item → Bool
 ends (item.TheVariants.Hub k last) = last
-ends (item.TheVariants.Dual i j a last) = last
+ends (item.TheVariants.Dual i j run a last) = last
 ends (item.TheVariants.DualPair k u last) = last
 ends (item.TheVariants.Leaf denom last) = last
 ends (item.TheVariants.LeafPair c w last) = last
@@ -26,7 +27,7 @@ ends other = true
 
 -- it begins a cut
 abbrev pub IsCut : item.Item → Type 0
-IsCut (item.TheVariants.Cut number) = Unit {0}
+IsCut (item.TheVariants.Cut number part) = Unit {0}
 IsCut other = ⊥
 
 -- of these conditions all hold, or what was found is the first to fail
@@ -84,34 +85,55 @@ pub record HubTaken (old : Checks) (k : ℕ) (last : Bool) (new : Checks) : Type
 
 -- ---- the cuts
 
-pub record CutTaken (old new : Checks) : Type 0 where
+pub record CutTaken (old : Checks) (part : ℕ) (new : Checks) : Type 0 where
   pub sums : CutTally
-  pub none : IsNoDual old.instance.now.size sums
+  pub none : IsNoDual old.instance.now.size part sums
   pub is : new ≡ ended (record old { cuts = old.cuts ++ sums ∷ [] }) None
 
-abbrev pub dual_tests : Checks → List Claim
-dual_tests c =
-    claim Dual c.line (IsDual c.dual.problem c.dual.commodity c.dual.dual)
-    ∷ if_time (nat_eq (last_of c.cuts).count (c.instance.now.size * c.instance.now.size))
+-- the dual that is listed is feasible, with its part, for each commodity of its run
+abbrev pub IsDualOfEach : ListedDual → Type 0
+IsDualOfEach d = (s : ℕ) → s < d.run → IsDual d.problem d.part (d.commodity.0, d.commodity.1 + s) d.dual
+
+abbrev pub sum_tests : Checks → List Claim
+sum_tests c =
+    if_time (nat_eq (last_of c.cuts).count (c.instance.now.size * c.instance.now.size))
     (claim Sum c.line (AreWithin (last_of c.cuts)))
+
+abbrev pub dual_tests : Checks → List Claim
+dual_tests c = claim Dual c.line (IsDualOfEach c.dual) ∷ sum_tests c
 
 -- with these sums of the cuts
 abbrev pub cut_with : Checks → List CutTally → Checks
 cut_with c cuts = record c { cuts = cuts }
 
--- the dual that is listed is added, and its conditions were tried
+-- the run that is listed is added, and its conditions were tried
 pub record DualEnds (kept new : Checks) : Type 0 where
   pub cuts : List CutTally
-  pub added : IsLastAdded kept.cuts kept.dual.dual cuts
+  pub added : IsLastAdded kept.cuts kept.dual.run kept.dual.dual cuts
   pub ends : Ends (dual_tests (cut_with kept cuts)) (cut_with kept cuts) new
 
 abbrev pub DualGoesOn : Bool → Checks → Checks → Type 0
 DualGoesOn true kept new = DualEnds kept new
 DualGoesOn false kept new = new ≡ kept
 
+-- the dual of a run of so many commodities, of which this is the first, with this price, and the part of the cut that
+-- stands
+abbrev pub begun_dual : Checks → ℕ × ℕ → ℕ → ℕ → ListedDual
+begun_dual c commodity run a =
+    record c.dual {
+      commodity = commodity;
+      part = (last_of c.cuts).part;
+      run = run;
+      dual = record { a = a; u = [] };
+    }
+
+-- with the value of a node more
+abbrev pub with_value : ListedDual → ℕ × ℕ → ListedDual
+with_value d e = record d { dual = record { a = d.dual.a; u = d.dual.u ++ e ∷ [] } }
+
 -- with this dual listed
-abbrev pub dual_with : Checks → ℕ × ℕ → Prices → Checks
-dual_with c commodity dual = record c { dual = record c.dual { commodity = commodity; dual = dual } }
+abbrev pub dual_with : Checks → ListedDual → Checks
+dual_with c listed = record c { dual = listed }
 
 -- ---- the tree
 
@@ -160,16 +182,27 @@ pub record LeafTaken (old : Checks) (denom : ℕ) (last : Bool) (new : Checks) :
   pub begun : IsBegun denom (length old.leaf.loads) sums
   pub goes : LeafGoesOn last (leaf_with old sums None) new
 
--- a cut of this number comes with this weight: there is no such cut, or something failed already, or the weight is
--- too much, or the cut is added
+-- what fails of a leaf's weights with one that is no multiple of its cut's part: a number of no cut comes before it,
+-- and it comes before the sum
+abbrev pub no_multiple : Option code.Kind → Option code.Kind
+no_multiple (Some code.TheVariants.CutNumber) = Some code.TheVariants.CutNumber
+no_multiple other = Some code.TheVariants.Multiple
+
+-- a cut of this number comes with this weight: there is no such cut, or the weight is no multiple of its part, or
+-- something failed already, or the weight is too much, or the cut is added
 pub data IsWeighed (old : Checks) (c w : ℕ) (kept : Checks) : Type 0 where
   no_cut : length old.cuts < c → kept ≡ leaf_with old old.leaf (Some code.TheVariants.CutNumber) → IsWeighed old c w kept
-  failed : c ≤ length old.cuts → old.leaf_failure ≢ None → kept ≡ old → IsWeighed old c w kept
-  too_much : c ≤ length old.cuts → old.leaf_failure ≡ None → old.leaf.denom < old.leaf.weight + w
-      → kept ≡ leaf_with old old.leaf (Some code.TheVariants.Weight) → IsWeighed old c w kept
-  added : (sums : Tally) → c ≤ length old.cuts → old.leaf_failure ≡ None → old.leaf.weight + w ≤ old.leaf.denom
-      → IsAdded old.leaf w (numbered old.cuts c).total (numbered old.cuts c).loads sums → kept ≡ record old { leaf = sums }
+  not_multiple : c ≤ length old.cuts → (IsMultipleOf (numbered old.cuts c).part w → ⊥)
+      → kept ≡ leaf_with old old.leaf (no_multiple old.leaf_failure) → IsWeighed old c w kept
+  failed : c ≤ length old.cuts → IsMultipleOf (numbered old.cuts c).part w → old.leaf_failure ≢ None → kept ≡ old
       → IsWeighed old c w kept
+  too_much : c ≤ length old.cuts → IsMultipleOf (numbered old.cuts c).part w → old.leaf_failure ≡ None
+      → old.leaf.denom < old.leaf.weight + w → kept ≡ leaf_with old old.leaf (Some code.TheVariants.Weight)
+      → IsWeighed old c w kept
+  added : (sums : Tally) → c ≤ length old.cuts → IsMultipleOf (numbered old.cuts c).part w → old.leaf_failure ≡ None
+      → old.leaf.weight + w ≤ old.leaf.denom
+      → IsAdded old.leaf w (numbered old.cuts c).part (numbered old.cuts c).total (numbered old.cuts c).loads sums
+      → kept ≡ record old { leaf = sums } → IsWeighed old c w kept
 
 pub record WeightTaken (old : Checks) (c w : ℕ) (last : Bool) (new : Checks) : Type 0 where
   pub kept : Checks
@@ -180,6 +213,7 @@ pub record WeightTaken (old : Checks) (c w : ℕ) (last : Bool) (new : Checks) :
 
 -- with an item taken where no condition failed before
 abbrev pub IsTaken : Checks → item.Item → Checks → Type 0
+IsTaken old (item.TheVariants.Version v) new = new ≡ ended old None
 IsTaken old (item.TheVariants.Size n q) new = Ends (size_tests old n q) old new
 IsTaken old (item.TheVariants.Cost cost) new = new ≡ ended (record old { cost = cost }) None
 IsTaken old (item.TheVariants.Bound bound) new =
@@ -188,10 +222,10 @@ IsTaken old (item.TheVariants.Hub k last) new = HubTaken old k last new
 IsTaken old (item.TheVariants.Route i j k m) new =
     Ends (route_tests (routed old (i, j) (k, m)) (k, m)) (routed old (i, j) (k, m)) new
 IsTaken old (item.TheVariants.Cuts all) new = new ≡ ended old None
-IsTaken old (item.TheVariants.Cut number) new = CutTaken old new
-IsTaken old (item.TheVariants.Dual i j a last) new = DualGoesOn last (dual_with old (i, j) (record { a = a; u = [] })) new
-IsTaken old (item.TheVariants.DualPair k u last) new =
-    DualGoesOn last (dual_with old old.dual.commodity (record { a = old.dual.dual.a; u = old.dual.dual.u ++ (k, u) ∷ [] })) new
+IsTaken old (item.TheVariants.Cut number part) new = CutTaken old part new
+IsTaken old (item.TheVariants.Dual i j run a last) new =
+    DualGoesOn last (dual_with old (begun_dual old (i, j) run a)) new
+IsTaken old (item.TheVariants.DualPair k u last) new = DualGoesOn last (dual_with old (with_value old.dual (k, u))) new
 IsTaken old (item.TheVariants.Nodes all) new = new ≡ ended (rooted old) None
 IsTaken old (item.TheVariants.Branch k) new = BranchTaken old k new
 IsTaken old (item.TheVariants.Leaf denom last) new = LeafTaken old denom last new
@@ -225,24 +259,31 @@ pub record MayRoute (c : Checks) (commodity route : ℕ × ℕ) : Type 0 where
   pub first : route.0 < c.plan.size
   pub last : route.1 < c.plan.size
 
--- a cut stands to which a dual may be added
-pub record MayEndDual (c : Checks) : Type 0 where
+-- a cut's part
+pub record MayCut (part : ℕ) : Type 0 where
+  pub least : 1 ≤ part
+  pub most : part ≤ most_part
+
+-- a cut stands to which so many duals may be added
+pub record MayEndDual (c : Checks) (run : ℕ) : Type 0 where
   pub stands : c.cuts ≢ []
-  pub few : (last_of c.cuts).count < most_duals
+  pub few : (last_of c.cuts).count + run ≤ most_duals
   pub long : length (last_of c.cuts).loads ≡ c.dual.problem.size
 
-pub record MayDual (c : Checks) (commodity : ℕ × ℕ) (a : ℕ) : Type 0 where
+-- a run of commodities of one origin
+pub record MayDual (c : Checks) (commodity : ℕ × ℕ) (run a : ℕ) : Type 0 where
   pub from : commodity.0 < c.dual.problem.size
-  pub to : commodity.1 < c.dual.problem.size
+  pub to : commodity.1 + run ≤ c.dual.problem.size
+  pub some : 1 ≤ run
   pub short : IsAmount a
-  pub may_end : MayEndDual c
+  pub may_end : MayEndDual c run
 
 pub record MayValue (c : Checks) (k u : ℕ) : Type 0 where
   pub node : k < c.dual.problem.size
   pub above : All (λ (e : ℕ × ℕ). e.0 < k) c.dual.dual.u
   pub least : 1 ≤ u
   pub short : IsAmount u
-  pub may_end : MayEndDual c
+  pub may_end : MayEndDual c c.dual.run
 
 -- a branch is to be filled, and a leaf's bound can be reckoned
 pub record MayEndLeaf (c : Checks) : Type 0 where
@@ -253,9 +294,8 @@ pub record MayEndLeaf (c : Checks) : Type 0 where
 
 -- sums of a cut that a leaf may add
 pub record MayAdd (n : ℕ) (sums : CutTally) : Type 0 where
-  pub total : sums.total ≤ most_cost
   pub long : length sums.loads ≡ n
-  pub loads : All (λ (load : ℕ). load ≤ most_cost) sums.loads
+  pub within : AreWithin sums
 
 pub record MayWeight (c : Checks) (number : ℕ) : Type 0 where
   pub least : 1 ≤ number
@@ -265,7 +305,8 @@ pub record MayWeight (c : Checks) (number : ℕ) : Type 0 where
 abbrev pub MayCome : Checks → item.Item → Type 0
 MayCome c (item.TheVariants.Hub k last) = MayHub c k
 MayCome c (item.TheVariants.Route i j k m) = MayRoute c (i, j) (k, m)
-MayCome c (item.TheVariants.Dual i j a last) = MayDual c (i, j) a
+MayCome c (item.TheVariants.Cut number part) = MayCut part
+MayCome c (item.TheVariants.Dual i j run a last) = MayDual c (i, j) run a
 MayCome c (item.TheVariants.DualPair k u last) = MayValue c k u
 MayCome c (item.TheVariants.Branch k) = c.path.pending ≢ []
 MayCome c (item.TheVariants.Leaf denom last) = (denom ≤ most_denominator) × MayEndLeaf c

@@ -4,10 +4,10 @@ use Rattle.std.specs.List.{AllZip}
 use Rattle.std.specs.List.Sorted.{IsStrictlyIncreasing}
 use Rattle.hub_spec.specs.Problem.{Problem, IsProblem, commodity_at}
 use Rattle.hub_spec.specs.Cuts.{Prices, Cut}
-use Rattle.hub_spec.specs.Trees.{Branching, IsBranch, leaf_of, weight_sum}
+use Rattle.hub_spec.specs.Trees.{Branching, IsBranch, IsMultiple, leaf_of, weight_sum}
 use Rattle.hub_spec.specs.Ranges.{IsShort, IsDualInRange, IsLineInRange}
 use Rattle.cert_spec.specs.Lines.{Item as Line}
-use Rattle.cert_spec.specs.Grammar.{Shape, Stage, want_size, want_cost, want_bound, want_hubs, want_route, want_cuts, want_cut, want_dual, want_nodes, want_tree, Leads}
+use Rattle.cert_spec.specs.Grammar.{Shape, Stage, want_version, want_size, want_cost, want_bound, want_hubs, want_route, want_cuts, want_cut, want_dual, want_nodes, want_tree, IsRun, Leads}
 use Rattle.cert_spec.specs.Conditions.{Claim, AllHold, FailsFirst, conditions_from}
 use Rattle.cert_spec.specs.PartConditions.{claims}
 use Rattle.cert_spec.specs.Progress.{Progress, at_start, after_lines}
@@ -35,21 +35,22 @@ TellsFirst cs (Some failure) = FailsFirst cs (kind_of failure.0) failure.1
 pub data Part : Type 0 where
   nothing : Part
   some_hubs : List ℕ → Part
-  some_values : ℕ × ℕ → Prices → Part
+  some_values : ℕ × ℕ → (run : ℕ) → Prices → Part
   some_weights : ℕ → List (ℕ × ℕ) → Part
 
 -- the items of it
 abbrev pub part_items : Part → List Item
 part_items nothing = []
 part_items (some_hubs hubs) = open_hubs hubs
-part_items (some_values commodity dual) = Dual commodity.0 commodity.1 dual.a false ∷ open_values dual.u
+part_items (some_values commodity run dual) = Dual commodity.0 commodity.1 run dual.a false ∷ open_values dual.u
 part_items (some_weights denom weights) = Leaf denom false ∷ open_weights weights
 
 -- it may stand at this stage
 abbrev pub IsPart : Stage → Part → Type 0
 IsPart (want_hubs s) (some_hubs hubs) = IsStrictlyIncreasing hubs × All (λ k. k < s.size) hubs
 IsPart (want_hubs s) other = ⊥
-IsPart (want_dual s all x t) (some_values commodity dual) = (commodity ≡ commodity_at s.size t) × IsDualInRange s.size dual
+IsPart (want_dual s all x t before) (some_values commodity run dual) =
+    (commodity ≡ commodity_at s.size t) × IsRun s t run × IsDualInRange s.size dual
 IsPart (want_tree s places left) (some_weights denom weights) = IsLineInRange s.size (leaf_of denom weights)
 IsPart stage nothing = Unit {0}
 IsPart stage other = ⊥
@@ -77,7 +78,7 @@ pub record IsSized (n said shape_size : ℕ) : Type 0 where
 
 -- the sums are those of a whole cut, which is within them
 pub record AreSumsOfCut (p : Problem) (cut : Cut) (sums : CutTally) : Type 0 where
-  pub are : AreSumsOf p.size cut.duals sums
+  pub are : AreSumsOf p.size cut sums
   pub within : AreWithin sums
 
 -- and of all these, one by one
@@ -110,21 +111,29 @@ pub record CutsStand (p : Problem) (cuts : List Cut) (duals : List Prices) (sums
   pub sums_are : AreCutSums p cuts sums
   pub no_dual : duals ≡ []
 
--- whole cuts have come, and so many duals of another
-pub record DualsStand (p : Problem) (cuts : List Cut) (duals : List Prices) (sums : List CutTally) (t : ℕ) : Type 0 where
+-- whole cuts have come, and so many duals of another, with this part
+pub record DualsStand (p : Problem) (cuts : List Cut) (part : ℕ) (duals : List Prices) (sums : List CutTally)
+    (t : ℕ) : Type 0 where
   pub front : List CutTally
   pub last : CutTally
   pub split : sums ≡ front ++ last ∷ []
   pub front_are : AreCutSums p cuts front
-  pub last_is : AreSumsOf p.size duals last
+  pub last_is : AreSumsOf p.size (record { part = part; duals = duals }) last
   pub candidates : All (λ (d : Prices). All (λ (e : ℕ × ℕ). Contains p.candidates e.0) d.u) duals
   pub count : length duals ≡ t
   pub more : t < p.size * p.size
 
+-- this dual of a run is listed, with the part of its cut
+pub record Lists (listed : ListedDual) (part : ℕ) (commodity : ℕ × ℕ) (run : ℕ) (dual : Prices) : Type 0 where
+  pub commodity_is : listed.commodity ≡ commodity
+  pub part_is : listed.part ≡ part
+  pub run_is : listed.run ≡ run
+  pub dual_is : listed.dual ≡ dual
+
 -- this dual is listed as far as it has come
-abbrev pub DualStands : ListedDual → Part → Type 0
-DualStands listed (some_values commodity dual) = (listed.commodity ≡ commodity) × (listed.dual ≡ dual)
-DualStands listed other = Unit {0}
+abbrev pub DualStands : ListedDual → ℕ → Part → Type 0
+DualStands listed cut_part (some_values commodity run dual) = Lists listed cut_part commodity run dual
+DualStands listed cut_part other = Unit {0}
 
 -- so many branches are to be filled, and the path has them
 pub record TreeStands (p : Problem) (pending on_path : List Branching) (places : ℕ) : Type 0 where
@@ -140,8 +149,12 @@ AreNumbers cuts weights = All (λ (e : ℕ × ℕ). e.0 ≤ length cuts) weights
 -- what failed of a leaf's weights, or their sums
 abbrev pub WeightsStand : Problem → List Cut → Tally → ℕ → List (ℕ × ℕ) → Option code.Kind → Type 0
 WeightsStand p cuts sums denom weights None =
-    AreNumbers cuts weights × (weight_sum weights ≤ denom) × AreLeafSumsOf p.size cuts denom weights sums
-WeightsStand p cuts sums denom weights (Some code.TheVariants.Weight) = AreNumbers cuts weights × (denom < weight_sum weights)
+    AreNumbers cuts weights × All (IsMultiple cuts) weights × (weight_sum weights ≤ denom)
+    × AreLeafSumsOf p.size cuts denom weights sums
+WeightsStand p cuts sums denom weights (Some code.TheVariants.Weight) =
+    AreNumbers cuts weights × All (IsMultiple cuts) weights × (denom < weight_sum weights)
+WeightsStand p cuts sums denom weights (Some code.TheVariants.Multiple) =
+    AreNumbers cuts weights × (All (IsMultiple cuts) weights → ⊥)
 WeightsStand p cuts sums denom weights (Some code.TheVariants.CutNumber) = AreNumbers cuts weights → ⊥
 WeightsStand p cuts sums denom weights (Some other) = ⊥
 
@@ -165,7 +178,8 @@ Cutted c s = CutsStand c.instance.now s.cuts s.duals c.cuts
 
 -- what is kept at a stage, where a part of the next line has come
 abbrev pub Keeps : Checks → Progress → Stage → Part → Type 0
-Keeps c s want_size part = PlanAbsent c s × Cutted c s
+Keeps c s want_version part = PlanAbsent c s × Cutted c s
+Keeps c s (want_size v) part = PlanAbsent c s × Cutted c s
 Keeps c s (want_cost shape) part = Sized c s shape × PlanAbsent c s × Cutted c s
 Keeps c s (want_bound shape) part = Sized c s shape × PlanAbsent c s × Cutted c s
 Keeps c s (want_hubs shape) part =
@@ -173,28 +187,24 @@ Keeps c s (want_hubs shape) part =
 Keeps c s (want_route shape t) part = Sized c s shape × RoutesStand c.instance.now s.hubs s.routes c.plan t × Cutted c s
 Keeps c s (want_cuts shape) part = Sized c s shape × Cutted c s
 Keeps c s (want_cut shape all x) part = Sized c s shape × Cutted c s
-Keeps c s (want_dual shape all x t) part =
-    Sized c s shape × DualsStand c.instance.now s.cuts s.duals c.cuts t × DualStands c.dual part
+Keeps c s (want_dual shape all x t before) part =
+    Sized c s shape × DualsStand c.instance.now s.cuts s.part s.duals c.cuts t × DualStands c.dual s.part part
 Keeps c s (want_nodes shape) part = Sized c s shape × Cutted c s
 Keeps c s (want_tree shape places left) part =
     Sized c s shape × Cutted c s × TreeStands c.instance.now s.pending c.path.pending places
     × LeafStands c.instance.now s.cuts c.leaf c.leaf_failure part
 Keeps c s other part = Unit {0}
 
--- behind the first line
-abbrev pub second_line : Progress
-second_line = record at_start { line = 2 }
-
--- what a check is where these lines behind the first, and a part of another, have come
+-- what a check is where these lines, and a part of another, have come
 pub record Stands (c : Checks) (lines : List Line) (stage : Stage) (part : Part) : Type 0 where
-  pub line : c.line ≡ (after_lines c.instance.now second_line lines).line
-  pub tells : TellsFirst (conditions_from c.instance.now second_line lines) c.failure
-  pub standing : c.failure ≡ None → StandsFirm c (after_lines c.instance.now second_line lines)
-  pub keeps : c.failure ≡ None → Keeps c (after_lines c.instance.now second_line lines) stage part
+  pub line : c.line ≡ (after_lines c.instance.now at_start lines).line
+  pub tells : TellsFirst (conditions_from c.instance.now at_start lines) c.failure
+  pub standing : c.failure ≡ None → StandsFirm c (after_lines c.instance.now at_start lines)
+  pub keeps : c.failure ≡ None → Keeps c (after_lines c.instance.now at_start lines) stage part
 
 -- these items have come
 abbrev pub HasTaken : List Item → Checks → Type 0
-HasTaken given c = (lines : List Line) (stage : Stage) (part : Part) → Leads want_size lines stage
+HasTaken given c = (lines : List Line) (stage : Stage) (part : Part) → Leads want_version lines stage
     → given ≡ flat_map parts_of lines ++ part_items part → IsPart stage part → Stands c lines stage part
 
 -- the ending is that of this certificate

@@ -34,12 +34,12 @@ pub struct Checks<'a> {
     pub(crate) plan: PlanSums,
     // Whether each hub so far is a candidate.
     pub(crate) are_candidates: bool,
-    // Those of the whole cuts, and while a cut stands, its own behind them.
+    // Those of the whole cuts, and while a cut stands, its own behind them, each with its part.
     pub(crate) cuts: CutList,
     pub(crate) dual: DualLine<'a>,
     pub(crate) path: TreePath,
     pub(crate) leaf: LeafSums,
-    // What fails of the leaf's weights so far: their cuts' numbers, or else their sum.
+    // What fails of the leaf's weights so far: their cuts' numbers, or else the multiples of parts, or else their sum.
     pub(crate) leaf_failure: Option<Kind>,
     pub(crate) failure: Option<(Kind, u64)>,
 }
@@ -55,7 +55,7 @@ impl<'a> Checks<'a> {
         prove!(nodes > 0);
         Ok(Checks {
             instance,
-            line: 2,
+            line: 1,
             cost: 0,
             bound: 0,
             plan: PlanSums::new(alloc, instance)?,

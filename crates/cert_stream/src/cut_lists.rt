@@ -1,6 +1,7 @@
 //! The sums of the cuts of a certificate.
 
-ghost use Rattle.std.specs.Prelude.{◌≡◌, ◌≢◌, ◌<◌, ◌≤◌, ◌++◌, [], ◌∷◌, length, IfOk, OnErr};
+ghost use Rattle.std.specs.Prelude.{◌≡◌, ◌≢◌, ◌+◌, ◌≤◌, ◌++◌, [], ◌∷◌, length, IfOk, OnErr};
+ghost use Rattle.hub_spec.specs.Limits.{most_part};
 ghost use Rattle.hub_spec.specs.Ranges.{IsDualInRange};
 ghost use Rattle.cert_stream.specs.Sums.{
   CutTally,
@@ -40,25 +41,29 @@ impl CutList {
         }
     }
 
-    /// Begins a cut over `n` nodes behind the others, with no dual. It takes memory: without, nothing changes.
-    pub(crate) fn begin(&mut self, alloc: Global, n: u32) -> Result<(), AllocError>
-        ensures begun { IfOk result (λ _. (sums : CutTally) × IsNoDual n sums × (self.new ≡ self.old ++ sums ∷ [])) }
+    /// Begins a cut over `n` nodes behind the others, with this part and no dual. It takes memory: without, nothing
+    /// changes.
+    pub(crate) fn begin(&mut self, alloc: Global, n: u32, part: u32) -> Result<(), AllocError>
+        requires least { 1 ≤ part }
+        requires most { part ≤ most_part }
+        ensures begun { IfOk result (λ _.
+            (sums : CutTally) × IsNoDual n part sums × (self.new ≡ self.old ++ sums ∷ [])) }
         ensures same { OnErr result (self.new ≡ self.old) }
     {
-        let sums = CutSums::new(alloc, n)?;
+        let sums = CutSums::new(alloc, n, part)?;
         self.sums.push(sums)?;
         Ok(())
     }
 
-    /// Adds a dual of this price and these values to the last cut.
-    pub(crate) fn add(&mut self, price: u128, values: &[(u32, u128)])
+    /// Adds so many equal duals of this price and these values to the last cut.
+    pub(crate) fn add(&mut self, run: u32, price: u128, values: &[(u32, u128)])
         requires some { self.old ≢ [] }
-        requires few { (last_of self.old).count < most_duals }
+        requires few { (last_of self.old).count + run ≤ most_duals }
         requires dual { IsDualInRange (length (last_of self.old).loads) (record { a = price; u = values.now }) }
-        ensures { IsLastAdded self.old (record { a = price; u = values.now }) self.new }
+        ensures { IsLastAdded self.old run (record { a = price; u = values.now }) self.new }
     {
         let at = self.sums.len() - 1;
-        self.sums[at].add(price, values);
+        self.sums[at].add(run, price, values);
     }
 
     /// The number of cuts.

@@ -1,13 +1,17 @@
 //! The conditions of the cuts.
 
-ghost use Rattle.std.specs.Prelude.{◌≡◌, ◌≢◌, ◌^◌, ◌-◌, ◌<◌, ◌++◌, [], ◌∷◌, IfOk, OnErr, Some, None};
+ghost use Rattle.std.specs.Prelude.{◌≡◌, ◌≢◌, ◌^◌, ◌-◌, ◌<◌, ◌≤◌, [], IfOk, OnErr};
+ghost use Rattle.hub_spec.specs.Limits.{most_part};
 ghost use Rattle.cert_stream.specs.Steps.{
   Tried,
   CutTaken,
+  sum_tests,
   dual_tests,
+  begun_dual,
+  with_value,
+  dual_with,
   DualEnds,
   DualGoesOn,
-  dual_with,
   MayDual,
   MayValue,
   MayEndDual,
@@ -18,22 +22,25 @@ use cert_checker::Kind;
 use std::alloc::{AllocError, Global};
 
 impl<'a> Checks<'a> {
-    pub(crate) fn take_cut(&mut self, alloc: Global) -> Result<(), AllocError>
-        requires { self.old.line < 2 ^ 64 - 1 }
-        ensures taken { IfOk result (λ _. CutTaken self.old self.new) }
+    pub(crate) fn take_cut(&mut self, alloc: Global, part: u32) -> Result<(), AllocError>
+        requires room { self.old.line < 2 ^ 64 - 1 }
+        requires least { 1 ≤ part }
+        requires most { part ≤ most_part }
+        ensures taken { IfOk result (λ _. CutTaken self.old part self.new) }
         ensures same { OnErr result (self.new ≡ self.old) }
     {
-        self.cuts.begin(alloc, self.instance.size())?;
+        self.cuts.begin(alloc, self.instance.size(), part)?;
         self.end_line(None);
         Ok(())
     }
 
-    pub(crate) fn take_dual(&mut self, commodity: (u32, u32), a: u128, last: bool)
+    pub(crate) fn take_dual(&mut self, commodity: (u32, u32), run: u32, a: u128, last: bool)
         requires room { self.old.line < 2 ^ 64 - 1 }
-        requires dual { MayDual self.old commodity a }
-        ensures { DualGoesOn last (dual_with self.old commodity (record { a = a; u = [] })) self.new }
+        requires dual { MayDual self.old commodity run a }
+        ensures { DualGoesOn last (dual_with self.old (begun_dual self.old commodity run a)) self.new }
     {
-        self.dual.begin(commodity.0, commodity.1, a);
+        let part = self.cuts.last().part();
+        self.dual.begin(commodity.0, commodity.1, run, part, a);
         if !last {
             return;
         }
@@ -43,9 +50,7 @@ impl<'a> Checks<'a> {
     pub(crate) fn take_value(&mut self, k: u32, u: u128, last: bool)
         requires room { self.old.line < 2 ^ 64 - 1 }
         requires value { MayValue self.old k u }
-        ensures { DualGoesOn last
-            (dual_with self.old self.old.dual.commodity
-            (record { a = self.old.dual.dual.a; u = self.old.dual.dual.u ++ (k, u) ∷ [] })) self.new }
+        ensures { DualGoesOn last (dual_with self.old (with_value self.old.dual (k, u))) self.new }
     {
         self.dual.list(k, u);
         if !last {
@@ -56,22 +61,32 @@ impl<'a> Checks<'a> {
 
     fn end_dual(&mut self)
         requires room { self.old.line < 2 ^ 64 - 1 }
-        requires may { MayEndDual self.old }
+        requires may { MayEndDual self.old self.old.dual.run }
         ensures { DualEnds self.old self.new }
     {
-        self.cuts.add(self.dual.price(), self.dual.values());
+        self.cuts
+            .add(self.dual.run(), self.dual.price(), self.dual.values());
         let found = self.failed_dual();
         self.end_line(found);
     }
 
-    // Of a dual that is added to its cut already; with the last one, the cut's sums are tried.
-    fn failed_dual(&self) -> Option<Kind>
-        requires { self.now.cuts ≢ [] }
-        ensures { Tried (dual_tests self.now) result self.now.line }
+    // Of a run that is added to its cut already; with the last one, the cut's sums are tried.
+    fn failed_dual(&mut self) -> Option<Kind>
+        requires { self.old.cuts ≢ [] }
+        ensures tried { Tried (dual_tests self.old) result self.old.line }
+        ensures same { self.new ≡ self.old }
     {
-        if !self.dual.holds() {
-            return Some(Kind::Dual);
+        if self.dual.holds() {
+            self.failed_sum()
+        } else {
+            Some(Kind::Dual)
         }
+    }
+
+    fn failed_sum(&self) -> Option<Kind>
+        requires { self.now.cuts ≢ [] }
+        ensures { Tried (sum_tests self.now) result self.now.line }
+    {
         let n = self.instance.size();
         let sums = self.cuts.last();
         if sums.count() == n * n && !sums.are_within() {

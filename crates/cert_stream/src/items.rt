@@ -20,8 +20,8 @@ impl<'a> Checks<'a> {
             self.pass_over(item);
             return Ok(());
         }
-        if let Item::Cut(_) = item {
-            return self.take_cut(alloc);
+        if let Item::Cut { part, .. } = item {
+            return self.take_cut(alloc, part);
         }
         self.try_item(item);
         Ok(())
@@ -41,14 +41,14 @@ impl<'a> Checks<'a> {
             Item::Bound(bound) => self.take_bound(bound),
             Item::Hub { k, last } => self.take_hub(k, last),
             Item::Route { i, j, k, m } => self.take_route((i, j), (k, m)),
-            Item::Dual { i, j, a, last } => self.take_dual((i, j), a, last),
+            Item::Dual { i, j, run, a, last } => self.take_dual((i, j), run, a, last),
             Item::DualPair { k, u, last } => self.take_value(k, u, last),
             Item::Nodes(_) => self.take_nodes(),
             Item::Branch(k) => self.take_branch(k),
             Item::Leaf { denom, last } => self.take_leaf(denom, last),
             Item::LeafPair { c, w, last } => self.take_weight(c, w, last),
             Item::Empty => self.take_empty(),
-            Item::Cuts(_) | Item::Cut(_) | Item::End => self.end_line(None),
+            Item::Version(_) | Item::Cuts(_) | Item::Cut { .. } | Item::End => self.end_line(None),
         }
     }
 

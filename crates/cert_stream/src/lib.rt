@@ -2,8 +2,8 @@
 //!
 //! [`Checks`] takes the items that a scan of the text gives, one after another, and tells the first condition that
 //! fails, with its line. It keeps what later conditions speak of: what was said of the cost and the bound, the sums of
-//! the plan, of each whole cut and of the one that stands, and of the leaf that stands; one dual, and one path of the
-//! tree. The conditions, line by line, are defined in the crate `cert_spec`.
+//! the plan, the part and the sums of each whole cut and of the one that stands, and the sums of the leaf that stands;
+//! one dual, and one path of the tree. The conditions, line by line, are defined in the crate `cert_spec`.
 //!
 //! [`Stream`] checks bytes that come piece by piece: a scan gives the items, and `Checks` takes them.
 #![tactic(auto)]

@@ -13,6 +13,7 @@ ghost use Rattle.cert_stream.specs.Steps.{
   LeafFound,
   LeafEnds,
   LeafTaken,
+  no_multiple,
   IsWeighed,
   WeightTaken,
   MayEndLeaf,
@@ -21,6 +22,7 @@ ghost use Rattle.cert_stream.specs.Steps.{
 
 use crate::checks::Checks;
 use cert_checker::Kind;
+use tree_lines::is_multiple;
 
 impl<'a> Checks<'a> {
     pub(crate) fn take_nodes(&mut self)
@@ -98,6 +100,12 @@ impl<'a> Checks<'a> {
             self.leaf_failure = Some(Kind::CutNumber);
             return;
         }
+        let sums = self.cuts.numbered(c);
+        let part = sums.part();
+        if !is_multiple(w, part) {
+            self.leaf_failure = with_no_multiple(self.leaf_failure);
+            return;
+        }
         if self.leaf_failure.is_some() {
             return;
         }
@@ -105,8 +113,7 @@ impl<'a> Checks<'a> {
             self.leaf_failure = Some(Kind::Weight);
             return;
         }
-        let sums = self.cuts.numbered(c);
-        self.leaf.add(w, sums.total(), sums.loads());
+        self.leaf.add(w, part, sums.total(), sums.loads());
     }
 
     fn end_leaf(&mut self)
@@ -130,5 +137,15 @@ impl<'a> Checks<'a> {
             return None;
         }
         Some(Kind::Leaf)
+    }
+}
+
+// What fails of a leaf's weights with one that is no multiple of its cut's part: a number of no cut comes before it.
+fn with_no_multiple(failure: Option<Kind>) -> Option<Kind>
+    ensures { result ≡ no_multiple failure }
+{
+    match failure {
+        Some(Kind::CutNumber) => failure,
+        _ => Some(Kind::Multiple),
     }
 }
