@@ -9,10 +9,9 @@ use Rattle.std.proofs.lemmas.List.Sums.{sum_by-cons}
 use Rattle.hub_spec.specs.Problem.{Problem, IsProblem}
 use Rattle.hub_spec.specs.Cuts.{Cut, total, IsCut}
 use Rattle.hub_spec.specs.Trees.{Branching, IsBranch}
-use Rattle.hub_model.specs.Amounts.{natural, IsNatural}
-use Rattle.hub_model.proofs.Signs.{pos_least}
+use Rattle.hub_model.specs.Amounts.{IsNatural}
 use Rattle.leaf_bound.specs.Bounds.{AreMultiples}
-use Rattle.leaf_bound.specs.Numbers.{naturals, IsCost}
+use Rattle.leaf_bound.specs.Numbers.{naturals}
 use Rattle.leaf_bound.proofs.LeafWeights.{pairs_mix}
 use Rattle.frac_master.specs.Masters.{MasterNumbers, AreMasterNumbers, AreWithinTotals, master_of, candidates_of}
 use Rattle.frac_master.specs.Advice.{Advised, advice, AreMixWeights}
@@ -20,48 +19,46 @@ use Rattle.frac_master.specs.Theorems.{IsMaster, IsMixed}
 use Rattle.frac_master.proofs.MasterTables.{weights_are_a_mix}
 use Rattle.search_spec.specs.States.{denominator}
 use Rattle.cut_pool.specs.Entries.{Entry}
-use Rattle.search_core.specs.Tasks.{AreFixedCosts}
 use Rattle.search_steps.specs.Pools.{entry_cut, IsSumsOf, IsPoolOf, pool_cuts, state_by}
-use Rattle.search_steps.specs.Advising.{node_loads, master_numbers, told_by, in_parts, advised_on, master_advising}
+use Rattle.search_steps.specs.Advising.{master_numbers, told_by, in_parts, advised_on, master_advising}
 use Rattle.search_steps.specs.Weights.{AreNodeWeights}
 use Rattle.search_steps.specs.Theorems.{AdvisingIsSound}
-use Rattle.search_steps.proofs.PoolNumbers.{lent_totals, lent_loads, lent_parts, parts_are, naturals_totals, naturals_loads, loads_least, loads_below, loads_costs, fixed_naturals, fixed_long}
+use Rattle.search_steps.proofs.PoolNumbers.{lent_totals, lent_loads, lent_parts, parts_are, naturals_totals, naturals_loads, loads_least, loads_below, loads_long}
 use Rattle.search_steps.proofs.Weighed.{below_size, branch_below}
 
--- the numbers are those that the pool lends, with the fixed costs
-pub record AreMasters (p : Problem) (entries : List Entry) (totals : List ℤ) (loads : List (List ℤ)) (fixed : List ℤ) : Type 0 where
+-- the numbers are those that the pool lends, with the problem's fixed costs
+pub record AreMasters (p : Problem) (entries : List Entry) (totals : List ℤ) (loads : List (List ℤ)) (fixed : List ℕ) : Type 0 where
+  pub problem : IsProblem p
   pub pool : IsPoolOf p entries
-  pub costs : AreFixedCosts p fixed
+  pub costs : fixed ≡ p.fixed_costs
   pub are_totals : totals ≡ lent_totals entries
   pub are_loads : loads ≡ lent_loads entries
 
-pub many_totals : (p : Problem) (entries : List Entry) (totals : List ℤ) (loads : List (List ℤ)) (fixed : List ℤ)
+pub many_totals : (p : Problem) (entries : List Entry) (totals : List ℤ) (loads : List (List ℤ)) (fixed : List ℕ)
     → AreMasters p entries totals loads fixed → length totals ≡ length entries
 many_totals p entries totals loads fixed are = ap length are.are_totals ∙ length-map entries (λ (e : Entry). pos e.total)
 
-pub numbers_serve : (p : Problem) (entries : List Entry) (totals : List ℤ) (loads : List (List ℤ)) (fixed : List ℤ)
+pub numbers_serve : (p : Problem) (entries : List Entry) (totals : List ℤ) (loads : List (List ℤ)) (fixed : List ℕ)
     → AreMasters p entries totals loads fixed → AreMasterNumbers totals loads fixed
 numbers_serve p entries totals loads fixed are = record {
   one_each = ap length are.are_loads ∙ length-map entries (λ (e : Entry). map pos e.loads) ∙ sym (many_totals p entries totals loads fixed are);
   as_long = subst (All (λ (row : List ℤ). length row ≡ length fixed)) (sym are.are_loads)
-      (All-weaker (λ (row : List ℤ). (length row ≡ length fixed) × All IsCost row) (λ (row : List ℤ). length row ≡ length fixed) (λ row is. is.0)
-      (lent_loads entries) (loads_costs p entries (length fixed) are.costs.problem are.pool (fixed_long p fixed are.costs)));
+      (loads_long p entries (length fixed) are.pool (ap length are.costs ∙ are.problem.cost_for_each_node));
   totals_low = subst (All IsNatural) (sym are.are_totals) (All-map IsNatural (λ (e : Entry). pos e.total) entries
       (All-weaker (IsSumsOf p) (λ (e : Entry). IsNatural (pos e.total)) (λ e is. omega (arith, ints)) entries are.pool));
   loads_low = subst (All (λ (row : List ℤ). All IsNatural row)) (sym are.are_loads) (loads_least entries);
-  fixed_low = subst (All IsNatural) (sym are.costs.costs) (pos_least p.fixed_costs);
 }
 
-pub within_totals : (p : Problem) (entries : List Entry) (totals : List ℤ) (loads : List (List ℤ)) (fixed : List ℤ)
+pub within_totals : (p : Problem) (entries : List Entry) (totals : List ℤ) (loads : List (List ℤ)) (fixed : List ℕ)
     → AreMasters p entries totals loads fixed → AreWithinTotals totals loads
 within_totals p entries totals loads fixed are =
-    rw (are.are_totals, are.are_loads) (loads_below p entries are.costs.problem are.pool)
+    rw (are.are_totals, are.are_loads) (loads_below p entries are.problem are.pool)
 
-pub nodes_serve : (p : Problem) (fixed : List ℤ) (b : Branching) → AreFixedCosts p fixed → IsBranch p b
+pub nodes_serve : (p : Problem) (fixed : List ℕ) (b : Branching) → IsProblem p → fixed ≡ p.fixed_costs → IsBranch p b
     → All (λ k. k < length fixed) (candidates_of b)
-nodes_serve p fixed b costs is =
+nodes_serve p fixed b ok costs is =
     let n = length fixed in
-    let below = branch_below p fixed b costs is in
+    let below = branch_below p fixed b ok costs is in
     All-append (λ k. k < n) b.inside (b.outside ++ b.free) below.inside (All-append (λ k. k < n) b.outside b.free below.outside below.free)
 
 is_master : (p : Problem) (cuts : List Cut) (b : Branching) → IsProblem p → IsBranch p b → IsMaster (master_numbers p cuts) b
@@ -77,13 +74,12 @@ is_master p cuts b ok is =
     }
 
 -- the numbers are those of the master of the cuts
-masters_same : (p : Problem) (entries : List Entry) (totals : List ℤ) (loads : List (List ℤ)) (fixed : List ℤ)
+masters_same : (p : Problem) (entries : List Entry) (totals : List ℤ) (loads : List (List ℤ)) (fixed : List ℕ)
     → AreMasters p entries totals loads fixed → master_of totals loads fixed ≡ master_numbers p (pool_cuts p entries)
 masters_same p entries totals loads fixed are =
-    let of : List ℕ → List (List ℕ) → List ℕ → MasterNumbers = λ t l f. record { totals = t; loads = l; fixed = f } in
-    ap₂ (λ t l. of t l (naturals fixed)) (ap naturals are.are_totals ∙ naturals_totals p entries are.pool)
-    (ap (map naturals) are.are_loads ∙ naturals_loads p entries are.pool)
-    ∙ ap (of (map total (pool_cuts p entries)) (map (node_loads p) (pool_cuts p entries))) (fixed_naturals p fixed are.costs)
+    let of : List ℕ → List (List ℕ) → MasterNumbers = λ t l. record { totals = t; loads = l; fixed = fixed } in
+    ap₂ of (ap naturals are.are_totals ∙ naturals_totals p entries are.pool) (ap (map naturals) are.are_loads ∙ naturals_loads p entries are.pool)
+    ∙ ap (λ (f : List ℕ). record (master_numbers p (pool_cuts p entries)) { fixed = f }) are.costs
 
 -- with the part 1 each weight stays as it is
 in_ones : (ws : List ℕ) (entries : List Entry) → length ws ≡ length entries → in_parts ws (lent_parts entries) ≡ ws
@@ -98,25 +94,25 @@ advised_same p entries a long =
     ap (λ (ws : List ℕ). record a { weights = ws })
     (ap (in_parts a.weights) (sym (parts_are p entries)) ∙ in_ones a.weights entries long)
 
-pub advice_is : (p : Problem) (entries : List Entry) (totals : List ℤ) (loads : List (List ℤ)) (fixed : List ℤ) (b : Branching) (a : Advised)
+pub advice_is : (p : Problem) (entries : List Entry) (totals : List ℤ) (loads : List (List ℤ)) (fixed : List ℕ) (b : Branching) (a : Advised)
     → AreMasters p entries totals loads fixed → IsBranch p b → a ≡ advice (master_of totals loads fixed) b
     → (hubs : List ℕ) (cost made : ℕ) (stop : Option ℕ) → told_by a ≡ master_advising p (state_by p entries hubs cost made stop) b
 unfolding master_advising
 advice_is p entries totals loads fixed b a are is_branch is hubs cost made stop =
     let m = master_numbers p (pool_cuts p entries) in
-    let mixed = weights_are_a_mix m b (is_master p (pool_cuts p entries) b are.costs.problem is_branch) in
+    let mixed = weights_are_a_mix m b (is_master p (pool_cuts p entries) b are.problem is_branch) in
     let long : length (advice m b).weights ≡ length entries =
     mixed.one_each ∙ length-map (pool_cuts p entries) total ∙ length-map entries (entry_cut p) in
     ap told_by (is ∙ ap (λ (n : MasterNumbers). advice n b) (masters_same p entries totals loads fixed are)
     ∙ sym (advised_same p entries (advice m b) long))
 
-pub point_long : (p : Problem) (entries : List Entry) (totals : List ℤ) (loads : List (List ℤ)) (fixed : List ℤ) (b : Branching) (a : Advised)
+pub point_long : (p : Problem) (entries : List Entry) (totals : List ℤ) (loads : List (List ℤ)) (fixed : List ℕ) (b : Branching) (a : Advised)
     → AreMasters p entries totals loads fixed → a ≡ advice (master_of totals loads fixed) b → length a.point ≡ p.size
 unfolding advice
 point_long p entries totals loads fixed b a are is =
-    ap (λ (x : Advised). length x.point) is ∙ length-map-range_with_len _ 0 (length (naturals fixed)) ∙ length-map fixed natural ∙ fixed_long p fixed are.costs
+    ap (λ (x : Advised). length x.point) is ∙ length-map-range_with_len _ 0 (length fixed) ∙ ap length are.costs ∙ are.problem.cost_for_each_node
 
-pub node_weights : (p : Problem) (entries : List Entry) (totals : List ℤ) (loads : List (List ℤ)) (fixed weights : List ℤ)
+pub node_weights : (p : Problem) (entries : List Entry) (totals : List ℤ) (loads : List (List ℤ)) (fixed : List ℕ) (weights : List ℤ)
     → AreMasters p entries totals loads fixed → AreMixWeights (length totals) weights → AreNodeWeights (length entries) weights
 node_weights p entries totals loads fixed weights are mix = record {
   few = omega (arith, mix.one_each, many_totals p entries totals loads fixed are);

@@ -18,12 +18,11 @@ use Rattle.hub_spec.proofs.SetCuts.{loads_within}
 use Rattle.hub_model.specs.Amounts.{natural, IsNatural}
 use Rattle.hub_model.proofs.Signs.{natural-pos, pos_least}
 use Rattle.leaf_bound.specs.Bounds.{AreMultiples}
-use Rattle.leaf_bound.specs.Numbers.{naturals, IsCost, IsSumOf, AreSumsOf}
+use Rattle.leaf_bound.specs.Numbers.{naturals, IsSumOf, AreSumsOf}
 use Rattle.leaf_bound.specs.Theorems.{AreLoadsOf}
 use Rattle.frac_master.specs.Masters.{AreShortRows, AreWithinTotals, halved}
 use Rattle.cut_pool.specs.Entries.{Entry}
 use Rattle.cut_pool.specs.Shorts.{Shorts, AreShortLoads}
-use Rattle.search_core.specs.Tasks.{AreFixedCosts}
 use Rattle.search_steps.specs.Pools.{entry_cut, IsSumsOf, IsPoolOf, pool_cuts}
 use Rattle.search_steps.specs.Advising.{node_loads}
 
@@ -93,44 +92,39 @@ loads_below p (e ∷ entries) ok are =
       loads_below p entries ok (All-tail (IsSumsOf p) e entries are),
     )
 
-is_cost : (n : ℕ) → n ≤ most_cost → IsCost (pos n)
-is_cost n low = (omega (arith, ints), omega (arith, ints, low))
-
-pub loads_costs : (p : Problem) (entries : List Entry) (n : ℕ) → IsProblem p → IsPoolOf p entries → n ≡ p.size
-    → All (λ (row : List ℤ). (length row ≡ n) × All IsCost row) (lent_loads entries)
-loads_costs p entries n ok are size =
-    All-map (λ (row : List ℤ). (length row ≡ n) × All IsCost row) (λ (e : Entry). map pos e.loads) entries
-    (All-weaker (IsSumsOf p) (λ (e : Entry). (length (map pos e.loads) ≡ n) × All IsCost (map pos e.loads))
-    (λ e is. (
-      length-map e.loads pos ∙ is.one_load_each ∙ sym size,
-      All-map IsCost pos e.loads (All-from_get_or (λ (x : ℕ). IsCost (pos x)) e.loads 0
-          (λ k low. is_cost (get_or e.loads k 0) (entry_load p e k ok is (omega (arith, low, is.one_load_each))))),
-    )) entries are)
-
 -- with the part 1 the limits are those of sums
-is_sum : (z : ℤ) → IsCost z → IsSumOf 1 z
-is_sum z is = (is.0, omega (arith, ints, is.1))
+is_sum : (n : ℕ) → n ≤ most_cost → IsSumOf 1 (pos n)
+is_sum n low = (omega (arith, ints), omega (arith, ints, low))
 
 pub totals_sums : (p : Problem) (entries : List Entry) → IsProblem p → IsPoolOf p entries
     → AllZip IsSumOf (lent_parts entries) (lent_totals entries)
 totals_sums p [] ok are = tt
 totals_sums p (e ∷ entries) ok are = (
-  is_sum (pos e.total) (is_cost e.total (entry_total p e ok (All-head (IsSumsOf p) e entries are))),
+  is_sum e.total (entry_total p e ok (All-head (IsSumsOf p) e entries are)),
   totals_sums p entries ok (All-tail (IsSumsOf p) e entries are),
 )
 
-rows_sums : (n : ℕ) (entries : List Entry) → All (λ (row : List ℤ). (length row ≡ n) × All IsCost row) (lent_loads entries)
-    → AllZip (AreSumsOf n) (lent_parts entries) (lent_loads entries)
-rows_sums n [] are = tt
-rows_sums n (e ∷ entries) are =
-    let here = All-head (λ (row : List ℤ). (length row ≡ n) × All IsCost row) (map pos e.loads) (lent_loads entries) are in (
-      (here.0, All-weaker IsCost (IsSumOf 1) is_sum (map pos e.loads) here.1),
-      rows_sums n entries (All-tail (λ (row : List ℤ). (length row ≡ n) × All IsCost row) (map pos e.loads) (lent_loads entries) are),
-    )
+row_sums : (p : Problem) (e : Entry) (n : ℕ) → IsProblem p → IsSumsOf p e → n ≡ p.size → AreSumsOf n 1 (map pos e.loads)
+row_sums p e n ok is size = (
+  length-map e.loads pos ∙ is.one_load_each ∙ sym size,
+  All-map (IsSumOf 1) pos e.loads (All-from_get_or (λ (x : ℕ). IsSumOf 1 (pos x)) e.loads 0
+      (λ k low. is_sum (get_or e.loads k 0) (entry_load p e k ok is (omega (arith, low, is.one_load_each))))),
+)
 
 pub loads_sums : (p : Problem) (entries : List Entry) (n : ℕ) → IsProblem p → IsPoolOf p entries → n ≡ p.size
     → AllZip (AreSumsOf n) (lent_parts entries) (lent_loads entries)
-loads_sums p entries n ok are size = rows_sums n entries (loads_costs p entries n ok are size)
+loads_sums p [] n ok are size = tt
+loads_sums p (e ∷ entries) n ok are size = (
+  row_sums p e n ok (All-head (IsSumsOf p) e entries are) size,
+  loads_sums p entries n ok (All-tail (IsSumsOf p) e entries are) size,
+)
+
+pub loads_long : (p : Problem) (entries : List Entry) (n : ℕ) → IsPoolOf p entries → n ≡ p.size
+    → All (λ (row : List ℤ). length row ≡ n) (lent_loads entries)
+loads_long p entries n are size =
+    All-map (λ (row : List ℤ). length row ≡ n) (λ (e : Entry). map pos e.loads) entries
+    (All-weaker (IsSumsOf p) (λ (e : Entry). length (map pos e.loads) ≡ n)
+    (λ e is. length-map e.loads pos ∙ is.one_load_each ∙ sym size) entries are)
 
 pub parts_least : (entries : List Entry) → All (λ (part : ℕ). (1 ≤ part) × (part ≤ most_part)) (lent_parts entries)
 parts_least [] = All-nil (λ (part : ℕ). (1 ≤ part) × (part ≤ most_part))
@@ -181,11 +175,3 @@ loads_least entries =
     All-map (λ (row : List ℤ). All IsNatural row) (λ (e : Entry). map pos e.loads) entries
     (All-from_get_or (λ (e : Entry). All IsNatural (map pos e.loads)) entries (record { hubs = []; order = []; total = 0; loads = [] })
     (λ i low. pos_least (get_or entries i (record { hubs = []; order = []; total = 0; loads = [] })).loads))
-
--- ---- fixed costs
-
-pub fixed_naturals : (p : Problem) (fixed : List ℤ) → AreFixedCosts p fixed → naturals fixed ≡ p.fixed_costs
-fixed_naturals p fixed are = ap naturals are.costs ∙ natural-pos p.fixed_costs
-
-pub fixed_long : (p : Problem) (fixed : List ℤ) → AreFixedCosts p fixed → length fixed ≡ p.size
-fixed_long p fixed are = ap length are.costs ∙ length-map p.fixed_costs pos ∙ are.problem.cost_for_each_node

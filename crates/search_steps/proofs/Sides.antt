@@ -44,12 +44,12 @@ by_tests k true opened = refl
 by_tests k false true = refl
 by_tests k false false = refl
 
-pub sides_are : (p : Problem) (entries : List Entry) (fixed weights : List ℤ) (m : lent.Weighting) (b : Branching)
-    → AreLent p entries fixed weights m → IsBranch p b → (hubs : List ℕ) (cost made : ℕ) (stop : Option ℕ)
+pub sides_are : (p : Problem) (entries : List Entry) (weights : List ℤ) (m : lent.Weighting) (b : Branching)
+    → AreLent p entries weights m → IsBranch p b → (hubs : List ℕ) (cost made : ℕ) (stop : Option ℕ)
     → sides_as (sides.fixings (weighting_of m) cost b)
     ≡ fixings p (state_by p entries hubs cost made stop) b (pairs_of weights)
 unfolding fixings fixing fixed_side
-sides_are p entries fixed weights m b lent is hubs cost made stop =
+sides_are p entries weights m b lent is hubs cost made stop =
     let s = state_by p entries hubs cost made stop in
     let w = pairs_of weights in
     let side : Bool → Bool → ℕ → Option (ℕ × steps.Side) =
@@ -57,5 +57,5 @@ sides_are p entries fixed weights m b lent is hubs cost made stop =
     listed_as (λ k. option_map (λ (side : Side). (k, side)) (side_of (weighting_of m) cost b k)) (fixing p s b w) b.free (λ k free.
     by_tests k (closes_by (weighting_of m) cost (closed_child b k)) (closes_by (weighting_of m) cost (open_child b k))
     ∙ ap₂ (λ (x y : Bool). side x y k)
-    (lent_closes p entries fixed weights m (closed_child b k) lent (closed_branch p b k is free) hubs cost made stop)
-    (lent_closes p entries fixed weights m (open_child b k) lent (open_branch p b k is free) hubs cost made stop))
+    (lent_closes p entries weights m (closed_child b k) lent (closed_branch p b k is free) hubs cost made stop)
+    (lent_closes p entries weights m (open_child b k) lent (open_branch p b k is free) hubs cost made stop))

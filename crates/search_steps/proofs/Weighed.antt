@@ -4,7 +4,7 @@ use Rattle.std.specs.List.{AllZip}
 use Rattle.std.proofs.lemmas.Bool.{false≢true}
 use Rattle.std.proofs.lemmas.Int.{ints}
 use Rattle.std.proofs.lemmas.List.{length-map}
-use Rattle.std.proofs.lemmas.List.Elements.{All-weaker, All-map}
+use Rattle.std.proofs.lemmas.List.Elements.{All-weaker}
 use Rattle.hub_spec.specs.Limits.{most_part, most_fixed_cost}
 use Rattle.hub_spec.specs.Problem.{Problem, IsProblem, fixed_cost}
 use Rattle.hub_spec.specs.Trees.{Branching, leaf_bound, IsBranch}
@@ -13,37 +13,30 @@ use Rattle.hub_spec.proofs.Mixes.{candidate_is_node}
 use Rattle.hub_model.specs.Amounts.{natural, IsNatural}
 use Rattle.leaf_bound.specs.declared.weightings.Weighting as lent
 use Rattle.leaf_bound.specs.Bounds.{AreMultiples, bound_of}
-use Rattle.leaf_bound.specs.Numbers.{naturals, IsCost, AreWeightingNumbers, IsBranchBelow, weighting_of}
+use Rattle.leaf_bound.specs.Numbers.{naturals, AreWeightingNumbers, IsBranchBelow, weighting_of}
 use Rattle.leaf_bound.specs.Theorems.{AreLoadsOf, IsWeightingOf}
 use Rattle.leaf_bound.proofs.LeafWeights.{leaf_has_bound}
 use Rattle.search_spec.specs.States.{State}
 use Rattle.search_spec.specs.Steps.{bound_at, closes_at, better}
 use Rattle.hub_fixing.specs.Fixing.{closes_by}
 use Rattle.cut_pool.specs.Entries.{Entry}
-use Rattle.search_core.specs.Tasks.{AreFixedCosts}
 use Rattle.search_steps.specs.Pools.{entry_cut, IsPoolOf, pool_cuts, state_by}
 use Rattle.search_steps.specs.Weights.{AreNodeWeights, IsNodeWeighting, pairs_of}
-use Rattle.search_steps.proofs.PoolNumbers.{totals_sums, loads_sums, parts_least, multiples_of_one, parts_are, naturals_totals, loads_zip, fixed_naturals, fixed_long}
+use Rattle.search_steps.proofs.PoolNumbers.{totals_sums, loads_sums, parts_least, multiples_of_one, parts_are, naturals_totals, loads_zip}
 
--- the weighting has the pool's numbers and the fixed costs, and the weights are a node's
-pub record AreLent (p : Problem) (entries : List Entry) (fixed weights : List ℤ) (m : lent.Weighting) : Type 0 where
+-- the weighting has the pool's numbers and the problem's fixed costs, and the weights are a node's
+pub record AreLent (p : Problem) (entries : List Entry) (weights : List ℤ) (m : lent.Weighting) : Type 0 where
+  pub problem : IsProblem p
   pub pool : IsPoolOf p entries
-  pub costs : AreFixedCosts p fixed
   pub are_weights : AreNodeWeights (length entries) weights
-  pub is : IsNodeWeighting entries fixed weights m
+  pub is : IsNodeWeighting p entries weights m
 
-fixed_are_costs : (p : Problem) (fixed : List ℤ) → AreFixedCosts p fixed → All IsCost fixed
-fixed_are_costs p fixed are =
-    subst (All IsCost) (sym are.costs) (All-map IsCost pos p.fixed_costs
-    (All-weaker (λ (f : ℕ). f ≤ most_fixed_cost) (λ (f : ℕ). IsCost (pos f)) (λ f low. (omega (arith, ints), omega (arith, ints, low))) p.fixed_costs
-    are.problem.cost_limit))
-
-pub weighting_numbers : (p : Problem) (entries : List Entry) (fixed weights : List ℤ) (m : lent.Weighting)
-    → AreLent p entries fixed weights m → AreWeightingNumbers m
-weighting_numbers p entries fixed weights m lent =
-    let ok = lent.costs.problem in
+pub weighting_numbers : (p : Problem) (entries : List Entry) (weights : List ℤ) (m : lent.Weighting)
+    → AreLent p entries weights m → AreWeightingNumbers m
+weighting_numbers p entries weights m lent =
+    let ok = lent.problem in
     let n = length m.fixed.now in
-    let size : n ≡ p.size = ap length lent.is.are_fixed ∙ fixed_long p fixed lent.costs in
+    let size : n ≡ p.size = ap length lent.is.are_fixed ∙ ok.cost_for_each_node in
     let many : length m.totals.now ≡ length entries = ap length lent.is.are_totals ∙ length-map entries (λ (e : Entry). pos e.total) in
     let few : length m.weights.now ≤ length entries = omega (arith, ap length lent.is.are_weights, lent.are_weights.few) in
     record {
@@ -52,7 +45,7 @@ weighting_numbers p entries fixed weights m lent =
       are_parts = subst (All (λ (part : ℕ). (1 ≤ part) × (part ≤ most_part))) (sym lent.is.are_parts) (parts_least entries);
       are_totals = rw (lent.is.are_parts, lent.is.are_totals) (totals_sums p entries ok lent.pool);
       are_loads = rw (lent.is.are_parts, lent.is.are_loads) (loads_sums p entries n ok lent.pool size);
-      are_fixed_costs = subst (All IsCost) (sym lent.is.are_fixed) (fixed_are_costs p fixed lent.costs);
+      are_fixed_costs = subst (All (λ (cost : ℕ). cost ≤ most_fixed_cost)) (sym lent.is.are_fixed) ok.cost_limit;
       are_weights = subst (All IsNatural) (sym lent.is.are_weights) lent.are_weights.low;
       are_multiples = subst (AreMultiples (naturals m.weights.now)) (sym lent.is.are_parts)
           (multiples_of_one entries (naturals m.weights.now) (omega (arith, few, length-map m.weights.now natural)));
@@ -71,44 +64,45 @@ below_size p b ok is = record {
   free = nodes_below p b.free ok is.free_are;
 }
 
-pub branch_below : (p : Problem) (fixed : List ℤ) (b : Branching) → AreFixedCosts p fixed → IsBranch p b → IsBranchBelow (length fixed) b
-branch_below p fixed b costs is =
-    subst (λ (n : ℕ). IsBranchBelow n b) (sym (fixed_long p fixed costs)) (below_size p b costs.problem is)
+pub branch_below : (p : Problem) (fixed : List ℕ) (b : Branching) → IsProblem p → fixed ≡ p.fixed_costs → IsBranch p b
+    → IsBranchBelow (length fixed) b
+branch_below p fixed b ok costs is =
+    subst (λ (n : ℕ). IsBranchBelow n b) (sym (ap length costs ∙ ok.cost_for_each_node)) (below_size p b ok is)
 
-pub weighted_below : (p : Problem) (entries : List Entry) (fixed weights : List ℤ) (m : lent.Weighting) (b : Branching)
-    → AreLent p entries fixed weights m → IsBranch p b → IsBranchBelow (length m.fixed.now) b
-weighted_below p entries fixed weights m b lent is =
-    subst (λ (n : ℕ). IsBranchBelow n b) (sym (ap length lent.is.are_fixed)) (branch_below p fixed b lent.costs is)
+pub weighted_below : (p : Problem) (entries : List Entry) (weights : List ℤ) (m : lent.Weighting) (b : Branching)
+    → AreLent p entries weights m → IsBranch p b → IsBranchBelow (length m.fixed.now) b
+weighted_below p entries weights m b lent is =
+    branch_below p m.fixed.now b lent.problem lent.is.are_fixed is
 
-weighting_is : (p : Problem) (entries : List Entry) (fixed weights : List ℤ) (m : lent.Weighting)
-    → AreLent p entries fixed weights m → IsWeightingOf p (pool_cuts p entries) (weighting_of m)
+weighting_is : (p : Problem) (entries : List Entry) (weights : List ℤ) (m : lent.Weighting)
+    → AreLent p entries weights m → IsWeightingOf p (pool_cuts p entries) (weighting_of m)
 unfolding fixed_cost
-weighting_is p entries fixed weights m lent = record {
+weighting_is p entries weights m lent = record {
   totals = ap naturals lent.is.are_totals ∙ naturals_totals p entries lent.pool;
   loads = subst (λ (rows : List (List ℤ)). AllZip (AreLoadsOf p) (pool_cuts p entries) (map naturals rows)) (sym lent.is.are_loads) (loads_zip p entries lent.pool);
-  fixed = λ k node. ap (λ (costs : List ℕ). get_or costs k 0) (ap naturals lent.is.are_fixed ∙ fixed_naturals p fixed lent.costs);
+  fixed = λ k node. ap (λ (costs : List ℕ). get_or costs k 0) lent.is.are_fixed;
   parts = lent.is.are_parts ∙ parts_are p entries;
   few_weights = omega (arith, length-map m.weights.now natural, ap length lent.is.are_weights, length-map entries (entry_cut p), lent.are_weights.few);
 }
 
 -- the bound in each state with these entries
-pub lent_bound : (p : Problem) (entries : List Entry) (fixed weights : List ℤ) (m : lent.Weighting) (b : Branching)
-    → AreLent p entries fixed weights m → IsBranch p b → (hubs : List ℕ) (cost made : ℕ) (stop : Option ℕ)
+pub lent_bound : (p : Problem) (entries : List Entry) (weights : List ℤ) (m : lent.Weighting) (b : Branching)
+    → AreLent p entries weights m → IsBranch p b → (hubs : List ℕ) (cost made : ℕ) (stop : Option ℕ)
     → bound_of (weighting_of m) b ≡ bound_at p (state_by p entries hubs cost made stop) b (pairs_of weights)
 unfolding bound_at
-lent_bound p entries fixed weights m b lent is hubs cost made stop =
+lent_bound p entries weights m b lent is hubs cost made stop =
     sym (ap₂ (λ (d : ℕ) (ws : List ℤ). leaf_bound p (pool_cuts p entries) d (pairs_of ws) b) (sym (ap natural lent.is.is_denom)) (sym lent.is.are_weights)
-    ∙ leaf_has_bound p (pool_cuts p entries) (weighting_of m) b lent.costs.problem.any_number (weighting_is p entries fixed weights m lent)
-    (below_size p b lent.costs.problem is))
+    ∙ leaf_has_bound p (pool_cuts p entries) (weighting_of m) b lent.problem.any_number (weighting_is p entries weights m lent)
+    (below_size p b lent.problem is))
 
 -- the test of the bound against the cost
-pub lent_closes : (p : Problem) (entries : List Entry) (fixed weights : List ℤ) (m : lent.Weighting) (b : Branching)
-    → AreLent p entries fixed weights m → IsBranch p b → (hubs : List ℕ) (cost made : ℕ) (stop : Option ℕ)
+pub lent_closes : (p : Problem) (entries : List Entry) (weights : List ℤ) (m : lent.Weighting) (b : Branching)
+    → AreLent p entries weights m → IsBranch p b → (hubs : List ℕ) (cost made : ℕ) (stop : Option ℕ)
     → closes_by (weighting_of m) cost b ≡ closes_at p (state_by p entries hubs cost made stop) b (pairs_of weights)
 unfolding closes_at
-lent_closes p entries fixed weights m b lent is hubs cost made stop =
+lent_closes p entries weights m b lent is hubs cost made stop =
     ap₂ (λ (d : ℕ) (z : ℤ). int_lt (pos (d * cost) -ℤ pos d) z) (ap natural lent.is.is_denom)
-    (lent_bound p entries fixed weights m b lent is hubs cost made stop)
+    (lent_bound p entries weights m b lent is hubs cost made stop)
 
 -- a test that tells whether a bound closes
 pub test_is : (r : Bool) (x y : ℤ) → IsTrue r ↔ (x <ℤ y) → r ≡ int_lt x y

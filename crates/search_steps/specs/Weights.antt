@@ -1,5 +1,6 @@
 -- What a node of the search has in code, and what it stands for.
 use Rattle.std.specs.Prelude.{◌≡◌, ℕ, ◌≤◌, ℤ, pos, List, map, length, sum, All}
+use Rattle.hub_spec.specs.Problem.{Problem}
 use Rattle.hub_model.specs.Amounts.{IsNatural}
 use Rattle.leaf_bound.specs.declared.weightings.Weighting.{Weighting}
 use Rattle.leaf_bound.specs.Numbers.{naturals, rows_of}
@@ -20,12 +21,12 @@ pub record AreNodeWeights (n : ℕ) (weights : List ℤ) : Type 0 where
 abbrev pub pairs_of : List ℤ → List (ℕ × ℕ)
 pairs_of weights = weight_pairs (naturals weights)
 
--- the weighting has the sums of the pool's entries, each with the part 1, these fixed costs and these weights
-pub record IsNodeWeighting (entries : List Entry) (fixed weights : List ℤ) (m : Weighting) : Type 0 where
+-- the weighting has the sums of the pool's entries, each with the part 1, the problem's fixed costs and these weights
+pub record IsNodeWeighting (p : Problem) (entries : List Entry) (weights : List ℤ) (m : Weighting) : Type 0 where
   pub are_totals : m.totals.now ≡ map (λ e. pos e.total) entries
   pub are_loads : rows_of m ≡ map (λ e. map pos e.loads) entries
   pub are_parts : m.parts.now ≡ map (λ e. 1) entries
-  pub are_fixed : m.fixed.now ≡ fixed
+  pub are_fixed : m.fixed.now ≡ p.fixed_costs
   pub are_weights : m.weights.now ≡ weights
   pub is_denom : m.denom ≡ pos denominator
 

@@ -4,15 +4,14 @@ ghost use Rattle.std.specs.Prelude.{◌≡◌, length, map, pos, IfOk, IfSome};
 ghost use Rattle.hub_spec.specs.Trees.{IsBranch};
 ghost use Rattle.frac_master.specs.Advice.{advice_of_code};
 ghost use Rattle.frac_master.specs.Masters.{AreShortRows};
-ghost use Rattle.search_core.specs.Tasks.{AreFixedCosts};
 ghost use Rattle.search_steps.specs.Pools.{IsPoolOf, InEachState};
 ghost use Rattle.search_steps.specs.Advising.{told_by, master_advising};
 ghost use Rattle.search_steps.specs.Weights.{AreNodeWeights};
 
 use cut_pool::Pool;
 use frac_master::{Advice, ShortRows, advise_by_totals};
+use hub_model::Instance;
 use plan_model::Branch;
-use search_core::Task;
 use std::alloc::{AllocError, Global};
 
 /// What the master of the branch advises, by the cuts of the pool. No load of a cut is above its total.
@@ -20,24 +19,23 @@ use std::alloc::{AllocError, Global};
 /// The answer is `AllocError` where memory runs out, and where the master is beyond what its rows can hold.
 pub fn node_advice(
     alloc: Global,
-    task: &Task,
+    instance: &Instance,
     pool: &Pool,
     branch: &Branch,
 ) -> Result<Advice, AllocError>
-    requires pool { IsPoolOf task.now.instance.now pool.now.entries }
-    requires fixed { AreFixedCosts task.now.instance.now task.now.fixed.items }
-    requires branch { IsBranch task.now.instance.now branch.now }
-    ensures advice { let p = task.now.instance.now in IfOk result (λ a. InEachState p pool.now.entries
+    requires pool { IsPoolOf instance.now pool.now.entries }
+    requires branch { IsBranch instance.now branch.now }
+    ensures advice { let p = instance.now in IfOk result (λ a. InEachState p pool.now.entries
         (λ s. told_by (advice_of_code a) ≡ master_advising p s branch.now)) }
     ensures weights { IfOk result (λ a. AreNodeWeights (length pool.now.entries) a.weights.items) }
-    ensures point { IfOk result (λ a. length a.point.items ≡ task.now.instance.now.size) }
+    ensures point { IfOk result (λ a. length a.point.items ≡ instance.now.size) }
 {
     advise_by_totals(
         alloc,
         pool.totals(),
         pool.loads(),
         short_rows(pool),
-        &task.fixed,
+        instance.fixed_costs(),
         branch,
     )
 }

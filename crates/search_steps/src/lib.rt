@@ -8,8 +8,7 @@
 //! `leaf_line` writes a leaf. Each is proved equal to the step of its name in the search's definition, and what the choices
 //! of that definition mean are laws: `greatest_is_one`, `nearest_is_one` and `picked_is_one`.
 //!
-//! Costs, totals, loads and fixed costs are in 10^-12, bounds in 10^-12 times 10^6. Nodes are `u32`, counted from 0. The
-//! calls that take a pool also take the search's `search_core::Task`, which has the instance and its fixed costs.
+//! Costs, totals, loads and fixed costs are in 10^-12, bounds in 10^-12 times 10^6. Nodes are `u32`, counted from 0.
 #![tactic(auto)]
 
 mod advising;

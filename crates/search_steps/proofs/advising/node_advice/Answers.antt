@@ -1,68 +1,67 @@
-use Rattle.std.proofs.Common.{◌≡◌, length, map, ℤ, Vec, Global, sym, subst}
+use Rattle.std.proofs.Common.{◌≡◌, length, map, ℤ, Vec, Global}
 use Rattle.std.proofs.lemmas.Result.{IfOk-weaker}
 use Rattle.frac_master.specs.declared.advice.Advice.{Advice}
 use Rattle.frac_master.specs.Masters.{master_of}
 use Rattle.frac_master.specs.Advice.{advice, advice_of_code, AreMixWeights}
-use Rattle.search_core.specs.Tasks.{AreFixedCosts}
 use Rattle.search_steps.specs.Pools.{InEachState}
 use Rattle.search_steps.specs.Advising.{told_by, master_advising}
 use Rattle.search_steps.specs.Weights.{AreNodeWeights}
 use Rattle.search_steps.proofs.MasterNumbers.{AreMasters, numbers_serve, nodes_serve, within_totals, advice_is, point_long, node_weights}
 use Rattle.search_steps.proofs.advising.node_advice.Goals as goal
-use Rattle.search_steps.proofs.advising.node_advice.Goals.{After-deref}
+use Rattle.search_steps.proofs.advising.node_advice.Goals.{After-fixed_costs}
 
--- what the pool and the task lend
-lent : (c : After-deref) → AreMasters c.args.task.now.instance.now c.args.pool.now.entries c.totals.result.now
-    (map (λ (v : Vec ℤ Global). v.items) c.loads.result.now) c.deref.result.now
+-- what the pool and the instance lend
+lent : (c : After-fixed_costs) → AreMasters c.args.instance.now c.args.pool.now.entries c.totals.result.now
+    (map (λ (v : Vec ℤ Global). v.items) c.loads.result.now) c.fixed_costs.result.now
 lent c = record {
+  problem = c.fixed_costs.ensures.problem;
   pool = c.requires.pool;
-  costs = subst (AreFixedCosts c.args.task.now.instance.now) (sym c.deref.ensures.value) c.requires.fixed;
+  costs = c.fixed_costs.ensures.value;
   are_totals = c.totals.ensures;
   are_loads = c.loads.ensures;
 }
 
 pub advise_by_totals-requires-clause-numbers : goal.advise_by_totals-requires-clause-numbers
 advise_by_totals-requires-clause-numbers c =
-    numbers_serve c.args.task.now.instance.now c.args.pool.now.entries c.totals.result.now (map (λ (v : Vec ℤ Global). v.items) c.loads.result.now)
-    c.deref.result.now (lent (goal.at.advise_by_totals-requires-clause-numbers c).After-deref)
+    numbers_serve c.args.instance.now c.args.pool.now.entries c.totals.result.now (map (λ (v : Vec ℤ Global). v.items) c.loads.result.now)
+    c.fixed_costs.result.now (lent (goal.at.advise_by_totals-requires-clause-numbers c).After-fixed_costs)
 
 pub advise_by_totals-requires-clause-nodes : goal.advise_by_totals-requires-clause-nodes
 advise_by_totals-requires-clause-nodes c =
-    nodes_serve c.args.task.now.instance.now c.deref.result.now c.args.branch.now (lent (goal.at.advise_by_totals-requires-clause-nodes c).After-deref).costs
-    c.requires.branch
+    nodes_serve c.args.instance.now c.fixed_costs.result.now c.args.branch.now c.fixed_costs.ensures.problem c.fixed_costs.ensures.value c.requires.branch
 
 pub advise_by_totals-requires-clause-within : goal.advise_by_totals-requires-clause-within
 advise_by_totals-requires-clause-within c =
-    within_totals c.args.task.now.instance.now c.args.pool.now.entries c.totals.result.now (map (λ (v : Vec ℤ Global). v.items) c.loads.result.now)
-    c.deref.result.now (lent (goal.at.advise_by_totals-requires-clause-within c).After-deref)
+    within_totals c.args.instance.now c.args.pool.now.entries c.totals.result.now (map (λ (v : Vec ℤ Global). v.items) c.loads.result.now)
+    c.fixed_costs.result.now (lent (goal.at.advise_by_totals-requires-clause-within c).After-fixed_costs)
 
 pub advise_by_totals-requires-clause-short : goal.advise_by_totals-requires-clause-short
 advise_by_totals-requires-clause-short c = rw c.loads.ensures c.short_rows.ensures
 
 pub returns-clause-advice : goal.returns-clause-advice
 returns-clause-advice c =
-    let p = c.args.task.now.instance.now in
+    let p = c.args.instance.now in
     let loads = map (λ (v : Vec ℤ Global). v.items) c.loads.result.now in
-    let numbers = master_of c.totals.result.now loads c.deref.result.now in
+    let numbers = master_of c.totals.result.now loads c.fixed_costs.result.now in
     IfOk-weaker c.advise_by_totals.result (λ (a : Advice). advice_of_code a ≡ advice numbers c.args.branch.now)
     (λ (a : Advice). InEachState p c.args.pool.now.entries (λ s. told_by (advice_of_code a) ≡ master_advising p s c.args.branch.now))
-    (λ a is. advice_is p c.args.pool.now.entries c.totals.result.now loads c.deref.result.now c.args.branch.now (advice_of_code a)
-    (lent (goal.at.returns-clause-advice c).After-deref) c.requires.branch is) c.advise_by_totals.ensures.advice
+    (λ a is. advice_is p c.args.pool.now.entries c.totals.result.now loads c.fixed_costs.result.now c.args.branch.now (advice_of_code a)
+    (lent (goal.at.returns-clause-advice c).After-fixed_costs) c.requires.branch is) c.advise_by_totals.ensures.advice
 
 pub returns-clause-weights : goal.returns-clause-weights
 returns-clause-weights c =
     let loads = map (λ (v : Vec ℤ Global). v.items) c.loads.result.now in
     IfOk-weaker c.advise_by_totals.result (λ (a : Advice). AreMixWeights (length c.totals.result.now) a.weights.items)
     (λ (a : Advice). AreNodeWeights (length c.args.pool.now.entries) a.weights.items)
-    (λ a is. node_weights c.args.task.now.instance.now c.args.pool.now.entries c.totals.result.now loads c.deref.result.now a.weights.items
-    (lent (goal.at.returns-clause-weights c).After-deref) is) c.advise_by_totals.ensures.weights
+    (λ a is. node_weights c.args.instance.now c.args.pool.now.entries c.totals.result.now loads c.fixed_costs.result.now a.weights.items
+    (lent (goal.at.returns-clause-weights c).After-fixed_costs) is) c.advise_by_totals.ensures.weights
 
 pub returns-clause-point : goal.returns-clause-point
 returns-clause-point c =
-    let p = c.args.task.now.instance.now in
+    let p = c.args.instance.now in
     let loads = map (λ (v : Vec ℤ Global). v.items) c.loads.result.now in
-    let numbers = master_of c.totals.result.now loads c.deref.result.now in
+    let numbers = master_of c.totals.result.now loads c.fixed_costs.result.now in
     IfOk-weaker c.advise_by_totals.result (λ (a : Advice). advice_of_code a ≡ advice numbers c.args.branch.now)
     (λ (a : Advice). length a.point.items ≡ p.size)
-    (λ a is. point_long p c.args.pool.now.entries c.totals.result.now loads c.deref.result.now c.args.branch.now (advice_of_code a)
-    (lent (goal.at.returns-clause-point c).After-deref) is) c.advise_by_totals.ensures.advice
+    (λ a is. point_long p c.args.pool.now.entries c.totals.result.now loads c.fixed_costs.result.now c.args.branch.now (advice_of_code a)
+    (lent (goal.at.returns-clause-point c).After-fixed_costs) is) c.advise_by_totals.ensures.advice

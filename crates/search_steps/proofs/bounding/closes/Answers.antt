@@ -10,22 +10,22 @@ use Rattle.search_steps.proofs.bounding.closes.Goals as goal
 use Rattle.search_steps.proofs.bounding.closes.Goals.{After-weighting}
 
 -- what is lent
-lent : (c : After-weighting) → AreLent c.args.task.now.instance.now c.args.pool.now.entries c.args.task.now.fixed.items c.args.weights.now c.weighting.result
+lent : (c : After-weighting) → AreLent c.args.instance.now c.args.pool.now.entries c.args.weights.now c.weighting.result
 lent c = record {
+  problem = c.weighting.ensures.problem;
   pool = c.requires.pool;
-  costs = c.requires.fixed;
   are_weights = c.requires.weights;
-  is = c.weighting.ensures;
+  is = c.weighting.ensures.lent;
 }
 
 pub closes-requires-clause-numbers : goal.closes-requires-clause-numbers
 closes-requires-clause-numbers c =
-    weighting_numbers c.args.task.now.instance.now c.args.pool.now.entries c.args.task.now.fixed.items c.args.weights.now c.weighting.result
+    weighting_numbers c.args.instance.now c.args.pool.now.entries c.args.weights.now c.weighting.result
     (lent (goal.at.closes-requires-clause-numbers c).After-weighting)
 
 pub closes-requires-clause-nodes : goal.closes-requires-clause-nodes
 closes-requires-clause-nodes c =
-    weighted_below c.args.task.now.instance.now c.args.pool.now.entries c.args.task.now.fixed.items c.args.weights.now c.weighting.result c.args.branch.now
+    weighted_below c.args.instance.now c.args.pool.now.entries c.args.weights.now c.weighting.result c.args.branch.now
     (lent (goal.at.closes-requires-clause-nodes c).After-weighting) c.requires.branch
 
 pub returns : goal.returns
@@ -36,5 +36,5 @@ returns c =
     let test : IsTrue c.closes.result ↔ Closes m.denom c.args.cost (bound_of m c.args.branch.now) =
     subst (λ (t : ℕ). IsTrue c.closes.result ↔ Closes m.denom t (bound_of m c.args.branch.now)) cost c.closes.ensures in
     λ hubs made stop. test_is c.closes.result (pos (m.denom * c.args.cost) -ℤ pos m.denom) (bound_of m c.args.branch.now) test
-    ∙ lent_closes c.args.task.now.instance.now c.args.pool.now.entries c.args.task.now.fixed.items c.args.weights.now c.weighting.result c.args.branch.now
+    ∙ lent_closes c.args.instance.now c.args.pool.now.entries c.args.weights.now c.weighting.result c.args.branch.now
     (lent (goal.at.returns c).After-weighting) c.requires.branch hubs c.args.cost made stop
