@@ -118,7 +118,7 @@ cut_going : (t : Task) (before after : Progress) (sums : Sums) (set order : List
     → HasCut t.instance.now before.pool.entries after.pool.entries sums set order price → HasSameTree before after → IsHubSet t.instance.now after.hubs
     → after.cost ≤ before.cost → IsGoing t after
 cut_going t before after sums set order price going few cut same hubs less = record {
-  costs = going.costs;
+  problem = going.problem;
   pool = more_pool t.instance.now before.pool.entries after.pool.entries sums order cut.entries cut.is going.pool;
   few_cuts = omega (arith, few, more_long before.pool.entries after.pool.entries sums order cut.entries);
   few_lines = omega (arith, going.few_lines, ap (λ (v : Vec TreeLine Global). length v.items) same.lines);

@@ -34,7 +34,7 @@ line_going t before after line made stop going has few =
     sym (lines_long after.lines.items) ∙ ap length has.lines ∙ length_push (lines_of before.lines.items) line
     ∙ ap (λ (n : ℕ). n + 1) (lines_long before.lines.items) in
     record {
-      costs = going.costs;
+      problem = going.problem;
       pool = subst (IsPoolOf t.instance.now) (sym has.entries) going.pool;
       few_cuts = omega (arith, ap length has.entries, going.few_cuts);
       few_lines = has.few;

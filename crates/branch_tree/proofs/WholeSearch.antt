@@ -19,7 +19,6 @@ use Rattle.search_spec.specs.Steps.{begun}
 use Rattle.search_spec.specs.Choices.{others, has_node}
 use Rattle.search_spec.proofs.RuleParts.{has_when}
 use Rattle.search_steps.specs.Pools.{entry_cut, IsSumsOf, IsPoolOf, state_by}
-use Rattle.search_core.specs.Tasks.{AreFixedCosts}
 use Rattle.search_core.specs.declared.tasks.Task.{Task}
 use Rattle.branch_tree.specs.declared.progress.Progress.{Progress}
 use Rattle.kept_cuts.specs.Kept.{IsOfSet, kept_hubs, kept_cuts}
@@ -69,17 +68,17 @@ cost_limit p set ok is_set =
     let least = ((parts_sound p ok).cost set is_set).reached in
     omega (arith, plan_cost_limit p least.0 ok least.1, least.3)
 
-pub first_going : (t : Task) (after : Progress) (sums : Sums) (set order : List ℕ) → AreFixedCosts t.instance.now t.fixed.items
+pub first_going : (t : Task) (after : Progress) (sums : Sums) (set order : List ℕ) → IsProblem t.instance.now
     → HasCut t.instance.now [] after.pool.entries sums set order after.cost → IsHubSet t.instance.now set → IsHubSet t.instance.now after.hubs
     → after.lines.items ≡ [] → after.made ≡ 1 → IsGoing t after
-first_going t after sums set order costs cut is_set hubs none one =
+first_going t after sums set order ok cut is_set hubs none one =
     let p = t.instance.now in record {
-      costs = costs;
+      problem = ok;
       pool = subst (IsPoolOf p) (sym cut.entries) (All-cons (IsSumsOf p) (entry_of sums order) [] cut.is (All-nil (IsSumsOf p)));
       few_cuts = omega (arith, ap length cut.entries);
       few_lines = omega (arith, ap length none);
       hubs = hubs;
-      cost = omega (arith, cut.cost, cost_limit p set costs.problem is_set);
+      cost = omega (arith, cut.cost, cost_limit p set ok is_set);
       made = omega (arith, one);
     }
 

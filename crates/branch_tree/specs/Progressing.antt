@@ -1,13 +1,12 @@
 -- What the code of a search has at each step, as the definition's state, and what came of a step.
 use Rattle.std.specs.Prelude.{◌≡◌, ℕ, ◌+◌, ◌*◌, ◌≤◌, [], ◌∷◌, ◌++◌, length, Option}
 use Rattle.hub_spec.specs.Limits.{most_cost, most_cuts, most_tree_lines}
-use Rattle.hub_spec.specs.Problem.{Problem}
+use Rattle.hub_spec.specs.Problem.{Problem, IsProblem}
 use Rattle.hub_spec.specs.Plans.{IsHubSet}
 use Rattle.hub_spec.specs.Trees.{TreeLine, preorder}
 use Rattle.search_spec.specs.States.{State, Grown, Handling}
 use Rattle.search_spec.specs.Steps.{node}
 use Rattle.search_steps.specs.Pools.{IsPoolOf, state_by}
-use Rattle.search_core.specs.Tasks.{AreFixedCosts}
 use Rattle.search_core.specs.declared.tasks.Task.{Task}
 use Rattle.branch_tree.specs.declared.progress.Progress.{Progress}
 use Rattle.kept_cuts.specs.Findings.{lines_of}
@@ -23,7 +22,7 @@ state_of p s = state_by p s.pool.entries s.hubs s.cost s.made s.stop
 
 -- what holds at each step: of the task, of the cuts and of the incumbent, and the limits of a certificate
 pub record IsGoing (t : Task) (s : Progress) : Type 0 where
-  pub costs : AreFixedCosts t.instance.now t.fixed.items
+  pub problem : IsProblem t.instance.now
   pub pool : IsPoolOf t.instance.now s.pool.entries
   pub few_cuts : length s.pool.entries ≤ most_cuts
   pub few_lines : length s.lines.items ≤ most_tree_lines

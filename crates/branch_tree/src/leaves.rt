@@ -48,7 +48,7 @@ impl Walk<'_> {
             OnOk result (IsDone self.old.task.now self.old.progress self.new.progress
             (stopped_leaf p branch.now (pairs_of weights.now) (state_of p self.old.progress))) }
     {
-        let bound = weights_bound(self.task, &self.progress.pool, branch, weights);
+        let bound = weights_bound(self.task.instance, &self.progress.pool, branch, weights);
         self.progress.stop = Some(lesser(rounded_up(bound), self.progress.stop));
         let line = leaf_line(self.alloc, weights)?;
         add_line(&mut self.progress, line)

@@ -93,7 +93,7 @@ impl Walk<'_> {
             IfOk result (λ r. IsRound self.old.task.now self.old.progress self.new.progress r
             (round p (parts_of p) branch.now (pairs_of weights.now) (state_of p self.old.progress))) }
     {
-        let advice = node_advice(self.alloc, self.task, &self.progress.pool, branch)?;
+        let advice = node_advice(self.alloc, self.task.instance, &self.progress.pool, branch)?;
         let weights = self.better_weights(branch, weights, &advice.weights)?;
         if self.closes_cost(branch, &weights) {
             return Ok(RoundEnd {
@@ -136,7 +136,13 @@ impl Walk<'_> {
             ≡ better p (state_of p self.now.progress) branch.now (pairs_of present.now) (pairs_of advised.now)) }
         ensures weights { IfOk result (λ w. AreNodeWeights (length self.now.progress.pool.entries) w.items) }
     {
-        if is_better(self.task, &self.progress.pool, branch, present, advised) {
+        if is_better(
+            self.task.instance,
+            &self.progress.pool,
+            branch,
+            present,
+            advised,
+        ) {
             advised.to_vec(self.alloc)
         } else {
             present.to_vec(self.alloc)
@@ -152,7 +158,7 @@ impl Walk<'_> {
             result ≡ closes_at p (state_of p self.now.progress) branch.now (pairs_of weights.now) }
     {
         closes(
-            self.task,
+            self.task.instance,
             &self.progress.pool,
             branch,
             weights,

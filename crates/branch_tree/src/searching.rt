@@ -6,7 +6,6 @@ ghost use Rattle.hub_spec.specs.Trees.{preorder};
 ghost use Rattle.search_spec.specs.States.{Grown, answer};
 ghost use Rattle.search_spec.specs.Steps.{begun};
 ghost use Rattle.search_spec.specs.Findings.{certificate_of, AreWithin, IsSpent, IsEnough};
-ghost use Rattle.search_core.specs.Tasks.{AreFixedCosts};
 ghost use Rattle.kept_cuts.specs.Findings.{lines_of, proof_of, IsProved};
 ghost use Rattle.branch_tree.specs.Progressing.{state_of, IsGoing};
 ghost use Rattle.branch_tree.specs.Findings.{parts_of, found_by, IsFound};
@@ -18,7 +17,7 @@ use cut_pool::Pool;
 use hub_model::{Instance, unsigned};
 use kept_cuts::Found;
 use plan_model::{Branch, HubSet, Plan};
-use search_core::{Task, fixed_costs, lesser};
+use search_core::{Task, lesser};
 use separators::Separator;
 use std::alloc::{AllocError, Global};
 
@@ -50,12 +49,7 @@ pub fn search<S: Separator>(
     ensures spent { IfOk result (λ found. found.bound < found.cost → IsSpent nodes (length found.tree.items)) }
     ensures enough { IsEnough (2 ^ (length instance.now.candidates + 1)) nodes → IfOk result (λ found. found.bound ≡ found.cost) }
 {
-    let fixed = fixed_costs(alloc, instance)?;
-    let task = Task {
-        instance,
-        fixed,
-        nodes,
-    };
+    let task = Task { instance, nodes };
     let progress = begin(alloc, &task, separator)?;
     let mut walk = Walk {
         alloc,
@@ -75,7 +69,6 @@ fn begin<S: Separator>(
     separator: &mut S,
 ) -> Result<Progress, AllocError>
     requires ready { S.ready separator.old }
-    requires costs { AreFixedCosts task.now.instance.now task.now.fixed.items }
     ensures ready { S.ready separator.new }
     ensures begun { let p = task.now.instance.now in IfOk result (λ s. state_of p s ≡ begun p (parts_of p)) }
     ensures no_line { IfOk result (λ s. lines_of s.lines.items ≡ []) }

@@ -54,7 +54,7 @@ impl Walk<'_> {
         }
         let fixings = node_fixings(
             self.alloc,
-            self.task,
+            self.task.instance,
             &self.progress.pool,
             branch,
             &round.weights,

@@ -10,7 +10,7 @@ use Rattle.branch_tree.proofs.searching.begin.Goals as goal
 
 pub separate-requires-clause-set : goal.separate-requires-clause-set
 separate-requires-clause-set g c =
-    all_candidates c.args.task.now.instance.now c.in_ok-set.set c.requires.costs.problem
+    all_candidates c.args.task.now.instance.now c.in_ok-set.set c.candidates-candidates.ensures.problem
     (c.in_ok-set.ensures ∙ c.in_ok-hubs.ensures ∙ c.candidates-candidates.ensures.value)
 
 pub returns-clause-begun : goal.returns-clause-begun
@@ -22,7 +22,7 @@ returns-clause-begun g c =
     let fits : FitsSigned w128 c.total.result = search rules in
     let sums_are = subst (λ (os : List ℕ). IsSumsOf p (entry_of sums os)) c.deref.ensures.value c.in_ok-sums.ensures.sums in
     let cut = added_cut p [] c.reserve.new.self.entries c.add.new.self.entries sums c.in_ok-set.set c.new-order.result.items
-    c.candidates-candidates.result.now c.total.result c.unsigned.result c.opening_cost.result c.requires.costs.problem
+    c.candidates-candidates.result.now c.total.result c.unsigned.result c.opening_cost.result c.candidates-candidates.ensures.problem
     (c.in_ok-reserve.ensures.entries ∙ c.in_ok-pool.ensures.empty) added c.in_ok-sums.ensures.hubs sums_are c.total.ensures
     (c.unsigned.ensures.value ∙ ap natural (to_z-of_z w128 c.total.result fits)) c.opening_cost.ensures.value (c.candidates-candidates.ensures.value ∙ sym (c.in_ok-set.ensures ∙ hubs)) in
     first_state p c.add.new.self.entries sums c.in_ok-hubs.hubs c.in_ok-set.set c.new-order.result.items _ cut hubs (c.in_ok-set.ensures ∙ hubs)
@@ -37,9 +37,9 @@ returns-clause-going g c =
     let fits : FitsSigned w128 c.total.result = search rules in
     let sums_are = subst (λ (os : List ℕ). IsSumsOf p (entry_of sums os)) c.deref.ensures.value c.in_ok-sums.ensures.sums in
     let cut = added_cut p [] c.reserve.new.self.entries c.add.new.self.entries sums c.in_ok-set.set c.new-order.result.items
-    c.candidates-candidates.result.now c.total.result c.unsigned.result c.opening_cost.result c.requires.costs.problem
+    c.candidates-candidates.result.now c.total.result c.unsigned.result c.opening_cost.result c.candidates-candidates.ensures.problem
     (c.in_ok-reserve.ensures.entries ∙ c.in_ok-pool.ensures.empty) added c.in_ok-sums.ensures.hubs sums_are c.total.ensures
     (c.unsigned.ensures.value ∙ ap natural (to_z-of_z w128 c.total.result fits)) c.opening_cost.ensures.value (c.candidates-candidates.ensures.value ∙ sym (c.in_ok-set.ensures ∙ hubs)) in
-    first_going c.args.task.now _ sums c.in_ok-set.set c.new-order.result.items c.requires.costs cut
-    (all_candidates p c.in_ok-set.set c.requires.costs.problem (c.in_ok-set.ensures ∙ hubs))
-    (all_candidates p c.in_ok-hubs.hubs c.requires.costs.problem hubs) c.new-2.ensures.items refl
+    first_going c.args.task.now _ sums c.in_ok-set.set c.new-order.result.items c.candidates-candidates.ensures.problem cut
+    (all_candidates p c.in_ok-set.set c.candidates-candidates.ensures.problem (c.in_ok-set.ensures ∙ hubs))
+    (all_candidates p c.in_ok-hubs.hubs c.candidates-candidates.ensures.problem hubs) c.new-2.ensures.items refl

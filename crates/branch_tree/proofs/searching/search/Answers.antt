@@ -15,7 +15,7 @@ use Rattle.branch_tree.proofs.searching.search.Goals as goal
 pub overflow_cast-depth : goal.overflow_cast-depth
 overflow_cast-depth g c =
     let p = c.args.instance.now in
-    let ok = c.in_ok-fixed.ensures.problem in
+    let ok = c.in_ok-progress.ensures.going.problem in
     let few = few_candidates p.candidates p.size ok.candidates_ascend ok.candidates_are_nodes in
     let free = ap length (c.free.ensures.value ∙ ap (λ (x : Branching). x.free) c.in_ok-root.ensures) in
     let short : length c.free.result.now ≤ 200 = omega (arith, few, free, ok.size_limit) in
@@ -24,7 +24,7 @@ overflow_cast-depth g c =
 pub overflow_add-depth : goal.overflow_add-depth
 overflow_add-depth g c =
     let p = c.args.instance.now in
-    let ok = c.in_ok-fixed.ensures.problem in
+    let ok = c.in_ok-progress.ensures.going.problem in
     let few = few_candidates p.candidates p.size ok.candidates_ascend ok.candidates_are_nodes in
     let free = ap length (c.free.ensures.value ∙ ap (λ (x : Branching). x.free) c.in_ok-root.ensures) in
     let short : length c.free.result.now ≤ 200 = omega (arith, few, free, ok.size_limit) in
@@ -33,13 +33,13 @@ overflow_add-depth g c =
 pub node-requires-clause-branch : goal.node-requires-clause-branch
 node-requires-clause-branch g c =
     let p = c.args.instance.now in
-    subst (IsBranch p) (sym c.in_ok-root.ensures) (root_branch p c.in_ok-fixed.ensures.problem)
+    subst (IsBranch p) (sym c.in_ok-root.ensures) (root_branch p c.in_ok-progress.ensures.going.problem)
 
 pub returns : goal.returns
 returns g c =
     let p = c.args.instance.now in
     let n = c.args.nodes in
-    let ok = c.in_ok-fixed.ensures.problem in
+    let ok = c.in_ok-progress.ensures.going.problem in
     let before = c.in_ok-progress.progress in
     let done = c.in_ok-node.ensures.done in
     let free = ap (λ (x : Branching). length x.free + 1) c.in_ok-root.ensures in

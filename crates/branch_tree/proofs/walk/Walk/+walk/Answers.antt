@@ -239,7 +239,7 @@ node-full_leaf-requires-clause-set g t c =
     let b = c.args.branch.now in
     let none = none_free b c.free.result.now c.is_empty.result c.free.ensures.value c.is_empty.ensures c.if-is_empty.true in
     subst (IsHubSet p) (sym c.inside.ensures.value)
-    (inside_is_set p b c.requires.going.costs.problem c.requires.branch (sym c.is_closed.ensures ∙ c.if-is_closed.false) none)
+    (inside_is_set p b c.requires.going.problem c.requires.branch (sym c.is_closed.ensures ∙ c.if-is_closed.false) none)
 
 pub node-returns-then-is_empty-clause-done : goal.node-returns-then-is_empty-clause-done
 node-returns-then-is_empty-clause-done g t c =

@@ -26,7 +26,7 @@ full_leaf-requires-clause-set g c =
     let p = c.args.self.now.task.now.instance.now in
     let b = c.args.branch.now in
     let not_closed = closed_by b c.inside.result.now c.is_empty.result false c.inside.ensures.value c.is_empty.ensures c.if-is_empty.false c.requires.none_free in
-    subst (IsHubSet p) (sym c.inside-2.ensures.value) (inside_is_set p b c.requires.going.costs.problem c.requires.branch not_closed c.requires.none_free)
+    subst (IsHubSet p) (sym c.inside-2.ensures.value) (inside_is_set p b c.requires.going.problem c.requires.branch not_closed c.requires.none_free)
 
 pub returns-clause-ended : goal.returns-clause-ended
 returns-clause-ended g c =

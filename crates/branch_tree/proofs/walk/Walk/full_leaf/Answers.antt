@@ -39,7 +39,7 @@ returns-clause-full g c =
     let s = state_of p before in
     let none : c.number_of.result ≡ None = search rules in
     let last : c.len.result ≡ length s.cuts + 1 = c.len.ensures ∙ one_more t before middle set order c.in_ok-separate.ensures.at in
-    let is = new_leaf p set c.args.hubs.now order s c.len.result c.requires.going.costs.problem c.in_ok-set.ensures c.in_ok-order.ensures.order
+    let is = new_leaf p set c.args.hubs.now order s c.len.result c.requires.going.problem c.in_ok-set.ensures c.in_ok-order.ensures.order
     c.in_ok-order.ensures.ascend (sym (c.number_of.ensures.number p) ∙ none) last in
     on_ok_weaker c.add_line-2.result
     (λ has. done_as t before c.add_line-2.new.progress _ _ is

@@ -18,7 +18,7 @@ returns-then-cost-progress-clause-at g c =
     let orders : c.deref.result.now ≡ c.args.order.items = c.deref.ensures.value in
     let fits : FitsSigned w128 c.total.result = search rules in
     let cut = added_cut p before.pool.entries c.reserve.new.self.entries c.add.new.self.entries sums c.args.set c.args.order.items c.members.result.now
-    c.total.result c.unsigned.result c.opening_cost.result c.requires.going.costs.problem c.in_ok-reserve.ensures.entries added
+    c.total.result c.unsigned.result c.opening_cost.result c.requires.going.problem c.in_ok-reserve.ensures.entries added
     c.in_ok-sums.ensures.hubs (subst (λ (os : List ℕ). IsSumsOf p (entry_of sums os)) orders c.in_ok-sums.ensures.sums) c.total.ensures
     (c.unsigned.ensures.value ∙ ap natural (to_z-of_z w128 c.total.result fits)) c.opening_cost.ensures.value hubs in
     let few : length before.pool.entries < most_cuts = omega (arith, c.len.ensures, c.if-len.false) in
@@ -35,7 +35,7 @@ returns-else-cost-progress-clause-at g c =
     let orders : c.deref.result.now ≡ c.args.order.items = c.deref.ensures.value in
     let fits : FitsSigned w128 c.total.result = search rules in
     let cut = added_cut p before.pool.entries c.reserve.new.self.entries c.add.new.self.entries sums c.args.set c.args.order.items c.members.result.now
-    c.total.result c.unsigned.result c.opening_cost.result c.requires.going.costs.problem c.in_ok-reserve.ensures.entries added
+    c.total.result c.unsigned.result c.opening_cost.result c.requires.going.problem c.in_ok-reserve.ensures.entries added
     c.in_ok-sums.ensures.hubs (subst (λ (os : List ℕ). IsSumsOf p (entry_of sums os)) orders c.in_ok-sums.ensures.sums) c.total.ensures
     (c.unsigned.ensures.value ∙ ap natural (to_z-of_z w128 c.total.result fits)) c.opening_cost.ensures.value hubs in
     let few : length before.pool.entries < most_cuts = omega (arith, c.len.ensures, c.if-len.false) in
