@@ -33,7 +33,7 @@ pub(crate) struct Lent {
     pub(crate) totals: Vec<i128>,
     pub(crate) loads: Vec<Vec<i128>>,
     pub(crate) parts: Vec<u32>,
-    pub(crate) fixed: Vec<i128>,
+    pub(crate) fixed: Vec<u128>,
 }
 
 /// The fixed costs in the first field, and in each of the others a cut, its total and then its loads, with the word `part`

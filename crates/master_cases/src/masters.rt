@@ -87,7 +87,6 @@ fn is_master(lent: &Lent, branch: &Branch) -> bool
     let nodes = lent.fixed.len();
     lent.loads.len() == lent.totals.len()
         && are_low(&lent.totals)
-        && are_low(&lent.fixed)
         && are_rows(&lent.loads, nodes)
         && are_below(branch.inside(), nodes)
         && are_below(branch.outside(), nodes)

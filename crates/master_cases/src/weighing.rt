@@ -2,17 +2,17 @@
 
 ghost use Rattle.std.specs.Prelude.{◌≡◌, ◌*◌, ◌/◌, ◌≤◌, length, sum, All, IsTrue};
 ghost use Rattle.std.specs.List.{AllZip};
-ghost use Rattle.hub_spec.specs.Limits.{most_part};
+ghost use Rattle.hub_spec.specs.Limits.{most_part, most_fixed_cost};
 ghost use Rattle.hub_model.specs.Amounts.{natural, IsNatural};
 ghost use Rattle.leaf_bound.specs.Bounds.{AreMultiples};
-ghost use Rattle.leaf_bound.specs.Numbers.{naturals, rows_of, IsCost, IsSumOf, AreSumsOf, AreWeightingNumbers, IsBranchBelow};
+ghost use Rattle.leaf_bound.specs.Numbers.{naturals, rows_of, IsSumOf, AreSumsOf, AreWeightingNumbers, IsBranchBelow};
 
 use crate::limits::are_below;
-use hub_model::unsigned;
+use hub_model::{MOST_FIXED_COST, unsigned};
 use leaf_bound::Weighting;
 use plan_model::Branch;
 
-// The most that a cost may be, and a sum of a cut for each unit of its part.
+// The most that a sum of a cut may be for each unit of its part.
 const MOST_COST: i128 = 100_000_000_000_000_000_000_000_000_000;
 
 /// Whether bounds of the branch may be made of these cuts and weights.
@@ -36,10 +36,10 @@ fn are_numbers(weighting: &Weighting) -> bool
         && are_multiples(weighting.weights, weighting.parts)
 }
 
-fn are_costs(numbers: &[i128]) -> bool
-    ensures { IsTrue result → All IsCost numbers.now }
+fn are_costs(numbers: &[u128]) -> bool
+    ensures { IsTrue result → All (λ cost. cost ≤ most_fixed_cost) numbers.now }
 {
-    numbers.iter().all(|x| 0 <= *x && *x <= MOST_COST)
+    numbers.iter().all(|cost| *cost <= MOST_FIXED_COST)
 }
 
 // Whether each cut has a part, and a total and loads within it.
