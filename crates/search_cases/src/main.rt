@@ -1,8 +1,8 @@
 //! What searches find, a case a line of standard input.
 //!
-//! Of `search_core` the fixed costs of a task, of `search_steps` a leaf, of `separators` the sums of cuts, of `branch_tree`
-//! whole searches, and of `proof_text` the texts of what they found, also where a put fails. The other steps are taken by
-//! each search.
+//! Of `hub_model` the fixed costs of an instance, of `search_steps` a leaf, of `separators` the sums of cuts, of
+//! `branch_tree` whole searches, and of `proof_text` the texts of what they found, also where a put fails. The other steps
+//! are taken by each search.
 //!
 //! Nodes are counted from 0, and from 1 in certificates. A line is one of these:
 //!
@@ -15,7 +15,8 @@
 //! - `sums HUB .. by fixed .. candidates .. trunk .. flows .. distances ..`: the sums of the cut of these hubs, by a
 //!   separator that was made for another instance
 //! - `search NODES`: what the search finds with this most number of nodes, or `all`
-//! - `text NODES`: the text of what it finds
+//! - `text NODES`: the text of what it finds, in the first version
+//! - `second NODES`: the same in the second version
 //! - `made NODES`: the text of the certificate that is made of it
 //! - `failing PUT TAKEN`: the text of what it finds, where the put of this number fails with so many bytes taken
 #![tactic(auto)]
@@ -25,6 +26,7 @@ mod searches;
 mod steps;
 mod texts;
 
+use cert_format::Version;
 use hub_model::Instance;
 use instances::instance_of;
 use std::alloc::{AllocError, Global};
@@ -63,7 +65,8 @@ fn of_instance(alloc: Global, instance: &Instance, line: &str) -> Result<String,
         "fixed" => steps::fixed(alloc, instance),
         "sums" => steps::sums(alloc, instance, line),
         "search" => searches::search_told(alloc, instance, line),
-        "text" => texts::text(alloc, instance, line),
+        "text" => texts::text(alloc, instance, line, Version::First),
+        "second" => texts::text(alloc, instance, line, Version::Second),
         "made" => texts::made(alloc, instance, line),
         "failing" => texts::failing(alloc, instance, line),
         _ => String::from_str(alloc, "no such case"),

@@ -9,15 +9,13 @@ use cut_pool::CutSums;
 use hub_model::Instance;
 use hub_plain::{is_hub_set, outside};
 use plan_model::HubSet;
-use search_core::Task;
 use search_steps::leaf_line;
 use separators::{Separator, Solo, kept_sums};
 use std::alloc::{AllocError, Global};
 
 /// The fixed costs of the nodes.
 pub(crate) fn fixed(alloc: Global, instance: &Instance) -> Result<String, AllocError> {
-    let task = Task::new(alloc, instance, None)?;
-    let costs = task.fixed.as_slice();
+    let costs = instance.fixed_costs();
     format!(in alloc; "{costs:?}")
 }
 

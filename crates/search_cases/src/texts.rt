@@ -4,7 +4,7 @@ ghost use Rattle.kept_cuts.specs.Findings.{IsProved};
 
 use crate::instances::numbers;
 use crate::searches::found_of;
-use cert_format::{put_tree, write_cert};
+use cert_format::{Version, put_tree, write_cert};
 use hub_io::{Buffer, Failed, MemSink, Partial, Sink};
 use hub_model::Instance;
 use kept_cuts::Found;
@@ -28,13 +28,18 @@ fn put_whole_tree(lines: &[TreeLine], sink: &mut MemSink) -> Result<(), Failed> 
     buffer.finish(sink)
 }
 
-/// The text of what the search finds.
-pub(crate) fn text(alloc: Global, instance: &Instance, line: &str) -> Result<String, AllocError> {
+/// The text of what the search finds, in this version.
+pub(crate) fn text(
+    alloc: Global,
+    instance: &Instance,
+    line: &str,
+    version: Version,
+) -> Result<String, AllocError> {
     let found = found_of(alloc, instance, line)?;
-    text_of(alloc, instance, &found, Vec::new(alloc))
+    text_of(alloc, instance, &found, version, Vec::new(alloc))
 }
 
-/// The same where a put fails.
+/// The same in the first version, where a put fails.
 pub(crate) fn failing(
     alloc: Global,
     instance: &Instance,
@@ -48,19 +53,20 @@ pub(crate) fn failing(
         })?;
     }
     let found = found_of(alloc, instance, "search all")?;
-    text_of(alloc, instance, &found, failing)
+    text_of(alloc, instance, &found, Version::First, failing)
 }
 
 fn text_of(
     alloc: Global,
     instance: &Instance,
     found: &Found,
+    version: Version,
     failing: Vec<Partial>,
 ) -> Result<String, AllocError>
     requires { IsProved instance.now found.now }
 {
     let mut sink = MemSink::with_faults(alloc, ROOM, failing)?;
-    let done = put_found(alloc, instance, found, &mut sink)?;
+    let done = put_found(alloc, instance, found, version, &mut sink)?;
     told(alloc, done, &sink)
 }
 
@@ -68,15 +74,16 @@ fn put_found(
     alloc: Global,
     instance: &Instance,
     found: &Found,
+    version: Version,
     sink: &mut MemSink,
 ) -> Result<Result<(), Failed>, AllocError>
     requires { IsProved instance.now found.now }
 {
     let mut lender = DualLender::new(alloc, instance)?;
-    Ok(write_found(instance, found, &mut lender, sink))
+    Ok(write_found(instance, found, version, &mut lender, sink))
 }
 
-/// The text of the certificate that is made of what the search finds.
+/// The text of the certificate that is made of what the search finds, in the first version.
 pub(crate) fn made(alloc: Global, instance: &Instance, line: &str) -> Result<String, AllocError> {
     let mut sink = MemSink::new(alloc, ROOM)?;
     let done = put_made(alloc, instance, line, &mut sink)?;
@@ -90,7 +97,7 @@ fn put_made(
     sink: &mut MemSink,
 ) -> Result<Result<(), Failed>, AllocError> {
     let found = found_of(alloc, instance, line)?;
-    let certificate = certificate_of(alloc, instance, &found)?;
+    let certificate = certificate_of(alloc, instance, &found, Version::First)?;
     Ok(write_cert(&certificate, sink))
 }
 
