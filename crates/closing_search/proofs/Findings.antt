@@ -28,7 +28,6 @@ use Rattle.kept_cuts.specs.declared.found.Found.{Found}
 use Rattle.kept_cuts.specs.Findings.{lines_of, proof_of, IsProved}
 use Rattle.kept_cuts.proofs.KeptCutLaws.{kept_is_cut, kept_in_range}
 use Rattle.kept_cuts.proofs.Versions.{has_text}
-use Rattle.search_core.specs.Tasks.{AreFixedCosts}
 use Rattle.search_core.specs.declared.tasks.Task.{Task}
 use Rattle.closing_search.specs.declared.progress.Progress.{Progress}
 use Rattle.closing_search.specs.Progressing.{target_of, IsGoing, IsOver}
@@ -85,10 +84,10 @@ module _ (t : Task) (s : Progress) (found : Found) (over : IsOver t s) (is : IsF
         candidates = refl;
         bound = found_within;
         plan = found_plan;
-        wanted = any_wanted p found.plan.hubs over.going.costs.problem.any_number;
+        wanted = any_wanted p found.plan.hubs over.going.problem.any_number;
         cost = found_cost;
         cuts = All-map (IsCut p) (kept_cut p) found.cuts.cuts
-            (All-weaker (IsKeptFor p) (λ (k : Kept). IsCut p (kept_cut p k)) (λ k fits. kept_is_cut p k over.going.costs.problem fits)
+            (All-weaker (IsKeptFor p) (λ (k : Kept). IsCut p (kept_cut p k)) (λ k fits. kept_is_cut p k over.going.problem fits)
             found.cuts.cuts found_kept);
         tree = h.sound;
       }
@@ -97,7 +96,7 @@ module _ (t : Task) (s : Progress) (found : Found) (over : IsOver t s) (is : IsF
       → IsInRange (proof_of version t.instance.now found h.tree)
   found_in_range h version there =
       let p = t.instance.now in
-      let ok = over.going.costs.problem in
+      let ok = over.going.problem in
       let cost = plan_cost_limit p found.plan ok found_plan in
       let nodes = least_route_nodes p found.plan.hubs (commodities p.size) found.plan.routes ok.limits found_set is.routes in
       let lines : All (IsLineInRange p.size) (lines_of found.tree.items) = rw is.lines over.going.in_range in
@@ -138,7 +137,7 @@ module _ (t : Task) (s : Progress) (found : Found) (over : IsOver t s) (is : IsF
   found_below =
       let h = found_tree t s found over is in
       let p = t.instance.now in
-      no_plan_below_bound p (proof_of 1 p found h.tree) over.going.costs.problem (found_holds h 1)
+      no_plan_below_bound p (proof_of 1 p found h.tree) over.going.problem (found_holds h 1)
 
   found_made : length found.tree.items ≡ s.made
   found_made = ap length is.lines ∙ over.lines
@@ -192,14 +191,13 @@ no_stop : (o : Option ℕ) (n : Option ℕ) (made : ℕ) → o ≡ None → IsSo
 no_stop None n made none some = absurd (true≢false (sym some))
 no_stop (Some m) n made none some = absurd (true≢false (ap is_some none))
 
-pub begun_going : (t : Task) (s : Progress) → AreFixedCosts t.instance.now t.fixed.items
+pub begun_going : (t : Task) (s : Progress) → IsProblem t.instance.now
     → s.cuts ≡ record { cuts = []; totals = []; loads = [] } → s.lines.items ≡ [] → s.hubs ≡ t.instance.now.candidates
     → IsSetCost t.instance.now s.hubs s.cost → s.made ≡ 1 → s.stop ≡ None → IsGoing t s
-begun_going t s costs cuts lines hubs is_cost made stop =
+begun_going t s ok cuts lines hubs is_cost made stop =
     let p = t.instance.now in
-    let ok = costs.problem in
     record {
-      costs = costs;
+      problem = ok;
       kept = rw cuts (record { fit = All-nil (IsKeptFor p); are_totals = refl; are_loads = refl });
       few_cuts = rw cuts (omega arith);
       few_lines = rw lines (omega arith);

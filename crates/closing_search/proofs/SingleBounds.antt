@@ -20,11 +20,10 @@ use Rattle.hub_model.specs.Amounts.{natural, IsNatural}
 use Rattle.hub_model.proofs.Signs.{natural-pos}
 use Rattle.leaf_bound.specs.declared.weightings.Weighting as lent
 use Rattle.leaf_bound.specs.Bounds.{bound_of}
-use Rattle.leaf_bound.specs.Numbers.{naturals, IsCost, IsSumOf, AreWeightingNumbers, IsBranchBelow, weighting_of}
+use Rattle.leaf_bound.specs.Numbers.{naturals, IsSumOf, AreWeightingNumbers, IsBranchBelow, weighting_of}
 use Rattle.leaf_bound.specs.Theorems.{weight_pairs, AreLoadsOf, IsWeightingOf}
 use Rattle.leaf_bound.proofs.LeafWeights.{leaf_has_bound}
 use Rattle.search_spec.specs.States.{denominator}
-use Rattle.search_core.specs.Tasks.{AreFixedCosts}
 use Rattle.closing_search.specs.SingleCuts.{AreLoads, IsOnCut, IsOnNone, cut_bound}
 
 -- ---- the loads of a cut are within their limit, at each node
@@ -66,14 +65,9 @@ total_within p cut sum loads are =
 is_sum : (n : ℕ) → n ≤ most_cost → IsSumOf 1 (pos n)
 is_sum n low = (omega (arith, ints), omega (arith, ints, low))
 
-fixed_long : (p : Problem) (fixed : List ℤ) → AreFixedCosts p fixed → length fixed ≡ p.size
-fixed_long p fixed are = ap length are.costs ∙ length-map p.fixed_costs pos ∙ are.problem.cost_for_each_node
-
-fixed_are_costs : (p : Problem) (fixed : List ℤ) → AreFixedCosts p fixed → All IsCost fixed
-fixed_are_costs p fixed are =
-    subst (All IsCost) (sym are.costs) (All-map IsCost pos p.fixed_costs
-    (All-weaker (λ (f : ℕ). f ≤ most_fixed_cost) (λ (f : ℕ). IsCost (pos f)) (λ f low. (omega (arith, ints), omega (arith, ints, low))) p.fixed_costs
-    are.problem.cost_limit))
+-- the limit of a fixed cost
+abbrev IsFixedCost : ℕ → Type 0
+IsFixedCost cost = cost ≤ most_fixed_cost
 
 nodes_below : (p : Problem) (ks : List ℕ) → IsProblem p → All (Contains p.candidates) ks → All (λ k. k < p.size) ks
 nodes_below p ks ok are = All-weaker (Contains p.candidates) (λ k. k < p.size) (λ k c. candidate_is_node p k ok c) ks are
@@ -85,11 +79,10 @@ below_size p b ok is = record {
   free = nodes_below p b.free ok is.free_are;
 }
 
-pub branch_below : (p : Problem) (fixed : List ℤ) (m : lent.Weighting) (b : Branching) → AreFixedCosts p fixed
-    → m.fixed.now ≡ fixed → IsBranch p b → IsBranchBelow (length m.fixed.now) b
-branch_below p fixed m b costs same is =
-    let long : length m.fixed.now ≡ p.size = ap length same ∙ fixed_long p fixed costs in
-    subst (λ (n : ℕ). IsBranchBelow n b) (sym long) (below_size p b costs.problem is)
+pub branch_below : (p : Problem) (fixed : List ℕ) (b : Branching) → IsProblem p → fixed ≡ p.fixed_costs → IsBranch p b
+    → IsBranchBelow (length fixed) b
+branch_below p fixed b ok costs is =
+    subst (λ (n : ℕ). IsBranchBelow n b) (sym (ap length costs ∙ ok.cost_for_each_node)) (below_size p b ok is)
 
 row_sums : (p : Problem) (cut : Cut) (sum : ℕ) (loads : List ℕ) → AreLoads p cut sum loads
     → All (IsSumOf 1) (map pos loads)
@@ -102,21 +95,20 @@ row_sums p cut sum loads are =
 abbrev IsPart : ℕ → Type 0
 IsPart part = (1 ≤ part) × (part ≤ most_part)
 
-pub cut_numbers : (p : Problem) (cut : Cut) (fixed : List ℤ) (m : lent.Weighting) → AreFixedCosts p fixed
-    → IsOnCut p cut fixed m → AreWeightingNumbers m
-cut_numbers p cut fixed m costs on =
+pub cut_numbers : (p : Problem) (cut : Cut) (m : lent.Weighting) → IsProblem p → IsOnCut p cut m → AreWeightingNumbers m
+cut_numbers p cut m ok on =
     let ns = on.lent_of in
     let n = length m.fixed.now in
-    let long : n ≡ p.size = ap length on.fixed_are ∙ fixed_long p fixed costs in
+    let long : n ≡ p.size = ap length on.fixed_are ∙ ok.cost_for_each_node in
     record {
-      some_nodes = omega (arith, long, costs.problem.size_limit);
+      some_nodes = omega (arith, long, ok.size_limit);
       few_weights = omega (arith, ap length on.weights_are, ap length ns.totals_are);
       are_parts = subst (All IsPart) (sym ns.parts_are)
           (All-cons IsPart 1 [] (omega arith, omega arith) (All-nil IsPart));
       are_totals = rw (ns.parts_are, ns.totals_are) (is_sum ns.sum (total_within p cut ns.sum ns.loads ns.are), tt);
       are_loads = rw (ns.parts_are, ns.rows_are)
           ((length-map ns.loads pos ∙ ns.are.long ∙ sym long, row_sums p cut ns.sum ns.loads ns.are), tt);
-      are_fixed_costs = subst (All IsCost) (sym on.fixed_are) (fixed_are_costs p fixed costs);
+      are_fixed_costs = subst (All IsFixedCost) (sym on.fixed_are) ok.cost_limit;
       are_weights = subst (All IsNatural) (sym on.weights_are)
           (All-cons IsNatural (pos denominator) [] (omega (arith, ints)) (All-nil IsNatural));
       are_multiples = rw (on.weights_are, ns.parts_are) (refl, tt);
@@ -125,15 +117,14 @@ cut_numbers p cut fixed m costs on =
       denom_most = rw on.denom_is (omega (arith, ints));
     }
 
-pub none_numbers : (p : Problem) (fixed : List ℤ) (m : lent.Weighting) → AreFixedCosts p fixed → IsOnNone fixed m
-    → AreWeightingNumbers m
-none_numbers p fixed m costs on = record {
-  some_nodes = omega (arith, ap length on.fixed_are, fixed_long p fixed costs, costs.problem.size_limit);
+pub none_numbers : (p : Problem) (m : lent.Weighting) → IsProblem p → IsOnNone p m → AreWeightingNumbers m
+none_numbers p m ok on = record {
+  some_nodes = omega (arith, ap length on.fixed_are, ok.cost_for_each_node, ok.size_limit);
   few_weights = omega (arith, ap length on.weights_are);
   are_parts = subst (All IsPart) (sym on.parts_are) (All-nil IsPart);
   are_totals = rw (on.parts_are, on.totals_are) tt;
   are_loads = rw (on.parts_are, on.rows_are) tt;
-  are_fixed_costs = subst (All IsCost) (sym on.fixed_are) (fixed_are_costs p fixed costs);
+  are_fixed_costs = subst (All IsFixedCost) (sym on.fixed_are) ok.cost_limit;
   are_weights = subst (All IsNatural) (sym on.weights_are) (All-nil IsNatural);
   are_multiples = rw on.weights_are tt;
   weights_limit = rw on.weights_are (omega arith);
@@ -143,21 +134,18 @@ none_numbers p fixed m costs on = record {
 
 -- ---- bounds
 
-fixed_at : (p : Problem) (fixed costs : List ℤ) (k : ℕ) → AreFixedCosts p fixed → costs ≡ fixed
-    → get_or (naturals costs) k 0 ≡ fixed_cost p k
+fixed_at : (p : Problem) (fixed : List ℕ) (k : ℕ) → fixed ≡ p.fixed_costs → get_or fixed k 0 ≡ fixed_cost p k
 unfolding fixed_cost
-fixed_at p fixed costs k are same =
-    ap (λ (xs : List ℕ). get_or xs k 0) (ap naturals (same ∙ are.costs) ∙ natural-pos p.fixed_costs)
+fixed_at p fixed k same = ap (λ (costs : List ℕ). get_or costs k 0) same
 
-on_cut : (p : Problem) (cut : Cut) (fixed : List ℤ) (m : lent.Weighting) → AreFixedCosts p fixed → IsOnCut p cut fixed m
-    → IsWeightingOf p (cut ∷ []) (weighting_of m)
-on_cut p cut fixed m costs on =
+on_cut : (p : Problem) (cut : Cut) (m : lent.Weighting) → IsOnCut p cut m → IsWeightingOf p (cut ∷ []) (weighting_of m)
+on_cut p cut m on =
     let ns = on.lent_of in
     record {
       totals = ap naturals ns.totals_are ∙ ap (λ (x : ℕ). x ∷ []) ns.are.is_total;
       loads = subst (λ (rows : List (List ℤ)). AllZip (AreLoadsOf p) (cut ∷ []) (map naturals rows)) (sym ns.rows_are)
           (λ k node. ap (λ (row : List ℕ). get_or row k 0) (natural-pos ns.loads) ∙ ns.are.are_loads k node, tt);
-      fixed = λ k node. fixed_at p fixed m.fixed.now k costs on.fixed_are;
+      fixed = λ k node. fixed_at p m.fixed.now k on.fixed_are;
       parts = ns.parts_are ∙ ap (λ (e : ℕ). e ∷ []) (sym ns.are.whole);
       few_weights = omega (arith, length-map m.weights.now natural, ap length on.weights_are);
     }
@@ -170,26 +158,23 @@ lent_bound p cuts m ws b ok is on weights denom =
     sym (leaf_has_bound p cuts (weighting_of m) b ok.any_number on (below_size p b ok is))
     ∙ ap₂ (λ (d : ℕ) (xs : List ℤ). leaf_bound p cuts d (weight_pairs (naturals xs)) b) (ap natural denom) weights
 
-pub cut_bound_is : (p : Problem) (cut : Cut) (fixed : List ℤ) (m : lent.Weighting) (b : Branching)
-    → AreFixedCosts p fixed → IsBranch p b → IsOnCut p cut fixed m → bound_of (weighting_of m) b ≡ cut_bound p cut b
-cut_bound_is p cut fixed m b costs is on =
-    lent_bound p (cut ∷ []) m (pos denominator ∷ []) b costs.problem is (on_cut p cut fixed m costs on) on.weights_are
-    on.denom_is
+pub cut_bound_is : (p : Problem) (cut : Cut) (m : lent.Weighting) (b : Branching) → IsProblem p → IsBranch p b
+    → IsOnCut p cut m → bound_of (weighting_of m) b ≡ cut_bound p cut b
+cut_bound_is p cut m b ok is on =
+    lent_bound p (cut ∷ []) m (pos denominator ∷ []) b ok is (on_cut p cut m on) on.weights_are on.denom_is
 
-on_none : (p : Problem) (fixed : List ℤ) (m : lent.Weighting) → AreFixedCosts p fixed → IsOnNone fixed m
-    → IsWeightingOf p [] (weighting_of m)
-on_none p fixed m costs on = record {
+on_none : (p : Problem) (m : lent.Weighting) → IsOnNone p m → IsWeightingOf p [] (weighting_of m)
+on_none p m on = record {
   totals = ap naturals on.totals_are;
   loads = subst (λ (rows : List (List ℤ)). AllZip (AreLoadsOf p) [] (map naturals rows)) (sym on.rows_are) tt;
-  fixed = λ k node. fixed_at p fixed m.fixed.now k costs on.fixed_are;
+  fixed = λ k node. fixed_at p m.fixed.now k on.fixed_are;
   parts = on.parts_are;
   few_weights = omega (arith, length-map m.weights.now natural, ap length on.weights_are);
 }
 
-pub none_bound_is : (p : Problem) (fixed : List ℤ) (m : lent.Weighting) (b : Branching) → AreFixedCosts p fixed
-    → IsBranch p b → IsOnNone fixed m → bound_of (weighting_of m) b ≡ leaf_bound p [] denominator [] b
-none_bound_is p fixed m b costs is on =
-    lent_bound p [] m [] b costs.problem is (on_none p fixed m costs on) on.weights_are on.denom_is
+pub none_bound_is : (p : Problem) (m : lent.Weighting) (b : Branching) → IsProblem p → IsBranch p b → IsOnNone p m
+    → bound_of (weighting_of m) b ≡ leaf_bound p [] denominator [] b
+none_bound_is p m b ok is on = lent_bound p [] m [] b ok is (on_none p m on) on.weights_are on.denom_is
 
 -- ---- the bound by no cut is not below 0
 

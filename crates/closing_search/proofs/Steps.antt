@@ -59,7 +59,7 @@ line_going : (t : Task) (before after : Progress) (line : model.TreeLine) (count
     → length after.lines.items ≤ most_tree_lines → IsLineInRange t.instance.now.size (tree_line_of line) → before.made ≤ count
     → count ≤ before.made + 2 → AreWithin t.nodes count → IsGoing t after
 line_going t before after line count going has few in_range more less within = record {
-  costs = going.costs;
+  problem = going.problem;
   kept = subst (AreKeptFor t.instance.now) (sym has.cuts) going.kept;
   few_cuts = rw has.cuts going.few_cuts;
   few_lines = few;
@@ -158,7 +158,7 @@ offer_at t before after going has set is_cost =
     let falls : lesser after.cost before.stop ≤ target_of before = lesser_less after.cost before.cost before.stop has.cost in
     record {
       going = record {
-        costs = going.costs;
+        problem = going.problem;
         kept = subst (AreKeptFor p) (sym has.cuts) going.kept;
         few_cuts = rw has.cuts going.few_cuts;
         few_lines = rw has.lines going.few_lines;
@@ -197,7 +197,7 @@ cut_at_step t before after cut sum loads going has fits sums few =
     let p = t.instance.now in
     record {
       going = record {
-        costs = going.costs;
+        problem = going.problem;
         kept = kept_more p before.cuts after.cuts cut sum loads going.kept fits sums has.cuts;
         few_cuts = rw has.cuts (omega (arith, length_push before.cuts.cuts cut, few));
         few_lines = rw has.lines going.few_lines;
@@ -223,7 +223,7 @@ cut_at_step t before after cut sum loads going has fits sums few =
 pub stop_going : (t : Task) (before : Progress) (low : ℕ) → IsGoing t before → IsSpent t.nodes before.made
     → IsGoing t (record before { stop = Some low })
 stop_going t before low going spent = record {
-  costs = going.costs;
+  problem = going.problem;
   kept = going.kept;
   few_cuts = going.few_cuts;
   few_lines = going.few_lines;

@@ -1,7 +1,7 @@
 -- What a search has at each step, and what a step keeps.
 use Rattle.std.specs.Prelude.{◌≡◌, ℕ, ◌+◌, ◌-◌, ◌*◌, ◌^◌, ◌≤◌, Bool, true, false, List, [], ◌∷◌, length, All, Contains, IsSome, IsNone}
 use Rattle.hub_spec.specs.Limits.{most_cost, most_cuts, most_tree_lines}
-use Rattle.hub_spec.specs.Problem.{Problem}
+use Rattle.hub_spec.specs.Problem.{Problem, IsProblem}
 use Rattle.hub_spec.specs.Plans.{IsHubSet, IsSetCost}
 use Rattle.hub_spec.specs.Cuts.{Cut}
 use Rattle.hub_spec.specs.Trees.{Branching, root, open_child, closed_child, TreeLine}
@@ -11,7 +11,6 @@ use Rattle.search_spec.specs.Findings.{AreWithin, IsSpent, IsEnough}
 use Rattle.tree_walks.specs.Walks.{filled, Walks}
 use Rattle.kept_cuts.specs.Kept.{kept_cuts, AreKeptFor}
 use Rattle.kept_cuts.specs.Findings.{lines_of}
-use Rattle.search_core.specs.Tasks.{AreFixedCosts}
 use Rattle.search_core.specs.declared.tasks.Task.{Task}
 use Rattle.closing_search.specs.declared.progress.Progress.{Progress}
 
@@ -30,7 +29,7 @@ WalksTo p s first last = Walks p (cuts_of p s) (target_of s) first (lines_of s.l
 -- what holds at each step: of the task, of the cuts, the lines and the incumbent, which costs at most what all candidates
 -- cost, and of the nodes
 pub record IsGoing (t : Task) (s : Progress) : Type 0 where
-  pub costs : AreFixedCosts t.instance.now t.fixed.items
+  pub problem : IsProblem t.instance.now
   pub kept : AreKeptFor t.instance.now s.cuts
   pub few_cuts : length s.cuts.cuts ≤ most_cuts
   pub few_lines : length s.lines.items ≤ most_tree_lines

@@ -28,19 +28,19 @@ pub record AreLentOf (p : Problem) (cut : Cut) (totals : List ℤ) (rows : List 
   pub rows_are : rows ≡ map pos loads ∷ []
   pub parts_are : parts ≡ 1 ∷ []
 
--- the weighting has these fixed costs, and the whole weight on the cut alone
-pub record IsOnCut (p : Problem) (cut : Cut) (fixed : List ℤ) (m : lent.Weighting) : Type 0 where
+-- the weighting has the problem's fixed costs, and the whole weight on the cut alone
+pub record IsOnCut (p : Problem) (cut : Cut) (m : lent.Weighting) : Type 0 where
   pub lent_of : AreLentOf p cut m.totals.now (rows_of m) m.parts.now
-  pub fixed_are : m.fixed.now ≡ fixed
+  pub fixed_are : m.fixed.now ≡ p.fixed_costs
   pub weights_are : m.weights.now ≡ pos denominator ∷ []
   pub denom_is : m.denom ≡ pos denominator
 
--- the weighting has these fixed costs, and no cut
-pub record IsOnNone (fixed : List ℤ) (m : lent.Weighting) : Type 0 where
+-- the weighting has the problem's fixed costs, and no cut
+pub record IsOnNone (p : Problem) (m : lent.Weighting) : Type 0 where
   pub totals_are : m.totals.now ≡ []
   pub rows_are : rows_of m ≡ []
   pub parts_are : m.parts.now ≡ []
-  pub fixed_are : m.fixed.now ≡ fixed
+  pub fixed_are : m.fixed.now ≡ p.fixed_costs
   pub weights_are : m.weights.now ≡ []
   pub denom_is : m.denom ≡ pos denominator
 

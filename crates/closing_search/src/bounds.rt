@@ -1,6 +1,7 @@
 //! The bound of one cut alone.
 
 ghost use Rattle.std.specs.Prelude.{◌≡◌, ◌≤◌, [], map, length, IsTrue, IfOk};
+ghost use Rattle.hub_spec.specs.Problem.{IsProblem};
 ghost use Rattle.hub_spec.specs.Cuts.{Cut};
 ghost use Rattle.hub_spec.specs.Trees.{IsBranch, leaf_bound, cut_at, Closes};
 ghost use Rattle.hub_spec.specs.Limits.{most_cost};
@@ -8,11 +9,10 @@ ghost use Rattle.leaf_bound.specs.Weighing.{most_bound, IsWithin};
 ghost use Rattle.search_spec.specs.States.{denominator};
 ghost use Rattle.closing_search.specs.Progressing.{cuts_of, target_of, IsGoing};
 ghost use Rattle.closing_search.specs.SingleCuts.{AreLoads, AreLentOf, IsOnCut, IsOnNone, cut_bound, ClosesBy};
-ghost use Rattle.search_core.specs.Tasks.{AreFixedCosts};
 
 use crate::progress::{Progress, target};
 use crate::walk::Walk;
-use hub_model::signed;
+use hub_model::{Instance, signed};
 use kept_cuts::signed_row;
 use leaf_bound::{Weighting, bound, threshold};
 use plan_model::Branch;
@@ -27,47 +27,46 @@ static PART: [u32; 1] = [1];
 
 // What the bound by one cut is made of: its numbers, each in a list of one, and the whole weight on it.
 fn cut_weighting<'a>(
-    task: &'a Task,
+    instance: &'a Instance,
     totals: &'a [i128],
     loads: &'a [Vec<i128>],
     parts: &'a [u32],
 ) -> Weighting<'a>
-    ensures { let p = task.now.instance.now in
-        (cut : Cut) → AreLentOf p cut totals.now (map (λ v. v.items) loads.now) parts.now
-        → IsOnCut p cut task.now.fixed.items result }
+    ensures { (cut : Cut) → AreLentOf instance.now cut totals.now (map (λ v. v.items) loads.now) parts.now
+        → IsOnCut instance.now cut result }
 {
     Weighting {
         totals,
         loads,
         parts,
-        fixed: &task.fixed,
+        fixed: instance.fixed_costs(),
         weights: &WHOLE,
         denom: WHOLE_WEIGHT as i128,
     }
 }
 
 // What the bound by no cut is made of.
-fn bare_weighting<'a>(task: &'a Task) -> Weighting<'a>
-    ensures { IsOnNone task.now.fixed.items result }
+fn bare_weighting<'a>(instance: &'a Instance) -> Weighting<'a>
+    ensures problem { IsProblem instance.now }
+    ensures lent { IsOnNone instance.now result }
 {
     Weighting {
         totals: &[],
         loads: &[],
         parts: &[],
-        fixed: &task.fixed,
+        fixed: instance.fixed_costs(),
         weights: &[],
         denom: WHOLE_WEIGHT as i128,
     }
 }
 
 /// The bound of the branch by no cut.
-pub(crate) fn bare_bound(task: &Task, branch: &Branch) -> i128
-    requires costs { AreFixedCosts task.now.instance.now task.now.fixed.items }
-    requires branch { IsBranch task.now.instance.now branch.now }
-    ensures bound { result ≡ leaf_bound task.now.instance.now [] denominator [] branch.now }
+pub(crate) fn bare_bound(instance: &Instance, branch: &Branch) -> i128
+    requires branch { IsBranch instance.now branch.now }
+    ensures bound { result ≡ leaf_bound instance.now [] denominator [] branch.now }
     ensures limit { IsWithin most_bound result }
 {
-    bound(&bare_weighting(task), branch)
+    bound(&bare_weighting(instance), branch)
 }
 
 /// The bound of the branch by the kept cut of this number alone.
@@ -83,7 +82,7 @@ pub(crate) fn kept_bound(task: &Task, branch: &Branch, progress: &Progress, numb
     let totals = &progress.cuts.totals()[start..start + 1];
     let loads = &progress.cuts.loads()[start..start + 1];
     let parts = &progress.cuts.parts()[start..start + 1];
-    bound(&cut_weighting(task, totals, loads, parts), branch)
+    bound(&cut_weighting(task.instance, totals, loads, parts), branch)
 }
 
 impl Walk<'_> {
@@ -100,7 +99,7 @@ impl Walk<'_> {
         let row = signed_row(self.alloc, self.bench.loads())?;
         let rows = vec![in self.alloc; row]?;
         let totals = [signed(total)];
-        let weighting = cut_weighting(self.task, &totals, &rows, &PART);
+        let weighting = cut_weighting(self.task.instance, &totals, &rows, &PART);
         Ok(is_above(bound(&weighting, branch), target(&self.progress)))
     }
 }

@@ -162,7 +162,7 @@ fn best_choice(task: &Task, branch: &Branch, progress: &Progress) -> Choice
 {
     let mut best = Choice {
         number: None,
-        bound: bare_bound(task, branch),
+        bound: bare_bound(task.instance, branch),
     };
     for before in 0..progress.cuts.len() {
         let number = before + 1;

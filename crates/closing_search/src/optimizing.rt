@@ -7,7 +7,6 @@ ghost use Rattle.hub_spec.specs.Plans.{IsSetCost, IsLeastRoute, NoPlanBelow};
 ghost use Rattle.hub_spec.specs.Trees.{root};
 ghost use Rattle.search_spec.specs.Findings.{AreWithin, IsSpent, IsEnough};
 ghost use Rattle.kept_cuts.specs.Findings.{IsProved};
-ghost use Rattle.search_core.specs.Tasks.{AreFixedCosts};
 ghost use Rattle.closing_search.specs.Progressing.{IsGoing, IsDone, IsOver};
 
 use crate::progress::{Progress, target};
@@ -51,7 +50,7 @@ pub fn optimize<R: Threads + Sync, A: Advice + Drop>(
     ensures enough { IsEnough (2 ^ (length instance.now.candidates + 1)) nodes → IfOk result (λ found. found.bound ≡ found.cost) }
     ensures whole { nodes ≡ None → IfOk result (λ found. found.bound ≡ found.cost) }
 {
-    let task = Task::new(alloc, instance, nodes)?;
+    let task = Task::new(instance, nodes);
     let begun = begin(alloc, &task)?;
     let progress = fill_tree(rt, alloc, &task, advice, begun)?;
     finish(alloc, &task, progress)
@@ -77,7 +76,6 @@ fn fill_tree<'a, R: Threads + Sync, A: Advice + Drop>(
 
 // No cut and no line, with the set of all candidates as the first incumbent.
 fn begin(alloc: Global, task: &Task) -> Result<Progress, AllocError>
-    requires { AreFixedCosts task.now.instance.now task.now.fixed.items }
     ensures going { IfOk result (IsGoing task.now) }
     ensures no_line { IfOk result (λ s. s.lines.items ≡ []) }
     ensures one_node { IfOk result (λ s. s.made ≡ 1) }

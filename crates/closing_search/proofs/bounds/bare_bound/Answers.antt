@@ -6,17 +6,16 @@ use Rattle.closing_search.proofs.bounds.bare_bound.Goals as goal
 
 pub bound-requires-clause-numbers : goal.bound-requires-clause-numbers
 bound-requires-clause-numbers c =
-    none_numbers c.args.task.now.instance.now c.args.task.now.fixed.items c.bare_weighting.result c.requires.costs
-    c.bare_weighting.ensures
+    none_numbers c.args.instance.now c.bare_weighting.result c.bare_weighting.ensures.problem c.bare_weighting.ensures.lent
 
 pub bound-requires-clause-nodes : goal.bound-requires-clause-nodes
 bound-requires-clause-nodes c =
-    branch_below c.args.task.now.instance.now c.args.task.now.fixed.items c.bare_weighting.result c.args.branch.now
-    c.requires.costs c.bare_weighting.ensures.fixed_are c.requires.branch
+    branch_below c.args.instance.now c.bare_weighting.result.fixed.now c.args.branch.now c.bare_weighting.ensures.problem
+    c.bare_weighting.ensures.lent.fixed_are c.requires.branch
 
 pub returns-clause-bound : goal.returns-clause-bound
 returns-clause-bound c =
     let fits : FitsSigned w128 c.bound.result = search rules in
     to_z-of_z w128 c.bound.result fits ∙ c.bound.ensures.value
-    ∙ none_bound_is c.args.task.now.instance.now c.args.task.now.fixed.items c.bare_weighting.result c.args.branch.now
-    c.requires.costs c.requires.branch c.bare_weighting.ensures
+    ∙ none_bound_is c.args.instance.now c.bare_weighting.result c.args.branch.now c.bare_weighting.ensures.problem
+    c.requires.branch c.bare_weighting.ensures.lent

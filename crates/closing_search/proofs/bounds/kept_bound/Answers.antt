@@ -23,28 +23,28 @@ numbers p k n totals loads parts ok are least most is_totals is_loads is_parts =
 
 -- the numbers of the kept cut
 on_cut : (c : After-cut_weighting) → let p = c.args.task.now.instance.now in
-    IsOnCut p (cut_at (cuts_of p c.args.progress.now) c.args.number) c.args.task.now.fixed.items c.cut_weighting.result
+    IsOnCut p (cut_at (cuts_of p c.args.progress.now) c.args.number) c.cut_weighting.result
 on_cut c =
     let going = c.requires.going in
     c.cut_weighting.ensures _
     (numbers c.args.task.now.instance.now c.args.progress.now.cuts c.args.number c.totals.result.now c.loads.result.now
-    c.parts.result.now going.costs.problem going.kept c.requires.least c.requires.most c.totals.ensures.value
+    c.parts.result.now going.problem going.kept c.requires.least c.requires.most c.totals.ensures.value
     c.loads.ensures.value c.parts.ensures.value)
 
 pub bound-requires-clause-numbers : goal.bound-requires-clause-numbers
 bound-requires-clause-numbers c =
-    cut_numbers c.args.task.now.instance.now _ c.args.task.now.fixed.items c.cut_weighting.result c.requires.going.costs
+    cut_numbers c.args.task.now.instance.now _ c.cut_weighting.result c.requires.going.problem
     (on_cut (goal.at.bound-requires-clause-numbers c).After-cut_weighting)
 
 pub bound-requires-clause-nodes : goal.bound-requires-clause-nodes
 bound-requires-clause-nodes c =
-    branch_below c.args.task.now.instance.now c.args.task.now.fixed.items c.cut_weighting.result c.args.branch.now
-    c.requires.going.costs (on_cut (goal.at.bound-requires-clause-nodes c).After-cut_weighting).fixed_are
+    branch_below c.args.task.now.instance.now c.cut_weighting.result.fixed.now c.args.branch.now c.requires.going.problem
+    (on_cut (goal.at.bound-requires-clause-nodes c).After-cut_weighting).fixed_are
     c.requires.branch
 
 pub returns-clause-bound : goal.returns-clause-bound
 returns-clause-bound c =
     let fits : FitsSigned w128 c.bound.result = search rules in
     to_z-of_z w128 c.bound.result fits ∙ c.bound.ensures.value
-    ∙ cut_bound_is c.args.task.now.instance.now _ c.args.task.now.fixed.items c.cut_weighting.result c.args.branch.now
-    c.requires.going.costs c.requires.branch (on_cut (goal.at.returns-clause-bound c).After-cut_weighting)
+    ∙ cut_bound_is c.args.task.now.instance.now _ c.cut_weighting.result c.args.branch.now
+    c.requires.going.problem c.requires.branch (on_cut (goal.at.returns-clause-bound c).After-cut_weighting)

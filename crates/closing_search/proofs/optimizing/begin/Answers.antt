@@ -17,6 +17,6 @@ returns-clause-going c =
     let p = c.args.task.now.instance.now in
     let fits : FitsSigned w128 c.set_cost.result = search rules in
     let same = c.unsigned-cost.ensures.value ∙ ap natural (to_z-of_z w128 c.set_cost.result fits) in
-    begun_going c.args.task.now _ c.requires (search rules) (search rules)
+    begun_going c.args.task.now _ c.candidates.ensures.problem (search rules) (search rules)
     (c.in_ok-hubs.ensures ∙ c.candidates.ensures.value)
     (subst (λ (n : ℕ). IsSetCost p c.in_ok-hubs.hubs n) (sym same) c.set_cost.ensures.value) refl refl

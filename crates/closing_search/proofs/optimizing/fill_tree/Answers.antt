@@ -15,7 +15,7 @@ pub node-requires-clause-branch : goal.node-requires-clause-branch
 node-requires-clause-branch g c = λ _ _.
     (let p = c.args.task.now.instance.now in
     subst (λ (t : Task). IsBranch t.instance.now c.in_ok-root.root) (sym c.in_ok-walker.ensures.task)
-    (subst (IsBranch p) (sym c.in_ok-root.ensures) (root_branch p c.requires.costs.problem)))
+    (subst (IsBranch p) (sym c.in_ok-root.ensures) (root_branch p c.requires.problem)))
 
 pub returns : goal.returns
 returns g c =

@@ -13,8 +13,8 @@ finish-requires g c =
 pub returns-clause-at_most : goal.returns-clause-at_most
 returns-clause-at_most g c =
     subst (λ (p : Problem). IfOk c.finish.result (λ found. (cost : ℕ) → IsSetCost p p.candidates cost → found.cost ≤ cost))
-    c.in_ok-task.ensures.instance c.finish.ensures.at_most
+    c.new-task.ensures.instance c.finish.ensures.at_most
 
 pub returns-clause-below : goal.returns-clause-below
 returns-clause-below g c =
-    subst (λ (p : Problem). IfOk c.finish.result (λ found. NoPlanBelow p found.bound)) c.in_ok-task.ensures.instance c.finish.ensures.below
+    subst (λ (p : Problem). IfOk c.finish.result (λ found. NoPlanBelow p found.bound)) c.new-task.ensures.instance c.finish.ensures.below

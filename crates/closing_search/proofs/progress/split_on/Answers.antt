@@ -12,7 +12,7 @@ returns c =
     let k = c.args.k in
     let going = c.requires.going in
     line_halved c.args.task.now b k c.args.progress.now _ _ going refl c.requires.free
-    (candidate_is_node p k going.costs.problem (All-contains (Contains p.candidates) b.free k c.requires.branch.free_are c.requires.free))
+    (candidate_is_node p k going.problem (All-contains (Contains p.candidates) b.free k c.requires.branch.free_are c.requires.free))
     c.requires.allowed
     c.in_ok-add_line.ensures.few
     (record { cuts = refl; lines = c.in_ok-add_line.ensures.added; hubs = refl; cost = refl; made = refl; stop = refl })

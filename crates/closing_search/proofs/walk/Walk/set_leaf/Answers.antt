@@ -22,7 +22,7 @@ pub offer_inside-requires-clause-cost : goal.offer_inside-requires-clause-cost
 offer_inside-requires-clause-cost c =
     let sums = c.set_sums-total.ensures in
     inside_cost c.args.self.now.task.now.instance.now _ c.args.branch.now c.in_ok-inside.inside c.deref.result.now _ c.set_sums-total.result
-    (sums.problem ∙ c.requires.walking.bench) c.deref.ensures.value c.requires.walking.going.costs.problem c.in_ok-inside.ensures sums.sums
+    (sums.problem ∙ c.requires.walking.bench) c.deref.ensures.value c.requires.walking.going.problem c.in_ok-inside.ensures sums.sums
 
 pub keep-requires-clause-fit : goal.keep-requires-clause-fit
 keep-requires-clause-fit c = (c.in_ok-inside.ensures.is_set, c.in_ok-inside.ensures.is_order)
@@ -35,12 +35,12 @@ cut_leaf-requires-clause-closes c =
     let after = c.keep.new.self.progress in
     let cost = c.set_sums-total.result + opening_cost p b.inside in
     let is_cost = inside_cost p _ b c.in_ok-inside.inside c.deref.result.now _ c.set_sums-total.result (sums.problem ∙ c.requires.walking.bench)
-    c.deref.ensures.value c.requires.walking.going.costs.problem c.in_ok-inside.ensures sums.sums in
+    c.deref.ensures.value c.requires.walking.going.problem c.in_ok-inside.ensures sums.sums in
     let low : target_of after ≤ cost = omega (arith, lesser_least after.cost after.stop, c.in_ok-number.ensures.cost, c.in_ok-offer_inside.ensures.reached) in
     subst (λ (t : Task). ClosesBy t.instance.now (cut_at (cuts_of t.instance.now after) c.in_ok-number.number) (target_of after) b)
     (sym c.in_ok-number.ensures.same.task)
     (subst (λ (cut : Cut). ClosesBy p cut (target_of after) b) (sym c.in_ok-number.ensures.cut)
-    (inside_closes p b c.in_ok-inside.inside cost (target_of after) c.requires.walking.going.costs.problem c.in_ok-inside.ensures c.requires.none_free is_cost low))
+    (inside_closes p b c.in_ok-inside.inside cost (target_of after) c.requires.walking.going.problem c.in_ok-inside.ensures c.requires.none_free is_cost low))
 
 pub returns-clause-done : goal.returns-clause-done
 returns-clause-done c =

@@ -21,7 +21,7 @@ signed-requires c =
 -- the numbers of the cut, as they are lent
 on_cut : (c : After-cut_weighting-weighting) (cut : Cut) → let t = c.args.self.now.task.now in
     AreLoads t.instance.now cut c.args.total c.args.self.now.bench.loads
-    → IsOnCut t.instance.now cut t.fixed.items c.cut_weighting-weighting.result
+    → IsOnCut t.instance.now cut c.cut_weighting-weighting.result
 on_cut c cut are =
     let fits_sum : FitsSigned w128 c.signed.result = search rules in
     let totals_are : to_z w128 (of_z w128 c.signed.result) ∷ [] ≡ pos c.args.total ∷ [] =
@@ -36,14 +36,14 @@ pub bound-requires-clause-numbers : goal.bound-requires-clause-numbers
 bound-requires-clause-numbers c =
     let t = c.args.self.now.task.now in
     let sums = c.requires.sums in
-    cut_numbers t.instance.now sums.0 t.fixed.items c.cut_weighting-weighting.result c.requires.going.costs
+    cut_numbers t.instance.now sums.0 c.cut_weighting-weighting.result c.requires.going.problem
     (on_cut (goal.at.bound-requires-clause-numbers c).After-cut_weighting-weighting sums.0 sums.1)
 
 pub bound-requires-clause-nodes : goal.bound-requires-clause-nodes
 bound-requires-clause-nodes c =
     let t = c.args.self.now.task.now in
     let sums = c.requires.sums in
-    branch_below t.instance.now t.fixed.items c.cut_weighting-weighting.result c.args.branch.now c.requires.going.costs
+    branch_below t.instance.now c.cut_weighting-weighting.result.fixed.now c.args.branch.now c.requires.going.problem
     (on_cut (goal.at.bound-requires-clause-nodes c).After-cut_weighting-weighting sums.0 sums.1).fixed_are
     c.requires.branch
 
@@ -51,8 +51,8 @@ pub returns : goal.returns
 returns c cut are above =
     let t = c.args.self.now.task.now in
     let bound = c.bound.ensures.value
-    ∙ cut_bound_is t.instance.now cut t.fixed.items c.cut_weighting-weighting.result c.args.branch.now
-    c.requires.going.costs c.requires.branch (on_cut (goal.at.returns c).After-cut_weighting-weighting cut are) in
+    ∙ cut_bound_is t.instance.now cut c.cut_weighting-weighting.result c.args.branch.now
+    c.requires.going.problem c.requires.branch (on_cut (goal.at.returns c).After-cut_weighting-weighting cut are) in
     let fits : FitsSigned w128 c.bound.result = search rules in
     let same = to_z-of_z w128 c.bound.result fits in
     let target = c.target.ensures in
