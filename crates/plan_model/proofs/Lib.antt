@@ -1,1 +1,2 @@
 pub mod SignedPairs
+pub mod ListedValues
