@@ -11,8 +11,8 @@ use Rattle.cert_scan.specs.Scans.{new_scan, scanned}
 use Rattle.cert_scan.specs.Parts.{parts_of}
 use Rattle.cert_scan.specs.declared.items.Item.{Item}
 use Rattle.cert_scan.specs.declared.items.Item.TheVariants.{Cut, Nodes}
-use Rattle.cert_scan.proofs.Goes.{given_all-append}
-use Rattle.cert_scan.proofs.StagesAt.{stage_at}
+use Rattle.cert_scan.proofs.ScanBytes.{given_all-append}
+use Rattle.cert_scan.proofs.Tight.{wanted_at}
 use Rattle.cert_scan.proofs.Tracks.{scanned_tracks}
 use Rattle.cert_scan.proofs.OnTime.{lines_give}
 use Rattle.cert_stream.specs.Steps.{IsCut}
@@ -149,9 +149,9 @@ ends_cut_line bytes piece cut =
     ≡ (items_in bytes ++ take cut.2.0 (items_behind bytes piece)) ++ Cut cut.0 cut.1 ∷ drop (cut.2.0 + 1) (items_behind bytes piece) =
     sym t.parts ∙ given_all-append new_scan bytes piece ∙ ap (λ g. items_in bytes ++ g) (contains_split (items_behind bytes piece) c cut.2)
     ∙ sym (append_assoc (items_in bytes) front (c ∷ back)) in
-    let at = cut_at t.lines t.more (items_in bytes ++ front) back cut.0 cut.1 (begun_no_cut (stage_at t.nodes t.stage) t.more t.begun) items in
+    let at = cut_at t.lines t.more (items_in bytes ++ front) back cut.0 cut.1 (begun_no_cut (wanted_at t.shape t.held t.stage) t.more t.begun) items in
     let line = says_cut cut.0 at.said in
-    let lead = lead_front want_version at.front line at.behind (stage_at t.nodes t.stage) (subst (λ ls. Leads want_version ls (stage_at t.nodes t.stage)) at.split t.lead) in
+    let lead = lead_front want_version at.front line at.behind (wanted_at t.shape t.held t.stage) (subst (λ ls. Leads want_version ls (wanted_at t.shape t.held t.stage)) at.split t.lead) in
     let rest = flat_map line_bytes at.behind ++ t.sofar in
     let text : bytes ++ piece ≡ flat_map line_bytes (at.front ++ says_cut cut.0 at.said ∷ []) ++ rest =
     t.front ∙ ap (λ ls. flat_map line_bytes ls ++ t.sofar) at.split ∙ text_split at.front at.behind line t.sofar in

@@ -16,7 +16,7 @@ use Rattle.cert_scan.specs.Runs.{Runs}
 use Rattle.cert_scan.specs.declared.items.Item.{Item}
 use Rattle.cert_scan.specs.declared.items.Item.TheVariants.{Version, Size, Cost, Bound, Hub, Route, Cuts, Cut, Dual, DualPair, Nodes, Branch, Leaf, LeafPair, Empty, End}
 use Rattle.cert_scan.specs.declared.scanner.Scan.{Scan}
-use Rattle.cert_scan.proofs.Goes.{scanned-append, given_all-append}
+use Rattle.cert_scan.proofs.ScanBytes.{scanned-append, given_all-append}
 use Rattle.cert_scan.proofs.Tracks.{scanned_given}
 use Rattle.cert_stream.specs.Steps.{IsCut}
 use Rattle.cert_stream.specs.Fed.{BeginsCut}
