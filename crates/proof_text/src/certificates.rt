@@ -1,7 +1,6 @@
 //! The certificate of what a search found, with all of its duals.
 
 ghost use Rattle.std.specs.Prelude.{◌≡◌, IfOk, All};
-ghost use Rattle.cert_spec.specs.Grammar.{IsVersion};
 ghost use Rattle.cert_scan.specs.Versions.{version_number};
 ghost use Rattle.kept_cuts.specs.Kept.{kept_of, kept_cut, kept_cuts, IsKeptFor};
 ghost use Rattle.kept_cuts.specs.Findings.{IsProved};
@@ -24,7 +23,6 @@ pub fn certificate_of(
     version: Version,
 ) -> Result<Certificate, AllocError>
     requires proved { IsProved instance.now found.now }
-    requires version { IsVersion (version_number version) }
     ensures { IfOk result (IsCertificateOf (version_number version) instance.now found.now) }
 {
     let heading = heading_of(instance, found, version);

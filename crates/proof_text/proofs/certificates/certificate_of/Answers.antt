@@ -1,6 +1,7 @@
 use Rattle.std.proofs.Common.{◌∙◌}
 use Rattle.hub_spec.specs.Trees.{empty}
 use Rattle.cert_scan.specs.Versions.{version_number}
+use Rattle.cert_scan.proofs.Versions.{each_is_version}
 use Rattle.proof_text.proofs.FoundCertificates.{AreParts, certificate_parts, found_certificate}
 use Rattle.proof_text.proofs.certificates.certificate_of.Goals as goal
 use Rattle.proof_text.proofs.certificates.certificate_of.Goals.{In_ok-tree}
@@ -16,7 +17,7 @@ parts c = record {
 
 pub new-requires : goal.new-requires
 new-requires c =
-    certificate_parts (version_number c.args.version) c.args.instance.now c.args.found.now _ _ _ _ c.requires.version c.requires.proved (parts c)
+    certificate_parts (version_number c.args.version) c.args.instance.now c.args.found.now _ _ _ _ (each_is_version c.args.version) c.requires.proved (parts c)
 
 pub returns : goal.returns
 returns c =
