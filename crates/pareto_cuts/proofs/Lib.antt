@@ -3,7 +3,6 @@ pub mod OriginDuals
 pub mod CommoditySums
 pub mod Columns
 pub mod DualLists
-pub mod LentDuals
 pub mod StopCounts
 pub mod SetSums
 pub mod FallingOrders

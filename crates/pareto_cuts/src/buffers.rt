@@ -9,6 +9,7 @@ ghost use Rattle.pareto_cuts.specs.UnitCosts.{AreDualsFrom, AreValuesOf};
 use crate::flows::{flows_from, set_column};
 use crate::{OriginScratch, Separation};
 use hub_model::signed;
+use plan_model::list_values;
 use std::alloc::{AllocError, Global};
 use std::marker::Model;
 
@@ -168,21 +169,4 @@ fn clear_values(by_node: &mut Vec<u128>, size: usize)
     by_node.clear();
     // It succeeds, since the room was taken when the vector was made.
     let _ = by_node.resize(size, 0);
-}
-
-// Lists the candidates that have a value.
-fn list_values(candidates: &[u32], values: &[u128], u: &mut Vec<(u32, i128)>)
-    requires nodes { All (λ k. k < length values.now) candidates.now }
-    requires room { length candidates.now ≤ vec_capacity u.old }
-    requires limit { All (λ v. v ≤ most_cost) values.now }
-    ensures room { vec_capacity u.old ≤ vec_capacity u.new }
-    ensures are { u.new.items ≡ signed_values (values_listed (slice_index values.now) candidates.now) }
-{
-    u.clear();
-    for k in candidates {
-        let value = values[*k as usize];
-        if value > 0 {
-            u.push_reserved((*k, signed(value)));
-        }
-    }
 }

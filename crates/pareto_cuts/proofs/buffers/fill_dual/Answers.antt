@@ -1,10 +1,12 @@
-use Rattle.std.proofs.Common.{◌≡◌, ℕ, ◌+◌, ◌<◌, pos, SFits, to_z, of_z, to_z-of_z, List, length, slice_index, All, ap, sym, subst, ◌∙◌, arith, rules}
+use Rattle.std.proofs.Common.{◌≡◌, ℕ, ◌+◌, ◌^◌, ◌<◌, ◌≤◌, pos, SFits, to_z, of_z, to_z-of_z, List, length, slice_index, All, ap, sym, subst, ◌∙◌, arith, rules}
 use mir.Syntax.{w128}
+use Rattle.std.proofs.lemmas.List.Elements.{All-weaker}
+use Rattle.hub_spec.specs.Limits.{most_cost}
 use Rattle.hub_spec.specs.Separation.{values_listed, minimal_dual}
 use Rattle.pareto_cuts.proofs.Columns.{minimal_of}
-use Rattle.pareto_cuts.proofs.LentDuals.{signed_listed}
 use Rattle.hub_spec.proofs.Limits.{few_candidates}
 use Rattle.plan_model.specs.Prices.{signed_values}
+use Rattle.plan_model.proofs.ListedValues.{signed_listed}
 use Rattle.pareto_cuts.proofs.DualLists.{value_limit, values_are_listed}
 use Rattle.pareto_cuts.proofs.buffers.fill_dual.Goals as goal
 
@@ -27,7 +29,9 @@ pub list_values-requires-clause-limit : goal.list_values-requires-clause-limit
 list_values-requires-clause-limit c =
     let is = c.candidates.ensures.separation in
     let s = c.args.separation.now in
-    value_limit s c.args.i c.args.j c.set_values.new.by_node is c.requires.origin (omega (arith, c.requires.destination, is.legs.destinations)) c.set_values.ensures
+    let within = value_limit s c.args.i c.args.j c.set_values.new.by_node is c.requires.origin
+    (omega (arith, c.requires.destination, is.legs.destinations)) c.set_values.ensures in
+    All-weaker (λ (v : ℕ). v ≤ most_cost) (λ (v : ℕ). v < 2 ^ 127) (λ v low. omega (arith, low)) c.set_values.new.by_node within
 
 pub returns-clause-values : goal.returns-clause-values
 returns-clause-values c =
@@ -44,7 +48,7 @@ returns-clause-signed c =
     let s = c.args.separation.now in
     let values = c.set_values.new.by_node in
     let d = minimal_dual s.problem s.hubs s.order (c.args.i, s.start + c.args.j) in
-    let are : c.list_values.new.u.items ≡ signed_values d.u = c.list_values.ensures.are
+    let are : c.list_values.new.list.items ≡ signed_values d.u = c.list_values.ensures.are
     ∙ ap (λ (ks : List ℕ). signed_values (values_listed (slice_index values) ks)) c.candidates.ensures.value
     ∙ ap signed_values (values_are_listed s c.args.i c.args.j values is c.set_values.ensures) in
     let price : to_z w128 (of_z w128 c.price_of.result) ≡ pos d.a =

@@ -4,8 +4,7 @@ use mir.Syntax.{w128}
 use Rattle.hub_spec.specs.Cuts.{Prices}
 use Rattle.hub_model.specs.Amounts.{natural}
 use Rattle.plan_model.specs.Prices.{natural_values, signed_values}
-use Rattle.hub_plain.proofs.Entries.{entries_again}
-use Rattle.pareto_cuts.proofs.LentDuals.{signed_listed}
+use Rattle.plan_model.proofs.ListedValues.{listed_again, signed_listed}
 use Rattle.pareto_cuts.proofs.strong_duals.lent_dual.Goals as goal
 use Rattle.pareto_cuts.proofs.strong_duals.lent_dual.Goals.{After-loop-value}
 
@@ -31,4 +30,4 @@ returns c =
     let made : ℤ → List (ℕ × ℤ) → Prices = λ a u. record { a = natural a; u = natural_values u } in
     let w = (goal.at.returns c).After-loop-value in
     c.new.ensures ∙ ap₂ made (price w) (listed w)
-    ∙ ap (λ (u : List (ℕ × ℕ)). record { a = c.args.scratch.now.dual.a; u = u }) (entries_again c.args.scratch.now.dual.u)
+    ∙ ap (λ (u : List (ℕ × ℕ)). record { a = c.args.scratch.now.dual.a; u = u }) (listed_again c.args.scratch.now.dual.u)

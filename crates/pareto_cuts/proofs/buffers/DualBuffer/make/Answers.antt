@@ -4,7 +4,7 @@ use Rattle.hub_spec.specs.Cuts.{Prices}
 use Rattle.hub_spec.specs.Separation.{minimal_dual}
 use Rattle.hub_model.specs.Amounts.{natural}
 use Rattle.plan_model.specs.Prices.{natural_values, AreSignedPrices}
-use Rattle.hub_plain.proofs.Entries.{entries_again}
+use Rattle.plan_model.proofs.ListedValues.{listed_again}
 use Rattle.pareto_cuts.proofs.buffers.DualBuffer.make.Goals as goal
 
 pub invariant_of-self : goal.invariant_of-self
@@ -23,4 +23,4 @@ returns-clause-dual c =
     let fits : SFits w128 c.make_dual-self-inside.result = search (rules, arith) in
     let made : ℤ → List (ℕ × ℤ) → Prices = λ a u. record { a = natural a; u = natural_values u } in
     ap₂ made (to_z-of_z fits ∙ c.make_dual-self-inside.ensures.price) c.make_dual-self-inside.ensures.values
-    ∙ ap (λ (u : List (ℕ × ℕ)). record { a = d.a; u = u }) (entries_again d.u)
+    ∙ ap (λ (u : List (ℕ × ℕ)). record { a = d.a; u = u }) (listed_again d.u)
