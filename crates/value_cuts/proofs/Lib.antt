@@ -4,6 +4,4 @@ pub mod ValueSums
 pub mod Ends
 pub mod LeastLengths
 pub mod AddedValues
-pub mod ListedEntries
-pub mod MadeDuals
 pub mod PriceRows

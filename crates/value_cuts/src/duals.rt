@@ -10,6 +10,7 @@ ghost use Rattle.value_cuts.specs.Values.{node_value, allowed_price, value_dual}
 use crate::CandidateLegs;
 use crate::pricing::value_of;
 use hub_model::signed;
+use plan_model::list_value;
 use std::alloc::{AllocError, Global};
 use std::marker::Model;
 
@@ -104,8 +105,6 @@ fn list_values(tables: &CandidateLegs, flow: u64, unit: u32, row: &[u32], u: &mu
     u.clear();
     for x in 0..candidates.len() {
         let value = flow as u128 * value_of(ceiling, unit, row[x]) as u128;
-        if value > 0 {
-            u.push_reserved((candidates[x], signed(value)));
-        }
+        list_value(candidates[x], value, u);
     }
 }

@@ -1,15 +1,18 @@
-use Rattle.std.proofs.Common.{◌≡◌, ℕ, ◌*◌, ◌^◌, ◌<◌, ◌≤◌, List, length, slice_index, ap, sym, ◌∙◌, arith}
+use Rattle.std.proofs.Common.{◌≡◌, ℕ, ◌*◌, ◌<◌, ◌≤◌, List, length, slice_index, ap, sym, ◌∙◌, arith}
 use Rattle.std.proofs.lemmas.Nat.{mul-le}
 use Rattle.hub_spec.specs.Limits.{most_flow}
 use Rattle.hub_spec.specs.Problem.{Problem}
+use Rattle.plan_model.proofs.ListedValues.{listed_more}
 use Rattle.unit_duals.specs.Limits.{most_length}
 use Rattle.leg_tables.specs.CandidateLegs.{candidate_at}
 use Rattle.value_cuts.specs.Values.{node_value}
 use Rattle.value_cuts.proofs.NodeValues.{worked_value}
-use Rattle.value_cuts.proofs.ListedEntries.{listed_more, listed_same}
-use Rattle.value_cuts.proofs.MadeDuals.{as_natural}
 use Rattle.value_cuts.proofs.duals.list_values.Goals as goal
-use Rattle.value_cuts.proofs.duals.list_values.Goals.{then-value-gt0, else-value-gt0}
+
+pub list_value-requires-clause-limit : goal.list_value-requires-clause-limit
+list_value-requires-clause-limit c =
+    let low : c.value_of.result ≤ most_length = omega (arith, c.value_of.ensures, c.ceiling-ceiling.ensures.limit) in
+    omega (arith, mul-le c.args.flow c.value_of.result most_flow most_length c.requires.flow low)
 
 pub loop-x-preserved : goal.loop-x-preserved
 loop-x-preserved c =
@@ -22,23 +25,12 @@ loop-x-preserved c =
     let same = c.candidates-candidates.ensures.value ∙ ap (λ (q : Problem). q.candidates) c.instance.ensures.value in
     let within : x < length p.candidates = omega (arith, c.loop-x-test.true, ap (λ (ms : List ℕ). length ms) same) in
     let node : k ≡ candidate_at p x = ap (λ (ms : List ℕ). slice_index ms x) same in
-    let low : c.value_of.result ≤ most_length = omega (arith, c.value_of.ensures, c.ceiling-ceiling.ensures.limit) in
-    let small : n < 2 ^ 127 = omega (arith, mul-le c.args.flow c.value_of.result most_flow most_length c.requires.flow low) in
     let value : n ≡ v k =
     ap (λ (a : ℕ). c.args.flow * a) (worked_value p c.args.unit row x c.ceiling-ceiling.result c.value_of.result c.ceiling-ceiling.ensures.problem
     c.requires.row within c.ceiling-ceiling.ensures.value c.value_of.ensures) ∙ ap v (sym node) in
-    elim c.if-value-gt0.branch [
-      | then-value-gt0 w ↦
-          let listed = as_natural w.signed.result n w.signed.ensures small in
-          rw w.u-is (record {
-            entries = rw w.push_reserved.ensures.items
-                (listed_more v p.candidates x k n _ c.loop-x.u.items within node value w.if-value-gt0.true listed c.loop-x.invariant.entries);
-            few = omega (arith, w.push_reserved.ensures.len, c.loop-x.invariant.few);
-            room = omega (arith, w.push_reserved.ensures.capacity, c.loop-x.invariant.room);
-          })
-      | else-value-gt0 w ↦ rw w.u-is (record {
-        entries = listed_same v p.candidates x k n c.loop-x.u.items within node value w.if-value-gt0.false c.loop-x.invariant.entries;
-        few = omega (arith, c.loop-x.invariant.few);
-        room = c.loop-x.invariant.room;
-      })
-    ]
+    record {
+      entries = listed_more v p.candidates x k n c.loop-x.u.items c.list_value.new.list.items within node value c.list_value.ensures.are
+          c.loop-x.invariant.entries;
+      few = omega (arith, c.list_value.ensures.few, c.loop-x.invariant.few);
+      room = omega (arith, c.list_value.ensures.room, c.loop-x.invariant.room);
+    }

@@ -5,9 +5,8 @@ use Rattle.hub_spec.specs.Problem.{flow}
 use Rattle.hub_spec.specs.Separation.{values_listed}
 use Rattle.hub_model.specs.Amounts.{natural}
 use Rattle.plan_model.specs.Prices.{natural_values}
-use Rattle.hub_plain.proofs.Entries.{entries_again}
+use Rattle.plan_model.proofs.ListedValues.{listed_again, values_are_listed, signed_listed}
 use Rattle.value_cuts.specs.Values.{node_value, value_dual}
-use Rattle.value_cuts.proofs.MadeDuals.{signed_dual}
 use Rattle.value_cuts.proofs.duals.DualScratch.make.Goals as goal
 
 pub invariant_of-self : goal.invariant_of-self
@@ -19,7 +18,8 @@ invariant_of-self c =
     record {
       room = omega (arith, c.self.invariant.room, c.list_values.ensures.room);
       prices = rw (price, c.list_values.ensures.are)
-          (signed_dual (c.flow_between-flow.result * c.args.price) v p.candidates c.list_values.ensures.problem.candidates_ascend);
+          (signed_listed (c.flow_between-flow.result * c.args.price) (values_listed v p.candidates)
+          (values_are_listed v p.candidates c.list_values.ensures.problem.candidates_ascend));
     }
 
 pub returns-clause-dual : goal.returns-clause-dual
@@ -33,6 +33,6 @@ returns-clause-dual c =
     let made : ℤ → List (ℕ × ℤ) → Prices = λ a u. record { a = natural a; u = natural_values u } in
     let listed : ℕ → List (ℕ × ℕ) = λ f. values_listed (λ k. f * value k) p.candidates in
     ap₂ made (to_z-of_z fits ∙ c.signed-self-inside.ensures) c.list_values.ensures.are
-    ∙ ap (λ (u : List (ℕ × ℕ)). record { a = given * c.args.price; u = u }) (entries_again (listed given))
+    ∙ ap (λ (u : List (ℕ × ℕ)). record { a = given * c.args.price; u = u }) (listed_again (listed given))
     ∙ ap (λ (f : ℕ). record { a = f * c.args.price; u = listed f }) c.flow_between-flow.ensures.value
     ∙ ap (λ (a : ℕ). record { a = w * a; u = listed w }) c.requires.price
