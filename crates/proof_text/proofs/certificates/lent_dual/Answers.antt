@@ -3,8 +3,7 @@ use mir.Syntax.{w128}
 use Rattle.hub_spec.specs.Cuts.{Prices}
 use Rattle.hub_model.specs.Amounts.{natural}
 use Rattle.plan_model.specs.Prices.{natural_values, signed_values}
-use Rattle.hub_plain.proofs.Entries.{entries_again}
-use Rattle.pareto_cuts.proofs.LentDuals.{signed_listed}
+use Rattle.plan_model.proofs.ListedValues.{listed_again, signed_listed}
 use Rattle.kept_cuts.specs.Kept.{kept_of}
 use Rattle.proof_text.specs.Lenders.{made_dual}
 use Rattle.proof_text.proofs.certificates.lent_dual.Goals as goal
@@ -31,4 +30,4 @@ returns c =
     let made = made_dual (kept_of c.args.kept.now) c.args.lender.now in
     let w = (goal.at.returns c).In_ok-to_vec in
     c.new.ensures ∙ ap₂ as_dual (price w) (listed w)
-    ∙ ap (λ (u : List (ℕ × ℕ)). record { a = made.a; u = u }) (entries_again made.u)
+    ∙ ap (λ (u : List (ℕ × ℕ)). record { a = made.a; u = u }) (listed_again made.u)

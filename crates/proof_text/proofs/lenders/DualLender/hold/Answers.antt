@@ -3,7 +3,7 @@ use mir.Syntax.{w128}
 use Rattle.hub_spec.specs.Cuts.{Prices}
 use Rattle.hub_model.specs.Amounts.{natural}
 use Rattle.plan_model.specs.Prices.{natural_values}
-use Rattle.hub_plain.proofs.Entries.{entries_again}
+use Rattle.plan_model.proofs.ListedValues.{listed_again}
 use Rattle.pareto_cuts.proofs.LentDuals.{signed_listed}
 use Rattle.kept_cuts.specs.Kept.{kept_of}
 use Rattle.kept_cuts.specs.declared.kept.KeptCut.{KeptCut}
@@ -35,7 +35,7 @@ returns-in-Values c =
     let fits : SFits w128 c.dual-a.result.0 = search (rules, arith) in
     let held : c.copy.new.self.dual ≡ s.values.dual = c.copy.ensures.dual
     ∙ ap₂ copied (to_z-of_z fits ∙ c.dual-a.ensures.price) c.dual-a.ensures.values
-    ∙ ap (λ (u : List (ℕ × ℕ)). record { a = d.a; u = u }) (entries_again d.u)
+    ∙ ap (λ (u : List (ℕ × ℕ)). record { a = d.a; u = u }) (listed_again d.u)
     ∙ ap (λ (t : LenderState). t.values.dual) c.self.view_is in
     (λ t. record { values = (c.self.view_is t).values; sets = (c.self.view_is t).sets; held = held t })
     ∙ ap (λ (kept : KeptCut). record { values = s.values; sets = s.sets; held = made_dual (kept_of kept) s }) (sym c.in-Values.is)
@@ -47,7 +47,7 @@ returns-in-Set c =
     let fits : SFits w128 c.dual-a-in-Set.result.0 = search (rules, arith) in
     let held : c.copy-in-Set.new.self.dual ≡ s.sets.dual = c.copy-in-Set.ensures.dual
     ∙ ap₂ copied (to_z-of_z fits ∙ c.dual-a-in-Set.ensures.price) c.dual-a-in-Set.ensures.values
-    ∙ ap (λ (u : List (ℕ × ℕ)). record { a = d.a; u = u }) (entries_again d.u)
+    ∙ ap (λ (u : List (ℕ × ℕ)). record { a = d.a; u = u }) (listed_again d.u)
     ∙ ap (λ (t : LenderState). t.sets.dual) c.self.view_is in
     (λ t. record { values = (c.self.view_is t).values; sets = (c.self.view_is t).sets; held = held t })
     ∙ ap (λ (kept : KeptCut). record { values = s.values; sets = s.sets; held = made_dual (kept_of kept) s }) (sym c.in-Set.is)
