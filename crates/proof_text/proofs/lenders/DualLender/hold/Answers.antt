@@ -3,8 +3,7 @@ use mir.Syntax.{w128}
 use Rattle.hub_spec.specs.Cuts.{Prices}
 use Rattle.hub_model.specs.Amounts.{natural}
 use Rattle.plan_model.specs.Prices.{natural_values}
-use Rattle.plan_model.proofs.ListedValues.{listed_again}
-use Rattle.pareto_cuts.proofs.LentDuals.{signed_listed}
+use Rattle.plan_model.proofs.ListedValues.{listed_again, signed_listed}
 use Rattle.kept_cuts.specs.Kept.{kept_of}
 use Rattle.kept_cuts.specs.declared.kept.KeptCut.{KeptCut}
 use Rattle.proof_text.specs.Lenders.{LenderState, made_dual}
