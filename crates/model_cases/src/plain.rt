@@ -6,10 +6,10 @@ ghost use Rattle.hub_spec.specs.Plans.{IsHubSet};
 use crate::words::{first, list, node};
 use hub_model::Instance;
 use hub_plain::{
-    assign, best_plan, is_hub_set, is_plan, least_route, minimal_dual, outside, plan_cost,
-    set_cost, set_cut_rows,
+    assign, best_plan, is_hub_set, is_plan, least_route, minimal_dual, outside, set_cost,
+    set_cut_rows,
 };
-use plan_model::HubSet;
+use plan_model::{HubSet, plan_cost};
 use std::alloc::{AllocError, Global};
 
 /// What an optimal plan costs, by its routes.
@@ -18,7 +18,7 @@ pub fn best(alloc: Global, instance: &Instance) -> Result<String, AllocError> {
     if !is_plan(instance, &plan) {
         return String::from_str(alloc, "no plan");
     }
-    let cost = plan_cost(instance, &plan);
+    let cost = plan_cost(instance, plan.hubs(), plan.routes());
     format!(in alloc; "cost {cost}")
 }
 
