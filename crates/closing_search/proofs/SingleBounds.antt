@@ -4,7 +4,7 @@ use Rattle.std.specs.List.{AllZip}
 use Rattle.std.specs.Int.{int_min}
 use Rattle.std.proofs.lemmas.Int.{ints, clamps}
 use Rattle.std.proofs.lemmas.List.{length-map}
-use Rattle.std.proofs.lemmas.List.Elements.{All-nil, All-cons, All-weaker, All-map, All-from_get_or, All-contains}
+use Rattle.std.proofs.lemmas.List.Elements.{All-nil, All-cons, All-map, All-from_get_or, All-contains}
 use Rattle.std.proofs.lemmas.List.Sums.{sum_by-cons}
 use Rattle.hub_spec.specs.Limits.{most_part, most_cost, most_fixed_cost}
 use Rattle.hub_spec.specs.Sums.{sum_ints}
@@ -15,15 +15,15 @@ use Rattle.hub_spec.proofs.LeastSums.{least_not_below}
 use Rattle.hub_spec.proofs.SumLemmas.{by_test}
 use Rattle.hub_spec.proofs.Sets.{is_in, is_in-yes, Contains-from_is_in}
 use Rattle.hub_spec.proofs.SetCuts.{unlisted_value}
-use Rattle.hub_spec.proofs.Mixes.{candidate_is_node}
 use Rattle.hub_model.specs.Amounts.{natural, IsNatural}
 use Rattle.hub_model.proofs.Signs.{natural-pos}
 use Rattle.leaf_bound.specs.declared.weightings.Weighting as lent
 use Rattle.leaf_bound.specs.Bounds.{bound_of}
-use Rattle.leaf_bound.specs.Numbers.{naturals, IsSumOf, AreWeightingNumbers, IsBranchBelow, weighting_of}
+use Rattle.leaf_bound.specs.Numbers.{naturals, IsSumOf, AreWeightingNumbers, weighting_of}
 use Rattle.leaf_bound.specs.Theorems.{weight_pairs, AreLoadsOf, IsWeightingOf}
 use Rattle.leaf_bound.proofs.LeafWeights.{leaf_has_bound}
 use Rattle.search_spec.specs.States.{denominator}
+use Rattle.search_core.proofs.Weightings.{is_sum, below_size}
 use Rattle.closing_search.specs.SingleCuts.{AreLoads, IsOnCut, IsOnNone, cut_bound}
 
 -- ---- the loads of a cut are within their limit, at each node
@@ -62,27 +62,9 @@ total_within p cut sum loads are =
 
 -- ---- numbers
 
-is_sum : (n : ℕ) → n ≤ most_cost → IsSumOf 1 (pos n)
-is_sum n low = (omega (arith, ints), omega (arith, ints, low))
-
 -- the limit of a fixed cost
 abbrev IsFixedCost : ℕ → Type 0
 IsFixedCost cost = cost ≤ most_fixed_cost
-
-nodes_below : (p : Problem) (ks : List ℕ) → IsProblem p → All (Contains p.candidates) ks → All (λ k. k < p.size) ks
-nodes_below p ks ok are = All-weaker (Contains p.candidates) (λ k. k < p.size) (λ k c. candidate_is_node p k ok c) ks are
-
-below_size : (p : Problem) (b : Branching) → IsProblem p → IsBranch p b → IsBranchBelow p.size b
-below_size p b ok is = record {
-  inside = nodes_below p b.inside ok is.inside_are;
-  outside = nodes_below p b.outside ok is.outside_are;
-  free = nodes_below p b.free ok is.free_are;
-}
-
-pub branch_below : (p : Problem) (fixed : List ℕ) (b : Branching) → IsProblem p → fixed ≡ p.fixed_costs → IsBranch p b
-    → IsBranchBelow (length fixed) b
-branch_below p fixed b ok costs is =
-    subst (λ (n : ℕ). IsBranchBelow n b) (sym (ap length costs ∙ ok.cost_for_each_node)) (below_size p b ok is)
 
 row_sums : (p : Problem) (cut : Cut) (sum : ℕ) (loads : List ℕ) → AreLoads p cut sum loads
     → All (IsSumOf 1) (map pos loads)

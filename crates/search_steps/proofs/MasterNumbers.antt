@@ -19,12 +19,12 @@ use Rattle.frac_master.specs.Theorems.{IsMaster, IsMixed}
 use Rattle.frac_master.proofs.MasterTables.{weights_are_a_mix}
 use Rattle.search_spec.specs.States.{denominator}
 use Rattle.cut_pool.specs.Entries.{Entry}
+use Rattle.search_core.proofs.Weightings.{below_size, branch_below}
 use Rattle.search_steps.specs.Pools.{entry_cut, IsSumsOf, IsPoolOf, pool_cuts, state_by}
 use Rattle.search_steps.specs.Advising.{master_numbers, told_by, in_parts, advised_on, master_advising}
 use Rattle.search_steps.specs.Weights.{AreNodeWeights}
 use Rattle.search_steps.specs.Theorems.{AdvisingIsSound}
 use Rattle.search_steps.proofs.PoolNumbers.{lent_totals, lent_loads, lent_parts, parts_are, naturals_totals, naturals_loads, loads_least, loads_below, loads_long}
-use Rattle.search_steps.proofs.Weighed.{below_size, branch_below}
 
 -- the numbers are those that the pool lends, with the problem's fixed costs
 pub record AreMasters (p : Problem) (entries : List Entry) (totals : List ℤ) (loads : List (List ℤ)) (fixed : List ℕ) : Type 0 where

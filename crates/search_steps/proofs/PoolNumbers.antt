@@ -2,7 +2,6 @@
 use Rattle.std.proofs.Common.{◌≡◌, ℕ, ◌*◌, ◌/◌, ◌^◌, ◌<◌, ◌≤◌, slice_index, ℤ, pos, List, [], ◌∷◌, length, map, get_or, All, refl, sym, ap, ap₂, ◌∙◌, arith}
 use Rattle.std.specs.List.{AllZip}
 use Rattle.std.proofs.Math.Nat.{div-one}
-use Rattle.std.proofs.lemmas.Int.{ints}
 use Rattle.std.proofs.lemmas.List.{length-map}
 use Rattle.std.proofs.lemmas.Grind.{same_number_lists}
 use Rattle.std.proofs.lemmas.List.FromFn.{get_or-map-range_with_len, length-map-range_with_len}
@@ -23,6 +22,7 @@ use Rattle.leaf_bound.specs.Theorems.{AreLoadsOf}
 use Rattle.frac_master.specs.Masters.{AreShortRows, AreWithinTotals, halved}
 use Rattle.cut_pool.specs.Entries.{Entry}
 use Rattle.cut_pool.specs.Shorts.{Shorts, AreShortLoads}
+use Rattle.search_core.proofs.Weightings.{is_sum}
 use Rattle.search_steps.specs.Pools.{entry_cut, IsSumsOf, IsPoolOf, pool_cuts}
 use Rattle.search_steps.specs.Advising.{node_loads}
 
@@ -91,10 +91,6 @@ loads_below p (e ∷ entries) ok are =
           (λ k low. load_below p e k ok is (omega (arith, low, is.one_load_each)))),
       loads_below p entries ok (All-tail (IsSumsOf p) e entries are),
     )
-
--- with the part 1 the limits are those of sums
-is_sum : (n : ℕ) → n ≤ most_cost → IsSumOf 1 (pos n)
-is_sum n low = (omega (arith, ints), omega (arith, ints, low))
 
 pub totals_sums : (p : Problem) (entries : List Entry) → IsProblem p → IsPoolOf p entries
     → AllZip IsSumOf (lent_parts entries) (lent_totals entries)

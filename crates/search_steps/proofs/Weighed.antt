@@ -1,15 +1,13 @@
 -- The bound that a node's weights give is the bound in the search's state.
-use Rattle.std.proofs.Common.{◌≡◌, ℕ, ◌*◌, ◌<◌, ◌≤◌, ℤ, pos, ◌-ℤ◌, ◌<ℤ◌, List, length, map, get_or, All, Contains, Option, Bool, true, false, if◌then◌else◌, IsTrue, ◌↔◌, int_lt, refl, sym, ap, ap₂, subst, ◌∙◌, arith}
+use Rattle.std.proofs.Common.{◌≡◌, ℕ, ◌*◌, ◌≤◌, ℤ, pos, ◌-ℤ◌, ◌<ℤ◌, List, length, map, get_or, All, Option, Bool, true, false, if◌then◌else◌, IsTrue, ◌↔◌, int_lt, refl, sym, ap, ap₂, subst, ◌∙◌, arith}
 use Rattle.std.specs.List.{AllZip}
 use Rattle.std.proofs.lemmas.Bool.{false≢true}
 use Rattle.std.proofs.lemmas.Int.{ints}
 use Rattle.std.proofs.lemmas.List.{length-map}
-use Rattle.std.proofs.lemmas.List.Elements.{All-weaker}
 use Rattle.hub_spec.specs.Limits.{most_part, most_fixed_cost}
 use Rattle.hub_spec.specs.Problem.{Problem, IsProblem, fixed_cost}
 use Rattle.hub_spec.specs.Trees.{Branching, leaf_bound, IsBranch}
 use Rattle.hub_spec.proofs.SumLemmas.{by_test}
-use Rattle.hub_spec.proofs.Mixes.{candidate_is_node}
 use Rattle.hub_model.specs.Amounts.{natural, IsNatural}
 use Rattle.leaf_bound.specs.declared.weightings.Weighting as lent
 use Rattle.leaf_bound.specs.Bounds.{AreMultiples, bound_of}
@@ -20,6 +18,7 @@ use Rattle.search_spec.specs.States.{State}
 use Rattle.search_spec.specs.Steps.{bound_at, closes_at, better}
 use Rattle.hub_fixing.specs.Fixing.{closes_by}
 use Rattle.cut_pool.specs.Entries.{Entry}
+use Rattle.search_core.proofs.Weightings.{below_size, branch_below}
 use Rattle.search_steps.specs.Pools.{entry_cut, IsPoolOf, pool_cuts, state_by}
 use Rattle.search_steps.specs.Weights.{AreNodeWeights, IsNodeWeighting, pairs_of}
 use Rattle.search_steps.proofs.PoolNumbers.{totals_sums, loads_sums, parts_least, multiples_of_one, parts_are, naturals_totals, loads_zip}
@@ -53,21 +52,6 @@ weighting_numbers p entries weights m lent =
       denom_least = rw lent.is.is_denom (omega (arith, ints));
       denom_most = rw lent.is.is_denom (omega (arith, ints));
     }
-
-nodes_below : (p : Problem) (ks : List ℕ) → IsProblem p → All (Contains p.candidates) ks → All (λ k. k < p.size) ks
-nodes_below p ks ok are = All-weaker (Contains p.candidates) (λ k. k < p.size) (λ k c. candidate_is_node p k ok c) ks are
-
-pub below_size : (p : Problem) (b : Branching) → IsProblem p → IsBranch p b → IsBranchBelow p.size b
-below_size p b ok is = record {
-  inside = nodes_below p b.inside ok is.inside_are;
-  outside = nodes_below p b.outside ok is.outside_are;
-  free = nodes_below p b.free ok is.free_are;
-}
-
-pub branch_below : (p : Problem) (fixed : List ℕ) (b : Branching) → IsProblem p → fixed ≡ p.fixed_costs → IsBranch p b
-    → IsBranchBelow (length fixed) b
-branch_below p fixed b ok costs is =
-    subst (λ (n : ℕ). IsBranchBelow n b) (sym (ap length costs ∙ ok.cost_for_each_node)) (below_size p b ok is)
 
 pub weighted_below : (p : Problem) (entries : List Entry) (weights : List ℤ) (m : lent.Weighting) (b : Branching)
     → AreLent p entries weights m → IsBranch p b → IsBranchBelow (length m.fixed.now) b

@@ -1,7 +1,8 @@
 use Rattle.std.proofs.Common.{◌∙◌, FitsSigned, rules}
 use Rattle.std.specs.Int.{w128}
 use Rattle.std.proofs.lemmas.Int.{to_z-of_z}
-use Rattle.closing_search.proofs.SingleBounds.{none_numbers, branch_below, none_bound_is}
+use Rattle.search_core.proofs.Weightings.{branch_below}
+use Rattle.closing_search.proofs.SingleBounds.{none_numbers, none_bound_is}
 use Rattle.closing_search.proofs.bounds.bare_bound.Goals as goal
 
 pub bound-requires-clause-numbers : goal.bound-requires-clause-numbers

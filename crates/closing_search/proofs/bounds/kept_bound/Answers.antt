@@ -5,10 +5,11 @@ use Rattle.std.proofs.lemmas.Int.{to_z-of_z}
 use Rattle.hub_spec.specs.Problem.{Problem, IsProblem}
 use Rattle.hub_spec.specs.Trees.{cut_at}
 use Rattle.kept_cuts.specs.Kept.{KeptList, kept_cuts, kept_part, AreKeptFor}
+use Rattle.search_core.proofs.Weightings.{branch_below}
 use Rattle.closing_search.specs.Progressing.{cuts_of}
 use Rattle.closing_search.specs.SingleCuts.{AreLentOf, IsOnCut}
 use Rattle.closing_search.proofs.KeptSums.{map-slice_range, kept_at_number}
-use Rattle.closing_search.proofs.SingleBounds.{cut_numbers, branch_below, cut_bound_is}
+use Rattle.closing_search.proofs.SingleBounds.{cut_numbers, cut_bound_is}
 use Rattle.closing_search.proofs.bounds.kept_bound.Goals as goal
 use Rattle.closing_search.proofs.bounds.kept_bound.Goals.{After-cut_weighting}
 

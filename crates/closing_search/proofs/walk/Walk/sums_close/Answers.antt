@@ -2,8 +2,9 @@ use Rattle.std.proofs.Common.{◌≡◌, ℤ, pos, [], ◌∷◌, map, refl, ap,
 use Rattle.std.specs.Int.{w128}
 use Rattle.std.proofs.lemmas.Int.{to_z-of_z}
 use Rattle.hub_spec.specs.Cuts.{Cut}
+use Rattle.search_core.proofs.Weightings.{branch_below}
 use Rattle.closing_search.specs.SingleCuts.{AreLoads, IsOnCut}
-use Rattle.closing_search.proofs.SingleBounds.{loads_within, total_within, cut_numbers, branch_below, cut_bound_is}
+use Rattle.closing_search.proofs.SingleBounds.{loads_within, total_within, cut_numbers, cut_bound_is}
 use Rattle.closing_search.proofs.walk.Walk.sums_close.Goals as goal
 use Rattle.closing_search.proofs.walk.Walk.sums_close.Goals.{After-cut_weighting-weighting}
 
