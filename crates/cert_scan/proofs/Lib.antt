@@ -21,3 +21,4 @@ pub mod Repeated
 pub mod Tight
 pub mod Sifted
 pub mod ScanBytes
+pub mod Letters

@@ -1,5 +1,5 @@
 -- The bytes that a run takes.
-use Rattle.std.specs.Prelude.{◌≡◌, ℕ, ◌-◌, ◌≤◌, false, List, [], ◌∷◌, length, take, Option, Some, None, option_to_list, nat_eq}
+use Rattle.std.specs.Prelude.{◌≡◌, ℕ, ◌+◌, ◌-◌, ◌<◌, ◌≤◌, false, List, [], ◌∷◌, length, take, slice_index, Option, Some, None, option_to_list, nat_eq}
 use Rattle.cert_scan.specs.Moves.{with_digit_of}
 use Rattle.cert_scan.specs.Scans.{scanned, given_all}
 use Rattle.cert_scan.specs.declared.items.Item.{Item}
@@ -10,6 +10,11 @@ abbrev pub SpellsOn : Option ℕ → List ℕ → Option ℕ → Type 0
 SpellsOn value [] last = value ≡ last
 SpellsOn value (byte ∷ bytes) last =
     (more : ℕ) × (48 ≤ byte) × (byte ≤ 57) × (with_digit_of value (byte - 48) ≡ Some more) × SpellsOn (Some more) bytes last
+
+-- the bytes go on with a word of which so many letters have come
+abbrev pub GoesOn : List ℕ → ℕ → List ℕ → Type 0
+GoesOn word matched [] = Unit
+GoesOn word matched (byte ∷ bytes) = (matched < length word) × (byte ≡ slice_index word matched) × GoesOn word (matched + 1) bytes
 
 -- none of the bytes ends a line
 abbrev pub HasNoLineEnd : List ℕ → Type 0

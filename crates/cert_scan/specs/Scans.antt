@@ -37,13 +37,13 @@ line_by line position = line
 abbrev pub sifted : Scan → Move → Move
 sifted scan next = if repeats_by scan.shape.version scan.so_far next.item then refusal true else next
 
--- the scan that has noted what a move gives
-abbrev pub with_item : Scan → Option Item → Scan
+-- the scan that has noted an item
+abbrev pub with_item : Scan → Item → Scan
 with_item scan item = record {
-  shape = scan.shape;
+  shape = shape_by scan.shape (Some item);
   line = scan.line;
   position = scan.position;
-  so_far = noted_by scan.shape.version scan.so_far item;
+  so_far = noted_by scan.shape.version scan.so_far (Some item);
 }
 
 -- the scan behind a move

@@ -1,5 +1,6 @@
 //! The first word of a line, by what the line is.
-ghost use Rattle.std.specs.Prelude.{◌≡◌};
+ghost use Rattle.std.specs.Prelude.{◌≡◌, ◌+◌, ◌≤◌, ◌⊎◌, length, take};
+ghost use Rattle.cert_scan.specs.Runs.{GoesOn};
 ghost use Rattle.cert_scan.specs.Moves.{head_at, keyword_of, first_place_of, duals_line_of, turned_by};
 
 use crate::items::Version;
@@ -83,6 +84,25 @@ pub(crate) fn form(head: Head) -> (&'static [u8], Option<Place>)
         Head::EmptyLine(_) => (b"empty", None),
         Head::EndLine => (b"end", None),
     }
+}
+
+// How many of the bytes go on with the line's first word, of which so many letters have come.
+pub(crate) fn letters_ahead(head: Head, matched: usize, bytes: &[u8]) -> usize
+    ensures within { result ≤ length bytes.now }
+    ensures room { (result ≡ 0) ⊎ (matched + result ≤ length (keyword_of head)) }
+    ensures letters { GoesOn (keyword_of head) matched (take result bytes.now) }
+{
+    let (word, _) = form(head);
+    if matched >= word.len() {
+        return 0;
+    }
+    let limit = bytes.len().min(word.len() - matched);
+    for i in 0..limit {
+        if bytes[i] != word[matched + i] {
+            return i;
+        }
+    }
+    limit
 }
 
 // The line that this one turns out to be, where its first word goes on with the byte behind so many letters.

@@ -57,7 +57,9 @@ impl DualSoFar {
         }
     }
 
-    // Takes an item, and tells whether it ends a dual that repeats the one before it.
+    // Takes an item, and tells whether it ends a dual that repeats the one before it. The first version calls it never, and
+    // is to be spared its code.
+    #[inline(never)]
     pub(crate) fn note(&mut self, item: Item) -> bool
         ensures after { self.new ≡ noted self.old item }
         ensures repeats { result ≡ ends_repeat self.old item }

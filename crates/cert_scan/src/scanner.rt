@@ -1,5 +1,5 @@
 //! A scan of the bytes of a text.
-ghost use Rattle.std.specs.Prelude.{◌≡◌, ℕ, ◌-◌, ◌++◌, ◌≤◌, List, [], ◌∷◌, length, take, None, IfSome, option_to_list};
+ghost use Rattle.std.specs.Prelude.{◌≡◌, ℕ, ◌-◌, ◌++◌, ◌≤◌, List, [], ◌∷◌, length, take, Some, None, IfSome, option_to_list};
 ghost use Rattle.hub_spec.specs.Certificates.{Proof};
 ghost use Rattle.cert_spec.specs.Text.{Spells};
 ghost use Rattle.cert_scan.specs.Scans.{
@@ -8,7 +8,6 @@ ghost use Rattle.cert_scan.specs.Scans.{
   scanned,
   given_all,
   given_by,
-  shape_by,
   sifted,
   with_item,
   moved,
@@ -16,6 +15,7 @@ ghost use Rattle.cert_scan.specs.Scans.{
   fault_at,
   fault_by,
 };
+ghost use Rattle.cert_scan.specs.Repeats.{repeats_by};
 ghost use Rattle.cert_scan.specs.Parts.{items_of};
 ghost use Rattle.cert_scan.specs.Given.{IsGiven};
 ghost use Rattle.cert_scan.specs.Scanned.{HasScanned, IsLost, AreCountable, Tells, IsLineAtHand};
@@ -25,9 +25,10 @@ ghost use Rattle.cert_scan.specs.declared.items.Item.{Item as ItemOf};
 
 use crate::bytes::{Move, Position, after_byte};
 use crate::digits::more_digits;
+use crate::heads::letters_ahead;
 use crate::items::{Fault, Item, Version};
 use crate::pairs::pair_ahead;
-use crate::places::{Place, refused, take_value};
+use crate::places::{Place, take_value};
 use crate::repeats::DualSoFar;
 use crate::stages::{Shape, Stage};
 use memchr::memchr;
@@ -145,8 +146,9 @@ impl Scan {
         (at, None)
     }
 
-    // Takes bytes of which none can give an item, at once, and tells how many: digits that go on with the number that
-    // stands, what is left of a line that is not as wanted, and all that stands behind such a line.
+    // Takes bytes of which none can give an item, at once, and tells how many: letters that go on with the first word of
+    // the line, digits that go on with the number that stands, what is left of a line that is not as wanted, and all that
+    // stands behind such a line.
     fn take_quietly(&mut self, bytes: &[u8]) -> usize
         ensures within { result ≤ length bytes.now }
         ensures after { self.new ≡ scanned self.old (take result bytes.now) }
@@ -156,6 +158,11 @@ impl Scan {
             Position::Number(place, value) => {
                 let (count, more) = more_digits(value, bytes);
                 self.position = Position::Number(place, more);
+                count
+            }
+            Position::Keyword(head, matched) => {
+                let count = letters_ahead(head, matched, bytes);
+                self.position = Position::Keyword(head, matched + count);
                 count
             }
             Position::Spoiled => line_rest(bytes),
@@ -191,32 +198,38 @@ impl Scan {
         self.go(after_byte(self.shape, self.position, byte))
     }
 
+    // In its callers, so that the position of a move is written once.
+    #[inline(always)]
     fn go(&mut self, next: Move) -> Option<Item>
         ensures given { result ≡ (sifted self.old next).item }
         ensures after { self.new ≡ moved self.old next }
     {
-        let kept = self.sift(next);
-        self.shape = shape_after(self.shape, kept.item);
-        self.line = line_after(self.line, kept.position);
-        self.position = kept.position;
-        kept.item
+        if let Some(item) = next.item {
+            if self.notes_repeat(item) {
+                self.position = Position::Failed;
+                return None;
+            }
+        }
+        self.line = line_after(self.line, next.position);
+        self.position = next.position;
+        next.item
     }
 
-    // The move, if no dual ends with it that repeats the one before it.
-    fn sift(&mut self, next: Move) -> Move
-        ensures kept { result ≡ sifted self.old next }
-        ensures noted { self.new ≡ with_item self.old next.item }
+    // Takes what an item tells of the text, and tells whether it ends a dual that repeats the one before it.
+    fn notes_repeat(&mut self, item: Item) -> bool
+        ensures told { result ≡ repeats_by self.old.shape.version self.old.so_far (Some item) }
+        ensures noted { self.new ≡ with_item self.old item }
     {
-        let Some(item) = next.item else {
-            return next;
-        };
-        if let Version::First = self.shape.version {
-            return next;
+        match item {
+            Item::Version(version) => self.shape.version = version,
+            Item::Size { n, .. } => self.shape.n = n,
+            _ => {
+                if let Version::Second = self.shape.version {
+                    return self.so_far.note(item);
+                }
+            }
         }
-        if self.so_far.note(item) {
-            return refused(true);
-        }
-        next
+        false
     }
 }
 
@@ -235,22 +248,6 @@ fn fault_of(line: u64, position: Position) -> Option<Fault>
         Position::Start(Stage::Nothing) => None,
         Position::Failed => Some(Fault::BadLine { line }),
         _ => Some(Fault::Ended { line }),
-    }
-}
-
-fn shape_after(shape: Shape, item: Option<Item>) -> Shape
-    ensures { result ≡ shape_by shape item }
-{
-    match item {
-        Some(Item::Version(version)) => Shape {
-            version,
-            n: shape.n,
-        },
-        Some(Item::Size { n, .. }) => Shape {
-            version: shape.version,
-            n,
-        },
-        _ => shape,
     }
 }
 
