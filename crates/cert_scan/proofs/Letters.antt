@@ -2,9 +2,9 @@
 use Rattle.std.proofs.Common.{◌≡◌, ℕ, ◌+◌, ◌<◌, ◌&&◌, List, [], ◌∷◌, ◌++◌, length, get_or, nat_eq, nat_lt, refl, sym, ap, ◌∙◌, arith}
 use Rattle.std.proofs.lemmas.Bool.{cond-true, and_from, lt-ltb, eq-eqb}
 use Rattle.cert_scan.specs.Moves.{move, keyword_of, moved_by}
-use Rattle.cert_scan.specs.Scans.{scanned, given_all}
+use Rattle.cert_scan.specs.Scans.{put, scanned, given_all}
 use Rattle.cert_scan.specs.Runs.{GoesOn}
-use Rattle.cert_scan.proofs.ScanBytes.{put, quiet_scanned, quiet_given}
+use Rattle.cert_scan.proofs.ScanBytes.{quiet_scanned, quiet_given}
 use Rattle.cert_scan.specs.declared.bytes.Position.TheVariants.{Keyword}
 use Rattle.cert_scan.specs.declared.heads.Head.{Head}
 use Rattle.cert_scan.specs.declared.stages.Shape.{Shape}

@@ -1,13 +1,14 @@
 -- A run that takes a node and a value of a dual.
 use Rattle.std.proofs.Common.{◌≡◌, ℕ, ◌+◌, ◌-◌, ◌^◌, ◌&&◌, ◌<◌, ◌≤◌, Bool, true, false, List, length, take, drop, get_or, Option, Some, None, nat_le, nat_lt, refl, sym, ap, ◌∙◌, subst, arith}
 use Rattle.std.proofs.lemmas.List.{length-drop, length-take-le}
-use Rattle.std.proofs.lemmas.Bool.{cond_both, cond-true, and_from, le-leb, lt-ltb}
+use Rattle.std.proofs.lemmas.Bool.{cond_both, cond-true, cond-false, and_from, le-leb, lt-ltb}
 use Rattle.cert_scan.specs.Moves.{moved_by, taken_by, move, refusal, open_by, amount_limit, stage_after_dual, follows}
-use Rattle.cert_scan.specs.Repeats.{repeats_by}
-use Rattle.cert_scan.specs.Scans.{sifted, moved}
+use Rattle.cert_scan.specs.Repeats.{noted_by, repeats_by}
+use Rattle.cert_scan.specs.Scans.{shape_by, line_by, put, with_item, sifted, moved}
 use Rattle.cert_scan.specs.Runs.{Runs}
 use Rattle.cert_scan.specs.PairAhead.{IsPairAhead}
-use Rattle.cert_scan.proofs.ScanBytes.{put, quiet_step, quiet_gives}
+use Rattle.cert_scan.proofs.ScanBytes.{quiet_step, quiet_gives}
+use Rattle.cert_scan.proofs.Tracks.{open_quiet}
 use Rattle.cert_scan.proofs.Stepping.{HasRun, digits_after, digits_nothing, digits_scanned, digits_give, run_digits, run_byte, run_item, run_end, failed_after, failed_nothing}
 use Rattle.cert_scan.specs.declared.items.Version.{Version as TextVersion}
 use Rattle.cert_scan.specs.declared.items.Version.TheVariants.{First, Second}
@@ -94,14 +95,21 @@ open_given true item place stage e = cc
 open_given false item place stage e = cc
 
 -- a value in range gives an item
+value_fits : (sh : Shape) (value : ℕ) → 1 ≤ value → value < 2 ^ 64 → (nat_le 1 value && nat_lt value (amount_limit sh.version)) ≡ true
+value_fits sh value some few =
+    and_from (nat_le 1 value) (nat_lt value (amount_limit sh.version)) (le-leb 1 value some)
+    (lt-ltb value (amount_limit sh.version) (omega (arith, few, limit_least sh.version)))
+
 value_given : (sh : Shape) (run : Run) (number value : ℕ) (last : Bool) → 1 ≤ value → value < 2 ^ 64
     → (taken_by sh (ValueAmount run number) value last).item ≡ None → ⊥
 value_given sh run number value last some few e =
-    let fits : (nat_le 1 value && nat_lt value (amount_limit sh.version)) ≡ true =
-    and_from (nat_le 1 value) (nat_lt value (amount_limit sh.version)) (le-leb 1 value some)
-    (lt-ltb value (amount_limit sh.version) (omega (arith, few, limit_least sh.version))) in
     open_given last (pair_item (number - 1) value last) (ValueNode run number) (stage_after_dual sh.n run)
-    (sym (ap (λ (m : Move). m.item) (cond-true (nat_le 1 value && nat_lt value (amount_limit sh.version)) _ (refusal last) fits)) ∙ e)
+    (sym (ap (λ (m : Move). m.item) (cond-true (nat_le 1 value && nat_lt value (amount_limit sh.version)) _ (refusal last) (value_fits sh value some few))) ∙ e)
+
+value_moves : (sh : Shape) (run : Run) (number value : ℕ) → 1 ≤ value → value < 2 ^ 64
+    → taken_by sh (ValueAmount run number) value false ≡ move (Number (ValueNode run number) None) (Some (pair_item (number - 1) value false))
+value_moves sh run number value some few =
+    cond-true (nat_le 1 value && nat_lt value (amount_limit sh.version)) _ (refusal false) (value_fits sh value some few)
 
 -- a move with an item that is not given fails
 sifted_failed : (s : Scan) (next : Move) → (next.item ≡ None → ⊥) → (sifted s next).item ≡ None → (sifted s next).position ≡ Failed
@@ -132,3 +140,25 @@ pair_fails old new run before bytes pair item next is ahead taken gives after no
     run_digits old new new bytes count (length bytes - count) pair_run (omega (arith, long)) (failed_after new rest failed) (failed_nothing new rest failed) in
     let whole : count + (length bytes - count) ≡ length bytes = omega (arith, room) in
     run_end old new bytes (length bytes) (subst (λ k. HasRun old bytes k new) whole all) (omega arith)
+
+-- a pair behind which the line goes on
+pub pair_lists : (old new : Scan) (run : Run) (before : ℕ) (bytes : List ℕ) (pair : Pair) (item : Item)
+    → old.position ≡ Number (ValueNode run before) None → IsPairAhead old.shape.n before bytes pair → pair.last ≡ false
+    → item ≡ pair_item (pair.number - 1) pair.value false
+    → new ≡ with_item (put old (Number (ValueNode run pair.number) None)) item
+    → Runs old bytes (pair.front + 1 + pair.back + 1) (Some item) new
+pair_lists old new run before bytes pair item is ahead more given after =
+    let listed : Item = pair_item (pair.number - 1) pair.value false in
+    let next : Move = move (Number (ValueNode run pair.number) None) (Some (pair_item (pair.number - 1) pair.value false)) in
+    let taken : next ≡ taken_by old.shape (ValueAmount run pair.number) pair.value pair.last =
+    sym (ap (taken_by old.shape (ValueAmount run pair.number) pair.value) more ∙ value_moves old.shape run pair.number pair.value ahead.some ahead.few) in
+    let kept : sifted old next ≡ next =
+    cond-false (repeats_by old.shape.version old.so_far (Some listed)) (refusal true) next (open_quiet old.shape.version old.so_far (Some listed) (refl, tt)) in
+    let there : with_item (put old (Number (ValueNode run pair.number) None)) listed ≡ moved old next = λ i. record {
+      shape = shape_by old.shape (sym kept i).item;
+      line = line_by old.line (sym kept i).position;
+      position = (sym kept i).position;
+      so_far = noted_by old.shape.version old.so_far (Some listed);
+    } in
+    pair_runs old new run before bytes pair (Some item) next is ahead taken (ap Some given ∙ ap (λ (m : Move). m.item) (sym kept))
+    (after ∙ ap (with_item (put old (Number (ValueNode run pair.number) None))) given ∙ there) (λ e. cc)

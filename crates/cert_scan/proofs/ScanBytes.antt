@@ -42,10 +42,6 @@ moved_quiet s position =
     } in
     first ∙ ap (scan_at s.shape (line_by s.line position) position) (sym (noted_none s.shape.version s.so_far))
 
--- the scan at another position
-abbrev pub put : Scan → Position → Scan
-put s position = scan_at s.shape s.line position s.so_far
-
 -- a byte that gives nothing
 pub quiet_step : (s : Scan) (byte : ℕ) (position : Position) → moved_by s.shape s.position byte ≡ move position None
     → stepped s byte ≡ scan_at s.shape (line_by s.line position) position s.so_far

@@ -5,12 +5,12 @@ use Rattle.memchr.specs.Find.{IsFirstByte, is_byte}
 use Rattle.std.proofs.lemmas.List.{take_more, take_all, length-drop}
 use Rattle.std.proofs.lemmas.Bool.{cond-true, and_from, le-leb}
 use Rattle.cert_scan.specs.Moves.{move, moved_by, with_digit_of, refusal, spelled_by}
-use Rattle.cert_scan.specs.Scans.{new_scan, given_by, stepped, scanned, given_all}
+use Rattle.cert_scan.specs.Scans.{put, new_scan, given_by, stepped, scanned, given_all}
 use Rattle.cert_scan.specs.Given.{IsGiven}
 use Rattle.cert_scan.specs.Scanned.{HasScanned, IsLost}
 use Rattle.cert_scan.specs.Runs.{SpellsOn, HasNoLineEnd, Runs}
 use Rattle.cert_scan.proofs.Goes.{nil_front}
-use Rattle.cert_scan.proofs.ScanBytes.{scanned-append, given_all-append, put, quiet_step, quiet_gives, quiet_scanned, quiet_given}
+use Rattle.cert_scan.proofs.ScanBytes.{scanned-append, given_all-append, quiet_step, quiet_gives, quiet_scanned, quiet_given}
 use Rattle.cert_scan.specs.declared.stages.Shape.{Shape}
 use Rattle.cert_scan.proofs.Tracks.{scanned_given}
 use Rattle.cert_scan.specs.declared.items.Item.{Item}

@@ -330,7 +330,7 @@ moved_at {sh = sh} {line = line} {position = position} {so_far = so_far} byte it
 -- ---- a dual that repeats the one before it
 
 -- the item does not end a dual
-abbrev IsOpen : Item → Type 0
+abbrev pub IsOpen : Item → Type 0
 IsOpen item = ends_dual item ≡ false
 
 open_hubs_are : (hubs : List ℕ) → AllByRecursion IsOpen (open_hubs hubs)
@@ -366,7 +366,7 @@ begun_open sh Nodes given h = are_open given [] h tt
 begun_open sh End given h = are_open given [] h tt
 begun_open sh Nothing given h = are_open given [] h tt
 
-open_quiet : (v : TextVersion) (so_far : DualSoFar) (item : Option Item) → AllByRecursion IsOpen (option_to_list item) → repeats_by v so_far item ≡ false
+pub open_quiet : (v : TextVersion) (so_far : DualSoFar) (item : Option Item) → AllByRecursion IsOpen (option_to_list item) → repeats_by v so_far item ≡ false
 open_quiet First so_far item h = refl
 open_quiet Second so_far None h = refl
 open_quiet Second so_far (Some x) h = ap (λ b. b && is_repeated (noted so_far x).left) h.0

@@ -37,6 +37,10 @@ line_by line position = line
 abbrev pub sifted : Scan → Move → Move
 sifted scan next = if repeats_by scan.shape.version scan.so_far next.item then refusal true else next
 
+-- the scan at another position
+abbrev pub put : Scan → Position → Scan
+put scan position = record { shape = scan.shape; line = scan.line; position = position; so_far = scan.so_far }
+
 -- the scan that has noted an item
 abbrev pub with_item : Scan → Item → Scan
 with_item scan item = record {

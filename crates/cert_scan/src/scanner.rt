@@ -1,5 +1,5 @@
 //! A scan of the bytes of a text.
-ghost use Rattle.std.specs.Prelude.{◌≡◌, ℕ, ◌-◌, ◌++◌, ◌≤◌, List, [], ◌∷◌, length, take, Some, None, IfSome, option_to_list};
+ghost use Rattle.std.specs.Prelude.{◌≡◌, ℕ, ◌-◌, ◌++◌, ◌≤◌, List, [], ◌∷◌, length, take, Some, None, false, IfSome, option_to_list};
 ghost use Rattle.hub_spec.specs.Certificates.{Proof};
 ghost use Rattle.cert_spec.specs.Text.{Spells};
 ghost use Rattle.cert_scan.specs.Scans.{
@@ -9,6 +9,7 @@ ghost use Rattle.cert_scan.specs.Scans.{
   given_all,
   given_by,
   sifted,
+  put,
   with_item,
   moved,
   line_by,
@@ -22,12 +23,16 @@ ghost use Rattle.cert_scan.specs.Scanned.{HasScanned, IsLost, AreCountable, Tell
 ghost use Rattle.cert_scan.specs.Pieces.{AreOnTime};
 ghost use Rattle.cert_scan.specs.Runs.{Runs, HasNoLineEnd};
 ghost use Rattle.cert_scan.specs.declared.items.Item.{Item as ItemOf};
+ghost use Rattle.cert_scan.specs.declared.items.Item.TheVariants.{DualPair};
+ghost use Rattle.cert_scan.specs.declared.bytes.Position.TheVariants.{Number};
+ghost use Rattle.cert_scan.specs.declared.places.Place.TheVariants.{ValueNode};
+ghost use Rattle.cert_scan.specs.declared.stages.Run.{Run as RunOf};
 
 use crate::bytes::{Move, Position, after_byte};
 use crate::digits::more_digits;
 use crate::heads::letters_ahead;
 use crate::items::{Fault, Item, Version};
-use crate::pairs::pair_ahead;
+use crate::pairs::{Pair, pair_ahead};
 use crate::places::{Place, take_value};
 use crate::repeats::DualSoFar;
 use crate::stages::{Shape, Stage};
@@ -119,13 +124,36 @@ impl Scan {
             return None;
         }
         let pair = pair_ahead(self.shape.n, before, bytes)?;
+        let taken = pair.front + 1 + pair.back + 1;
+        if !pair.last {
+            let item = self.list_pair(pair);
+            return Some((taken, Some(item)));
+        }
         let next = take_value(self.shape, of, pair.number, pair.value as u128, pair.last);
         let item = self.go(next);
         if item.is_none() {
             // The dual repeats the one before it, so that nothing comes any more.
             return Some((bytes.len(), None));
         }
-        Some((pair.front + 1 + pair.back + 1, item))
+        Some((taken, item))
+    }
+
+    // Takes a pair behind which the line goes on.
+    fn list_pair(&mut self, pair: Pair) -> Item
+        ensures given { result ≡ DualPair (pair.number - 1) pair.value false }
+        ensures after { (run : RunOf) (before : ℕ) → self.old.position ≡ Number (ValueNode run before) None
+            → self.new ≡ with_item (put self.old (Number (ValueNode run pair.number) None)) result }
+    {
+        let item = Item::DualPair {
+            k: pair.number.saturating_sub(1),
+            u: pair.value as u128,
+            last: false,
+        };
+        self.notes_repeat(item);
+        if let Position::Number(Place::ValueNode(_, before), None) = &mut self.position {
+            *before = pair.number;
+        }
+        item
     }
 
     fn advance_all(&mut self, bytes: &[u8]) -> (usize, Option<Item>)
