@@ -13,11 +13,10 @@ ghost use Rattle.cert_checker.specs.Duals.{claims_of_duals, AreValues, IsCovered
 
 use crate::failures::Failure;
 use crate::kinds::Kind;
-use crate::nodes::is_among;
 use crate::runs::run_place;
 use cert_format::{StatedCut, Version};
 use hub_model::{Instance, MOST_NODES};
-use plan_model::Dual;
+use plan_model::{Dual, is_among};
 use rayon::prelude::*;
 use std::thread::Threads;
 

@@ -10,7 +10,6 @@ mod failures;
 mod kinds;
 
 // The plan.
-mod nodes;
 mod plans;
 
 // The cuts.

@@ -1,11 +1,7 @@
 //! The conditions of a plan.
 
 ghost use Rattle.std.specs.Prelude.{◌≡◌, ℕ, ◌+◌, ◌*◌, ◌^◌, ◌<◌, ◌≤◌, ◌↔◌, length, IsTrue, IfErr, OnOk, All, Contains};
-ghost use Rattle.std.specs.List.{AllZip};
 ghost use Rattle.std.specs.List.Sorted.{IsStrictlyIncreasing};
-ghost use Rattle.hub_spec.specs.Limits.{most_cost};
-ghost use Rattle.hub_spec.specs.Problem.{commodities};
-ghost use Rattle.hub_spec.specs.Plans.{IsHubSet, IsRoute, plan_cost};
 ghost use Rattle.cert_spec.specs.Conditions.{AllHold};
 ghost use Rattle.cert_spec.specs.PartConditions.{route_claims, hub_claims};
 ghost use Rattle.cert_checker.specs.Answers.{IsFailure};
@@ -13,8 +9,8 @@ ghost use Rattle.cert_checker.specs.Answers.{IsFailure};
 use crate::failures::Failure;
 use crate::kinds::Kind;
 use crate::lines::{FIRST_ROUTE_LINE, HUBS_LINE, last_route_line};
-use crate::nodes::{are_among, is_among};
 use hub_model::Instance;
+use plan_model::{are_among, is_among, plan_cost};
 
 /// Tries the conditions of a plan of this stated cost.
 pub(crate) fn check_plan(
@@ -37,7 +33,7 @@ pub(crate) fn check_plan(
         });
     }
     check_routes(hubs, FIRST_ROUTE_LINE, routes)?;
-    if cost != cost_of(instance, hubs, routes) {
+    if cost != plan_cost(instance, hubs, routes) {
         return Err(Failure::Fails {
             kind: Kind::Cost,
             line: last_route_line(n),
@@ -74,22 +70,4 @@ fn goes_through(hubs: &[u32], first: u32, last: u32) -> bool
     ensures { IsTrue result ↔ (Contains hubs.now first × Contains hubs.now last) }
 {
     is_among(hubs, first) && is_among(hubs, last)
-}
-
-/// The cost of a plan: its hubs' fixed costs and its routes' costs.
-fn cost_of(instance: &Instance, hubs: &[u32], routes: &[(u32, u32)]) -> u128
-    requires hubs { IsHubSet instance.now hubs.now }
-    requires routes { AllZip (IsRoute instance.now hubs.now) (commodities instance.now.size) routes.now }
-    ensures value { result ≡ plan_cost instance.now (record { hubs = hubs.now; routes = routes.now }) }
-    ensures limit { result ≤ most_cost }
-{
-    let n = instance.size();
-    let mut total = instance.opening_cost(hubs);
-    for i in 0..n {
-        for j in 0..n {
-            let (first, last) = routes[i as usize * n as usize + j as usize];
-            total += instance.cost_of_route(i, j, first, last);
-        }
-    }
-    total
 }

@@ -13,10 +13,9 @@ ghost use Rattle.cert_checker.specs.Walks.{coded_claims, children, IsStackAfter,
 use crate::failures::Failure;
 use crate::kinds::Kind;
 use crate::leaves::check_leaf;
-use crate::nodes::is_among;
 use crate::sums::SummedCut;
 use hub_model::Instance;
-use plan_model::{Branch, TreeLine};
+use plan_model::{Branch, TreeLine, is_among};
 use std::alloc::{AllocError, Global};
 
 /// Tries the conditions of the lines of a tree, the first of which stands at this line. The branches that are still to

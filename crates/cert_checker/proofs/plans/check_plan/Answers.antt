@@ -15,20 +15,20 @@ returns-in_err-check_routes-clause-fails c =
     rw (p.1, p.2) (routes_fail c.args.instance.now c.args.instance.now.size c.args.cost c.args.hubs.now c.args.routes.now _ c.size-n.ensures.problem.any_number
     (c.are_candidates.ensures.0 c.if-not-are_candidates.false) c.in_err-check_routes.ensures.fails)
 
-pub cost_of-requires-clause-routes : goal.cost_of-requires-clause-routes
-cost_of-requires-clause-routes c =
+pub plan_cost-requires-clause-routes : goal.plan_cost-requires-clause-routes
+plan_cost-requires-clause-routes c =
     routes_from_claims c.args.instance.now c.args.hubs.now first_route_line c.args.routes.now c.requires.one_route_each
     c.in_ok-check_routes.ensures.holds
 
-pub returns-then-cost-cost_of-clause-fails : goal.returns-then-cost-cost_of-clause-fails
-returns-then-cost-cost_of-clause-fails c =
+pub returns-then-cost-plan_cost-clause-fails : goal.returns-then-cost-plan_cost-clause-fails
+returns-then-cost-plan_cost-clause-fails c =
     cost_fails c.args.instance.now c.args.instance.now.size c.args.cost c.last_route_line.result c.args.hubs.now c.args.routes.now
     (c.last_route_line.ensures ∙ ap last_route_line c.size-n.ensures.value) c.size-n.ensures.problem.any_number
     (c.are_candidates.ensures.0 c.if-not-are_candidates.false) c.in_ok-check_routes.ensures.holds
-    (λ e. c.if-cost-cost_of.true (e ∙ sym c.cost_of.ensures.value))
+    (λ e. c.if-cost-plan_cost.true (e ∙ sym c.plan_cost.ensures.value))
 
 pub returns-clause-holds : goal.returns-clause-holds
 returns-clause-holds c =
     plan_holds c.args.instance.now c.args.instance.now.size c.args.cost c.args.hubs.now c.args.routes.now c.size-n.ensures.problem.any_number
     (c.are_candidates.ensures.0 c.if-not-are_candidates.false) c.in_ok-check_routes.ensures.holds
-    (c.if-cost-cost_of.false ∙ c.cost_of.ensures.value)
+    (c.if-cost-plan_cost.false ∙ c.plan_cost.ensures.value)

@@ -1,9 +1,0 @@
-use Rattle.std.proofs.Common.{◌+◌, ◌*◌}
-use Rattle.hub_spec.proofs.PlanCosts.{IsCosted}
-use Rattle.cert_checker.proofs.plans.cost_of.Given as goal
-
-abbrev pub invariant-loop-j : goal.invariant-loop-j
-invariant-loop-j l = IsCosted l.instance l.hubs l.routes (l.i * l.instance.size + l.j) l.total
-
-abbrev pub invariant-loop-i : goal.invariant-loop-i
-invariant-loop-i l = IsCosted l.instance l.hubs l.routes (l.i * l.instance.size) l.total
