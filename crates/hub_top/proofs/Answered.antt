@@ -1,19 +1,17 @@
 -- What an answer says of the instance and of its own status.
-use Rattle.std.proofs.Common.{◌≡◌, ◌≢◌, ℕ, ◌<◌, ◌≤◌, List, Option, Some, None, true, false, refl, sym, subst, ap, ◌∙◌, ◌⊎◌, inl, inr, ⊎_elim, arith, nat_eq}
+use Rattle.std.proofs.Common.{◌≡◌, ℕ, ◌<◌, ◌≤◌, List, Option, Some, refl, sym, subst, ap, ◌∙◌, ◌⊎◌, inl, inr, ⊎_elim, arith, nat_eq}
 use Rattle.std.proofs.lemmas.Bool.{cond-true, cond-false, eq-eqb, ne_eqb, cases_lt}
 use Rattle.hub_io.specs.Outside.{Files}
 use Rattle.hub_spec.specs.Problem.{Problem}
-use Rattle.hub_spec.specs.Trees.{line_count}
-use Rattle.hub_spec.specs.Certificates.{Proof, Holds}
-use Rattle.search_spec.specs.Findings.{IsSpent}
+use Rattle.hub_spec.specs.Certificates.{Proof}
 use Rattle.cert_spec.specs.Text.{Spells}
 use Rattle.cert_spec.specs.Verdicts.{Verdict, optimal, bounds, fails, misread, too_long, Why}
 use Rattle.hub_make.specs.Contents.{made_problem}
 use Rattle.hub_words.specs.Requests.{Source, Solving, Making, Search, Request, solve, optimize, check, report, make, demo, instance}
 use Rattle.hub_top.specs.declared.status.Status.{Status}
 use Rattle.hub_top.specs.declared.status.Status.TheVariants.{Done, Stopped, No, Usage, Instance, Memory, Read, Write}
-use Rattle.hub_top.specs.Commands.{HoldsInstance, IsEnoughFor, rule_certificate, Solves, Stops, JudgesFile, ReportsFile}
-use Rattle.hub_top.specs.Answers.{Answers, Judges, Demonstrates, found_status, rule_status, verdict_status, report_status}
+use Rattle.hub_top.specs.Commands.{HoldsInstance, Method, method_of, demo_method, IsEnoughFor, Solves, Stops, JudgesFile, ReportsFile}
+use Rattle.hub_top.specs.Answers.{Answers, Demonstrates, found_status, rule_status, verdict_status, report_status}
 use Rattle.hub_top.proofs.OneReading.{same_bytes, one_instance}
 use Rattle.hub_top.proofs.OneTexts.{only_verdict}
 
@@ -77,20 +75,20 @@ done_status k e = cond-true (nat_eq k.bound k.cost) Done Stopped (eq-eqb k.bound
 stopped_status : (k : Proof) → k.bound < k.cost → found_status k ≡ Stopped
 stopped_status k gap = cond-false (nat_eq k.bound k.cost) Done Stopped (ne_eqb k.bound k.cost (λ e. absurd (omega (arith, gap, e))))
 
-pub solves_status : (p : Problem) (n : Option ℕ) (tells : Proof → Type 0) → Solves p n tells → Done ≡ rule_status p n
+pub solves_status : (p : Problem) (m : Method) (tells : Proof → Type 0) → Solves p m tells → Done ≡ rule_status p m
 unfolding rule_status
-solves_status p n tells h = sym (ap found_status (sym h.by_rule) ∙ done_status h.certificate h.no_gap)
+solves_status p m tells h = sym (ap found_status (sym h.by_rule) ∙ done_status h.certificate h.no_gap)
 
-pub stops_status : (p : Problem) (n : Option ℕ) (tells : Proof → Type 0) → Stops p n tells → Stopped ≡ rule_status p n
+pub stops_status : (p : Problem) (m : Method) (tells : Proof → Type 0) → Stops p m tells → Stopped ≡ rule_status p m
 unfolding rule_status
-stops_status p n tells h = sym (ap found_status (sym h.by_rule) ∙ stopped_status h.certificate h.gap)
+stops_status p m tells h = sym (ap found_status (sym h.by_rule) ∙ stopped_status h.certificate h.gap)
 
 pub solve_status : (files : Files) (x : Solving) (p : Problem) (status : Status) (text : List ℕ) → HoldsInstance files x.source p
-    → Answers (solve x) status (Some files) text → status ≡ rule_status p x.search.nodes
+    → Answers (solve x) status (Some files) text → status ≡ rule_status p (method_of x)
 solve_status files x p Done text instance h =
-    solves_status h.problem x.search.nodes (Spells text) h.solves ∙ ap (λ q. rule_status q x.search.nodes) (one_instance files x.source h.problem p h.instance instance)
+    solves_status h.problem (method_of x) (Spells text) h.solves ∙ ap (λ q. rule_status q (method_of x)) (one_instance files x.source h.problem p h.instance instance)
 solve_status files x p Stopped text instance h =
-    stops_status h.problem x.search.nodes (Spells text) h.stops ∙ ap (λ q. rule_status q x.search.nodes) (one_instance files x.source h.problem p h.instance instance)
+    stops_status h.problem (method_of x) (Spells text) h.stops ∙ ap (λ q. rule_status q (method_of x)) (one_instance files x.source h.problem p h.instance instance)
 solve_status files x p No text instance h = absurd h
 solve_status files x p Usage text instance h = absurd h
 solve_status files x p Instance text instance h = absurd h
@@ -138,9 +136,9 @@ optimize_enough files x p Read text instance enough h = absurd h
 optimize_enough files x p Write text instance enough h = absurd h
 
 pub demo_status : (held : Option Files) (m : Making) (search : Search) (status : Status) (text : List ℕ)
-    → Answers (demo m search) status held text → status ≡ rule_status (made_problem m.seed m.size) search.nodes
-demo_status held m search Done text h = solves_status (made_problem m.seed m.size) search.nodes (Demonstrates text) h
-demo_status held m search Stopped text h = stops_status (made_problem m.seed m.size) search.nodes (Demonstrates text) h
+    → Answers (demo m search) status held text → status ≡ rule_status (made_problem m.seed m.size) (demo_method search)
+demo_status held m search Done text h = solves_status (made_problem m.seed m.size) (demo_method search) (Demonstrates text) h
+demo_status held m search Stopped text h = stops_status (made_problem m.seed m.size) (demo_method search) (Demonstrates text) h
 demo_status held m search No text h = absurd h
 demo_status held m search Usage text h = absurd h
 demo_status held m search Instance text h = absurd h

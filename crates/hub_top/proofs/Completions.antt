@@ -2,13 +2,12 @@
 use Rattle.std.proofs.Common.{◌≡◌, ℕ, List, Option, Some, None, ◌⊎◌, inl, inr, refl, sym, subst, ap, ◌∙◌}
 use Rattle.hub_io.specs.Outside.{Files, Rose}
 use Rattle.hub_spec.specs.Problem.{Problem}
-use Rattle.cert_spec.specs.Verdicts.{Verdict, Why}
 use Rattle.file_spec.specs.Faults.{Fault}
 use Rattle.hub_make.specs.Contents.{made_problem}
 use Rattle.hub_top.specs.declared.status.Status.{Status}
-use Rattle.hub_top.specs.declared.status.Status.TheVariants.{Done, Stopped, Usage, Instance, Memory}
-use Rattle.hub_words.specs.Requests.{Source, Solving, Making, Search, Request, solve, optimize, check, report, make, demo, instance}
-use Rattle.hub_top.specs.Commands.{WhereTold, Blame, HasBlame, HoldsInstance}
+use Rattle.hub_top.specs.declared.status.Status.TheVariants.{Done, Stopped, Usage, Instance}
+use Rattle.hub_words.specs.Requests.{Source, Request, solve, optimize, check, report, make, demo, instance}
+use Rattle.hub_top.specs.Commands.{WhereTold, Blame, HasBlame, HoldsInstance, method_of, demo_method}
 use Rattle.hub_top.specs.Answers.{Answers, verdict_status, report_status, rule_status}
 use Rattle.hub_top.specs.Outcomes.{Outcome, answered, usage, faulty, memory, read, status_of, ShelfFails, Quiet, MayComeTo, Written, whole, out_cut, err_cut}
 use Rattle.hub_top.specs.Completeness.{Completeness, EndsAs, EndsWith}
@@ -115,7 +114,7 @@ module _ (asked : Option Request) (held : Option Files) (fails : Request → Typ
         let P : Option Request → Type 0 = λ x. MayComeTo x held fails e in
         let Q : Option Files → Type 0 = λ x. MayComeTo (Some request) x fails e in
         status_by status e (λ (x : Status). x ≡ Instance) (written calm) (ends_faulty files request s blame fault named has fails (no_fault calm) e (subst Q told (subst P is may)));
-    solved = λ files s p told is h. told_ends files (solve s) s.source p (λ (x : Status). x ≡ rule_status p s.search.nodes) told is refl h
+    solved = λ files s p told is h. told_ends files (solve s) s.source p (λ (x : Status). x ≡ rule_status p (method_of s)) told is refl h
         (λ other text answers. solve_status files s p other text h answers);
     enough = λ files s p told is h many. told_ends files (solve s) s.source p (λ (x : Status). x ≡ Done) told is refl h
         (λ other text answers. solve_enough files s p other text h many answers);
@@ -128,7 +127,7 @@ module _ (asked : Option Request) (held : Option Files) (fails : Request → Typ
     reported = λ files s certificate p bytes verdict told is h there why. told_ends files (report s certificate) s p (λ (x : Status). x ≡ report_status verdict) told is refl h
         (λ other text answers. report_status_is files s certificate p bytes verdict other text h there why answers);
     made = λ m is. command_ends (make m) (λ (x : Status). x ≡ Done) is (blameless_without held (make m) refl) (λ other text answers. make_status held m other text answers);
-    shown = λ m search is. command_ends (demo m search) (λ (x : Status). x ≡ rule_status (made_problem m.seed m.size) search.nodes) is
+    shown = λ m search is. command_ends (demo m search) (λ (x : Status). x ≡ rule_status (made_problem m.seed m.size) (demo_method search)) is
         (blameless_without held (demo m search) refl) (λ other text answers. demo_status held m search other text answers);
     shown_whole = λ m search is many. command_ends (demo m search) (λ (x : Status). x ≡ Done) is
         (blameless_without held (demo m search) refl) (λ other text answers. demo_enough held m search other text many answers);

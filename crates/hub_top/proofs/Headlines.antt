@@ -9,9 +9,9 @@ use Rattle.hub_top.specs.declared.status.Status.{Status}
 use Rattle.hub_top.specs.declared.status.Status.TheVariants.{Done, Memory}
 use Rattle.hub_words.specs.Requests.{Source, Solving, Request, solve, optimize, check}
 use Rattle.hub_top.specs.Texts.{optimal_line, verdict_text}
-use Rattle.hub_top.specs.Commands.{HoldsInstance, SolvesInstance, OptimizesInstance, JudgesFile}
+use Rattle.hub_top.specs.Commands.{HoldsInstance, method_of, SolvesInstance, OptimizesInstance, JudgesFile}
 use Rattle.cert_checker.specs.Shows.{ProvesOptimal}
-use Rattle.hub_top.specs.Answers.{verdict_status, Judges, Answers}
+use Rattle.hub_top.specs.Answers.{verdict_status, Answers}
 use Rattle.hub_top.specs.Meanings.{Answered, Means}
 use Rattle.hub_top.specs.Headline.{IsSameInstance, Headline}
 use Rattle.hub_top.specs.Completeness.{Completeness}
@@ -68,7 +68,7 @@ checked_of : (asked : Option Request) (held : Option Files) (quiet : Type 0) (st
 checked_of asked held quiet status complete before files s t certificate text told asks h short same there calm =
     complete.judged files t certificate h.problem text (optimal h.solves.certificate.cost) told asks
     (held_again before files s.source t h.problem h.instance same) there
-    (solved_verdict h.problem s.search.nodes text h.solves short).0 calm
+    (solved_verdict h.problem (method_of s) text h.solves short).0 calm
 
 -- a check of a text that optimizes the same instance
 optimum_checked : (asked : Option Request) (held : Option Files) (quiet : Type 0) (status : Status) → Completeness asked held quiet status
@@ -79,7 +79,7 @@ optimum_checked : (asked : Option Request) (held : Option Files) (quiet : Type 0
 optimum_checked asked held quiet status complete before files s t certificate text told asks h short same there calm =
     complete.judged files t certificate h.problem text (optimal h.optimizes.certificate.cost) told asks
     (held_again before files s.source t h.problem h.instance same) there
-    (optimized_verdict h.problem s.search.nodes text h.optimizes short).0 calm
+    (optimized_verdict h.problem (method_of s) text h.optimizes short).0 calm
 
 pub headline : (asked : Option Request) (held : Option Files) (fails : Request → Type 0) (old new : Option (List ℕ)) (rose quiet : Type 0) (status : Status)
     → Means asked held fails old new rose status → Completeness asked held quiet status

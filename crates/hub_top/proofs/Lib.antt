@@ -2,6 +2,7 @@ pub mod TooLong
 pub mod Writing
 pub mod RuleCertificates
 pub mod OneTexts
+pub mod Versions
 pub mod Searched
 pub mod Optimized
 pub mod Answered

@@ -1,5 +1,5 @@
 -- The verdict on a text that a search made, and that it has one.
-use Rattle.std.proofs.Common.{◌≡◌, ℕ, ◌<◌, ◌≤◌, List, length, Option, sym, subst, ap, ◌∙◌, ◌⊎◌, inl, inr, refl}
+use Rattle.std.proofs.Common.{◌≡◌, ℕ, ◌<◌, ◌≤◌, List, length, sym, ap, ◌∙◌, inl, inr, refl}
 use Rattle.hub_spec.specs.Problem.{Problem}
 use Rattle.hub_spec.specs.Certificates.{Proof}
 use Rattle.cert_spec.specs.Text.{Spells, certificate_text}
@@ -7,7 +7,7 @@ use Rattle.cert_spec.specs.Verdicts.{Verdict, optimal, bounds, Why, certificate_
 use Rattle.cert_spec.proofs.OneText.{one_certificate_lem}
 use Rattle.cert_spec.proofs.TextOrFault.{each_is_text_or_fault_lem}
 use Rattle.cert_spec.proofs.VerdictLemmas.{one_verdict_from}
-use Rattle.hub_top.specs.Commands.{rule_certificate, Finds, Solves, Stops, Optimizes, Bounds}
+use Rattle.hub_top.specs.Commands.{Method, rule_certificate, Finds, Solves, Stops, Optimizes, Bounds}
 use Rattle.hub_top.specs.Theorems.{IsOneVerdict, Ends}
 
 -- the verdict on any bytes is the only one
@@ -17,26 +17,26 @@ only_verdict p bytes v w why also =
     one.2 w also ∙ sym (one.2 v why)
 
 -- of a certificate whose bound is its cost
-found_verdict : (p : Problem) (n : Option ℕ) (text : List ℕ) (k : Proof) → Finds p n (Spells text) k → k.bound ≡ k.cost
+found_verdict : (p : Problem) (m : Method) (text : List ℕ) (k : Proof) → Finds p m (Spells text) k → k.bound ≡ k.cost
     → length text ≤ certificate_limit → IsOneVerdict p text (optimal k.cost)
-found_verdict p n text k finds no_gap short =
+found_verdict p m text k finds no_gap short =
     let why : Why p text (optimal k.cost) = record {
       not_too_long = short;
       certificate = (k, finds.told, finds.holds, no_gap, refl);
     } in (why, λ other also. only_verdict p text (optimal k.cost) other why also)
 
-pub solved_verdict : (p : Problem) (n : Option ℕ) (text : List ℕ) (h : Solves p n (Spells text)) → length text ≤ certificate_limit
+pub solved_verdict : (p : Problem) (m : Method) (text : List ℕ) (h : Solves p m (Spells text)) → length text ≤ certificate_limit
     → IsOneVerdict p text (optimal h.certificate.cost)
-solved_verdict p n text h short = found_verdict p n text h.certificate h.finds h.no_gap short
+solved_verdict p m text h short = found_verdict p m text h.certificate h.finds h.no_gap short
 
-pub optimized_verdict : (p : Problem) (n : Option ℕ) (text : List ℕ) (h : Optimizes p n text) → length text ≤ certificate_limit
+pub optimized_verdict : (p : Problem) (m : Method) (text : List ℕ) (h : Optimizes p m text) → length text ≤ certificate_limit
     → IsOneVerdict p text (optimal h.certificate.cost)
-optimized_verdict p n text h short = found_verdict p n text h.certificate h.finds h.no_gap short
+optimized_verdict p m text h short = found_verdict p m text h.certificate h.finds h.no_gap short
 
 -- of a certificate whose bound is below its cost
-gap_verdict : (p : Problem) (n : Option ℕ) (text : List ℕ) (k : Proof) → Finds p n (Spells text) k → k.bound < k.cost
+gap_verdict : (p : Problem) (m : Method) (text : List ℕ) (k : Proof) → Finds p m (Spells text) k → k.bound < k.cost
     → length text ≤ certificate_limit → IsOneVerdict p text (bounds k.bound k.cost)
-gap_verdict p n text k finds gap short =
+gap_verdict p m text k finds gap short =
     let v = bounds k.bound k.cost in
     let why : Why p text v = (
       gap,
@@ -46,18 +46,18 @@ gap_verdict p n text k finds gap short =
       },
     ) in (why, λ other also. only_verdict p text v other why also)
 
-pub stopped_verdict : (p : Problem) (n : Option ℕ) (text : List ℕ) (h : Stops p n (Spells text)) → length text ≤ certificate_limit
+pub stopped_verdict : (p : Problem) (m : Method) (text : List ℕ) (h : Stops p m (Spells text)) → length text ≤ certificate_limit
     → IsOneVerdict p text (bounds h.certificate.bound h.certificate.cost)
-stopped_verdict p n text h short = gap_verdict p n text h.certificate h.finds h.gap short
+stopped_verdict p m text h short = gap_verdict p m text h.certificate h.finds h.gap short
 
-pub bounded_verdict : (p : Problem) (n : Option ℕ) (text : List ℕ) (h : Bounds p n text) → length text ≤ certificate_limit
+pub bounded_verdict : (p : Problem) (m : Method) (text : List ℕ) (h : Bounds p m text) → length text ≤ certificate_limit
     → IsOneVerdict p text (bounds h.certificate.bound h.certificate.cost)
-bounded_verdict p n text h short = gap_verdict p n text h.certificate h.finds h.gap short
+bounded_verdict p m text h short = gap_verdict p m text h.certificate h.finds h.gap short
 
 -- the text of a search is that of the rule's certificate
-rule_text : (p : Problem) (n : Option ℕ) (text : List ℕ) → Ends p n text → text ≡ certificate_text (rule_certificate p n)
-rule_text p n text (inl h) = h.finds.told.text ∙ ap certificate_text h.by_rule
-rule_text p n text (inr h) = h.finds.told.text ∙ ap certificate_text h.by_rule
+rule_text : (p : Problem) (m : Method) (text : List ℕ) → Ends p m text → text ≡ certificate_text (rule_certificate p m)
+rule_text p m text (inl h) = h.finds.told.text ∙ ap certificate_text h.by_rule
+rule_text p m text (inr h) = h.finds.told.text ∙ ap certificate_text h.by_rule
 
-pub one_text_of : (p : Problem) (n : Option ℕ) (text other : List ℕ) → Ends p n text → Ends p n other → other ≡ text
-one_text_of p n text other h k = rule_text p n other k ∙ sym (rule_text p n text h)
+pub one_text_of : (p : Problem) (m : Method) (text other : List ℕ) → Ends p m text → Ends p m other → other ≡ text
+one_text_of p m text other h k = rule_text p m other k ∙ sym (rule_text p m text h)

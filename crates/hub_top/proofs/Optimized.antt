@@ -1,25 +1,25 @@
 -- What `optimize` found is told by its text.
-use Rattle.std.proofs.Common.{◌≡◌, ◌≢◌, ℕ, ◌+◌, ◌^◌, ◌<◌, ◌≤◌, List, length, Option, refl, sym, subst, ap, ◌∙◌, ◌⊎◌, ⊎_elim, arith, nat_eq}
+use Rattle.std.proofs.Common.{◌≡◌, ℕ, ◌+◌, ◌^◌, ◌<◌, ◌≤◌, length, Option, refl, sym, subst, ap, ◌∙◌, arith, nat_eq}
 use Rattle.std.proofs.lemmas.List.{length-map}
 use Rattle.std.proofs.lemmas.Bool.{cond_both, eqb-true, eqb-false}
 use Rattle.hub_io.specs.Outside.{Files}
-use Rattle.hub_spec.specs.Problem.{Problem, IsProblem}
+use Rattle.hub_spec.specs.Problem.{Problem}
 use Rattle.hub_spec.specs.Plans.{NoPlanBelow}
 use Rattle.hub_spec.specs.Trees.{Tree, line_count, preorder}
-use Rattle.hub_spec.specs.Certificates.{Proof}
 use Rattle.hub_spec.proofs.Preorders.{length-preorder}
 use Rattle.hub_spec.proofs.WeakDuality.{no_plan_below_bound}
 use Rattle.plan_model.specs.Lines.{tree_line_of}
 use Rattle.search_spec.specs.Findings.{AreWithin, IsSpent}
 use Rattle.cert_spec.specs.Text.{Spells}
+use Rattle.cert_spec.specs.Grammar.{IsVersion}
 use Rattle.kept_cuts.specs.declared.found.Found.{Found}
-use Rattle.kept_cuts.specs.Findings.{IsProved, proof_of, lines_of}
+use Rattle.kept_cuts.specs.Findings.{proof_of, lines_of}
 use Rattle.proof_text.specs.Texts.{found_text}
 use Rattle.proof_text.proofs.FoundLines.{found_text_certificate}
 use Rattle.hub_words.specs.Requests.{Source, Solving, optimize}
 use Rattle.hub_top.specs.declared.status.Status.{Status}
 use Rattle.hub_top.specs.declared.status.Status.TheVariants.{Done, Stopped}
-use Rattle.hub_top.specs.Commands.{Finds, Optimizes, Bounds}
+use Rattle.hub_top.specs.Commands.{Method, method_of, Finds, Optimizes, Bounds}
 use Rattle.hub_top.specs.Answers.{Answers}
 use Rattle.hub_top.specs.Views.{finding_status}
 use Rattle.hub_top.specs.Solving.{IsOptimum}
@@ -29,53 +29,57 @@ lines_long : (found : Found) (tree : Tree) → lines_of found.tree.items ≡ pre
 lines_long found tree lines =
     sym (length-map found.tree.items tree_line_of) ∙ ap length lines ∙ length-preorder tree
 
-optimum_finds : (held : Option Files) (s : Source) (nodes : Option ℕ) (p : Problem) (found : Found) (h : IsOptimum held s nodes p found)
-    → Finds p nodes (Spells (found_text p found)) (proof_of p found h.proved.tree)
-optimum_finds held s nodes p found h =
+optimum_finds : (held : Option Files) (s : Source) (m : Method) (p : Problem) (found : Found) (h : IsOptimum held s m.nodes p found) → IsVersion m.version
+    → Finds p m (Spells (found_text m.version p found)) (proof_of m.version p found h.proved.tree)
+optimum_finds held s m p found h version =
     let proved = h.proved in
+    let k = proof_of m.version p found proved.tree in
+    let holds = proved.holds m.version in
     record {
-      told = record { in_range = proved.in_range; text = found_text_certificate p found proved.tree proved.lines };
-      holds = proved.holds;
-      paid = sym proved.holds.cost;
+      told = record { in_range = proved.in_range m.version version; text = found_text_certificate m.version p found proved.tree proved.lines };
+      version = refl;
+      holds = holds;
+      paid = sym holds.cost;
       routes = h.routes;
-      below = no_plan_below_bound p (proof_of p found proved.tree) h.problem proved.holds;
-      allowed = subst (AreWithin nodes) (lines_long found proved.tree proved.lines) h.allowed;
-      most = subst (λ (m : ℕ). m + 1 ≤ 2 ^ (length p.candidates + 1)) (lines_long found proved.tree proved.lines) h.most;
+      below = no_plan_below_bound p k h.problem holds;
+      allowed = subst (AreWithin m.nodes) (lines_long found proved.tree proved.lines) h.allowed;
+      most = subst (λ (made : ℕ). made + 1 ≤ 2 ^ (length p.candidates + 1)) (lines_long found proved.tree proved.lines) h.most;
     }
 
-closes : (held : Option Files) (s : Source) (nodes : Option ℕ) (p : Problem) (found : Found) → IsOptimum held s nodes p found
-    → found.bound ≡ found.cost → Optimizes p nodes (found_text p found)
-closes held s nodes p found h closed =
-    let finds = optimum_finds held s nodes p found h in
-    let holds = h.proved.holds in
+closes : (held : Option Files) (s : Source) (m : Method) (p : Problem) (found : Found) → IsOptimum held s m.nodes p found → IsVersion m.version
+    → found.bound ≡ found.cost → Optimizes p m (found_text m.version p found)
+closes held s m p found h version closed =
+    let finds = optimum_finds held s m p found h version in
+    let holds = h.proved.holds m.version in
     record {
-      certificate = proof_of p found h.proved.tree;
+      certificate = proof_of m.version p found h.proved.tree;
       finds = finds;
       no_gap = closed;
       optimal = record { is_plan = holds.plan; wanted = holds.wanted; least = subst (NoPlanBelow p) (closed ∙ holds.cost) finds.below };
     }
 
-leaves : (held : Option Files) (s : Source) (nodes : Option ℕ) (p : Problem) (found : Found) → IsOptimum held s nodes p found
-    → found.bound < found.cost → Bounds p nodes (found_text p found)
-leaves held s nodes p found h gap = record {
-  certificate = proof_of p found h.proved.tree;
-  finds = optimum_finds held s nodes p found h;
+leaves : (held : Option Files) (s : Source) (m : Method) (p : Problem) (found : Found) → IsOptimum held s m.nodes p found → IsVersion m.version
+    → found.bound < found.cost → Bounds p m (found_text m.version p found)
+leaves held s m p found h version gap = record {
+  certificate = proof_of m.version p found h.proved.tree;
+  finds = optimum_finds held s m p found h version;
   gap = gap;
-  spent = subst (IsSpent nodes) (lines_long found h.proved.tree h.proved.lines) (h.spent gap);
+  spent = subst (IsSpent m.nodes) (lines_long found h.proved.tree h.proved.lines) (h.spent gap);
   not_enough = λ enough. absurd (omega (arith, gap, h.enough enough));
   at_most = h.at_most;
 }
 
--- `optimize` answers so
-pub optimize_answers : (held : Option Files) (s : Solving) (p : Problem) (found : Found) → IsOptimum held s.source s.search.nodes p found
-    → Answers (optimize s) (finding_status found) held (found_text p found)
-optimize_answers held s p found h =
-    let nodes = s.search.nodes in
-    cond_both (nat_eq found.bound found.cost) Done Stopped (λ (x : Status). Answers (optimize s) x held (found_text p found))
-    (λ e. record { problem = p; instance = h.instance; optimizes = closes held s.source nodes p found h (eqb-true found.bound found.cost e) })
+-- `optimize` answers so, in a version that there is
+pub optimize_answers : (held : Option Files) (s : Solving) (p : Problem) (found : Found) → IsVersion s.version
+    → IsOptimum held s.source s.search.nodes p found
+    → Answers (optimize s) (finding_status found) held (found_text s.version p found)
+optimize_answers held s p found version h =
+    let m = method_of s in
+    cond_both (nat_eq found.bound found.cost) Done Stopped (λ (x : Status). Answers (optimize s) x held (found_text s.version p found))
+    (λ e. record { problem = p; instance = h.instance; optimizes = closes held s.source m p found h version (eqb-true found.bound found.cost e) })
     (λ e. record {
       problem = p;
       instance = h.instance;
-      bounds = leaves held s.source nodes p found h
+      bounds = leaves held s.source m p found h version
           (let apart = eqb-false found.bound found.cost e in let within = h.within in omega (arith, within, apart));
     })

@@ -1,16 +1,15 @@
 -- The certificate that the search rule defines holds, and it solves the instance or stops.
-use Rattle.std.proofs.Common.{◌≡◌, ◌≢◌, ℕ, ◌+◌, ◌^◌, ◌<◌, ◌≤◌, List, length, Option, Some, None, refl, sym, subst, ap, ◌∙◌, arith}
+use Rattle.std.proofs.Common.{◌≡◌, ℕ, ◌+◌, ◌^◌, ◌<◌, ◌≤◌, length, Option, Some, None, refl, sym, subst, ap, ◌∙◌, arith}
 use Rattle.std.specs.Prelude.{IsSome, IsNone}
 use Rattle.hub_spec.specs.Problem.{Problem, IsProblem}
 use Rattle.hub_spec.specs.Plans.{NoPlanBelow}
 use Rattle.hub_spec.specs.Trees.{line_count}
 use Rattle.hub_spec.specs.Certificates.{Proof, Holds}
 use Rattle.hub_spec.proofs.WeakDuality.{no_plan_below_bound}
-use Rattle.search_spec.specs.States.{answer}
 use Rattle.search_spec.specs.Steps.{begun}
 use Rattle.search_spec.specs.Laws.{AreSound}
 use Rattle.search_spec.specs.Choices.{rule_parts, rule}
-use Rattle.search_spec.specs.Findings.{IsProof, IsCounted, StopsForNodes, AreWithin, IsSpent, IsCertificateOf, certificate_of}
+use Rattle.search_spec.specs.Findings.{IsProof, IsCounted, StopsForNodes, AreWithin, IsSpent, IsCertificateOf}
 use Rattle.search_spec.proofs.WholeSearches.{begun_start, search_proof, search_counted, search_stopped, enough_nodes}
 use Rattle.search_spec.proofs.RuleParts.{rule_sound}
 use Rattle.search_spec.proofs.LeastRoutes.{certificate_is_one_lem}
@@ -18,7 +17,7 @@ use Rattle.search_spec.proofs.FoundProofs.{certificate_holds_lem}
 use Rattle.search_steps.specs.Advising.{master_advising}
 use Rattle.search_steps.proofs.MasterNumbers.{advising_sound}
 use Rattle.branch_tree.specs.Findings.{found_by}
-use Rattle.hub_top.specs.Commands.{rule_certificate, Finds, Solves, Stops, IsEnoughFor}
+use Rattle.hub_top.specs.Commands.{Method, rule_certificate, Finds, Solves, Stops, IsEnoughFor}
 
 -- ---- what the rule finds
 
@@ -51,37 +50,38 @@ rule_enough p n ok enough =
 
 -- ---- its certificate
 
-pub rule_is_certificate : (p : Problem) (n : Option ℕ) → IsProblem p → IsCertificateOf p (found_by p n) (rule_certificate p n)
-rule_is_certificate p n ok = (certificate_is_one_lem p (found_by p n) (rule_certificate p n) (rule_proof p n ok)).1 refl
+pub rule_is_certificate : (p : Problem) (m : Method) → IsProblem p → IsCertificateOf p m.version (found_by p m.nodes) (rule_certificate p m)
+rule_is_certificate p m ok = (certificate_is_one_lem p m.version (found_by p m.nodes) (rule_certificate p m) (rule_proof p m.nodes ok)).1 refl
 
-rule_holds : (p : Problem) (n : Option ℕ) → IsProblem p → Holds p (rule_certificate p n)
-rule_holds p n ok = certificate_holds_lem p (found_by p n) (rule_certificate p n) ok (rule_proof p n ok) (rule_is_certificate p n ok)
+rule_holds : (p : Problem) (m : Method) → IsProblem p → Holds p (rule_certificate p m)
+rule_holds p m ok = certificate_holds_lem p m.version (found_by p m.nodes) (rule_certificate p m) ok (rule_proof p m.nodes ok) (rule_is_certificate p m ok)
 
 -- its tree has a line for each node
-rule_lines : (p : Problem) (n : Option ℕ) → IsProblem p → line_count (rule_certificate p n).tree ≡ (found_by p n).state.made
-rule_lines p n ok = ap line_count (rule_is_certificate p n ok).tree ∙ (rule_counted p n ok).lines
+rule_lines : (p : Problem) (m : Method) → IsProblem p → line_count (rule_certificate p m).tree ≡ (found_by p m.nodes).state.made
+rule_lines p m ok = ap line_count (rule_is_certificate p m ok).tree ∙ (rule_counted p m.nodes ok).lines
 
-rule_finds : (p : Problem) (n : Option ℕ) (tells : Proof → Type 0) → IsProblem p → tells (rule_certificate p n)
-    → Finds p n tells (rule_certificate p n)
-rule_finds p n tells ok told =
-    let holds = rule_holds p n ok in
-    let counted = rule_counted p n ok in
-    let lines = sym (rule_lines p n ok) in
+rule_finds : (p : Problem) (m : Method) (tells : Proof → Type 0) → IsProblem p → tells (rule_certificate p m)
+    → Finds p m tells (rule_certificate p m)
+rule_finds p m tells ok told =
+    let holds = rule_holds p m ok in
+    let counted = rule_counted p m.nodes ok in
+    let lines = sym (rule_lines p m ok) in
     record {
       told = told;
+      version = (rule_is_certificate p m ok).version;
       holds = holds;
       paid = sym holds.cost;
-      routes = (rule_is_certificate p n ok).routes;
-      below = no_plan_below_bound p (rule_certificate p n) ok holds;
-      allowed = subst (AreWithin n) lines counted.allowed;
-      most = subst (λ (m : ℕ). m + 1 ≤ 2 ^ (length p.candidates + 1)) lines counted.most;
+      routes = (rule_is_certificate p m ok).routes;
+      below = no_plan_below_bound p (rule_certificate p m) ok holds;
+      allowed = subst (AreWithin m.nodes) lines counted.allowed;
+      most = subst (λ (made : ℕ). made + 1 ≤ 2 ^ (length p.candidates + 1)) lines counted.most;
     }
 
-pub rule_solves : (p : Problem) (n : Option ℕ) (tells : Proof → Type 0) → IsProblem p → tells (rule_certificate p n)
-    → (rule_certificate p n).bound ≡ (rule_certificate p n).cost → Solves p n tells
-rule_solves p n tells ok told closed =
-    let k = rule_certificate p n in
-    let finds = rule_finds p n tells ok told in
+pub rule_solves : (p : Problem) (m : Method) (tells : Proof → Type 0) → IsProblem p → tells (rule_certificate p m)
+    → (rule_certificate p m).bound ≡ (rule_certificate p m).cost → Solves p m tells
+rule_solves p m tells ok told closed =
+    let k = rule_certificate p m in
+    let finds = rule_finds p m tells ok told in
     let holds = finds.holds in
     record {
       certificate = k;
@@ -95,19 +95,19 @@ none_or_some : (stop : Option ℕ) → (IsNone stop → ⊥) → IsSome stop
 none_or_some None h = absurd (h refl)
 none_or_some (Some x) h = refl
 
-pub rule_stops : (p : Problem) (n : Option ℕ) (tells : Proof → Type 0) → IsProblem p → tells (rule_certificate p n)
-    → (rule_certificate p n).bound < (rule_certificate p n).cost → Stops p n tells
-rule_stops p n tells ok told gap =
-    let g = found_by p n in
-    let k = rule_certificate p n in
-    let is = rule_is_certificate p n ok in
-    let stops = rule_stops_for p n ok in
+pub rule_stops : (p : Problem) (m : Method) (tells : Proof → Type 0) → IsProblem p → tells (rule_certificate p m)
+    → (rule_certificate p m).bound < (rule_certificate p m).cost → Stops p m tells
+rule_stops p m tells ok told gap =
+    let g = found_by p m.nodes in
+    let k = rule_certificate p m in
+    let is = rule_is_certificate p m ok in
+    let stops = rule_stops_for p m.nodes ok in
     let closed : IsNone g.state.stop → ⊥ = λ none. absurd (omega (arith, gap, is.bound, is.cost, stops.whole none)) in
     record {
       certificate = k;
       by_rule = refl;
-      finds = rule_finds p n tells ok told;
+      finds = rule_finds p m tells ok told;
       gap = gap;
-      spent = subst (IsSpent n) (sym (rule_lines p n ok)) (stops.spent (none_or_some g.state.stop closed));
-      not_enough = λ enough. closed (rule_enough p n ok enough);
+      spent = subst (IsSpent m.nodes) (sym (rule_lines p m ok)) (stops.spent (none_or_some g.state.stop closed));
+      not_enough = λ enough. closed (rule_enough p m.nodes ok enough);
     }

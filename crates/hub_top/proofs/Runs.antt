@@ -1,5 +1,5 @@
 -- What a run that has written tells.
-use Rattle.std.proofs.Common.{◌≡◌, ℕ, List, Option, ◌⊎◌, ⊎_elim}
+use Rattle.std.proofs.Common.{◌≡◌, ℕ, List, Option, ◌⊎◌, ⊎_elim, sym, subst}
 use Rattle.hub_io.specs.Outside.{Files, Rose}
 use Rattle.hub_words.specs.Requests.{Request}
 use Rattle.hub_top.specs.declared.status.Status.{Status}
@@ -38,9 +38,10 @@ module _ {S O E : Type 0} (held : S → Option Files) (faults : S → ℕ) (soun
         headline = headline _ _ _ _ _ _ _ _ means complete;
       }
 
-  -- a run that came to this, or to want of memory
-  pub ran : (e : Outcome) → MayComeTo asked (held old) (ShelfFails held faults sound old new) e
-      → Written out_taken out_faults err_taken err_faults out_old out_new err_old err_new status e
-      ⊎ Written out_taken out_faults err_taken err_faults out_old out_new err_old err_new status memory
-      → Told
-  ran e may written = ⊎_elim (λ w. told_by e may w) (λ w. told_by memory tt w) written
+  -- a run that came to what it settled on, or to want of memory
+  pub ran : (settled came : Outcome) → MayComeTo asked (held old) (ShelfFails held faults sound old new) settled
+      → (came ≡ settled) ⊎ (came ≡ memory)
+      → Written out_taken out_faults err_taken err_faults out_old out_new err_old err_new status came → Told
+  ran settled came may is written =
+      let P : Outcome → Type 0 = MayComeTo asked (held old) (ShelfFails held faults sound old new) in
+      told_by came (⊎_elim (λ same. subst P (sym same) may) (λ wanting. subst P (sym wanting) tt) is) written

@@ -1,5 +1,5 @@
 -- What is written where a sink fails.
-use Rattle.std.proofs.Common.{◌≡◌, ℕ, List, [], Option, Ok, Err, ◌⊎◌, inl, inr, refl, arith}
+use Rattle.std.proofs.Common.{◌≡◌, ℕ, List, [], Option, Ok, inl, inr, refl, arith}
 use Rattle.std.proofs.KnownBytes.{Appends-nil}
 use Rattle.hub_io.specs.Outside.{Puts}
 use Rattle.hub_io.specs.declared.shelf.Failed.{Failed}

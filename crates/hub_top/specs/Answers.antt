@@ -8,11 +8,11 @@ use Rattle.cert_spec.specs.Verdicts.{Verdict, optimal, bounds}
 use Rattle.hub_make.specs.Texts.{made_text}
 use Rattle.hub_make.specs.Contents.{made_problem}
 use Rattle.hub_demo.specs.Texts as lines
-use Rattle.hub_words.specs.Requests.{Source, Making, Search, Request, solve, optimize, check, report, make, demo}
+use Rattle.hub_words.specs.Requests.{Source, Request, solve, optimize, check, report, make, demo}
 use Rattle.hub_top.specs.declared.status.Status.{Status}
 use Rattle.hub_top.specs.declared.status.Status.TheVariants.{Done, Stopped, No}
 use Rattle.hub_top.specs.Texts.{verdict_text}
-use Rattle.hub_top.specs.Commands.{rule_certificate, Solves, Stops, SolvesInstance, StopsInstance, OptimizesInstance, BoundsInstance, JudgesFile, ReportsFile}
+use Rattle.hub_top.specs.Commands.{Method, demo_method, rule_certificate, Solves, Stops, SolvesInstance, StopsInstance, OptimizesInstance, BoundsInstance, JudgesFile, ReportsFile}
 
 -- ---- statuses
 
@@ -32,9 +32,9 @@ report_status verdict = No
 abbrev pub found_status : Proof → Status
 found_status k = if nat_eq k.bound k.cost then Done else Stopped
 
--- of the search of an instance with so many nodes at most
-unfoldable pub rule_status : Problem → Option ℕ → Status
-rule_status p nodes = found_status (rule_certificate p nodes)
+-- of the search of an instance by the rule
+unfoldable pub rule_status : Problem → Method → Status
+rule_status p m = found_status (rule_certificate p m)
 
 -- ---- answers
 
@@ -67,6 +67,6 @@ Answers (report s certificate) No held text = Judges held s certificate No text
 Answers (report s certificate) status held text = ⊥
 Answers (make m) Done held text = text ≡ made_text m.seed m.size
 Answers (make m) status held text = ⊥
-Answers (demo m search) Done held text = Solves (made_problem m.seed m.size) search.nodes (Demonstrates text)
-Answers (demo m search) Stopped held text = Stops (made_problem m.seed m.size) search.nodes (Demonstrates text)
+Answers (demo m search) Done held text = Solves (made_problem m.seed m.size) (demo_method search) (Demonstrates text)
+Answers (demo m search) Stopped held text = Stops (made_problem m.seed m.size) (demo_method search) (Demonstrates text)
 Answers (demo m search) status held text = ⊥

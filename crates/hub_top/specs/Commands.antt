@@ -16,7 +16,7 @@ use Rattle.file_spec.specs.Files.{HasContents}
 use Rattle.file_spec.specs.Instances.{build_fault, GivesInstance, GivesFileFault, GivesCosts, GivesCostFault}
 use Rattle.branch_tree.specs.Findings.{found_by}
 use Rattle.network_report.specs.Texts.{report_text}
-use Rattle.hub_words.specs.Requests.{Source, Solving, Request, solve, optimize, check, report, make, demo}
+use Rattle.hub_words.specs.Requests.{Source, Search, Solving, Request, solve, optimize, check, report, make, demo}
 use Rattle.cert_checker.specs.Shows.{Proves}
 
 -- a fact about the files, where they are told
@@ -76,60 +76,75 @@ HasBlame files s on_costs fault = HoldsCostFault files s fault
 
 -- ---- what a search comes to
 
--- what is told is a certificate that holds for the instance: its hubs and routes are a plan that costs exactly its cost,
+-- how a search is asked for, as far as its certificate depends on it: the version of the text, and the most nodes
+pub record Method : Type 0 where
+  pub version : ℕ
+  pub nodes : Option ℕ
+
+-- of `solve` and `optimize`
+abbrev pub method_of : Solving → Method
+method_of s = record { version = s.version; nodes = s.search.nodes }
+
+-- of `demo`, which tells of a certificate of the first version
+abbrev pub demo_method : Search → Method
+demo_method search = record { version = 1; nodes = search.nodes }
+
+-- what is told is a certificate of the version that holds for the instance: its hubs and routes are a plan that costs exactly its cost,
 -- each route is a least one through its hubs, and no nonempty set of candidates with any routing costs less than its
 -- bound; its tree has no more nodes than are allowed, and than a whole tree has
-pub record Finds (p : Problem) (nodes : Option ℕ) (tells : Proof → Type 0) (k : Proof) : Type 0 where
+pub record Finds (p : Problem) (m : Method) (tells : Proof → Type 0) (k : Proof) : Type 0 where
   pub told : tells k
+  pub version : k.version ≡ m.version
   pub holds : Holds p k
   pub paid : plan_cost p k.plan ≡ k.cost
   pub routes : AllZip (IsLeastRoute p k.plan.hubs) (commodities p.size) k.plan.routes
   pub below : NoPlanBelow p k.bound
-  pub allowed : AreWithin nodes (line_count k.tree)
+  pub allowed : AreWithin m.nodes (line_count k.tree)
   pub most : line_count k.tree + 1 ≤ 2 ^ (length p.candidates + 1)
 
 -- ---- what `solve` and `demo` come to
 
--- the certificate that the search rule defines for the instance and the most nodes; it reads no number of workers
-abbrev pub rule_certificate : Problem → Option ℕ → Proof
-rule_certificate p nodes = certificate_of p (found_by p nodes)
+-- the certificate that the search rule defines for the instance and the most nodes, in the version; it reads no number of
+-- workers
+abbrev pub rule_certificate : Problem → Method → Proof
+rule_certificate p m = certificate_of p m.version (found_by p m.nodes)
 
 -- it is the rule's
-abbrev pub IsByRule : Problem → Option ℕ → Proof → Type 0
-IsByRule p nodes k = k ≡ rule_certificate p nodes
+abbrev pub IsByRule : Problem → Method → Proof → Type 0
+IsByRule p m k = k ≡ rule_certificate p m
 
 -- as many nodes are allowed as a whole tree over the instance's candidates has
 abbrev pub IsEnoughFor : Problem → Option ℕ → Type 0
 IsEnoughFor p nodes = IsEnough (2 ^ (length p.candidates + 1)) nodes
 
 -- its bound is its cost: no nonempty set of candidates with any routing costs less
-pub record Solves (p : Problem) (nodes : Option ℕ) (tells : Proof → Type 0) : Type 0 where
+pub record Solves (p : Problem) (m : Method) (tells : Proof → Type 0) : Type 0 where
   pub certificate : Proof
-  pub by_rule : IsByRule p nodes certificate
-  pub finds : Finds p nodes tells certificate
+  pub by_rule : IsByRule p m certificate
+  pub finds : Finds p m tells certificate
   pub no_gap : certificate.bound ≡ certificate.cost
   pub optimal : IsOptimal p certificate.plan
 
 -- its bound is below its cost, since two nodes more are not allowed, and fewer than a whole tree has
-pub record Stops (p : Problem) (nodes : Option ℕ) (tells : Proof → Type 0) : Type 0 where
+pub record Stops (p : Problem) (m : Method) (tells : Proof → Type 0) : Type 0 where
   pub certificate : Proof
-  pub by_rule : IsByRule p nodes certificate
-  pub finds : Finds p nodes tells certificate
+  pub by_rule : IsByRule p m certificate
+  pub finds : Finds p m tells certificate
   pub gap : certificate.bound < certificate.cost
-  pub spent : IsSpent nodes (line_count certificate.tree)
-  pub not_enough : IsEnoughFor p nodes → ⊥
+  pub spent : IsSpent m.nodes (line_count certificate.tree)
+  pub not_enough : IsEnoughFor p m.nodes → ⊥
 
 -- the files give an instance, which the text solves
 pub record SolvesInstance (held : Option Files) (s : Solving) (text : List ℕ) : Type 0 where
   pub problem : Problem
   pub instance : WhereTold held (λ files. HoldsInstance files s.source problem)
-  pub solves : Solves problem s.search.nodes (Spells text)
+  pub solves : Solves problem (method_of s) (Spells text)
 
 -- the files give an instance, for which the text stops
 pub record StopsInstance (held : Option Files) (s : Solving) (text : List ℕ) : Type 0 where
   pub problem : Problem
   pub instance : WhereTold held (λ files. HoldsInstance files s.source problem)
-  pub stops : Stops problem s.search.nodes (Spells text)
+  pub stops : Stops problem (method_of s) (Spells text)
 
 -- ---- what `optimize` comes to
 
@@ -138,33 +153,33 @@ abbrev pub IsAtMostAll : Problem → Proof → Type 0
 IsAtMostAll p k = (cost : ℕ) → IsSetCost p p.candidates cost → k.cost ≤ cost
 
 -- the text is a certificate's whose bound is its cost: no nonempty set of candidates with any routing costs less
-pub record Optimizes (p : Problem) (nodes : Option ℕ) (text : List ℕ) : Type 0 where
+pub record Optimizes (p : Problem) (m : Method) (text : List ℕ) : Type 0 where
   pub certificate : Proof
-  pub finds : Finds p nodes (Spells text) certificate
+  pub finds : Finds p m (Spells text) certificate
   pub no_gap : certificate.bound ≡ certificate.cost
   pub optimal : IsOptimal p certificate.plan
 
 -- its bound is below its cost, since two nodes more are not allowed, and fewer than a whole tree has; it costs at most
 -- what all candidates as hubs cost
-pub record Bounds (p : Problem) (nodes : Option ℕ) (text : List ℕ) : Type 0 where
+pub record Bounds (p : Problem) (m : Method) (text : List ℕ) : Type 0 where
   pub certificate : Proof
-  pub finds : Finds p nodes (Spells text) certificate
+  pub finds : Finds p m (Spells text) certificate
   pub gap : certificate.bound < certificate.cost
-  pub spent : IsSpent nodes (line_count certificate.tree)
-  pub not_enough : IsEnoughFor p nodes → ⊥
+  pub spent : IsSpent m.nodes (line_count certificate.tree)
+  pub not_enough : IsEnoughFor p m.nodes → ⊥
   pub at_most : IsAtMostAll p certificate
 
 -- the files give an instance, which the text optimizes
 pub record OptimizesInstance (held : Option Files) (s : Solving) (text : List ℕ) : Type 0 where
   pub problem : Problem
   pub instance : WhereTold held (λ files. HoldsInstance files s.source problem)
-  pub optimizes : Optimizes problem s.search.nodes text
+  pub optimizes : Optimizes problem (method_of s) text
 
 -- the files give an instance, which the text bounds
 pub record BoundsInstance (held : Option Files) (s : Solving) (text : List ℕ) : Type 0 where
   pub problem : Problem
   pub instance : WhereTold held (λ files. HoldsInstance files s.source problem)
-  pub bounds : Bounds problem s.search.nodes text
+  pub bounds : Bounds problem (method_of s) text
 
 -- ---- what `check` and `report` come to
 

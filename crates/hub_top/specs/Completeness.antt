@@ -8,7 +8,7 @@ use Rattle.hub_make.specs.Contents.{made_problem}
 use Rattle.hub_top.specs.declared.status.Status.{Status}
 use Rattle.hub_top.specs.declared.status.Status.TheVariants.{Done, Stopped, Usage, Instance, Memory}
 use Rattle.hub_words.specs.Requests.{Source, Solving, Making, Search, Request, solve, optimize, check, report, make, demo, instance}
-use Rattle.hub_top.specs.Commands.{Blame, HasBlame, HoldsInstance, IsEnoughFor}
+use Rattle.hub_top.specs.Commands.{Blame, HasBlame, HoldsInstance, method_of, demo_method, IsEnoughFor}
 use Rattle.hub_top.specs.Answers.{verdict_status, report_status, rule_status}
 
 -- the run ended with a status of which this holds, or for want of memory
@@ -28,7 +28,7 @@ pub record Completeness (asked : Option Request) (held : Option Files) (quiet : 
       → instance request ≡ Some s → HasBlame files s blame fault → quiet → EndsWith Instance status
   -- `solve` with an instance: the status of what the search rule finds
   pub solved : (files : Files) (s : Solving) (p : Problem) → held ≡ Some files → asked ≡ Some (solve s)
-      → HoldsInstance files s.source p → quiet → EndsWith (rule_status p s.search.nodes) status
+      → HoldsInstance files s.source p → quiet → EndsWith (rule_status p (method_of s)) status
   -- and with as many nodes as a whole tree has it is solved
   pub enough : (files : Files) (s : Solving) (p : Problem) → held ≡ Some files → asked ≡ Some (solve s)
       → HoldsInstance files s.source p → IsEnoughFor p s.search.nodes → quiet → EndsWith Done status
@@ -50,7 +50,7 @@ pub record Completeness (asked : Option Request) (held : Option Files) (quiet : 
   pub made : (m : Making) → asked ≡ Some (make m) → quiet → EndsWith Done status
   -- `demo`: the status of what the search rule finds for the made instance
   pub shown : (m : Making) (search : Search) → asked ≡ Some (demo m search) → quiet
-      → EndsWith (rule_status (made_problem m.seed m.size) search.nodes) status
+      → EndsWith (rule_status (made_problem m.seed m.size) (demo_method search)) status
   -- and with as many nodes as a whole tree has it is solved
   pub shown_whole : (m : Making) (search : Search) → asked ≡ Some (demo m search)
       → IsEnoughFor (made_problem m.seed m.size) search.nodes → quiet → EndsWith Done status

@@ -1,10 +1,10 @@
 -- What the bytes of a certificate are for an instance, as the code has it.
-use Rattle.std.specs.Prelude.{◌≡◌, ℕ, ◌≤◌, List, length, Option, Some}
+use Rattle.std.specs.Prelude.{◌≡◌, ℕ, List, Option}
 use Rattle.hub_io.specs.Outside.{Files}
 use Rattle.hub_spec.specs.Problem.{Problem}
 use Rattle.hub_spec.specs.Certificates.{Holds}
 use Rattle.cert_spec.specs.Text.{Spells}
-use Rattle.cert_spec.specs.Verdicts.{Verdict, Why}
+use Rattle.cert_spec.specs.Verdicts.{Why}
 use Rattle.cert_checker.specs.Shows.{Proves, verdict_of}
 use Rattle.hub_words.specs.Requests.{Source}
 use Rattle.hub_top.specs.declared.status.Status.TheVariants.{No}
@@ -12,7 +12,7 @@ use Rattle.hub_top.specs.declared.answers.Answer.{Answer}
 use Rattle.hub_top.specs.declared.answers.Answer.TheVariants.{Judged, Reported}
 use Rattle.hub_top.specs.declared.reporting.Reading.{Reading}
 use Rattle.hub_top.specs.declared.reporting.Reading.TheVariants.{Certified, Refused}
-use Rattle.hub_top.specs.Commands.{WhereTold, JudgesFile}
+use Rattle.hub_top.specs.Commands.{JudgesFile}
 use Rattle.hub_top.specs.Answers.{verdict_status}
 use Rattle.hub_top.specs.Told.{ToldInstance}
 use Rattle.hub_top.specs.Judging.{IsVerdictOn, IsCertified}

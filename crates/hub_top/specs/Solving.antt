@@ -4,20 +4,20 @@ use Rattle.std.specs.List.{AllZip}
 use Rattle.hub_io.specs.Outside.{Files}
 use Rattle.hub_spec.specs.Problem.{Problem, IsProblem, commodities}
 use Rattle.hub_spec.specs.Plans.{IsSetCost, IsLeastRoute}
-use Rattle.search_spec.specs.Findings.{AreWithin, IsSpent}
+use Rattle.search_spec.specs.Findings.{AreWithin, IsSpent, certificate_of}
 use Rattle.kept_cuts.specs.Findings.{IsProved, proof_of}
 use Rattle.kept_cuts.specs.declared.found.Found.{Found}
 use Rattle.branch_tree.specs.Findings.{found_by, IsFound}
 use Rattle.hub_words.specs.Requests.{Source}
-use Rattle.hub_top.specs.Commands.{IsEnoughFor, rule_certificate}
+use Rattle.hub_top.specs.Commands.{IsEnoughFor}
 use Rattle.hub_top.specs.Told.{ToldInstance}
 
--- it is what the rule finds with so many nodes at most
+-- it is what the rule finds with so many nodes at most, in each version
 pub record IsSearched (p : Problem) (nodes : Option ℕ) (found : Found) : Type 0 where
   pub problem : IsProblem p
   pub finding : IsFound p (found_by p nodes) found
   pub proved : IsProved p found
-  pub certificate : proof_of p found (found_by p nodes).tree ≡ rule_certificate p nodes
+  pub certificate : (version : ℕ) → proof_of version p found (found_by p nodes).tree ≡ certificate_of p version (found_by p nodes)
 
 -- it is what the rule finds for the instance of the source
 pub record IsSolution (held : Option Files) (s : Source) (nodes : Option ℕ) (p : Problem) (found : Found) : Type 0 where

@@ -1,12 +1,12 @@
 -- What a text that solves an instance is to a check, that a search has one text, and that files have one fault.
-use Rattle.std.specs.Prelude.{◌≡◌, ℕ, ◌≤◌, List, length, Option, ◌⊎◌}
+use Rattle.std.specs.Prelude.{◌≡◌, ℕ, ◌≤◌, List, length, ◌⊎◌}
 use Rattle.hub_spec.specs.Problem.{Problem}
 use Rattle.cert_spec.specs.Text.{Spells}
 use Rattle.cert_spec.specs.Verdicts.{Verdict, optimal, bounds, Why, certificate_limit}
 use Rattle.file_spec.specs.Faults.{Fault}
 use Rattle.hub_io.specs.Outside.{Files}
 use Rattle.hub_words.specs.Requests.{Source}
-use Rattle.hub_top.specs.Commands.{Solves, Stops, Optimizes, Bounds, Blame, HasBlame}
+use Rattle.hub_top.specs.Commands.{Method, Solves, Stops, Optimizes, Bounds, Blame, HasBlame}
 
 -- the verdict is the one on the text, and no other
 abbrev pub IsOneVerdict : Problem → List ℕ → Verdict → Type 0
@@ -14,30 +14,30 @@ IsOneVerdict p text verdict = Why p text verdict × ((other : Verdict) → Why p
 
 -- the verdict on a text that solves the instance, and is not too long, is optimal, with the printed cost, and no other
 abbrev pub SolvedIsOptimal : Type 0
-SolvedIsOptimal = (p : Problem) (nodes : Option ℕ) (text : List ℕ) (solved : Solves p nodes (Spells text)) → length text ≤ certificate_limit
+SolvedIsOptimal = (p : Problem) (m : Method) (text : List ℕ) (solved : Solves p m (Spells text)) → length text ≤ certificate_limit
     → IsOneVerdict p text (optimal solved.certificate.cost)
 
 -- the verdict on a text that stops, and is not too long, is bounds, with the printed bound and cost, and no other
 abbrev pub StoppedIsBounds : Type 0
-StoppedIsBounds = (p : Problem) (nodes : Option ℕ) (text : List ℕ) (stopped : Stops p nodes (Spells text)) → length text ≤ certificate_limit
+StoppedIsBounds = (p : Problem) (m : Method) (text : List ℕ) (stopped : Stops p m (Spells text)) → length text ≤ certificate_limit
     → IsOneVerdict p text (bounds stopped.certificate.bound stopped.certificate.cost)
 
 -- the same of a text of `optimize`
 abbrev pub OptimizedIsOptimal : Type 0
-OptimizedIsOptimal = (p : Problem) (nodes : Option ℕ) (text : List ℕ) (optimized : Optimizes p nodes text) → length text ≤ certificate_limit
+OptimizedIsOptimal = (p : Problem) (m : Method) (text : List ℕ) (optimized : Optimizes p m text) → length text ≤ certificate_limit
     → IsOneVerdict p text (optimal optimized.certificate.cost)
 
 abbrev pub BoundedIsBounds : Type 0
-BoundedIsBounds = (p : Problem) (nodes : Option ℕ) (text : List ℕ) (bounded : Bounds p nodes text) → length text ≤ certificate_limit
+BoundedIsBounds = (p : Problem) (m : Method) (text : List ℕ) (bounded : Bounds p m text) → length text ≤ certificate_limit
     → IsOneVerdict p text (bounds bounded.certificate.bound bounded.certificate.cost)
 
--- the text solves the instance with so many nodes at most, or stops
-abbrev pub Ends : Problem → Option ℕ → List ℕ → Type 0
-Ends p nodes text = Solves p nodes (Spells text) ⊎ Stops p nodes (Spells text)
+-- the text solves the instance by the method, or stops
+abbrev pub Ends : Problem → Method → List ℕ → Type 0
+Ends p m text = Solves p m (Spells text) ⊎ Stops p m (Spells text)
 
--- an instance and a number of nodes have one text, whatever the workers
+-- an instance, a version and a number of nodes have one text, whatever the workers
 abbrev pub OneText : Type 0
-OneText = (p : Problem) (nodes : Option ℕ) (text other : List ℕ) → Ends p nodes text → Ends p nodes other → other ≡ text
+OneText = (p : Problem) (m : Method) (text other : List ℕ) → Ends p m text → Ends p m other → other ≡ text
 
 -- two faults that the same files have are one, told of one file
 abbrev pub OneBlame : Type 0

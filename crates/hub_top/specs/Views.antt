@@ -5,7 +5,9 @@ use Rattle.hub_spec.specs.Ranges.{IsShort}
 use Rattle.hub_model.specs.Faults.{fault_of}
 use Rattle.kept_cuts.specs.declared.found.Found.{Found as Finding}
 use Rattle.kept_cuts.specs.Findings.{IsProved}
+use Rattle.cert_scan.specs.Versions.{version_number}
 use Rattle.proof_text.specs.Texts.{found_text}
+use Rattle.proof_text.specs.Lenders.{IsLenderFor}
 use Rattle.network_report.specs.Texts.{report_text}
 use Rattle.hub_demo.specs.Texts.{demo_text}
 use Rattle.cert_checker.specs.Shows.{verdict_of}
@@ -15,8 +17,10 @@ use Rattle.hub_top.specs.declared.halts.Halt.{Halt}
 use Rattle.hub_top.specs.declared.halts.Halt.TheVariants as halts
 use Rattle.hub_top.specs.declared.answers.Answer.{Answer}
 use Rattle.hub_top.specs.declared.answers.Answer.TheVariants.{Judged, Reported, Made, Demonstrated}
+use Rattle.hub_top.specs.declared.outcomes.Settled.{Settled}
+use Rattle.hub_top.specs.declared.outcomes.Settled.TheVariants.{Answered, Found, Usage, Halted}
 use Rattle.hub_top.specs.declared.outcomes.Intended.{Intended}
-use Rattle.hub_top.specs.declared.outcomes.Intended.TheVariants.{Answered, Found, Usage, Halted}
+use Rattle.hub_top.specs.declared.outcomes.Intended.TheVariants as intended
 use Rattle.hub_top.specs.Texts.{verdict_text}
 use Rattle.hub_top.specs.Answers.{verdict_status}
 use Rattle.hub_top.specs.Outcomes.{Outcome, answered, usage, faulty, memory, read}
@@ -59,21 +63,36 @@ IsWritable (Reported instance certificate) = Holds instance certificate
 IsWritable (Made text) = Unit {0}
 IsWritable (Demonstrated size found) = HasAmounts found
 
--- what a run came to
-abbrev pub outcome : Intended → Outcome
-outcome (Answered answer) = answered (answer_status answer) (answer_text answer)
-outcome (Found instance found) = answered (finding_status found) (found_text instance found)
-outcome Usage = usage
-outcome (Halted halt) = halted halt
+-- what a run settled on
+abbrev pub came_to : Settled → Outcome
+came_to (Answered answer) = answered (answer_status answer) (answer_text answer)
+came_to (Found instance found version) = answered (finding_status found) (found_text (version_number version) instance found)
+came_to Usage = usage
+came_to (Halted halt) = halted halt
 
 -- what was found is proved of the instance
-abbrev pub CanBeWritten : Intended → Type 0
+abbrev pub CanBeWritten : Settled → Type 0
 CanBeWritten (Answered answer) = IsWritable answer
-CanBeWritten (Found instance found) = IsProved instance found
+CanBeWritten (Found instance found version) = IsProved instance found
 CanBeWritten Usage = Unit {0}
 CanBeWritten (Halted halt) = Unit {0}
 
--- what a command came to
-abbrev pub ended : Result Intended Halt → Outcome
-ended (Ok intended) = outcome intended
+-- what a command settled on
+abbrev pub ended : Result Settled Halt → Outcome
+ended (Ok settled) = came_to settled
 ended (Err halt) = halted halt
+
+-- what a run came to
+abbrev pub outcome : Intended → Outcome
+outcome (intended.Answered answer) = answered (answer_status answer.now) (answer_text answer.now)
+outcome (intended.Found instance found version lender) =
+    answered (finding_status found.now) (found_text (version_number version) instance.now found.now)
+outcome intended.Usage = usage
+outcome (intended.Halted halt) = halted halt
+
+-- what was found is proved of the instance, and the lender is for it
+abbrev pub IsReady : Intended → Type 0
+IsReady (intended.Answered answer) = IsWritable answer.now
+IsReady (intended.Found instance found version lender) = IsProved instance.now found.now × IsLenderFor instance.now lender
+IsReady intended.Usage = Unit {0}
+IsReady (intended.Halted halt) = Unit {0}

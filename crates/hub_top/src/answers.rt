@@ -51,15 +51,15 @@ pub fn status_of_finding(found: &Found) -> Status
 }
 
 /// Puts the answer. It takes no memory.
-pub fn put_answer<K: Sink>(answer: Answer, sink: &mut K) -> Result<(), Failed>
-    requires { IsWritable answer }
-    ensures { Puts K.taken K.faults sink.old sink.new result (answer_text answer) }
+pub fn put_answer<K: Sink>(answer: &Answer, sink: &mut K) -> Result<(), Failed>
+    requires { IsWritable answer.now }
+    ensures { Puts K.taken K.faults sink.old sink.new result (answer_text answer.now) }
 {
     match answer {
-        Answer::Judged(ending) => put_ending(&ending, sink),
-        Answer::Reported(instance, certificate) => report(&instance, &certificate, sink),
-        Answer::Made(text) => sink.put(&text),
-        Answer::Demonstrated(size, found) => put_finding(size, &found, sink),
+        Answer::Judged(ending) => put_ending(ending, sink),
+        Answer::Reported(instance, certificate) => report(instance, certificate, sink),
+        Answer::Made(text) => sink.put(text),
+        Answer::Demonstrated(size, found) => put_finding(*size, found, sink),
     }
 }
 

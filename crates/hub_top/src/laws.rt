@@ -31,7 +31,7 @@ pub fn bounded_is_bounds()
     ensures { BoundedIsBounds }
 {}
 
-/// An instance and a number of nodes have one text, whatever the workers.
+/// An instance, a version and a number of nodes have one text, whatever the workers.
 pub fn one_text()
     ensures { OneText }
 {}

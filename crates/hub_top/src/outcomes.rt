@@ -2,83 +2,108 @@
 
 ghost use Rattle.std.specs.Prelude.{◌≡◌, ◌⊎◌};
 ghost use Rattle.hub_io.specs.Outside.{Puts};
+ghost use Rattle.cert_scan.specs.Versions.{version_number};
 ghost use Rattle.kept_cuts.specs.Findings.{IsProved};
 ghost use Rattle.proof_text.specs.Lenders.{IsLenderFor};
 ghost use Rattle.proof_text.specs.Texts.{found_text};
 ghost use Rattle.hub_top.specs.Texts.{usage_text};
 ghost use Rattle.hub_top.specs.Outcomes.{IsTold, Written, err_text, memory, status_of};
-ghost use Rattle.hub_top.specs.Views.{CanBeWritten, IsWritable, answer_status, answer_text, finding_status, halted, outcome};
+ghost use Rattle.hub_top.specs.Views.{CanBeWritten, IsReady, IsWritable, answer_status, answer_text, came_to, finding_status, halted, outcome};
 ghost use Rattle.hub_top.specs.declared.status.Status.TheVariants.{Usage};
 
 use crate::Status;
 use crate::answers::{Answer, put_answer, status_of_answer, status_of_finding};
 use crate::halts::Halt;
 use crate::texts::{put_fault, put_memory, put_read, put_usage};
+use cert_format::Version;
 use hub_io::{Failed, Sink};
 use hub_model::Instance;
 use kept_cuts::Found;
 use proof_text::{DualLender, write_found};
 use std::alloc::Global;
 
-/// What a run came to, before anything is written.
+/// What a run settled on.
 #[derive(Drop)]
-pub enum Intended {
+pub enum Settled {
     /// The answer of a command.
     Answered(Answer),
-    /// The certificate of what `solve` or `optimize` found for the instance, once there is room to make its duals in.
-    Found(Instance, Found),
+    /// What `solve` or `optimize` found for the instance, whose certificate is wanted in this version.
+    Found(Instance, Found, Version),
     /// The words are no command.
     Usage,
     /// A command has no answer.
     Halted(Halt),
 }
 
-/// Writes what a run came to: an answer on out, and why there is none on err. Where a certificate's duals have to be made
-/// as it is written, the room for them is taken first, and the run may come to want of memory instead.
-pub fn write<O: Sink, E: Sink>(
-    alloc: Global,
-    intended: Intended,
-    out: &mut O,
-    err: &mut E,
-) -> Status
-    requires { CanBeWritten intended }
-    ensures { Written O.taken O.faults E.taken E.faults out.old out.new err.old err.new result (outcome intended)
-        ⊎ Written O.taken O.faults E.taken E.faults out.old out.new err.old err.new result memory }
+/// What a run came to, with all that the writing of it takes.
+#[derive(Drop)]
+pub enum Intended<'a> {
+    /// The answer of a command.
+    Answered(&'a Answer),
+    /// The certificate in this version of what was found for the instance, with room to make its duals in.
+    Found(&'a Instance, &'a Found, Version, DualLender<'a>),
+    /// The words are no command.
+    Usage,
+    /// A command has no answer.
+    Halted(Halt),
+}
+
+/// What a run comes to that settled on this: where memory for the writing of a certificate runs out, it is want of memory.
+pub fn intend<'a>(alloc: Global, what: &'a Settled) -> Intended<'a>
+    requires { CanBeWritten what.now }
+    ensures outcome { (outcome result ≡ came_to what.now) ⊎ (outcome result ≡ memory) }
+    ensures ready { IsReady result }
+{
+    match what {
+        Settled::Answered(answer) => Intended::Answered(answer),
+        Settled::Found(instance, found, version) => match DualLender::new(alloc, instance) {
+            Ok(lender) => Intended::Found(instance, found, *version, lender),
+            Err(_) => Intended::Halted(Halt::Memory),
+        },
+        Settled::Usage => Intended::Usage,
+        Settled::Halted(halt) => Intended::Halted(*halt),
+    }
+}
+
+/// Writes what a run came to: an answer on out, and why there is none on err. It takes no memory.
+pub fn write<O: Sink, E: Sink>(intended: Intended, out: &mut O, err: &mut E) -> Status
+    requires { IsReady intended }
+    ensures { Written O.taken O.faults E.taken E.faults out.old out.new err.old err.new result (outcome intended.entry) }
 {
     match intended {
         Intended::Answered(answer) => write_answer(answer, out),
-        Intended::Found(instance, found) => match DualLender::new(alloc, &instance) {
-            Ok(mut lender) => write_certificate(&instance, &found, &mut lender, out),
-            Err(_) => write_halt(&Halt::Memory, err),
-        },
+        Intended::Found(instance, found, version, mut lender) => {
+            write_certificate(instance, found, version, &mut lender, out)
+        }
         Intended::Usage => write_usage(err),
         Intended::Halted(halt) => write_halt(&halt, err),
     }
 }
 
-fn write_answer<O: Sink>(answer: Answer, out: &mut O) -> Status
-    requires { IsWritable answer }
-    ensures { IsTold O.taken O.faults out.old out.new result (answer_status answer) (answer_text answer) }
+fn write_answer<O: Sink>(answer: &Answer, out: &mut O) -> Status
+    requires { IsWritable answer.now }
+    ensures { IsTold O.taken O.faults out.old out.new result (answer_status answer.now) (answer_text answer.now) }
 {
-    let status = status_of_answer(&answer);
     match put_answer(answer, out) {
-        Ok(()) => status,
+        Ok(()) => status_of_answer(answer),
         Err(_) => Status::Write,
     }
 }
 
-/// Writes the certificate of what a search found.
+/// Writes the certificate of what a search found, in this version.
 fn write_certificate<O: Sink>(
     instance: &Instance,
     found: &Found,
+    version: Version,
     lender: &mut DualLender,
     out: &mut O,
 ) -> Status
     requires lender { IsLenderFor instance.now lender.old }
     requires proved { IsProved instance.now found.now }
-    ensures { IsTold O.taken O.faults out.old out.new result (finding_status found.now) (found_text instance.now found.now) }
+    ensures { IsTold O.taken O.faults out.old out.new result (finding_status found.now)
+        (found_text (version_number version) instance.now found.now) }
 {
-    match write_found(instance, found, lender, out) {
+    match write_found(instance, found, version, lender, out) {
         Ok(()) => status_of_finding(found),
         Err(_) => Status::Write,
     }

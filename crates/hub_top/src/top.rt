@@ -3,9 +3,9 @@
 ghost use Rattle.std.specs.Prelude.{◌≡◌, ◌⊎◌, IfOk, IfSome, None, Some};
 ghost use Rattle.hub_io.specs.Outside.{Rose};
 ghost use Rattle.hub_words.specs.Words as spec;
-ghost use Rattle.hub_words.specs.Requests.{AreSources, IsMaking, IsSearch, Request, instance, making_of, search_of};
+ghost use Rattle.hub_words.specs.Requests.{AreSources, IsMaking, IsSearch, IsVersion, Request, instance, making_of, search_of, version_of};
 ghost use Rattle.hub_words.specs.Views.{request_of, texts};
-ghost use Rattle.hub_top.specs.Views.{CanBeWritten, ended, outcome};
+ghost use Rattle.hub_top.specs.Views.{CanBeWritten, came_to, ended};
 ghost use Rattle.hub_top.specs.Outcomes.{Outcome, MayComeTo, ShelfFails, Quiet, Written};
 ghost use Rattle.hub_top.specs.Meanings.{Means};
 ghost use Rattle.hub_top.specs.Completeness.{Completeness};
@@ -15,7 +15,7 @@ use crate::Status;
 use crate::answers::Answer;
 use crate::checking::check;
 use crate::halts::Halt;
-use crate::outcomes::{Intended, write};
+use crate::outcomes::{Settled, intend, write};
 use crate::reporting::report;
 use crate::solving::{demonstrate, optimize, solve};
 use hub_io::{Gate, Shelf, Sink};
@@ -26,9 +26,9 @@ use std::thread::Threads;
 
 /// Runs the command that the words give, of which the first is the program's name.
 ///
-/// It reads and decides first, and then writes: the answer of the command on `out`, or what hinders it on `err`. `make`
-/// and `demo` call nothing on the shelf. The runtime and the gate serve the workers of a search alone: no clause reads
-/// them, nor the number of workers, and out takes the same text whatever they are.
+/// It reads and decides first, takes the room that the writing needs, and then writes: the answer of the command on `out`,
+/// or what hinders it on `err`. `make` and `demo` call nothing on the shelf. The runtime and the gate serve the workers of a
+/// search alone: no clause reads them, nor the number of workers, and out takes the same text whatever they are.
 ///
 /// - `ends`: there is an outcome that the words, the files and the shelf's faults allow, and it was written, with its
 ///   status; where a sink failed, a front of the text that it was to take, and nothing further.
@@ -59,30 +59,31 @@ pub fn run<R: Threads + Sync, S: Shelf, O: Sink, E: Sink, G: Gate>(
     ensures same { S.held shelf.new ≡ S.held shelf.old }
     ensures untouched { (request : Request) → spec.asked (texts words.now) ≡ Some request → instance request ≡ None → shelf.new ≡ shelf.old }
 {
-    let intended = intend(rt, alloc, words, shelf, gate);
-    write(alloc, intended, out, err)
+    let settled = settle(rt, alloc, words, shelf, gate);
+    let intended = intend(alloc, &settled);
+    write(intended, out, err)
 }
 
 /// What the words and files come to. It writes nothing.
-fn intend<R: Threads + Sync, S: Shelf, G: Gate>(
+fn settle<R: Threads + Sync, S: Shelf, G: Gate>(
     rt: &R,
     alloc: Global,
     words: &[String],
     shelf: &mut S,
     gate: &G,
-) -> Intended
+) -> Settled
     ensures may { MayComeTo (spec.asked (texts words.now)) (S.held shelf.old)
-        (ShelfFails S.held S.faults S.sound shelf.old shelf.new) (outcome result) }
+        (ShelfFails S.held S.faults S.sound shelf.old shelf.new) (came_to result) }
     ensures writable { CanBeWritten result }
     ensures same { S.held shelf.new ≡ S.held shelf.old }
     ensures untouched { (request : Request) → spec.asked (texts words.now) ≡ Some request → instance request ≡ None → shelf.new ≡ shelf.old }
 {
     match asked(alloc, words) {
-        Err(_) => Intended::Halted(Halt::Memory),
-        Ok(None) => Intended::Usage,
+        Err(_) => Settled::Halted(Halt::Memory),
+        Ok(None) => Settled::Usage,
         Ok(Some(command)) => match answer(rt, alloc, &command, shelf, gate) {
-            Ok(intended) => intended,
-            Err(halt) => Intended::Halted(halt),
+            Ok(settled) => settled,
+            Err(halt) => Settled::Halted(halt),
         },
     }
 }
@@ -94,9 +95,10 @@ fn answer<R: Threads + Sync, S: Shelf, G: Gate>(
     command: &Command<'_>,
     shelf: &mut S,
     gate: &G,
-) -> Result<Intended, Halt>
+) -> Result<Settled, Halt>
     requires sources { IfSome (instance (request_of command.now)) AreSources }
     requires searches { IfSome (search_of (request_of command.now)) IsSearch }
+    requires versions { IfSome (version_of (request_of command.now)) IsVersion }
     requires makings { IfSome (making_of (request_of command.now)) IsMaking }
     ensures may { MayComeTo (Some (request_of command.now)) (S.held shelf.old)
         (ShelfFails S.held S.faults S.sound shelf.old shelf.new) (ended result) }
@@ -107,27 +109,27 @@ fn answer<R: Threads + Sync, S: Shelf, G: Gate>(
     match command {
         Command::Solve(solving) => {
             let (instance, found) = solve(rt, alloc, &solving.source, solving.search, shelf, gate)?;
-            Ok(Intended::Found(instance, found))
+            Ok(Settled::Found(instance, found, solving.version))
         }
         Command::Optimize(solving) => {
             let (instance, found) = optimize(rt, alloc, &solving.source, solving.search, shelf)?;
-            Ok(Intended::Found(instance, found))
+            Ok(Settled::Found(instance, found, solving.version))
         }
         Command::Check(source, certificate) => {
             let ending = check(alloc, source, certificate, shelf)?;
-            Ok(Intended::Answered(Answer::Judged(ending)))
+            Ok(Settled::Answered(Answer::Judged(ending)))
         }
         Command::Report(source, certificate) => {
             let answer = report(rt, alloc, source, certificate, shelf)?;
-            Ok(Intended::Answered(answer))
+            Ok(Settled::Answered(answer))
         }
         Command::Make(making) => {
             let text = instance_text(alloc, making.seed, making.size)?;
-            Ok(Intended::Answered(Answer::Made(text)))
+            Ok(Settled::Answered(Answer::Made(text)))
         }
         Command::Demo(making, search) => {
             let found = demonstrate(rt, alloc, *making, *search, gate)?;
-            Ok(Intended::Answered(Answer::Demonstrated(making.size, found)))
+            Ok(Settled::Answered(Answer::Demonstrated(making.size, found)))
         }
     }
 }

@@ -3,15 +3,15 @@ use Rattle.hub_words.specs.Requests.{Request}
 use Rattle.hub_words.specs.Words as spec
 use Rattle.hub_words.specs.Views.{request_of, requested, texts}
 use Rattle.hub_top.specs.Outcomes.{MayComeTo, ShelfFails}
-use Rattle.hub_top.specs.Views.{outcome, halted}
-use Rattle.hub_top.proofs.top.intend.Goals as goal
+use Rattle.hub_top.specs.Views.{came_to, halted}
+use Rattle.hub_top.proofs.top.settle.Goals as goal
 
 pub returns-in-Ok-clause-may : goal.returns-in-Ok-clause-may
 returns-in-Ok-clause-may g c =
     let asks : Some (request_of c.in-Ok-Some.command) ≡ spec.asked (texts c.args.words.now) =
     ap requested (sym c.in-Ok-Some.field-0-is) ∙ c.in-Ok-Some.ensures.command in
     let fails = ShelfFails g.S.Shelf.held g.S.Shelf.faults g.S.Shelf.sound c.args.shelf.now c.answer.new.shelf in
-    subst (λ (x : Option Request). MayComeTo x (g.S.Shelf.held c.args.shelf.now) fails (outcome c.in-Ok.intended))
+    subst (λ (x : Option Request). MayComeTo x (g.S.Shelf.held c.args.shelf.now) fails (came_to c.in-Ok.settled))
     asks c.in-Ok.ensures.may
 
 pub returns-clause-may : goal.returns-clause-may
