@@ -18,7 +18,7 @@ use Rattle.search_steps.specs.Pools.{entry_cut, IsSumsOf, IsPoolOf, pool_sets, p
 use Rattle.search_core.specs.declared.tasks.Task.{Task}
 use Rattle.branch_tree.specs.declared.progress.Progress.{Progress}
 use Rattle.kept_cuts.specs.Findings.{lines_of}
-use Rattle.branch_tree.specs.Findings.{parts_of}
+use Rattle.search_steps.specs.Advising.{parts_of}
 use Rattle.branch_tree.specs.Progressing.{state_of, IsGoing, IsAt}
 
 -- the cut of the set over the order

@@ -17,12 +17,12 @@ use Rattle.search_spec.proofs.RuleParts.{rule_sound}
 use Rattle.search_spec.proofs.WholeSearches.{begun_start, search_proof, search_counted, search_stopped, enough_nodes}
 use Rattle.search_spec.proofs.FoundProofs.{certificate_holds_lem, certificate_in_range_lem, answer_bounds_lem}
 use Rattle.search_spec.proofs.LeastRoutes.{certificate_is_one_lem}
-use Rattle.search_steps.specs.Advising.{master_advising}
+use Rattle.search_steps.specs.Advising.{master_advising, parts_of}
 use Rattle.search_steps.proofs.MasterNumbers.{advising_sound}
 use Rattle.kept_cuts.specs.Findings.{proof_of, IsProved}
 use Rattle.kept_cuts.specs.declared.found.Found.{Found}
 use Rattle.kept_cuts.proofs.Versions.{has_text}
-use Rattle.branch_tree.specs.Findings.{parts_of, found_by, IsFound}
+use Rattle.branch_tree.specs.Findings.{found_by, IsFound}
 
 -- the state that a search begins with
 abbrev pub start_of : Problem → State

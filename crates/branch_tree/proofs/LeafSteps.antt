@@ -16,7 +16,7 @@ use Rattle.search_spec.proofs.StepCases.{full_found, full_new}
 use Rattle.search_steps.specs.Pools.{entry_cut, pool_cuts}
 use Rattle.search_core.specs.declared.tasks.Task.{Task}
 use Rattle.branch_tree.specs.declared.progress.Progress.{Progress}
-use Rattle.branch_tree.specs.Findings.{parts_of}
+use Rattle.search_steps.specs.Advising.{parts_of}
 use Rattle.branch_tree.specs.Progressing.{state_of, IsAt}
 
 -- ---- a stop

@@ -4,14 +4,13 @@ use Rattle.hub_spec.specs.Problem.{Problem}
 use Rattle.hub_spec.specs.Trees.{Branching}
 use Rattle.search_spec.specs.States.{State, Advice, number_in_pool}
 use Rattle.search_spec.specs.Steps.{better, closes_at, separated, round, rounds}
-use Rattle.search_spec.specs.Choices.{rule_parts, picked, order_by_point, by_falling, others}
+use Rattle.search_spec.specs.Choices.{rule_parts, order_by_point, by_falling, others}
 use Rattle.search_spec.proofs.StepCases.{round_over, round_new}
-use Rattle.search_steps.specs.Advising.{master_advising}
+use Rattle.search_steps.specs.Advising.{master_advising, parts_of}
 use Rattle.search_steps.specs.Weights.{AreNodeWeights}
 use Rattle.search_core.specs.declared.tasks.Task.{Task}
 use Rattle.branch_tree.specs.declared.progress.Progress.{Progress}
 use Rattle.branch_tree.specs.declared.rounds.RoundEnd.{RoundEnd}
-use Rattle.branch_tree.specs.Findings.{parts_of}
 use Rattle.branch_tree.specs.Rounding.{round_as, IsRound}
 
 or_second : (x y : Bool) → y ≡ true → (x || y) ≡ true
@@ -30,29 +29,25 @@ advice_is : (p : Problem) (s : State) (b : Branching) → (parts_of p).advice s 
 unfolding rule_parts
 advice_is p s b = refl
 
-pick_is : (p : Problem) (a : Advice) (b : Branching) → (parts_of p).pick a b ≡ picked p a b
-unfolding rule_parts
-pick_is p a b = refl
-
 pub falling_is : (p : Problem) (a : Advice) (set : List ℕ) → (parts_of p).falling a set ≡ by_falling a.point (others p set)
 unfolding rule_parts order_by_point
 falling_is p a set = refl
 
 -- the weights close, or the set is known
 pub round_ends : (p : Problem) (b : Branching) (w : List (ℕ × ℕ)) (s : State) (a : Advice) (best : List (ℕ × ℕ)) → IsTaken p b w s a best
-    → (closes_at p s b best ≡ true) ⊎ (is_some (number_in_pool s (picked p a b)) ≡ true)
+    → (closes_at p s b best ≡ true) ⊎ (is_some (number_in_pool s ((parts_of p).pick a b)) ≡ true)
     → record { state = s; weights = best; advice = a; again = false } ≡ round p (parts_of p) b w s
 round_ends p b w s a best taken over =
     let advice : a ≡ (parts_of p).advice s b = taken.advice ∙ sym (advice_is p s b) in
     let weights : best ≡ better p s b w ((parts_of p).advice s b).weights = taken.weights ∙ ap (λ (x : Advice). better p s b w x.weights) advice in
-    let set : picked p a b ≡ (parts_of p).pick ((parts_of p).advice s b) b = ap (λ (x : Advice). picked p x b) advice ∙ sym (pick_is p ((parts_of p).advice s b) b) in
+    let set : (parts_of p).pick a b ≡ (parts_of p).pick ((parts_of p).advice s b) b = ap (λ (x : Advice). (parts_of p).pick x b) advice in
     let both : record { state = s; weights = best; advice = a; again = false }
     ≡ record { state = s; weights = better p s b w ((parts_of p).advice s b).weights; advice = (parts_of p).advice s b; again = false }
     = λ i. record { state = s; weights = weights i; advice = advice i; again = false } in
     both ∙ sym (round_over p (parts_of p) b w s (ends over weights set))
   where
-    ends : (closes_at p s b best ≡ true) ⊎ (is_some (number_in_pool s (picked p a b)) ≡ true)
-        → best ≡ better p s b w ((parts_of p).advice s b).weights → picked p a b ≡ (parts_of p).pick ((parts_of p).advice s b) b
+    ends : (closes_at p s b best ≡ true) ⊎ (is_some (number_in_pool s ((parts_of p).pick a b)) ≡ true)
+        → best ≡ better p s b w ((parts_of p).advice s b).weights → (parts_of p).pick a b ≡ (parts_of p).pick ((parts_of p).advice s b) b
         → (closes_at p s b (better p s b w ((parts_of p).advice s b).weights)
         || is_some (number_in_pool s ((parts_of p).pick ((parts_of p).advice s b) b))) ≡ true
     ends (inl closed) weights set =
@@ -65,14 +60,14 @@ round_ends p b w s a best taken over =
 
 -- the set is separated
 pub round_goes : (p : Problem) (b : Branching) (w : List (ℕ × ℕ)) (s : State) (a : Advice) (best : List (ℕ × ℕ)) (set order : List ℕ) (next : State)
-    → IsTaken p b w s a best → closes_at p s b best ≡ false → set ≡ picked p a b → is_some (number_in_pool s set) ≡ false
+    → IsTaken p b w s a best → closes_at p s b best ≡ false → set ≡ (parts_of p).pick a b → is_some (number_in_pool s set) ≡ false
     → order ≡ by_falling a.point (others p set) → next ≡ separated (parts_of p) set order s
     → record { state = next; weights = best; advice = a; again = true } ≡ round p (parts_of p) b w s
 round_goes p b w s a best set order next taken open_still picks unknown falls after =
     let parts = parts_of p in
     let advice : a ≡ parts.advice s b = taken.advice ∙ sym (advice_is p s b) in
     let weights : best ≡ better p s b w (parts.advice s b).weights = taken.weights ∙ ap (λ (x : Advice). better p s b w x.weights) advice in
-    let is_set : set ≡ parts.pick (parts.advice s b) b = picks ∙ ap (λ (x : Advice). picked p x b) advice ∙ sym (pick_is p (parts.advice s b) b) in
+    let is_set : set ≡ parts.pick (parts.advice s b) b = picks ∙ ap (λ (x : Advice). (parts_of p).pick x b) advice in
     let is_order : order ≡ parts.falling (parts.advice s b) (parts.pick (parts.advice s b) b) =
     falls ∙ sym (falling_is p a set) ∙ ap₂ (λ (x : Advice) (y : List ℕ). parts.falling x y) advice is_set in
     let states : next ≡ separated parts (parts.pick (parts.advice s b) b) (parts.falling (parts.advice s b) (parts.pick (parts.advice s b) b)) s =

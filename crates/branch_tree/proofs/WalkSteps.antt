@@ -113,7 +113,3 @@ on_free_in_child side b k (g ∷ rest) apart are = (
   are.1,
   on_free_in_child side b k rest (All-tail (λ (h : ℕ × Side). k ≢ h.0) g rest apart) are.2,
 )
-
--- a node is free where one of them is left
-pub some_free_by : (b : Branching) (k : ℕ) → Contains b.free k → 1 ≤ length b.free
-some_free_by b k (i, below, is) = omega (arith, below)

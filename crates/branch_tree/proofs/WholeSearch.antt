@@ -24,7 +24,8 @@ use Rattle.branch_tree.specs.declared.progress.Progress.{Progress}
 use Rattle.kept_cuts.specs.Kept.{IsOfSet, kept_hubs, kept_cuts}
 use Rattle.kept_cuts.specs.Findings.{lines_of}
 use Rattle.kept_cuts.specs.declared.found.Found.{Found}
-use Rattle.branch_tree.specs.Findings.{parts_of, IsFound}
+use Rattle.branch_tree.specs.Findings.{IsFound}
+use Rattle.search_steps.specs.Advising.{parts_of}
 use Rattle.branch_tree.specs.Progressing.{state_of, IsGoing}
 use Rattle.branch_tree.proofs.FoundCertificates.{parts_sound, few_lines_of}
 use Rattle.branch_tree.proofs.KeptPools.{AreColumnsOf, kept_pool_sets, kept_pool_of_sets, kept_pool_cuts, kept_pool}

@@ -5,16 +5,12 @@ use Rattle.hub_spec.specs.Limits.{most_cuts, most_tree_lines}
 use Rattle.hub_spec.specs.Problem.{Problem, IsProblem, commodities}
 use Rattle.hub_spec.specs.Plans.{IsLeastRoute}
 use Rattle.hub_spec.specs.Trees.{preorder, line_count}
-use Rattle.search_spec.specs.States.{Parts, Grown, answer}
-use Rattle.search_spec.specs.Choices.{rule_parts, rule}
+use Rattle.search_spec.specs.States.{Grown, answer}
+use Rattle.search_spec.specs.Choices.{rule}
 use Rattle.search_steps.specs.Advising.{master_advising}
 use Rattle.kept_cuts.specs.Kept.{IsOfSet, kept_hubs, kept_cuts, AreKeptFor}
 use Rattle.kept_cuts.specs.Findings.{lines_of, IsProved}
 use Rattle.kept_cuts.specs.declared.found.Found.{Found}
-
--- the parts of the rule, with the master's advice
-abbrev pub parts_of : Problem → Parts
-parts_of p = rule_parts p (master_advising p)
 
 -- what the rule finds with the master's advice, where this is the most nodes
 abbrev pub found_by : Problem → Option ℕ → Grown

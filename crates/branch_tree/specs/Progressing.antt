@@ -10,7 +10,7 @@ use Rattle.search_steps.specs.Pools.{IsPoolOf, state_by}
 use Rattle.search_core.specs.declared.tasks.Task.{Task}
 use Rattle.branch_tree.specs.declared.progress.Progress.{Progress}
 use Rattle.kept_cuts.specs.Findings.{lines_of}
-use Rattle.branch_tree.specs.Findings.{parts_of}
+use Rattle.search_steps.specs.Advising.{parts_of}
 
 -- how the rule handles a branch with fewer free nodes than this depth
 abbrev pub handling : Task → ℕ → Handling

@@ -1,31 +1,33 @@
 //! The leaves of the tree.
 
-ghost use Rattle.std.specs.Prelude.{◌≡◌, length, All, OnOk};
+ghost use Rattle.std.specs.Prelude.{◌≡◌, Some, length, All, OnOk};
 ghost use Rattle.hub_spec.specs.Plans.{IsHubSet};
 ghost use Rattle.hub_spec.specs.Trees.{IsBranch, leaf};
 ghost use Rattle.hub_model.specs.Amounts.{IsNatural};
 ghost use Rattle.search_spec.specs.States.{denominator};
 ghost use Rattle.search_spec.specs.Steps.{full_on, stopped_leaf, ended};
 ghost use Rattle.search_steps.specs.Weights.{AreNodeWeights, pairs_of};
-ghost use Rattle.branch_tree.specs.Findings.{parts_of};
+ghost use Rattle.search_steps.specs.Advising.{parts_of};
 ghost use Rattle.branch_tree.specs.Progressing.{state_of, IsGoing, IsDone};
 
 use crate::progress::add_line;
 use crate::separating::number_of;
 use crate::walk::Walk;
 use hub_plain::outside;
-use plan_model::{Branch, HubSet, TreeLine};
+use plan_model::{Branch, HubSet};
 use search_core::{lesser, rounded_up, whole_leaf};
-use search_steps::{leaf_line, weights_bound};
+use search_steps::{NodeWeights, Rule, leaf_line};
 use separators::Separator;
 use std::alloc::AllocError;
 
-impl Walk<'_> {
+impl<R: Rule> Walk<'_, R> {
     /// Adds the leaf with these weights.
     pub(crate) fn add_leaf(&mut self, weights: &[i128]) -> Result<(), AllocError>
+        requires serves { R.serves self.old.rule.now self.old.task.now.instance.now }
         requires going { IsGoing self.old.task.now self.old.progress }
         requires weights { All IsNatural weights.now }
         ensures same { self.new.task.now ≡ self.old.task.now }
+        ensures serves { R.serves self.new.rule.now self.new.task.now.instance.now }
         ensures added { let p = self.old.task.now.instance.now in
             OnOk result (IsDone self.old.task.now self.old.progress self.new.progress
             (record { state = state_of p self.old.progress; tree = leaf denominator (pairs_of weights.now) })) }
@@ -40,15 +42,22 @@ impl Walk<'_> {
         branch: &Branch,
         weights: &[i128],
     ) -> Result<(), AllocError>
+        requires serves { R.serves self.old.rule.now self.old.task.now.instance.now }
         requires going { IsGoing self.old.task.now self.old.progress }
         requires branch { IsBranch self.old.task.now.instance.now branch.now }
         requires weights { AreNodeWeights (length self.old.progress.pool.entries) weights.now }
         ensures same { self.new.task.now ≡ self.old.task.now }
+        ensures serves { R.serves self.new.rule.now self.new.task.now.instance.now }
         ensures stopped { let p = self.old.task.now.instance.now in
             OnOk result (IsDone self.old.task.now self.old.progress self.new.progress
             (stopped_leaf p branch.now (pairs_of weights.now) (state_of p self.old.progress))) }
     {
-        let bound = weights_bound(self.task.instance, &self.progress.pool, branch, weights);
+        let weighed = NodeWeights {
+            instance: self.task.instance,
+            pool: &self.progress.pool,
+            weights,
+        };
+        let bound = self.rule.bound(&weighed, branch);
         self.progress.stop = Some(lesser(rounded_up(bound), self.progress.stop));
         let line = leaf_line(self.alloc, weights)?;
         add_line(&mut self.progress, line)
@@ -62,10 +71,12 @@ impl Walk<'_> {
         hubs: &[u32],
     ) -> Result<(), AllocError>
         requires ready { S.ready separator.old }
+        requires serves { R.serves self.old.rule.now self.old.task.now.instance.now }
         requires going { IsGoing self.old.task.now self.old.progress }
         requires set { IsHubSet self.old.task.now.instance.now hubs.now }
         ensures ready { S.ready separator.new }
         ensures same { self.new.task.now ≡ self.old.task.now }
+        ensures serves { R.serves self.new.rule.now self.new.task.now.instance.now }
         ensures full { let p = self.old.task.now.instance.now in
             OnOk result (IsDone self.old.task.now self.old.progress self.new.progress
             (full_on (parts_of p) hubs.now (state_of p self.old.progress))) }
@@ -81,25 +92,28 @@ impl Walk<'_> {
         add_line(&mut self.progress, line)
     }
 
-    /// Ends a branch in which no node is free: with the line of no hub, or the leaf of the set of its hubs.
+    /// Ends a branch in which the set of these hubs is left alone: with the line of its end, or the leaf of the set.
     pub(crate) fn end_branch<S: Separator>(
         &mut self,
         separator: &mut S,
         branch: &Branch,
+        hubs: &[u32],
     ) -> Result<(), AllocError>
         requires ready { S.ready separator.old }
+        requires serves { R.serves self.old.rule.now self.old.task.now.instance.now }
         requires going { IsGoing self.old.task.now self.old.progress }
         requires branch { IsBranch self.old.task.now.instance.now branch.now }
-        requires none_free { length branch.now.free ≡ 0 }
+        requires alone { (parts_of self.old.task.now.instance.now).only branch.now ≡ Some hubs.now }
         ensures ready { S.ready separator.new }
         ensures same { self.new.task.now ≡ self.old.task.now }
+        ensures serves { R.serves self.new.rule.now self.new.task.now.instance.now }
         ensures ended { let p = self.old.task.now.instance.now in
             OnOk result (IsDone self.old.task.now self.old.progress self.new.progress
-            (ended (parts_of p) branch.now (state_of p self.old.progress) branch.now.inside)) }
+            (ended (parts_of p) branch.now (state_of p self.old.progress) hubs.now)) }
     {
-        if branch.inside().is_empty() {
-            return add_line(&mut self.progress, TreeLine::Empty);
+        if let Some(line) = self.rule.end(branch) {
+            return add_line(&mut self.progress, line);
         }
-        self.full_leaf(separator, branch.inside())
+        self.full_leaf(separator, hubs)
     }
 }

@@ -1,9 +1,10 @@
 //! The search by rule, with the certificate of what it finds.
 //!
-//! `search` walks the tree of branches, the open child first. At a node it takes up to three rounds of the master's
-//! advice, each of which separates a hub set; the bound of the weights then closes the node, decides candidates one by
-//! one, or leaves two children. With a most number of nodes it stops where two more are not allowed, and each node that
-//! is left becomes a leaf. `Found` has the plan with its cost, the bound, the cuts and the tree that show it.
+//! `search` walks the tree of branches, the open child first; what hangs on the plans that are wanted it asks of a rule
+//! (`search_steps`). At a node it takes up to three rounds of the master's advice, each of which separates a hub set; the
+//! bound of the weights then closes the node, decides candidates one by one, or leaves two children. With a most number
+//! of nodes it stops where two more are not allowed, and each node that is left becomes a leaf. `Found` has the plan with
+//! its cost, the bound, the cuts and the tree that show it.
 //!
 //! Each function does what the step of its name in the search's definition says (`search_spec`): it leaves the state that
 //! the step leaves, and adds the lines of its tree in preorder. What holds of the finding is proved of the definition.
@@ -18,6 +19,7 @@ mod searching;
 mod separating;
 mod walk;
 mod walking;
+mod weighing;
 
 pub use laws::search_is_proved;
 pub use searching::search;

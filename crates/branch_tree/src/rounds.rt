@@ -1,10 +1,11 @@
 //! The rounds of a node: advice is taken, and a hub set is separated by it.
 
-ghost use Rattle.std.specs.Prelude.{◌≡◌, ◌≤◌, length, IfOk};
+ghost use Rattle.std.specs.Prelude.{◌≡◌, length, IfOk};
 ghost use Rattle.hub_spec.specs.Trees.{IsBranch};
-ghost use Rattle.search_spec.specs.Steps.{better, closes_at, round, rounds};
+ghost use Rattle.search_spec.specs.Laws.{GoesOn};
+ghost use Rattle.search_spec.specs.Steps.{round, rounds};
 ghost use Rattle.search_steps.specs.Weights.{AreNodeWeights, pairs_of};
-ghost use Rattle.branch_tree.specs.Findings.{parts_of};
+ghost use Rattle.search_steps.specs.Advising.{parts_of};
 ghost use Rattle.branch_tree.specs.Progressing.{state_of, IsGoing};
 ghost use Rattle.branch_tree.specs.Rounding.{round_as, IsRound};
 
@@ -13,7 +14,7 @@ use crate::walk::Walk;
 use frac_master::Advice;
 use pareto_cuts::order_of;
 use plan_model::{Branch, HubSet};
-use search_steps::{closes, is_better, node_advice, pick};
+use search_steps::{Rule, node_advice};
 use separators::Separator;
 use std::alloc::AllocError;
 
@@ -26,7 +27,7 @@ pub(crate) struct RoundEnd {
     pub(crate) again: bool,
 }
 
-impl Walk<'_> {
+impl<R: Rule> Walk<'_, R> {
     /// Up to three rounds in the branch, which begin with these weights.
     pub(crate) fn rounds<S: Separator>(
         &mut self,
@@ -35,12 +36,14 @@ impl Walk<'_> {
         weights: &[i128],
     ) -> Result<RoundEnd, AllocError>
         requires ready { S.ready separator.old }
+        requires serves { R.serves self.old.rule.now self.old.task.now.instance.now }
         requires going { IsGoing self.old.task.now self.old.progress }
         requires branch { IsBranch self.old.task.now.instance.now branch.now }
-        requires some_free { 1 ≤ length branch.now.free }
+        requires goes_on { GoesOn (parts_of self.old.task.now.instance.now) branch.now }
         requires weights { AreNodeWeights (length self.old.progress.pool.entries) weights.now }
         ensures ready { S.ready separator.new }
         ensures same { self.new.task.now ≡ self.old.task.now }
+        ensures serves { R.serves self.new.rule.now self.new.task.now.instance.now }
         ensures rounds { let p = self.old.task.now.instance.now in let parts = parts_of p in
             IfOk result (λ r. IsRound self.old.task.now self.old.progress self.new.progress r
             (rounds 2 p parts branch.now (round p parts branch.now (pairs_of weights.now) (state_of p self.old.progress)))) }
@@ -58,12 +61,14 @@ impl Walk<'_> {
         last: RoundEnd,
     ) -> Result<RoundEnd, AllocError>
         requires ready { S.ready separator.old }
+        requires serves { R.serves self.old.rule.now self.old.task.now.instance.now }
         requires going { IsGoing self.old.task.now self.old.progress }
         requires branch { IsBranch self.old.task.now.instance.now branch.now }
-        requires some_free { 1 ≤ length branch.now.free }
+        requires goes_on { GoesOn (parts_of self.old.task.now.instance.now) branch.now }
         requires weights { AreNodeWeights (length self.old.progress.pool.entries) last.weights.items }
         ensures ready { S.ready separator.new }
         ensures same { self.new.task.now ≡ self.old.task.now }
+        ensures serves { R.serves self.new.rule.now self.new.task.now.instance.now }
         ensures round { let p = self.old.task.now.instance.now in
             IfOk result (λ r. IsRound self.old.task.now self.old.progress self.new.progress r
             (rounds 1 p (parts_of p) branch.now (round_as p self.old.progress last))) }
@@ -83,17 +88,26 @@ impl Walk<'_> {
         weights: &[i128],
     ) -> Result<RoundEnd, AllocError>
         requires ready { S.ready separator.old }
+        requires serves { R.serves self.old.rule.now self.old.task.now.instance.now }
         requires going { IsGoing self.old.task.now self.old.progress }
         requires branch { IsBranch self.old.task.now.instance.now branch.now }
-        requires some_free { 1 ≤ length branch.now.free }
+        requires goes_on { GoesOn (parts_of self.old.task.now.instance.now) branch.now }
         requires weights { AreNodeWeights (length self.old.progress.pool.entries) weights.now }
         ensures ready { S.ready separator.new }
         ensures same { self.new.task.now ≡ self.old.task.now }
+        ensures serves { R.serves self.new.rule.now self.new.task.now.instance.now }
         ensures round { let p = self.old.task.now.instance.now in
             IfOk result (λ r. IsRound self.old.task.now self.old.progress self.new.progress r
             (round p (parts_of p) branch.now (pairs_of weights.now) (state_of p self.old.progress))) }
     {
-        let advice = node_advice(self.alloc, self.task.instance, &self.progress.pool, branch)?;
+        let advice = node_advice(
+            self.rule,
+            self.alloc,
+            self.task.instance,
+            &self.progress.pool,
+            branch,
+            self.progress.cost,
+        )?;
         let weights = self.better_weights(branch, weights, &advice.weights)?;
         if self.closes_cost(branch, &weights) {
             return Ok(RoundEnd {
@@ -102,7 +116,9 @@ impl Walk<'_> {
                 again: false,
             });
         }
-        let picked = pick(self.alloc, self.task.instance, &advice, branch)?;
+        let picked = self
+            .rule
+            .pick(self.alloc, self.task.instance, &advice, branch)?;
         let set = HubSet::of(self.alloc, &picked)?;
         if number_of(&self.progress, &set).is_some() {
             return Ok(RoundEnd {
@@ -118,51 +134,5 @@ impl Walk<'_> {
             advice,
             again: true,
         })
-    }
-
-    // The advised weights if their bound is above that of the present ones, else the present ones.
-    fn better_weights(
-        &self,
-        branch: &Branch,
-        present: &[i128],
-        advised: &[i128],
-    ) -> Result<Vec<i128>, AllocError>
-        requires going { IsGoing self.now.task.now self.now.progress }
-        requires branch { IsBranch self.now.task.now.instance.now branch.now }
-        requires present { AreNodeWeights (length self.now.progress.pool.entries) present.now }
-        requires advised { AreNodeWeights (length self.now.progress.pool.entries) advised.now }
-        ensures better { let p = self.now.task.now.instance.now in
-            IfOk result (λ w. pairs_of w.items
-            ≡ better p (state_of p self.now.progress) branch.now (pairs_of present.now) (pairs_of advised.now)) }
-        ensures weights { IfOk result (λ w. AreNodeWeights (length self.now.progress.pool.entries) w.items) }
-    {
-        if is_better(
-            self.task.instance,
-            &self.progress.pool,
-            branch,
-            present,
-            advised,
-        ) {
-            advised.to_vec(self.alloc)
-        } else {
-            present.to_vec(self.alloc)
-        }
-    }
-
-    /// Tells whether the weights close the incumbent's cost in the branch.
-    pub(crate) fn closes_cost(&self, branch: &Branch, weights: &[i128]) -> bool
-        requires going { IsGoing self.now.task.now self.now.progress }
-        requires branch { IsBranch self.now.task.now.instance.now branch.now }
-        requires weights { AreNodeWeights (length self.now.progress.pool.entries) weights.now }
-        ensures { let p = self.now.task.now.instance.now in
-            result ≡ closes_at p (state_of p self.now.progress) branch.now (pairs_of weights.now) }
-    {
-        closes(
-            self.task.instance,
-            &self.progress.pool,
-            branch,
-            weights,
-            self.progress.cost,
-        )
     }
 }

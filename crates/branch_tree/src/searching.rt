@@ -8,7 +8,8 @@ ghost use Rattle.search_spec.specs.Steps.{begun};
 ghost use Rattle.search_spec.specs.Findings.{certificate_of, AreWithin, IsSpent, IsEnough};
 ghost use Rattle.kept_cuts.specs.Findings.{lines_of, proof_of, IsProved};
 ghost use Rattle.branch_tree.specs.Progressing.{state_of, IsGoing};
-ghost use Rattle.branch_tree.specs.Findings.{parts_of, found_by, IsFound};
+ghost use Rattle.branch_tree.specs.Findings.{found_by, IsFound};
+ghost use Rattle.search_steps.specs.Advising.{parts_of};
 
 use crate::progress::Progress;
 use crate::walk::Walk;
@@ -18,10 +19,11 @@ use hub_model::{Instance, unsigned};
 use kept_cuts::Found;
 use plan_model::{Branch, HubSet, Plan};
 use search_core::{Task, lesser};
+use search_steps::Rule;
 use separators::Separator;
 use std::alloc::{AllocError, Global};
 
-/// What the rule of the search finds: a plan with its cost, a bound that no plan costs less than, and the cuts and the
+/// What the rule of the search, which serves the instance, finds: a plan with its cost, a bound that no plan costs less than, and the cuts and the
 /// tree that show it. `nodes` is the most nodes of the tree, the root among them; with `None` they are not limited.
 ///
 /// Only where two nodes more are not allowed the search stops, and then the bound is below the cost. Else both are equal
@@ -29,12 +31,14 @@ use std::alloc::{AllocError, Global};
 ///
 /// The answer is `AllocError` where memory runs out, and for a search that would have more cuts or tree lines than a
 /// certificate's text can have, 67,108,864 and 268,435,456.
-pub fn search<S: Separator>(
+pub fn search<R: Rule, S: Separator>(
     alloc: Global,
+    rule: &R,
     instance: &Instance,
     nodes: Option<u64>,
     separator: &mut S,
 ) -> Result<Found, AllocError>
+    requires serves { R.serves rule.now instance.now }
     requires ready { S.ready separator.old }
     ensures ready { S.ready separator.new }
     ensures found { IfOk result (IsFound instance.now (found_by instance.now nodes)) }
@@ -54,6 +58,7 @@ pub fn search<S: Separator>(
     let mut walk = Walk {
         alloc,
         task: &task,
+        rule,
         progress,
     };
     let root = Branch::root(alloc, instance)?;

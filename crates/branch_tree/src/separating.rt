@@ -7,13 +7,14 @@ ghost use Rattle.hub_spec.specs.Separation.{IsOrder};
 ghost use Rattle.cut_pool.specs.Entries.{Lacks};
 ghost use Rattle.search_spec.specs.States.{number_in_pool};
 ghost use Rattle.search_spec.specs.Steps.{separated};
-ghost use Rattle.branch_tree.specs.Findings.{parts_of};
+ghost use Rattle.search_steps.specs.Advising.{parts_of};
 ghost use Rattle.branch_tree.specs.Progressing.{state_of, IsGoing, IsAt};
 
 use crate::progress::Progress;
 use crate::walk::Walk;
 use hub_model::{MOST_CUTS, unsigned};
 use plan_model::HubSet;
+use search_steps::Rule;
 use separators::Separator;
 use std::alloc::AllocError;
 
@@ -26,7 +27,7 @@ pub(crate) fn number_of(progress: &Progress, set: &HubSet) -> Option<u64>
     progress.pool.find(set)
 }
 
-impl Walk<'_> {
+impl<R: Rule> Walk<'_, R> {
     /// Separates the set over this order of the other candidates. It becomes the incumbent if it costs less.
     ///
     /// The answer is `AllocError` also where there are as many cuts as a certificate can have.
@@ -37,12 +38,14 @@ impl Walk<'_> {
         order: Vec<u32>,
     ) -> Result<(), AllocError>
         requires ready { S.ready separator.old }
+        requires serves { R.serves self.old.rule.now self.old.task.now.instance.now }
         requires going { IsGoing self.old.task.now self.old.progress }
         requires set { IsHubSet self.old.task.now.instance.now set }
         requires order { IsOrder self.old.task.now.instance.now set order.items }
         requires first_time { Lacks self.old.progress.pool.entries set }
         ensures ready { S.ready separator.new }
         ensures same { self.new.task.now ≡ self.old.task.now }
+        ensures serves { R.serves self.new.rule.now self.new.task.now.instance.now }
         ensures at { let p = self.old.task.now.instance.now in
             OnOk result (IsAt self.old.task.now self.old.progress self.new.progress
             (separated (parts_of p) set order.items (state_of p self.old.progress))) }

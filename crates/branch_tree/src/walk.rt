@@ -1,13 +1,14 @@
-//! A walk over the tree: what it is to do, and what it has.
+//! A walk over the tree: what it is to do, by which rule, and what it has.
 
 use crate::progress::Progress;
 use search_core::Task;
 use std::alloc::Global;
 
-/// A walk over the tree: its task, and what the search has so far.
+/// A walk over the tree: its task, the rule, and what the search has so far.
 #[derive(Drop)]
-pub(crate) struct Walk<'a> {
+pub(crate) struct Walk<'a, R> {
     pub(crate) alloc: Global,
     pub(crate) task: &'a Task<'a>,
+    pub(crate) rule: &'a R,
     pub(crate) progress: Progress,
 }

@@ -1,12 +1,12 @@
 //! The walk over the tree, the open child of a branch first.
 
-ghost use Rattle.std.specs.Prelude.{◌≡◌, ◌≤◌, ◌<◌, ◌&&◌, nat_eq, length, map, pos, slice_index_or, OnOk};
+ghost use Rattle.std.specs.Prelude.{◌≡◌, ◌≤◌, ◌<◌, length, map, pos, slice_index_or, OnOk};
 ghost use Rattle.hub_spec.specs.Trees.{IsBranch};
 ghost use Rattle.frac_master.specs.Advice.{advice_of_code};
-ghost use Rattle.search_spec.specs.Steps.{fixed, parted};
-ghost use Rattle.search_steps.specs.Advising.{told_by};
+ghost use Rattle.search_spec.specs.Choices.{nearest_half};
+ghost use Rattle.search_spec.specs.Steps.{fixed, halved};
+ghost use Rattle.search_steps.specs.Advising.{told_by, parts_of};
 ghost use Rattle.search_steps.specs.Weights.{AreNodeWeights, pairs_of, sides_as};
-ghost use Rattle.branch_tree.specs.Findings.{parts_of};
 ghost use Rattle.branch_tree.specs.Progressing.{handling, state_of, IsGoing, IsDone};
 ghost use Rattle.branch_tree.specs.Walking.{AreOnFree};
 
@@ -14,12 +14,12 @@ use crate::progress::{add_line, may_split, split_on};
 use crate::rounds::RoundEnd;
 use crate::walk::Walk;
 use hub_fixing::Side;
-use plan_model::{Branch, TreeLine};
-use search_steps::{nearest, node_fixings};
+use plan_model::Branch;
+use search_steps::{Rule, nearest};
 use separators::Separator;
 use std::alloc::AllocError;
 
-impl Walk<'_> {
+impl<R: Rule> Walk<'_, R> {
     /// Handles the node of a branch that has fewer free nodes than the depth, with these weights, and all nodes below it.
     #[cycle(walk)]
     pub(crate) fn node<S: Separator>(
@@ -30,40 +30,36 @@ impl Walk<'_> {
         weights: &[i128],
     ) -> Result<(), AllocError>
         requires ready { S.ready separator.old }
+        requires serves { R.serves self.old.rule.now self.old.task.now.instance.now }
         requires going { IsGoing self.old.task.now self.old.progress }
         requires branch { IsBranch self.old.task.now.instance.now branch.now }
         requires weights { AreNodeWeights (length self.old.progress.pool.entries) weights.now }
         requires deep { length branch.now.free < depth }
         ensures ready { S.ready separator.new }
         ensures same { self.new.task.now ≡ self.old.task.now }
+        ensures serves { R.serves self.new.rule.now self.new.task.now.instance.now }
         ensures done { let t = self.old.task.now in OnOk result (IsDone t self.old.progress self.new.progress
             (handling t depth branch.now (pairs_of weights.now) (state_of t.instance.now self.old.progress))) }
     {
-        if is_closed(branch) {
-            return add_line(&mut self.progress, TreeLine::Empty);
+        if let Some(line) = self.rule.end(branch) {
+            return add_line(&mut self.progress, line);
         }
         if self.progress.stop.is_some() {
             return self.stopped_leaf(branch, weights);
         }
-        if branch.free().is_empty() {
-            return self.full_leaf(separator, branch.inside());
+        if let Some(hubs) = self.rule.alone(self.alloc, branch)? {
+            return self.full_leaf(separator, &hubs);
         }
         let round = self.rounds(separator, branch, weights)?;
         if self.closes_cost(branch, &round.weights) {
             return self.add_leaf(&round.weights);
         }
-        let fixings = node_fixings(
-            self.alloc,
-            self.task.instance,
-            &self.progress.pool,
-            branch,
-            &round.weights,
-            self.progress.cost,
-        )?;
+        let fixings = self.fixings(branch, &round.weights)?;
         self.fixed(depth - 1, separator, &round, &fixings, branch)
     }
 
-    /// Makes the fixings one by one, each with a leaf as the other child, and then parts the branch that is left.
+    /// Makes the fixings one by one, each with a leaf as the other child, until a set is left alone, and else parts the
+    /// branch that is left.
     #[cycle(walk)]
     fn fixed<S: Separator>(
         &mut self,
@@ -74,6 +70,7 @@ impl Walk<'_> {
         branch: &Branch,
     ) -> Result<(), AllocError>
         requires ready { S.ready separator.old }
+        requires serves { R.serves self.old.rule.now self.old.task.now.instance.now }
         requires going { IsGoing self.old.task.now self.old.progress }
         requires branch { IsBranch self.old.task.now.instance.now branch.now }
         requires weights { AreNodeWeights (length self.old.progress.pool.entries) round.now.weights.items }
@@ -81,18 +78,22 @@ impl Walk<'_> {
         requires deep { length branch.now.free ≤ depth }
         ensures ready { S.ready separator.new }
         ensures same { self.new.task.now ≡ self.old.task.now }
+        ensures serves { R.serves self.new.rule.now self.new.task.now.instance.now }
         ensures done { let t = self.old.task.now in let p = t.instance.now in
             OnOk result (IsDone t self.old.progress self.new.progress
             (fixed p (parts_of p) t.nodes (handling t depth) (told_by (advice_of_code round.now.advice))
             (sides_as fixings.now) branch.now (pairs_of round.now.weights.items) (state_of p self.old.progress))) }
     {
-        let (k, side, rest) = match fixings {
-            [] => return self.parted(depth, separator, round, branch),
-            [(k, side), rest @ ..] => (*k, *side, rest),
-        };
+        if let Some(hubs) = self.rule.alone(self.alloc, branch)? {
+            return self.end_branch(separator, branch, &hubs);
+        }
         if !may_split(self.task, &self.progress) {
             return self.stopped_leaf(branch, &round.weights);
         }
+        let (k, side, rest) = match fixings {
+            [] => return self.halved(depth, separator, round, branch),
+            [(k, side), rest @ ..] => (*k, *side, rest),
+        };
         split_on(self.task, &mut self.progress, k)?;
         match side {
             Side::In => {
@@ -108,9 +109,9 @@ impl Walk<'_> {
         }
     }
 
-    /// Parts the branch on the free node nearest to a half, unless no node is free.
+    /// Searches both children of the branch on the free node nearest to a half.
     #[cycle(walk)]
-    fn parted<S: Separator>(
+    fn halved<S: Separator>(
         &mut self,
         depth: u32,
         separator: &mut S,
@@ -118,23 +119,20 @@ impl Walk<'_> {
         branch: &Branch,
     ) -> Result<(), AllocError>
         requires ready { S.ready separator.old }
+        requires serves { R.serves self.old.rule.now self.old.task.now.instance.now }
         requires going { IsGoing self.old.task.now self.old.progress }
         requires branch { IsBranch self.old.task.now.instance.now branch.now }
+        requires some_free { 1 ≤ length branch.now.free }
         requires weights { AreNodeWeights (length self.old.progress.pool.entries) round.now.weights.items }
         requires deep { length branch.now.free ≤ depth }
         ensures ready { S.ready separator.new }
         ensures same { self.new.task.now ≡ self.old.task.now }
+        ensures serves { R.serves self.new.rule.now self.new.task.now.instance.now }
         ensures done { let t = self.old.task.now in let p = t.instance.now in
+            let k = nearest_half (told_by (advice_of_code round.now.advice)) branch.now in
             OnOk result (IsDone t self.old.progress self.new.progress
-            (parted p (parts_of p) t.nodes (handling t depth) (told_by (advice_of_code round.now.advice))
-            branch.now (pairs_of round.now.weights.items) (state_of p self.old.progress))) }
+            (halved (handling t depth) k branch.now (pairs_of round.now.weights.items) (state_of p self.old.progress))) }
     {
-        if branch.free().is_empty() {
-            return self.end_branch(separator, branch);
-        }
-        if !may_split(self.task, &self.progress) {
-            return self.stopped_leaf(branch, &round.weights);
-        }
         let k = nearest(&round.advice, branch);
         split_on(self.task, &mut self.progress, k)?;
         let opened = branch.open_child(self.alloc, k)?;
@@ -142,11 +140,4 @@ impl Walk<'_> {
         let closed = branch.closed_child(self.alloc, k)?;
         self.node(depth, separator, &closed, &round.weights)
     }
-}
-
-// Whether no node of the branch is a hub, nor could be one.
-fn is_closed(branch: &Branch) -> bool
-    ensures { result ≡ (nat_eq (length branch.now.inside) 0 && nat_eq (length branch.now.free) 0) }
-{
-    branch.inside().is_empty() && branch.free().is_empty()
 }

@@ -5,3 +5,4 @@ pub mod Sides
 pub mod Points
 pub mod Choosing
 pub mod LeafPairs
+pub mod RuleChoices

@@ -61,8 +61,8 @@ nodes_serve p fixed b ok costs is =
     let below = branch_below p fixed b ok costs is in
     All-append (λ k. k < n) b.inside (b.outside ++ b.free) below.inside (All-append (λ k. k < n) b.outside b.free below.outside below.free)
 
-is_master : (p : Problem) (cuts : List Cut) (b : Branching) → IsProblem p → IsBranch p b → IsMaster (master_numbers p cuts) b
-is_master p cuts b ok is =
+is_master : (p : Problem) (cuts : List Cut) (cost : ℕ) (b : Branching) → IsProblem p → IsBranch p b → IsMaster (master_numbers p cuts cost) b
+is_master p cuts cost b ok is =
     let below = below_size p b ok is in
     let n = length p.fixed_costs in
     let same : n ≡ p.size = ok.cost_for_each_node in
@@ -74,12 +74,12 @@ is_master p cuts b ok is =
     }
 
 -- the numbers are those of the master of the cuts
-masters_same : (p : Problem) (entries : List Entry) (totals : List ℤ) (loads : List (List ℤ)) (fixed : List ℕ)
-    → AreMasters p entries totals loads fixed → master_of totals loads fixed ≡ master_numbers p (pool_cuts p entries)
-masters_same p entries totals loads fixed are =
+masters_same : (p : Problem) (entries : List Entry) (totals : List ℤ) (loads : List (List ℤ)) (fixed : List ℕ) (cost : ℕ)
+    → AreMasters p entries totals loads fixed → master_of totals loads fixed ≡ master_numbers p (pool_cuts p entries) cost
+masters_same p entries totals loads fixed cost are =
     let of : List ℕ → List (List ℕ) → MasterNumbers = λ t l. record { totals = t; loads = l; fixed = fixed } in
     ap₂ of (ap naturals are.are_totals ∙ naturals_totals p entries are.pool) (ap (map naturals) are.are_loads ∙ naturals_loads p entries are.pool)
-    ∙ ap (λ (f : List ℕ). record (master_numbers p (pool_cuts p entries)) { fixed = f }) are.costs
+    ∙ ap (λ (f : List ℕ). record (master_numbers p (pool_cuts p entries) cost) { fixed = f }) are.costs
 
 -- with the part 1 each weight stays as it is
 in_ones : (ws : List ℕ) (entries : List Entry) → length ws ≡ length entries → in_parts ws (lent_parts entries) ≡ ws
@@ -99,11 +99,11 @@ pub advice_is : (p : Problem) (entries : List Entry) (totals : List ℤ) (loads 
     → (hubs : List ℕ) (cost made : ℕ) (stop : Option ℕ) → told_by a ≡ master_advising p (state_by p entries hubs cost made stop) b
 unfolding master_advising
 advice_is p entries totals loads fixed b a are is_branch is hubs cost made stop =
-    let m = master_numbers p (pool_cuts p entries) in
-    let mixed = weights_are_a_mix m b (is_master p (pool_cuts p entries) b are.problem is_branch) in
+    let m = master_numbers p (pool_cuts p entries) cost in
+    let mixed = weights_are_a_mix m b (is_master p (pool_cuts p entries) cost b are.problem is_branch) in
     let long : length (advice m b).weights ≡ length entries =
     mixed.one_each ∙ length-map (pool_cuts p entries) total ∙ length-map entries (entry_cut p) in
-    ap told_by (is ∙ ap (λ (n : MasterNumbers). advice n b) (masters_same p entries totals loads fixed are)
+    ap told_by (is ∙ ap (λ (n : MasterNumbers). advice n b) (masters_same p entries totals loads fixed cost are)
     ∙ sym (advised_same p entries (advice m b) long))
 
 pub point_long : (p : Problem) (entries : List Entry) (totals : List ℤ) (loads : List (List ℤ)) (fixed : List ℕ) (b : Branching) (a : Advised)
@@ -146,8 +146,8 @@ parts_below (w ∷ ws) (e ∷ parts) =
 pub advising_sound : AdvisingIsSound
 unfolding master_advising
 advising_sound p ok s b is_state is_branch some =
-    let m = master_numbers p s.cuts in
-    let mixed : IsMixed (length m.totals) (advice m b).weights = weights_are_a_mix m b (is_master p s.cuts b ok is_branch) in
+    let m = master_numbers p s.cuts s.cost in
+    let mixed : IsMixed (length m.totals) (advice m b).weights = weights_are_a_mix m b (is_master p s.cuts s.cost b ok is_branch) in
     let parts = map (λ (cut : Cut). cut.part) s.cuts in
     let given = (advice m b).weights in
     let weights = in_parts given parts in

@@ -1,20 +1,20 @@
 -- The bound that a node's weights give is the bound in the search's state.
-use Rattle.std.proofs.Common.{◌≡◌, ℕ, ◌*◌, ◌≤◌, ℤ, pos, ◌-ℤ◌, ◌<ℤ◌, List, length, map, get_or, All, Option, Bool, true, false, if◌then◌else◌, IsTrue, ◌↔◌, int_lt, refl, sym, ap, ap₂, subst, ◌∙◌, arith}
+use Rattle.std.proofs.Common.{◌≡◌, ℕ, ◌*◌, ◌≤◌, ℤ, pos, ◌-ℤ◌, ◌<ℤ◌, List, length, map, get_or, All, Option, Bool, true, false, if◌then◌else◌, IsTrue, ◌↔◌, int_lt, refl, sym, ap, ap₂, subst, ◌∙◌, arith, ◌<◌, Contains}
 use Rattle.std.specs.List.{AllZip}
-use Rattle.std.proofs.lemmas.Bool.{false≢true}
 use Rattle.std.proofs.lemmas.Int.{ints}
 use Rattle.std.proofs.lemmas.List.{length-map}
 use Rattle.hub_spec.specs.Limits.{most_part, most_fixed_cost}
 use Rattle.hub_spec.specs.Problem.{Problem, IsProblem, fixed_cost}
 use Rattle.hub_spec.specs.Trees.{Branching, leaf_bound, IsBranch}
 use Rattle.hub_spec.proofs.SumLemmas.{by_test}
+use Rattle.hub_spec.proofs.Mixes.{candidate_is_node}
 use Rattle.hub_model.specs.Amounts.{natural, IsNatural}
 use Rattle.leaf_bound.specs.declared.weightings.Weighting as lent
 use Rattle.leaf_bound.specs.Bounds.{AreMultiples, bound_of}
 use Rattle.leaf_bound.specs.Numbers.{naturals, AreWeightingNumbers, IsBranchBelow, weighting_of}
 use Rattle.leaf_bound.specs.Theorems.{AreLoadsOf, IsWeightingOf}
 use Rattle.leaf_bound.proofs.LeafWeights.{leaf_has_bound}
-use Rattle.search_spec.specs.States.{State}
+use Rattle.search_spec.specs.States.{State, denominator}
 use Rattle.search_spec.specs.Steps.{bound_at, closes_at, better}
 use Rattle.hub_fixing.specs.Fixing.{closes_by}
 use Rattle.cut_pool.specs.Entries.{Entry}
@@ -88,12 +88,11 @@ lent_closes p entries weights m b lent is hubs cost made stop =
     ap₂ (λ (d : ℕ) (z : ℤ). int_lt (pos (d * cost) -ℤ pos d) z) (ap natural lent.is.is_denom)
     (lent_bound p entries weights m b lent is hubs cost made stop)
 
--- a test that tells whether a bound closes
-pub test_is : (r : Bool) (x y : ℤ) → IsTrue r ↔ (x <ℤ y) → r ≡ int_lt x y
-test_is true x y is =
-    by_test (int_lt x y) (λ e. sym e) (λ e. let above : x <ℤ y = is.0 refl in absurd (omega (arith, ints, above, e)))
-test_is false x y is =
-    by_test (int_lt x y) (λ e. absurd (false≢true (is.1 (omega (arith, ints, e))))) (λ e. sym e)
+-- the test of a bound against what it has to be above
+pub closes_by_bound : (p : Problem) (s : State) (b : Branching) (w : List (ℕ × ℕ)) (x y : ℤ) → x ≡ (pos (denominator * s.cost) -ℤ pos denominator)
+    → y ≡ bound_at p s b w → int_lt x y ≡ closes_at p s b w
+unfolding closes_at
+closes_by_bound p s b w x y is_x is_y = ap₂ (λ (u v : ℤ). int_lt u v) is_x is_y
 
 -- the choice between two lists of weights by their bounds
 pub better_by : (p : Problem) (s : State) (b : Branching) (w advised : List (ℕ × ℕ)) (x y : ℤ) → x ≡ bound_at p s b w → y ≡ bound_at p s b advised

@@ -3,8 +3,8 @@ use Rattle.std.specs.Prelude.{ℕ, ◌*◌, ◌/◌, List, [], ◌∷◌, map, s
 use Rattle.std.specs.List.{range_with_len}
 use Rattle.hub_spec.specs.Problem.{Problem}
 use Rattle.hub_spec.specs.Cuts.{Cut, total, load}
-use Rattle.search_spec.specs.States.{Advice}
-use Rattle.search_spec.specs.Choices.{Advising}
+use Rattle.search_spec.specs.States.{Advice, Parts}
+use Rattle.search_spec.specs.Choices.{Advising, rule_parts}
 use Rattle.leaf_bound.specs.Theorems.{weight_pairs}
 use Rattle.frac_master.specs.Masters.{MasterNumbers}
 use Rattle.frac_master.specs.Advice.{Advised, advice}
@@ -13,9 +13,13 @@ use Rattle.frac_master.specs.Advice.{Advised, advice}
 abbrev pub node_loads : Problem → Cut → List ℕ
 node_loads p cut = map (load cut) (range_with_len 0 p.size)
 
+-- the fixed costs that the master is asked with, where the incumbent has this cost: the problem's own
+abbrev pub advised_costs : Problem → ℕ → List ℕ
+advised_costs p cost = p.fixed_costs
+
 -- the numbers of a master of these cuts
-abbrev pub master_numbers : Problem → List Cut → MasterNumbers
-master_numbers p cuts = record { totals = map total cuts; loads = map (node_loads p) cuts; fixed = p.fixed_costs }
+abbrev pub master_numbers : Problem → List Cut → ℕ → MasterNumbers
+master_numbers p cuts cost = record { totals = map total cuts; loads = map (node_loads p) cuts; fixed = advised_costs p cost }
 
 -- what a search is told by a master: the weights above 0 by cut number, and a point that is 0 beyond the nodes
 abbrev pub told_by : Advised → Advice
@@ -33,4 +37,8 @@ advised_on cuts a = record a { weights = in_parts a.weights (map (λ cut. cut.pa
 
 -- how the master advises: by the cuts of the state, on the branch; where each part is 1 the weights are the master's own
 unfoldable pub master_advising : Problem → Advising
-master_advising p s b = told_by (advised_on s.cuts (advice (master_numbers p s.cuts) b))
+master_advising p s b = told_by (advised_on s.cuts (advice (master_numbers p s.cuts s.cost) b))
+
+-- the parts of the rule, with the master's advice
+abbrev pub parts_of : Problem → Parts
+parts_of p = rule_parts p (master_advising p)

@@ -8,6 +8,8 @@ use Rattle.leaf_bound.specs.Theorems.{weight_pairs}
 use Rattle.search_spec.specs.States.{denominator}
 use Rattle.search_spec.specs.Steps as steps
 use Rattle.cut_pool.specs.Entries.{Entry}
+use Rattle.search_steps.specs.Pools.{IsPoolOf}
+use Rattle.search_steps.specs.declared.weightings.NodeWeights.{NodeWeights}
 use Rattle.hub_fixing.specs.declared.sides.Side.{Side}
 use Rattle.hub_fixing.specs.declared.sides.Side.TheVariants.{In, Out}
 
@@ -16,6 +18,11 @@ pub record AreNodeWeights (n : ℕ) (weights : List ℤ) : Type 0 where
   pub few : length weights ≤ n
   pub low : All IsNatural weights
   pub most : sum (naturals weights) ≤ denominator
+
+-- the pool is one of the instance's cuts, and the weights are a node's
+pub record AreWeighed (n : NodeWeights) : Type 0 where
+  pub pool : IsPoolOf n.instance.now n.pool.now.entries
+  pub weights : AreNodeWeights (length n.pool.now.entries) n.weights.now
 
 -- the weights above 0, by cut number, as a search has them
 abbrev pub pairs_of : List ℤ → List (ℕ × ℕ)

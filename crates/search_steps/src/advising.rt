@@ -8,21 +8,26 @@ ghost use Rattle.search_steps.specs.Pools.{IsPoolOf, InEachState};
 ghost use Rattle.search_steps.specs.Advising.{told_by, master_advising};
 ghost use Rattle.search_steps.specs.Weights.{AreNodeWeights};
 
+use crate::Rule;
 use cut_pool::Pool;
 use frac_master::{Advice, ShortRows, advise_by_totals};
 use hub_model::Instance;
 use plan_model::Branch;
 use std::alloc::{AllocError, Global};
 
-/// What the master of the branch advises, by the cuts of the pool. No load of a cut is above its total.
+/// What the master of the branch advises, by the cuts of the pool, asked with the fixed costs that the rule has for an
+/// incumbent of this cost. No load of a cut is above its total.
 ///
 /// The answer is `AllocError` where memory runs out, and where the master is beyond what its rows can hold.
-pub fn node_advice(
+pub fn node_advice<R: Rule>(
+    rule: &R,
     alloc: Global,
     instance: &Instance,
     pool: &Pool,
     branch: &Branch,
+    cost: u128,
 ) -> Result<Advice, AllocError>
+    requires serves { R.serves rule.now instance.now }
     requires pool { IsPoolOf instance.now pool.now.entries }
     requires branch { IsBranch instance.now branch.now }
     ensures advice { let p = instance.now in IfOk result (λ a. InEachState p pool.now.entries
@@ -30,12 +35,14 @@ pub fn node_advice(
     ensures weights { IfOk result (λ a. AreNodeWeights (length pool.now.entries) a.weights.items) }
     ensures point { IfOk result (λ a. length a.point.items ≡ instance.now.size) }
 {
+    let mut room = Vec::new(alloc);
+    let fixed = rule.advised_costs(instance, cost, &mut room)?;
     advise_by_totals(
         alloc,
         pool.totals(),
         pool.loads(),
         short_rows(pool),
-        instance.fixed_costs(),
+        fixed,
         branch,
     )
 }

@@ -20,7 +20,7 @@ use std::alloc::{AllocError, Global};
 /// node with the greatest point, of equal ones the least.
 ///
 /// The answer is `AllocError` where memory runs out.
-pub fn pick(
+pub(crate) fn pick(
     alloc: Global,
     instance: &Instance,
     advice: &Advice,

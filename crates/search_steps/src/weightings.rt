@@ -8,21 +8,30 @@ use hub_model::Instance;
 use leaf_bound::Weighting;
 use search_core::WHOLE_WEIGHT;
 
-/// What the bounds under these weights are made of, with the numbers that the pool lends.
-pub(crate) fn weighting<'a>(
-    instance: &'a Instance,
-    pool: &'a Pool,
-    weights: &'a [i128],
-) -> Weighting<'a>
-    ensures problem { IsProblem instance.now }
-    ensures lent { IsNodeWeighting instance.now pool.now.entries weights.now result }
-{
-    Weighting {
-        totals: pool.totals(),
-        loads: pool.loads(),
-        parts: pool.parts(),
-        fixed: instance.fixed_costs(),
-        weights,
-        denom: WHOLE_WEIGHT as i128,
+/// Weights on the first cuts of a search's pool, in 10^-6.
+#[derive(Clone, Copy)]
+pub struct NodeWeights<'a> {
+    /// The instance that is searched.
+    pub instance: &'a Instance,
+    /// The cuts.
+    pub pool: &'a Pool,
+    /// The weight of each of the first cuts.
+    pub weights: &'a [i128],
+}
+
+impl<'a> NodeWeights<'a> {
+    /// What the bounds under these weights are made of, with the numbers that the pool lends.
+    pub(crate) fn weighting(&self) -> Weighting<'a>
+        ensures problem { IsProblem self.now.instance.now }
+        ensures lent { IsNodeWeighting self.now.instance.now self.now.pool.now.entries self.now.weights.now result }
+    {
+        Weighting {
+            totals: self.pool.totals(),
+            loads: self.pool.loads(),
+            parts: self.pool.parts(),
+            fixed: self.instance.fixed_costs(),
+            weights: self.weights,
+            denom: WHOLE_WEIGHT as i128,
+        }
     }
 }

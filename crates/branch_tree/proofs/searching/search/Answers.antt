@@ -6,7 +6,8 @@ use Rattle.hub_spec.proofs.Limits.{few_candidates}
 use Rattle.search_spec.specs.States.{Grown}
 use Rattle.search_spec.specs.Steps.{node}
 use Rattle.kept_cuts.specs.Findings.{lines_of}
-use Rattle.branch_tree.specs.Findings.{parts_of, found_by}
+use Rattle.branch_tree.specs.Findings.{found_by}
+use Rattle.search_steps.specs.Advising.{parts_of}
 use Rattle.branch_tree.specs.Progressing.{state_of}
 use Rattle.branch_tree.proofs.FoundCertificates as found
 use Rattle.branch_tree.proofs.NodeCases.{handled_root}

@@ -1,62 +1,106 @@
-use Rattle.std.proofs.Common.{◌≡◌, ◌+◌, ◌-◌, ℕ, ℤ, List, ◌∷◌, length, refl, ap, sym, subst, ◌∙◌, rules, arith}
+use Rattle.std.proofs.Common.{◌≡◌, ◌+◌, ◌-◌, ℕ, ℤ, List, ◌∷◌, length, Some, ap, sym, subst, ◌∙◌, rules, arith}
 use Rattle.std.proofs.lemmas.Result.{on_ok_weaker}
-use Rattle.hub_spec.specs.Plans.{IsHubSet}
-use Rattle.hub_spec.specs.Trees.{Branching, IsBranch, branch_on, empty, no_hub, leaf}
+use Rattle.hub_spec.specs.Trees.{Branching, IsBranch, branch_on, leaf}
 use Rattle.hub_spec.proofs.ChildLists.{open_branch, closed_branch}
+use Rattle.plan_model.specs.Lines.{tree_line_of}
 use Rattle.hub_fixing.specs.declared.sides.Side as code
 use Rattle.frac_master.specs.Advice.{advice_of_code}
 use Rattle.search_spec.specs.States.{State, denominator}
 use Rattle.search_spec.specs.Steps as steps
 use Rattle.search_spec.specs.Steps.{may_split, two_more, stays_open, stays_closed, child_on, fixings, stopped_leaf, full_on, fixed, after_rounds}
-use Rattle.search_spec.proofs.StepCases.{after_closed, after_open, fixed_none}
+use Rattle.search_spec.specs.Laws.{GoesOn}
+use Rattle.search_spec.proofs.StepCases.{after_closed, after_open}
 use Rattle.search_spec.proofs.Parting.{length-without}
-use Rattle.search_steps.specs.Advising.{told_by}
+use Rattle.search_steps.specs.Advising.{told_by, parts_of}
 use Rattle.search_steps.specs.Weights.{pairs_of, side_as, sides_as, AreNodeWeights}
 use Rattle.search_core.specs.declared.tasks.Task.{Task}
-use Rattle.branch_tree.specs.Findings.{parts_of}
 use Rattle.branch_tree.specs.Progressing.{handling, state_of}
 use Rattle.branch_tree.specs.Rounding.{round_as}
 use Rattle.branch_tree.specs.Walking.{AreOnFree}
 use Rattle.branch_tree.proofs.AddedLines.{line_done, line_going, line_kept, done_as, done_by, going_as, branch_as}
 use Rattle.branch_tree.proofs.RoundSteps.{weights_kept}
-use Rattle.branch_tree.proofs.NodeCases.{none_free, some_free, inside_is_set, node_closed, node_stopped, node_full, node_explored, open_in_each, parted_ended, fixed_stopped, fixed_next, parted_stopped, parted_both}
-use Rattle.branch_tree.proofs.WalkSteps.{begun_state, both_done, open_done, closed_done, later_done, first_of, others_of, sides_split, none_left, fixings_on_free, on_free_in_child, some_free_by}
+use Rattle.branch_tree.proofs.NodeCases.{told_end, told_no_end, told_alone, told_none_alone, goes_on, some_free, alone_is_set, node_ended, node_stopped, node_full, node_explored, fixed_alone, fixed_stopped, fixed_halved, fixed_next, halved_both}
+use Rattle.branch_tree.proofs.WalkSteps.{begun_state, both_done, open_done, closed_done, later_done, first_of, others_of, sides_split, none_left, fixings_on_free, on_free_in_child}
 use Rattle.branch_tree.proofs.walk.Walk.+walk.Goals as goal
 
 -- ---- fixed
 
-pub fixed-returns-in-empty-clause-done : goal.fixed-returns-in-empty-clause-done
-fixed-returns-in-empty-clause-done g t c =
+pub fixed-end_branch-requires-clause-alone : goal.fixed-end_branch-requires-clause-alone
+fixed-end_branch-requires-clause-alone g t c =
+    let p = c.args.self.now.task.now.instance.now in
+    let b = c.args.branch.now in
+    told_alone ((parts_of p).only b) c.in_ok-hubs.field-0 c.in-Some.hubs (c.in_ok-hubs.ensures p c.requires.serves) c.in-Some.is
+    ∙ ap (λ (ks : List ℕ). Some ks) (sym c.deref.ensures.value)
+
+pub fixed-returns-in-Some-clause-done : goal.fixed-returns-in-Some-clause-done
+fixed-returns-in-Some-clause-done g t c =
     let task = c.args.self.now.task.now in
     let p = task.instance.now in
     let before = c.args.self.now.progress in
-    let go = handling task c.args.depth in
-    let a = told_by (advice_of_code c.args.round.now.advice) in
-    let w = pairs_of c.args.round.now.weights.items in
     let b = c.args.branch.now in
-    let s = state_of p before in
-    let none = none_left c.args.fixings.now c.in-empty.len_below in
-    let is = sym (fixed_none p (parts_of p) task.nodes go a b w s)
-    ∙ ap (λ (fs : List (ℕ × steps.Side)). fixed p (parts_of p) task.nodes go a fs b w s) (sym none) in
-    on_ok_weaker c.parted.result (λ done. done_as task before c.parted.new.self.progress _ _ is done) c.parted.ensures.done
+    let alone = told_alone ((parts_of p).only b) c.in_ok-hubs.field-0 c.in-Some.hubs (c.in_ok-hubs.ensures p c.requires.serves) c.in-Some.is
+    ∙ ap (λ (ks : List ℕ). Some ks) (sym c.deref.ensures.value) in
+    let is = fixed_alone task (handling task c.args.depth) (told_by (advice_of_code c.args.round.now.advice)) (sides_as c.args.fixings.now) b
+    (pairs_of c.args.round.now.weights.items) (state_of p before) c.deref.result.now alone in
+    on_ok_weaker c.end_branch.result (λ done. done_as task before c.end_branch.new.self.progress _ _ is done) c.end_branch.ensures.ended
 
 pub fixed-returns-then-not-may_split-clause-done : goal.fixed-returns-then-not-may_split-clause-done
 fixed-returns-then-not-may_split-clause-done g t c =
     let task = c.args.self.now.task.now in
     let p = task.instance.now in
     let before = c.args.self.now.progress in
-    let go = handling task c.args.depth in
-    let a = told_by (advice_of_code c.args.round.now.advice) in
-    let w = pairs_of c.args.round.now.weights.items in
     let b = c.args.branch.now in
     let s = state_of p before in
-    let first = first_of c.args.fixings.now in
-    let all = sides_split c.args.fixings.now c.in-len1-up.len_at_least in
-    let free = subst (AreOnFree b) all c.requires.free in
-    let is = ap (λ (ws : List ℤ). stopped_leaf p b (pairs_of ws) s) c.deref.ensures.value
-    ∙ fixed_stopped task go a (first.0, side_as first.1) (sides_as (others_of c.args.fixings.now)) (sides_as c.args.fixings.now) b w s
-    (some_free_by b first.0 free.0) all (sym c.may_split.ensures ∙ c.if-not-may_split.true) in
+    let only = told_none_alone ((parts_of p).only b) c.in_ok-hubs.field-0 (c.in_ok-hubs.ensures p c.requires.serves) c.in_default.is in
+    let is = ap (λ (ws : List ℤ). stopped_leaf p b (pairs_of ws) s) c.deref-then-not-may_split.ensures.value
+    ∙ fixed_stopped task (handling task c.args.depth) (told_by (advice_of_code c.args.round.now.advice)) (sides_as c.args.fixings.now) b
+    (pairs_of c.args.round.now.weights.items) s only (sym c.may_split.ensures ∙ c.if-not-may_split.true) in
     on_ok_weaker c.stopped_leaf.result (λ done. done_as task before c.stopped_leaf.new.self.progress _ _ is done) c.stopped_leaf.ensures.stopped
+
+pub fixed-halved-requires : goal.fixed-halved-requires
+fixed-halved-requires g t c κs within =
+    let p = c.args.self.now.task.now.instance.now in
+    let b = c.args.branch.now in
+    let only = told_none_alone ((parts_of p).only b) c.in_ok-hubs.field-0 (c.in_ok-hubs.ensures p c.requires.serves) c.in_default.is in (
+      search (rules, arith),
+      (
+        within.0,
+        (
+          within.1,
+          (
+            c.requires.ready,
+            (
+              c.requires.serves,
+              (
+                c.requires.going,
+                (
+                  c.requires.branch,
+                  (
+                    some_free p b c.requires.going.problem c.requires.branch only,
+                    (
+                      c.requires.weights,
+                      c.requires.deep,
+                    ),
+                  ),
+                ),
+              ),
+            ),
+          ),
+        ),
+      ),
+    )
+
+pub fixed-returns-in-empty-clause-done : goal.fixed-returns-in-empty-clause-done
+fixed-returns-in-empty-clause-done g t c =
+    let task = c.args.self.now.task.now in
+    let p = task.instance.now in
+    let before = c.args.self.now.progress in
+    let b = c.args.branch.now in
+    let only = told_none_alone ((parts_of p).only b) c.in_ok-hubs.field-0 (c.in_ok-hubs.ensures p c.requires.serves) c.in_default.is in
+    let is = fixed_halved task (handling task c.args.depth) (told_by (advice_of_code c.args.round.now.advice)) (sides_as c.args.fixings.now) b
+    (pairs_of c.args.round.now.weights.items) (state_of p before) only (sym c.may_split.ensures ∙ c.if-not-may_split.false)
+    (none_left c.args.fixings.now c.in-empty.len_below) in
+    on_ok_weaker c.halved.result (λ done. done_as task before c.halved.new.self.progress _ _ is done) c.halved.ensures.done
 
 pub fixed-fixed-requires : goal.fixed-fixed-requires
 fixed-fixed-requires g t c κs within =
@@ -74,20 +118,26 @@ fixed-fixed-requires g t c κs within =
     ap (λ (x : Branching). length x.free + 1) child ∙ length-without k b.free free.0 in (
       search (rules, arith),
       (
-        within,
+        within.0,
         (
-          c.requires.ready,
+          within.1,
           (
-            line_going task before begun (branch_on k) (before.made + 2) before.stop c.requires.going c.in_ok-split_on.ensures (omega arith),
+            c.requires.ready,
             (
-              subst (IsBranch p) (sym child) (open_branch p b k c.requires.branch free.0),
+              c.requires.serves,
               (
-                weights_kept (length before.pool.entries) (length begun.pool.entries) c.args.round.now.weights.items
-                    (line_kept before begun (branch_on k) (before.made + 2) before.stop c.in_ok-split_on.ensures) c.requires.weights,
+                line_going task before begun (branch_on k) (before.made + 2) before.stop c.requires.going c.in_ok-split_on.ensures (omega arith),
                 (
-                  subst (λ (x : Branching). AreOnFree x (sides_as (others_of c.args.fixings.now))) (sym child)
-                      (on_free_in_child stays_open b k (sides_as (others_of c.args.fixings.now)) free.1 free.2),
-                  omega (arith, fewer, c.requires.deep),
+                  subst (IsBranch p) (sym child) (open_branch p b k c.requires.branch free.0),
+                  (
+                    weights_kept (length before.pool.entries) (length begun.pool.entries) c.args.round.now.weights.items
+                        (line_kept before begun (branch_on k) (before.made + 2) before.stop c.in_ok-split_on.ensures) c.requires.weights,
+                    (
+                      subst (λ (x : Branching). AreOnFree x (sides_as (others_of c.args.fixings.now))) (sym child)
+                          (on_free_in_child stays_open b k (sides_as (others_of c.args.fixings.now)) free.1 free.2),
+                      omega (arith, fewer, c.requires.deep),
+                    ),
+                  ),
                 ),
               ),
             ),
@@ -122,21 +172,27 @@ fixed-fixed-requires-in-Out g t c κs within =
     let kept = line_kept before begun (branch_on k) (before.made + 2) before.stop c.in_ok-split_on.ensures in (
       search (rules, arith),
       (
-        within,
+        within.0,
         (
-          c.requires.ready,
+          within.1,
           (
-            going_as task c.add_leaf-in-Out.new.self.task.now middle same leaf_added.going,
+            c.requires.ready,
             (
-              branch_as task c.add_leaf-in-Out.new.self.task.now c.in_ok-child-in-Out.child same
-                  (subst (IsBranch p) (sym child) (closed_branch p b k c.requires.branch free.0)),
+              c.in_ok-add_leaf-in-Out.ensures.serves,
               (
-                weights_kept (length before.pool.entries) (length middle.pool.entries) c.args.round.now.weights.items
-                    (omega (arith, kept, leaf_added.kept)) c.requires.weights,
+                going_as task c.add_leaf-in-Out.new.self.task.now middle same leaf_added.going,
                 (
-                  subst (λ (x : Branching). AreOnFree x (sides_as (others_of c.args.fixings.now))) (sym child)
-                      (on_free_in_child stays_closed b k (sides_as (others_of c.args.fixings.now)) free.1 free.2),
-                  omega (arith, fewer, c.requires.deep),
+                  branch_as task c.add_leaf-in-Out.new.self.task.now c.in_ok-child-in-Out.child same
+                      (subst (IsBranch p) (sym child) (closed_branch p b k c.requires.branch free.0)),
+                  (
+                    weights_kept (length before.pool.entries) (length middle.pool.entries) c.args.round.now.weights.items
+                        (omega (arith, kept, leaf_added.kept)) c.requires.weights,
+                    (
+                      subst (λ (x : Branching). AreOnFree x (sides_as (others_of c.args.fixings.now))) (sym child)
+                          (on_free_in_child stays_closed b k (sides_as (others_of c.args.fixings.now)) free.1 free.2),
+                      omega (arith, fewer, c.requires.deep),
+                    ),
+                  ),
                 ),
               ),
             ),
@@ -162,12 +218,12 @@ fixed-returns-in_ok-fixed-in-In-clause-done g t c =
     let rest = sides_as (others_of c.args.fixings.now) in
     let k = first.0 in
     let all = sides_split c.args.fixings.now c.in-len1-up.len_at_least in
-    let free = subst (AreOnFree b) all c.requires.free in
+    let only = told_none_alone ((parts_of p).only b) c.in_ok-hubs.field-0 (c.in_ok-hubs.ensures p c.requires.serves) c.in_default.is in
     let on_side = all ∙ ap (λ (x : code.Side). (k, side_as x) ∷ rest) c.in-In.is in
     let kept = fixed p (parts_of p) task.nodes go a rest c.in_ok-child-in-In.child w (state_of p begun) in
     let next = begun_state p before begun k c.in_ok-split_on.ensures in
     let is = fixed_next task go a (k, stays_open) rest (sides_as c.args.fixings.now) b c.in_ok-child-in-In.child w s (state_of p begun)
-    (some_free_by b k free.0) on_side (sym c.may_split.ensures ∙ c.if-not-may_split.false) c.in_ok-child-in-In.ensures next in
+    only on_side (sym c.may_split.ensures ∙ c.if-not-may_split.false) c.in_ok-child-in-In.ensures next in
     on_ok_weaker c.add_leaf.result
     (λ done. done_as task before after _ _ is
     (open_done task before begun middle after k (before.made + 2) before.stop w kept c.in_ok-split_on.ensures c.in_ok-fixed-in-In.ensures.done
@@ -195,7 +251,7 @@ fixed-returns-in_ok-add_leaf-in-Out-clause-done g t c =
     let rest = sides_as (others_of c.args.fixings.now) in
     let k = first.0 in
     let all = sides_split c.args.fixings.now c.in-len1-up.len_at_least in
-    let free = subst (AreOnFree b) all c.requires.free in
+    let only = told_none_alone ((parts_of p).only b) c.in_ok-hubs.field-0 (c.in_ok-hubs.ensures p c.requires.serves) c.in_default.is in
     let on_side = all ∙ ap (λ (x : code.Side). (k, side_as x) ∷ rest) c.in-Out.is in
     let kept = fixed p (parts_of p) task.nodes go a rest c.in_ok-child-in-Out.child w (state_of p middle) in
     let leaf_added = done_as task begun middle _ _
@@ -203,7 +259,7 @@ fixed-returns-in_ok-add_leaf-in-Out-clause-done g t c =
     c.in_ok-add_leaf-in-Out.ensures.added in
     let next = leaf_added.state ∙ begun_state p before begun k c.in_ok-split_on.ensures in
     let is = fixed_next task go a (k, stays_closed) rest (sides_as c.args.fixings.now) b c.in_ok-child-in-Out.child w s (state_of p middle)
-    (some_free_by b k free.0) on_side (sym c.may_split.ensures ∙ c.if-not-may_split.false) c.in_ok-child-in-Out.ensures next in
+    only on_side (sym c.may_split.ensures ∙ c.if-not-may_split.false) c.in_ok-child-in-Out.ensures next in
     on_ok_weaker c.fixed-in-Out.result
     (λ done. done_as task before after _ _ is
     (closed_done task before begun middle after k (before.made + 2) before.stop w kept c.in_ok-split_on.ensures leaf_added
@@ -214,45 +270,59 @@ fixed-returns-in_ok-add_leaf-in-Out-clause-done g t c =
 
 -- ---- node
 
-pub node-returns-then-is_closed-clause-done : goal.node-returns-then-is_closed-clause-done
-node-returns-then-is_closed-clause-done g t c =
+pub node-returns-in-Some-clause-done : goal.node-returns-in-Some-clause-done
+node-returns-in-Some-clause-done g t c =
     let task = c.args.self.now.task.now in
+    let p = task.instance.now in
+    let b = c.args.branch.now in
     let before = c.args.self.now.progress in
     let after = c.add_line.new.progress in
-    let is = node_closed task c.args.depth c.args.branch.now (pairs_of c.args.weights.now) (state_of task.instance.now before)
-    (omega (arith, c.requires.deep)) (sym c.is_closed.ensures ∙ c.if-is_closed.true) in
+    let end = told_end ((parts_of p).barren b) c.end.result c.in-Some.line (c.end.ensures p c.requires.serves) c.in-Some.is in
+    let is = node_ended task c.args.depth b (pairs_of c.args.weights.now) (state_of p before) end.tree (omega (arith, c.requires.deep)) end.is in
     on_ok_weaker c.add_line.result
-    (λ has. done_as task before after _ _ is (line_done task before after empty no_hub before.made before.stop c.requires.going refl (omega arith) has))
+    (λ has. done_as task before after _ _ is
+    (line_done task before after end.tree (tree_line_of c.in-Some.line) before.made before.stop c.requires.going end.one (omega arith) has))
     c.add_line.ensures
 
 pub node-returns-then-is_some-clause-done : goal.node-returns-then-is_some-clause-done
 node-returns-then-is_some-clause-done g t c =
     let task = c.args.self.now.task.now in
+    let p = task.instance.now in
+    let b = c.args.branch.now in
     let before = c.args.self.now.progress in
-    let is = node_stopped task c.args.depth c.args.branch.now (pairs_of c.args.weights.now) (state_of task.instance.now before)
-    (omega (arith, c.requires.deep)) (sym c.is_closed.ensures ∙ c.if-is_closed.false) (sym c.is_some.ensures ∙ c.if-is_some.true) in
+    let barren = told_no_end ((parts_of p).barren b) c.end.result (c.end.ensures p c.requires.serves) c.in_default.is in
+    let is = node_stopped task c.args.depth b (pairs_of c.args.weights.now) (state_of p before)
+    (omega (arith, c.requires.deep)) barren (sym c.is_some.ensures ∙ c.if-is_some.true) in
     on_ok_weaker c.stopped_leaf.result (λ done. done_as task before c.stopped_leaf.new.self.progress _ _ is done) c.stopped_leaf.ensures.stopped
 
 pub node-full_leaf-requires-clause-set : goal.node-full_leaf-requires-clause-set
 node-full_leaf-requires-clause-set g t c =
     let p = c.args.self.now.task.now.instance.now in
     let b = c.args.branch.now in
-    let none = none_free b c.free.result.now c.is_empty.result c.free.ensures.value c.is_empty.ensures c.if-is_empty.true in
-    subst (IsHubSet p) (sym c.inside.ensures.value)
-    (inside_is_set p b c.requires.going.problem c.requires.branch (sym c.is_closed.ensures ∙ c.if-is_closed.false) none)
+    let barren = told_no_end ((parts_of p).barren b) c.end.result (c.end.ensures p c.requires.serves) c.in_default.is in
+    let alone = told_alone ((parts_of p).only b) c.in_ok-hubs.field-0 c.in-Some-2.hubs (c.in_ok-hubs.ensures p c.requires.serves) c.in-Some-2.is
+    ∙ ap (λ (ks : List ℕ). Some ks) (sym c.deref.ensures.value) in
+    alone_is_set p b c.deref.result.now c.requires.going.problem c.requires.branch barren alone
 
-pub node-returns-then-is_empty-clause-done : goal.node-returns-then-is_empty-clause-done
-node-returns-then-is_empty-clause-done g t c =
+pub node-returns-in-Some-2-clause-done : goal.node-returns-in-Some-2-clause-done
+node-returns-in-Some-2-clause-done g t c =
     let task = c.args.self.now.task.now in
     let p = task.instance.now in
     let b = c.args.branch.now in
     let before = c.args.self.now.progress in
-    let s = state_of p before in
-    let none = none_free b c.free.result.now c.is_empty.result c.free.ensures.value c.is_empty.ensures c.if-is_empty.true in
-    let is = ap (λ (hs : List ℕ). full_on (parts_of p) hs s) c.inside.ensures.value
-    ∙ node_full task c.args.depth b (pairs_of c.args.weights.now) s (omega (arith, c.requires.deep)) (sym c.is_closed.ensures ∙ c.if-is_closed.false)
-    (sym c.is_some.ensures ∙ c.if-is_some.false) none in
+    let barren = told_no_end ((parts_of p).barren b) c.end.result (c.end.ensures p c.requires.serves) c.in_default.is in
+    let alone = told_alone ((parts_of p).only b) c.in_ok-hubs.field-0 c.in-Some-2.hubs (c.in_ok-hubs.ensures p c.requires.serves) c.in-Some-2.is
+    ∙ ap (λ (ks : List ℕ). Some ks) (sym c.deref.ensures.value) in
+    let is = node_full task c.args.depth b (pairs_of c.args.weights.now) (state_of p before) c.deref.result.now (omega (arith, c.requires.deep)) barren
+    (sym c.is_some.ensures ∙ c.if-is_some.false) alone in
     on_ok_weaker c.full_leaf.result (λ done. done_as task before c.full_leaf.new.self.progress _ _ is done) c.full_leaf.ensures.full
+
+pub node-rounds-requires-clause-goes_on : goal.node-rounds-requires-clause-goes_on
+node-rounds-requires-clause-goes_on g t c =
+    let p = c.args.self.now.task.now.instance.now in
+    let b = c.args.branch.now in
+    goes_on p b (told_no_end ((parts_of p).barren b) c.end.result (c.end.ensures p c.requires.serves) c.in_default.is)
+    (told_none_alone ((parts_of p).only b) c.in_ok-hubs.field-0 (c.in_ok-hubs.ensures p c.requires.serves) c.in_default-2.is)
 
 pub node-returns-then-closes_cost-clause-done : goal.node-returns-then-closes_cost-clause-done
 node-returns-then-closes_cost-clause-done g t c =
@@ -264,31 +334,31 @@ node-returns-then-closes_cost-clause-done g t c =
     let after = c.add_leaf.new.self.progress in
     let s = state_of p before in
     let go = handling task (c.args.depth - 1) in
-    let some = some_free b c.free.result.now c.is_empty.result c.free.ensures.value c.is_empty.ensures c.if-is_empty.false in
+    let on = goes_on p b (told_no_end ((parts_of p).barren b) c.end.result (c.end.ensures p c.requires.serves) c.in_default.is)
+    (told_none_alone ((parts_of p).only b) c.in_ok-hubs.field-0 (c.in_ok-hubs.ensures p c.requires.serves) c.in_default-2.is) in
     let left = c.in_ok-round.ensures.rounds in
     let r = round_as p middle c.in_ok-round.round in
     let same = c.in_ok-round.ensures.same in
     let closes = c.closes_cost.ensures
-    ∙ ap (λ (x : Task). steps.closes_at x.instance.now (state_of x.instance.now middle) b (pairs_of c.deref.result.now)) same
-    ∙ ap (λ (ws : List ℤ). steps.closes_at p (state_of p middle) b (pairs_of ws)) c.deref.ensures.value in
+    ∙ ap (λ (x : Task). steps.closes_at x.instance.now (state_of x.instance.now middle) b (pairs_of c.deref-2.result.now)) same
+    ∙ ap (λ (ws : List ℤ). steps.closes_at p (state_of p middle) b (pairs_of ws)) c.deref-2.ensures.value in
     let is = ap (λ (ws : List ℤ). record { state = state_of p middle; tree = leaf denominator (pairs_of ws) }) c.deref-then-closes_cost.ensures.value
     ∙ sym (after_closed p (parts_of p) task.nodes go b r (sym closes ∙ c.if-closes_cost.true))
-    ∙ node_explored task c.args.depth b (pairs_of c.args.weights.now) s r (omega (arith, c.requires.deep)) (sym c.is_closed.ensures ∙ c.if-is_closed.false)
-    (sym c.is_some.ensures ∙ c.if-is_some.false) some left.is in
+    ∙ node_explored task c.args.depth b (pairs_of c.args.weights.now) s r (omega (arith, c.requires.deep)) on
+    (sym c.is_some.ensures ∙ c.if-is_some.false) left.is in
     on_ok_weaker c.add_leaf.result
     (λ done. done_as task before after _ _ is (later_done task before middle after _ left.lines left.kept
     (done_by task c.rounds.new.self.task.now middle after
     (λ x. record { state = state_of x.instance.now middle; tree = leaf denominator (pairs_of c.deref-then-closes_cost.result.now) }) same done)))
     c.add_leaf.ensures.added
 
-pub node-node_fixings-requires-clause-not_closed : goal.node-node_fixings-requires-clause-not_closed
-node-node_fixings-requires-clause-not_closed g t c =
-    let p = c.rounds.new.self.task.now.instance.now in
+pub node-fixings-requires-clause-goes_on : goal.node-fixings-requires-clause-goes_on
+node-fixings-requires-clause-goes_on g t c =
+    let p = c.args.self.now.task.now.instance.now in
     let b = c.args.branch.now in
-    let middle = c.rounds.new.self.progress in
-    let closes = c.closes_cost.ensures ∙ ap (λ (ws : List ℤ). steps.closes_at p (state_of p middle) b (pairs_of ws))
-    (c.deref.ensures.value ∙ sym c.deref-2.ensures.value) in
-    open_in_each p middle b (pairs_of c.deref-2.result.now) (sym closes ∙ c.if-closes_cost.false)
+    let on = goes_on p b (told_no_end ((parts_of p).barren b) c.end.result (c.end.ensures p c.requires.serves) c.in_default.is)
+    (told_none_alone ((parts_of p).only b) c.in_ok-hubs.field-0 (c.in_ok-hubs.ensures p c.requires.serves) c.in_default-2.is) in
+    subst (λ (x : Task). GoesOn (parts_of x.instance.now) b) (sym c.in_ok-round.ensures.same) on
 
 pub node-fixed-requires : goal.node-fixed-requires
 node-fixed-requires g t c κs within =
@@ -298,22 +368,28 @@ node-fixed-requires g t c κs within =
     let middle = c.rounds.new.self.progress in
     let left = c.in_ok-round.ensures.rounds in
     let w = pairs_of c.in_ok-round.round.weights.items in
-    let are = ap (λ (fs : List (ℕ × code.Side)). sides_as fs) c.deref-3.ensures.value ∙ c.in_ok-fixings.ensures middle.hubs middle.made middle.stop
-    ∙ ap (λ (ws : List ℤ). fixings p (state_of p middle) b (pairs_of ws)) c.deref-2.ensures.value in (
+    let are = ap (λ (fs : List (ℕ × code.Side)). sides_as fs) c.deref-4.ensures.value ∙ c.in_ok-fixings.ensures
+    ∙ ap (λ (ws : List ℤ). fixings p (state_of p middle) b (pairs_of ws)) c.deref-3.ensures.value in (
       search (rules, arith),
       (
-        within,
+        within.0,
         (
-          c.in_ok-round.ensures.ready,
+          within.1,
           (
-            going_as task c.rounds.new.self.task.now middle c.in_ok-round.ensures.same left.going,
+            c.in_ok-round.ensures.ready,
             (
-              branch_as task c.rounds.new.self.task.now b c.in_ok-round.ensures.same c.requires.branch,
+              c.in_ok-round.ensures.serves,
               (
-                left.weights,
+                going_as task c.rounds.new.self.task.now middle c.in_ok-round.ensures.same left.going,
                 (
-                  subst (AreOnFree b) (sym are) (fixings_on_free p (state_of p middle) b w c.requires.branch.free_ascends),
-                  omega (arith, c.requires.deep),
+                  branch_as task c.rounds.new.self.task.now b c.in_ok-round.ensures.same c.requires.branch,
+                  (
+                    left.weights,
+                    (
+                      subst (AreOnFree b) (sym are) (fixings_on_free p (state_of p middle) b w c.requires.branch.free_ascends),
+                      omega (arith, c.requires.deep),
+                    ),
+                  ),
                 ),
               ),
             ),
@@ -332,54 +408,32 @@ node-returns-clause-done g t c =
     let after = c.fixed.new.self.progress in
     let s = state_of p before in
     let go = handling task (c.args.depth - 1) in
-    let some = some_free b c.free.result.now c.is_empty.result c.free.ensures.value c.is_empty.ensures c.if-is_empty.false in
+    let on = goes_on p b (told_no_end ((parts_of p).barren b) c.end.result (c.end.ensures p c.requires.serves) c.in_default.is)
+    (told_none_alone ((parts_of p).only b) c.in_ok-hubs.field-0 (c.in_ok-hubs.ensures p c.requires.serves) c.in_default-2.is) in
     let left = c.in_ok-round.ensures.rounds in
     let r = round_as p middle c.in_ok-round.round in
     let same = c.in_ok-round.ensures.same in
-    let are = ap (λ (fs : List (ℕ × code.Side)). sides_as fs) c.deref-3.ensures.value ∙ c.in_ok-fixings.ensures middle.hubs middle.made middle.stop
-    ∙ ap (λ (x : Task). fixings x.instance.now (state_of x.instance.now middle) b (pairs_of c.deref-2.result.now)) same
-    ∙ ap (λ (ws : List ℤ). fixings p (state_of p middle) b (pairs_of ws)) c.deref-2.ensures.value in
+    let are = ap (λ (fs : List (ℕ × code.Side)). sides_as fs) c.deref-4.ensures.value ∙ c.in_ok-fixings.ensures
+    ∙ ap (λ (x : Task). fixings x.instance.now (state_of x.instance.now middle) b (pairs_of c.deref-3.result.now)) same
+    ∙ ap (λ (ws : List ℤ). fixings p (state_of p middle) b (pairs_of ws)) c.deref-3.ensures.value in
     let closes = c.closes_cost.ensures
-    ∙ ap (λ (x : Task). steps.closes_at x.instance.now (state_of x.instance.now middle) b (pairs_of c.deref.result.now)) same
-    ∙ ap (λ (ws : List ℤ). steps.closes_at p (state_of p middle) b (pairs_of ws)) c.deref.ensures.value in
+    ∙ ap (λ (x : Task). steps.closes_at x.instance.now (state_of x.instance.now middle) b (pairs_of c.deref-2.result.now)) same
+    ∙ ap (λ (ws : List ℤ). steps.closes_at p (state_of p middle) b (pairs_of ws)) c.deref-2.ensures.value in
     let is = ap (λ (fs : List (ℕ × steps.Side)). fixed p (parts_of p) task.nodes go r.advice fs b r.weights r.state) are
     ∙ sym (after_open p (parts_of p) task.nodes go b r (sym closes ∙ c.if-closes_cost.false))
-    ∙ node_explored task c.args.depth b (pairs_of c.args.weights.now) s r (omega (arith, c.requires.deep)) (sym c.is_closed.ensures ∙ c.if-is_closed.false)
-    (sym c.is_some.ensures ∙ c.if-is_some.false) some left.is in
+    ∙ node_explored task c.args.depth b (pairs_of c.args.weights.now) s r (omega (arith, c.requires.deep)) on
+    (sym c.is_some.ensures ∙ c.if-is_some.false) left.is in
     on_ok_weaker c.fixed.result
     (λ done. done_as task before after _ _ is (later_done task before middle after _ left.lines left.kept
     (done_by task c.rounds.new.self.task.now middle after
-    (λ x. fixed x.instance.now (parts_of x.instance.now) x.nodes (handling x (c.args.depth - 1)) r.advice (sides_as c.deref-3.result.now) b r.weights
+    (λ x. fixed x.instance.now (parts_of x.instance.now) x.nodes (handling x (c.args.depth - 1)) r.advice (sides_as c.deref-4.result.now) b r.weights
     (state_of x.instance.now middle)) same done)))
     c.fixed.ensures.done
 
--- ---- parted
+-- ---- halved
 
-pub parted-returns-then-is_empty-clause-done : goal.parted-returns-then-is_empty-clause-done
-parted-returns-then-is_empty-clause-done g t c =
-    let task = c.args.self.now.task.now in
-    let before = c.args.self.now.progress in
-    let b = c.args.branch.now in
-    let none = none_free b c.free.result.now c.is_empty.result c.free.ensures.value c.is_empty.ensures c.if-is_empty.true in
-    let is = parted_ended task (handling task c.args.depth) (told_by (advice_of_code c.args.round.now.advice)) b (pairs_of c.args.round.now.weights.items)
-    (state_of task.instance.now before) none in
-    on_ok_weaker c.end_branch.result (λ done. done_as task before c.end_branch.new.self.progress _ _ is done) c.end_branch.ensures.ended
-
-pub parted-returns-then-not-may_split-clause-done : goal.parted-returns-then-not-may_split-clause-done
-parted-returns-then-not-may_split-clause-done g t c =
-    let task = c.args.self.now.task.now in
-    let p = task.instance.now in
-    let before = c.args.self.now.progress in
-    let b = c.args.branch.now in
-    let s = state_of p before in
-    let some = some_free b c.free.result.now c.is_empty.result c.free.ensures.value c.is_empty.ensures c.if-is_empty.false in
-    let is = ap (λ (ws : List ℤ). stopped_leaf p b (pairs_of ws) s) c.deref.ensures.value
-    ∙ parted_stopped task (handling task c.args.depth) (told_by (advice_of_code c.args.round.now.advice)) b (pairs_of c.args.round.now.weights.items) s some
-    (sym c.may_split.ensures ∙ c.if-not-may_split.true) in
-    on_ok_weaker c.stopped_leaf.result (λ done. done_as task before c.stopped_leaf.new.self.progress _ _ is done) c.stopped_leaf.ensures.stopped
-
-pub parted-node-requires : goal.parted-node-requires
-parted-node-requires g t c κs within =
+pub halved-node-requires : goal.halved-node-requires
+halved-node-requires g t c κs within =
     let task = c.args.self.now.task.now in
     let p = task.instance.now in
     let before = c.args.self.now.progress in
@@ -392,18 +446,24 @@ parted-node-requires g t c κs within =
     ap (λ (x : Branching). length x.free + 1) child ∙ length-without k b.free free in (
       search (rules, arith),
       (
-        within,
+        within.0,
         (
-          c.requires.ready,
+          within.1,
           (
-            line_going task before begun (branch_on k) (before.made + 2) before.stop c.requires.going c.in_ok-split_on.ensures (omega arith),
+            c.requires.ready,
             (
-              subst (IsBranch p) (sym child) (open_branch p b k c.requires.branch free),
+              c.requires.serves,
               (
-                subst (AreNodeWeights (length begun.pool.entries)) (sym c.deref-2.ensures.value)
-                    (weights_kept (length before.pool.entries) (length begun.pool.entries) c.args.round.now.weights.items
-                    (line_kept before begun (branch_on k) (before.made + 2) before.stop c.in_ok-split_on.ensures) c.requires.weights),
-                omega (arith, fewer, c.requires.deep),
+                line_going task before begun (branch_on k) (before.made + 2) before.stop c.requires.going c.in_ok-split_on.ensures (omega arith),
+                (
+                  subst (IsBranch p) (sym child) (open_branch p b k c.requires.branch free),
+                  (
+                    subst (AreNodeWeights (length begun.pool.entries)) (sym c.deref.ensures.value)
+                        (weights_kept (length before.pool.entries) (length begun.pool.entries) c.args.round.now.weights.items
+                        (line_kept before begun (branch_on k) (before.made + 2) before.stop c.in_ok-split_on.ensures) c.requires.weights),
+                    omega (arith, fewer, c.requires.deep),
+                  ),
+                ),
               ),
             ),
           ),
@@ -411,8 +471,8 @@ parted-node-requires g t c κs within =
       ),
     )
 
-pub parted-node-requires-2 : goal.parted-node-requires-2
-parted-node-requires-2 g t c κs within =
+pub halved-node-requires-2 : goal.halved-node-requires-2
+halved-node-requires-2 g t c κs within =
     let task = c.args.self.now.task.now in
     let p = task.instance.now in
     let before = c.args.self.now.progress in
@@ -429,19 +489,25 @@ parted-node-requires-2 g t c κs within =
     ap (λ (x : Branching). length x.free + 1) child ∙ length-without k b.free free in (
       search (rules, arith),
       (
-        within,
+        within.0,
         (
-          c.in_ok-node.ensures.ready,
+          within.1,
           (
-            going_as task c.node.new.self.task.now middle same opened.going,
+            c.in_ok-node.ensures.ready,
             (
-              branch_as task c.node.new.self.task.now c.in_ok-closed.closed same
-                  (subst (IsBranch p) (sym child) (closed_branch p b k c.requires.branch free)),
+              c.in_ok-node.ensures.serves,
               (
-                subst (AreNodeWeights (length middle.pool.entries)) (sym c.deref-3.ensures.value)
-                    (weights_kept (length before.pool.entries) (length middle.pool.entries) c.args.round.now.weights.items
-                    (omega (arith, kept, opened.kept)) c.requires.weights),
-                omega (arith, fewer, c.requires.deep),
+                going_as task c.node.new.self.task.now middle same opened.going,
+                (
+                  branch_as task c.node.new.self.task.now c.in_ok-closed.closed same
+                      (subst (IsBranch p) (sym child) (closed_branch p b k c.requires.branch free)),
+                  (
+                    subst (AreNodeWeights (length middle.pool.entries)) (sym c.deref-2.ensures.value)
+                        (weights_kept (length before.pool.entries) (length middle.pool.entries) c.args.round.now.weights.items
+                        (omega (arith, kept, opened.kept)) c.requires.weights),
+                    omega (arith, fewer, c.requires.deep),
+                  ),
+                ),
               ),
             ),
           ),
@@ -449,8 +515,8 @@ parted-node-requires-2 g t c κs within =
       ),
     )
 
-pub parted-returns-clause-done : goal.parted-returns-clause-done
-parted-returns-clause-done g t c =
+pub halved-returns-clause-done : goal.halved-returns-clause-done
+halved-returns-clause-done g t c =
     let task = c.args.self.now.task.now in
     let p = task.instance.now in
     let before = c.args.self.now.progress in
@@ -464,18 +530,16 @@ parted-returns-clause-done g t c =
     let second = c.in_ok-closed.closed in
     let s = state_of p before in
     let k = c.nearest-k.result in
-    let some = some_free b c.free.result.now c.is_empty.result c.free.ensures.value c.is_empty.ensures c.if-is_empty.false in
     let next = begun_state p before begun k c.in_ok-split_on.ensures in
-    let is = parted_both task go (told_by (advice_of_code c.args.round.now.advice)) b first second w s (state_of p begun) k some
-    (sym c.may_split.ensures ∙ c.if-not-may_split.false) c.nearest-k.ensures.nearest c.in_ok-opened.ensures c.in_ok-closed.ensures next in
+    let is = halved_both go b first second w s (state_of p begun) k _ c.nearest-k.ensures.nearest c.in_ok-opened.ensures c.in_ok-closed.ensures next in
     let opened = done_as task begun middle _ (go first w (state_of p begun))
-    (ap (λ (ws : List ℤ). go first (pairs_of ws) (state_of p begun)) c.deref-2.ensures.value) c.in_ok-node.ensures.done in
+    (ap (λ (ws : List ℤ). go first (pairs_of ws) (state_of p begun)) c.deref.ensures.value) c.in_ok-node.ensures.done in
     on_ok_weaker c.node-2.result
     (λ done. done_as task before after _ _ is
     (both_done task before begun middle after k (before.made + 2) before.stop (go first w (state_of p begun)) (go second w (go first w (state_of p begun)).state)
     c.in_ok-split_on.ensures opened
     (done_as task middle after _ _
-    (ap (λ (ws : List ℤ). go second (pairs_of ws) (state_of p middle)) c.deref-3.ensures.value ∙ ap (λ (x : State). go second w x) opened.state)
+    (ap (λ (ws : List ℤ). go second (pairs_of ws) (state_of p middle)) c.deref-2.ensures.value ∙ ap (λ (x : State). go second w x) opened.state)
     (done_by task c.node.new.self.task.now middle after
-    (λ x. handling x c.args.depth second (pairs_of c.deref-3.result.now) (state_of x.instance.now middle)) c.in_ok-node.ensures.same done))))
+    (λ x. handling x c.args.depth second (pairs_of c.deref-2.result.now) (state_of x.instance.now middle)) c.in_ok-node.ensures.same done))))
     c.node-2.ensures.done

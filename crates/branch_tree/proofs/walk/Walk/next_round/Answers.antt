@@ -3,7 +3,7 @@ use Rattle.std.proofs.lemmas.Result.{IfOk-weaker}
 use Rattle.search_spec.specs.Steps.{round}
 use Rattle.search_spec.proofs.StepCases.{rounds_over}
 use Rattle.search_steps.specs.Weights.{pairs_of}
-use Rattle.branch_tree.specs.Findings.{parts_of}
+use Rattle.search_steps.specs.Advising.{parts_of}
 use Rattle.branch_tree.specs.Progressing.{state_of}
 use Rattle.branch_tree.specs.Rounding.{round_as}
 use Rattle.branch_tree.proofs.NodeCases.{one_round}

@@ -2,7 +2,7 @@ use Rattle.std.proofs.Common.{ap, ◌∙◌, arith}
 use Rattle.std.proofs.lemmas.Result.{IfOk-weaker}
 use Rattle.search_spec.specs.Steps.{rounds, round}
 use Rattle.search_steps.specs.Weights.{pairs_of}
-use Rattle.branch_tree.specs.Findings.{parts_of}
+use Rattle.search_steps.specs.Advising.{parts_of}
 use Rattle.branch_tree.specs.Progressing.{state_of}
 use Rattle.branch_tree.proofs.NodeCases.{two_rounds}
 use Rattle.branch_tree.proofs.RoundSteps.{next_by}

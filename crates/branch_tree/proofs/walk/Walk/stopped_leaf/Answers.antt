@@ -12,7 +12,7 @@ use Rattle.branch_tree.proofs.LeafSteps.{stopped_is}
 use Rattle.branch_tree.proofs.walk.Walk.stopped_leaf.Goals as goal
 
 pub returns-clause-stopped : goal.returns-clause-stopped
-returns-clause-stopped c =
+returns-clause-stopped g c =
     let p = c.args.self.now.task.now.instance.now in
     let before = c.args.self.now.progress in
     let after = c.add_line.new.progress in
@@ -20,9 +20,9 @@ returns-clause-stopped c =
     let w = pairs_of c.args.weights.now in
     let line = tree_line_of c.in_ok-line.line in
     let s = state_of p before in
-    let fits : FitsSigned w128 c.weights_bound-bound.result = search rules in
-    let is = stopped_is p b w s c.weights_bound-bound.result c.lesser.result (c.weights_bound-bound.ensures.value before.hubs before.cost before.made before.stop)
-    (c.lesser.ensures ∙ ap (λ (x : ℕ). lesser x before.stop) (c.rounded_up.ensures ∙ ap rounded_up (to_z-of_z w128 c.weights_bound-bound.result fits))) in
+    let fits : FitsSigned w128 c.bound-bound.result = search rules in
+    let is = stopped_is p b w s c.bound-bound.result c.lesser.result (c.bound-bound.ensures.value before.hubs before.cost before.made before.stop)
+    (c.lesser.ensures ∙ ap (λ (x : ℕ). lesser x before.stop) (c.rounded_up.ensures ∙ ap rounded_up (to_z-of_z w128 c.bound-bound.result fits))) in
     on_ok_weaker c.add_line.result
     (λ has. done_as c.args.self.now.task.now before after _ _ is
     (line_done c.args.self.now.task.now before after (leaf denominator w) line before.made (Some c.lesser.result) c.requires.going
