@@ -1,6 +1,7 @@
 //! A separator on one thread.
 
 ghost use Rattle.std.specs.Prelude.{◌≡◌, IfOk};
+ghost use Rattle.hub_spec.specs.Problem.{IsProblem};
 
 use crate::{Separator, kept_sums};
 use cut_pool::CutSums;
@@ -34,7 +35,8 @@ impl Model for Solo {
 impl Solo {
     /// A separator with room for the instance's nodes.
     pub fn new(alloc: Global, instance: &Instance) -> Result<Solo, AllocError>
-        ensures { IfOk result (λ room. room ≡ instance.now.size) }
+        ensures room { IfOk result (λ room. room ≡ instance.now.size) }
+        ensures problem { IsProblem instance.now }
     {
         let room = instance.size();
         Ok(Solo {
