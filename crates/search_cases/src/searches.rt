@@ -8,6 +8,7 @@ use crate::texts::tree_text;
 use branch_tree::search;
 use hub_model::Instance;
 use kept_cuts::Found;
+use search_steps::Plain;
 use separators::Solo;
 use std::alloc::{AllocError, Global};
 
@@ -17,7 +18,7 @@ pub(crate) fn found_of(alloc: Global, instance: &Instance, line: &str) -> Result
 {
     let nodes = most_nodes(alloc, line)?;
     let mut separator = Solo::new(alloc, instance)?;
-    search(alloc, instance, nodes, &mut separator)
+    search(alloc, &Plain, instance, nodes, &mut separator)
 }
 
 // The number behind the first word, or none for `all`.

@@ -1,13 +1,11 @@
 -- The bound that a node's weights give is the bound in the search's state.
-use Rattle.std.proofs.Common.{◌≡◌, ℕ, ◌*◌, ◌≤◌, ℤ, pos, ◌-ℤ◌, ◌<ℤ◌, List, length, map, get_or, All, Option, Bool, true, false, if◌then◌else◌, IsTrue, ◌↔◌, int_lt, refl, sym, ap, ap₂, subst, ◌∙◌, arith, ◌<◌, Contains}
+use Rattle.std.proofs.Common.{◌≡◌, ℕ, ◌*◌, ◌≤◌, ℤ, pos, ◌-ℤ◌, List, length, map, get_or, All, Option, if◌then◌else◌, int_lt, sym, ap, ap₂, subst, ◌∙◌, arith}
 use Rattle.std.specs.List.{AllZip}
 use Rattle.std.proofs.lemmas.Int.{ints}
 use Rattle.std.proofs.lemmas.List.{length-map}
 use Rattle.hub_spec.specs.Limits.{most_part, most_fixed_cost}
 use Rattle.hub_spec.specs.Problem.{Problem, IsProblem, fixed_cost}
 use Rattle.hub_spec.specs.Trees.{Branching, leaf_bound, IsBranch}
-use Rattle.hub_spec.proofs.SumLemmas.{by_test}
-use Rattle.hub_spec.proofs.Mixes.{candidate_is_node}
 use Rattle.hub_model.specs.Amounts.{natural, IsNatural}
 use Rattle.leaf_bound.specs.declared.weightings.Weighting as lent
 use Rattle.leaf_bound.specs.Bounds.{AreMultiples, bound_of}
