@@ -26,6 +26,7 @@ use kept_cuts::Found;
 use par_separate::{Crew, separate_sums, workers_for};
 use plan_model::HubSet;
 use price_passes::Adviser;
+use search_steps::Plain;
 use separators::Solo;
 use std::alloc::{AllocError, Global};
 use std::thread::Threads;
@@ -103,7 +104,7 @@ fn find<R: Threads + Sync, G: Gate>(
     let workers = workers_for(instance.size(), asked.workers);
     if workers == 1 {
         let mut solo = Solo::new(alloc, instance)?;
-        return search(alloc, instance, asked.nodes, &mut solo);
+        return search(alloc, &Plain, instance, asked.nodes, &mut solo);
     }
     let cut = |alloc: Global, i: &Instance, set: HubSet, order: &[u32]| -> Result<
         CutSums,
@@ -112,5 +113,5 @@ fn find<R: Threads + Sync, G: Gate>(
         requires { IsSync R.row × IsSync G.row × IsHubSet i.now set × IsOrder i.now set order.now × (1 ≤ workers) × (workers ≤ 64) }
         ensures { IfOk result (λ c. (c.hubs ≡ set) × IsSumsOf i.entry.now (entry_of c order.entry.now)) }
     { separate_sums(rt, alloc, i, set, order, workers, gate) };
-    search(alloc, instance, asked.nodes, &mut Crew { cut })
+    search(alloc, &Plain, instance, asked.nodes, &mut Crew { cut })
 }
