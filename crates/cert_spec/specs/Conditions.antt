@@ -1,6 +1,6 @@
 -- The conditions of the check, line by line, in the order in which they are tried, each with its kind and line.
 use Rattle.std.specs.Prelude.{◌≡◌, ℕ, ◌+◌, ◌*◌, ◌<◌, ◌≤◌, List, [], ◌∷◌, ◌++◌, length, replicate, Bool, true, false, nat_eq, All, Contains, ◌⊎◌, ◌↔◌}
-use Rattle.hub_spec.specs.Problem.{Problem, commodity_at}
+use Rattle.hub_spec.specs.Problem.{Problem, is_allowed, commodity_at}
 use Rattle.hub_spec.specs.Plans.{HasWanted, plan_cost}
 use Rattle.hub_spec.specs.Cuts.{Prices, IsDual, IsWithinSums}
 use Rattle.hub_spec.specs.Trees.{Branching, weight_sum, IsMultiple, HasRoom, LacksRoom, leaf_bound, Closes, IsBlocked, TreeLine, branch_on, leaf_of, no_hub, no_route, no_count, IsClosed}
@@ -11,7 +11,7 @@ use Rattle.cert_spec.specs.Progress.{Progress, at_start, after_line}
 
 -- what a condition is about; BoundOverCost fails where the bound is above the cost
 pub data Kind : Type 0 where
-  Size BoundOverCost Hubs Number Route Cost Dual Sum Branch Empty Block Count CutNumber Multiple Weight Leaf : Kind
+  Size BoundOverCost Hubs Number Route Length Cost Dual Sum Branch Empty Block Count CutNumber Multiple Weight Leaf : Kind
 
 -- a condition on a certificate, with the line at which it is tried
 pub record Claim : Type 1 where
@@ -78,6 +78,7 @@ line_conditions p s (says_hubs hubs) =
     claim Hubs s.line (All (Contains p.candidates) hubs) ∷ claim Number s.line (HasWanted p hubs) ∷ []
 line_conditions p s (says_route commodity route) =
     claim Route s.line (Contains s.hubs route.0 × Contains s.hubs route.1)
+    ∷ claim Length s.line (is_allowed p commodity route.0 route.1 ≡ true)
     ∷ cost_conditions p s (s.routes ++ route ∷ [])
 line_conditions p s (says_cuts all) = []
 line_conditions p s (says_cut number part) = []

@@ -77,7 +77,7 @@ Wants (want_dual s all x t before) (says_dual commodity run dual) =
     × (before ≢ Some dual)
 Wants (want_nodes s) (says_nodes all) = (1 ≤ all) × (all ≤ most_tree_lines)
 Wants (want_tree s places left) (says_tree line) =
-    IsLineInRange s.size line × IsFirstLine line × IsOpen (places_after places line) (left - 1)
+    IsLineInRange s.size line × (s.version ≡ 1 → IsFirstLine line) × IsOpen (places_after places line) (left - 1)
 Wants want_end says_end = Unit {0}
 Wants stage item = ⊥
 

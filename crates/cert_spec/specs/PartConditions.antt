@@ -1,12 +1,12 @@
 -- The same conditions part by part, for a check that holds the certificate: plan, cuts and tree, with their lines counted.
-use Rattle.std.specs.Prelude.{◌≡◌, ℕ, ◌+◌, ◌≤◌, ◌*◌, List, [], ◌∷◌, ◌++◌, length, sum_by, All, Contains}
-use Rattle.hub_spec.specs.Problem.{Problem}
+use Rattle.std.specs.Prelude.{◌≡◌, ℕ, ◌+◌, ◌≤◌, ◌*◌, true, List, [], ◌∷◌, ◌++◌, length, sum_by, All, Contains}
+use Rattle.hub_spec.specs.Problem.{Problem, is_allowed, commodities}
 use Rattle.hub_spec.specs.Plans.{HasWanted, plan_cost}
 use Rattle.hub_spec.specs.Cuts.{Prices, Cut, IsWithinSums}
 use Rattle.hub_spec.specs.Trees.{Branching, root, open_child, closed_child, weight_sum, leaf_bound, Closes, IsMultiple, Tree, branch, leaf, empty, block, count, IsClosed, IsBlocked, HasRoom, LacksRoom, line_count}
 use Rattle.hub_spec.specs.Certificates.{Proof}
 use Rattle.cert_spec.specs.Text.{dual_runs}
-use Rattle.cert_spec.specs.Conditions.{Claim, claim, IsDualOfRun, Size, BoundOverCost, Hubs, Number, Route, Cost, Dual, Sum, Branch, Empty, Block, Count, CutNumber, Multiple, Weight, Leaf}
+use Rattle.cert_spec.specs.Conditions.{Claim, claim, IsDualOfRun, Size, BoundOverCost, Hubs, Number, Route, Length, Cost, Dual, Sum, Branch, Empty, Block, Count, CutNumber, Multiple, Weight, Leaf}
 
 -- ---- on which line each part stands, counted from 1
 
@@ -52,11 +52,14 @@ first_tree_line v n cuts = 8 + n * n + sum_by (cut_lines v n) cuts
 
 -- ---- the conditions
 
--- each route, from this line on, goes through hubs
-abbrev pub route_claims : List ℕ → ℕ → List (ℕ × ℕ) → List Claim
-route_claims hubs line [] = []
-route_claims hubs line (r ∷ rs) =
-    claim Route line (Contains hubs r.0 × Contains hubs r.1) ∷ route_claims hubs (line + 1) rs
+-- each route, from this line on, goes through hubs and is allowed for its commodity
+abbrev pub route_claims : Problem → List ℕ → ℕ → List (ℕ × ℕ) → List (ℕ × ℕ) → List Claim
+route_claims p hubs line [] rs = []
+route_claims p hubs line (c ∷ cs) [] = []
+route_claims p hubs line (c ∷ cs) (r ∷ rs) =
+    claim Route line (Contains hubs r.0 × Contains hubs r.1)
+    ∷ claim Length line (is_allowed p c r.0 r.1 ≡ true)
+    ∷ route_claims p hubs (line + 1) cs rs
 
 -- each run's dual, from this line on
 abbrev pub dual_claims : Problem → ℕ → ℕ → ℕ → List (ℕ × Prices) → List Claim
@@ -104,7 +107,7 @@ abbrev pub hub_claims : Problem → (n cost : ℕ) → (hubs : List ℕ) → (ro
 hub_claims p n cost hubs routes =
     claim Hubs hubs_line (All (Contains p.candidates) hubs)
     ∷ claim Number hubs_line (HasWanted p hubs)
-    ∷ (route_claims hubs first_route_line routes
+    ∷ (route_claims p hubs first_route_line (commodities n) routes
     ++ claim Cost (last_route_line n) (cost ≡ plan_cost p (record { hubs = hubs; routes = routes })) ∷ [])
 
 -- the conditions up to the cuts
