@@ -8,7 +8,7 @@ use Rattle.hub_spec.specs.Plans.{plan_cost, HasWanted}
 use Rattle.hub_spec.specs.Cuts.{Cut}
 use Rattle.hub_spec.specs.Trees.{root, preorder, line_count}
 use Rattle.hub_spec.specs.Certificates.{Proof}
-use Rattle.hub_spec.specs.Ranges.{IsFirstCut, IsFirst, IsFirstLine, IsSecond, IsCutInRange, IsInRange}
+use Rattle.hub_spec.specs.Ranges.{IsFirstCut, IsFirst, IsSecond, IsCutInRange, IsInRange}
 use Rattle.hub_spec.proofs.Commodities.{length_commodities}
 use Rattle.cert_spec.specs.Lines.{Item, says_cuts, says_nodes, says_tree, says_end}
 use Rattle.cert_spec.specs.PartConditions.{size_line, hubs_line, first_route_line, last_route_line, cut_lines, first_cut_line, first_tree_line, route_claims, cut_claims, tree_claims, size_claims, claims}
@@ -67,7 +67,7 @@ cuts_said k r =
     ⊎_elim
     (λ (first : (k.version ≡ 1) × IsFirst k).
     said_first k.size k.version k.cuts (eq-eqb k.version 1 first.0) each (recursion_from_All IsFirstCut k.cuts first.1.cuts))
-    (λ (second : IsSecond k.version × All IsFirstLine (preorder k.tree)). said_second k.size k.version k.cuts (second_later k.version second.0) each)
+    (λ (second : IsSecond k.version). said_second k.size k.version k.cuts (second_later k.version second) each)
     r.version
 
 -- where the number of nodes is the instance's, the lines try just the conditions of the check
@@ -86,7 +86,7 @@ by_lines p k r =
     let at_cuts = record planned { line = 6 + length routes + 1; routes = routes } in
     let at_tree : ℕ → Progress = λ line. record at_cuts { line = line; cuts = k.cuts; pending = root p ∷ [] } in
     let head : List Claim → List Claim = λ cs. size_claims p (sized k n) ++ (claim Hubs hubs_line (All (Contains p.candidates) k.plan.hubs) ∷ (claim Number hubs_line (HasWanted p k.plan.hubs) ∷ cs)) in
-    let going = route_claims k.plan.hubs first_route_line routes in
+    let going = route_claims p k.plan.hubs first_route_line (commodities n) routes in
     let tried = cut_claims p v (first_cut_line n) k.cuts in
     let whole = tree_claims p k.cuts k.bound (first_tree_line v n k.cuts) (root p) k.tree in
     let lines : ℕ = sum_by (cut_lines v n) k.cuts in

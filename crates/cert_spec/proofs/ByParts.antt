@@ -4,14 +4,14 @@ use Rattle.std.specs.List.{AllByRecursion}
 use Rattle.std.proofs.lemmas.List.{map-append, length-append, length-replicate}
 use Rattle.std.proofs.lemmas.List.Sums.{sum_by-cons}
 use Rattle.std.proofs.lemmas.Bool.{cond-true, cond-false}
-use Rattle.hub_spec.specs.Problem.{Problem}
+use Rattle.hub_spec.specs.Problem.{Problem, is_allowed}
 use Rattle.hub_spec.specs.Plans.{plan_cost}
 use Rattle.hub_spec.specs.Cuts.{Prices, Cut, IsWithinSums}
 use Rattle.hub_spec.specs.Trees.{Branching, open_child, closed_child, Tree, branch, leaf, empty, block, count, preorder, line_count}
 use Rattle.cert_spec.specs.Lines.{Item, says_tree}
 use Rattle.cert_spec.specs.Text.{route_items, is_first, same_prices, singles, dual_runs, run_items, part_said, cut_items, cuts_items}
 use Rattle.cert_spec.specs.PartConditions.{cut_lines, route_claims, dual_claims, one_cut_claims, cut_claims, tree_claims}
-use Rattle.cert_spec.specs.Conditions.{Claim, claim, IsDualOfRun, Route, Cost, Dual, Sum, Branch, if_time, cost_conditions, sum_conditions, line_conditions, conditions_from}
+use Rattle.cert_spec.specs.Conditions.{Claim, claim, IsDualOfRun, Route, Length, Cost, Dual, Sum, Branch, if_time, cost_conditions, sum_conditions, line_conditions, conditions_from}
 use Rattle.cert_spec.specs.Progress.{Progress, with_duals, after_line, after_lines}
 use Rattle.cert_spec.specs.Lines.{part_of}
 use Rattle.cert_spec.specs.Runs.{ends_row, joined, runs, spread}
@@ -54,15 +54,17 @@ cost_later p s routes e = if_time-later (nat_eq (length routes) (s.size * s.size
 pub routes_by_lines : (p : Problem) (s : Progress) (cs rs : List (ℕ × ℕ)) (rest : List Item) → length rs ≡ length cs → 1 ≤ length rs
     → length s.routes + length rs ≡ s.size * s.size
     → conditions_from p s (route_items (zip cs rs) ++ rest)
-    ≡ route_claims s.hubs s.line rs ++ after_routes p s rest (s.line + length rs) (s.routes ++ rs)
+    ≡ route_claims p s.hubs s.line cs rs ++ after_routes p s rest (s.line + length rs) (s.routes ++ rs)
 routes_by_lines p s cs [] rest e some all = absurd (omega (arith, some))
 routes_by_lines p s [] (r ∷ rs) rest e some all = absurd (omega (arith, e))
 routes_by_lines p s (c ∷ []) (r ∷ []) rest e some all =
     let routes = s.routes ++ r ∷ [] in
     let next = conditions_from p (record s { line = s.line + 1; routes = routes }) rest in
     let here = claim Route s.line (Contains s.hubs r.0 × Contains s.hubs r.1) in
-    ap (λ cs. here ∷ (cs ++ next)) (cost_now p s routes (length-one-more s.routes r ∙ all))
-    ∙ ap (λ line. here ∷ claim Cost line (s.cost ≡ plan_cost p (record { hubs = s.hubs; routes = routes })) ∷ next)
+    let allowed = claim Length s.line (is_allowed p c r.0 r.1 ≡ true) in
+    ap (λ cs. here ∷ (allowed ∷ (cs ++ next))) (cost_now p s routes (length-one-more s.routes r ∙ all))
+    ∙ ap (λ line.
+    here ∷ allowed ∷ claim Cost line (s.cost ≡ plan_cost p (record { hubs = s.hubs; routes = routes })) ∷ next)
     (let e : s.line ≡ s.line + 1 - 1 = omega arith in e)
 routes_by_lines p s (c ∷ d ∷ cs) (r ∷ []) rest e some all = absurd (omega (arith, e))
 routes_by_lines p s (c ∷ []) (r ∷ t ∷ rs) rest e some all = absurd (omega (arith, e))
@@ -70,12 +72,13 @@ routes_by_lines p s (c ∷ d ∷ cs) (r ∷ t ∷ rs) rest e some all =
     let routes = s.routes ++ r ∷ [] in
     let after = record s { line = s.line + 1; routes = routes } in
     let here = claim Route s.line (Contains s.hubs r.0 × Contains s.hubs r.1) in
+    let allowed = claim Length s.line (is_allowed p c r.0 r.1 ≡ true) in
     let long = length-one-more s.routes r in
-    ap (λ ks. here ∷ (ks ++ conditions_from p after (route_items (zip (d ∷ cs) (t ∷ rs)) ++ rest)))
+    ap (λ ks. here ∷ (allowed ∷ (ks ++ conditions_from p after (route_items (zip (d ∷ cs) (t ∷ rs)) ++ rest))))
     (cost_later p s routes (λ f. omega (arith, f, long, all)))
-    ∙ ap (λ cs. here ∷ cs) (
+    ∙ ap (λ cs. here ∷ (allowed ∷ cs)) (
     routes_by_lines p after (d ∷ cs) (t ∷ rs) rest (omega (arith, e)) (omega arith) (omega (arith, long, all))
-    ∙ ap₂ (λ line ms. route_claims s.hubs (s.line + 1) (t ∷ rs) ++ after_routes p s rest line ms)
+    ∙ ap₂ (λ line ms. route_claims p s.hubs (s.line + 1) (d ∷ cs) (t ∷ rs) ++ after_routes p s rest line ms)
     (let m : s.line + 1 + length (t ∷ rs) ≡ s.line + length (r ∷ t ∷ rs) = omega arith in m)
     (append_assoc s.routes (r ∷ []) (t ∷ rs)))
 

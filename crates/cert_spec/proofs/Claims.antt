@@ -3,7 +3,7 @@ use Rattle.std.proofs.Common.{◌≡◌, ◌↔◌, ℕ, ◌+◌, ◌*◌, ◌<�
 use Rattle.std.specs.List.{AllZip}
 use Rattle.std.proofs.lemmas.List.Elements.{All-head, All-tail, All-cons, All-nil, All-weaker}
 use Rattle.hub_spec.specs.Problem.{Problem, commodities, commodity_at}
-use Rattle.hub_spec.specs.Plans.{IsRoute}
+use Rattle.hub_spec.specs.Plans.{IsRoute, HasRoute}
 use Rattle.hub_spec.specs.Cuts.{Prices, IsDual, Cut, IsCut}
 use Rattle.hub_spec.specs.Trees.{Branching, root, open_child, closed_child, Tree, branch, leaf, empty, block, count, TreeLine, branch_on, leaf_of, preorder, line_count, IsSound}
 use Rattle.hub_spec.specs.Certificates.{Proof, Holds}
@@ -29,19 +29,28 @@ AllHold-split [] ys h = (tt, h)
 AllHold-split (x ∷ xs) ys h = (let rest = AllHold-split xs ys h.1 in ((h.0, rest.0), rest.1))
 
 routes_hold : (p : Problem) (hubs : List ℕ) (line : ℕ) (cs rs : List (ℕ × ℕ)) → length rs ≡ length cs
-    → AllHold (route_claims hubs line rs) → AllZip (IsRoute p hubs) cs rs
+    → AllHold (route_claims p hubs line cs rs) → AllZip (IsRoute p hubs) cs rs
 routes_hold p hubs line [] [] e h = tt
 routes_hold p hubs line [] (r ∷ rs) e h = absurd (omega (arith, e))
 routes_hold p hubs line (c ∷ cs) [] e h = absurd (omega (arith, e))
 routes_hold p hubs line (c ∷ cs) (r ∷ rs) e h =
-    (record { first = h.0.0; last = h.0.1 }, routes_hold p hubs (line + 1) cs rs (omega (arith, e)) h.1)
+    let route : IsRoute p hubs c r = record { first = h.0.0; last = h.0.1; allowed = h.1.0 } in
+    (route, routes_hold p hubs (line + 1) cs rs (omega (arith, e)) h.1.1)
 
 routes_claimed : (p : Problem) (hubs : List ℕ) (line : ℕ) (cs rs : List (ℕ × ℕ)) → AllZip (IsRoute p hubs) cs rs
-    → AllHold (route_claims hubs line rs)
+    → AllHold (route_claims p hubs line cs rs)
 routes_claimed p hubs line [] [] h = tt
 routes_claimed p hubs line [] (r ∷ rs) h = absurd h
 routes_claimed p hubs line (c ∷ cs) [] h = absurd h
-routes_claimed p hubs line (c ∷ cs) (r ∷ rs) h = ((h.0.first, h.0.last), routes_claimed p hubs (line + 1) cs rs h.1)
+routes_claimed p hubs line (c ∷ cs) (r ∷ rs) h =
+    ((h.0.first, h.0.last), (h.0.allowed, routes_claimed p hubs (line + 1) cs rs h.1))
+
+-- hubs with a route for each commodity lack none
+routes_serve : (p : Problem) (hubs : List ℕ) (cs rs : List (ℕ × ℕ)) → AllZip (IsRoute p hubs) cs rs
+    → All (HasRoute p hubs) cs
+routes_serve p hubs [] rs h = All-nil (HasRoute p hubs)
+routes_serve p hubs (c ∷ cs) [] h = absurd h
+routes_serve p hubs (c ∷ cs) (r ∷ rs) h = All-cons (HasRoute p hubs) c cs (r, h.0) (routes_serve p hubs cs rs h.1)
 
 -- ---- duals, run by run
 
@@ -227,7 +236,8 @@ holds_from_claims p k r h =
     let later = AllHold-split (all_cut_claims p k) (all_tree_claims p k) parts.1 in
     let head = parts.0 in
     let size : k.size ≡ p.size = head.0.0 in
-    let routes = AllHold-split (route_claims k.plan.hubs first_route_line k.plan.routes) _ head.1.1.1.1 in
+    let routes =
+    AllHold-split (route_claims p k.plan.hubs first_route_line (commodities k.size) k.plan.routes) _ head.1.1.1.1 in
     let taken = subst (λ (n : ℕ). AllZip (IsRoute p k.plan.hubs) (commodities n) k.plan.routes) size
     (routes_hold p k.plan.hubs first_route_line (commodities k.size) k.plan.routes (r.one_route_each ∙ sym (length_commodities k.size)) routes.0) in
     record {
@@ -239,6 +249,7 @@ holds_from_claims p k r h =
           some_hub = r.some_hub;
           ascend = r.hubs_ascend;
           are_candidates = head.1.1.0;
+          lacks_none = routes_serve p k.plan.hubs (commodities p.size) k.plan.routes taken;
         };
         routes = taken;
       };
@@ -250,7 +261,7 @@ holds_from_claims p k r h =
 
 claims_from_holds : (p : Problem) (k : Proof) → Holds p k → AllHold (claims p k)
 claims_from_holds p k h =
-    let routes = AllHold-append (route_claims k.plan.hubs first_route_line k.plan.routes) _
+    let routes = AllHold-append (route_claims p k.plan.hubs first_route_line (commodities k.size) k.plan.routes) _
     (routes_claimed p k.plan.hubs first_route_line (commodities k.size) k.plan.routes
     (subst (λ (n : ℕ). AllZip (IsRoute p k.plan.hubs) (commodities n) k.plan.routes) (sym h.size) h.plan.routes)) (h.cost, tt) in
     let cuts = cuts_claimed p k.version (first_cut_line k.size) k.cuts h.cuts in

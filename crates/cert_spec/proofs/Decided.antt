@@ -3,7 +3,7 @@ use Rattle.std.proofs.Common.{◌≡◌, ℕ, ◌+◌, ◌*◌, ◌<◌, ◌≤�
 use Rattle.std.proofs.lemmas.List.Elements.{All-contains, All-contains_itself, All-weaker}
 use Rattle.std.proofs.lemmas.Int.{by_lt_z, ints}
 use Rattle.hub_spec.specs.Limits.{most_cost}
-use Rattle.hub_spec.specs.Problem.{Problem, route_cost, is_allowed, commodity_at}
+use Rattle.hub_spec.specs.Problem.{Problem, route_cost, is_allowed, commodities, commodity_at}
 use Rattle.hub_spec.specs.Plans.{plan_cost}
 use Rattle.hub_spec.specs.Cuts.{Prices, value_at, IsDual, Cut, total, load, IsWithinSums}
 use Rattle.hub_spec.specs.Trees.{Branching, root, open_child, closed_child, Tree, branch, leaf, empty, block, count, cut_at, share, IsMultiple, weight_sum, leaf_bound, IsClosed, IsBlocked, HasRoom, LacksRoom, line_count}
@@ -163,10 +163,14 @@ AllDecided-append : (xs ys : List Claim) → AllDecided xs → AllDecided ys →
 AllDecided-append [] ys h g = g
 AllDecided-append (x ∷ xs) ys h g = (h.0, AllDecided-append xs ys h.1 g)
 
-routes_decided : (hubs : List ℕ) (line : ℕ) (rs : List (ℕ × ℕ)) → AllDecided (route_claims hubs line rs)
-routes_decided hubs line [] = tt
-routes_decided hubs line (r ∷ rs) =
-    (decided_and (decided_contains hubs r.0) (decided_contains hubs r.1), routes_decided hubs (line + 1) rs)
+routes_decided : (p : Problem) (hubs : List ℕ) (line : ℕ) (cs rs : List (ℕ × ℕ))
+    → AllDecided (route_claims p hubs line cs rs)
+routes_decided p hubs line [] rs = tt
+routes_decided p hubs line (c ∷ cs) [] = tt
+routes_decided p hubs line (c ∷ cs) (r ∷ rs) = (
+  decided_and (decided_contains hubs r.0) (decided_contains hubs r.1),
+  (decided_true (is_allowed p c r.0 r.1), routes_decided p hubs (line + 1) cs rs),
+)
 
 duals_decided : (p : Problem) (part line t : ℕ) (rs : List (ℕ × Prices)) → AllDecided (dual_claims p part line t rs)
 duals_decided p part line t [] = tt
@@ -209,8 +213,9 @@ pub claims_decided : (p : Problem) (k : Proof) → AllDecided (claims p k)
 claims_decided p k =
     let sizes = decided_and (decided_eq k.size p.size) (decided_eq k.candidates (length p.candidates)) in
     let hubs = decided_all (Contains p.candidates) (decided_contains p.candidates) k.plan.hubs in
-    let routes = AllDecided-append (route_claims k.plan.hubs first_route_line k.plan.routes) _
-    (routes_decided k.plan.hubs first_route_line k.plan.routes) (decided_eq k.cost (plan_cost p k.plan), tt) in
+    let routes = AllDecided-append (route_claims p k.plan.hubs first_route_line (commodities k.size) k.plan.routes) _
+    (routes_decided p k.plan.hubs first_route_line (commodities k.size) k.plan.routes)
+    (decided_eq k.cost (plan_cost p k.plan), tt) in
     AllDecided-append (plan_claims p k) (all_cut_claims p k ++ all_tree_claims p k)
     (sizes, (decided_le k.bound k.cost, (hubs, (decided_wanted p.wanted (length k.plan.hubs), routes))))
     (AllDecided-append (all_cut_claims p k) (all_tree_claims p k) (cuts_decided p k.version (first_cut_line k.size) k.cuts)

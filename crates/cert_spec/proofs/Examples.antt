@@ -3,7 +3,7 @@ use Rattle.std.proofs.Common.{◌≡◌, ℕ, zero, suc, ◌++◌, List, [], ◌
 use Rattle.std.specs.Prelude.{codes, pos, ℤ, ◌-ℤ◌, ◌+ℤ◌, ◌*◌}
 use Rattle.hub_spec.specs.Sums.{least_sum}
 use Rattle.hub_spec.specs.Problem.{Problem, flow, distance, fixed_cost, is_allowed, route_cost, commodities}
-use Rattle.hub_spec.specs.Edges.{least_cost}
+use Rattle.hub_spec.specs.Edges.{edge_cost, least_cost}
 use Rattle.hub_spec.specs.Cuts.{Prices, Cut}
 use Rattle.hub_spec.specs.Separation.{set_cut, minimal_dual}
 use Rattle.hub_spec.specs.Trees.{branch, leaf, block, root, open_child, leaf_bound}
@@ -36,6 +36,11 @@ not_through_first = refl
 no_flow_any_way : is_allowed far (0, 1) 0 0 ≡ true
 unfolding is_allowed flow distance far
 no_flow_any_way = refl
+
+-- nor can it go through both
+through_both : edge_cost far (1, 1) 0 1 ≡ None
+unfolding is_allowed flow distance route_cost far
+through_both = refl
 
 no_prices : Prices
 no_prices = record { a = 0; u = [] }

@@ -13,7 +13,7 @@ use Rattle.cert_spec.specs.Lines.{Item, says_cuts, says_nodes, says_tree, says_e
 use Rattle.cert_spec.specs.Text.{route_items, is_first, same_prices, singles, dual_runs, run_items, dual_items, part_said, cut_items, cuts_items}
 use Rattle.cert_spec.specs.Theorems.{EachTextLeads}
 use Rattle.cert_spec.specs.Runs.{runs, spread, before_at, AreRuns}
-use Rattle.cert_spec.proofs.Versions.{second_is, second_later}
+use Rattle.cert_spec.proofs.Versions.{second_is, second_not_first, second_later}
 use Rattle.cert_spec.proofs.RunLaws.{runs_are, spread_runs}
 use Rattle.cert_spec.proofs.SamePrices.{prices_told}
 use Rattle.hub_spec.specs.Limits.{most_part}
@@ -198,7 +198,7 @@ line_count-least count = omega arith
 -- a tree line that the version can say
 pub record IsLineOf (s : Shape) (line : TreeLine) : Type 0 where
   pub in_range : IsLineInRange s.size line
-  pub first : IsFirstLine line
+  pub first : s.version ≡ 1 → IsFirstLine line
 
 -- the tree fills one of the places, with as many lines
 tree_leads : (s : Shape) (places left : ℕ) (t : Tree) → 1 ≤ places → line_count t + (places - 1) ≤ left → (places ≡ 1 → line_count t ≡ left)
@@ -243,19 +243,22 @@ abbrev shape_of : Proof → Shape
 shape_of k = shape k.version k.size
 
 pub version_is : (k : Proof) → IsInRange k → IsVersion k.version
-version_is k h = elim h.version [ inl first ↦ inl first.0 | inr second ↦ inr second.0 ]
+version_is k h = elim h.version [ inl first ↦ inl first.0 | inr second ↦ inr second ]
 
 pub cuts_said : (k : Proof) → IsInRange k → AllByRecursion (IsCutOf (shape k.version k.size)) k.cuts
 cuts_said k h = recursion_from_All (IsCutOf (shape k.version k.size)) k.cuts (λ i d l. record { in_range = h.cuts i d l; first = first i d l })
   where
     first : (i : ℕ) (d : Cut) → i < length k.cuts → k.version ≡ 1 → IsFirstCut (get_or k.cuts i d)
-    first i d l one = elim h.version [ inl plain ↦ plain.1.cuts i d l | inr second ↦ absurd (omega (arith, one, second_is k.version second.0)) ]
+    first i d l one =
+        elim h.version [ inl plain ↦ plain.1.cuts i d l | inr second ↦ absurd (second_not_first k.version second one) ]
 
 pub lines_said : (k : Proof) → IsInRange k → AllByRecursion (IsLineOf (shape k.version k.size)) (preorder k.tree)
 lines_said k h = recursion_from_All (IsLineOf (shape k.version k.size)) (preorder k.tree) (λ i d l. record { in_range = h.tree i d l; first = first i d l })
   where
-    first : (i : ℕ) (d : TreeLine) → i < length (preorder k.tree) → IsFirstLine (get_or (preorder k.tree) i d)
-    first i d l = elim h.version [ inl plain ↦ plain.1.tree i d l | inr second ↦ second.1 i d l ]
+    first : (i : ℕ) (d : TreeLine) → i < length (preorder k.tree) → k.version ≡ 1
+        → IsFirstLine (get_or (preorder k.tree) i d)
+    first i d l one =
+        elim h.version [ inl plain ↦ plain.1.tree i d l | inr second ↦ absurd (second_not_first k.version second one) ]
 
 tree_part : (k : Proof) → IsInRange k → Leads (want_nodes (shape_of k)) (says_nodes (line_count k.tree) ∷ (map says_tree (preorder k.tree) ++ says_end ∷ [])) want_nothing
 tree_part k h = ((line_count-least k.tree, h.line_count), whole_tree_leads (shape_of k) k.tree (lines_said k h))

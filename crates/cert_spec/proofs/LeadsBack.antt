@@ -601,8 +601,9 @@ certificate v n q c b items version sizes cost bound h =
       record { version = v; size = n; candidates = q; cost = c; bound = b; plan = record { hubs = h.hubs; routes = h.routes }; cuts = h.later.cuts; tree = h.later.tree },
       record {
         version = elim version [
-          | inl one ↦ inl (one, record { cuts = λ i d l. (cuts i d l).first one; tree = λ i d l. (lines i d l).first })
-          | inr two ↦ inr (two, λ i d l. (lines i d l).first)
+          | inl one ↦
+              inl (one, record { cuts = λ i d l. (cuts i d l).first one; tree = λ i d l. (lines i d l).first one })
+          | inr two ↦ inr two
         ];
         some_node = sizes.0;
         size = sizes.1;

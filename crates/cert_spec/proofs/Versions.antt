@@ -8,8 +8,11 @@ use Rattle.cert_spec.specs.Reading.{is_second}
 pub second_is : (v : ℕ) → IsSecond v → v ≡ 2
 second_is v second = second
 
+pub second_not_first : (v : ℕ) → IsSecond v → v ≡ 1 → ⊥
+second_not_first v second first = omega (arith, first, second_is v second)
+
 pub second_later : (v : ℕ) → IsSecond v → is_first v ≡ false
-second_later v second = ne_eqb v 1 (λ e. absurd (omega (arith, e, second_is v second)))
+second_later v second = ne_eqb v 1 (second_not_first v second)
 
 pub second_decides : (v : ℕ) → Decides (is_second v) (IsSecond v)
 second_decides v = (eqb-true v 2, eq-eqb v 2)

@@ -188,8 +188,10 @@ wants_decides (want_dual s all x t before) (says_dual commodity run dual) =
     (implies (nat_eq s.version 1) (is_first_dual dual) (Decides-eqb s.version 1) (first_dual_decides dual)) (other_decides before dual)
 wants_decides (want_nodes s) (says_nodes all) = both (nat_le 1 all) (nat_le all most_tree_lines) (Decides-leb 1 all) (Decides-leb all most_tree_lines)
 wants_decides (want_tree s places left) (says_tree line) =
-    all_three (is_tree_line_text s.size line) (is_first_line line) (is_open (places_after places line) (left - 1))
-    (tree_line_decides s.size line) (first_line_decides line) (open_decides (places_after places line) (left - 1))
+    all_three (is_tree_line_text s.size line) (not (nat_eq s.version 1) || is_first_line line)
+    (is_open (places_after places line) (left - 1)) (tree_line_decides s.size line)
+    (implies (nat_eq s.version 1) (is_first_line line) (Decides-eqb s.version 1) (first_line_decides line))
+    (open_decides (places_after places line) (left - 1))
 wants_decides want_end says_end = (λ e. tt, λ h. refl)
 wants_decides stage item = (λ e. absurd (false≢true e), λ h. absurd h)
 

@@ -242,7 +242,8 @@ wants (want_dual s all x t before) (says_dual commodity run dual) =
     && (is_dual_text s.size dual && ((not (nat_eq s.version 1) || is_first_dual dual) && is_other before dual)))
 wants (want_nodes s) (says_nodes all) = nat_le 1 all && nat_le all most_tree_lines
 wants (want_tree s places left) (says_tree line) =
-    is_tree_line_text s.size line && ((not (nat_eq s.version 1) || is_first_line line) && is_open (places_after places line) (left - 1))
+    is_tree_line_text s.size line
+    && ((not (nat_eq s.version 1) || is_first_line line) && is_open (places_after places line) (left - 1))
 wants want_end says_end = true
 wants stage item = false
 
