@@ -246,9 +246,7 @@ holds_from_claims p k r h =
       bound = head.1.0;
       plan = record {
         hubs = record {
-          some_hub = r.some_hub;
-          ascend = r.hubs_ascend;
-          are_candidates = head.1.1.0;
+          set = record { some_hub = r.some_hub; ascend = r.hubs_ascend; are_candidates = head.1.1.0 };
           lacks_none = routes_serve p k.plan.hubs (commodities p.size) k.plan.routes taken;
         };
         routes = taken;
