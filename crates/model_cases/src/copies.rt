@@ -9,7 +9,9 @@ pub fn leaf(alloc: Global) -> Result<String, AllocError> {
     let leaf = TreeLine::Leaf(Mix::new(3, vec![in alloc; (1, 2)]?)).clone()?;
     match leaf {
         TreeLine::Leaf(mix) => weights(alloc, &mix),
-        TreeLine::BranchOn(_) | TreeLine::Empty => String::from_str(alloc, "no leaf"),
+        TreeLine::BranchOn(_) | TreeLine::Empty | TreeLine::Block { .. } | TreeLine::Count => {
+            String::from_str(alloc, "no leaf")
+        }
     }
 }
 

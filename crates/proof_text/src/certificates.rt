@@ -111,5 +111,7 @@ fn line_again(alloc: Global, line: &TreeLine) -> Result<TreeLine, AllocError>
         TreeLine::BranchOn(k) => Ok(TreeLine::BranchOn(*k)),
         TreeLine::Leaf(mix) => Ok(TreeLine::Leaf(mix.copy(alloc)?)),
         TreeLine::Empty => Ok(TreeLine::Empty),
+        TreeLine::Block { i, j } => Ok(TreeLine::Block { i: *i, j: *j }),
+        TreeLine::Count => Ok(TreeLine::Count),
     }
 }
