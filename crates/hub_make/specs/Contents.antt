@@ -20,6 +20,8 @@ tail_alone = record {
   fixed = None;
   candidates = None;
   no_self = false;
+  longest = None;
+  hubs = None;
 }
 
 -- a whole coordinate in 10^-6

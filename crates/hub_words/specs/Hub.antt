@@ -31,7 +31,7 @@ instance_words = codes "layout" ∷ codes "file" ∷ []
 -- the instance options that have a value
 abbrev pub option_names : List Text
 option_names = codes "order" ∷ codes "tail" ∷ codes "divide" ∷ codes "collect" ∷ codes "trunk" ∷ codes "deliver" ∷ codes "fixed"
-    ∷ codes "costs" ∷ codes "candidates" ∷ []
+    ∷ codes "costs" ∷ codes "candidates" ∷ codes "max-length" ∷ codes "hubs" ∷ []
 
 -- a command that takes a layout, an instance file and the instance options
 abbrev pub with_instance : App → App

@@ -1,7 +1,7 @@
 -- What the words of a command line ask for.
-use Rattle.std.specs.Prelude.{◌≡◌, ℕ, ◌≤◌, List, Option, Some, None, IfSome, IsSome}
+use Rattle.std.specs.Prelude.{◌≡◌, ℕ, ◌≤◌, Bool, true, ◌||◌, List, Option, Some, None, IfSome, IsSome, is_some}
 use Rattle.hub_spec.specs.Limits.{most_nodes}
-use Rattle.file_spec.specs.Options.{Layout, Options, IsOptions, tail_costs}
+use Rattle.file_spec.specs.Options.{Layout, australia_post, listed_number, Options, IsOptions, tail_costs}
 use Rattle.hub_words.specs.Limits.{most_search_nodes, most_workers, most_seed}
 
 -- an instance as the words name it: the layout and name of its file, the options, and the name of the costs file
@@ -73,6 +73,28 @@ version_of (report source certificate) = None
 version_of (make making) = None
 version_of (demo making search) = None
 
+-- the instance that a request asks to be solved by the search that follows no rule, if it does
+abbrev pub optimized : Request → Option Source
+optimized (solve solving) = None
+optimized (optimize solving) = Some solving.source
+optimized (check source certificate) = None
+optimized (report source certificate) = None
+optimized (make making) = None
+optimized (demo making search) = None
+
+-- what is to be solved, if a request asks for it
+abbrev pub solved : Request → Option Solving
+solved (solve solving) = Some solving
+solved (optimize solving) = Some solving
+solved (check source certificate) = None
+solved (report source certificate) = None
+solved (make making) = None
+solved (demo making search) = None
+
+-- the length of routes is limited, or a number of hubs wanted
+abbrev pub is_limited : Options → Bool
+is_limited o = is_some o.longest || is_some o.hubs
+
 -- the options are within their limits
 abbrev pub HasOptions : Source → Type 0
 HasOptions s = IsOptions s.options
@@ -82,6 +104,19 @@ pub record AreSources (s : Source) : Type 0 where
   pub not_fixed : IsSome s.costs → s.options.fixed ≡ None
   pub no_tail : IsSome s.costs → s.options.tail ≡ tail_costs → ⊥
   pub not_fixed_too : s.options.tail ≡ tail_costs → s.options.fixed ≡ None
+
+-- the number of hubs that the file lists is asked for only of a file that lists one
+abbrev pub AsksListed : Source → Type 0
+AsksListed s = s.options.hubs ≡ Some listed_number → s.layout ≡ australia_post
+
+-- neither is the length of routes limited nor a number of hubs wanted
+pub record IsUnlimited (s : Source) : Type 0 where
+  pub any_length : s.options.longest ≡ None
+  pub any_number : s.options.hubs ≡ None
+
+-- where one of them is, the version is the second
+abbrev pub SaysLimits : Solving → Type 0
+SaysLimits s = is_limited s.source.options ≡ true → s.version ≡ 2
 
 -- a search within its limits
 pub record IsSearch (s : Search) : Type 0 where
@@ -102,6 +137,9 @@ IsVersion v = (1 ≤ v) × (v ≤ 2)
 pub record IsLawful (r : Request) : Type 0 where
   pub limits : IfSome (instance r) HasOptions
   pub sources : IfSome (instance r) AreSources
+  pub listed : IfSome (instance r) AsksListed
+  pub unlimited : IfSome (optimized r) IsUnlimited
   pub searches : IfSome (search_of r) IsSearch
   pub versions : IfSome (version_of r) IsVersion
+  pub sayable : IfSome (solved r) SaysLimits
   pub makings : IfSome (making_of r) IsMaking

@@ -1,9 +1,10 @@
 -- The options that are single values as contracts see them.
-use Rattle.std.specs.Prelude.{ℕ, ◌≤◌, Option, None, IfSome}
-use Rattle.hub_spec.specs.Limits.{most_factor}
-use Rattle.file_spec.specs.Options.{Options}
-use Rattle.hub_model.specs.Asked.{order_of, tail_of}
+use Rattle.std.specs.Prelude.{ℕ, ◌≤◌, Option, None, IfSome, IsNone, ◌⊎◌, option_map}
+use Rattle.hub_spec.specs.Limits.{most_factor, most_length}
+use Rattle.file_spec.specs.Options.{HubNumber, IsHubNumber, Options}
+use Rattle.hub_model.specs.Asked.{order_of, tail_of, number_of}
 use Rattle.hub_words.specs.declared.settings.Factors.{Factors}
+use Rattle.hub_words.specs.declared.settings.RouteLimits.{RouteLimits}
 use Rattle.hub_words.specs.declared.settings.Settings.{Settings}
 
 -- the factors for collection, trunk and delivery
@@ -20,6 +21,16 @@ pub record IsFactors (f : Factors) : Type 0 where
   pub trunk : IsFactor f.trunk
   pub deliver : IsFactor f.deliver
 
+-- the longest route and the number of hubs
+abbrev pub limits_of : RouteLimits → Option ℕ × Option HubNumber
+limits_of l = (l.longest, option_map number_of l.hubs)
+
+-- each is within its limit, and not both are given
+pub record AreLimits (l : RouteLimits) : Type 0 where
+  pub longest : IfSome l.longest (λ most. most ≤ most_length)
+  pub hubs : IfSome (option_map number_of l.hubs) IsHubNumber
+  pub not_both : IsNone l.longest ⊎ IsNone (option_map number_of l.hubs)
+
 -- the options, with no candidates
 abbrev pub settings_of : Settings → Options
 settings_of s = record {
@@ -32,4 +43,6 @@ settings_of s = record {
   fixed = s.fixed;
   candidates = None;
   no_self = s.no_self;
+  longest = s.limits.longest;
+  hubs = option_map number_of s.limits.hubs;
 }

@@ -1,10 +1,10 @@
 -- The forms of the values that the words give.
-use Rattle.std.specs.Prelude.{ℕ, ◌+◌, ◌-◌, ◌==◌, Bool, false, List, [], ◌∷◌, codes, bytes_eq, nat_le, ℤ, pos, Option, Some, None, option_map, option_and_then, if◌then◌else◌}
+use Rattle.std.specs.Prelude.{ℕ, ◌+◌, ◌-◌, ◌==◌, Bool, true, false, List, [], ◌∷◌, codes, bytes_eq, nat_le, ℤ, pos, Option, Some, None, option_map, option_and_then, if◌then◌else◌}
 use Rattle.std.specs.List.{slice_split}
 use Rattle.text_spec.specs.Numbers.{count_value, decimal_value}
-use Rattle.hub_spec.specs.Limits.{most_nodes, most_factor}
+use Rattle.hub_spec.specs.Limits.{most_nodes, most_factor, most_length}
 use Rattle.file_spec.specs.Limits.{most_cost_read, most_divisor}
-use Rattle.file_spec.specs.Options.{Layout, cab_matrix, cab_rows, australia_post, Order, flow_first, distance_first, Tail, tail_ignored, tail_costs}
+use Rattle.file_spec.specs.Options.{Layout, cab_matrix, cab_rows, australia_post, Order, flow_first, distance_first, Tail, tail_ignored, tail_costs, HubNumber, said_number, listed_number}
 use Rattle.hub_words.specs.Limits.{most_search_nodes, most_workers, most_seed}
 
 -- the layout of this name
@@ -65,6 +65,24 @@ factor_asked = optional (quantity 3 most_factor)
 abbrev pub fixed_asked : Option (List ℕ) → Option (Option ℕ)
 fixed_asked = optional (quantity 6 most_cost_read)
 
+-- how long a route may be, in 10^-3, at most 3 * 10^7 units
+abbrev pub longest_asked : Option (List ℕ) → Option (Option ℕ)
+longest_asked = optional (quantity 3 most_length)
+
+-- the number of hubs that a file lists, which only one of Australia Post does
+abbrev pub listed_in : Layout → Option HubNumber
+listed_in australia_post = Some listed_number
+listed_in layout = None
+
+-- a number of hubs, or the word for the one that the file lists
+abbrev pub hub_number_named : Layout → List ℕ → Option HubNumber
+hub_number_named layout word =
+    if bytes_eq word (codes "file") then listed_in layout else option_map (λ n. said_number n) (count_value 1 most_nodes word)
+
+-- how many hubs are wanted, where a number is asked for
+abbrev pub hubs_asked : Layout → Option (List ℕ) → Option (Option HubNumber)
+hubs_asked layout = optional (hub_number_named layout)
+
 -- `,`
 abbrev pub is_comma : ℕ → Bool
 is_comma byte = byte == 44
@@ -104,10 +122,13 @@ workers_asked (Some word) = count_value 1 most_workers word
 abbrev pub version_named : List ℕ → Option ℕ
 version_named word = if bytes_eq word (codes "1") then Some 1 else if bytes_eq word (codes "2") then Some 2 else None
 
--- the version of the certificate's text, the first where none is given
-abbrev pub version_asked : Option (List ℕ) → Option ℕ
-version_asked None = Some 1
-version_asked (Some word) = version_named word
+-- the version of the certificate's text, the first where none is given; where routes are limited or a number of hubs is
+-- wanted it is the second, the only one that has lines for it
+abbrev pub version_asked : Bool → Option (List ℕ) → Option ℕ
+version_asked false None = Some 1
+version_asked false (Some word) = version_named word
+version_asked true None = Some 2
+version_asked true (Some word) = if bytes_eq word (codes "2") then Some 2 else None
 
 -- the seed of a made instance
 abbrev pub seed_asked : Option (List ℕ) → Option ℕ

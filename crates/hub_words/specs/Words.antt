@@ -1,9 +1,9 @@
 -- What the words of a command line ask for. They include the program's name as the first.
 use Rattle.std.specs.Prelude.{ℕ, Bool, ◌&&◌, ◌||◌, not, List, codes, bytes_eq, Option, Some, None, option_map, option_and_then, is_some, if◌then◌else◌}
 use Rattle.clap.specs.Words.{Row, Text, first_of}
-use Rattle.file_spec.specs.Options.{Layout, Order, Tail, tail_ignored, tail_costs, Options}
-use Rattle.hub_words.specs.Requests.{Source, Search, Solving, Making, Request, solve, optimize, check, report, make, demo}
-use Rattle.hub_words.specs.Values.{layout_named, order_asked, tail_asked, divide_asked, factor_asked, fixed_asked, candidates_asked, is_set, nodes_asked, workers_asked, version_asked, seed_asked, size_asked}
+use Rattle.file_spec.specs.Options.{Layout, Order, Tail, tail_ignored, tail_costs, HubNumber, Options}
+use Rattle.hub_words.specs.Requests.{Source, Search, Solving, Making, Request, solve, optimize, check, report, make, demo, is_limited}
+use Rattle.hub_words.specs.Values.{layout_named, order_asked, tail_asked, divide_asked, factor_asked, fixed_asked, longest_asked, hubs_asked, candidates_asked, is_set, nodes_asked, workers_asked, version_asked, seed_asked, size_asked}
 use Rattle.hub_words.specs.Parses.{parsed}
 
 -- the value that the words give to the argument of this name
@@ -20,9 +20,20 @@ abbrev pub factors_asked : List Row → Option (Option ℕ × Option ℕ × Opti
 factors_asked rows =
     three (factor_asked (given rows (codes "collect"))) (factor_asked (given rows (codes "trunk"))) (factor_asked (given rows (codes "deliver")))
 
+-- the longest route and the number of hubs, which are not asked for together
+abbrev pub limits_from : Option (Option ℕ) → Option (Option HubNumber) → Option (Option ℕ × Option HubNumber)
+limits_from (Some longest) (Some hubs) = if is_some longest && is_some hubs then None else Some (longest, hubs)
+limits_from longest hubs = None
+
+-- those that the words ask for
+abbrev pub limits_asked : Layout → List Row → Option (Option ℕ × Option HubNumber)
+limits_asked layout rows =
+    limits_from (longest_asked (given rows (codes "max-length"))) (hubs_asked layout (given rows (codes "hubs")))
+
 -- the options but for the candidates, where each is within its form
-abbrev pub settled : Option Order → Option Tail → Option ℕ → Option (Option ℕ × Option ℕ × Option ℕ) → Option (Option ℕ) → Bool → Option Options
-settled (Some order) (Some tail) (Some divide) (Some factors) (Some fixed) no_self = Some (record {
+abbrev pub settled : Option Order → Option Tail → Option ℕ → Option (Option ℕ × Option ℕ × Option ℕ) → Option (Option ℕ)
+    → Option (Option ℕ × Option HubNumber) → Bool → Option Options
+settled (Some order) (Some tail) (Some divide) (Some factors) (Some fixed) (Some limits) no_self = Some (record {
   order = order;
   tail = tail;
   divide = divide;
@@ -32,15 +43,17 @@ settled (Some order) (Some tail) (Some divide) (Some factors) (Some fixed) no_se
   fixed = fixed;
   candidates = None;
   no_self = no_self;
+  longest = limits.0;
+  hubs = limits.1;
 })
-settled order tail divide factors fixed no_self = None
+settled order tail divide factors fixed limits no_self = None
 
 -- the options but for the candidates
 abbrev pub settings_asked : Layout → List Row → Option Options
 settings_asked layout rows =
     settled (order_asked layout (given rows (codes "order"))) (tail_asked layout (given rows (codes "tail")))
     (divide_asked (given rows (codes "divide"))) (factors_asked rows) (fixed_asked (given rows (codes "fixed")))
-    (is_set (given rows (codes "no-self")))
+    (limits_asked layout rows) (is_set (given rows (codes "no-self")))
 
 -- at most one of the file's tail, one cost for all nodes and a costs file gives the fixed costs
 abbrev pub is_one_source : Tail → Option ℕ → Option Text → Bool
@@ -98,22 +111,28 @@ making_from seed size = None
 unfoldable pub making_asked : List Row → Option Making
 making_asked rows = making_from (seed_asked (given rows (codes "seed"))) (size_asked (given rows (codes "size")))
 
+-- the instance with a search, and the version that is given by a word or none
+abbrev pub solving_with : Source → Search → Option Text → Option Solving
+solving_with source run word =
+    option_map (λ version. record { source = source; search = run; version = version }) (version_asked (is_limited source.options) word)
+
 -- an instance, a search and a version, where each is within its form
-abbrev pub solving_from : Option Source → Option Search → Option ℕ → Option Solving
-solving_from (Some source) (Some run) (Some version) = Some (record { source = source; search = run; version = version })
-solving_from source run version = None
+abbrev pub solving_from : Option Source → Option Search → Option Text → Option Solving
+solving_from (Some source) (Some run) word = solving_with source run word
+solving_from source run word = None
 
 -- what is to be solved
 abbrev pub solving_asked : List Row → Option Solving
-solving_asked rows = solving_from (source_asked rows) (search_asked rows) (version_asked (given rows (codes "format")))
+solving_asked rows = solving_from (source_asked rows) (search_asked rows) (given rows (codes "format"))
 
 -- a call to solve the instance
 abbrev pub solve_asked : List Row → Option Request
 solve_asked rows = option_map solve (solving_asked rows)
 
--- a call to solve the instance by a search that follows no rule
+-- a call to solve the instance by a search that follows no rule, which knows no limits of routes or hubs
 abbrev pub optimize_asked : List Row → Option Request
-optimize_asked rows = option_map optimize (solving_asked rows)
+optimize_asked rows =
+    option_and_then (λ solving. if is_limited solving.source.options then None else Some (optimize solving)) (solving_asked rows)
 
 -- an instance and a certificate, where both are given
 abbrev pub certificate_from : Option Text → Option Source → Option (Source × Text)

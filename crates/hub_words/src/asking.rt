@@ -1,7 +1,7 @@
 //! The command that the words give.
 
 ghost use Rattle.std.specs.Prelude.{◌≡◌, IfOk, IfSome, codes, option_map};
-ghost use Rattle.hub_words.specs.Requests.{HasOptions, AreSources, IsLawful, IsMaking, IsSearch, IsVersion, instance, making_of, search_of, version_of};
+ghost use Rattle.hub_words.specs.Requests.{AreSources, AsksListed, HasOptions, IsLawful, IsMaking, IsSearch, IsUnlimited, IsVersion, SaysLimits, instance, is_limited as limits_asked, making_of, optimized, search_of, solved, version_of};
 ghost use Rattle.cert_scan.specs.Versions.{version_number};
 ghost use Rattle.hub_words.specs.Words as spec;
 ghost use Rattle.hub_words.specs.Views.{request_of, requested, rows_found, search_seen, solving_of, source_of, texts};
@@ -14,6 +14,7 @@ use crate::settings::given;
 use crate::sources::source;
 use crate::values::version;
 use clap::ArgMatches;
+use hub_model::Terms;
 use std::alloc::{AllocError, Global};
 
 /// The command that the words give, of which the first is the program's name; none where they are no command.
@@ -21,8 +22,11 @@ pub fn asked<'a>(alloc: Global, words: &'a [String]) -> Result<Option<Command<'a
     ensures command { IfOk result (λ command. requested command ≡ spec.asked (texts words.entry.now)) }
     ensures limits { IfOk result (λ command. IfSome command (λ c. IfSome (instance (request_of c)) HasOptions)) }
     ensures sources { IfOk result (λ command. IfSome command (λ c. IfSome (instance (request_of c)) AreSources)) }
+    ensures listed { IfOk result (λ command. IfSome command (λ c. IfSome (instance (request_of c)) AsksListed)) }
+    ensures unlimited { IfOk result (λ command. IfSome command (λ c. IfSome (optimized (request_of c)) IsUnlimited)) }
     ensures searches { IfOk result (λ command. IfSome command (λ c. IfSome (search_of (request_of c)) IsSearch)) }
     ensures versions { IfOk result (λ command. IfSome command (λ c. IfSome (version_of (request_of c)) IsVersion)) }
+    ensures sayable { IfOk result (λ command. IfSome command (λ c. IfSome (solved (request_of c)) SaysLimits)) }
     ensures makings { IfOk result (λ command. IfSome command (λ c. IfSome (making_of (request_of c)) IsMaking)) }
 {
     let Some(found) = parse(alloc, words)? else {
@@ -75,8 +79,8 @@ fn optimize<'a>(alloc: Global, found: &ArgMatches<'a>) -> Result<Option<Command<
     ensures lawful { IfOk result (λ command. IfSome command (λ c. IsLawful (request_of c))) }
 {
     match solving(alloc, found)? {
-        Some(solving) => Ok(Some(Command::Optimize(solving))),
-        None => Ok(None),
+        Some(solving) if !is_limited(&solving.source.terms) => Ok(Some(Command::Optimize(solving))),
+        _ => Ok(None),
     }
 }
 
@@ -85,23 +89,32 @@ fn solving<'a>(alloc: Global, found: &ArgMatches<'a>) -> Result<Option<Solving<'
     ensures named { IfOk result (λ solving. option_map solving_of solving ≡ spec.solving_asked (rows_found found.now)) }
     ensures limits { IfOk result (λ solving. IfSome solving (λ s. HasOptions (source_of s.source))) }
     ensures sources { IfOk result (λ solving. IfSome solving (λ s. AreSources (source_of s.source))) }
+    ensures listed { IfOk result (λ solving. IfSome solving (λ s. AsksListed (source_of s.source))) }
     ensures search { IfOk result (λ solving. IfSome solving (λ s. IsSearch (search_seen s.search))) }
     ensures version { IfOk result (λ solving. IfSome solving (λ s. IsVersion (version_number s.version))) }
+    ensures sayable { IfOk result (λ solving. IfSome solving (λ s. SaysLimits (solving_of s))) }
 {
     let Some(search) = read_search(found) else {
         return Ok(None);
     };
-    let Some(version) = version(given(found, "format")) else {
+    let Some(source) = source(alloc, found)? else {
         return Ok(None);
     };
-    match source(alloc, found)? {
-        Some(source) => Ok(Some(Solving {
-            source,
-            search,
-            version,
-        })),
-        None => Ok(None),
-    }
+    let Some(version) = version(is_limited(&source.terms), given(found, "format")) else {
+        return Ok(None);
+    };
+    Ok(Some(Solving {
+        source,
+        search,
+        version,
+    }))
+}
+
+/// Tells whether the length of routes is limited or a number of hubs wanted.
+fn is_limited(terms: &Terms) -> bool
+    ensures { result ≡ limits_asked terms.now }
+{
+    terms.longest.is_some() || terms.hubs.is_some()
 }
 
 fn check<'a>(alloc: Global, found: &ArgMatches<'a>) -> Result<Option<Command<'a>>, AllocError>
@@ -132,6 +145,7 @@ fn certificate<'a>(
     ensures named { IfOk result (λ named. option_map (λ p. (source_of p.0, p.1.now)) named ≡ spec.certificate_asked (rows_found found.now)) }
     ensures limits { IfOk result (λ named. IfSome named (λ p. HasOptions (source_of p.0))) }
     ensures sources { IfOk result (λ named. IfSome named (λ p. AreSources (source_of p.0))) }
+    ensures listed { IfOk result (λ named. IfSome named (λ p. AsksListed (source_of p.0))) }
 {
     let Some(certificate) = given(found, "certificate") else {
         return Ok(None);

@@ -13,7 +13,7 @@ use clap::{Arg, ArgAction, ArgMatches, Command};
 use std::alloc::{AllocError, Global};
 
 /// The instance options that have a value.
-static OPTIONS: [&str; 9] = [
+static OPTIONS: [&str; 11] = [
     "order",
     "tail",
     "divide",
@@ -23,6 +23,8 @@ static OPTIONS: [&str; 9] = [
     "fixed",
     "costs",
     "candidates",
+    "max-length",
+    "hubs",
 ];
 
 /// The options of a search.

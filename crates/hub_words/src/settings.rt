@@ -1,16 +1,17 @@
 //! The options of an instance that are single values, and the options with the candidates.
 
 ghost use Rattle.std.specs.Prelude.{◌≡◌, IfSome, Some, option_map};
-ghost use Rattle.file_spec.specs.Options.{IsOptions};
+ghost use Rattle.file_spec.specs.Options.{australia_post, listed_number, IsOptions};
+ghost use Rattle.hub_model.specs.Asked.{number_of};
 ghost use Rattle.hub_model.specs.Amounts.{IsNatural, natural};
 ghost use Rattle.hub_words.specs.Words as spec;
 ghost use Rattle.hub_words.specs.Views.{layout_of, rows_found};
-ghost use Rattle.hub_words.specs.Settings.{IsFactors, factors_of, settings_of};
+ghost use Rattle.hub_words.specs.Settings.{AreLimits, IsFactors, factors_of, limits_of, settings_of};
 
 use crate::requests::Layout;
-use crate::values::{divide, factor, fixed, is_set, order, tail};
+use crate::values::{divide, factor, fixed, hubs, is_set, longest, order, tail};
 use clap::ArgMatches;
-use hub_model::{Nodes, Order, Tail, Terms, signed};
+use hub_model::{HubNumber, Nodes, Order, Tail, Terms, signed};
 
 /// The options that are single values.
 #[derive(Clone, Copy)]
@@ -20,7 +21,16 @@ pub(crate) struct Settings {
     pub(crate) divide: u32,
     pub(crate) factors: Factors,
     pub(crate) fixed: Option<u64>,
+    pub(crate) limits: RouteLimits,
     pub(crate) no_self: bool,
+}
+
+/// How long routes may be, and how many hubs are wanted: not both are given.
+#[derive(Clone, Copy)]
+pub(crate) struct RouteLimits {
+    /// In 10^-3.
+    pub(crate) longest: Option<u64>,
+    pub(crate) hubs: Option<HubNumber>,
 }
 
 /// The factors that are given.
@@ -42,6 +52,7 @@ pub(crate) fn given<'a>(found: &ArgMatches<'a>, name: &str) -> Option<&'a str>
 pub(crate) fn read_settings(layout: Layout, found: &ArgMatches<'_>) -> Option<Settings>
     ensures value { option_map settings_of result ≡ spec.settings_asked (layout_of layout) (rows_found found.now) }
     ensures limits { IfSome result (λ s. IsOptions (settings_of s)) }
+    ensures listed { IfSome result (λ s. (settings_of s).hubs ≡ Some listed_number → layout_of layout ≡ australia_post) }
 {
     Some(Settings {
         order: order(layout, given(found, "order"))?,
@@ -49,6 +60,7 @@ pub(crate) fn read_settings(layout: Layout, found: &ArgMatches<'_>) -> Option<Se
         divide: divide(given(found, "divide"))?,
         factors: read_factors(found)?,
         fixed: fixed(given(found, "fixed"))?,
+        limits: read_limits(layout, found)?,
         no_self: is_set(given(found, "no-self")),
     })
 }
@@ -62,6 +74,19 @@ fn read_factors(found: &ArgMatches<'_>) -> Option<Factors>
         trunk: factor(given(found, "trunk"))?,
         deliver: factor(given(found, "deliver"))?,
     })
+}
+
+fn read_limits(layout: Layout, found: &ArgMatches<'_>) -> Option<RouteLimits>
+    ensures value { option_map limits_of result ≡ spec.limits_asked (layout_of layout) (rows_found found.now) }
+    ensures limits { IfSome result AreLimits }
+    ensures listed { IfSome result (λ l. option_map number_of l.hubs ≡ Some listed_number → layout_of layout ≡ australia_post) }
+{
+    let longest = longest(given(found, "max-length"))?;
+    let hubs = hubs(layout, given(found, "hubs"))?;
+    if longest.is_some() && hubs.is_some() {
+        return None;
+    }
+    Some(RouteLimits { longest, hubs })
 }
 
 /// The terms of these options and candidates.
@@ -80,6 +105,8 @@ pub(crate) fn terms(settings: Settings, candidates: Option<Nodes>) -> Terms
         fixed: amount(settings.fixed),
         candidates,
         no_self: settings.no_self,
+        longest: amount(settings.limits.longest),
+        hubs: settings.limits.hubs,
     }
 }
 

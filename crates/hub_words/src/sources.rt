@@ -2,7 +2,7 @@
 
 ghost use Rattle.std.specs.Prelude.{◌≡◌, IfOk, IfSome, codes, option_map};
 ghost use Rattle.hub_model.specs.Asked.{tail_of};
-ghost use Rattle.hub_words.specs.Requests.{HasOptions, AreSources};
+ghost use Rattle.hub_words.specs.Requests.{HasOptions, AreSources, AsksListed};
 ghost use Rattle.hub_words.specs.Words as spec;
 ghost use Rattle.hub_words.specs.Settings.{settings_of};
 ghost use Rattle.hub_words.specs.Views.{layout_of, rows_found, source_of};
@@ -24,6 +24,7 @@ pub(crate) fn source<'a>(
     ensures named { IfOk result (λ source. option_map source_of source ≡ spec.source_asked (rows_found found.now)) }
     ensures limits { IfOk result (λ source. IfSome source (λ s. HasOptions (source_of s))) }
     ensures sources { IfOk result (λ source. IfSome source (λ s. AreSources (source_of s))) }
+    ensures listed { IfOk result (λ source. IfSome source (λ s. AsksListed (source_of s))) }
 {
     let Some(layout) = layout(found) else {
         return Ok(None);
@@ -53,6 +54,7 @@ fn source_of_file<'a>(
     ensures named { IfOk result (λ source. option_map source_of source ≡ spec.source_of_file (rows_found found.now) (layout_of layout) file.entry.now) }
     ensures limits { IfOk result (λ source. IfSome source (λ s. HasOptions (source_of s))) }
     ensures sources { IfOk result (λ source. IfSome source (λ s. AreSources (source_of s))) }
+    ensures listed { IfOk result (λ source. IfSome source (λ s. AsksListed (source_of s))) }
 {
     let Some(settings) = read_settings(layout, found) else {
         return Ok(None);

@@ -1,10 +1,11 @@
 //! The values of single words and options, by their forms.
 
-ghost use Rattle.std.specs.Prelude.{◌≡◌, ◌≤◌, IfSome, option_map};
-ghost use Rattle.hub_spec.specs.Limits.{most_factor, most_nodes};
+ghost use Rattle.std.specs.Prelude.{◌≡◌, ◌≤◌, true, Some, IfSome, option_map};
+ghost use Rattle.hub_spec.specs.Limits.{most_factor, most_length, most_nodes};
+ghost use Rattle.file_spec.specs.Options.{australia_post, listed_number, IsHubNumber};
 ghost use Rattle.file_spec.specs.Limits.{most_cost_read, most_divisor};
 ghost use Rattle.text_spec.specs.Numbers.{count_value};
-ghost use Rattle.hub_model.specs.Asked.{order_of, tail_of};
+ghost use Rattle.hub_model.specs.Asked.{order_of, tail_of, number_of};
 ghost use Rattle.cert_scan.specs.Versions.{version_number};
 ghost use Rattle.hub_words.specs.Limits.{most_search_nodes, most_seed, most_workers};
 ghost use Rattle.hub_words.specs.Requests.{IsVersion};
@@ -16,7 +17,8 @@ use crate::requests::Layout;
 use cert_scan::Version;
 use dec_text::{read_count, read_decimal};
 use hub_model::{
-    MOST_COST_READ, MOST_DIVISOR, MOST_FACTOR, MOST_NODES, Order, Tail, unsigned_small,
+    HubNumber, MOST_COST_READ, MOST_DIVISOR, MOST_FACTOR, MOST_LENGTH, MOST_NODES, Order, Tail,
+    unsigned_small,
 };
 
 pub(crate) fn layout_named(word: &str) -> Option<Layout>
@@ -115,13 +117,18 @@ pub(crate) fn workers(given: Option<&str>) -> Option<u32>
     }
 }
 
-/// The version of the certificate's text, the first where none is given.
-pub(crate) fn version(given: Option<&str>) -> Option<Version>
-    ensures value { option_map version_number result ≡ spec.version_asked (option_map (λ word. word.now) given.entry) }
+/// The version of the certificate's text, the first where none is given; where the length of routes is limited or a
+/// number of hubs wanted, the second alone.
+pub(crate) fn version(limited: bool, given: Option<&str>) -> Option<Version>
+    ensures value { option_map version_number result ≡ spec.version_asked limited (option_map (λ word. word.now) given.entry) }
     ensures limits { IfSome result (λ v. IsVersion (version_number v)) }
+    ensures sayable { IfSome result (λ v. limited ≡ true → version_number v ≡ 2) }
 {
     match given {
+        None if limited => Some(Version::Second),
         None => Some(Version::First),
+        Some("2") if limited => Some(Version::Second),
+        Some(_) if limited => None,
         Some(word) => version_named(word),
     }
 }
@@ -196,6 +203,51 @@ pub(crate) fn fixed(given: Option<&str>) -> Option<Option<u64>>
     match given {
         None => Some(None),
         Some(word) => quantity(word, 6, MOST_COST_READ as u64).map(Some),
+    }
+}
+
+/// How long a route may be, in 10^-3.
+pub(crate) fn longest(given: Option<&str>) -> Option<Option<u64>>
+    ensures value { result ≡ spec.longest_asked (option_map (λ word. word.now) given.entry) }
+    ensures limit { IfSome result (λ longest. IfSome longest (λ x. x ≤ most_length)) }
+{
+    match given {
+        None => Some(None),
+        Some(word) => quantity(word, 3, MOST_LENGTH).map(Some),
+    }
+}
+
+/// How many hubs are wanted, where a number is asked for.
+pub(crate) fn hubs(layout: Layout, given: Option<&str>) -> Option<Option<HubNumber>>
+    ensures value { option_map (option_map number_of) result ≡ spec.hubs_asked (layout_of layout) (option_map (λ word. word.now) given.entry) }
+    ensures limit { IfSome result (λ hubs. IfSome (option_map number_of hubs) IsHubNumber) }
+    ensures listed { IfSome result (λ hubs. option_map number_of hubs ≡ Some listed_number → layout_of layout ≡ australia_post) }
+{
+    match given {
+        None => Some(None),
+        Some(word) => Some(Some(hub_number_named(layout, word)?)),
+    }
+}
+
+fn hub_number_named(layout: Layout, word: &str) -> Option<HubNumber>
+    ensures value { option_map number_of result ≡ spec.hub_number_named (layout_of layout) word.now }
+    ensures limit { IfSome result (λ number. IsHubNumber (number_of number)) }
+    ensures listed { IfSome result (λ number. number_of number ≡ listed_number → layout_of layout ≡ australia_post) }
+{
+    if word == "file" {
+        return listed_in(layout);
+    }
+    Some(HubNumber::Said(small_count(word, 1, MOST_NODES)?))
+}
+
+/// The number of hubs that a file of this layout lists.
+fn listed_in(layout: Layout) -> Option<HubNumber>
+    ensures value { option_map number_of result ≡ spec.listed_in (layout_of layout) }
+    ensures listed { IfSome result (λ number. layout_of layout ≡ australia_post) }
+{
+    match layout {
+        Layout::AustraliaPost => Some(HubNumber::Listed),
+        Layout::CabMatrix | Layout::CabRows => None,
     }
 }
 
