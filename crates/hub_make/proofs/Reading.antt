@@ -1,5 +1,5 @@
 -- A made-up text is read as the instance of its numbers.
-use Rattle.std.proofs.Common.{◌≡◌, ℕ, zero, suc, ◌+◌, ◌*◌, ◌/◌, ◌%◌, ◌^◌, ◌<◌, ◌≤◌, List, [], ◌∷◌, map, length, max, fold, sum, find, All, decimal, codes, Some, None, nat_le, nat_lt, refl, sym, ap, ◌∙◌, mul-le-mul, arith}
+use Rattle.std.proofs.Common.{◌≡◌, ℕ, zero, suc, ◌+◌, ◌*◌, ◌/◌, ◌%◌, ◌^◌, ◌<◌, ◌≤◌, List, [], ◌∷◌, map, length, max, fold, sum, find, All, inl, decimal, codes, Some, None, nat_le, nat_lt, refl, sym, ap, ◌∙◌, mul-le-mul, arith}
 use Rattle.std.specs.List.{range_with_len}
 use Rattle.std.proofs.lemmas.Bool.{cond-false, lt-leb, le-ltb}
 use Rattle.std.proofs.lemmas.List.Elements.{All-head, All-tail, All-weaker, All-get_or}
@@ -125,6 +125,9 @@ options_right = record {
   deliver_limit = tt;
   fixed_limit = tt;
   candidates_limit = tt;
+  longest_limit = tt;
+  hubs_limit = tt;
+  not_both = inl refl;
 }
 
 no_stray_in : (n a m : ℕ) → a + m ≤ n → find (λ k. nat_le n k) (range_with_len a m) ≡ None
@@ -179,7 +182,7 @@ within_limits : (seed n : ℕ) → 1 ≤ n → n ≤ 200 → IsWithinLimits (mad
 within_limits seed n one few =
     made_limits tail_alone (made_contents seed n) None options_right
     (contents_within australia_post tail_alone (made_text seed n) (made_contents seed n) options_right (has_made seed n one few))
-    tt (none_strays seed n)
+    tt (none_strays seed n) tt
 
 sum_within : (seed n : ℕ) → 1 ≤ n → n ≤ 200 → cost_ceiling (made_problem seed n) ≤ 10 ^ 29
 unfolding greatest
@@ -194,7 +197,7 @@ none_wrong : (seed n : ℕ) → 1 ≤ n → n ≤ 200 → build_fault tail_alone
 unfolding build_fault
 none_wrong seed n one few =
     let sum = cost_ceiling (made_problem seed n) in
-    ap (λ k. candidate_fault k (sum_fault sum)) (none_strays seed n)
+    ap (λ k. candidate_fault k (sum_fault sum None)) (none_strays seed n)
     ∙ cond-false (nat_lt most_cost sum) _ _ (le-ltb most_cost sum (sum_within seed n one few))
 
 gives_made : (seed n : ℕ) → 1 ≤ n → n ≤ 200 → GivesInstance australia_post tail_alone (made_text seed n) None (made_problem seed n)

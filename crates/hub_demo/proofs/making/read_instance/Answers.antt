@@ -2,6 +2,7 @@ use Rattle.std.proofs.Common.{None}
 use Rattle.std.proofs.lemmas.Result.{IfErr-weaker}
 use Rattle.file_spec.specs.Instances.{build_fault}
 use Rattle.hub_model.specs.Building.{IsRefusedFor}
+use Rattle.file_spec.proofs.ListedHubs.{post_lists}
 use Rattle.hub_demo.specs.Refusals.{IsRefusedAlone}
 use Rattle.hub_demo.proofs.Made.{refused_whole}
 use Rattle.hub_demo.proofs.making.read_instance.Goals as goal
@@ -13,3 +14,6 @@ returns-clause-refused c =
     let contents = c.in_ok-parts.parts in
     IfErr-weaker c.build.result (IsRefusedFor (build_fault o contents None)) (IsRefusedAlone o bytes)
     (λ refusal is. refused_whole o bytes contents refusal c.requires.not_too_long c.in_ok-parts.ensures.contents is) c.build.ensures.refused
+
+pub build-requires-clause-listed : goal.build-requires-clause-listed
+build-requires-clause-listed c = λ listed. post_lists c.args.terms.now c.args.bytes.now c.in_ok-parts.parts c.in_ok-parts.ensures.contents
