@@ -1,7 +1,8 @@
 -- What each command says with each status.
-use Rattle.std.specs.Prelude.{◌≡◌, ℕ, List, Option, nat_eq, if◌then◌else◌}
+use Rattle.std.specs.Prelude.{◌≡◌, ℕ, List, Option, is_some, nat_eq, if◌then◌else◌}
 use Rattle.hub_io.specs.Outside.{Files}
 use Rattle.hub_spec.specs.Problem.{Problem}
+use Rattle.hub_spec.specs.Lacking.{lacking}
 use Rattle.hub_spec.specs.Trees.{line_count}
 use Rattle.hub_spec.specs.Certificates.{Proof}
 use Rattle.cert_spec.specs.Verdicts.{Verdict, optimal, bounds}
@@ -10,7 +11,7 @@ use Rattle.hub_make.specs.Contents.{made_problem}
 use Rattle.hub_demo.specs.Texts as lines
 use Rattle.hub_words.specs.Requests.{Source, Request, solve, optimize, check, report, make, demo}
 use Rattle.hub_top.specs.declared.status.Status.{Status}
-use Rattle.hub_top.specs.declared.status.Status.TheVariants.{Done, Stopped, No}
+use Rattle.hub_top.specs.declared.status.Status.TheVariants.{Done, Stopped, No, Lacking}
 use Rattle.hub_top.specs.Texts.{verdict_text}
 use Rattle.hub_top.specs.Commands.{Method, demo_method, rule_certificate, Solves, Stops, SolvesInstance, StopsInstance, OptimizesInstance, BoundsInstance, JudgesFile, ReportsFile}
 
@@ -35,6 +36,10 @@ found_status k = if nat_eq k.bound k.cost then Done else Stopped
 -- of the search of an instance by the rule
 unfoldable pub rule_status : Problem → Method → Status
 rule_status p m = found_status (rule_certificate p m)
+
+-- of `solve`: 8 where all candidates together lack a commodity
+unfoldable pub solve_status : Problem → Method → Status
+solve_status p m = if is_some (lacking p p.candidates) then Lacking else rule_status p m
 
 -- ---- answers
 

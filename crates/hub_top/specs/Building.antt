@@ -5,13 +5,14 @@ use Rattle.std.specs.declared.alloc.Global.{Global}
 use Rattle.hub_spec.specs.Problem.{Problem}
 use Rattle.file_spec.specs.Options.{Options}
 use Rattle.file_spec.specs.Contents.{Contents}
-use Rattle.file_spec.specs.Instances.{made, build_fault}
+use Rattle.file_spec.specs.Instances.{HasAsked, made, build_fault}
 use Rattle.hub_model.specs.Building.{AreGivenCosts, IsOneSource, costs_of}
 
 -- the fixed costs of a costs file, where there is one, fit the contents, and there is no other source beside them
 pub record AreBuildable (o : Options) (contents : Contents) (costs : Option (Vec ℤ Global)) : Type 0 where
   pub given : IfSome costs (λ c. AreGivenCosts contents.size c.items)
   pub one_source : IsOneSource (costs_of costs) contents.costs o.fixed
+  pub listed : HasAsked o contents
 
 -- the instance was made of them, and they have no fault together
 pub record IsBuilt (o : Options) (contents : Contents) (costs : Option (List ℕ)) (p : Problem) : Type 0 where

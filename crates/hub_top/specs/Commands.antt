@@ -3,7 +3,8 @@ use Rattle.std.specs.Prelude.{◌≡◌, ℕ, ◌+◌, ◌^◌, ◌<◌, ◌≤�
 use Rattle.std.specs.List.{AllZip}
 use Rattle.hub_io.specs.Outside.{Files}
 use Rattle.hub_spec.specs.Problem.{Problem, commodities}
-use Rattle.hub_spec.specs.Plans.{IsOptimal, IsSetCost, IsLeastRoute, NoPlanBelow, plan_cost}
+use Rattle.hub_spec.specs.Plans.{Plan, IsPlan, IsOptimal, IsSetCost, IsLeastRoute, NoPlanBelow, plan_cost}
+use Rattle.hub_spec.specs.Lacking.{lacking}
 use Rattle.hub_spec.specs.Trees.{line_count}
 use Rattle.hub_spec.specs.Certificates.{Proof, Holds}
 use Rattle.search_spec.specs.Findings.{AreWithin, IsSpent, IsEnough, certificate_of}
@@ -90,8 +91,9 @@ abbrev pub demo_method : Search → Method
 demo_method search = record { version = 1; nodes = search.nodes }
 
 -- what is told is a certificate of the version that holds for the instance: its hubs and routes are a plan that costs exactly its cost,
--- each route is a least one through its hubs, and no nonempty set of candidates with any routing costs less than its
--- bound; its tree has no more nodes than are allowed, and than a whole tree has
+-- with as many hubs as are wanted, if a number is; each route is allowed, and a least one through its hubs, and no
+-- nonempty set of candidates, as many as are wanted, with any routing over allowed routes costs less than its bound; its
+-- tree has no more nodes than are allowed, and than a whole tree has
 pub record Finds (p : Problem) (m : Method) (tells : Proof → Type 0) (k : Proof) : Type 0 where
   pub told : tells k
   pub version : k.version ≡ m.version
@@ -117,7 +119,7 @@ IsByRule p m k = k ≡ rule_certificate p m
 abbrev pub IsEnoughFor : Problem → Option ℕ → Type 0
 IsEnoughFor p nodes = IsEnough (2 ^ (length p.candidates + 1)) nodes
 
--- its bound is its cost: no nonempty set of candidates with any routing costs less
+-- its bound is its cost: no nonempty set of candidates, as many as are wanted, with any routing over allowed routes costs less
 pub record Solves (p : Problem) (m : Method) (tells : Proof → Type 0) : Type 0 where
   pub certificate : Proof
   pub by_rule : IsByRule p m certificate
@@ -145,6 +147,13 @@ pub record StopsInstance (held : Option Files) (s : Solving) (text : List ℕ) :
   pub problem : Problem
   pub instance : WhereTold held (λ files. HoldsInstance files s.source problem)
   pub stops : Stops problem (method_of s) (Spells text)
+
+-- the files give an instance whose candidates lack this commodity, all of them together, and none before it: there is no plan
+pub record LacksNetwork (held : Option Files) (s : Source) (commodity : ℕ × ℕ) : Type 0 where
+  pub problem : Problem
+  pub instance : WhereTold held (λ files. HoldsInstance files s problem)
+  pub lacks : lacking problem problem.candidates ≡ Some commodity
+  pub no_plan : (plan : Plan) → IsPlan problem plan → ⊥
 
 -- ---- what `optimize` comes to
 

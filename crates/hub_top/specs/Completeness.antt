@@ -2,6 +2,7 @@
 use Rattle.std.specs.Prelude.{◌≡◌, ℕ, List, Option, Some, None, ◌⊎◌}
 use Rattle.hub_io.specs.Outside.{Files}
 use Rattle.hub_spec.specs.Problem.{Problem}
+use Rattle.hub_spec.specs.Lacking.{lacking}
 use Rattle.cert_spec.specs.Verdicts.{Verdict, Why}
 use Rattle.file_spec.specs.Faults.{Fault}
 use Rattle.hub_make.specs.Contents.{made_problem}
@@ -9,7 +10,7 @@ use Rattle.hub_top.specs.declared.status.Status.{Status}
 use Rattle.hub_top.specs.declared.status.Status.TheVariants.{Done, Stopped, Usage, Instance, Memory}
 use Rattle.hub_words.specs.Requests.{Source, Solving, Making, Search, Request, solve, optimize, check, report, make, demo, instance}
 use Rattle.hub_top.specs.Commands.{Blame, HasBlame, HoldsInstance, method_of, demo_method, IsEnoughFor}
-use Rattle.hub_top.specs.Answers.{verdict_status, report_status, rule_status}
+use Rattle.hub_top.specs.Answers.{verdict_status, report_status, rule_status, solve_status}
 
 -- the run ended with a status of which this holds, or for want of memory
 abbrev pub EndsAs : (Status → Type 0) → Status → Type 0
@@ -26,12 +27,12 @@ pub record Completeness (asked : Option Request) (held : Option Files) (quiet : 
   -- any command whose instance has a fault
   pub fault : (files : Files) (request : Request) (s : Source) (blame : Blame) (fault : Fault) → held ≡ Some files → asked ≡ Some request
       → instance request ≡ Some s → HasBlame files s blame fault → quiet → EndsWith Instance status
-  -- `solve` with an instance: the status of what the search rule finds
+  -- `solve` with an instance: 8 where all candidates together lack a commodity, else the status of what the search rule finds
   pub solved : (files : Files) (s : Solving) (p : Problem) → held ≡ Some files → asked ≡ Some (solve s)
-      → HoldsInstance files s.source p → quiet → EndsWith (rule_status p (method_of s)) status
-  -- and with as many nodes as a whole tree has it is solved
+      → HoldsInstance files s.source p → quiet → EndsWith (solve_status p (method_of s)) status
+  -- and where they lack none, with as many nodes as a whole tree has it is solved
   pub enough : (files : Files) (s : Solving) (p : Problem) → held ≡ Some files → asked ≡ Some (solve s)
-      → HoldsInstance files s.source p → IsEnoughFor p s.search.nodes → quiet → EndsWith Done status
+      → HoldsInstance files s.source p → lacking p p.candidates ≡ None → IsEnoughFor p s.search.nodes → quiet → EndsWith Done status
   -- `optimize` with an instance and as many nodes as a whole tree has, or any number
   pub optimized : (files : Files) (s : Solving) (p : Problem) → held ≡ Some files → asked ≡ Some (optimize s)
       → HoldsInstance files s.source p → IsEnoughFor p s.search.nodes → quiet → EndsWith Done status

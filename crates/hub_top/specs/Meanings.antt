@@ -4,9 +4,9 @@ use Rattle.std.specs.Io.KnownBytes.{Appends}
 use Rattle.hub_io.specs.Outside.{Files}
 use Rattle.file_spec.specs.Faults.{Fault}
 use Rattle.hub_top.specs.declared.status.Status.{Status}
-use Rattle.hub_top.specs.declared.status.Status.TheVariants.{Done, Stopped, No, Usage, Instance, Memory, Read, Write}
-use Rattle.hub_words.specs.Requests.{Source, Request, instance}
-use Rattle.hub_top.specs.Commands.{Blame, HasBlame, WhereTold}
+use Rattle.hub_top.specs.declared.status.Status.TheVariants.{Done, Stopped, No, Usage, Instance, Memory, Read, Write, Lacking}
+use Rattle.hub_words.specs.Requests.{Source, Solving, Request, solve, instance}
+use Rattle.hub_top.specs.Commands.{Blame, HasBlame, WhereTold, LacksNetwork}
 use Rattle.hub_top.specs.Answers.{Answers}
 
 -- the words are a command, and out took the text of its answer with this status
@@ -35,6 +35,14 @@ pub record Unread (asked : Option Request) (fails : Request → Type 0) (old new
   pub failed : fails request
   pub taken : Appends old new []
 
+-- the words ask to solve an instance whose candidates lack a commodity, all of them together, and out took nothing
+pub record Networkless (asked : Option Request) (held : Option Files) (old new : Option (List ℕ)) : Type 0 where
+  pub solving : Solving
+  pub is_asked : asked ≡ Some (solve solving)
+  pub commodity : ℕ × ℕ
+  pub lacks : LacksNetwork held solving.source commodity
+  pub taken : Appends old new []
+
 abbrev pub Means : Option Request → Option Files → (Request → Type 0) → Option (List ℕ) → Option (List ℕ) → Type 0 → Status → Type 0
 Means asked held fails old new rose Done = Answered asked held old new Done
 Means asked held fails old new rose Stopped = Answered asked held old new Stopped
@@ -44,3 +52,4 @@ Means asked held fails old new rose Instance = Refused asked held old new
 Means asked held fails old new rose Memory = Appends old new []
 Means asked held fails old new rose Read = Unread asked fails old new
 Means asked held fails old new rose Write = rose
+Means asked held fails old new rose Lacking = Networkless asked held old new

@@ -4,10 +4,10 @@ use Rattle.hub_io.specs.Outside.{Files, Rose, Puts}
 use Rattle.hub_io.specs.declared.Failed.{Failed}
 use Rattle.file_spec.specs.Faults.{Fault}
 use Rattle.hub_top.specs.declared.status.Status.{Status}
-use Rattle.hub_top.specs.declared.status.Status.TheVariants.{Usage, Instance, Memory, Read, Write}
-use Rattle.hub_words.specs.Requests.{Source, Request, instance}
-use Rattle.hub_top.specs.Texts.{usage_text, fault_text, memory_text, read_text}
-use Rattle.hub_top.specs.Commands.{Blame, HasBlame, WhereTold, Lacks}
+use Rattle.hub_top.specs.declared.status.Status.TheVariants.{Usage, Instance, Memory, Read, Write, Lacking}
+use Rattle.hub_words.specs.Requests.{Source, Solving, Request, solve, instance}
+use Rattle.hub_top.specs.Texts.{usage_text, fault_text, no_network_text, memory_text, read_text}
+use Rattle.hub_top.specs.Commands.{Blame, HasBlame, WhereTold, Lacks, LacksNetwork}
 use Rattle.hub_top.specs.Answers.{Answers}
 
 -- what a run came to, before it was written
@@ -18,6 +18,8 @@ pub data Outcome : Type 0 where
   usage : Outcome
   -- a file of the instance has this fault
   faulty : Blame → Fault → Outcome
+  -- all candidates together lack this commodity
+  no_network : (commodity : ℕ × ℕ) → Outcome
   memory : Outcome
   read : Outcome
 
@@ -25,6 +27,7 @@ abbrev pub status_of : Outcome → Status
 status_of (answered status text) = status
 status_of usage = Usage
 status_of (faulty blame fault) = Instance
+status_of (no_network commodity) = Lacking
 status_of memory = Memory
 status_of read = Read
 
@@ -37,6 +40,7 @@ out_text outcome = []
 abbrev pub err_text : Outcome → List ℕ
 err_text usage = usage_text
 err_text (faulty blame fault) = fault_text blame fault
+err_text (no_network commodity) = no_network_text commodity
 err_text memory = memory_text
 err_text read = read_text
 err_text outcome = []
@@ -68,6 +72,8 @@ MayComeTo asked held fails usage = asked ≡ None
 MayComeTo asked held fails (faulty blame fault) =
     (request : Request) × (s : Source) × (asked ≡ Some request) × (instance request ≡ Some s)
     × WhereTold held (λ files. HasBlame files s blame fault)
+MayComeTo asked held fails (no_network commodity) =
+    (solving : Solving) × (asked ≡ Some (solve solving)) × LacksNetwork held solving.source commodity
 MayComeTo asked held fails memory = Unit {0}
 MayComeTo asked held fails read = (request : Request) × (asked ≡ Some request) × fails request
 

@@ -5,7 +5,7 @@ use Rattle.std.specs.Fmt.{signed_decimal}
 use Rattle.text_spec.specs.Fixed.{fixed_text}
 use Rattle.cert_spec.specs.Grammar.{bad_line, ended}
 use Rattle.cert_spec.specs.Verdicts.{Verdict, optimal, bounds, fails, misread, too_long}
-use Rattle.file_spec.specs.Faults.{Fault, bad_number, missing_token, missing_pair, extra, bad_size, negative, too_big, bad_index, repeated, no_candidate, too_costly}
+use Rattle.file_spec.specs.Faults.{Fault, bad_number, missing_token, missing_pair, extra, bad_size, negative, too_big, bad_index, repeated, no_candidate, too_costly, bad_hubs}
 use Rattle.file_spec.specs.Faults as faults
 use Rattle.cert_checker.specs.Answers.{kind_name}
 use Rattle.hub_top.specs.Commands.{Blame, on_instance, on_costs}
@@ -23,6 +23,8 @@ usage_text = concat (
     ∷ codes "         --collect X, --trunk X, --deliver X, --fixed X, --costs FILE,\n"
     ∷ codes "         --candidates LIST, --no-self\n"
     ∷ codes "         --format 1|2\n"
+    ∷ codes "         --max-length R\n"
+    ∷ codes "         --hubs P|file\n"
     ∷ [])
 
 unfoldable pub memory_text : List ℕ
@@ -49,6 +51,11 @@ fault_words (bad_index at) = codes "8 BadIndex at " ∷ decimal at ∷ []
 fault_words (repeated i j) = pair_words (codes "9 Repeated ") i j
 fault_words (no_candidate k) = codes "10 NoCandidate " ∷ decimal (k + 1) ∷ []
 fault_words (too_costly sum) = codes "11 TooCostly " ∷ decimal sum ∷ []
+fault_words (bad_hubs p) = codes "12 Hubs " ∷ decimal p ∷ []
+
+-- that no network serves the commodity
+unfoldable pub no_network_text : ℕ × ℕ → List ℕ
+no_network_text commodity = concat (pair_words (codes "hub: no network for ") commodity.0 commodity.1 ++ codes "\n" ∷ [])
 
 -- the words that name the file that has a fault
 abbrev pub blame_words : Blame → List ℕ

@@ -18,12 +18,12 @@ use Rattle.hub_top.specs.declared.halts.Halt.TheVariants as halts
 use Rattle.hub_top.specs.declared.answers.Answer.{Answer}
 use Rattle.hub_top.specs.declared.answers.Answer.TheVariants.{Judged, Reported, Made, Demonstrated}
 use Rattle.hub_top.specs.declared.outcomes.Settled.{Settled}
-use Rattle.hub_top.specs.declared.outcomes.Settled.TheVariants.{Answered, Found, Usage, Halted}
+use Rattle.hub_top.specs.declared.outcomes.Settled.TheVariants.{Answered, Found, NoNetwork, Usage, Halted}
 use Rattle.hub_top.specs.declared.outcomes.Intended.{Intended}
 use Rattle.hub_top.specs.declared.outcomes.Intended.TheVariants as intended
 use Rattle.hub_top.specs.Texts.{verdict_text}
 use Rattle.hub_top.specs.Answers.{verdict_status}
-use Rattle.hub_top.specs.Outcomes.{Outcome, answered, usage, faulty, memory, read}
+use Rattle.hub_top.specs.Outcomes.{Outcome, answered, usage, faulty, no_network, memory, read}
 use Rattle.hub_top.specs.Blames.{blame_of}
 
 -- why there is no answer
@@ -67,6 +67,7 @@ IsWritable (Demonstrated size found) = HasAmounts found
 abbrev pub came_to : Settled → Outcome
 came_to (Answered answer) = answered (answer_status answer) (answer_text answer)
 came_to (Found instance found version) = answered (finding_status found) (found_text (version_number version) instance found)
+came_to (NoNetwork i j) = no_network (i, j)
 came_to Usage = usage
 came_to (Halted halt) = halted halt
 
@@ -74,6 +75,7 @@ came_to (Halted halt) = halted halt
 abbrev pub CanBeWritten : Settled → Type 0
 CanBeWritten (Answered answer) = IsWritable answer
 CanBeWritten (Found instance found version) = IsProved instance found
+CanBeWritten (NoNetwork i j) = Unit {0}
 CanBeWritten Usage = Unit {0}
 CanBeWritten (Halted halt) = Unit {0}
 
@@ -87,6 +89,7 @@ abbrev pub outcome : Intended → Outcome
 outcome (intended.Answered answer) = answered (answer_status answer.now) (answer_text answer.now)
 outcome (intended.Found instance found version lender) =
     answered (finding_status found.now) (found_text (version_number version) instance.now found.now)
+outcome (intended.NoNetwork i j) = no_network (i, j)
 outcome intended.Usage = usage
 outcome (intended.Halted halt) = halted halt
 
@@ -94,5 +97,6 @@ outcome (intended.Halted halt) = halted halt
 abbrev pub IsReady : Intended → Type 0
 IsReady (intended.Answered answer) = IsWritable answer.now
 IsReady (intended.Found instance found version lender) = IsProved instance.now found.now × IsLenderFor instance.now lender
+IsReady (intended.NoNetwork i j) = Unit {0}
 IsReady intended.Usage = Unit {0}
 IsReady (intended.Halted halt) = Unit {0}

@@ -2,7 +2,7 @@
 
 ghost use Rattle.std.specs.Prelude.{◌≡◌, ◌⊎◌, IfOk, IfErr};
 ghost use Rattle.cert_checker.specs.Shows.{verdict_of};
-ghost use Rattle.hub_words.specs.Requests.{AreSources};
+ghost use Rattle.hub_words.specs.Requests.{AreSources, AsksListed};
 ghost use Rattle.hub_words.specs.Views.{source_of};
 ghost use Rattle.hub_top.specs.Commands.{JudgesFile, LacksSource, LacksCertificate};
 ghost use Rattle.hub_top.specs.Outcomes.{FailsFor, StaysShelf};
@@ -26,7 +26,8 @@ pub fn check<S: Shelf>(
     certificate: &str,
     shelf: &mut S,
 ) -> Result<Ending, Halt>
-    requires { AreSources (source_of source.now) }
+    requires sources { AreSources (source_of source.now) }
+    requires listed { AsksListed (source_of source.now) }
     ensures judged { IfOk result (λ e. JudgesFile (S.held shelf.old) (source_of source.now) certificate.now (verdict_of e)) }
     ensures halted { IfErr result (Halts (IsOfSource (S.held shelf.old) (source_of source.now))
         (FailsFor S.held S.faults S.sound shelf.old shelf.new

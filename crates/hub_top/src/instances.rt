@@ -4,7 +4,7 @@ ghost use Rattle.std.specs.Prelude.{◌≡◌, IfOk, IfErr};
 ghost use Rattle.file_spec.specs.Files.{HasContents};
 ghost use Rattle.token_reader.specs.Refusals.{IsRefused};
 ghost use Rattle.hub_model.specs.Building.{costs_of};
-ghost use Rattle.hub_words.specs.Requests.{AreSources};
+ghost use Rattle.hub_words.specs.Requests.{AreSources, AsksListed};
 ghost use Rattle.hub_words.specs.Views.{layout_of, source_of};
 ghost use Rattle.hub_top.specs.Commands.{LacksSource};
 ghost use Rattle.hub_top.specs.Outcomes.{FailsFor, StaysShelf};
@@ -29,7 +29,8 @@ pub fn read_instance<S: Shelf>(
     source: &Source<'_>,
     shelf: &mut S,
 ) -> Result<Instance, Halt>
-    requires { AreSources (source_of source.now) }
+    requires sources { AreSources (source_of source.now) }
+    requires listed { AsksListed (source_of source.now) }
     ensures given { IfOk result (ToldInstance (S.held shelf.old) (source_of source.now)) }
     ensures halted { IfErr result (Halts (IsOfSource (S.held shelf.old) (source_of source.now))
         (FailsFor S.held S.faults S.sound shelf.old shelf.new (λ files. LacksSource files (source_of source.now)))) }

@@ -6,15 +6,15 @@ ghost use Rattle.cert_scan.specs.Versions.{version_number};
 ghost use Rattle.kept_cuts.specs.Findings.{IsProved};
 ghost use Rattle.proof_text.specs.Lenders.{IsLenderFor};
 ghost use Rattle.proof_text.specs.Texts.{found_text};
-ghost use Rattle.hub_top.specs.Texts.{usage_text};
+ghost use Rattle.hub_top.specs.Texts.{no_network_text, usage_text};
 ghost use Rattle.hub_top.specs.Outcomes.{IsTold, Written, err_text, memory, status_of};
 ghost use Rattle.hub_top.specs.Views.{CanBeWritten, IsReady, IsWritable, answer_status, answer_text, came_to, finding_status, halted, outcome};
-ghost use Rattle.hub_top.specs.declared.status.Status.TheVariants.{Usage};
+ghost use Rattle.hub_top.specs.declared.status.Status.TheVariants.{Lacking, Usage};
 
 use crate::Status;
 use crate::answers::{Answer, put_answer, status_of_answer, status_of_finding};
 use crate::halts::Halt;
-use crate::texts::{put_fault, put_memory, put_read, put_usage};
+use crate::texts::{put_fault, put_memory, put_no_network, put_read, put_usage};
 use cert_format::Version;
 use hub_io::{Failed, Sink};
 use hub_model::Instance;
@@ -29,6 +29,8 @@ pub enum Settled {
     Answered(Answer),
     /// What `solve` or `optimize` found for the instance, whose certificate is wanted in this version.
     Found(Instance, Found, Version),
+    /// `solve`: all candidates together lack the commodity from `i` to `j`.
+    NoNetwork { i: u32, j: u32 },
     /// The words are no command.
     Usage,
     /// A command has no answer.
@@ -42,6 +44,8 @@ pub enum Intended<'a> {
     Answered(&'a Answer),
     /// The certificate in this version of what was found for the instance, with room to make its duals in.
     Found(&'a Instance, &'a Found, Version, DualLender<'a>),
+    /// All candidates together lack the commodity from `i` to `j`.
+    NoNetwork { i: u32, j: u32 },
     /// The words are no command.
     Usage,
     /// A command has no answer.
@@ -60,6 +64,7 @@ pub fn intend<'a>(alloc: Global, what: &'a Settled) -> Intended<'a>
             Ok(lender) => Intended::Found(instance, found, *version, lender),
             Err(_) => Intended::Halted(Halt::Memory),
         },
+        Settled::NoNetwork { i, j } => Intended::NoNetwork { i: *i, j: *j },
         Settled::Usage => Intended::Usage,
         Settled::Halted(halt) => Intended::Halted(*halt),
     }
@@ -75,6 +80,7 @@ pub fn write<O: Sink, E: Sink>(intended: Intended, out: &mut O, err: &mut E) -> 
         Intended::Found(instance, found, version, mut lender) => {
             write_certificate(instance, found, version, &mut lender, out)
         }
+        Intended::NoNetwork { i, j } => write_no_network(i, j, err),
         Intended::Usage => write_usage(err),
         Intended::Halted(halt) => write_halt(&halt, err),
     }
@@ -114,6 +120,15 @@ fn write_usage<E: Sink>(err: &mut E) -> Status
 {
     match put_usage(err) {
         Ok(()) => Status::Usage,
+        Err(_) => Status::Write,
+    }
+}
+
+fn write_no_network<E: Sink>(i: u32, j: u32, err: &mut E) -> Status
+    ensures { IsTold E.taken E.faults err.old err.new result Lacking (no_network_text (i, j)) }
+{
+    match put_no_network(i, j, err) {
+        Ok(()) => Status::Lacking,
         Err(_) => Status::Write,
     }
 }

@@ -2,7 +2,7 @@
 
 ghost use Rattle.std.specs.Prelude.{◌≡◌, ◌⊎◌, ◌≤◌, length, IfOk, IfErr};
 ghost use Rattle.cert_spec.specs.Verdicts.{certificate_limit};
-ghost use Rattle.hub_words.specs.Requests.{AreSources};
+ghost use Rattle.hub_words.specs.Requests.{AreSources, AsksListed};
 ghost use Rattle.hub_words.specs.Views.{source_of};
 ghost use Rattle.hub_top.specs.Commands.{LacksSource, LacksCertificate};
 ghost use Rattle.hub_top.specs.Outcomes.{FailsFor, StaysShelf};
@@ -40,7 +40,8 @@ pub fn report<R: Threads + Sync, S: Shelf>(
     certificate: &str,
     shelf: &mut S,
 ) -> Result<Answer, Halt>
-    requires { AreSources (source_of source.now) }
+    requires sources { AreSources (source_of source.now) }
+    requires listed { AsksListed (source_of source.now) }
     ensures reported { IfOk result (IsReport (S.held shelf.old) (source_of source.now) certificate.now) }
     ensures halted { IfErr result (Halts (IsOfSource (S.held shelf.old) (source_of source.now))
         (FailsFor S.held S.faults S.sound shelf.old shelf.new

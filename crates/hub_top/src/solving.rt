@@ -7,15 +7,16 @@ ghost use Rattle.hub_spec.specs.Separation.{IsOrder};
 ghost use Rattle.cut_pool.specs.Entries.{entry_of};
 ghost use Rattle.search_steps.specs.Pools.{IsSumsOf};
 ghost use Rattle.hub_make.specs.Contents.{made_problem};
-ghost use Rattle.hub_words.specs.Requests.{AreSources, IsMaking, IsSearch};
+ghost use Rattle.hub_words.specs.Requests.{AreSources, AsksListed, IsMaking, IsSearch, IsUnlimited};
 ghost use Rattle.hub_words.specs.Views.{making_seen, search_seen, source_of};
 ghost use Rattle.hub_top.specs.Commands.{LacksSource};
 ghost use Rattle.hub_top.specs.Outcomes.{FailsFor, StaysShelf};
 ghost use Rattle.hub_top.specs.Halts.{Halts, IsOfSource};
-ghost use Rattle.hub_top.specs.Solving.{IsSearched, IsSolution, IsOptimum};
+ghost use Rattle.hub_top.specs.Solving.{ComesTo, IsSearched, IsOptimum};
 
 use crate::halts::Halt;
 use crate::instances::read_instance;
+use assign_sub::lacking;
 use branch_tree::search;
 use cut_pool::CutSums;
 use hub_demo::made_instance;
@@ -26,12 +27,22 @@ use kept_cuts::Found;
 use par_separate::{Crew, separate_sums, workers_for};
 use plan_model::HubSet;
 use price_passes::Adviser;
-use search_steps::Plain;
+use search_steps::{Counted, Plain, Rule};
 use separators::Solo;
 use std::alloc::{AllocError, Global};
 use std::thread::Threads;
 
-/// What the search rule finds for the instance that the source names, with the instance.
+/// What `solve` comes to.
+#[derive(Drop)]
+pub enum Solved {
+    /// What the search rule finds for the instance.
+    Found(Instance, Found),
+    /// All candidates together lack the commodity from `i` to `j`, the first one.
+    NoNetwork { i: u32, j: u32 },
+}
+
+/// What the search rule finds for the instance that the source names, with the instance, or the first commodity that all
+/// candidates together lack.
 pub fn solve<R: Threads + Sync, S: Shelf, G: Gate>(
     rt: &R,
     alloc: Global,
@@ -39,20 +50,32 @@ pub fn solve<R: Threads + Sync, S: Shelf, G: Gate>(
     asked: Search,
     shelf: &mut S,
     gate: &G,
-) -> Result<(Instance, Found), Halt>
+) -> Result<Solved, Halt>
     requires sources { AreSources (source_of source.now) }
+    requires listed { AsksListed (source_of source.now) }
     requires asked { IsSearch (search_seen asked) }
-    ensures solved { IfOk result (λ r. IsSolution (S.held shelf.old) (source_of source.now) asked.nodes r.0 r.1) }
+    ensures solved { IfOk result (ComesTo (S.held shelf.old) (source_of source.now) asked.nodes) }
     ensures halted { IfErr result (Halts (IsOfSource (S.held shelf.old) (source_of source.now))
         (FailsFor S.held S.faults S.sound shelf.old shelf.new (λ files. LacksSource files (source_of source.now)))) }
     ensures stays { StaysShelf S.held S.faults S.sound shelf.old shelf.new }
 {
     let instance = read_instance(alloc, source, shelf)?;
+    if let Some((i, j)) = lacking(&instance, &all_candidates(alloc, &instance)?) {
+        return Ok(Solved::NoNetwork { i, j });
+    }
     let found = find(rt, alloc, &instance, asked, gate)?;
-    Ok((instance, found))
+    Ok(Solved::Found(instance, found))
 }
 
-/// What the search without a rule finds for the instance that the source names, with the instance.
+/// The set of all candidates.
+fn all_candidates(alloc: Global, instance: &Instance) -> Result<HubSet, AllocError>
+    ensures { IfOk result (λ set. set ≡ instance.now.candidates) }
+{
+    HubSet::of(alloc, instance.candidates())
+}
+
+/// What the search without a rule finds for the instance that the source names, with the instance. No length of routes is
+/// limited, and no number of hubs wanted.
 pub fn optimize<R: Threads + Sync, S: Shelf>(
     rt: &R,
     alloc: Global,
@@ -61,6 +84,8 @@ pub fn optimize<R: Threads + Sync, S: Shelf>(
     shelf: &mut S,
 ) -> Result<(Instance, Found), Halt>
     requires sources { AreSources (source_of source.now) }
+    requires listed { AsksListed (source_of source.now) }
+    requires unlimited { IsUnlimited (source_of source.now) }
     requires asked { IsSearch (search_seen asked) }
     ensures optimized { IfOk result (λ r. IsOptimum (S.held shelf.old) (source_of source.now) asked.nodes r.0 r.1) }
     ensures halted { IfErr result (Halts (IsOfSource (S.held shelf.old) (source_of source.now))
@@ -89,8 +114,8 @@ pub fn demonstrate<R: Threads + Sync, G: Gate>(
     find(rt, alloc, &instance, asked, gate)
 }
 
-/// What the search rule finds: by workers side by side, where more than one is asked for and the instance is large
-/// enough for them.
+/// What the search rule finds, where all candidates together lack no commodity: with just as many hubs as are wanted, if a
+/// number is.
 fn find<R: Threads + Sync, G: Gate>(
     rt: &R,
     alloc: Global,
@@ -98,13 +123,35 @@ fn find<R: Threads + Sync, G: Gate>(
     asked: Search,
     gate: &G,
 ) -> Result<Found, AllocError>
-    requires { IsSearch (search_seen asked) }
+    requires asked { IsSearch (search_seen asked) }
+    requires network { IsHubSet instance.now instance.now.candidates }
+    ensures { IfOk result (IsSearched instance.now asked.nodes) }
+{
+    match instance.wanted() {
+        Some(hubs) => find_by(rt, alloc, &Counted { hubs }, instance, asked, gate),
+        None => find_by(rt, alloc, &Plain, instance, asked, gate),
+    }
+}
+
+/// What the rule of the search finds: by workers side by side, where more than one is asked for and the instance is large
+/// enough for them.
+fn find_by<R: Threads + Sync, Q: Rule, G: Gate>(
+    rt: &R,
+    alloc: Global,
+    rule: &Q,
+    instance: &Instance,
+    asked: Search,
+    gate: &G,
+) -> Result<Found, AllocError>
+    requires serves { Q.serves rule.now instance.now }
+    requires asked { IsSearch (search_seen asked) }
+    requires network { IsHubSet instance.now instance.now.candidates }
     ensures { IfOk result (IsSearched instance.now asked.nodes) }
 {
     let workers = workers_for(instance.size(), asked.workers);
     if workers == 1 {
         let mut solo = Solo::new(alloc, instance)?;
-        return search(alloc, &Plain, instance, asked.nodes, &mut solo);
+        return search(alloc, rule, instance, asked.nodes, &mut solo);
     }
     let cut = |alloc: Global, i: &Instance, set: HubSet, order: &[u32]| -> Result<
         CutSums,
@@ -113,5 +160,5 @@ fn find<R: Threads + Sync, G: Gate>(
         requires { IsSync R.row × IsSync G.row × IsHubSet i.now set × IsOrder i.now set order.now × (1 ≤ workers) × (workers ≤ 64) }
         ensures { IfOk result (λ c. (c.hubs ≡ set) × IsSumsOf i.entry.now (entry_of c order.entry.now)) }
     { separate_sums(rt, alloc, i, set, order, workers, gate) };
-    search(alloc, &Plain, instance, asked.nodes, &mut Crew { cut })
+    search(alloc, rule, instance, asked.nodes, &mut Crew { cut })
 }

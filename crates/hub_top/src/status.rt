@@ -24,10 +24,12 @@ pub enum Status {
     Read,
     /// A sink failed.
     Write,
+    /// `solve`: all candidates together lack a commodity, so there is no network.
+    Lacking,
 }
 
 impl Status {
-    /// The number with which the program ends, 0 to 7.
+    /// The number with which the program ends, 0 to 8.
     pub fn number(self) -> u8
         ensures { result ≡ number_of self }
     {
@@ -40,6 +42,7 @@ impl Status {
             Status::Memory => 5,
             Status::Read => 6,
             Status::Write => 7,
+            Status::Lacking => 8,
         }
     }
 }

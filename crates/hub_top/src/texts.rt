@@ -5,7 +5,7 @@ ghost use Rattle.hub_io.specs.Outside.{Puts};
 ghost use Rattle.hub_model.specs.Amounts.{natural};
 ghost use Rattle.hub_model.specs.Faults.{fault_of, missing_of};
 ghost use Rattle.file_spec.specs.Faults.{missing_pair, bad_size, repeated, too_costly};
-ghost use Rattle.hub_top.specs.Texts.{usage_text, memory_text, read_text, blame_words, pair_words, fault_line, fault_text};
+ghost use Rattle.hub_top.specs.Texts.{usage_text, memory_text, read_text, no_network_text, blame_words, pair_words, fault_line, fault_text};
 ghost use Rattle.hub_top.specs.Blames.{blame_of};
 
 use dec_text::{Piece, put_line};
@@ -36,7 +36,7 @@ pub fn put_usage<K: Sink>(sink: &mut K) -> Result<(), Failed>
     ensures { Puts K.taken K.faults sink.old sink.new result usage_text }
 {
     sink.put(
-        b"usage: hub solve LAYOUT FILE [options] [--nodes N] [--workers W]\n       hub check LAYOUT FILE CERT [options]\n       hub report LAYOUT FILE CERT [options]\n       hub make SEED SIZE\n       hub demo SEED SIZE [--nodes N] [--workers W]\nLAYOUT: cab-matrix, cab-rows, ap\noptions: --order flow-first|distance-first, --tail ignore|fixed, --divide D,\n         --collect X, --trunk X, --deliver X, --fixed X, --costs FILE,\n         --candidates LIST, --no-self\n         --format 1|2\n",
+        b"usage: hub solve LAYOUT FILE [options] [--nodes N] [--workers W]\n       hub check LAYOUT FILE CERT [options]\n       hub report LAYOUT FILE CERT [options]\n       hub make SEED SIZE\n       hub demo SEED SIZE [--nodes N] [--workers W]\nLAYOUT: cab-matrix, cab-rows, ap\noptions: --order flow-first|distance-first, --tail ignore|fixed, --divide D,\n         --collect X, --trunk X, --deliver X, --fixed X, --costs FILE,\n         --candidates LIST, --no-self\n         --format 1|2\n         --max-length R\n         --hubs P|file\n",
     )
 }
 
@@ -56,6 +56,23 @@ pub fn put_read<K: Sink>(sink: &mut K) -> Result<(), Failed>
     sink.put(b"hub: read failed\n")
 }
 
+/// Puts the line that tells of the commodity from `i` to `j` that no network serves it.
+#[tactic(auto, unfolding(crate::specs::Texts::no_network_text))]
+pub fn put_no_network<K: Sink>(i: u32, j: u32, sink: &mut K) -> Result<(), Failed>
+    ensures { Puts K.taken K.faults sink.old sink.new result (no_network_text (i, j)) }
+{
+    put_line(
+        &[
+            Piece::Text(b"hub: no network for "),
+            Piece::Count(i as u128 + 1),
+            Piece::Text(b" "),
+            Piece::Count(j as u128 + 1),
+            Piece::Text(b"\n"),
+        ],
+        sink,
+    )
+}
+
 /// Puts the line of a fault.
 pub fn put_fault<K: Sink>(file: Blamed, fault: &InstanceFault, sink: &mut K) -> Result<(), Failed>
     ensures { Puts K.taken K.faults sink.old sink.new result (fault_text (blame_of file) (fault_of fault.now)) }
@@ -72,6 +89,7 @@ pub fn put_fault<K: Sink>(file: Blamed, fault: &InstanceFault, sink: &mut K) -> 
         InstanceFault::Repeated { i, j } => put_repeated(file, i, j, sink),
         InstanceFault::NoCandidate { k } => put_at(file, b"10 NoCandidate ", k as u64 + 1, sink),
         InstanceFault::TooCostly { sum } => put_sum(file, sum, sink),
+        InstanceFault::Hubs { p } => put_at(file, b"12 Hubs ", p as u64, sink),
     }
 }
 

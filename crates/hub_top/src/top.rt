@@ -3,7 +3,7 @@
 ghost use Rattle.std.specs.Prelude.{◌≡◌, ◌⊎◌, IfOk, IfSome, None, Some};
 ghost use Rattle.hub_io.specs.Outside.{Rose};
 ghost use Rattle.hub_words.specs.Words as spec;
-ghost use Rattle.hub_words.specs.Requests.{AreSources, IsMaking, IsSearch, IsVersion, Request, instance, making_of, search_of, version_of};
+ghost use Rattle.hub_words.specs.Requests.{AreSources, AsksListed, IsMaking, IsSearch, IsUnlimited, IsVersion, Request, SaysLimits, instance, making_of, optimized, search_of, solved, version_of};
 ghost use Rattle.hub_words.specs.Views.{request_of, texts};
 ghost use Rattle.hub_top.specs.Views.{CanBeWritten, came_to, ended};
 ghost use Rattle.hub_top.specs.Outcomes.{Outcome, MayComeTo, ShelfFails, Quiet, Written};
@@ -17,7 +17,7 @@ use crate::checking::check;
 use crate::halts::Halt;
 use crate::outcomes::{Settled, intend, write};
 use crate::reporting::report;
-use crate::solving::{demonstrate, optimize, solve};
+use crate::solving::{Solved, demonstrate, optimize, solve};
 use hub_io::{Gate, Shelf, Sink};
 use hub_make::instance_text;
 use hub_words::{Command, asked};
@@ -34,7 +34,7 @@ use std::thread::Threads;
 ///   status; where a sink failed, a front of the text that it was to take, and nothing further.
 /// - `means`: what each status says of the words, the files, the faults and what `out` took.
 /// - `complete`: where no fault rose, words that are no command end with status 3, a fault of the instance with 4, `solve`
-///   and `demo` with 0 or 1 as the search rule says, and with 0 where enough nodes are allowed, `optimize` with 0 or 1, and
+///   with 8 where all candidates together lack a commodity, else `solve` and `demo` with 0 or 1 as the search rule says, and with 0 where enough nodes are allowed, `optimize` with 0 or 1, and
 ///   with 0 where enough nodes are allowed, `check` with 0, 1 or 2 by the verdict on the certificate's bytes, `report` with
 ///   0 or 2 by it, and `make` with 0; or it is want of memory.
 /// - `headline`: the headline, whose three sentences stand with their meaning in `specs/Headline.antt`.
@@ -99,6 +99,9 @@ fn answer<R: Threads + Sync, S: Shelf, G: Gate>(
     requires sources { IfSome (instance (request_of command.now)) AreSources }
     requires searches { IfSome (search_of (request_of command.now)) IsSearch }
     requires versions { IfSome (version_of (request_of command.now)) IsVersion }
+    requires listed { IfSome (instance (request_of command.now)) AsksListed }
+    requires unlimited { IfSome (optimized (request_of command.now)) IsUnlimited }
+    requires sayable { IfSome (solved (request_of command.now)) SaysLimits }
     requires makings { IfSome (making_of (request_of command.now)) IsMaking }
     ensures may { MayComeTo (Some (request_of command.now)) (S.held shelf.old)
         (ShelfFails S.held S.faults S.sound shelf.old shelf.new) (ended result) }
@@ -108,8 +111,12 @@ fn answer<R: Threads + Sync, S: Shelf, G: Gate>(
 {
     match command {
         Command::Solve(solving) => {
-            let (instance, found) = solve(rt, alloc, &solving.source, solving.search, shelf, gate)?;
-            Ok(Settled::Found(instance, found, solving.version))
+            match solve(rt, alloc, &solving.source, solving.search, shelf, gate)? {
+                Solved::Found(instance, found) => {
+                    Ok(Settled::Found(instance, found, solving.version))
+                }
+                Solved::NoNetwork { i, j } => Ok(Settled::NoNetwork { i, j }),
+            }
         }
         Command::Optimize(solving) => {
             let (instance, found) = optimize(rt, alloc, &solving.source, solving.search, shelf)?;
