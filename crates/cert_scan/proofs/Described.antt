@@ -10,7 +10,7 @@ use Rattle.cert_scan.specs.Scans.{shape_by}
 use Rattle.cert_scan.specs.Parts.{parts_of, open_hubs, open_values, open_weights}
 use Rattle.cert_scan.proofs.Climbs.{Climbs}
 use Rattle.cert_scan.proofs.StagesAt.{stage_at, IsRunOf, IsAt}
-use Rattle.cert_scan.proofs.Accepts.{is_hub, is_value, is_weight, node_of}
+use Rattle.cert_scan.proofs.ListReads.{is_hub, is_value, is_weight, node_of}
 use Rattle.cert_scan.specs.declared.items.Version.TheVariants.{Second}
 use Rattle.cert_scan.specs.declared.items.Item.{Item}
 use Rattle.cert_scan.specs.declared.items.Item.TheVariants.{Dual as dual_item, Leaf}
@@ -18,7 +18,7 @@ use Rattle.cert_scan.specs.declared.bytes.Move.{Move}
 use Rattle.cert_scan.specs.declared.bytes.Position.{Position}
 use Rattle.cert_scan.specs.declared.bytes.Position.TheVariants.{Start, Number}
 use Rattle.cert_scan.specs.declared.places.Place.{Place}
-use Rattle.cert_scan.specs.declared.places.Place.TheVariants.{VersionNumber, NodeCount, CandidateCount, CostAmount, BoundAmount, HubNode, RouteFrom, RouteTo, RouteFirst, RouteLast, CutCount, CutNumber, CutPart, DualFrom, DualTo, RunFrom, RunTo, RunLength, DualPrice, ValueNode, ValueAmount, LineCount, BranchNode, Denominator, WeightCut, WeightAmount}
+use Rattle.cert_scan.specs.declared.places.Place.TheVariants.{VersionNumber, NodeCount, CandidateCount, CostAmount, BoundAmount, HubNode, RouteFrom, RouteTo, RouteFirst, RouteLast, CutCount, CutNumber, CutPart, DualFrom, DualTo, RunFrom, RunTo, RunLength, DualPrice, ValueNode, ValueAmount, LineCount, BranchNode, BlockFrom, BlockTo, Denominator, WeightCut, WeightAmount}
 use Rattle.cert_scan.specs.declared.stages.Commodity.{Commodity}
 use Rattle.cert_scan.specs.declared.stages.TreeAt.{TreeAt}
 use Rattle.cert_scan.specs.declared.stages.Stage.{Stage}
@@ -51,6 +51,8 @@ stage_of (ValueNode run before) = Dual run.first
 stage_of (ValueAmount run number) = Dual run.first
 stage_of LineCount = Nodes
 stage_of (BranchNode t) = Tree t
+stage_of (BlockFrom t) = Tree t
+stage_of (BlockTo t i) = Tree t
 stage_of (Denominator t) = Tree t
 stage_of (WeightCut t before) = Tree t
 stage_of (WeightAmount t number) = Tree t
@@ -84,6 +86,8 @@ word_of (ValueNode run before) = dual_word run.length
 word_of (ValueAmount run number) = dual_word run.length
 word_of LineCount = codes "nodes"
 word_of (BranchNode t) = codes "branch"
+word_of (BlockFrom t) = codes "block"
+word_of (BlockTo t i) = codes "block"
 word_of (Denominator t) = codes "leaf"
 word_of (WeightCut t before) = codes "leaf"
 word_of (WeightAmount t number) = codes "leaf"
@@ -103,6 +107,12 @@ pub record CutIs (sh : Shape) (number : ℕ) (ns : List ℕ) (given : List Item)
   pub are : Are (number ∷ []) ns given
   pub second : sh.version ≡ Second
   pub some : 1 ≤ number
+
+-- the first node of a commodity that is blocked, from 0, behind which the other stands
+pub record BlockIs (sh : Shape) (i : ℕ) (ns : List ℕ) (given : List Item) : Type 0 where
+  pub are : Are ((i + 1) ∷ []) ns given
+  pub second : sh.version ≡ Second
+  pub node : i < sh.n
 
 -- the nodes of the first commodity of a run, and how many it has where it has more than one
 abbrev pub run_front : Run → List ℕ
@@ -182,6 +192,8 @@ Described sh (RunLength d) ns given = SecondAre sh ((d.commodity.from + 1) ∷ (
 Described sh (DualPrice run) ns given = RunIs sh run ns given
 Described sh (ValueNode run before) ns given = ValuesAre sh run before ns given
 Described sh (ValueAmount run number) ns given = ValueAre sh run number ns given
+Described sh (BlockFrom t) ns given = SecondAre sh [] ns given
+Described sh (BlockTo t i) ns given = BlockIs sh i ns given
 Described sh (WeightCut t before) ns given = WeightsAre t before ns given
 Described sh (WeightAmount t number) ns given = WeightAre t number ns given
 Described sh place ns given = Are [] ns given

@@ -13,16 +13,16 @@ use Rattle.cert_scan.specs.Parts.{parts_of, open_values}
 use Rattle.cert_scan.specs.Given.{IsBegun}
 use Rattle.cert_scan.proofs.StagesAt.{stage_at, run_of, IsCommodity, NamesNodes, commodity_named, IsAt}
 use Rattle.cert_scan.proofs.Described.{stage_of, word_of, ValuesAre, WeightsAre, Described}
-use Rattle.cert_scan.proofs.Outcomes.{climbs_dual, hubs_range, leaf_wanted}
+use Rattle.cert_scan.proofs.ListOutcomes.{climbs_dual, hubs_range, leaf_wanted}
 use Rattle.cert_scan.specs.declared.items.Item.{Item}
 use Rattle.cert_scan.specs.declared.items.Item.TheVariants.{Dual as dual_item}
 use Rattle.cert_scan.specs.declared.bytes.Move.{Move}
 use Rattle.cert_scan.specs.declared.bytes.Position.{Position}
 use Rattle.cert_scan.specs.declared.bytes.Position.TheVariants.{Start, Number, Keyword, Failed}
 use Rattle.cert_scan.specs.declared.heads.Head.{Head}
-use Rattle.cert_scan.specs.declared.heads.Head.TheVariants.{VersionLine, SizeLine, CostLine, BoundLine, HubsLine, RouteLine, CutsLine, CutLine, DualLine, DualsLine, NodesLine, BranchLine, LeafLine, EmptyLine, EndLine}
+use Rattle.cert_scan.specs.declared.heads.Head.TheVariants.{VersionLine, SizeLine, CostLine, BoundLine, HubsLine, RouteLine, CutsLine, CutLine, DualLine, DualsLine, NodesLine, BranchLine, LeafLine, EmptyLine, BlockLine, CountLine, EndLine}
 use Rattle.cert_scan.specs.declared.places.Place.{Place}
-use Rattle.cert_scan.specs.declared.places.Place.TheVariants.{VersionNumber, NodeCount, CandidateCount, CostAmount, BoundAmount, HubNode, RouteFrom, RouteTo, RouteFirst, RouteLast, CutCount, CutNumber, CutPart, DualFrom, DualTo, RunFrom, RunTo, RunLength, DualPrice, ValueNode, ValueAmount, LineCount, BranchNode, Denominator, WeightCut, WeightAmount}
+use Rattle.cert_scan.specs.declared.places.Place.TheVariants.{VersionNumber, NodeCount, CandidateCount, CostAmount, BoundAmount, HubNode, RouteFrom, RouteTo, RouteFirst, RouteLast, CutCount, CutNumber, CutPart, DualFrom, DualTo, RunFrom, RunTo, RunLength, DualPrice, ValueNode, ValueAmount, LineCount, BranchNode, BlockFrom, BlockTo, Denominator, WeightCut, WeightAmount}
 use Rattle.cert_scan.specs.declared.items.Version.TheVariants.{Second}
 use Rattle.cert_scan.specs.declared.stages.Run.{Run}
 use Rattle.cert_scan.specs.declared.stages.Shape.{Shape}
@@ -46,11 +46,15 @@ stage_of_head NodesLine = Nodes
 stage_of_head (BranchLine t) = Tree t
 stage_of_head (LeafLine t) = Tree t
 stage_of_head (EmptyLine t) = Tree t
+stage_of_head (BlockLine t) = Tree t
+stage_of_head (CountLine t) = Tree t
 stage_of_head EndLine = End
 
 -- the version has such a line
 abbrev pub HasHead : Shape → Head → Type 0
 HasHead sh (DualsLine d) = sh.version ≡ Second
+HasHead sh (BlockLine t) = sh.version ≡ Second
+HasHead sh (CountLine t) = sh.version ≡ Second
 HasHead sh head = Unit {0}
 
 -- ---- what is given of a line
@@ -121,6 +125,8 @@ described_begun sh (ValueNode run before) ns given names h = begun_values sh run
 described_begun sh (ValueAmount run number) ns given names h = begun_values sh run h.before h.front given names h.values
 described_begun sh LineCount ns given names h = h.given_none
 described_begun sh (BranchNode t) ns given names h = inl h.given_none
+described_begun sh (BlockFrom t) ns given names h = inl h.are.given_none
+described_begun sh (BlockTo t i) ns given names h = inl h.are.given_none
 described_begun sh (Denominator t) ns given names h = inl h.given_none
 described_begun sh (WeightCut t before) ns given names h = begun_weights sh t before ns given h
 described_begun sh (WeightAmount t number) ns given names h = begun_weights sh t h.before h.front given h.weights

@@ -8,9 +8,9 @@ use Rattle.cert_scan.specs.declared.bytes.Move.{Move}
 use Rattle.cert_scan.specs.declared.bytes.Position.{Position}
 use Rattle.cert_scan.specs.declared.bytes.Position.TheVariants.{Start, Number, Spoiled, Failed}
 use Rattle.cert_scan.specs.declared.heads.Head.{Head}
-use Rattle.cert_scan.specs.declared.heads.Head.TheVariants.{VersionLine, SizeLine, CostLine, BoundLine, HubsLine, RouteLine, CutsLine, CutLine, DualLine, DualsLine, NodesLine, BranchLine, LeafLine, EmptyLine, EndLine}
+use Rattle.cert_scan.specs.declared.heads.Head.TheVariants.{VersionLine, SizeLine, CostLine, BoundLine, HubsLine, RouteLine, CutsLine, CutLine, DualLine, DualsLine, NodesLine, BranchLine, LeafLine, EmptyLine, BlockLine, CountLine, EndLine}
 use Rattle.cert_scan.specs.declared.places.Place.{Place}
-use Rattle.cert_scan.specs.declared.places.Place.TheVariants.{VersionNumber, NodeCount, CandidateCount, CostAmount, BoundAmount, HubNode, RouteFrom, RouteTo, RouteFirst, RouteLast, CutCount, CutNumber, CutPart, DualFrom, DualTo, RunFrom, RunTo, RunLength, DualPrice, ValueNode, ValueAmount, LineCount, BranchNode, Denominator, WeightCut, WeightAmount}
+use Rattle.cert_scan.specs.declared.places.Place.TheVariants.{VersionNumber, NodeCount, CandidateCount, CostAmount, BoundAmount, HubNode, RouteFrom, RouteTo, RouteFirst, RouteLast, CutCount, CutNumber, CutPart, DualFrom, DualTo, RunFrom, RunTo, RunLength, DualPrice, ValueNode, ValueAmount, LineCount, BranchNode, BlockFrom, BlockTo, Denominator, WeightCut, WeightAmount}
 use Rattle.cert_scan.specs.declared.items.Version.{Version as TextVersion}
 use Rattle.cert_scan.specs.declared.items.Version.TheVariants.{First, Second}
 use Rattle.cert_scan.specs.declared.stages.Stage.{Stage}
@@ -74,6 +74,8 @@ taken_leaves sh (ValueNode d before) v last = turns_allowed _ last _ (turns_more
 taken_leaves sh (ValueAmount d number) v last = turns_allowed _ last _ (turns_open last _ _ _)
 taken_leaves sh LineCount v last = turns_allowed _ last _ (turns_whole last _ _)
 taken_leaves sh (BranchNode t) v last = turns_allowed _ last _ (turns_whole last _ _)
+taken_leaves sh (BlockFrom t) v last = turns_allowed _ last _ (turns_more last _)
+taken_leaves sh (BlockTo t i) v last = turns_allowed _ last _ (turns_whole last _ _)
 taken_leaves sh (Denominator t) v last = turns_allowed _ last _ (turns_open last _ _ _)
 taken_leaves sh (WeightCut t before) v last = turns_allowed _ last _ (turns_more last _)
 taken_leaves sh (WeightAmount t number) v last = turns_allowed _ last _ (turns_open last _ _ _)
@@ -97,6 +99,8 @@ letters NodesLine = refl
 letters (BranchLine t) = refl
 letters (LeafLine t) = refl
 letters (EmptyLine t) = refl
+letters (BlockLine t) = refl
+letters (CountLine t) = refl
 letters EndLine = refl
 
 letter_at : (word : List ℕ) → list_all is_letter word ≡ true → (k : ℕ) → k < length word → 47 < get_or word k 0

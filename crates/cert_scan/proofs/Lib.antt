@@ -3,8 +3,12 @@ pub mod Versions
 pub mod Climbs
 pub mod StagesAt
 pub mod Passing
+pub mod NumberReads
+pub mod ListReads
+pub mod LineReads
 pub mod Accepts
 pub mod Described
+pub mod ListOutcomes
 pub mod Outcomes
 pub mod Inline
 pub mod Here

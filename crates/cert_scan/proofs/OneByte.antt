@@ -1,33 +1,32 @@
 -- What one byte more makes of a line.
-use Rattle.std.proofs.Common.{◌≡◌, ℕ, ◌+◌, ◌-◌, ◌*◌, ◌/◌, ◌%◌, ◌<◌, ◌≤◌, true, false, ◌&&◌, List, [], ◌∷◌, ◌++◌, length, get_or, decimal, Option, Some, None, nat_lt, nat_le, nat_eq, inl, inr, refl, sym, ap, ◌∙◌, subst, append_assoc, append-nil, arith}
+use Rattle.std.proofs.Common.{◌≡◌, ℕ, ◌+◌, ◌-◌, ◌*◌, ◌/◌, ◌%◌, ◌<◌, ◌≤◌, true, false, ◌&&◌, List, [], ◌∷◌, ◌++◌, length, take, get_or, decimal, Option, Some, None, nat_lt, nat_le, nat_eq, inl, inr, refl, sym, ap, ◌∙◌, subst, append_assoc, append-nil, arith}
 use Rattle.std.specs.Prelude.{Bool, option_to_list, if◌then◌else◌}
-use Rattle.std.proofs.lemmas.Bool.{cond_both, and_parts, ltb-true, ltb-false, leb-true, eqb-true, ne_eqb, cases_Bool}
+use Rattle.std.proofs.lemmas.Bool.{cond_both, cond-true, cond-false, and_parts, ltb-true, ltb-false, leb-true, eqb-true, ne_eqb, cases_Bool}
 use Rattle.std.proofs.lemmas.List.{take_more, take_all}
 use Rattle.std.proofs.lemmas.Fmt.{decimal_digit, decimal_step_wide}
-use Rattle.hub_spec.specs.Trees.{no_hub}
+use Rattle.hub_spec.specs.Trees.{no_hub, no_count}
+use Rattle.hub_spec.proofs.SumLemmas.{by_test}
 use Rattle.cert_spec.specs.Lines.{says_tree, says_end, line_text}
-use Rattle.cert_spec.specs.Grammar.{Wants}
 use Rattle.cert_spec.specs.Reading.{IsStage}
 use Rattle.std.proofs.lemmas.Option.{same_Some, none-some, cond_some}
-use Rattle.cert_spec.proofs.Wanted.{wants_decides}
-use Rattle.cert_scan.specs.Moves.{move, taken_by, refusal, spoiled_by, keyword_of, first_place_of, first_number_by, bare_by, behind_keyword_by, unmatched_by, turned_or, duals_line_of, turned_by, keyword_by, tree_head_at, begun_as, begun_by, may_fill, stage_after_filled, nearly_longest, with_digit_of, spelled_by, behind_number_by, number_by, moved_by}
+use Rattle.cert_scan.specs.Moves.{move, taken_by, refusal, spoiled_by, keyword_of, first_place_of, first_number_by, bare_by, behind_keyword_by, unmatched_by, turned_or, duals_line_of, block_line_of, turned_by, keyword_by, count_line_of, tree_head_at, begun_as, begun_by, may_fill, stage_after_filled, nearly_longest, with_digit_of, spelled_by, behind_number_by, number_by, moved_by}
 use Rattle.cert_scan.specs.Scans.{shape_by}
 use Rattle.cert_scan.specs.Given.{IsBegun}
 use Rattle.cert_scan.proofs.StagesAt.{stage_at, NamesNodes, tree_at}
 use Rattle.cert_scan.proofs.Described.{stage_of, word_of, Are, Described, OutcomeAt}
+use Rattle.cert_scan.proofs.ListOutcomes.{empty_wanted, second_only, open_behind}
 use Rattle.cert_scan.proofs.Outcomes.{outcome}
 use Rattle.cert_scan.proofs.Inline.{Leaves, taken_leaves, keyword_letter}
 use Rattle.cert_scan.specs.declared.items.Item.{Item}
-use Rattle.cert_scan.specs.declared.items.Item.TheVariants.{Empty as empty_item, End as end_item}
+use Rattle.cert_scan.specs.declared.items.Item.TheVariants.{Empty as empty_item, Count as count_item, End as end_item}
 use Rattle.cert_scan.specs.declared.bytes.Position.{Position}
 use Rattle.cert_scan.specs.declared.bytes.Position.TheVariants.{Start, Number, Keyword, Spoiled, Failed}
 use Rattle.cert_scan.specs.declared.heads.Head.{Head}
-use Rattle.cert_scan.specs.declared.heads.Head.TheVariants.{VersionLine, SizeLine, CostLine, BoundLine, HubsLine, RouteLine, CutsLine, CutLine, DualLine, DualsLine, NodesLine, BranchLine, LeafLine, EmptyLine, EndLine}
+use Rattle.cert_scan.specs.declared.heads.Head.TheVariants.{VersionLine, SizeLine, CostLine, BoundLine, HubsLine, RouteLine, CutsLine, CutLine, DualLine, DualsLine, NodesLine, BranchLine, LeafLine, EmptyLine, BlockLine, CountLine, EndLine}
 use Rattle.cert_scan.specs.declared.places.Place.{Place}
-use Rattle.cert_scan.specs.declared.places.Place.TheVariants.{VersionNumber, NodeCount, CandidateCount, CostAmount, BoundAmount, HubNode, RouteFrom, RouteTo, RouteFirst, RouteLast, CutCount, CutNumber, CutPart, DualFrom, DualTo, RunFrom, RunTo, RunLength, DualPrice, ValueNode, ValueAmount, LineCount, BranchNode, Denominator, WeightCut, WeightAmount}
+use Rattle.cert_scan.specs.declared.places.Place.TheVariants.{VersionNumber, NodeCount, CandidateCount, CostAmount, BoundAmount, HubNode, RouteFrom, RouteTo, RouteFirst, RouteLast, CutCount, CutNumber, CutPart, DualFrom, DualTo, RunFrom, RunTo, RunLength, DualPrice, ValueNode, ValueAmount, LineCount, BranchNode, BlockFrom, BlockTo, Denominator, WeightCut, WeightAmount}
 use Rattle.cert_scan.specs.declared.items.Version.{Version as TextVersion}
-use Rattle.cert_scan.specs.declared.items.Version.TheVariants.{Second}
-use Rattle.cert_scan.specs.declared.stages.DualAt.{DualAt}
+use Rattle.cert_scan.specs.declared.items.Version.TheVariants.{First, Second}
 use Rattle.cert_scan.specs.declared.stages.TreeAt.{TreeAt}
 use Rattle.cert_scan.specs.declared.stages.Shape.{Shape}
 use Rattle.cert_scan.specs.declared.stages.Stage.{Stage}
@@ -105,21 +104,21 @@ head_starts sh NodesLine known byte bytes given s t g = number_starts sh Nodes L
 head_starts sh (BranchLine d) known byte bytes given s t g = number_starts sh (Tree d) (BranchNode d) byte bytes given (λ e. cc) s refl t no_numbers g
 head_starts sh (LeafLine d) known byte bytes given s t g = number_starts sh (Tree d) (Denominator d) byte bytes given (λ e. cc) s refl t no_numbers g
 head_starts sh (EmptyLine d) known byte bytes given s t g = bare_spoils sh (Tree d) byte bytes given (λ e. cc) s g
+head_starts sh (BlockLine d) known byte bytes given s t g = number_starts sh (Tree d) (BlockFrom d) byte bytes given (λ e. cc) s refl t (record { are = no_numbers; second = known }) g
+head_starts sh (CountLine d) known byte bytes given s t g = bare_spoils sh (Tree d) byte bytes given (λ e. cc) s g
 head_starts sh EndLine known byte bytes given s t g = bare_spoils sh End byte bytes given (λ e. cc) s g
 
 abbrev HeadEnds : Shape → Head → Type 0
-HeadEnds sh head = (byte : ℕ) (bytes : List ℕ) (given : List Item) → byte ≡ 10 → bytes ≡ keyword_of head ++ 10 ∷ [] → given ≡ []
+HeadEnds sh head = HasHead sh head → (byte : ℕ) (bytes : List ℕ) (given : List Item) → byte ≡ 10 → bytes ≡ keyword_of head ++ 10 ∷ [] → given ≡ []
     → After sh (stage_of_head head) byte bytes given (bare_by head)
 
 bad_head : (sh : Shape) (stage : Stage) (byte : ℕ) (bytes : List ℕ) (given : List Item) → byte ≡ 10 → given ≡ [] → After sh stage byte bytes given (refusal true)
 bad_head sh stage byte bytes given feed none = is_bad sh stage byte bytes given feed (subst (IsBegun (stage_at sh stage)) (sym none) (begun_none sh stage))
 
-empty_wanted : (sh : Shape) (t : TreeAt) → may_fill t ≡ true → Wants (stage_at sh (Tree t)) (says_tree no_hub)
-empty_wanted sh t room = (wants_decides (stage_at sh (Tree t)) (says_tree no_hub)).0 room
-
+-- a line of the tree that is only a keyword, and fills a place
 empty_ends : (sh : Shape) (t : TreeAt) → HeadEnds sh (EmptyLine t)
 unfolding line_text
-empty_ends sh t byte bytes given feed text none =
+empty_ends sh t known byte bytes given feed text none =
     cond_both (may_fill t) (move (Start (stage_after_filled t)) (Some empty_item)) (refusal true) (After sh (Tree t) byte bytes given)
     (λ room. record {
       feed = feed;
@@ -131,9 +130,23 @@ empty_ends sh t byte bytes given feed text none =
     })
     (λ full. bad_head sh (Tree t) byte bytes given feed none)
 
+count_ends : (sh : Shape) (t : TreeAt) → HeadEnds sh (CountLine t)
+unfolding line_text
+count_ends sh t second byte bytes given feed text none =
+    cond_both (may_fill t) (move (Start (stage_after_filled t)) (Some count_item)) (refusal true) (After sh (Tree t) byte bytes given)
+    (λ room. record {
+      feed = feed;
+      line = says_tree no_count;
+      wanted = (tt, second_only sh second, open_behind sh t room);
+      text = text;
+      parts = ap (λ g. g ++ count_item ∷ []) none;
+      behind = tree_at sh (t.places - 1) (t.left - 1);
+    })
+    (λ full. bad_head sh (Tree t) byte bytes given feed none)
+
 end_ends : (sh : Shape) → HeadEnds sh EndLine
 unfolding line_text
-end_ends sh byte bytes given feed text none = record {
+end_ends sh known byte bytes given feed text none = record {
   feed = feed;
   line = says_end;
   wanted = tt;
@@ -143,21 +156,23 @@ end_ends sh byte bytes given feed text none = record {
 }
 
 head_ends : (sh : Shape) (head : Head) → HeadEnds sh head
-head_ends sh (EmptyLine d) byte bytes given f t g = empty_ends sh d byte bytes given f t g
-head_ends sh EndLine byte bytes given f t g = end_ends sh byte bytes given f t g
-head_ends sh VersionLine byte bytes given f t g = bad_head sh Version byte bytes given f g
-head_ends sh SizeLine byte bytes given f t g = bad_head sh Size byte bytes given f g
-head_ends sh CostLine byte bytes given f t g = bad_head sh Cost byte bytes given f g
-head_ends sh BoundLine byte bytes given f t g = bad_head sh Bound byte bytes given f g
-head_ends sh HubsLine byte bytes given f t g = bad_head sh Hubs byte bytes given f g
-head_ends sh (RouteLine c) byte bytes given f t g = bad_head sh (Route c) byte bytes given f g
-head_ends sh CutsLine byte bytes given f t g = bad_head sh Cuts byte bytes given f g
-head_ends sh (CutLine all before) byte bytes given f t g = bad_head sh (Cut all before) byte bytes given f g
-head_ends sh (DualLine d) byte bytes given f t g = bad_head sh (Dual d) byte bytes given f g
-head_ends sh (DualsLine d) byte bytes given f t g = bad_head sh (Dual d) byte bytes given f g
-head_ends sh NodesLine byte bytes given f t g = bad_head sh Nodes byte bytes given f g
-head_ends sh (BranchLine d) byte bytes given f t g = bad_head sh (Tree d) byte bytes given f g
-head_ends sh (LeafLine d) byte bytes given f t g = bad_head sh (Tree d) byte bytes given f g
+head_ends sh (EmptyLine d) known byte bytes given f t g = empty_ends sh d known byte bytes given f t g
+head_ends sh (CountLine d) known byte bytes given f t g = count_ends sh d known byte bytes given f t g
+head_ends sh EndLine known byte bytes given f t g = end_ends sh known byte bytes given f t g
+head_ends sh VersionLine known byte bytes given f t g = bad_head sh Version byte bytes given f g
+head_ends sh SizeLine known byte bytes given f t g = bad_head sh Size byte bytes given f g
+head_ends sh CostLine known byte bytes given f t g = bad_head sh Cost byte bytes given f g
+head_ends sh BoundLine known byte bytes given f t g = bad_head sh Bound byte bytes given f g
+head_ends sh HubsLine known byte bytes given f t g = bad_head sh Hubs byte bytes given f g
+head_ends sh (RouteLine c) known byte bytes given f t g = bad_head sh (Route c) byte bytes given f g
+head_ends sh CutsLine known byte bytes given f t g = bad_head sh Cuts byte bytes given f g
+head_ends sh (CutLine all before) known byte bytes given f t g = bad_head sh (Cut all before) byte bytes given f g
+head_ends sh (DualLine d) known byte bytes given f t g = bad_head sh (Dual d) byte bytes given f g
+head_ends sh (DualsLine d) known byte bytes given f t g = bad_head sh (Dual d) byte bytes given f g
+head_ends sh NodesLine known byte bytes given f t g = bad_head sh Nodes byte bytes given f g
+head_ends sh (BranchLine d) known byte bytes given f t g = bad_head sh (Tree d) byte bytes given f g
+head_ends sh (LeafLine d) known byte bytes given f t g = bad_head sh (Tree d) byte bytes given f g
+head_ends sh (BlockLine d) known byte bytes given f t g = bad_head sh (Tree d) byte bytes given f g
 
 head_some : (head : Head) → stage_of_head head ≡ Nothing → ⊥
 head_some VersionLine e = cc
@@ -174,6 +189,8 @@ head_some NodesLine e = cc
 head_some (BranchLine d) e = cc
 head_some (LeafLine d) e = cc
 head_some (EmptyLine d) e = cc
+head_some (BlockLine d) e = cc
+head_some (CountLine d) e = cc
 head_some EndLine e = cc
 
 behind_keyword : (sh : Shape) (head : Head) (byte : ℕ) (bytes : List ℕ) (given : List Item) → HasHead sh head → bytes ≡ keyword_of head → given ≡ []
@@ -184,7 +201,7 @@ behind_keyword sh head byte bytes given known text none =
     head_starts sh head known byte (bytes ++ byte ∷ []) given space (λ i. text i ++ space i ∷ []) none))
     (λ other. cond_both (nat_eq byte 10) _ _ (After sh (stage_of_head head) byte (bytes ++ byte ∷ []) given)
     (λ e. (let feed = eqb-true byte 10 e in
-    head_ends sh head byte (bytes ++ byte ∷ []) given feed (λ i. text i ++ feed i ∷ []) none))
+    head_ends sh head known byte (bytes ++ byte ∷ []) given feed (λ i. text i ++ feed i ∷ []) none))
     (λ plain. is_spoiled sh (stage_of_head head) byte (bytes ++ byte ∷ []) given (head_some head) plain
     (subst (IsBegun (stage_at sh (stage_of_head head))) (sym none) (begun_none sh (stage_of_head head)))))
 
@@ -197,45 +214,57 @@ unmatched sh head matched byte bytes given h =
     (λ e. (let all = ltb-false matched (length (keyword_of head)) e in
     behind_keyword sh head byte bytes given h.known (h.text ∙ take_all matched (keyword_of head) all) h.given_none))
 
--- a line of one dual turns out to be of several
-record Duals (version : TextVersion) (head other : Head) : Type 0 where
-  at : DualAt
-  one : DualLine at ≡ head
-  several : DualsLine at ≡ other
-  second : version ≡ Second
+-- a line turns out to be another one of its stage, by the byte behind so many letters
+record Turned (sh : Shape) (head other : Head) (matched byte : ℕ) : Type 0 where
+  stage : stage_of_head other ≡ stage_of_head head
+  known : HasHead sh other
+  few : matched + 1 ≤ length (keyword_of other)
+  word : take matched (keyword_of head) ++ byte ∷ [] ≡ take (matched + 1) (keyword_of other)
+  no_feed : nat_eq byte 10 ≡ false
 
-duals_are : (version : TextVersion) (head other : Head) → duals_line_of version head ≡ Some other → Duals version head other
-duals_are Second (DualLine d) other e = record { at = d; one = refl; several = same_Some (DualsLine d) other e; second = refl }
-duals_are version head other e = absurd (none-some other e)
+duals_turned : (sh : Shape) (version : TextVersion) (head other : Head) (matched byte : ℕ) → sh.version ≡ version → byte ≡ 115 → matched ≡ 4 → duals_line_of version head ≡ Some other
+    → Turned sh head other matched byte
+duals_turned sh Second (DualLine d) other matched byte second letter four e =
+    let there : Turned sh (DualLine d) (DualsLine d) 4 115 = record { stage = refl; known = second; few = omega arith; word = refl; no_feed = refl } in
+    subst (λ o. Turned sh (DualLine d) o matched byte) (same_Some (DualsLine d) other e)
+    (subst (λ m. Turned sh (DualLine d) (DualsLine d) m byte) (sym four) (subst (λ b. Turned sh (DualLine d) (DualsLine d) 4 b) (sym letter) there))
+duals_turned sh version head other matched byte is letter four e = absurd (none-some other e)
 
-duals_begin : (sh : Shape) (d : DualAt) (byte : ℕ) (bytes : List ℕ) (given : List Item) → sh.version ≡ Second → byte ≡ 115 → KeywordIs sh (Dual d) (DualLine d) 4 bytes given
-    → After sh (Dual d) byte (bytes ++ byte ∷ []) given (move (Keyword (DualsLine d) 5) None)
-duals_begin sh d byte bytes given second letter h = record {
-  no_feed = ap (λ b. nat_eq b 10) letter;
-  some = λ e. cc;
-  same = refl;
-  here = record {
-    stage_is = refl;
-    known = second;
-    few = omega arith;
-    text = λ i. h.text i ++ letter i ∷ [];
-    given_none = append-nil given ∙ h.given_none;
-  };
-}
+block_turned : (sh : Shape) (version : TextVersion) (head other : Head) (matched byte : ℕ) → sh.version ≡ version → byte ≡ 108 → matched ≡ 1 → block_line_of version head ≡ Some other
+    → Turned sh head other matched byte
+block_turned sh Second (BranchLine t) other matched byte second letter one e =
+    let there : Turned sh (BranchLine t) (BlockLine t) 1 108 = record { stage = refl; known = second; few = omega arith; word = refl; no_feed = refl } in
+    subst (λ o. Turned sh (BranchLine t) o matched byte) (same_Some (BlockLine t) other e)
+    (subst (λ m. Turned sh (BranchLine t) (BlockLine t) m byte) (sym one) (subst (λ b. Turned sh (BranchLine t) (BlockLine t) 1 b) (sym letter) there))
+block_turned sh version head other matched byte is letter one e = absurd (none-some other e)
+
+turned_is : (sh : Shape) (head other : Head) (matched byte : ℕ) → turned_by sh.version head matched byte ≡ Some other → Turned sh head other matched byte
+turned_is sh head other matched byte e =
+    by_test (nat_eq byte 115 && nat_eq matched 4)
+    (λ duals. (let k = and_parts (nat_eq byte 115) (nat_eq matched 4) duals in
+    duals_turned sh sh.version head other matched byte refl (eqb-true byte 115 k.0) (eqb-true matched 4 k.1)
+    (sym (cond-true (nat_eq byte 115 && nat_eq matched 4) _ _ duals) ∙ e)))
+    (λ no. (let block = cond_option (nat_eq byte 108 && nat_eq matched 1) (block_line_of sh.version head) other (sym (cond-false (nat_eq byte 115 && nat_eq matched 4) _ _ no) ∙ e) in
+    let k = and_parts (nat_eq byte 108) (nat_eq matched 1) block.0 in
+    block_turned sh sh.version head other matched byte refl (eqb-true byte 108 k.0) (eqb-true matched 1 k.1) block.1))
 
 turned : (sh : Shape) (head : Head) (matched byte : ℕ) (bytes : List ℕ) (given : List Item) (other : Option Head) → KeywordIs sh (stage_of_head head) head matched bytes given
     → turned_by sh.version head matched byte ≡ other → After sh (stage_of_head head) byte (bytes ++ byte ∷ []) given (turned_or other head matched byte)
 turned sh head matched byte bytes given None h e = unmatched sh head matched byte bytes given h
 turned sh head matched byte bytes given (Some other) h e =
-    let k = cond_option (nat_eq byte 115 && nat_eq matched 4) (duals_line_of sh.version head) other e in
-    let tests = and_parts (nat_eq byte 115) (nat_eq matched 4) k.0 in
-    let duals = duals_are sh.version head other k.1 in
-    let four : 4 ≡ matched = sym (eqb-true matched 4 tests.1) in
-    let P : Head → Head → ℕ → Type 0 = λ one several m. After sh (stage_of_head one) byte (bytes ++ byte ∷ []) given (move (Keyword several (m + 1)) None) in
-    let K : Head → ℕ → Type 0 = λ one m. KeywordIs sh (stage_of_head one) one m bytes given in
-    let there : KeywordIs sh (Dual duals.at) (DualLine duals.at) 4 bytes given = subst (λ one. K one 4) (sym duals.one) (subst (λ m. K head m) (sym four) h) in
-    subst (λ m. P head other m) four (subst (λ one. P one other 4) duals.one (subst (λ several. P (DualLine duals.at) several 4) duals.several
-    (duals_begin sh duals.at byte bytes given duals.second (eqb-true byte 115 tests.0) there)))
+    let is = turned_is sh head other matched byte e in
+    record {
+      no_feed = is.no_feed;
+      some = head_some head;
+      same = refl;
+      here = record {
+        stage_is = is.stage;
+        known = is.known;
+        few = is.few;
+        text = ap (λ b. b ++ byte ∷ []) h.text ∙ is.word;
+        given_none = append-nil given ∙ h.given_none;
+      };
+    }
 
 keyword_moves : (sh : Shape) (head : Head) (matched byte : ℕ) (bytes : List ℕ) (given : List Item) → KeywordIs sh (stage_of_head head) head matched bytes given
     → After sh (stage_of_head head) byte (bytes ++ byte ∷ []) given (keyword_by sh.version head matched byte)
@@ -326,6 +355,8 @@ place_some (ValueNode d before) e = cc
 place_some (ValueAmount d number) e = cc
 place_some LineCount e = cc
 place_some (BranchNode t) e = cc
+place_some (BlockFrom t) e = cc
+place_some (BlockTo t i) e = cc
 place_some (Denominator t) e = cc
 place_some (WeightCut t before) e = cc
 place_some (WeightAmount t number) e = cc
@@ -408,13 +439,21 @@ head_begins : (sh : Shape) (head : Head) → HasHead sh head → (byte : ℕ) (b
 head_begins sh head known byte bytes given text none =
     keyword_moves sh head 0 byte bytes given (record { stage_is = refl; known = known; few = omega arith; text = text; given_none = none })
 
-tree_begins : (sh : Shape) (t : TreeAt) (byte : ℕ) (bytes : List ℕ) (given : List Item) → bytes ≡ [] → given ≡ [] → After sh (Tree t) byte (bytes ++ byte ∷ []) given (begun_as sh.version (tree_head_at t byte) byte)
+count_begins : (sh : Shape) (version : TextVersion) (t : TreeAt) (byte : ℕ) (bytes : List ℕ) (given : List Item) → sh.version ≡ version → bytes ≡ [] → given ≡ []
+    → After sh (Tree t) byte (bytes ++ byte ∷ []) given (begun_as version (count_line_of version t) byte)
+count_begins sh First t byte bytes given is text none = spoils sh (Tree t) byte (bytes ++ byte ∷ []) given (λ e. cc) (inl none)
+count_begins sh Second t byte bytes given is text none =
+    subst (λ version. After sh (Tree t) byte (bytes ++ byte ∷ []) given (keyword_by version (CountLine t) 0 byte)) is
+    (head_begins sh (CountLine t) is byte bytes given text none)
+
+tree_begins : (sh : Shape) (t : TreeAt) (byte : ℕ) (bytes : List ℕ) (given : List Item) → bytes ≡ [] → given ≡ [] → After sh (Tree t) byte (bytes ++ byte ∷ []) given (begun_as sh.version (tree_head_at sh.version t byte) byte)
 tree_begins sh t byte bytes given text none =
     let P : Option Head → Type 0 = λ head. After sh (Tree t) byte (bytes ++ byte ∷ []) given (begun_as sh.version head byte) in
     cond_both (nat_eq byte 98) _ _ P (λ e. head_begins sh (BranchLine t) tt byte bytes given text none)
     (λ a. cond_both (nat_eq byte 108) _ _ P (λ e. head_begins sh (LeafLine t) tt byte bytes given text none)
     (λ b. cond_both (nat_eq byte 101) _ _ P (λ e. head_begins sh (EmptyLine t) tt byte bytes given text none)
-    (λ c. spoils sh (Tree t) byte (bytes ++ byte ∷ []) given (λ e. cc) (inl none))))
+    (λ c. cond_both (nat_eq byte 99) _ _ P (λ e. count_begins sh sh.version t byte bytes given refl text none)
+    (λ d. spoils sh (Tree t) byte (bytes ++ byte ∷ []) given (λ e. cc) (inl none)))))
 
 begin_moves : (sh : Shape) (stage : Stage) (byte : ℕ) (bytes : List ℕ) (given : List Item) → bytes ≡ [] → given ≡ [] → After sh stage byte (bytes ++ byte ∷ []) given (begun_by sh.version stage byte)
 begin_moves sh Version byte bytes given t g = head_begins sh VersionLine tt byte bytes given t g

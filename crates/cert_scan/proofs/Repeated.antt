@@ -15,7 +15,7 @@ use Rattle.cert_scan.specs.Repeats.{DualSoFar, with_price, with_value, left_behi
 use Rattle.cert_scan.specs.declared.items.Version.{Version}
 use Rattle.cert_scan.specs.declared.items.Version.TheVariants.{First, Second}
 use Rattle.cert_scan.specs.declared.items.Item.{Item}
-use Rattle.cert_scan.specs.declared.items.Item.TheVariants.{Version as version_item, Size, Cost, Bound, Hub, Route, Cuts, Cut, Nodes, Branch, Leaf, LeafPair, Empty, End}
+use Rattle.cert_scan.specs.declared.items.Item.TheVariants.{Version as version_item, Size, Cost, Bound, Hub, Route, Cuts, Cut, Nodes, Branch, Leaf, LeafPair, Empty, Block, Count, End}
 use Rattle.cert_scan.specs.declared.stages.Shape.{Shape}
 
 -- what is held after these items
@@ -214,8 +214,8 @@ line_repeats sh so_far (says_tree (branch_on k)) = (leaves sh so_far (Branch k) 
 line_repeats sh so_far (says_tree (leaf_of denom weights)) =
     (leave_more sh so_far (Leaf denom (none_left weights)) (weight_parts weights) (record { ends = refl; same = λ s. refl }) (leave_weights sh so_far weights)).quiet
 line_repeats sh so_far (says_tree no_hub) = (leaves sh so_far Empty refl (λ s. refl)).quiet
-line_repeats sh so_far (says_tree (no_route commodity)) = refl
-line_repeats sh so_far (says_tree no_count) = refl
+line_repeats sh so_far (says_tree (no_route commodity)) = (leaves sh so_far (Block commodity.0 commodity.1) refl (λ s. refl)).quiet
+line_repeats sh so_far (says_tree no_count) = (leaves sh so_far Count refl (λ s. refl)).quiet
 line_repeats sh so_far says_end = (leaves sh so_far End refl (λ s. refl)).quiet
 
 -- behind a dual of the second version it is held

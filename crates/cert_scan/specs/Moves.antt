@@ -6,7 +6,7 @@ use Rattle.cert_scan.specs.Versions.{version_of}
 use Rattle.cert_scan.specs.declared.items.Version.{Version as TextVersion}
 use Rattle.cert_scan.specs.declared.items.Version.TheVariants.{First, Second}
 use Rattle.cert_scan.specs.declared.items.Item.{Item}
-use Rattle.cert_scan.specs.declared.items.Item.TheVariants.{Version as version_item, Size as size_item, Cost as cost_item, Bound as bound_item, Hub as hub_item, Route as route_item, Cuts as cuts_item, Cut as cut_item, Dual as dual_item, DualPair as pair_item, Nodes as nodes_item, Branch as branch_item, Leaf as leaf_item, LeafPair as weight_item, Empty as empty_item, End as end_item}
+use Rattle.cert_scan.specs.declared.items.Item.TheVariants.{Version as version_item, Size as size_item, Cost as cost_item, Bound as bound_item, Hub as hub_item, Route as route_item, Cuts as cuts_item, Cut as cut_item, Dual as dual_item, DualPair as pair_item, Nodes as nodes_item, Branch as branch_item, Leaf as leaf_item, LeafPair as weight_item, Empty as empty_item, Block as block_item, Count as count_item, End as end_item}
 use Rattle.cert_scan.specs.declared.stages.Commodity.{Commodity}
 use Rattle.cert_scan.specs.declared.stages.DualAt.{DualAt}
 use Rattle.cert_scan.specs.declared.stages.Run.{Run}
@@ -15,9 +15,9 @@ use Rattle.cert_scan.specs.declared.stages.TreeAt.{TreeAt}
 use Rattle.cert_scan.specs.declared.stages.Stage.{Stage}
 use Rattle.cert_scan.specs.declared.stages.Stage.TheVariants.{Version, Size, Cost, Bound, Hubs, Route, Cuts, Cut, Dual, Nodes, Tree, End, Nothing}
 use Rattle.cert_scan.specs.declared.heads.Head.{Head}
-use Rattle.cert_scan.specs.declared.heads.Head.TheVariants.{VersionLine, SizeLine, CostLine, BoundLine, HubsLine, RouteLine, CutsLine, CutLine, DualLine, DualsLine, NodesLine, BranchLine, LeafLine, EmptyLine, EndLine}
+use Rattle.cert_scan.specs.declared.heads.Head.TheVariants.{VersionLine, SizeLine, CostLine, BoundLine, HubsLine, RouteLine, CutsLine, CutLine, DualLine, DualsLine, NodesLine, BranchLine, LeafLine, EmptyLine, BlockLine, CountLine, EndLine}
 use Rattle.cert_scan.specs.declared.places.Place.{Place}
-use Rattle.cert_scan.specs.declared.places.Place.TheVariants.{VersionNumber, NodeCount, CandidateCount, CostAmount, BoundAmount, HubNode, RouteFrom, RouteTo, RouteFirst, RouteLast, CutCount, CutNumber, CutPart, DualFrom, DualTo, RunFrom, RunTo, RunLength, DualPrice, ValueNode, ValueAmount, LineCount, BranchNode, Denominator, WeightCut, WeightAmount}
+use Rattle.cert_scan.specs.declared.places.Place.TheVariants.{VersionNumber, NodeCount, CandidateCount, CostAmount, BoundAmount, HubNode, RouteFrom, RouteTo, RouteFirst, RouteLast, CutCount, CutNumber, CutPart, DualFrom, DualTo, RunFrom, RunTo, RunLength, DualPrice, ValueNode, ValueAmount, LineCount, BranchNode, BlockFrom, BlockTo, Denominator, WeightCut, WeightAmount}
 use Rattle.cert_scan.specs.declared.bytes.Position.{Position}
 use Rattle.cert_scan.specs.declared.bytes.Position.TheVariants.{Start, Keyword, Number, Spoiled, Failed}
 use Rattle.cert_scan.specs.declared.bytes.Move.{Move}
@@ -73,27 +73,33 @@ may_fill at = nat_le (at.places - 1) (at.left - 1) && (not (nat_eq (at.places - 
 
 -- ---- the first word of a line
 
+-- a count, which the second version has
+abbrev pub count_line_of : TextVersion → TreeAt → Option Head
+count_line_of First at = None
+count_line_of Second at = Some (CountLine at)
+
 -- what the line of a tree is to be that begins with this byte
-abbrev pub tree_head_at : TreeAt → ℕ → Option Head
-tree_head_at at byte =
+abbrev pub tree_head_at : TextVersion → TreeAt → ℕ → Option Head
+tree_head_at version at byte =
     if nat_eq byte 98 then Some (BranchLine at)
-    else (if nat_eq byte 108 then Some (LeafLine at) else (if nat_eq byte 101 then Some (EmptyLine at) else None))
+    else (if nat_eq byte 108 then Some (LeafLine at)
+    else (if nat_eq byte 101 then Some (EmptyLine at) else (if nat_eq byte 99 then count_line_of version at else None)))
 
 -- what the line is to be that begins with this byte
-abbrev pub head_at : Stage → ℕ → Option Head
-head_at Version byte = Some VersionLine
-head_at Size byte = Some SizeLine
-head_at Cost byte = Some CostLine
-head_at Bound byte = Some BoundLine
-head_at Hubs byte = Some HubsLine
-head_at (Route c) byte = Some (RouteLine c)
-head_at Cuts byte = Some CutsLine
-head_at (Cut all before) byte = Some (CutLine all before)
-head_at (Dual at) byte = Some (DualLine at)
-head_at Nodes byte = Some NodesLine
-head_at (Tree at) byte = tree_head_at at byte
-head_at End byte = Some EndLine
-head_at Nothing byte = None
+abbrev pub head_at : TextVersion → Stage → ℕ → Option Head
+head_at version Version byte = Some VersionLine
+head_at version Size byte = Some SizeLine
+head_at version Cost byte = Some CostLine
+head_at version Bound byte = Some BoundLine
+head_at version Hubs byte = Some HubsLine
+head_at version (Route c) byte = Some (RouteLine c)
+head_at version Cuts byte = Some CutsLine
+head_at version (Cut all before) byte = Some (CutLine all before)
+head_at version (Dual at) byte = Some (DualLine at)
+head_at version Nodes byte = Some NodesLine
+head_at version (Tree at) byte = tree_head_at version at byte
+head_at version End byte = Some EndLine
+head_at version Nothing byte = None
 
 -- the first word of a line, and where its first number stands, if it has one
 abbrev pub form_of : Head → List ℕ × Option Place
@@ -111,6 +117,8 @@ form_of NodesLine = (codes "nodes", Some LineCount)
 form_of (BranchLine at) = (codes "branch", Some (BranchNode at))
 form_of (LeafLine at) = (codes "leaf", Some (Denominator at))
 form_of (EmptyLine at) = (codes "empty", None)
+form_of (BlockLine at) = (codes "block", Some (BlockFrom at))
+form_of (CountLine at) = (codes "count", None)
 form_of EndLine = (codes "end", None)
 
 abbrev pub keyword_of : Head → List ℕ
@@ -124,9 +132,16 @@ abbrev pub duals_line_of : TextVersion → Head → Option Head
 duals_line_of Second (DualLine at) = Some (DualsLine at)
 duals_line_of version head = None
 
+-- the block of a commodity, which the second version has
+abbrev pub block_line_of : TextVersion → Head → Option Head
+block_line_of Second (BranchLine at) = Some (BlockLine at)
+block_line_of version head = None
+
 -- another line, whose first word begins with as many letters of this one's and goes on with the byte
 abbrev pub turned_by : TextVersion → Head → ℕ → ℕ → Option Head
-turned_by version head matched byte = if nat_eq byte 115 && nat_eq matched 4 then duals_line_of version head else None
+turned_by version head matched byte =
+    if nat_eq byte 115 && nat_eq matched 4 then duals_line_of version head
+    else (if nat_eq byte 108 && nat_eq matched 1 then block_line_of version head else None)
 
 -- ---- moves
 
@@ -222,6 +237,10 @@ taken_by s LineCount value last =
 taken_by s (BranchNode at) value last =
     allowed (within value s.n && nat_lt at.places (at.left - 1)) last
     (whole_by last (Some (branch_item (value - 1))) (stage_after_tree (at.places + 1) (at.left - 1)))
+taken_by s (BlockFrom at) value last = allowed (within value s.n) last (more_by last (BlockTo at (value - 1)))
+taken_by s (BlockTo at i) value last =
+    allowed (within value s.n && may_fill at) last
+    (whole_by last (Some (block_item i (value - 1))) (stage_after_filled at))
 taken_by s (Denominator at) value last =
     allowed (within value most_denominator && may_fill at) last
     (open_by last (leaf_item value last) (WeightCut at 0) (stage_after_filled at))
@@ -242,9 +261,14 @@ abbrev pub first_number_by : Option Place → Move
 first_number_by (Some place) = move (Number place None) None
 first_number_by None = move Spoiled None
 
+-- a line of the tree that fills a place ends behind its keyword, and gives this
+abbrev pub bare_filled_by : TreeAt → Item → Move
+bare_filled_by at item = allowed (may_fill at) true (move (Start (stage_after_filled at)) (Some item))
+
 -- a line with no number ends behind its keyword
 abbrev pub bare_by : Head → Move
-bare_by (EmptyLine at) = allowed (may_fill at) true (move (Start (stage_after_filled at)) (Some empty_item))
+bare_by (EmptyLine at) = bare_filled_by at empty_item
+bare_by (CountLine at) = bare_filled_by at count_item
 bare_by EndLine = move (Start Nothing) (Some end_item)
 bare_by head = refusal true
 
@@ -279,7 +303,7 @@ begun_as version None byte = spoiled_by byte
 -- the first byte of a line
 abbrev pub begun_by : TextVersion → Stage → ℕ → Move
 begun_by version Nothing byte = refusal true
-begun_by version stage byte = begun_as version (head_at stage byte) byte
+begun_by version stage byte = begun_as version (head_at version stage byte) byte
 
 -- a number of less than 33 digits
 abbrev pub nearly_longest : ℕ

@@ -6,7 +6,7 @@ use Rattle.cert_spec.specs.Lines.{Item as Line, says_version, says_size, says_co
 use Rattle.cert_spec.specs.Text.{certificate_items}
 use Rattle.cert_scan.specs.Versions.{version_of}
 use Rattle.cert_scan.specs.declared.items.Item.{Item}
-use Rattle.cert_scan.specs.declared.items.Item.TheVariants.{Version, Size, Cost, Bound, Hub, Route, Cuts, Cut, Dual, DualPair, Nodes, Branch, Leaf, LeafPair, Empty, End}
+use Rattle.cert_scan.specs.declared.items.Item.TheVariants.{Version, Size, Cost, Bound, Hub, Route, Cuts, Cut, Dual, DualPair, Nodes, Branch, Leaf, LeafPair, Empty, Block, Count, End}
 
 -- nothing is left of a list
 abbrev pub none_left : {X : Type 0} → List X → Bool
@@ -33,8 +33,8 @@ abbrev pub tree_parts : TreeLine → List Item
 tree_parts (branch_on k) = Branch k ∷ []
 tree_parts (leaf_of denom weights) = Leaf denom (none_left weights) ∷ weight_parts weights
 tree_parts no_hub = Empty ∷ []
-tree_parts (no_route commodity) = []
-tree_parts no_count = []
+tree_parts (no_route commodity) = Block commodity.0 commodity.1 ∷ []
+tree_parts no_count = Count ∷ []
 
 -- what a line gives
 abbrev pub parts_of : Line → List Item

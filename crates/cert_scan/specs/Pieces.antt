@@ -8,7 +8,7 @@ use Rattle.cert_spec.specs.Grammar.{Stage, want_version, Leads}
 use Rattle.cert_scan.specs.Versions.{version_of}
 use Rattle.cert_scan.specs.Parts.{none_left, items_of}
 use Rattle.cert_scan.specs.declared.items.Item.{Item}
-use Rattle.cert_scan.specs.declared.items.Item.TheVariants.{Version, Size, Cost, Bound, Hub, Route, Cuts, Cut, Dual, DualPair, Nodes, Branch, Leaf, LeafPair, Empty, End}
+use Rattle.cert_scan.specs.declared.items.Item.TheVariants.{Version, Size, Cost, Bound, Hub, Route, Cuts, Cut, Dual, DualPair, Nodes, Branch, Leaf, LeafPair, Empty, Block, Count, End}
 
 -- some bytes of a text, and the item that the last of them tells, if it tells one
 pub record Piece : Type 0 where
@@ -66,13 +66,15 @@ told_numbers (says_nodes all) = (all, Some (Nodes all)) ∷ []
 told_numbers (says_tree (branch_on k)) = (k + 1, Some (Branch k)) ∷ []
 told_numbers (says_tree (leaf_of denom weights)) = (denom, Some (Leaf denom (none_left weights))) ∷ told_weights weights
 told_numbers (says_tree no_hub) = []
-told_numbers (says_tree (no_route commodity)) = (commodity.0 + 1, None) ∷ (commodity.1 + 1, None) ∷ []
+told_numbers (says_tree (no_route commodity)) =
+    (commodity.0 + 1, None) ∷ (commodity.1 + 1, Some (Block commodity.0 commodity.1)) ∷ []
 told_numbers (says_tree no_count) = []
 told_numbers says_end = []
 
 -- a line that has no number is told by its keyword
 abbrev pub told_keyword : Line → Option Item
 told_keyword (says_tree no_hub) = Some Empty
+told_keyword (says_tree no_count) = Some Count
 told_keyword says_end = Some End
 told_keyword line = None
 

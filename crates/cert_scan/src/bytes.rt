@@ -1,7 +1,6 @@
 //! What one byte makes of a line.
 ghost use Rattle.std.specs.Prelude.{◌≡◌, ◌-◌, ◌≤◌, true, None};
 ghost use Rattle.cert_scan.specs.declared.bytes.Position.TheVariants.{Keyword};
-ghost use Rattle.cert_scan.specs.declared.heads.Head.TheVariants.{EmptyLine};
 ghost use Rattle.cert_scan.specs.Moves.{
   move,
   refusal,
@@ -9,6 +8,7 @@ ghost use Rattle.cert_scan.specs.Moves.{
   with_digit_of,
   spoiled_by,
   begun_by,
+  bare_filled_by,
   bare_by,
   first_number_by,
   behind_keyword_by,
@@ -80,7 +80,7 @@ fn begin(version: Version, stage: Stage, byte: u8) -> Move
     if let Stage::Nothing = stage {
         return fail();
     }
-    match head_of(stage, byte) {
+    match head_of(version, stage, byte) {
         Some(head) => in_keyword(version, head, 0, byte),
         None => spoil(byte),
     }
@@ -141,7 +141,8 @@ fn end_bare(head: Head) -> Move
     ensures { result ≡ bare_by head }
 {
     match head {
-        Head::EmptyLine(at) => end_empty(at),
+        Head::EmptyLine(at) => end_filled(at, Item::Empty),
+        Head::CountLine(at) => end_filled(at, Item::Count),
         Head::EndLine => Move {
             position: Position::Start(Stage::Nothing),
             item: Some(Item::End),
@@ -150,15 +151,16 @@ fn end_bare(head: Head) -> Move
     }
 }
 
-fn end_empty(at: TreeAt) -> Move
-    ensures { result ≡ bare_by (EmptyLine at) }
+// The end of a line that fills a place and has no number.
+fn end_filled(at: TreeAt, item: Item) -> Move
+    ensures { result ≡ bare_filled_by at item }
 {
     if !may_be_filled(at) {
         return fail();
     }
     Move {
         position: Position::Start(after_filled(at)),
-        item: Some(Item::Empty),
+        item: Some(item),
     }
 }
 

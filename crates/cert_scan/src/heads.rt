@@ -1,7 +1,15 @@
 //! The first word of a line, by what the line is.
 ghost use Rattle.std.specs.Prelude.{◌≡◌, ◌+◌, ◌≤◌, ◌⊎◌, length, take};
 ghost use Rattle.cert_scan.specs.Runs.{GoesOn};
-ghost use Rattle.cert_scan.specs.Moves.{head_at, keyword_of, first_place_of, duals_line_of, turned_by};
+ghost use Rattle.cert_scan.specs.Moves.{
+  head_at,
+  count_line_of,
+  keyword_of,
+  first_place_of,
+  duals_line_of,
+  block_line_of,
+  turned_by,
+};
 
 use crate::items::Version;
 use crate::places::Place;
@@ -24,12 +32,14 @@ pub(crate) enum Head {
     BranchLine(TreeAt),
     LeafLine(TreeAt),
     EmptyLine(TreeAt),
+    BlockLine(TreeAt),
+    CountLine(TreeAt),
     EndLine,
 }
 
 // What the line is to be that begins with this byte, if one may.
-pub(crate) fn head_of(stage: Stage, byte: u8) -> Option<Head>
-    ensures { result ≡ head_at stage byte }
+pub(crate) fn head_of(version: Version, stage: Stage, byte: u8) -> Option<Head>
+    ensures { result ≡ head_at version stage byte }
 {
     match stage {
         Stage::Version => Some(Head::VersionLine),
@@ -42,14 +52,14 @@ pub(crate) fn head_of(stage: Stage, byte: u8) -> Option<Head>
         Stage::Cut(all, before) => Some(Head::CutLine(all, before)),
         Stage::Dual(at) => Some(Head::DualLine(at)),
         Stage::Nodes => Some(Head::NodesLine),
-        Stage::Tree(at) => tree_head(at, byte),
+        Stage::Tree(at) => tree_head(version, at, byte),
         Stage::End => Some(Head::EndLine),
         Stage::Nothing => None,
     }
 }
 
-fn tree_head(at: TreeAt, byte: u8) -> Option<Head>
-    ensures { result ≡ head_at (Stage.Tree at) byte }
+fn tree_head(version: Version, at: TreeAt, byte: u8) -> Option<Head>
+    ensures { result ≡ head_at version (Stage.Tree at) byte }
 {
     if byte == b'b' {
         Some(Head::BranchLine(at))
@@ -57,8 +67,20 @@ fn tree_head(at: TreeAt, byte: u8) -> Option<Head>
         Some(Head::LeafLine(at))
     } else if byte == b'e' {
         Some(Head::EmptyLine(at))
+    } else if byte == b'c' {
+        count_line(version, at)
     } else {
         None
+    }
+}
+
+// The first version has no counts.
+fn count_line(version: Version, at: TreeAt) -> Option<Head>
+    ensures { result ≡ count_line_of version at }
+{
+    match version {
+        Version::First => None,
+        Version::Second => Some(Head::CountLine(at)),
     }
 }
 
@@ -82,6 +104,8 @@ pub(crate) fn form(head: Head) -> (&'static [u8], Option<Place>)
         Head::BranchLine(at) => (b"branch", Some(Place::BranchNode(at))),
         Head::LeafLine(at) => (b"leaf", Some(Place::Denominator(at))),
         Head::EmptyLine(_) => (b"empty", None),
+        Head::BlockLine(at) => (b"block", Some(Place::BlockFrom(at))),
+        Head::CountLine(_) => (b"count", None),
         Head::EndLine => (b"end", None),
     }
 }
@@ -112,6 +136,9 @@ pub(crate) fn turned(version: Version, head: Head, matched: usize, byte: u8) -> 
     if byte == b's' && matched == 4 {
         return duals_line(version, head);
     }
+    if byte == b'l' && matched == 1 {
+        return block_line(version, head);
+    }
     None
 }
 
@@ -120,6 +147,15 @@ fn duals_line(version: Version, head: Head) -> Option<Head>
 {
     match (version, head) {
         (Version::Second, Head::DualLine(at)) => Some(Head::DualsLine(at)),
+        _ => None,
+    }
+}
+
+fn block_line(version: Version, head: Head) -> Option<Head>
+    ensures { result ≡ block_line_of version head }
+{
+    match (version, head) {
+        (Version::Second, Head::BranchLine(at)) => Some(Head::BlockLine(at)),
         _ => None,
     }
 }

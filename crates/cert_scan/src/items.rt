@@ -8,7 +8,8 @@ ghost use Rattle.cert_scan.specs.Versions.{version_number};
 pub enum Version {
     /// Each cut has the part 1, and each dual a line of its own.
     First,
-    /// A cut says its part, and equal duals of neighbours of one origin are one line.
+    /// A cut says its part, equal duals of neighbours of one origin are one line, and the tree has lines of blocks and of
+    /// counts.
     Second,
 }
 
@@ -90,6 +91,13 @@ pub enum Item {
     },
     /// A branch in which no candidate can be a hub.
     Empty,
+    /// A branch in which the commodity from `i` to `j` has no route.
+    Block {
+        i: u32,
+        j: u32,
+    },
+    /// A branch in which the wanted number of hubs cannot be had.
+    Count,
     /// The end of the text.
     End,
 }

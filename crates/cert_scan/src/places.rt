@@ -27,6 +27,8 @@ ghost use Rattle.cert_scan.specs.declared.places.Place.TheVariants.{
   ValueAmount,
   LineCount,
   BranchNode,
+  BlockFrom,
+  BlockTo,
   Denominator,
   WeightCut,
   WeightAmount,
@@ -82,6 +84,9 @@ pub(crate) enum Place {
     ValueAmount(Run, u32),
     LineCount,
     BranchNode(TreeAt),
+    BlockFrom(TreeAt),
+    // The first node of the commodity.
+    BlockTo(TreeAt, u32),
     Denominator(TreeAt),
     // The cut before it, 0 for none.
     WeightCut(TreeAt, u128),
@@ -195,6 +200,8 @@ pub(crate) fn take(shape: Shape, place: Place, value: u128, last: bool) -> Move
         Place::ValueAmount(run, number) => take_value(shape, run, number, value, last),
         Place::LineCount => take_line_count(shape, value, last),
         Place::BranchNode(at) => take_branch(shape, at, value, last),
+        Place::BlockFrom(at) => take_block_from(shape, at, value, last),
+        Place::BlockTo(at, i) => take_block_to(shape, at, i, value, last),
         Place::Denominator(at) => take_denominator(shape, at, value, last),
         Place::WeightCut(at, before) => take_weight_cut(shape, at, before, value, last),
         Place::WeightAmount(at, number) => take_weight(shape, at, number, value, last),
@@ -448,6 +455,28 @@ fn take_branch(shape: Shape, at: TreeAt, value: u128, last: bool) -> Move
     }
     let node = Item::Branch(value as u32 - 1);
     whole(last, Some(node), after_tree(at.places + 1, left))
+}
+
+fn take_block_from(shape: Shape, at: TreeAt, value: u128, last: bool) -> Move
+    ensures { result ≡ taken_by shape (BlockFrom at) value last }
+{
+    if value < 1 || value > shape.n as u128 {
+        return refused(last);
+    }
+    more(last, Place::BlockTo(at, value as u32 - 1))
+}
+
+fn take_block_to(shape: Shape, at: TreeAt, i: u32, value: u128, last: bool) -> Move
+    ensures { result ≡ taken_by shape (BlockTo at i) value last }
+{
+    if value < 1 || value > shape.n as u128 || !may_be_filled(at) {
+        return refused(last);
+    }
+    let block = Item::Block {
+        i,
+        j: value as u32 - 1,
+    };
+    whole(last, Some(block), after_filled(at))
 }
 
 fn take_denominator(shape: Shape, at: TreeAt, value: u128, last: bool) -> Move
