@@ -25,6 +25,10 @@ class Problem:
     fixed: list[int]
     candidates: list[int]
     """Nodes from 1."""
+    longest: int | None = None
+    """How long a route may be, in 10^-3, if that is limited."""
+    wanted: int | None = None
+    """How many hubs are wanted, if a number is."""
 
     def route(self, i: int, j: int, k: int, m: int) -> int:
         """What the flow from i to j costs by k first and m last; nodes from 1."""
@@ -32,6 +36,18 @@ class Problem:
         d = self.lengths
         length = collect * d[i - 1][k - 1] + trunk * d[k - 1][m - 1] + deliver * d[m - 1][j - 1]
         return self.flows[i - 1][j - 1] * length
+
+    def allowed(self, i: int, j: int, k: int, m: int) -> bool:
+        """Whether the flow from i to j may go by k first and m last: there is none, or the way is short enough."""
+        d = self.lengths
+        length = d[i - 1][k - 1] + d[k - 1][m - 1] + d[m - 1][j - 1]
+        return self.longest is None or self.flows[i - 1][j - 1] == 0 or length <= self.longest
+
+    def has_room(self, path: dict[int, bool]) -> bool:
+        """Whether as many hubs as are wanted can be had on a path."""
+        inside = sum(path.values())
+        free = len(self.candidates) - len(path)
+        return self.wanted is None or inside <= self.wanted <= inside + free
 
 
 class Bad(Exception):
@@ -126,7 +142,7 @@ def spelled(text: bytes) -> Certificate:
         found.routes.append((lines.number, i, j, *route[2:]))
     for cut in range(1, lines.one(b"cuts", 0, MOST_CUTS) + 1):
         found.cuts.append(read_cut(lines, version, cut, n))
-    read_tree(lines, found, n)
+    read_tree(lines, version, found, n)
     lines.want(lines.next() == [b"end"])
     if lines.at < len(text):
         raise Bad("BadLine", lines.number + 1)
@@ -163,18 +179,21 @@ def read_dual(lines: Lines, version: int, i: int, j: int, n: int) -> Dual:
     return lines.number, i, j, run, numbers[2], lines.pairs(numbers[3:], n, greatest)
 
 
-def read_tree(lines: Lines, found: Certificate, n: int) -> None:
+def read_tree(lines: Lines, version: int, found: Certificate, n: int) -> None:
     """The lines of the tree."""
     left, places = lines.one(b"nodes", 1, MOST_TREE_LINES), 1
+    words = (b"branch", b"leaf", b"empty", b"block", b"count")[: 3 if version == 1 else 5]
     while left:
         word, *rest = lines.next()
-        lines.want(word in (b"branch", b"leaf", b"empty") and all(map(NUMBER.fullmatch, rest)))
+        lines.want(word in words and all(map(NUMBER.fullmatch, rest)))
         numbers = [int(number) for number in rest]
         if word == b"branch":
             lines.want(len(numbers) == 1 and 1 <= numbers[0] <= n)
         elif word == b"leaf":
             lines.want(numbers != [] and 1 <= numbers[0] <= MOST_PARTS)
             lines.pairs(numbers[1:], SHORT, SHORT)
+        elif word == b"block":
+            lines.want(len(numbers) == 2 and all(1 <= number <= n for number in numbers))
         else:
             lines.want(numbers == [])
         left -= 1
@@ -195,8 +214,10 @@ def holds(problem: Problem, found: Certificate) -> None:
     fail_unless(found.size == (n, len(candidates)), "Size", 2)
     fail_unless(found.bound <= found.cost, "BoundOverCost", 4)
     fail_unless(set(found.hubs) <= set(candidates), "Hubs", 5)
-    for line, _, _, k, m in found.routes:
+    fail_unless(problem.wanted in (None, len(found.hubs)), "Number", 5)
+    for line, i, j, k, m in found.routes:
         fail_unless(k in found.hubs and m in found.hubs, "Route", line)
+        fail_unless(problem.allowed(i, j, k, m), "Length", line)
     cost = sum(problem.fixed[k - 1] for k in found.hubs) + sum(problem.route(*route[1:]) for route in found.routes)
     fail_unless(found.cost == cost, "Cost", found.routes[-1][0])
     sums = [sums_of(problem, cut) for cut in found.cuts]
@@ -209,6 +230,11 @@ def holds(problem: Problem, found: Certificate) -> None:
             closed_or_open += [path | {k: False}, path | {k: True}]
         elif word == b"empty":
             fail_unless(all(path.get(k) is False for k in candidates), "Empty", line)
+        elif word == b"block":
+            unclosed = [k for k in candidates if path.get(k) is not False]
+            fail_unless(not any(problem.allowed(*numbers, k, m) for k in unclosed for m in unclosed), "Block", line)
+        elif word == b"count":
+            fail_unless(not problem.has_room(path), "Count", line)
         else:
             try_leaf(problem, found.bound, sums, path, line, numbers)
 
@@ -225,7 +251,8 @@ def sums_of(problem: Problem, cut: tuple[int, list[Dual]]) -> tuple[int, int, di
             for m in values:
                 by_both = values[k] + (values[m] if m != k else 0)
                 for to in range(j, j + run):
-                    fail_unless(price <= part * problem.route(i, to, k, m) + by_both, "Dual", line)
+                    if problem.allowed(i, to, k, m):
+                        fail_unless(price <= part * problem.route(i, to, k, m) + by_both, "Dual", line)
             loads[k] += run * values[k]
     total = sum(run * price for _, _, _, run, price, _ in duals)
     fail_unless(max(total, *loads.values()) <= part * MOST_SUM, "Sum", duals[-1][0])
@@ -240,16 +267,24 @@ def try_leaf(
     line: int,
     numbers: list[int],
 ) -> None:
-    """The four conditions of a leaf."""
+    """The five conditions of a leaf."""
     parts, weights = numbers[0], list(zip(numbers[1::2], numbers[2::2]))
+    fail_unless(problem.has_room(path), "Count", line)
     fail_unless(all(cut <= len(sums) for cut, _ in weights), "CutNumber", line)
     fail_unless(all(weight % sums[cut - 1][0] == 0 for cut, weight in weights), "Multiple", line)
     fail_unless(sum(weight for _, weight in weights) <= parts, "Weight", line)
     shares = [(sums[cut - 1], weight // sums[cut - 1][0]) for cut, weight in weights]
     bound = sum(share * total for (_, total, _), share in shares)
-    for k in problem.candidates:
-        gain = parts * problem.fixed[k - 1] - sum(share * loads[k] for (_, _, loads), share in shares)
-        bound += gain if path.get(k) else min(0, gain) if k not in path else 0
+    gains = {
+        k: parts * problem.fixed[k - 1] - sum(share * loads[k] for (_, _, loads), share in shares)
+        for k in problem.candidates
+    }
+    bound += sum(gains[k] for k in gains if path.get(k))
+    free = sorted(gains[k] for k in gains if k not in path)
+    if problem.wanted is None:
+        bound += sum(min(0, gain) for gain in free)
+    else:
+        bound += sum(free[: problem.wanted - sum(path.values())])
     fail_unless(bound > parts * (target - 1), "Leaf", line)
 
 
