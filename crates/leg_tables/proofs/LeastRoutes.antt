@@ -1,13 +1,14 @@
 -- Least costs and least routes by hubs, from lengths.
-use Rattle.std.proofs.Common.{◌≡◌, ℕ, ◌+◌, ◌-◌, ◌*◌, ◌<◌, ◌≤◌, List, length, slice_index, Contains, inl, inr, sym, ap, ap₂, subst, ⊎_elim, ◌∙◌, mul-le-mul_left, arith}
+use Rattle.std.proofs.Common.{◌≡◌, ℕ, ◌+◌, ◌-◌, ◌*◌, ◌<◌, ◌≤◌, List, length, slice_index, Contains, true, None, refl, inl, inr, sym, ap, ap₂, subst, ⊎_elim, ◌∙◌, mul-le-mul_left, arith}
 use Rattle.std.specs.List.Sorted.{IsStrictlyIncreasing}
 use Rattle.std.proofs.lemmas.Bool.{cases_lt}
 use Rattle.std.proofs.lemmas.List.{get_or_default}
 use Rattle.std.proofs.lemmas.List.Elements.{Contains-get_or, All-contains}
 use Rattle.std.proofs.lemmas.List.Kept.{AllPairs-from_increasing}
-use Rattle.hub_spec.specs.Problem.{Problem, IsProblem, flow, route_cost}
+use Rattle.hub_spec.specs.Problem.{Problem, IsProblem, flow, route_cost, is_allowed}
 use Rattle.hub_spec.specs.Plans.{IsHubSet, IsUpTo}
 use Rattle.hub_spec.proofs.Limits.{hubs_are_nodes}
+use Rattle.hub_spec.proofs.PlanCosts.{any_allowed}
 use Rattle.unit_duals.specs.Lengths.{UnitLegs, IsHub, way}
 use Rattle.unit_duals.specs.LeastValues.{by_one, by_two, IsPrice, IsByHubs}
 use Rattle.unit_duals.specs.Hops.{IsFirstRoute}
@@ -37,12 +38,13 @@ least_by_ways p hubs order start i j a l first legs from column price x y is_hub
 
 -- some route by hubs costs the flow times the price
 abbrev Reached : Problem → List ℕ → ℕ → ℕ → ℕ → Type 0
-Reached p hubs i j v = (k : ℕ) × (m : ℕ) × Contains hubs k × Contains hubs m × (route_cost p i j k m ≡ v)
+Reached p hubs i j v =
+    (k : ℕ) × (m : ℕ) × Contains hubs k × Contains hubs m × (route_cost p i j k m ≡ v) × (is_allowed p (i, j) k m ≡ true)
 
-reached_by : (p : Problem) (hubs order : List ℕ) (start i j a : ℕ) (l : UnitLegs) (first : List ℕ) → IsProblem p → IsHubSet p hubs
-    → AreLegsOf p hubs order start l → AreFirstLegsOf p hubs order i first → j < l.size → IsByHubs l first j a
+reached_by : (p : Problem) (hubs order : List ℕ) (start i j a : ℕ) (l : UnitLegs) (first : List ℕ) → IsProblem p → p.longest ≡ None
+    → IsHubSet p hubs → AreLegsOf p hubs order start l → AreFirstLegsOf p hubs order i first → j < l.size → IsByHubs l first j a
     → Reached p hubs i (start + j) (flow p i (start + j) * a)
-reached_by p hubs order start i j a l first ok set legs from column (by_one m hub is) =
+reached_by p hubs order start i j a l first ok any set legs from column (by_one m hub is) =
     let node = stop_node hubs order m in
     let here = stop_hub p hubs order start m l legs hub in
     let below : node < p.size = All-contains (λ k. k < p.size) hubs node (hubs_are_nodes p hubs ok.limits set) here in (
@@ -52,19 +54,21 @@ reached_by p hubs order start i j a l first ok set legs from column (by_one m hu
       here,
       sym (alone_costs p hubs order start i j m l first ok legs from hub.1 column below)
           ∙ ap (λ (x : ℕ). flow p i (start + j) * x) (sym is),
+      any_allowed p (i, start + j) node node any,
     )
-reached_by p hubs order start i j a l first ok set legs from column (by_two k m hub other is) = (
+reached_by p hubs order start i j a l first ok any set legs from column (by_two k m hub other is) = (
   stop_node hubs order k,
   stop_node hubs order m,
   stop_hub p hubs order start k l legs hub,
   stop_hub p hubs order start m l legs other,
   sym (way_costs p hubs order start i j k m l first legs from hub.1 other.1 column) ∙ ap (λ (x : ℕ). flow p i (start + j) * x) (sym is),
+  any_allowed p (i, start + j) (stop_node hubs order k) (stop_node hubs order m) any,
 )
 
 pub price_is_least : PriceIsLeastCost
-price_is_least p hubs order start i j a l first ok set legs from column price = record {
-  reached = reached_by p hubs order start i j a l first ok set legs from column price.is;
-  least = least_by_ways p hubs order start i j a l first legs from column price;
+price_is_least p hubs order start i j a l first ok any set legs from column price = record {
+  reached = reached_by p hubs order start i j a l first ok any set legs from column price.is;
+  least = λ k m is_hub is_other _. least_by_ways p hubs order start i j a l first legs from column price k m is_hub is_other;
 }
 
 -- ---- the route
@@ -112,10 +116,11 @@ up_to p hubs order start i j k m x y l first set legs some route hub other same 
         (cases_lt m y)) (cases_lt y m)
 
 pub first_route_least : FirstRouteIsLeast
-first_route_least p hubs order start i j k m l first set legs from column some route = record {
+first_route_least p hubs order start i j k m l first any set legs from column some route = record {
   is_route = record {
     first = stop_hub p hubs order start k l legs route.first_is_hub;
     last = stop_hub p hubs order start m l legs route.last_is_hub;
+    allowed = any_allowed p (i, start + j) (stop_node hubs order k) (stop_node hubs order m) any;
   };
   least = λ o taken. (let x = hub_stop p hubs order start o.0 l legs taken.first in let y = hub_stop p hubs order start o.1 l legs taken.last in
       let less = mul-le-mul_left w (route.least x.0 y.0 x.1 y.1) in
@@ -145,6 +150,10 @@ pub no_flow_cost : (p : Problem) (i j k m : ℕ) → flow p i j ≡ 0 → route_
 unfolding route_cost
 no_flow_cost p i j k m none = rw none (omega arith)
 
+pub no_flow_allowed : (p : Problem) (i j k m : ℕ) → flow p i j ≡ 0 → is_allowed p (i, j) k m ≡ true
+unfolding is_allowed
+no_flow_allowed p i j k m none = rw none refl
+
 -- the first hub is not after another
 first_hub_least : (hubs : List ℕ) (h : ℕ) → IsStrictlyIncreasing hubs → Contains hubs h → slice_index hubs 0 ≤ h
 first_hub_least hubs h up is_in =
@@ -156,7 +165,11 @@ first_hub_least hubs h up is_in =
 
 pub no_flow_route : FirstHubServesNoFlow
 no_flow_route p hubs i j set none = record {
-  is_route = record { first = Contains-get_or hubs 0 0 set.some_hub; last = Contains-get_or hubs 0 0 set.some_hub };
+  is_route = record {
+    first = Contains-get_or hubs 0 0 set.some_hub;
+    last = Contains-get_or hubs 0 0 set.some_hub;
+    allowed = no_flow_allowed p i j (slice_index hubs 0) (slice_index hubs 0) none;
+  };
   least = λ o taken. (let h = no_flow_cost p i j (slice_index hubs 0) (slice_index hubs 0) none in omega (arith, h));
   first = λ o taken same. (let a = first_hub_least hubs o.0 set.ascend taken.first in let b = first_hub_least hubs o.1 set.ascend taken.last in
       ⊎_elim inl (λ (least : o.0 ≤ slice_index hubs 0). inr (omega (arith, a, least), b)) (cases_lt (slice_index hubs 0) o.0));

@@ -1,5 +1,5 @@
 -- What the lengths of ways between stops are in the instance that the legs are of.
-use Rattle.std.specs.Prelude.{◌≡◌, ℕ, ◌+◌, ◌*◌, ◌<◌, ◌≤◌, ◌↔◌, List, slice_index, Contains}
+use Rattle.std.specs.Prelude.{◌≡◌, ℕ, ◌+◌, ◌*◌, ◌<◌, ◌≤◌, ◌↔◌, List, slice_index, Contains, None}
 use Rattle.hub_spec.specs.Problem.{Problem, IsProblem, flow, route_cost}
 use Rattle.hub_spec.specs.Edges.{IsLeastCost}
 use Rattle.hub_spec.specs.Plans.{IsHubSet, IsLeastRoute}
@@ -32,17 +32,17 @@ AloneCostsRoute = (p : Problem) (hubs order : List ℕ) (start i j k : ℕ) (l :
     → flow p i (start + j) * alone l first k j
     ≡ route_cost p i (start + j) (stop_node hubs order k) (stop_node hubs order k)
 
--- the flow times the price is the least cost by the hubs
+-- where no length is limited, the flow times the price is the least cost by the hubs
 abbrev pub PriceIsLeastCost : Type 0
 PriceIsLeastCost = (p : Problem) (hubs order : List ℕ) (start i j a : ℕ) (l : UnitLegs) (first : List ℕ)
-    → IsProblem p → IsHubSet p hubs → AreLegsOf p hubs order start l → AreFirstLegsOf p hubs order i first → j < l.size
+    → IsProblem p → p.longest ≡ None → IsHubSet p hubs → AreLegsOf p hubs order start l → AreFirstLegsOf p hubs order i first → j < l.size
     → IsPrice l first j a
     → IsLeastCost p hubs (i, start + j) (flow p i (start + j) * a)
 
--- where there is flow, the first of the shortest ways by hubs is the least route
+-- where no length is limited and there is flow, the first of the shortest ways by hubs is the least route
 abbrev pub FirstRouteIsLeast : Type 0
 FirstRouteIsLeast = (p : Problem) (hubs order : List ℕ) (start i j k m : ℕ) (l : UnitLegs) (first : List ℕ)
-    → IsHubSet p hubs → AreLegsOf p hubs order start l → AreFirstLegsOf p hubs order i first → j < l.size
+    → p.longest ≡ None → IsHubSet p hubs → AreLegsOf p hubs order start l → AreFirstLegsOf p hubs order i first → j < l.size
     → 1 ≤ flow p i (start + j)
     → IsFirstRoute l first j k m → IsLeastRoute p hubs (i, start + j) (stop_node hubs order k, stop_node hubs order m)
 

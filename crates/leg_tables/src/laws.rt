@@ -17,12 +17,12 @@ pub fn alone_costs_route()
     ensures { AloneCostsRoute }
 {}
 
-/// The flow times the price is the least cost by the hubs.
+/// Where no length is limited, the flow times the price is the least cost by the hubs.
 pub fn price_is_least_cost()
     ensures { PriceIsLeastCost }
 {}
 
-/// Where there is flow, the first of the shortest ways by hubs is the least route.
+/// Where no length is limited and there is flow, the first of the shortest ways by hubs is the least route.
 pub fn first_route_is_least()
     ensures { FirstRouteIsLeast }
 {}
