@@ -38,6 +38,12 @@ pub record IsWithin (tally : PlanTally) : Type 0 where
   pub route_limit : tally.routed ≤ tally.size * tally.size
   pub cost_limit : tally.cost ≤ length tally.hubs * most_fixed_cost + tally.routed * most_cost
 
+-- the same, and there are so many hubs
+pub record IsCounted (count : ℕ) (tally : PlanTally) : Type 0 where
+  pub within : IsWithin tally
+  pub open within use *
+  pub count_is : count ≡ length tally.hubs
+
 -- the sums are those of these hubs, and of these routes of the first commodities
 pub record IsTallyOf (p : Problem) (hubs : List ℕ) (routes : List (ℕ × ℕ)) (tally : PlanTally) : Type 0 where
   pub size_is : tally.size ≡ p.size

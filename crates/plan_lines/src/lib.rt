@@ -1,7 +1,8 @@
 //! The plan of a certificate taken line by line, with no route of it kept.
 //!
-//! [`PlanSums`] takes the hubs, then the routes in the order of commodities. It tells whether a node is among the hubs,
-//! and adds up what the plan costs. Once it is made, no call takes memory. Costs are in 10^-12.
+//! [`PlanSums`] takes the hubs, then the routes in the order of commodities. It tells whether there are as many hubs as
+//! are wanted and whether a node is among them, and adds up what the plan costs. Once it is made, no call takes memory.
+//! Costs are in 10^-12.
 #![tactic(auto)]
 
 mod laws;

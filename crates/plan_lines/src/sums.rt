@@ -1,6 +1,7 @@
 //! The sums of a plan.
 
 ghost use Rattle.std.specs.Prelude.{◌≡◌, ℕ, ◌+◌, ◌*◌, ◌<◌, ◌↔◌, IsTrue, IfOk, All, Contains};
+ghost use Rattle.hub_spec.specs.Plans.{HasWanted};
 ghost use Rattle.plan_lines.specs.Tallies.{no_plan, with_hub, with_route};
 
 use hub_model::Instance;
@@ -13,18 +14,19 @@ use std::marker::Model;
 #[derive(Drop)]
 pub struct PlanSums {
     hubs: NodeMarks,
+    hub_count: u32,
     routed: u32,
     cost: u128,
 }
 
 impl Model for PlanSums {
-    ghost use Rattle.plan_lines.specs.Tallies.{PlanTally, tally_of, IsWithin};
+    ghost use Rattle.plan_lines.specs.Tallies.{PlanTally, tally_of, IsCounted};
 
     ghost Value = { PlanTally };
 
     ghost view = { λ s. tally_of s.hubs s.routed s.cost };
 
-    ghost invariant = { λ s. IsWithin (tally_of s.hubs s.routed s.cost) };
+    ghost invariant = { λ s. IsCounted s.hub_count (tally_of s.hubs s.routed s.cost) };
 }
 
 impl PlanSums {
@@ -34,6 +36,7 @@ impl PlanSums {
     {
         Ok(PlanSums {
             hubs: NodeMarks::new(alloc, instance.size())?,
+            hub_count: 0,
             routed: 0,
             cost: 0,
         })
@@ -44,6 +47,7 @@ impl PlanSums {
         ensures { self.new ≡ no_plan self.old.size }
     {
         self.hubs.clear();
+        self.hub_count = 0;
         self.routed = 0;
         self.cost = 0;
     }
@@ -64,6 +68,17 @@ impl PlanSums {
     {
         self.cost += instance.fixed_cost(k);
         self.hubs.add(k);
+        self.hub_count += 1;
+    }
+
+    /// Tells whether there are as many hubs as the instance wants, if it wants a number, in constant time.
+    pub fn has_wanted(&self, instance: &Instance) -> bool
+        ensures { IsTrue result ↔ HasWanted instance.now self.now.hubs }
+    {
+        match instance.wanted() {
+            Some(wanted) => self.hub_count == wanted,
+            None => true,
+        }
     }
 
     /// Adds the route of the next commodity: its first and its last hub.

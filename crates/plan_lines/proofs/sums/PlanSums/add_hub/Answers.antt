@@ -15,10 +15,13 @@ invariant_of-self c =
     let more = ap (λ (ks : List ℕ). length ks) grown ∙ length_push old c.args.k in
     let few = few_marked 0 c.add.new.self in
     record {
-      size_limit = omega (arith, c.add.ensures.size, c.self.invariant.size_limit);
-      hub_limit = few;
-      route_limit = rw c.add.ensures.size c.self.invariant.route_limit;
-      cost_limit = omega (arith, more, c.self.invariant.cost_limit, c.fixed_cost.ensures.limit);
+      within = record {
+        size_limit = omega (arith, c.add.ensures.size, c.self.invariant.size_limit);
+        hub_limit = few;
+        route_limit = rw c.add.ensures.size c.self.invariant.route_limit;
+        cost_limit = omega (arith, more, c.self.invariant.cost_limit, c.fixed_cost.ensures.limit);
+      };
+      count_is = omega (arith, more, c.self.invariant.count_is);
     }
 
 pub returns : goal.returns
