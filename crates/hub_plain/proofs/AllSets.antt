@@ -1,12 +1,13 @@
 -- Steps of a search through all sets of candidates, one candidate after another.
-use Rattle.std.proofs.Common.{◌≡◌, ℕ, ◌+◌, ◌<◌, ◌≤◌, Bool, true, false, cond, List, [], ◌∷◌, ◌++◌, length, get_or, take, filter, Option, IfSome, nat_eq, All, Contains, refl, ap, ap₂, sym, ◌∙◌, subst, eq-eqb, ne_eqb, arith}
+use Rattle.std.proofs.Common.{◌≡◌, ℕ, ◌+◌, ◌<◌, ◌≤◌, Bool, true, false, cond, List, [], ◌∷◌, ◌++◌, length, get_or, take, filter, Option, Some, None, nat_eq, Contains, refl, ap, ap₂, sym, ◌∙◌, subst, eq-eqb, ne_eqb, arith}
+use Rattle.std.specs.Prelude.{IfSome}
 use Rattle.std.specs.List.Sorted.{IsStrictlyIncreasing}
 use Rattle.std.proofs.lemmas.List.{take_all, length-take-le, get_or-take, get_or_default, append-nil}
-use Rattle.std.proofs.lemmas.List.Elements.{filter_more, All-filter, All-contains_itself}
-use Rattle.std.proofs.lemmas.List.Kept.{AllPairs-from_increasing, IsStrictlyIncreasing-filter}
-use Rattle.hub_spec.specs.Problem.{Problem, IsProblem, IsWithinLimits}
-use Rattle.hub_spec.specs.Plans.{Plan, IsHubSet, IsOptimal, IsSetCost}
-use Rattle.hub_plain.specs.AllSets.{AreFirstHubs, NoneCheaper, IsPlanOfCost}
+use Rattle.std.proofs.lemmas.List.Elements.{filter_more}
+use Rattle.std.proofs.lemmas.List.Kept.{AllPairs-from_increasing}
+use Rattle.hub_spec.specs.Problem.{Problem, IsProblem}
+use Rattle.hub_spec.specs.Plans.{Plan, IsHubSet, HasWanted, IsSetCost, plan_cost}
+use Rattle.hub_plain.specs.AllSets.{AreFirstHubs, IsWantedPlan, IsBest, CostsUpTo, IsNotDearer, NoneCheaper}
 use Rattle.hub_spec.proofs.SumLemmas.{by_test}
 use Rattle.hub_spec.proofs.Sets.{filter_same, is_in, part_is_filter}
 
@@ -42,33 +43,24 @@ first_hubs_next cs at inside b up within first =
     let answer : h (get_or cs at 0) ≡ b = rw (eq-eqb (get_or cs at 0) (get_or cs at 0) refl) refl in
     (h, kept_more h cs at inside b within (chosen_same cs at first.0 b up within ∙ first.1) answer)
 
--- what is chosen at the end is a hub set, if it is not empty
-pub first_hubs_set : (p : Problem) (inside : List ℕ) → IsWithinLimits p → AreFirstHubs p.candidates (length p.candidates) inside
-    → 1 ≤ length inside → IsHubSet p inside
-first_hubs_set p inside ok first some =
-    let same : filter first.0 p.candidates ≡ inside =
-    ap (filter first.0) (sym (take_all (length p.candidates) p.candidates (omega arith))) ∙ first.1 in
-    record {
-      some_hub = some;
-      ascend = subst IsStrictlyIncreasing same (IsStrictlyIncreasing-filter first.0 p.candidates ok.candidates_ascend);
-      are_candidates = subst (All (Contains p.candidates)) same
-          (All-filter first.0 (Contains p.candidates) p.candidates (All-contains_itself p.candidates));
-    }
-
 -- ---- what no plan costs less than
 
-pub none_cheaper_less : (p : Problem) (at : ℕ) (inside : List ℕ) (c d : ℕ) → NoneCheaper p at inside c → d ≤ c → NoneCheaper p at inside d
-none_cheaper_less p at inside c d none less = record { least = λ h plan ok hubs same. omega (arith, none.least h plan ok hubs same) }
+-- what costs no more than another plan that was found
+still_up_to : (p : Problem) (found next : Option Plan) (c : ℕ) → IsNotDearer p found next → CostsUpTo p found c
+    → CostsUpTo p next c
+still_up_to p None next c not_dearer up = absurd up
+still_up_to p (Some b) None c not_dearer up = absurd not_dearer
+still_up_to p (Some b) (Some n) c not_dearer up = omega (arith, not_dearer, up)
 
-pub none_cheaper_next : (p : Problem) (at : ℕ) (inside : List ℕ) (c1 c2 : ℕ) → at < length p.candidates
-    → NoneCheaper p (at + 1) (inside ++ get_or p.candidates at 0 ∷ []) c1 → NoneCheaper p (at + 1) inside c2 → c2 ≤ c1
-    → NoneCheaper p at inside c2
-none_cheaper_next p at inside c1 c2 within opened closed less = record {
-  least = λ h plan ok hubs same.
+pub none_cheaper_next : (p : Problem) (at : ℕ) (inside : List ℕ) (opened closed : Option Plan) → at < length p.candidates
+    → NoneCheaper p (at + 1) (inside ++ get_or p.candidates at 0 ∷ []) opened → NoneCheaper p (at + 1) inside closed
+    → IsNotDearer p opened closed → NoneCheaper p at inside closed
+none_cheaper_next p at inside opened closed within none_opened none_closed not_dearer = record {
+  least = λ h plan wanted hubs same.
       let more = λ (b : Bool). kept_more h p.candidates at inside b within same in
       by_test (h (get_or p.candidates at 0))
-      (λ e. omega (arith, less, opened.least h plan ok hubs (more true e)))
-      (λ e. closed.least h plan ok hubs (more false e ∙ append-nil inside));
+      (λ e. still_up_to p opened closed (plan_cost p plan) not_dearer (none_opened.least h plan wanted hubs (more true e)))
+      (λ e. none_closed.least h plan wanted hubs (more false e ∙ append-nil inside));
 }
 
 -- where all candidates are decided the hubs are known
@@ -77,27 +69,36 @@ decided : (p : Problem) (h : ℕ → Bool) (plan : Plan) (inside : List ℕ) →
 decided p h plan inside hubs same =
     hubs ∙ ap (filter h) (sym (take_all (length p.candidates) p.candidates (omega arith))) ∙ same
 
-pub none_cheaper_set : (p : Problem) (inside : List ℕ) (c : ℕ) → IsSetCost p inside c
-    → NoneCheaper p (length p.candidates) inside c
-none_cheaper_set p inside c cost = record {
-  least = λ h plan ok hubs same.
-      cost.least plan ok (decided p h plan inside hubs same);
+-- the best plan of these hubs is the one that was found, or does not cost less
+pub none_cheaper_set : (p : Problem) (inside : List ℕ) (c : ℕ) (found : Plan) → IsSetCost p inside c → plan_cost p found ≤ c
+    → NoneCheaper p (length p.candidates) inside (Some found)
+none_cheaper_set p inside c found cost low = record {
+  least = λ h plan wanted hubs same.
+      omega (arith, low, cost.least plan wanted.is_plan (decided p h plan inside hubs same));
 }
 
--- no plan has no hub
-pub none_cheaper_empty : (p : Problem) (c : ℕ) → NoneCheaper p (length p.candidates) [] c
-none_cheaper_empty p c = record {
-  least = λ h plan ok hubs same.
-      let none = ap (λ (ks : List ℕ). length ks) (decided p h plan [] hubs same) in
-      absurd (omega (arith, none, ok.hubs.some_hub));
+-- hubs of which no plan is wanted
+pub none_cheaper_passed : (p : Problem) (inside : List ℕ) (found : Option Plan) → (IsHubSet p inside → HasWanted p inside → ⊥)
+    → NoneCheaper p (length p.candidates) inside found
+none_cheaper_passed p inside found none = record {
+  least = λ h plan wanted hubs same.
+      let here = decided p h plan inside hubs same in
+      absurd (none (subst (IsHubSet p) here wanted.is_plan.hubs) (subst (HasWanted p) here wanted.wanted));
 }
 
-pub optimal_incumbent : (p : Problem) (plan : Plan) (c : ℕ) → IsProblem p → IsPlanOfCost p plan c → NoneCheaper p 0 [] c
-    → IsOptimal p plan
-optimal_incumbent p plan c ok known none = record {
+-- every plan has a set of candidates as its hubs
+each_plan : (p : Problem) (found : Option Plan) (plan : Plan) → IsProblem p → NoneCheaper p 0 [] found → IsWantedPlan p plan
+    → CostsUpTo p found (plan_cost p plan)
+each_plan p found plan ok none wanted =
+    let set = wanted.is_plan.hubs in
+    let hubs = part_is_filter p.candidates plan.hubs ok.candidates_ascend set.ascend set.are_candidates in
+    none.least (is_in plan.hubs) plan wanted (sym hubs) refl
+
+pub found_is_best : (p : Problem) (found : Option Plan) → IsProblem p → IfSome found (IsWantedPlan p) → NoneCheaper p 0 [] found
+    → IsBest p found
+found_is_best p None ok known none = λ plan wanted. each_plan p None plan ok none wanted
+found_is_best p (Some plan) ok known none = record {
   is_plan = known.is_plan;
-  wanted = subst (λ (o : Option ℕ). IfSome o (λ n. length plan.hubs ≡ n)) (sym ok.any_number) tt;
-  least = λ other is_plan wanted.
-      let hubs = part_is_filter p.candidates other.hubs ok.candidates_ascend is_plan.hubs.ascend is_plan.hubs.are_candidates in
-      omega (arith, known.cost, none.least (is_in other.hubs) other is_plan (sym hubs) refl);
+  wanted = known.wanted;
+  least = λ other is_plan wanted. each_plan p (Some plan) other ok none (record { is_plan = is_plan; wanted = wanted });
 }
