@@ -7,7 +7,7 @@ use Rattle.hub_spec.specs.Problem.{commodities}
 use Rattle.hub_spec.specs.Cuts.{Prices, Cut}
 use Rattle.hub_spec.specs.Trees.{TreeLine, branch_on, leaf_of, no_hub, no_route, no_count, preorder, line_count}
 use Rattle.hub_spec.specs.Certificates.{Proof}
-use Rattle.hub_spec.specs.Ranges.{IsFirstCut, IsFirst, IsFirstLine, IsSecond, IsInRange}
+use Rattle.hub_spec.specs.Ranges.{IsFirstCut, IsFirst, IsSecond, IsInRange}
 use Rattle.hub_spec.proofs.Commodities.{length_commodities}
 use Rattle.cert_spec.specs.Lines.{Item as Line, says_version, says_size, says_cost, says_bound, says_hubs, says_route, says_cuts, says_cut, says_dual, says_nodes, says_tree, says_end, part_of}
 use Rattle.cert_spec.specs.Runs.{spread}
@@ -46,14 +46,6 @@ weights_taken g denom w (e ∷ more) = weights_taken g denom (w ++ e ∷ []) mor
 
 -- ---- line by line
 
--- the tree lines that a line gives; that a commodity is blocked or a number lacking gives none yet
-abbrev lines_of : TreeLine → List TreeLine
-lines_of (branch_on k) = branch_on k ∷ []
-lines_of (leaf_of denom weights) = leaf_of denom weights ∷ []
-lines_of no_hub = no_hub ∷ []
-lines_of (no_route commodity) = []
-lines_of no_count = []
-
 -- with what one more line says
 abbrev with_line : Gathered → Line → Gathered
 with_line g (says_version v) = record g { version = version_number (version_of v) }
@@ -64,7 +56,7 @@ with_line g (says_hubs hubs) = record g { hubs = g.hubs ++ hubs }
 with_line g (says_route commodity route) = record g { routes = g.routes ++ route ∷ [] }
 with_line g (says_cut number part) = record g { cuts = g.cuts ++ record { part = part_of part; duals = [] } ∷ [] }
 with_line g (says_dual commodity run dual) = record g { cuts = with_duals g.cuts (replicate run dual) }
-with_line g (says_tree line) = record g { lines = g.lines ++ lines_of line }
+with_line g (says_tree line) = record g { lines = g.lines ++ line ∷ [] }
 with_line g line = g
 
 -- with what more lines say
@@ -92,8 +84,8 @@ line_taken s (says_nodes all) = refl
 line_taken s (says_tree (branch_on k)) = refl
 line_taken s (says_tree (leaf_of denom weights)) = ap settled (weights_taken (settled s) denom [] weights)
 line_taken s (says_tree no_hub) = refl
-line_taken s (says_tree (no_route commodity)) = ap (λ ls. record (settled s) { lines = ls }) (sym (append-nil (settled s).lines))
-line_taken s (says_tree no_count) = ap (λ ls. record (settled s) { lines = ls }) (sym (append-nil (settled s).lines))
+line_taken s (says_tree (no_route commodity)) = refl
+line_taken s (says_tree no_count) = refl
 line_taken s says_end = refl
 
 lines_taken : (s : Standing) (ls : List Line) → settled (taken_all s (flat_map parts_of ls)) ≡ with_lines (settled s) ls
@@ -157,18 +149,10 @@ cuts_gathered g v n x (cut ∷ cuts) all =
     ∙ cuts_gathered (record g { cuts = g.cuts ++ cut ∷ [] }) v n (x + 1) cuts all.1
     ∙ ap (λ cs. record g { cuts = cs }) (append_assoc g.cuts (cut ∷ []) cuts)
 
-first_line : (l : TreeLine) → IsFirstLine l → lines_of l ≡ l ∷ []
-first_line (branch_on k) h = refl
-first_line (leaf_of denom weights) h = refl
-first_line no_hub h = refl
-first_line (no_route commodity) h = absurd h
-first_line no_count h = absurd h
-
-tree_gathered : (g : Gathered) (lines : List TreeLine) → AllByRecursion IsFirstLine lines → with_lines g (map says_tree lines) ≡ record g { lines = g.lines ++ lines }
-tree_gathered g [] h = ap (λ ls. record g { lines = ls }) (sym (append-nil g.lines))
-tree_gathered g (l ∷ lines) h =
-    ap (λ ls. with_lines (record g { lines = g.lines ++ ls }) (map says_tree lines)) (first_line l h.0)
-    ∙ tree_gathered (record g { lines = g.lines ++ l ∷ [] }) lines h.1 ∙ ap (λ ls. record g { lines = ls }) (append_assoc g.lines (l ∷ []) lines)
+tree_gathered : (g : Gathered) (lines : List TreeLine) → with_lines g (map says_tree lines) ≡ record g { lines = g.lines ++ lines }
+tree_gathered g [] = ap (λ ls. record g { lines = ls }) (sym (append-nil g.lines))
+tree_gathered g (l ∷ lines) =
+    tree_gathered (record g { lines = g.lines ++ l ∷ [] }) lines ∙ ap (λ ls. record g { lines = ls }) (append_assoc g.lines (l ∷ []) lines)
 
 -- ---- what the version says
 
@@ -180,11 +164,10 @@ later_parts : (v : ℕ) (cuts : List Cut) → IsSecond v → AllByRecursion (Say
 later_parts v [] second = tt
 later_parts v (cut ∷ cuts) second = (rw (second_later v second) refl, later_parts v cuts second)
 
--- a version that there is, cuts whose parts it says, and tree lines that it can say
+-- a version that there is, and cuts whose parts it says
 record IsSaid (k : Proof) : Type 0 where
   version : IsVersion k.version
   parts : AllByRecursion (SaysPart k.version) k.cuts
-  tree : AllByRecursion IsFirstLine (preorder k.tree)
 
 said : (k : Proof) → IsInRange k → IsSaid k
 said k h =
@@ -192,13 +175,8 @@ said k h =
     (λ (first : (k.version ≡ 1) × IsFirst k). record {
       version = inl first.0;
       parts = first_parts k.version k.cuts first.0 (recursion_from_All IsFirstCut k.cuts first.1.cuts);
-      tree = recursion_from_All IsFirstLine (preorder k.tree) first.1.tree;
     })
-    (λ second. record {
-      version = inr second.0;
-      parts = later_parts k.version k.cuts second.0;
-      tree = recursion_from_All IsFirstLine (preorder k.tree) second.1;
-    })
+    (λ second. record { version = inr second; parts = later_parts k.version k.cuts second })
     h.version
 
 -- the lines of a certificate in front of the last, from each part on
@@ -244,7 +222,7 @@ front_gathered k h =
     (routes_gathered (with_hubs k) (commodities k.size) k.plan.routes (length_commodities k.size ∙ sym h.one_route_each))
     ∙ with_lines-append (with_routes k) (cuts_items k.version k.size 1 k.cuts) (tree_front k)
     ∙ ap (λ g. with_lines g (tree_front k)) (cuts_gathered (with_routes k) k.version k.size 1 k.cuts says.parts)
-    ∙ tree_gathered (with_cuts k) (preorder k.tree) says.tree
+    ∙ tree_gathered (with_cuts k) (preorder k.tree)
 
 pub certificate_gathered : (k : Proof) → IsInRange k → (taken_all at_start (items_of k)).parts ≡ all_gathered k
 certificate_gathered k h =

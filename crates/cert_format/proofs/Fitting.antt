@@ -38,8 +38,8 @@ fits_line (want_nodes sh) (says_nodes all) s w h = tt
 fits_line (want_tree sh places left) (says_tree (branch_on k)) s w h = tt
 fits_line (want_tree sh places left) (says_tree (leaf_of denom weights)) s w h = subst Fits (sym (weights_taken (settled s) denom [] weights)) w.0
 fits_line (want_tree sh places left) (says_tree no_hub) s w h = tt
-fits_line (want_tree sh places left) (says_tree (no_route commodity)) s w h = absurd w.1
-fits_line (want_tree sh places left) (says_tree no_count) s w h = absurd w.1
+fits_line (want_tree sh places left) (says_tree (no_route commodity)) s w h = tt
+fits_line (want_tree sh places left) (says_tree no_count) s w h = tt
 fits_line want_end says_end s w h = tt
 fits_line stage l s w h = absurd w
 
@@ -127,8 +127,8 @@ short_line (want_nodes sh) (says_nodes all) w = (tt, tt)
 short_line (want_tree sh places left) (says_tree (branch_on k)) w = (tt, tt)
 short_line (want_tree sh places left) (says_tree (leaf_of denom weights)) w = (tt, short_weights weights (recursion_from_All IsWeight weights w.0.2.each))
 short_line (want_tree sh places left) (says_tree no_hub) w = (tt, tt)
-short_line (want_tree sh places left) (says_tree (no_route commodity)) w = absurd w.1
-short_line (want_tree sh places left) (says_tree no_count) w = absurd w.1
+short_line (want_tree sh places left) (says_tree (no_route commodity)) w = (tt, tt)
+short_line (want_tree sh places left) (says_tree no_count) w = (tt, tt)
 short_line want_end says_end w = (tt, tt)
 short_line stage l w = absurd w
 

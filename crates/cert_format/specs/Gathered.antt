@@ -1,12 +1,12 @@
 -- What the items of a text have given so far.
 use Rattle.std.specs.Prelude.{ℕ, ◌≤◌, List, [], ◌∷◌, ◌++◌, replicate}
 use Rattle.hub_spec.specs.Cuts.{Prices, Cut}
-use Rattle.hub_spec.specs.Trees.{TreeLine, branch_on, leaf_of, no_hub, preorder}
+use Rattle.hub_spec.specs.Trees.{TreeLine, branch_on, leaf_of, no_hub, no_route, no_count, preorder}
 use Rattle.hub_spec.specs.Certificates.{Proof}
 use Rattle.hub_spec.specs.Ranges.{IsShort, IsAmount, IsDualInRange, IsLineInRange}
 use Rattle.cert_scan.specs.Versions.{version_number}
 use Rattle.cert_scan.specs.declared.items.Item.{Item}
-use Rattle.cert_scan.specs.declared.items.Item.TheVariants.{Version, Size, Cost, Bound, Hub, Route, Cut as cut_item, Dual, DualPair, Branch, Leaf, LeafPair, Empty}
+use Rattle.cert_scan.specs.declared.items.Item.TheVariants.{Version, Size, Cost, Bound, Hub, Route, Cut as cut_item, Dual, DualPair, Branch, Leaf, LeafPair, Empty, Block, Count}
 
 -- the parts of a certificate; the last cut may still lack duals
 pub record Gathered : Type 0 where
@@ -78,6 +78,8 @@ first_taken g (Dual i j run a last) = record { parts = g; begun = dual_begun run
 first_taken g (Branch k) = whole (record g { lines = g.lines ++ branch_on k ∷ [] })
 first_taken g (Leaf denom last) = record { parts = g; begun = leaf_begun denom [] }
 first_taken g Empty = whole (record g { lines = g.lines ++ no_hub ∷ [] })
+first_taken g (Block i j) = whole (record g { lines = g.lines ++ no_route (i, j) ∷ [] })
+first_taken g Count = whole (record g { lines = g.lines ++ no_count ∷ [] })
 first_taken g item = whole g
 
 -- with an item more: it goes on with what was begun, or nothing more of that comes

@@ -109,6 +109,8 @@ impl Gathering {
             Item::Branch(k) => self.lines.push(TreeLine::BranchOn(k))?,
             Item::Leaf { denom, .. } => self.begun = BegunLine::Leaf(denom, Vec::new(alloc)),
             Item::Empty => self.lines.push(TreeLine::Empty)?,
+            Item::Block { i, j } => self.lines.push(TreeLine::Block { i, j })?,
+            Item::Count => self.lines.push(TreeLine::Count)?,
             _ => {}
         }
         Ok(())

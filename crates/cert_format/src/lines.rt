@@ -151,6 +151,12 @@ pub(crate) fn put_tree_line<K: Sink>(
         }
         TreeLine::Leaf(mix) => put_leaf(mix, buffer, sink),
         TreeLine::Empty => put_line(b"empty", &[], buffer, sink),
+        TreeLine::Block { i, j } => {
+            let from = *i as u128 + 1;
+            let to = *j as u128 + 1;
+            put_line(b"block", &[from, to], buffer, sink)
+        }
+        TreeLine::Count => put_line(b"count", &[], buffer, sink),
     }
 }
 

@@ -1,5 +1,5 @@
 use Rattle.std.proofs.Common.{sym, ap, ◌∙◌}
-use Rattle.hub_spec.specs.Trees.{branch_on, no_hub}
+use Rattle.hub_spec.specs.Trees.{branch_on, no_hub, no_route, no_count}
 use Rattle.cert_spec.specs.Lines.{says_tree}
 use Rattle.cert_format.proofs.Written.{line_of}
 use Rattle.cert_format.proofs.Putting.{tree_line_bytes}
@@ -11,3 +11,10 @@ returns-in-BranchOn g c = as_text (line_of (says_tree (branch_on c.in-BranchOn.k
 
 pub returns-in-Empty : goal.returns-in-Empty
 returns-in-Empty g c = as_text (line_of (says_tree no_hub) ∙ ap tree_line_bytes (sym c.in-Empty.is)) c.put_line-in-Empty.ensures
+
+pub returns-in-Block : goal.returns-in-Block
+returns-in-Block g c =
+    as_text (line_of (says_tree (no_route (c.in-Block.i, c.in-Block.j))) ∙ ap tree_line_bytes (sym c.in-Block.is)) c.put_line-in-Block.ensures
+
+pub returns-in-Count : goal.returns-in-Count
+returns-in-Count g c = as_text (line_of (says_tree no_count) ∙ ap tree_line_bytes (sym c.in-Count.is)) c.put_line-in-Count.ensures
