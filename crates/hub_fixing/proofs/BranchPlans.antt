@@ -1,21 +1,20 @@
 -- The plans of a branch: the branch's bound, and those of its children, are within what they cost.
-use Rattle.std.proofs.Common.{◌≡◌, ℕ, ℤ, pos, ◌+ℤ◌, ◌<◌, ◌≤◌, cond, List, [], ◌∷◌, filter, length, All, Contains, ⊎_elim, refl, sym, ap₂, subst, arith, Option}
-use Rattle.std.specs.Prelude.{IfSome}
+use Rattle.std.proofs.Common.{◌≡◌, ℕ, ℤ, pos, ◌+ℤ◌, ◌<◌, ◌≤◌, cond, List, [], ◌∷◌, filter, length, All, Contains, ⊎_elim, refl, sym, ap₂, subst, arith}
 use Rattle.std.proofs.lemmas.Int.{ints}
 use Rattle.std.proofs.lemmas.List.Elements.{All-contains, All-weaker}
 use Rattle.hub_spec.specs.Sums.{sum_ints}
 use Rattle.hub_spec.specs.Problem.{Problem, IsProblem}
 use Rattle.hub_spec.specs.Plans.{Plan, IsPlan, plan_cost}
 use Rattle.hub_spec.specs.Cuts.{Cut, IsCut}
-use Rattle.hub_spec.specs.Trees.{Branching, IsBranch, open_child, closed_child, Closes}
+use Rattle.hub_spec.specs.Trees.{Branching, IsBranch, open_child, closed_child, mixed_total, mixed_gain, Closes, IsMix}
 use Rattle.hub_spec.proofs.SumLemmas.{sum_ints-filter}
 use Rattle.hub_spec.proofs.Sets.{Contains-head, Contains-later, is_in, is_in-yes, is_in-no, part_is_filter}
 use Rattle.hub_spec.proofs.ChildLists.{open_branch, closed_branch}
-use Rattle.hub_spec.proofs.WeakDuality.{Agrees, Agrees-open, Agrees-closed, leaf_weak}
+use Rattle.hub_spec.proofs.WeakDuality.{hub_gains, Agrees, Agrees-open, Agrees-closed, free_gains, target_reached}
 use Rattle.leaf_bound.specs.Bounds.{Weighting, AreMultiples, bound_of}
 use Rattle.leaf_bound.specs.Numbers.{IsBranchBelow}
 use Rattle.leaf_bound.specs.Theorems.{weight_pairs, IsWeightingOf}
-use Rattle.leaf_bound.proofs.LeafWeights.{leaf_has_bound, pairs_mix}
+use Rattle.leaf_bound.proofs.LeafWeights.{plain_has_bound, pairs_mix}
 use Rattle.hub_fixing.specs.Theorems.{AreShares, KeepsTo, IsSoundAt}
 
 -- ---- sums over the candidates of a branch
@@ -36,7 +35,7 @@ part_sum f p part is = subst (λ (ks : List ℕ). sum_ints (λ k. cond (is_in pa
     (sym (sum_ints-filter f (is_in part) p.candidates))
 
 -- the plan's hubs are the branch's nodes inside and those of its free ones that the plan has
-hubs_agree : (p : Problem) (b : Branching) (plan : Plan) → IsProblem p → IsBranch p b → KeepsTo plan b → Agrees p.candidates (is_in plan.hubs) b
+pub hubs_agree : (p : Problem) (b : Branching) (plan : Plan) → IsProblem p → IsBranch p b → KeepsTo plan b → Agrees p.candidates (is_in plan.hubs) b
 hubs_agree p b plan ok branch keeps = record {
   same_sum = λ g. same g;
   none_outside = λ k out. is_in-no plan.hubs k (All-contains (λ (m : ℕ). Contains plan.hubs m → ⊥) b.outside k keeps.outside out);
@@ -74,23 +73,32 @@ hubs_agree p b plan ok branch keeps = record {
 
 -- ---- plans of a branch that closes
 
-branch_below : (p : Problem) (b : Branching) → IsProblem p → IsBranch p b → IsBranchBelow p.size b
+pub branch_below : (p : Problem) (b : Branching) → IsProblem p → IsBranch p b → IsBranchBelow p.size b
 branch_below p b ok branch =
     let below = λ (ks : List ℕ) (are : All (Contains p.candidates) ks). All-weaker (Contains p.candidates) (λ (k : ℕ). k < p.size)
     (λ k c. All-contains (λ (m : ℕ). m < p.size) p.candidates k ok.candidates_are_nodes c) ks are in
     record { inside = below b.inside branch.inside_are; outside = below b.outside branch.outside_are; free = below b.free branch.free_are }
 
+-- weights that are shares are a mix of the cuts
+pub shares_mix : (p : Problem) (cuts : List Cut) (m : Weighting) → IsWeightingOf p cuts m → AreShares m
+    → IsMix cuts m.denom (weight_pairs m.weights)
+shares_mix p cuts m made shares =
+    let multiples = subst (AreMultiples m.weights) made.parts shares.multiples in
+    let leaf = pairs_mix cuts m.denom m.weights multiples made.few_weights shares.denom_least shares.denom_most shares.weights_limit in
+    leaf.mix
+
+-- the plain bound is within the gains of any hubs of the branch, so that no number of them need be wanted
 plan_reaches : (p : Problem) (cuts : List Cut) (m : Weighting) (target : ℕ) (b : Branching) (plan : Plan)
     → IsProblem p → All (IsCut p) cuts → IsWeightingOf p cuts m → AreShares m → IsBranch p b → IsPlan p plan
     → Agrees p.candidates (is_in plan.hubs) b → Closes m.denom target (bound_of m b) → target ≤ plan_cost p plan
 plan_reaches p cuts m target b plan ok each made shares branch is_plan agrees closes =
     let weights = weight_pairs m.weights in
-    let multiples = subst (AreMultiples m.weights) made.parts shares.multiples in
-    let leaf = pairs_mix cuts m.denom m.weights multiples made.few_weights shares.denom_least shares.denom_most shares.weights_limit in
-    let hubs = part_is_filter p.candidates plan.hubs ok.candidates_ascend is_plan.hubs.ascend is_plan.hubs.are_candidates in
-    let wanted = subst (λ (o : Option ℕ). IfSome o (λ n. length plan.hubs ≡ n)) (sym ok.any_number) tt in
-    leaf_weak p ok.any_length cuts target m.denom weights b plan (is_in plan.hubs) is_plan wanted each hubs agrees leaf.mix
-    (subst (λ (z : ℤ). Closes m.denom target z) (sym (leaf_has_bound p cuts m b ok.any_number made (branch_below p b ok branch))) closes)
+    let gains = mixed_gain p cuts m.denom weights in
+    let same = part_is_filter p.candidates plan.hubs ok.candidates_ascend is_plan.hubs.ascend is_plan.hubs.are_candidates in
+    let hubs = hub_gains p cuts m.denom weights plan is_plan each (shares_mix p cuts m made shares) in
+    let free = rw same at (free_gains (mixed_total cuts weights) gains p.candidates (is_in plan.hubs) b agrees) in
+    let bound = plain_has_bound p cuts m b made (branch_below p b ok branch) in
+    target_reached m.denom target (plan_cost p plan) (bound_of m b) closes (omega (arith, ints, hubs, free, bound))
 
 pub sound_at : (p : Problem) (cuts : List Cut) (m : Weighting) (target : ℕ) (b : Branching) (k : ℕ) → IsProblem p → All (IsCut p) cuts
     → IsWeightingOf p cuts m → AreShares m → IsBranch p b → Contains b.free k → IsSoundAt p m target b k

@@ -13,11 +13,11 @@ use Rattle.hub_spec.specs.Limits.{most_denominator}
 use Rattle.hub_spec.specs.Sums.{sum_ints}
 use Rattle.hub_spec.specs.Problem.{Problem}
 use Rattle.hub_spec.specs.Cuts.{Cut, cut_by, total, load}
-use Rattle.hub_spec.specs.Trees.{Branching, cut_at, IsMultiple, mixed_total, mixed_load, mixed_gain, leaf_bound}
+use Rattle.hub_spec.specs.Trees.{Branching, cut_at, IsMultiple, mixed_total, mixed_load, mixed_gain, branch_bound, leaf_bound}
 use Rattle.hub_spec.proofs.SumLemmas.{by_test, sum_by-filter-le}
 use Rattle.hub_spec.proofs.Children.{plain_bound}
 use Rattle.hub_spec.proofs.Ascending.{ascend_nil, ascend_cons}
-use Rattle.leaf_bound.specs.Bounds.{Weighting, AreMultiples, weighted_by, shares_of, loads_of, weighted_load, gain_of, bound_of}
+use Rattle.leaf_bound.specs.Bounds.{Weighting, AreMultiples, weighted_by, shares_of, loads_of, weighted_total, weighted_load, gain_of, bound_of}
 use Rattle.leaf_bound.specs.Numbers.{IsBranchBelow}
 use Rattle.leaf_bound.specs.Theorems.{weight_pairs, AreLoadsOf, IsWeightingOf, AreLeafWeights}
 
@@ -109,27 +109,37 @@ loads_weighted p cuts m k made node =
 
 -- ---- the bound
 
-sum_ints-same : (f g : ℕ → ℤ) (n : ℕ) (ks : List ℕ) → All (λ k. k < n) ks → ((k : ℕ) → k < n → f k ≡ g k) → sum_ints f ks ≡ sum_ints g ks
+pub sum_ints-same : (f g : ℕ → ℤ) (n : ℕ) (ks : List ℕ) → All (λ k. k < n) ks → ((k : ℕ) → k < n → f k ≡ g k) → sum_ints f ks ≡ sum_ints g ks
 sum_ints-same f g n [] below same = refl
 sum_ints-same f g n (k ∷ ks) below same =
     ap₂ (λ (x y : ℤ). x +ℤ y) (same k (All-head (λ k. k < n) k ks below)) (sum_ints-same f g n ks (All-tail (λ k. k < n) k ks below) same)
 
-gain_is : (p : Problem) (cuts : List Cut) (m : Weighting) (k : ℕ) → IsWeightingOf p cuts m → k < p.size
+-- the total and the gains of a leaf with these weights are those of the weights in a list
+pub total_is : (p : Problem) (cuts : List Cut) (m : Weighting) → IsWeightingOf p cuts m → mixed_total cuts (weight_pairs m.weights) ≡ weighted_total m
+total_is p cuts m made =
+    totals_weighted cuts m.weights made.few_weights
+    ∙ ap₂ (λ (es xs : List ℕ). weighted_by (shares_of m.weights es) xs) (sym made.parts) (sym made.totals)
+
+pub gain_is : (p : Problem) (cuts : List Cut) (m : Weighting) (k : ℕ) → IsWeightingOf p cuts m → k < p.size
     → mixed_gain p cuts m.denom (weight_pairs m.weights) k ≡ gain_of m k
 gain_is p cuts m k made node =
     ap₂ (λ (x y : ℕ). pos (m.denom * x) -ℤ pos y) (sym (made.fixed k node)) (loads_weighted p cuts m k made node)
 
-pub leaf_has_bound : (p : Problem) (cuts : List Cut) (m : Weighting) (b : Branching) → p.wanted ≡ None → IsWeightingOf p cuts m → IsBranchBelow p.size b
-    → leaf_bound p cuts m.denom (weight_pairs m.weights) b ≡ bound_of m b
-leaf_has_bound p cuts m b any made below =
+-- their plain bound, whatever number of hubs is wanted
+pub plain_has_bound : (p : Problem) (cuts : List Cut) (m : Weighting) (b : Branching) → IsWeightingOf p cuts m → IsBranchBelow p.size b
+    → branch_bound (mixed_total cuts (weight_pairs m.weights)) (mixed_gain p cuts m.denom (weight_pairs m.weights)) b ≡ bound_of m b
+plain_has_bound p cuts m b made below =
     let g = mixed_gain p cuts m.denom (weight_pairs m.weights) in
-    let base = ap pos (totals_weighted cuts m.weights made.few_weights
-    ∙ ap₂ (λ (es xs : List ℕ). weighted_by (shares_of m.weights es) xs) (sym made.parts) (sym made.totals)) in
     let same = λ (k : ℕ) (node : k < p.size). gain_is p cuts m k made node in
     let inside = sum_ints-same g (gain_of m) p.size b.inside below.inside same in
     let free = sum_ints-same (λ k. int_min (pos 0) (g k)) (λ k. int_min (pos 0) (gain_of m k)) p.size b.free below.free
     (λ k node. ap (int_min (pos 0)) (same k node)) in
-    plain_bound p cuts m.denom (weight_pairs m.weights) b any ∙ ap₂ (λ (x y : ℤ). x +ℤ y) (ap₂ (λ (x y : ℤ). x +ℤ y) base inside) free
+    ap₂ (λ (x y : ℤ). x +ℤ y) (ap₂ (λ (x y : ℤ). x +ℤ y) (ap pos (total_is p cuts m made)) inside) free
+
+pub leaf_has_bound : (p : Problem) (cuts : List Cut) (m : Weighting) (b : Branching) → p.wanted ≡ None → IsWeightingOf p cuts m → IsBranchBelow p.size b
+    → leaf_bound p cuts m.denom (weight_pairs m.weights) b ≡ bound_of m b
+leaf_has_bound p cuts m b any made below =
+    plain_bound p cuts m.denom (weight_pairs m.weights) b any ∙ plain_has_bound p cuts m b made below
 
 -- ---- what the pairs are
 

@@ -80,7 +80,7 @@ fn difference(more: u128, less: u128) -> i128
 }
 
 /// The sum of the gains of these nodes.
-pub(crate) fn sum_of_gains(gains: &[i128], nodes: &[u32]) -> i128
+pub fn sum_of_gains(gains: &[i128], nodes: &[u32]) -> i128
     requires gains { (k : ℕ) → k < length gains.now → IsWithin most_gain (slice_index_or gains.now k (pos 0)) }
     requires nodes { All (λ k. k < length gains.now) nodes.now }
     requires few { length nodes.now ≤ most_nodes }

@@ -17,6 +17,6 @@ mod weighing;
 mod weightings;
 
 pub use bounds::{bound, bound_by, closes, threshold};
-pub use gains::{gain, write_gains, write_gains_and_base};
+pub use gains::{gain, sum_of_gains, write_gains, write_gains_and_base};
 pub use laws::{leaf_has_this_bound, pairs_are_a_mix};
 pub use weightings::Weighting;
