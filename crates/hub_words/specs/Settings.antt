@@ -4,7 +4,7 @@ use Rattle.hub_spec.specs.Limits.{most_factor, most_length}
 use Rattle.file_spec.specs.Options.{HubNumber, IsHubNumber, Options}
 use Rattle.hub_model.specs.Asked.{order_of, tail_of, number_of}
 use Rattle.hub_words.specs.declared.settings.Factors.{Factors}
-use Rattle.hub_words.specs.declared.settings.RouteLimits.{RouteLimits}
+use Rattle.hub_words.specs.declared.settings.PlanLimits.{PlanLimits}
 use Rattle.hub_words.specs.declared.settings.Settings.{Settings}
 
 -- the factors for collection, trunk and delivery
@@ -22,11 +22,11 @@ pub record IsFactors (f : Factors) : Type 0 where
   pub deliver : IsFactor f.deliver
 
 -- the longest route and the number of hubs
-abbrev pub limits_of : RouteLimits → Option ℕ × Option HubNumber
+abbrev pub limits_of : PlanLimits → Option ℕ × Option HubNumber
 limits_of l = (l.longest, option_map number_of l.hubs)
 
 -- each is within its limit, and not both are given
-pub record AreLimits (l : RouteLimits) : Type 0 where
+pub record AreLimits (l : PlanLimits) : Type 0 where
   pub longest : IfSome l.longest (λ most. most ≤ most_length)
   pub hubs : IfSome (option_map number_of l.hubs) IsHubNumber
   pub not_both : IsNone l.longest ⊎ IsNone (option_map number_of l.hubs)

@@ -1,7 +1,8 @@
 //! The command that the words give.
 
 ghost use Rattle.std.specs.Prelude.{◌≡◌, IfOk, IfSome, codes, option_map};
-ghost use Rattle.hub_words.specs.Requests.{AreSources, AsksListed, HasOptions, IsLawful, IsMaking, IsSearch, IsUnlimited, IsVersion, SaysLimits, instance, is_limited as limits_asked, making_of, optimized, search_of, solved, version_of};
+ghost use Rattle.hub_words.specs.Requests.{AreSources, AsksListed, HasOptions, IsLawful, IsMaking, IsSearch, IsUnlimited, IsVersion, SaysLimits, instance, making_of, optimized, search_of, solved, version_of};
+ghost use Rattle.hub_words.specs.Requests as law;
 ghost use Rattle.cert_scan.specs.Versions.{version_number};
 ghost use Rattle.hub_words.specs.Words as spec;
 ghost use Rattle.hub_words.specs.Views.{request_of, requested, rows_found, search_seen, solving_of, source_of, texts};
@@ -112,7 +113,7 @@ fn solving<'a>(alloc: Global, found: &ArgMatches<'a>) -> Result<Option<Solving<'
 
 /// Tells whether the length of routes is limited or a number of hubs wanted.
 fn is_limited(terms: &Terms) -> bool
-    ensures { result ≡ limits_asked terms.now }
+    ensures { result ≡ law.is_limited terms.now }
 {
     terms.longest.is_some() || terms.hubs.is_some()
 }

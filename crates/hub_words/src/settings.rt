@@ -21,13 +21,13 @@ pub(crate) struct Settings {
     pub(crate) divide: u32,
     pub(crate) factors: Factors,
     pub(crate) fixed: Option<u64>,
-    pub(crate) limits: RouteLimits,
+    pub(crate) limits: PlanLimits,
     pub(crate) no_self: bool,
 }
 
 /// How long routes may be, and how many hubs are wanted: not both are given.
 #[derive(Clone, Copy)]
-pub(crate) struct RouteLimits {
+pub(crate) struct PlanLimits {
     /// In 10^-3.
     pub(crate) longest: Option<u64>,
     pub(crate) hubs: Option<HubNumber>,
@@ -76,7 +76,7 @@ fn read_factors(found: &ArgMatches<'_>) -> Option<Factors>
     })
 }
 
-fn read_limits(layout: Layout, found: &ArgMatches<'_>) -> Option<RouteLimits>
+fn read_limits(layout: Layout, found: &ArgMatches<'_>) -> Option<PlanLimits>
     ensures value { option_map limits_of result ≡ spec.limits_asked (layout_of layout) (rows_found found.now) }
     ensures limits { IfSome result AreLimits }
     ensures listed { IfSome result (λ l. option_map number_of l.hubs ≡ Some listed_number → layout_of layout ≡ australia_post) }
@@ -86,7 +86,7 @@ fn read_limits(layout: Layout, found: &ArgMatches<'_>) -> Option<RouteLimits>
     if longest.is_some() && hubs.is_some() {
         return None;
     }
-    Some(RouteLimits { longest, hubs })
+    Some(PlanLimits { longest, hubs })
 }
 
 /// The terms of these options and candidates.

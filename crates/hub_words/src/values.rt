@@ -124,12 +124,11 @@ pub(crate) fn version(limited: bool, given: Option<&str>) -> Option<Version>
     ensures limits { IfSome result (λ v. IsVersion (version_number v)) }
     ensures sayable { IfSome result (λ v. limited ≡ true → version_number v ≡ 2) }
 {
-    match given {
-        None if limited => Some(Version::Second),
-        None => Some(Version::First),
-        Some("2") if limited => Some(Version::Second),
-        Some(_) if limited => None,
-        Some(word) => version_named(word),
+    match (limited, given) {
+        (false, None) => Some(Version::First),
+        (false, Some(word)) => version_named(word),
+        (true, None | Some("2")) => Some(Version::Second),
+        (true, Some(_)) => None,
     }
 }
 
@@ -225,7 +224,7 @@ pub(crate) fn hubs(layout: Layout, given: Option<&str>) -> Option<Option<HubNumb
 {
     match given {
         None => Some(None),
-        Some(word) => Some(Some(hub_number_named(layout, word)?)),
+        Some(word) => hub_number_named(layout, word).map(Some),
     }
 }
 
