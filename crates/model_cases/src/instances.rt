@@ -3,7 +3,7 @@
 ghost use Rattle.std.specs.Prelude.{◌≡◌, ◌^◌, pos, ◌≤ℤ◌, None, IfOk, IfSome};
 
 use crate::words::{behind, list, node, number};
-use hub_model::{Factors, Instance, Nodes, Order, Parts, Tail, Terms, is_node_list};
+use hub_model::{Factors, Instance, Nodes, Parts, Terms, is_node_list};
 use std::alloc::{AllocError, Global};
 use worked_cases::{LINE_OF_THREE, NoInstance, THREE_COSTS, instance};
 
@@ -40,7 +40,9 @@ fn by_numbers(alloc: Global, line: &str) -> Result<Instance, NoInstance> {
 }
 
 /// The instance of the line's numbers.
-fn built(alloc: Global, terms: &Terms, line: &str) -> Result<Instance, NoInstance> {
+fn built(alloc: Global, terms: &Terms, line: &str) -> Result<Instance, NoInstance>
+    requires { terms.now.hubs ≡ None }
+{
     let parts = parts(alloc, line)?;
     Ok(Instance::build(alloc, parts, terms, None)?)
 }
@@ -65,18 +67,18 @@ fn listed(line: &str) -> Option<u32> {
 }
 
 /// The options: factors in place of the file's, a fixed cost, candidates, and no flow of a node to itself.
-fn terms(alloc: Global, line: &str) -> Result<Terms, NoInstance> {
+fn terms(alloc: Global, line: &str) -> Result<Terms, NoInstance>
+    ensures { IfOk result (λ terms. terms.hubs ≡ None) }
+{
     let candidates = candidates(alloc, line)?;
     Ok(Terms {
-        order: Order::FlowFirst,
-        tail: Tail::Ignore,
-        divide: 1,
         collect: Some(factor(line, " collect ")),
         trunk: Some(factor(line, " trunk ")),
         deliver: Some(factor(line, " deliver ")),
         fixed: fixed(line),
         candidates,
         no_self: line.ends_with("no_self"),
+        ..Terms::plain()
     })
 }
 

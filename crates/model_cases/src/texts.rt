@@ -5,7 +5,7 @@ use std::alloc::{AllocError, Global};
 use worked_cases::{TWO_NODES_CERTIFICATE, TWO_NODES_OTHER_PLAN, TWO_NODES_PLAN, changed};
 
 /// One of each kind.
-const REFUSALS: [Refusal; 13] = [
+const REFUSALS: [Refusal; 14] = [
     Refusal::Fault(InstanceFault::TooLong),
     Refusal::Fault(InstanceFault::BadNumber { at: 1 }),
     Refusal::Fault(InstanceFault::Missing {
@@ -22,6 +22,7 @@ const REFUSALS: [Refusal; 13] = [
     Refusal::Fault(InstanceFault::Repeated { i: 7, j: 8 }),
     Refusal::Fault(InstanceFault::NoCandidate { k: 9 }),
     Refusal::Fault(InstanceFault::TooCostly { sum: 10 }),
+    Refusal::Fault(InstanceFault::Hubs { p: 11 }),
     Refusal::OutOfMemory,
 ];
 

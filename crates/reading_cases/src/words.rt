@@ -76,8 +76,11 @@ fn terms_told(alloc: Global, terms: &Terms) -> Result<String, AllocError> {
     let (order, tail, divide) = (terms.order, terms.tail, terms.divide);
     let factors = (terms.collect, terms.trunk, terms.deliver);
     let (fixed, no_self) = (terms.fixed, terms.no_self);
+    let (longest, hubs) = (terms.longest, terms.hubs);
     let candidates = terms.candidates.as_ref().map(|nodes| nodes.as_slice());
+    let amounts = format!(in alloc; "divide {divide}, factors {factors:?}, fixed {fixed:?}")?;
+    let limits = format!(in alloc; "longest {longest:?}, hubs {hubs:?}")?;
     format!(in alloc;
-        "{order:?}, {tail:?}, divide {divide}, factors {factors:?}, fixed {fixed:?}, candidates {candidates:?}, no_self {no_self}"
+        "{order:?}, {tail:?}, {amounts}, candidates {candidates:?}, no_self {no_self}, {limits}"
     )
 }
