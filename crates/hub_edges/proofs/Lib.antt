@@ -1,3 +1,4 @@
+pub mod CheaperCosts
 pub mod EntryOrder
 pub mod WrittenPairs
 pub mod SortedRows

@@ -3,7 +3,6 @@ use Rattle.std.proofs.Common.{◌≡◌, ℕ, suc, pos, List, [], ◌∷◌, Con
 use Rattle.std.specs.List.{AllPairs}
 use Rattle.std.proofs.lemmas.List.Elements.{All-contains}
 use Rattle.hub_spec.specs.Problem.{Problem}
-use Rattle.hub_spec.specs.Edges.{single_cost, edge_cost}
 use Rattle.hub_spec.proofs.SumLemmas.{Contains-cons_cases, nil_contains_none}
 use Rattle.hub_spec.proofs.Sets.{Contains-head, Contains-later}
 use Rattle.hub_edges.specs.Rows.{Entry, IsBefore, IsSingleEntry, IsEdgeEntry, IsEdgeRow}
@@ -43,10 +42,11 @@ same_rows (e ∷ es) (f ∷ fs) left right part back =
 entry_of_both : (p : Problem) (c : ℕ × ℕ) (es fs : List Entry) (e : Entry) → IsEdgeRow p c es → IsEdgeRow p c fs → Contains es e → Contains fs e
 entry_of_both p c es fs e one two listed =
     ⊎_elim
-    (λ single. let s : Entry = (e.0, e.0, pos (single_cost p c e.0)) in
-    subst (Contains fs) (sym (same_entry e s refl single.alone single.cost)) (two.singles e.0 single.candidate))
-    (λ edge. let s : Entry = (e.0, e.1, pos (edge_cost p c e.0 e.1)) in
-    subst (Contains fs) (sym (same_entry e s refl refl edge.cost)) (two.edges e.0 e.1 edge.first edge.last edge.needed edge.cheaper))
+    (λ single. let s : Entry = (e.0, e.0, pos single.cost.0) in
+    subst (Contains fs) (sym (same_entry e s refl single.alone single.cost.2)) (two.singles e.0 single.cost.0 single.candidate single.cost.1))
+    (λ edge. let s : Entry = (e.0, e.1, pos edge.cost.0) in
+    subst (Contains fs) (sym (same_entry e s refl refl edge.cost.2))
+    (two.edges e.0 e.1 edge.cost.0 edge.first edge.last edge.needed edge.direction edge.cost.1))
     (All-contains (λ (f : Entry). IsSingleEntry p c f ⊎ IsEdgeEntry p c f) es e one.each listed)
 
 pub row_is_one : (p : Problem) (c : ℕ × ℕ) (es fs : List Entry) → IsEdgeRow p c es → IsEdgeRow p c fs → es ≡ fs

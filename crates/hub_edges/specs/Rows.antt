@@ -1,8 +1,8 @@
 -- The single hubs and the needed hub edges of one commodity, as one list that ascends by cost.
-use Rattle.std.specs.Prelude.{◌≡◌, ℕ, ◌<◌, ℤ, pos, ◌<ℤ◌, List, length, slice_index_or, All, Contains, ◌⊎◌}
+use Rattle.std.specs.Prelude.{◌≡◌, ℕ, ◌<◌, ℤ, pos, ◌<ℤ◌, List, length, slice_index_or, All, Contains, Option, Some, ◌⊎◌}
 use Rattle.std.specs.List.{AllPairs}
-use Rattle.hub_spec.specs.Problem.{Problem, IsProblem, route_cost}
-use Rattle.hub_spec.specs.Edges.{single_cost, edge_cost, IsNeededEdge}
+use Rattle.hub_spec.specs.Problem.{Problem, IsProblem, way_cost}
+use Rattle.hub_spec.specs.Edges.{IsCheaper, single_cost, edge_cost, IsNeededEdge}
 
 -- the first and the last hub of a route, and what the route costs
 abbrev pub Entry : Type 0
@@ -12,32 +12,40 @@ Entry = ℕ × ℕ × ℤ
 abbrev pub IsBefore : Entry → Entry → Type 0
 IsBefore e f = (e.2 <ℤ f.2) ⊎ ((e.2 ≡ f.2) × ((e.0 < f.0) ⊎ ((e.0 ≡ f.0) × (e.1 < f.1))))
 
--- k first and m last is the direction of the edge in which it is used: the cheaper one, or of two that cost as much
--- the one with the smaller first hub
-abbrev pub IsCheaper : Problem → ℕ × ℕ → ℕ → ℕ → Type 0
-IsCheaper p c k m = (route_cost p c.0 c.1 k m < route_cost p c.0 c.1 m k)
-    ⊎ ((route_cost p c.0 c.1 k m ≡ route_cost p c.0 c.1 m k) × (k < m))
+-- k first and m last is the direction of the edge in which it is used: the cheaper one that is allowed, or of two that
+-- cost as much the one with the smaller first hub
+abbrev pub IsDirection : Problem → ℕ × ℕ → ℕ → ℕ → Type 0
+IsDirection p c k m = IsCheaper (way_cost p c k m) (way_cost p c m k)
+    ⊎ ((way_cost p c k m ≡ way_cost p c m k) × (k < m))
+
+-- there is a cost
+abbrev pub IsThere : Option ℕ → Type 0
+IsThere d = (f : ℕ) × (d ≡ Some f)
+
+-- there is a cost, and it is z
+abbrev pub IsCost : Option ℕ → ℤ → Type 0
+IsCost d z = (f : ℕ) × (d ≡ Some f) × (z ≡ pos f)
 
 -- the entry of a candidate that serves alone
 pub record IsSingleEntry (p : Problem) (c : ℕ × ℕ) (e : Entry) : Type 0 where
   pub candidate : Contains p.candidates e.0
   pub alone : e.1 ≡ e.0
-  pub cost : e.2 ≡ pos (single_cost p c e.0)
+  pub cost : IsCost (single_cost p c e.0) e.2
 
--- the entry of a needed edge of two candidates, in its cheaper direction
+-- the entry of a needed edge of two candidates, in its direction
 pub record IsEdgeEntry (p : Problem) (c : ℕ × ℕ) (e : Entry) : Type 0 where
   pub first : Contains p.candidates e.0
   pub last : Contains p.candidates e.1
   pub needed : IsNeededEdge p c e.0 e.1
-  pub cheaper : IsCheaper p c e.0 e.1
-  pub cost : e.2 ≡ pos (edge_cost p c e.0 e.1)
+  pub direction : IsDirection p c e.0 e.1
+  pub cost : IsCost (edge_cost p c e.0 e.1) e.2
 
--- the list has each single hub and each needed edge of the commodity, and nothing else; its entries ascend
+-- the list has each single hub that is allowed and each needed edge, and nothing else; its entries ascend
 pub record IsEdgeRow (p : Problem) (c : ℕ × ℕ) (entries : List Entry) : Type 0 where
   pub each : All (λ e. IsSingleEntry p c e ⊎ IsEdgeEntry p c e) entries
-  pub singles : (k : ℕ) → Contains p.candidates k → Contains entries (k, k, pos (single_cost p c k))
-  pub edges : (k m : ℕ) → Contains p.candidates k → Contains p.candidates m → IsNeededEdge p c k m → IsCheaper p c k m
-      → Contains entries (k, m, pos (edge_cost p c k m))
+  pub singles : (k f : ℕ) → Contains p.candidates k → single_cost p c k ≡ Some f → Contains entries (k, k, pos f)
+  pub edges : (k m f : ℕ) → Contains p.candidates k → Contains p.candidates m → IsNeededEdge p c k m
+      → IsDirection p c k m → edge_cost p c k m ≡ Some f → Contains entries (k, m, pos f)
   pub ascending : AllPairs IsBefore entries
 
 -- both hubs of the entry are in the set

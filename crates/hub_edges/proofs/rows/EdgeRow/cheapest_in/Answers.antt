@@ -7,7 +7,8 @@ pub first_inside-requires : goal.first_inside-requires
 first_inside-requires c =
     let hubs = rw (← c.self.view_is) at c.requires in
     rw (c.deref.ensures.value, c.members.ensures.value)
-    (some_inside c.self.inside.instance.now (c.self.inside.from, c.self.inside.to) c.args.set.now c.self.inside.entries.items hubs c.self.invariant.row)
+    (some_inside c.self.inside.instance.now (c.self.inside.from, c.self.inside.to) c.args.set.now c.self.inside.entries.items hubs c.self.invariant.from
+    c.self.invariant.to c.self.invariant.row)
 
 first : (c : After-first_inside) → IsFirstInside c.args.set.now c.self.inside.entries.items c.first_inside.result
 first c = rw (← c.deref.ensures.value, ← c.members.ensures.value) c.first_inside.ensures
