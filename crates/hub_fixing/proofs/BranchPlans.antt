@@ -1,5 +1,5 @@
 -- The plans of a branch: the branch's bound, and those of its children, are within what they cost.
-use Rattle.std.proofs.Common.{◌≡◌, ℕ, ℤ, pos, ◌+ℤ◌, ◌<◌, ◌≤◌, cond, List, [], ◌∷◌, filter, length, All, Contains, ⊎_elim, refl, sym, ap₂, subst, arith}
+use Rattle.std.proofs.Common.{◌≡◌, ℕ, ℤ, pos, ◌+ℤ◌, ◌<◌, ◌≤◌, cond, List, [], ◌∷◌, filter, All, Contains, ⊎_elim, refl, sym, ap₂, subst, arith}
 use Rattle.std.proofs.lemmas.Int.{ints}
 use Rattle.std.proofs.lemmas.List.Elements.{All-contains, All-weaker}
 use Rattle.hub_spec.specs.Sums.{sum_ints}

@@ -2,6 +2,7 @@
 use Rattle.std.proofs.Common.{◌≡◌, ℕ, ℤ, pos, zero, suc, ◌+◌, ◌*◌, ◌/◌, ◌<◌, ◌≤◌, ◌+ℤ◌, ◌-ℤ◌, ◌≤ℤ◌, ◌*ℤ◌, ◌^◌, FitsSigned, to_z, of_z, List, [], ◌∷◌, length, get_or, take, map, sum, All, refl, sym, subst, ap, ap₂, ◌∙◌, arith}
 use Rattle.std.specs.Int.{w128, int_min}
 use Rattle.std.specs.List.{AllZip}
+use Rattle.std.specs.List.Sorted.{IsStrictlyIncreasing}
 use Rattle.std.proofs.Math.Nat.{mul-le-mul, zero-div}
 use Rattle.std.proofs.lemmas.Int.{ints, clamps, to_z-of_z}
 use Rattle.std.proofs.lemmas.List.{length-map, get_or-map, take_more}
@@ -9,6 +10,7 @@ use Rattle.std.proofs.lemmas.List.Elements.{All-nil, All-cons, All-get_or, All-w
 use Rattle.hub_spec.specs.Limits.{most_nodes, most_fixed_cost, most_denominator, most_part}
 use Rattle.hub_spec.specs.Sums.{sum_ints}
 use Rattle.hub_spec.specs.Trees.{Branching, branch_bound}
+use Rattle.hub_spec.proofs.Limits.{few_candidates}
 use Rattle.hub_spec.proofs.SumLemmas.{sum_ints-append}
 use Rattle.hub_model.specs.Amounts.{natural}
 use Rattle.hub_model.proofs.Signs.{pos-natural}
@@ -140,7 +142,15 @@ loss_within g z within is = record {
   most = omega (arith, ints, clamps, is, within.most);
 }
 
+-- the nodes of a list of a branch are few
+pub few_listed : (nodes listed : List ℕ) (n : ℕ) → nodes ≡ listed → IsStrictlyIncreasing listed → All (λ k. k < n) listed → n ≤ most_nodes
+    → length nodes ≤ most_nodes
+few_listed nodes listed n same up below most = omega (arith, ap length same, few_candidates listed n up below)
+
 -- the three parts of a bound
+pub base_within : (base : ℤ) (n : ℕ) → base ≡ pos n → n ≤ most_gain → IsWithin most_gain base
+base_within base n is most = record { least = omega (arith, ints, is); most = omega (arith, ints, is, most) }
+
 pub parts_within : (base inside free : ℤ) → IsWithin most_gain base → IsWithin (most_nodes * most_gain) inside → IsWithin (most_nodes * most_gain) free
     → IsWithin most_bound (base +ℤ inside +ℤ free)
 parts_within base inside free b i f = record {
@@ -166,6 +176,17 @@ parts_passed base inside free b i f =
       to_z-of_z w128 (base +ℤ inside) fits_sum,
       to_z-of_z w128 (base +ℤ inside +ℤ free) fits_all,
     ) refl
+
+pub parts_fit : (base inside free : ℤ) → IsWithin most_gain base → IsWithin (most_nodes * most_gain) inside → IsWithin (most_nodes * most_gain) free
+    → FitsSigned w128 (to_z w128 (of_z w128 (to_z w128 (of_z w128 base) +ℤ to_z w128 (of_z w128 inside))) +ℤ free)
+parts_fit base inside free b i f =
+    let sum : IsWithin most_bound (base +ℤ inside) =
+    record { least = omega (arith, ints, b.least, i.least); most = omega (arith, ints, b.most, i.most) } in
+    rw (
+      to_z-of_z w128 base (within_fits most_gain base (omega arith) b),
+      to_z-of_z w128 inside (within_fits (most_nodes * most_gain) inside (omega arith) i),
+      to_z-of_z w128 (base +ℤ inside) (within_fits most_bound (base +ℤ inside) (omega arith) sum),
+    ) (within_fits most_bound (base +ℤ inside +ℤ free) (omega arith) (parts_within base inside free b i f))
 
 -- the denominator times one less than the target
 pub threshold_passed : (d t : ℤ) → (pos 1 ≤ℤ d) × (d ≤ℤ pos most_denominator) → (pos 0 ≤ℤ t) × (t ≤ℤ pos (10 ^ 30))

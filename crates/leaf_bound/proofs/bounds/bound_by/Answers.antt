@@ -1,30 +1,18 @@
-use Rattle.std.proofs.Common.{◌≡◌, ℕ, ℤ, ◌<◌, ◌≤◌, pos, ◌+ℤ◌, List, length, get_or, All, ap, ap₂, ◌∙◌, arith}
+use Rattle.std.proofs.Common.{ℕ, ℤ, pos, ◌+ℤ◌, length, get_or, ap, ap₂, ◌∙◌}
 use Rattle.std.specs.Int.{int_min}
-use Rattle.std.specs.List.Sorted.{IsStrictlyIncreasing}
-use Rattle.std.proofs.lemmas.Int.{ints}
-use Rattle.hub_spec.specs.Limits.{most_nodes}
 use Rattle.hub_spec.specs.Sums.{sum_ints}
-use Rattle.hub_spec.proofs.Limits.{few_candidates}
-use Rattle.leaf_bound.specs.Weighing.{most_gain, IsWithin}
-use Rattle.leaf_bound.proofs.LentNumbers.{parts_within, parts_passed}
+use Rattle.leaf_bound.proofs.LentNumbers.{few_listed, base_within, parts_within, parts_passed}
 use Rattle.leaf_bound.proofs.bounds.bound_by.Goals as goal
-
-few : (nodes listed : List ℕ) (n : ℕ) → nodes ≡ listed → IsStrictlyIncreasing listed → All (λ k. k < n) listed → n ≤ most_nodes
-    → length nodes ≤ most_nodes
-few nodes listed n same up below most = omega (arith, ap length same, few_candidates listed n up below)
 
 pub sum_of_gains-inside-requires-clause-few : goal.sum_of_gains-inside-requires-clause-few
 sum_of_gains-inside-requires-clause-few c =
-    few c.inside.result.now c.args.branch.now.inside (length c.args.gains.now) c.inside.ensures.value c.inside.ensures.split.inside_ascends
+    few_listed c.inside.result.now c.args.branch.now.inside (length c.args.gains.now) c.inside.ensures.value c.inside.ensures.split.inside_ascends
     c.requires.nodes.inside c.requires.few
 
 pub sum_of_losses-free-requires-clause-few : goal.sum_of_losses-free-requires-clause-few
 sum_of_losses-free-requires-clause-few c =
-    few c.free.result.now c.args.branch.now.free (length c.args.gains.now) c.free.ensures.value c.free.ensures.split.free_ascends
+    few_listed c.free.result.now c.args.branch.now.free (length c.args.gains.now) c.free.ensures.value c.free.ensures.split.free_ascends
     c.requires.nodes.free c.requires.few
-
-base_within : (base : ℤ) (n : ℕ) → base ≡ pos n → n ≤ most_gain → IsWithin most_gain base
-base_within base n is most = record { least = omega (arith, ints, is); most = omega (arith, ints, is, most) }
 
 pub returns-clause-value : goal.returns-clause-value
 returns-clause-value c =

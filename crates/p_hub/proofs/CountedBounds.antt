@@ -1,0 +1,79 @@
+-- The bound of a branch where just so many hubs are wanted: by gains that are read of a list, and at a leaf.
+use Rattle.std.proofs.Common.{◌≡◌, ℕ, zero, suc, ◌<◌, ℤ, pos, ◌+ℤ◌, ◌-◌, List, [], ◌∷◌, length, get_or, All, Option, Some, nat_lt, if◌then◌else◌, refl, sym, ap, ap₂, ◌∙◌}
+use Rattle.std.specs.Int.{int_min}
+use Rattle.std.proofs.lemmas.List.Elements.{All-head, All-tail}
+use Rattle.hub_spec.specs.Sums.{least_sum}
+use Rattle.hub_spec.specs.Problem.{Problem}
+use Rattle.hub_spec.specs.Cuts.{Cut}
+use Rattle.hub_spec.specs.Trees.{Branching, mixed_total, mixed_gain, counted_bound, bound_by, leaf_bound}
+use Rattle.hub_spec.proofs.SortedSums.{put, rising, front_sum, least_is_front}
+use Rattle.leaf_bound.specs.Bounds.{Weighting, weighted_total, gain_of}
+use Rattle.leaf_bound.specs.Numbers.{IsBranchBelow}
+use Rattle.leaf_bound.specs.Theorems.{weight_pairs, IsWeightingOf}
+use Rattle.leaf_bound.proofs.LentNumbers.{sum_ints_same}
+use Rattle.leaf_bound.proofs.LeafWeights.{total_is, gain_is}
+use Rattle.p_hub.specs.Counted.{counted_of, gain_in, AreRising}
+use Rattle.p_hub.proofs.RisingGains.{values_rising}
+
+-- ---- the same gains
+
+-- two gains agree on these nodes
+abbrev pub Agree : (ℕ → ℤ) → (ℕ → ℤ) → List ℕ → Type 0
+Agree f g ks = All (λ k. f k ≡ g k) ks
+
+least_same : (m : ℕ) (f g : ℕ → ℤ) (ks : List ℕ) → Agree f g ks → least_sum m f ks ≡ least_sum m g ks
+least_same zero f g ks same = refl
+least_same (suc m) f g [] same = refl
+least_same (suc m) f g (k ∷ ks) same =
+    let rest = All-tail (λ (k : ℕ). f k ≡ g k) k ks same in
+    let with = ap₂ (λ (x y : ℤ). x +ℤ y) (All-head (λ (k : ℕ). f k ≡ g k) k ks same) (least_same m f g ks rest) in
+    ap₂ (λ (x y : ℤ). if nat_lt m (length ks) then int_min x y else x) with (least_same (suc m) f g ks rest)
+
+pub rising_same : (f g : ℕ → ℤ) (ks : List ℕ) → Agree f g ks → rising f ks ≡ rising g ks
+rising_same f g [] same = refl
+rising_same f g (k ∷ ks) same =
+    ap₂ put (All-head (λ (k : ℕ). f k ≡ g k) k ks same) (rising_same f g ks (All-tail (λ (k : ℕ). f k ≡ g k) k ks same))
+
+counted_same : (n base total : ℕ) (f g : ℕ → ℤ) (b : Branching) → base ≡ total → Agree f g b.inside → Agree f g b.free
+    → counted_bound n base f b ≡ counted_bound n total g b
+counted_same n base total f g b sum inside free =
+    ap₂ (λ (x y : ℤ). x +ℤ y) (ap₂ (λ (x : ℕ) (y : ℤ). pos x +ℤ y) sum (sum_ints_same f g b.inside inside))
+    (least_same (n - length b.inside) f g b.free free)
+
+-- ---- gains that are read
+
+-- the gains that are read are the weighting's
+abbrev pub AreGainsOf : Weighting → List ℤ → Type 0
+AreGainsOf m gains = (k : ℕ) → k < length gains → get_or gains k (pos 0) ≡ gain_of m k
+
+pub read_agree : (m : Weighting) (gains : List ℤ) (nodes : List ℕ) → AreGainsOf m gains → All (λ k. k < length gains) nodes
+    → Agree (gain_in gains) (gain_of m) nodes
+read_agree m gains nodes are below = λ i d low. are (get_or nodes i d) (below i d low)
+
+pub counted_read : (n : ℕ) (m : Weighting) (base : ℕ) (gains : List ℤ) (b : Branching) → base ≡ weighted_total m → AreGainsOf m gains
+    → IsBranchBelow (length gains) b → counted_bound n base (gain_in gains) b ≡ counted_of n m b
+counted_read n m base gains b total are below =
+    counted_same n base (weighted_total m) (gain_in gains) (gain_of m) b total (read_agree m gains b.inside are below.inside)
+    (read_agree m gains b.free are below.free)
+
+-- the first of the rising gains are those that are missing
+pub front_is_least : (m : ℕ) (gains : List ℤ) (nodes : List ℕ) (values : List ℤ) → AreRising gains nodes values
+    → front_sum m values ≡ least_sum m (gain_in gains) nodes
+front_is_least m gains nodes values are =
+    ap (front_sum m) (values_rising gains nodes values are) ∙ sym (least_is_front m (gain_in gains) nodes)
+
+-- ---- a leaf
+
+pub pairs_counted : (n : ℕ) (p : Problem) (cuts : List Cut) (m : Weighting) (b : Branching) → IsWeightingOf p cuts m → IsBranchBelow p.size b
+    → counted_bound n (mixed_total cuts (weight_pairs m.weights)) (mixed_gain p cuts m.denom (weight_pairs m.weights)) b ≡ counted_of n m b
+pairs_counted n p cuts m b made below =
+    let g = mixed_gain p cuts m.denom (weight_pairs m.weights) in
+    let agree = λ (ks : List ℕ) (nodes : All (λ k. k < p.size) ks) (i d : ℕ) (low : i < length ks). gain_is p cuts m (get_or ks i d) made (nodes i d low) in
+    counted_same n (mixed_total cuts (weight_pairs m.weights)) (weighted_total m) g (gain_of m) b (total_is p cuts m made)
+    (agree b.inside below.inside) (agree b.free below.free)
+
+pub leaf_counted : (n : ℕ) (p : Problem) (cuts : List Cut) (m : Weighting) (b : Branching) → p.wanted ≡ Some n → IsWeightingOf p cuts m
+    → IsBranchBelow p.size b → leaf_bound p cuts m.denom (weight_pairs m.weights) b ≡ counted_of n m b
+leaf_counted n p cuts m b wanted made below =
+    ap (λ (o : Option ℕ). bound_by o (mixed_total cuts (weight_pairs m.weights)) (mixed_gain p cuts m.denom (weight_pairs m.weights)) b) wanted
+    ∙ pairs_counted n p cuts m b made below

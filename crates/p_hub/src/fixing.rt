@@ -1,0 +1,54 @@
+//! The free candidates of which a side stays.
+
+ghost use Rattle.std.specs.Prelude.{◌≡◌, ◌^◌, false, pos, ◌≤ℤ◌, length, IfOk};
+ghost use Rattle.hub_model.specs.Amounts.{natural};
+ghost use Rattle.leaf_bound.specs.Numbers.{AreWeightingNumbers, IsBranchBelow, weighting_of};
+ghost use Rattle.p_hub.specs.Fixing.{counted_closes, counted_fixings, IsBetween};
+
+use crate::bounds::bound_by_rising;
+use crate::rising::{ROOM, rising_gains};
+use crate::sides::Margins;
+use hub_fixing::Side;
+use leaf_bound::{Weighting, threshold, write_gains_and_base};
+use plan_model::Branch;
+use std::alloc::{AllocError, Global};
+
+/// The free candidates of the branch, ascending, of which a side stays with `p` wanted hubs under these weights, each
+/// with that side.
+///
+/// The target is in 10^-12. The branch itself does not close it, and each of its children has room for the hubs.
+pub fn fix_p(
+    alloc: Global,
+    weighting: &Weighting,
+    branch: &Branch,
+    target: i128,
+    p: u32,
+) -> Result<Vec<(u32, Side)>, AllocError>
+    requires numbers { AreWeightingNumbers weighting.now }
+    requires nodes { IsBranchBelow (length weighting.now.fixed.now) branch.now }
+    requires target { (pos 0 ≤ℤ target) × (target ≤ℤ pos (10 ^ 30)) }
+    requires between { IsBetween p branch.now }
+    requires not_closed { counted_closes p (weighting_of weighting.now) (natural target) branch.now ≡ false }
+    ensures { IfOk result (λ sides. sides.items ≡ counted_fixings p (weighting_of weighting.now) (natural target) branch.now) }
+{
+    let mut room = [0; ROOM];
+    let gains = &mut room[..weighting.fixed.len()];
+    let base = write_gains_and_base(weighting, gains);
+    let free = branch.free();
+    let free_room = rising_gains(gains, free);
+    let rising = &free_room[..free.len()];
+    let missing = p as usize - branch.inside().len();
+    let margins = Margins {
+        bound: bound_by_rising(base, gains, rising, branch, p),
+        last: rising[missing - 1],
+        next: rising[missing],
+        threshold: threshold(weighting.denom, target),
+    };
+    let mut sides = Vec::new(alloc);
+    for k in free {
+        if let Some(side) = margins.side_of(gains[*k as usize]) {
+            sides.push((*k, side))?;
+        }
+    }
+    Ok(sides)
+}
