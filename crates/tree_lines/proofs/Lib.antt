@@ -1,3 +1,5 @@
 pub mod Walking
+pub mod Blocked
+pub mod LeastGains
 pub mod TallyBounds
 pub mod Shares

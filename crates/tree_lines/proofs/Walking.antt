@@ -1,20 +1,20 @@
 -- Steps down a tree: the branches that they lead to, and a step taken and taken back.
-use Rattle.std.proofs.Common.{◌≡◌, ℕ, ◌+◌, ◌<◌, Bool, true, false, cond, List, [], ◌∷◌, ◌++◌, length, reverse, Contains, nat_eq, nat_lt, refl, sym, ap, subst, ◌∙◌, ⊎_elim, inr, eqb-true, arith}
+use Rattle.std.proofs.Common.{◌≡◌, ℕ, ◌+◌, ◌<◌, Bool, true, false, cond, List, [], ◌∷◌, ◌++◌, length, reverse, Contains, IsTrue, ◌↔◌, not, nat_eq, nat_lt, refl, sym, ap, subst, ◌∙◌, ◌⊎◌, ⊎_elim, inl, inr, eqb-true, arith}
 use Rattle.std.specs.List.Sorted.{IsStrictlyIncreasing}
-use Rattle.std.proofs.lemmas.Bool.{eqb-false}
+use Rattle.std.proofs.lemmas.Bool.{eqb-false, cases_eq}
 use Rattle.hub_spec.specs.Sums.{with_node, without}
 use Rattle.hub_spec.specs.Trees.{Branching, IsSplit, IsBranch}
 use Rattle.hub_spec.proofs.SumLemmas.{by_test, Contains-cons_cases, nil_contains_none}
 use Rattle.hub_spec.proofs.Sets.{Contains-head, Contains-later, ascend_tail, ascend_head}
-use Rattle.hub_spec.proofs.Ascending.{ascend_nil, in_without, with_node_has, without_lacks}
+use Rattle.hub_spec.proofs.Ascending.{ascend_nil, in_without, with_node_has, with_node_keeps, without_keeps, without_lacks}
 use Rattle.hub_spec.proofs.ChildLists.{open_split, closed_split, open_branch, closed_branch}
 use Rattle.hub_spec.specs.Problem.{Problem}
 use Rattle.tree_lines.specs.declared.trails.Step.{Step}
 use Rattle.std.proofs.lemmas.List.{reverse-append, length-reverse}
 use Rattle.std.proofs.lemmas.List.Elements.{All-contains, All-contains_itself, All-nil}
 use Rattle.node_marks.specs.Marks.{marked}
-use Rattle.tree_lines.specs.Trails.{undecided, child, branch_at, AreSteps, trail_of, trail_end, IsKept, IsReached}
-use Rattle.node_marks.proofs.Marking.{with_node-front, with_node-behind, without-head, without-behind, length-without}
+use Rattle.tree_lines.specs.Trails.{Trail, undecided, child, branch_at, AreSteps, trail_of, trail_end, IsKept, IsReached}
+use Rattle.node_marks.proofs.Marking.{with_node-front, with_node-behind, without-head, without-behind, length-with_node, length-without}
 
 -- ---- a node put in again, and taken out again
 
@@ -212,3 +212,81 @@ way_branch p (step ∷ before) up are =
 
 pub reached_branch : (p : Problem) (b : Branching) → IsReached p.candidates b → IsBranch p b
 reached_branch p b reached = subst (IsBranch p) (sym reached.is) (way_branch p reached.steps reached.ascend reached.are_steps)
+
+-- ---- how many nodes
+
+-- the steps leave so many free
+pub free_left : (size : ℕ) (candidates : List ℕ) (steps : List Step) (inside free : List Bool) → IsKept (trail_of size candidates steps) inside free
+    → length steps + length (trail_end (trail_of size candidates steps)).free ≡ length candidates
+free_left size candidates steps inside free kept =
+    omega (arith, free_count candidates (reverse steps) kept.are_steps, length-reverse steps)
+
+pub one_more : (k : ℕ) (before after : List Bool) → marked after ≡ with_node k (marked before)
+    → length (marked after) ≡ length (marked before) + 1
+one_more k before after nodes = ap (λ (ks : List ℕ). length ks) nodes ∙ length-with_node k (marked before)
+
+-- ---- each candidate is a hub, closed or free
+
+-- what the step leaves of it
+decided_below : (b : Branching) (node : ℕ) (opened : Bool) (k : ℕ) → Contains b.inside k ⊎ Contains b.outside k ⊎ Contains b.free k
+    → Contains (child b (record { node = node; opened = opened })).inside k
+    ⊎ Contains (child b (record { node = node; opened = opened })).outside k
+    ⊎ Contains (child b (record { node = node; opened = opened })).free k
+decided_below b node true k where_is =
+    ⊎_elim (λ inside. inl (with_node_keeps node b.inside k inside))
+    (⊎_elim (λ outside. inr (inl outside))
+    (λ left. ⊎_elim (λ same. inl (subst (Contains (with_node node b.inside)) same (with_node_has node b.inside)))
+    (λ apart. inr (inr (without_keeps node b.free k left apart))) (cases_eq node k))) where_is
+decided_below b node false k where_is =
+    ⊎_elim (λ inside. inl inside)
+    (⊎_elim (λ outside. inr (inl (with_node_keeps node b.outside k outside)))
+    (λ left. ⊎_elim (λ same. inr (inl (subst (Contains (with_node node b.outside)) same (with_node_has node b.outside))))
+    (λ apart. inr (inr (without_keeps node b.free k left apart))) (cases_eq node k))) where_is
+
+decided : (candidates : List ℕ) (steps : List Step) (k : ℕ) → Contains candidates k
+    → Contains (branch_at candidates steps).inside k ⊎ Contains (branch_at candidates steps).outside k
+    ⊎ Contains (branch_at candidates steps).free k
+decided candidates [] k c = inr (inr c)
+decided candidates (step ∷ before) k c =
+    decided_below (branch_at candidates before) step.node step.opened k (decided candidates before k c)
+
+-- a candidate without marks is closed, and one that is closed has none
+shut_by_marks : (trail : Trail) (inside free : List Bool) (k : ℕ) → IsKept trail inside free → Contains trail.candidates k
+    → (Contains (marked inside) k → ⊥) → (Contains (marked free) k → ⊥) → Contains (trail_end trail).outside k
+shut_by_marks trail inside free k kept here no_hub not_free =
+    ⊎_elim (λ i. absurd (no_hub (subst (λ (ks : List ℕ). Contains ks k) (sym kept.inside_marks) i)))
+    (⊎_elim (λ o. o) (λ f. absurd (not_free (subst (λ (ks : List ℕ). Contains ks k) (sym kept.free_marks) f))))
+    (decided trail.candidates trail.steps k here)
+
+shut_is_no_hub : (trail : Trail) (inside free : List Bool) (k : ℕ) → IsKept trail inside free → Contains (trail_end trail).outside k
+    → Contains (marked inside) k → ⊥
+shut_is_no_hub trail inside free k kept out there =
+    (branch_split trail.candidates trail.steps kept.ascend kept.are_steps).not_both k
+    (subst (λ (ks : List ℕ). Contains ks k) kept.inside_marks there) out
+
+shut_is_not_free : (trail : Trail) (inside free : List Bool) (k : ℕ) → IsKept trail inside free → Contains (trail_end trail).outside k
+    → Contains (marked free) k → ⊥
+shut_is_not_free trail inside free k kept out there =
+    (branch_split trail.candidates trail.steps kept.ascend kept.are_steps).outside_apart k
+    (subst (λ (ks : List ℕ). Contains ks k) kept.free_marks there) out
+
+-- by tests of its marks
+pub shut_without : (trail : Trail) (inside free : List Bool) (k : ℕ) (is_hub is_free : Bool) → IsKept trail inside free → Contains trail.candidates k
+    → (IsTrue is_hub ↔ Contains (marked inside) k) → (IsTrue is_free ↔ Contains (marked free) k) → is_hub ≡ false
+    → IsTrue (not is_free) ↔ Contains (trail_end trail).outside k
+shut_without trail inside free k is_hub true kept here hub_says free_says none = (
+  λ h. (let e : false ≡ true = h in cc),
+  λ out. absurd (shut_is_not_free trail inside free k kept out (free_says.0 refl)),
+)
+shut_without trail inside free k is_hub false kept here hub_says free_says none = (
+  λ h. shut_by_marks trail inside free k kept here (λ c. (let e : false ≡ true = sym none ∙ hub_says.1 c in cc))
+      (λ c. (let e : false ≡ true = free_says.1 c in cc)),
+  λ out. refl,
+)
+
+pub hub_not_shut : (trail : Trail) (inside free : List Bool) (k : ℕ) (is_hub : Bool) → IsKept trail inside free
+    → (IsTrue is_hub ↔ Contains (marked inside) k) → is_hub ≡ true → IsTrue (not is_hub) ↔ Contains (trail_end trail).outside k
+hub_not_shut trail inside free k is_hub kept says holds = (
+  λ h. (let e : false ≡ true = sym (ap not holds) ∙ h in cc),
+  λ out. absurd (shut_is_no_hub trail inside free k kept out (says.0 holds)),
+)

@@ -1,9 +1,11 @@
 -- The sums of a leaf while its pairs come.
-use Rattle.std.specs.Prelude.{◌≡◌, ℕ, ◌+◌, ◌*◌, ◌/◌, ◌<◌, ◌≤◌, ℤ, List, length, slice_index, All}
+use Rattle.std.specs.Prelude.{◌≡◌, ℕ, ◌+◌, ◌-◌, ◌*◌, ◌/◌, ◌<◌, ◌≤◌, ℤ, pos, Option, Some, None, List, length, slice_index, All}
+use Rattle.std.specs.Int.{int_min}
 use Rattle.hub_spec.specs.Limits.{most_cost, most_denominator}
+use Rattle.hub_spec.specs.Sums.{sum_ints, least_sum}
 use Rattle.hub_spec.specs.Problem.{Problem, fixed_cost}
 use Rattle.hub_spec.specs.Cuts.{Cut}
-use Rattle.hub_spec.specs.Trees.{Branching, weight_sum, mixed_total, mixed_load, gain, branch_bound}
+use Rattle.hub_spec.specs.Trees.{Branching, weight_sum, mixed_total, mixed_load, gain, bound_by}
 
 -- the denominator, and so far the sums of the weights, of the totals and by node of the loads, each as often as its
 -- weight has the part of its cut
@@ -45,9 +47,18 @@ pub record IsWithin (tally : Tally) : Type 0 where
   pub base_limit : tally.base ≤ tally.weight * most_cost
   pub load_limit : All (λ load. load ≤ tally.weight * most_cost) tally.loads
 
--- the bound of the branch by these sums
+-- what opening a node adds to the bound by these sums
+abbrev pub tally_gain : Problem → Tally → ℕ → ℤ
+tally_gain p tally k = gain tally.denom (fixed_cost p) (slice_index tally.loads) k
+
+-- the bound of the branch by these sums, and by the number of hubs that is wanted, if one is
 abbrev pub tally_bound : Problem → Tally → Branching → ℤ
-tally_bound p tally b = branch_bound tally.base (gain tally.denom (fixed_cost p) (slice_index tally.loads)) b
+tally_bound p tally b = bound_by p.wanted tally.base (tally_gain p tally) b
+
+-- what the free nodes of the branch add to it: what gains below 0 sum up to, or as many of the least as hubs are missing
+abbrev pub free_sum : Option ℕ → (ℕ → ℤ) → Branching → ℤ
+free_sum None gains b = sum_ints (λ k. int_min (pos 0) (gains k)) b.free
+free_sum (Some n) gains b = least_sum (n - length b.inside) gains b.free
 
 -- the sums over n nodes are those of a leaf's pairs on these cuts
 pub record AreSumsOf (n : ℕ) (cuts : List Cut) (denom : ℕ) (weights : List (ℕ × ℕ)) (tally : Tally) : Type 0 where

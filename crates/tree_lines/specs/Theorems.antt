@@ -18,7 +18,7 @@ SumsGoOn = (n : ℕ) (cuts : List Cut) (denom : ℕ) (weights : List (ℕ × ℕ
     → IsAdded tally pair.1 (cut_at cuts pair.0).part (total (cut_at cuts pair.0)) loads later
     → AreSumsOf n cuts denom (weights ++ pair ∷ []) later
 
--- the bound by the sums of a leaf's pairs is the bound at the leaf; no instance wants a number of hubs
+-- the bound by the sums of a leaf's pairs is the bound at the leaf, whether a number of hubs is wanted or not
 abbrev pub SumsBoundLeaf : Type 0
 SumsBoundLeaf = (p : Problem) (cuts : List Cut) (denom : ℕ) (weights : List (ℕ × ℕ)) (b : Branching) (tally : Tally)
     → IsProblem p → IsBranch p b → AreSumsOf p.size cuts denom weights tally

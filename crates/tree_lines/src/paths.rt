@@ -1,7 +1,7 @@
 //! The branches of a tree that are still to be filled.
 
-ghost use Rattle.std.specs.Prelude.{◌≡◌, ◌≢◌, ◌↔◌, [], ◌∷◌, length, IsTrue, IfOk, Contains};
-ghost use Rattle.hub_spec.specs.Trees.{root, open_child, closed_child, IsClosed};
+ghost use Rattle.std.specs.Prelude.{◌≡◌, ◌≢◌, ◌↔◌, [], ◌∷◌, length, Some, IsTrue, IfOk, Contains};
+ghost use Rattle.hub_spec.specs.Trees.{root, open_child, closed_child, IsClosed, HasRoom, LacksRoom};
 ghost use Rattle.node_marks.specs.Marks.{marked};
 ghost use Rattle.tree_lines.specs.Trails.{undecided, IsReached};
 ghost use Rattle.tree_lines.specs.Paths.{next, behind_next};
@@ -76,6 +76,37 @@ impl TreePath {
         self.trail.is_closed()
     }
 
+    /// Tells whether so many hubs can be had in the next branch, if a number is wanted, in constant time.
+    pub fn has_room(&self, wanted: Option<u32>) -> bool
+        requires { self.now.pending ≢ [] }
+        ensures { IsTrue result ↔ HasRoom wanted (next self.now.pending) }
+    {
+        match wanted {
+            Some(wanted) => self.has_room_for(wanted as usize),
+            None => true,
+        }
+    }
+
+    /// Tells whether a number of hubs is wanted and can't be had in the next branch, in constant time.
+    pub fn lacks_room(&self, wanted: Option<u32>) -> bool
+        requires { self.now.pending ≢ [] }
+        ensures { IsTrue result ↔ LacksRoom wanted (next self.now.pending) }
+    {
+        match wanted {
+            Some(wanted) => !self.has_room_for(wanted as usize),
+            None => false,
+        }
+    }
+
+    /// Tells whether so many hubs can be had in the next branch: no more are hubs, and no fewer can be.
+    fn has_room_for(&self, count: usize) -> bool
+        requires { self.now.pending ≢ [] }
+        ensures { IsTrue result ↔ HasRoom (Some count) (next self.now.pending) }
+    {
+        let hubs = self.trail.hub_count();
+        hubs <= count && count - hubs <= self.trail.free_count()
+    }
+
     /// Branches on a free node: the open child of the next branch comes next, then the closed one.
     pub fn branch(&mut self, k: u32)
         requires some { self.old.pending ≢ [] }
@@ -105,6 +136,23 @@ impl TreePath {
             }
         }
         self.is_filled = true;
+    }
+
+    /// Tells whether the candidate is closed in the next branch, in constant time.
+    pub(crate) fn is_shut(&self, k: u32) -> bool
+        requires some { self.now.pending ≢ [] }
+        requires candidate { Contains self.now.candidates k }
+        ensures { IsTrue result ↔ Contains (next self.now.pending).outside k }
+    {
+        self.trail.is_shut(k)
+    }
+
+    /// How many hubs the next branch has.
+    pub(crate) fn hub_count(&self) -> usize
+        requires { self.now.pending ≢ [] }
+        ensures { result ≡ length (next self.now.pending).inside }
+    {
+        self.trail.hub_count()
     }
 
     /// The marks of the hubs of the next branch.

@@ -6,11 +6,14 @@ ghost use Rattle.hub_spec.specs.Problem.{fixed_cost};
 ghost use Rattle.hub_spec.specs.Trees.{Closes, IsBranch};
 ghost use Rattle.hub_spec.specs.Ranges.{IsShort};
 ghost use Rattle.node_marks.specs.Marks.{marked};
+ghost use Rattle.tree_lines.specs.Trails.{IsReached};
 ghost use Rattle.tree_lines.specs.Paths.{next};
-ghost use Rattle.tree_lines.specs.Tallies.{IsMultipleOf, IsBegun, IsAdded, tally_bound};
+ghost use Rattle.tree_lines.specs.Tallies.{IsMultipleOf, IsBegun, IsAdded, tally_gain, tally_bound, free_sum};
+ghost use Rattle.tree_lines.specs.LeastGains.{AreGains};
 
+use crate::gains::sum_of_least;
 use crate::paths::TreePath;
-use hub_model::Instance;
+use hub_model::{Instance, signed};
 use std::alloc::{AllocError, Global};
 use std::marker::Model;
 
@@ -91,11 +94,39 @@ impl LeafSums {
         ensures closes { IsTrue result ↔ Closes self.now.denom target (tally_bound instance.now self.now (next path.now.pending)) }
         ensures branch { path.now.candidates ≡ instance.now.candidates → IsBranch instance.now (next path.now.pending) }
     {
+        signed(self.denom * target) - signed(self.denom) < self.bound(path, instance)
+    }
+
+    /// The bound of the path's next branch by these sums.
+    fn bound(&self, path: &TreePath, instance: &Instance) -> i128
+        requires some { path.now.pending ≢ [] }
+        requires nodes { path.now.size ≡ instance.now.size }
+        requires loads { length self.now.loads ≡ instance.now.size }
+        ensures value { result ≡ tally_bound instance.now self.now (next path.now.pending) }
+        ensures reached { IsReached path.now.candidates (next path.now.pending) }
+    {
         let inside = path.inside();
         let costs = weighted_costs(instance, self.denom, inside);
         let gone = loads_of(instance, &self.loads, inside);
-        let losses = losses(instance, self.denom, &self.loads, path.free());
-        self.denom * target + gone + losses < self.base + costs + self.denom
+        signed(self.base + costs) - signed(gone) + self.free_sum(path, instance)
+    }
+
+    /// What the free nodes of the path's next branch add to the bound.
+    fn free_sum(&self, path: &TreePath, instance: &Instance) -> i128
+        requires some { path.now.pending ≢ [] }
+        requires nodes { path.now.size ≡ instance.now.size }
+        requires loads { length self.now.loads ≡ instance.now.size }
+        ensures value { result ≡ free_sum instance.now.wanted (tally_gain instance.now self.now) (next path.now.pending) }
+        ensures limit { AreGains most_nodes result }
+    {
+        let free = path.free();
+        match instance.wanted() {
+            Some(wanted) => {
+                let missing = (wanted as usize).saturating_sub(path.hub_count());
+                sum_of_least(instance, self.denom, &self.loads, free, missing)
+            }
+            None => 0 - signed(losses(instance, self.denom, &self.loads, free)),
+        }
     }
 }
 

@@ -26,10 +26,12 @@ pub(crate) struct Trail {
     steps: Vec<Step>,
     inside: NodeMarks,
     free: NodeMarks,
+    hub_count: usize,
 }
 
 impl Model for Trail {
-    ghost use Rattle.std.specs.Prelude.{◌≤◌, length, vec_capacity};
+    ghost use Rattle.std.specs.Prelude.{◌≡◌, ◌≤◌, length, vec_capacity};
+    ghost use Rattle.node_marks.specs.Marks.{marked};
     ghost use Rattle.tree_lines.specs.Trails as trails;
 
     ghost Value = { trails.Trail };
@@ -37,7 +39,7 @@ impl Model for Trail {
     ghost view = { λ s. trails.trail_of s.size s.candidates.items s.steps.items };
 
     ghost invariant = { λ s. trails.IsKept (trails.trail_of s.size s.candidates.items s.steps.items) s.inside s.free
-        × (length s.candidates.items ≤ vec_capacity s.steps) };
+        × (length s.candidates.items ≤ vec_capacity s.steps) × (s.hub_count ≡ length (marked s.inside)) };
 }
 
 impl Trail {
@@ -57,6 +59,7 @@ impl Trail {
             steps,
             inside,
             free,
+            hub_count: 0,
         })
     }
 
@@ -66,6 +69,7 @@ impl Trail {
     {
         self.steps.clear();
         self.inside.clear();
+        self.hub_count = 0;
         self.free.assign(&self.candidates);
     }
 
@@ -74,6 +78,28 @@ impl Trail {
         ensures { IsTrue result ↔ Contains (trail_end self.now).free k }
     {
         self.free.has(k)
+    }
+
+    /// Tells whether the candidate is closed where the way leads.
+    pub(crate) fn is_shut(&self, k: u32) -> bool
+        requires { Contains self.now.candidates k }
+        ensures { IsTrue result ↔ Contains (trail_end self.now).outside k }
+    {
+        !self.inside.has(k) && !self.free.has(k)
+    }
+
+    /// How many hubs there are where the way leads.
+    pub(crate) fn hub_count(&self) -> usize
+        ensures { result ≡ length (trail_end self.now).inside }
+    {
+        self.hub_count
+    }
+
+    /// How many nodes are free where the way leads: each step decides one.
+    pub(crate) fn free_count(&self) -> usize
+        ensures { result ≡ length (trail_end self.now).free }
+    {
+        self.candidates.len() - self.steps.len()
     }
 
     /// Tells whether every candidate is closed where the way leads.
@@ -109,6 +135,7 @@ impl Trail {
         self.free.remove(step.node);
         if step.opened {
             self.inside.add(step.node);
+            self.hub_count += 1;
         }
     }
 
@@ -121,6 +148,7 @@ impl Trail {
         self.free.add(step.node);
         if step.opened {
             self.inside.remove(step.node);
+            self.hub_count -= 1;
         }
         Some(step)
     }

@@ -1,4 +1,6 @@
-use Rattle.std.proofs.Common.{refl, arith}
+use Rattle.std.proofs.Common.{ℕ, List, length, refl, ap, arith}
+use Rattle.node_marks.specs.Marks.{marked}
+use Rattle.node_marks.proofs.Marking.{length-without}
 use Rattle.tree_lines.proofs.Walking.{has_last, kept_leave, not_free_now, is_inside_now}
 use Rattle.tree_lines.proofs.trails.Trail.leave.Goals as goal
 
@@ -27,6 +29,13 @@ invariant_of-self-then-step c =
       kept_leave s.size s.candidates.items c.pop.new.self.items c.in_ok-step.step s.inside s.free c.remove.new.self c.add.new.self last
           c.add.ensures.size c.add.ensures.nodes c.remove.ensures.size (rw c.if-step.true c.remove.ensures.nodes),
       omega (arith, c.pop.ensures.capacity, c.self.invariant.1),
+      omega (
+        arith,
+        ap (λ (ks : List ℕ). length ks) c.remove.ensures.nodes,
+        length-without c.in_ok-step.step.node (marked s.inside)
+            (is_inside_now s.candidates.items c.pop.new.self.items c.in_ok-step.step s.size s.inside s.free last c.if-step.true),
+        c.self.invariant.2,
+      ),
     )
 
 pub invariant_of-self-else-step : goal.invariant_of-self-else-step
@@ -36,4 +45,12 @@ invariant_of-self-else-step c =
       kept_leave s.size s.candidates.items c.pop.new.self.items c.in_ok-step.step s.inside s.free s.inside c.add.new.self last
           c.add.ensures.size c.add.ensures.nodes refl (rw c.if-step.false refl),
       omega (arith, c.pop.ensures.capacity, c.self.invariant.1),
+      c.self.invariant.2,
     )
+
+pub overflow_sub-self : goal.overflow_sub-self
+overflow_sub-self c =
+    let s = c.self.inside in
+    let last = has_last s.size s.candidates.items c.pop.new.self.items s.steps.items c.in_ok-step.step s.inside s.free c.in_ok-step.ensures.items c.self.invariant.0 in
+    let there = is_inside_now s.candidates.items c.pop.new.self.items c.in_ok-step.step s.size s.inside s.free last c.if-step.true in
+    omega (arith, length-without c.in_ok-step.step.node (marked s.inside) there, c.self.invariant.2)
