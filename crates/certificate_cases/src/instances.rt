@@ -2,9 +2,7 @@
 
 ghost use Rattle.std.specs.Prelude.{◌≡◌, None, IfOk, IfSome};
 
-use hub_model::{
-    Factors, Instance, MOST_FACTOR, Nodes, Order, Parts, Tail, Terms, is_cost_list, is_node_list,
-};
+use hub_model::{Factors, Instance, MOST_FACTOR, Nodes, Parts, Terms, is_cost_list, is_node_list};
 use std::alloc::{AllocError, Global};
 
 /// The instance of these numbers: factors, candidates, flows, distances and fixed costs, and perhaps the number of hubs
@@ -94,18 +92,12 @@ fn built(
 }
 
 fn with_candidates(candidates: Nodes) -> Terms
-    ensures { result.fixed ≡ None }
+    ensures fixed { result.fixed ≡ None }
+    ensures hubs { result.hubs ≡ None }
 {
     Terms {
-        order: Order::FlowFirst,
-        tail: Tail::Ignore,
-        divide: 1,
-        collect: None,
-        trunk: None,
-        deliver: None,
-        fixed: None,
         candidates: Some(candidates),
-        no_self: false,
+        ..Terms::plain()
     }
 }
 

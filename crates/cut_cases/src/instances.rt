@@ -3,7 +3,7 @@
 ghost use Rattle.std.specs.Prelude.{◌≡◌, ◌^◌, pos, ◌≤ℤ◌, None, IfOk, IfSome};
 
 use crate::words::{list, node, number};
-use hub_model::{Factors, Instance, Nodes, Order, Parts, Tail, Terms, is_node_list};
+use hub_model::{Factors, Instance, Nodes, Parts, Terms, is_node_list};
 use std::alloc::{AllocError, Global};
 
 /// The factors of a file.
@@ -22,7 +22,9 @@ pub fn instance_of(alloc: Global, line: &str) -> Result<Option<Instance>, AllocE
     built(alloc, &terms, line)
 }
 
-fn built(alloc: Global, terms: &Terms, line: &str) -> Result<Option<Instance>, AllocError> {
+fn built(alloc: Global, terms: &Terms, line: &str) -> Result<Option<Instance>, AllocError>
+    requires { terms.now.hubs ≡ None }
+{
     match parts(alloc, line)? {
         Some(parts) => Ok(Instance::build(alloc, parts, terms, None).ok()),
         None => Ok(None),
@@ -40,18 +42,17 @@ fn parts(alloc: Global, line: &str) -> Result<Option<Parts>, AllocError>
 }
 
 /// The options: the candidates, the factors and the fixed cost of each node.
-fn terms(alloc: Global, line: &str) -> Result<Terms, AllocError> {
+fn terms(alloc: Global, line: &str) -> Result<Terms, AllocError>
+    ensures { IfOk result (λ terms. terms.hubs ≡ None) }
+{
     let candidates = candidates(alloc, line)?;
     Ok(Terms {
-        order: Order::FlowFirst,
-        tail: Tail::Ignore,
-        divide: 1,
         collect: Some(factor(line, " collect ")),
         trunk: Some(factor(line, " trunk ")),
         deliver: Some(factor(line, " deliver ")),
         fixed: fixed(line),
         candidates,
-        no_self: false,
+        ..Terms::plain()
     })
 }
 

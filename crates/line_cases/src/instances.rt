@@ -3,9 +3,7 @@
 ghost use Rattle.std.specs.Prelude.{◌≡◌, None, IfOk, IfSome};
 
 use crate::numbers::{nodes, scaled};
-use hub_model::{
-    Factors, Instance, MOST_FACTOR, Nodes, Order, Parts, Tail, Terms, is_cost_list, is_node_list,
-};
+use hub_model::{Factors, Instance, MOST_FACTOR, Nodes, Parts, Terms, is_cost_list, is_node_list};
 use std::alloc::{AllocError, Global};
 
 /// The instance of these numbers: factors, candidates, flows, distances and fixed costs, if it is one.
@@ -88,17 +86,11 @@ fn built(
 }
 
 fn with_candidates(candidates: Nodes) -> Terms
-    ensures { result.fixed ≡ None }
+    ensures fixed { result.fixed ≡ None }
+    ensures hubs { result.hubs ≡ None }
 {
     Terms {
-        order: Order::FlowFirst,
-        tail: Tail::Ignore,
-        divide: 1,
-        collect: None,
-        trunk: None,
-        deliver: None,
-        fixed: None,
         candidates: Some(candidates),
-        no_self: false,
+        ..Terms::plain()
     }
 }

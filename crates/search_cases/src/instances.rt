@@ -2,7 +2,7 @@
 
 ghost use Rattle.std.specs.Prelude.{◌≡◌, None, IfOk, IfSome};
 
-use hub_model::{Factors, Instance, Nodes, Order, Parts, Tail, Terms, is_cost_list, is_node_list};
+use hub_model::{Factors, Instance, Nodes, Parts, Terms, is_cost_list, is_node_list};
 use std::alloc::{AllocError, Global};
 
 /// The instance of the numbers behind `fixed`, `candidates`, `trunk`, `flows` and `distances`; none where they are
@@ -56,22 +56,16 @@ fn first(numbers: &[u32]) -> u32 {
 
 // The terms that name the candidates.
 fn terms(alloc: Global, line: &str) -> Result<Option<Terms>, AllocError>
-    ensures { IfOk result (λ found. IfSome found (λ terms. terms.fixed ≡ None)) }
+    ensures fixed { IfOk result (λ found. IfSome found (λ terms. terms.fixed ≡ None)) }
+    ensures hubs { IfOk result (λ found. IfSome found (λ terms. terms.hubs ≡ None)) }
 {
     let candidates = numbers(alloc, line, "candidates")?;
     if !is_node_list(&candidates) {
         return Ok(None);
     }
     Ok(Some(Terms {
-        order: Order::FlowFirst,
-        tail: Tail::Ignore,
-        divide: 1,
-        collect: None,
-        trunk: None,
-        deliver: None,
-        fixed: None,
         candidates: Some(Nodes::from_vec(candidates)),
-        no_self: false,
+        ..Terms::plain()
     }))
 }
 
