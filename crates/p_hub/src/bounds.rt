@@ -65,7 +65,8 @@ pub fn closes_p(weighting: &Weighting, branch: &Branch, target: i128, p: u32) ->
     requires nodes { IsBranchBelow (length weighting.now.fixed.now) branch.now }
     requires target { (pos 0 ≤ℤ target) × (target ≤ℤ pos (10 ^ 30)) }
     requires room { HasRoom (Some p) branch.now }
-    ensures { IsTrue result ↔ Closes (natural weighting.now.denom) (natural target) (counted_of p (weighting_of weighting.now) branch.now) }
+    ensures { IsTrue result
+        ↔ Closes (natural weighting.now.denom) (natural target) (counted_of p (weighting_of weighting.now) branch.now) }
 {
     bound_p(weighting, branch, p) > threshold(weighting.denom, target)
 }

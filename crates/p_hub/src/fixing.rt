@@ -29,7 +29,8 @@ pub fn fix_p(
     requires target { (pos 0 ≤ℤ target) × (target ≤ℤ pos (10 ^ 30)) }
     requires between { IsBetween p branch.now }
     requires not_closed { counted_closes p (weighting_of weighting.now) (natural target) branch.now ≡ false }
-    ensures { IfOk result (λ sides. sides.items ≡ counted_fixings p (weighting_of weighting.now) (natural target) branch.now) }
+    ensures { IfOk result (λ sides. sides.items
+        ≡ counted_fixings p (weighting_of weighting.now) (natural target) branch.now) }
 {
     let mut room = [0; ROOM];
     let gains = &mut room[..weighting.fixed.len()];

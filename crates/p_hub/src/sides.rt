@@ -28,7 +28,7 @@ impl Margins {
         requires gain { IsWithin most_gain gain }
         ensures { result ≡ side_by self.now.bound self.now.last self.now.next self.now.threshold gain }
     {
-        // Closed, a node that counted gives way to the next one; open, one that did not count takes the last one's place.
+        // A closed node that counted gives way to the next one; an open one that did not takes the last one's place.
         let closed = self.bound + (self.next - gain).max(0);
         if closed > self.threshold {
             return Some(Side::In);

@@ -71,8 +71,8 @@ counts c = omega (arith, c.loop-i-test.false, c.loop-i.auto.i-end, ap length c.i
 
 missing_within : (c : goal.After-loop-i) → IsWithin (most_nodes * most_gain) (to_z w128 c.loop-i.missing-bits)
 missing_within c =
-    front_within c.args.rising.now c.loop-i.i (to_z w128 c.loop-i.missing-bits) (omega (arith, counts c, c.requires.room.1, few_free (goal.at.overflow_add-result c).After-inside-inside))
-    c.loop-i.invariant
+    let few = few_free (goal.at.overflow_add-result c).After-inside-inside in
+    front_within c.args.rising.now c.loop-i.i (to_z w128 c.loop-i.missing-bits) (omega (arith, counts c, c.requires.room.1, few)) c.loop-i.invariant
 
 base_is : (c : goal.After-loop-i) → IsWithin most_gain c.signed.result
 base_is c = base_within c.signed.result c.args.base c.signed.ensures c.requires.base
