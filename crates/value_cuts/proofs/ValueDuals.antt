@@ -1,5 +1,5 @@
 -- The dual of any values is feasible, and no price above its own is.
-use Rattle.std.proofs.Common.{◌≡◌, ◌≢◌, ℕ, ◌+◌, ◌*◌, ◌<◌, ◌≤◌, nat_eq, List, length, All, Contains, ◌⊎◌, inl, inr, ⊎_elim, refl, ap, sym, ◌∙◌, eq-eqb, ne_eqb, eqb-true, mul-add, mul-le-mul_left, arith}
+use Rattle.std.proofs.Common.{◌≡◌, ◌≢◌, ℕ, ◌+◌, ◌*◌, ◌<◌, ◌≤◌, nat_eq, None, List, length, All, Contains, ◌⊎◌, inl, inr, ⊎_elim, refl, ap, sym, ◌∙◌, eq-eqb, ne_eqb, eqb-true, mul-add, mul-le-mul_left, arith}
 use Rattle.std.proofs.lemmas.Bool.{cases_lt, eqb-false, false≢true}
 use Rattle.std.proofs.lemmas.List.{get_or_default}
 use Rattle.std.proofs.lemmas.List.Elements.{All-weaker, Contains-get_or}
@@ -162,10 +162,10 @@ dual_is p unit row c =
 
 -- ---- no greater price
 
-pub none_greater : (p : Problem) (unit : ℕ) (row : List ℕ) (c : ℕ × ℕ) (d : Prices) → IsProblem p → IsDual p 1 c d
+pub none_greater : (p : Problem) (unit : ℕ) (row : List ℕ) (c : ℕ × ℕ) (d : Prices) → IsProblem p → p.longest ≡ None → IsDual p 1 c d
     → ((k : ℕ) → Contains p.candidates k → value_at d.u k ≡ value_at (value_dual p unit row c).u k)
     → d.a ≤ flow p c.0 c.1 * length_ceiling p → d.a ≤ (value_dual p unit row c).a
-none_greater p unit row c d ok is same low =
+none_greater p unit row c d ok any is same low =
     let all = scaled_above p c v w d.a low (λ x y first last. by_test (nat_eq x y) (λ e. alone x y first (eqb-true x y e)) (λ e. by_two x y first last (eqb-false x y e))) in
     omega (arith, all, dual_price p unit row c)
   where
@@ -196,7 +196,7 @@ none_greater p unit row c d ok is same low =
           arith,
           here,
           parts,
-          is.one_hub k (Contains-get_or p.candidates x 0 within) (any_allowed p c k k ok.any_length),
+          is.one_hub k (Contains-get_or p.candidates x 0 within) (any_allowed p c k k any),
           listed x within,
           mul-add w (route_length p c.0 c.1 k k) (v k),
           length_costs p c.0 c.1 k k,
@@ -211,7 +211,7 @@ none_greater p unit row c d ok is same low =
           arith,
           parts,
           is.two_hubs k m (Contains-get_or p.candidates x 0 first) (Contains-get_or p.candidates y 0 last) (nodes_apart x y first last apart)
-              (any_allowed p c k m ok.any_length),
+              (any_allowed p c k m any),
           listed x first,
           listed y last,
           mul-add w (route_length p c.0 c.1 k m + v k) (v m),

@@ -22,7 +22,8 @@ pub fn value_cut_is_first()
     ensures { ValueCutIsFirst }
 {}
 
-/// Up to the ceiling, no feasible dual with the same values has a greater price.
+/// Where the length of routes is not limited, no feasible dual with the same values has a greater price, up to the
+/// ceiling.
 pub fn no_greater_price()
     ensures { NoGreaterPrice }
 {}
