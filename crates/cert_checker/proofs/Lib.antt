@@ -4,9 +4,11 @@ mod RunPlaces
 mod RunClaims
 mod FirstFailing
 mod DualValues
+mod Blocked
 mod DualEntries
 mod DualSums
 mod Mixing
+mod GainSums
 mod TreeWalks
 mod WholeChecks
 mod CutLists

@@ -3,7 +3,7 @@ use Rattle.std.specs.Prelude.{◌≡◌, ℕ, ◌<◌, List, length, codes}
 use Rattle.hub_spec.specs.Problem.{Problem}
 use Rattle.hub_spec.specs.Plans.{NoPlanBelow, IsOptimal}
 use Rattle.hub_spec.specs.Certificates.{Proof, Holds}
-use Rattle.cert_spec.specs.Conditions.{Claim, Kind, Size, BoundOverCost, Hubs, Number, Route, Cost, Dual, Sum, Branch, Empty, Block, Count, CutNumber, Multiple, Weight, Leaf, AllHold, FailsFirst, conditions}
+use Rattle.cert_spec.specs.Conditions.{Claim, Kind, Size, BoundOverCost, Hubs, Number, Route, Length, Cost, Dual, Sum, Branch, Empty, Block, Count, CutNumber, Multiple, Weight, Leaf, AllHold, FailsFirst, conditions}
 use Rattle.cert_spec.specs.PartConditions.{hub_claims}
 use Rattle.cert_checker.specs.declared.kinds.Kind as code
 use Rattle.cert_checker.specs.declared.kinds.Verdict as answer
@@ -15,12 +15,16 @@ abbrev pub kind_of : code.Kind → Kind
 kind_of code.TheVariants.Size = Size
 kind_of code.TheVariants.BoundOverCost = BoundOverCost
 kind_of code.TheVariants.Hubs = Hubs
+kind_of code.TheVariants.Number = Number
 kind_of code.TheVariants.Route = Route
+kind_of code.TheVariants.Length = Length
 kind_of code.TheVariants.Cost = Cost
 kind_of code.TheVariants.Dual = Dual
 kind_of code.TheVariants.Sum = Sum
 kind_of code.TheVariants.Branch = Branch
 kind_of code.TheVariants.Empty = Empty
+kind_of code.TheVariants.Block = Block
+kind_of code.TheVariants.Count = Count
 kind_of code.TheVariants.CutNumber = CutNumber
 kind_of code.TheVariants.Multiple = Multiple
 kind_of code.TheVariants.Weight = Weight
@@ -33,6 +37,7 @@ kind_name BoundOverCost = codes "BoundOverCost"
 kind_name Hubs = codes "Hubs"
 kind_name Number = codes "Number"
 kind_name Route = codes "Route"
+kind_name Length = codes "Length"
 kind_name Cost = codes "Cost"
 kind_name Dual = codes "Dual"
 kind_name Sum = codes "Sum"

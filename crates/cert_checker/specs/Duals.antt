@@ -1,8 +1,8 @@
 -- The conditions on a dual whose values are listed by node, and the sums of a cut.
-use Rattle.std.specs.Prelude.{◌≡◌, ℕ, ◌+◌, ◌*◌, ◌^◌, ◌<◌, ◌≤◌, List, length, slice_index, slice_index_or, Option, All, ◌⊎◌}
+use Rattle.std.specs.Prelude.{◌≡◌, ℕ, true, ◌+◌, ◌*◌, ◌^◌, ◌<◌, ◌≤◌, List, length, slice_index, slice_index_or, Option, All, ◌⊎◌}
 use Rattle.std.specs.Option.{MatchOption}
 use Rattle.hub_spec.specs.Limits.{most_nodes, most_part}
-use Rattle.hub_spec.specs.Problem.{Problem, commodity_at, route_cost}
+use Rattle.hub_spec.specs.Problem.{Problem, commodity_at, route_cost, is_allowed}
 use Rattle.hub_spec.specs.Cuts.{Prices, value_at, IsDual, Cut, total, load}
 use Rattle.hub_spec.specs.Ranges.{IsDualInRange}
 use Rattle.cert_spec.specs.Text.{dual_runs}
@@ -26,14 +26,14 @@ most_sum = most_duals * 10 ^ 33
 abbrev pub AreValues : List (ℕ × ℕ) → List ℕ → Type 0
 AreValues u values = (k : ℕ) → slice_index values k ≡ value_at u k
 
--- the route through one hub, as often as the part says, and the hub's value are no less than the price
+-- the route through one hub, as often as the part says, and the hub's value are no less than the price, if it is allowed
 abbrev pub IsCoveredSingle : Problem → ℕ → ℕ × ℕ → ℕ → List ℕ → ℕ → Type 0
-IsCoveredSingle p part c a values k = a ≤ part * route_cost p c.0 c.1 k k + slice_index values k
+IsCoveredSingle p part c a values k = is_allowed p c k k ≡ true → a ≤ part * route_cost p c.0 c.1 k k + slice_index values k
 
--- the hubs are one, or the route through both, as often, and their values are no less than the price
+-- the hubs are one, or the route through both, as often, and their values are no less than the price, if it is allowed
 abbrev pub IsCovered : Problem → ℕ → ℕ × ℕ → ℕ → List ℕ → ℕ → ℕ → Type 0
 IsCovered p part c a values k m =
-    (k ≡ m) ⊎ (a ≤ part * route_cost p c.0 c.1 k m + slice_index values k + slice_index values m)
+    is_allowed p c k m ≡ true → (k ≡ m) ⊎ (a ≤ part * route_cost p c.0 c.1 k m + slice_index values k + slice_index values m)
 
 -- the first hub is covered with each candidate as the last
 abbrev pub IsCoveredFrom : Problem → ℕ → ℕ × ℕ → ℕ → List ℕ → ℕ → Type 0

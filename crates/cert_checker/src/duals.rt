@@ -102,8 +102,8 @@ fn is_dual(instance: &Instance, part: u32, commodity: (u32, u32), dual: &Dual) -
     is_covered_by_all(instance, part, commodity, dual.price(), values)
 }
 
-/// Tells whether the price is covered by the routes, as often as the part says, and the values of each candidate and of
-/// each two.
+/// Tells whether the price is covered by the routes that are allowed, as often as the part says, and the values of each
+/// candidate and of each two.
 fn is_covered_by_all(
     instance: &Instance,
     part: u32,
@@ -179,7 +179,7 @@ fn is_covered_by(
     ensures { IsTrue result ↔ IsCoveredSingle instance.now part commodity a values.now k }
 {
     let cost = instance.cost_of_route(commodity.0, commodity.1, k, k);
-    a <= times(part, cost) + values[k as usize]
+    a <= times(part, cost) + values[k as usize] || !instance.allowed(commodity.0, commodity.1, k, k)
 }
 
 fn is_covered_by_pairs(
@@ -259,6 +259,7 @@ fn is_covered(
     }
     let cost = instance.cost_of_route(commodity.0, commodity.1, k, m);
     a <= times(part, cost) + values[k as usize] + values[m as usize]
+        || !instance.allowed(commodity.0, commodity.1, k, m)
 }
 
 /// The cost as often as the part says.

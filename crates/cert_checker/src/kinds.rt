@@ -3,18 +3,24 @@
 ghost use Rattle.std.specs.Prelude.{◌≡◌};
 ghost use Rattle.cert_checker.specs.Answers.{kind_of, kind_name};
 
-/// What a condition is about. `BoundOverCost` fails where the bound is above the cost.
+/// What a condition is about. `BoundOverCost` fails where the bound is above the cost, `Number` where the plan has not as
+/// many hubs as are wanted, `Length` where a route is not allowed, `Block` where a commodity has a route, and `Count`
+/// where a leaf has no room for the wanted hubs, or a line says so of a branch that has.
 #[derive(Clone, Copy, Debug, PartialEq, Eq)]
 pub enum Kind {
     Size,
     BoundOverCost,
     Hubs,
+    Number,
     Route,
+    Length,
     Cost,
     Dual,
     Sum,
     Branch,
     Empty,
+    Block,
+    Count,
     CutNumber,
     Multiple,
     Weight,
@@ -30,12 +36,16 @@ impl Kind {
             Kind::Size => "Size",
             Kind::BoundOverCost => "BoundOverCost",
             Kind::Hubs => "Hubs",
+            Kind::Number => "Number",
             Kind::Route => "Route",
+            Kind::Length => "Length",
             Kind::Cost => "Cost",
             Kind::Dual => "Dual",
             Kind::Sum => "Sum",
             Kind::Branch => "Branch",
             Kind::Empty => "Empty",
+            Kind::Block => "Block",
+            Kind::Count => "Count",
             Kind::CutNumber => "CutNumber",
             Kind::Multiple => "Multiple",
             Kind::Weight => "Weight",

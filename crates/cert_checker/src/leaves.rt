@@ -10,15 +10,19 @@ ghost use Rattle.cert_spec.specs.Conditions.{AllHold};
 ghost use Rattle.cert_checker.specs.Answers.{IsFailure};
 ghost use Rattle.cert_checker.specs.Walks.{leaf_claims};
 
-use crate::bounds::{leaf_bound, part_at};
+use crate::bounds::leaf_bound;
+use crate::ends::has_room;
 use crate::failures::Failure;
 use crate::kinds::Kind;
+use crate::mixes::part_at;
 use crate::sums::SummedCut;
 use hub_model::Instance;
 use plan_model::{Branch, Mix};
+use std::alloc::Global;
 
 /// Tries the conditions of a leaf of the branch with this mix of the cuts, which stands at this line.
 pub(crate) fn check_leaf(
+    alloc: Global,
     instance: &Instance,
     cuts: &[SummedCut<'_>],
     target: u128,
@@ -34,6 +38,12 @@ pub(crate) fn check_leaf(
     ensures holds { OnOk result (AllHold (leaf_claims instance.now cuts.now target line branch.now mix.now)) }
     ensures fails { IfErr result (IsFailure (leaf_claims instance.now cuts.now target line branch.now mix.now)) }
 {
+    if !has_room(instance, branch) {
+        return Err(Failure::Fails {
+            kind: Kind::Count,
+            line,
+        });
+    }
     if !are_within_cuts(cuts, mix) {
         return Err(Failure::Fails {
             kind: Kind::CutNumber,
@@ -52,7 +62,7 @@ pub(crate) fn check_leaf(
             line,
         });
     }
-    let bound = leaf_bound(instance, cuts, branch, mix);
+    let bound = leaf_bound(alloc, instance, cuts, branch, mix)?;
     if !closes(mix.denominator(), target, bound) {
         return Err(Failure::Fails {
             kind: Kind::Leaf,

@@ -20,7 +20,10 @@ mod sums;
 
 // The tree.
 mod bounds;
+mod ends;
+mod gains;
 mod leaves;
+mod mixes;
 mod walks;
 
 // All of it.

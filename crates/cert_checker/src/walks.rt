@@ -3,13 +3,14 @@
 ghost use Rattle.std.specs.Prelude.{◌≡◌, ℕ, ◌+◌, ◌^◌, ◌<◌, [], ◌∷◌, ◌++◌, length, map, reverse, IfOk, IfErr, OnOk, All, Contains};
 ghost use Rattle.hub_spec.specs.Problem.{IsProblem};
 ghost use Rattle.hub_spec.specs.Cuts.{IsCut};
-ghost use Rattle.hub_spec.specs.Trees.{root, open_child, closed_child, IsClosed, IsBranch};
-ghost use Rattle.cert_spec.specs.Conditions.{claim, Branch as of_branch, Empty, AllHold};
+ghost use Rattle.hub_spec.specs.Trees.{root, IsBranch};
+ghost use Rattle.cert_spec.specs.Conditions.{claim, Branch as of_branch, AllHold};
 ghost use Rattle.hub_spec.specs.Ranges.{IsShort, IsLineInRange};
 ghost use Rattle.plan_model.specs.Lines.{tree_line_of};
 ghost use Rattle.cert_checker.specs.Answers.{IsFailure};
 ghost use Rattle.cert_checker.specs.Walks.{coded_claims, children, IsStackAfter, root_claims};
 
+use crate::ends::{check_block, check_count, check_empty};
 use crate::failures::Failure;
 use crate::kinds::Kind;
 use crate::leaves::check_leaf;
@@ -91,8 +92,10 @@ fn check_line(
             put_children(alloc, branch, *k, pending)?;
             Ok(())
         }
-        TreeLine::Leaf(mix) => check_leaf(instance, cuts, target, line, branch, mix),
+        TreeLine::Leaf(mix) => check_leaf(alloc, instance, cuts, target, line, branch, mix),
         TreeLine::Empty => check_empty(line, branch),
+        TreeLine::Block { i, j } => check_block(instance, line, branch, (*i, *j)),
+        TreeLine::Count => check_count(instance, line, branch),
     }
 }
 
@@ -103,19 +106,6 @@ fn check_branch(line: u64, branch: &Branch, k: u32) -> Result<(), Failure>
     if !is_among(branch.free(), k) {
         return Err(Failure::Fails {
             kind: Kind::Branch,
-            line,
-        });
-    }
-    Ok(())
-}
-
-fn check_empty(line: u64, branch: &Branch) -> Result<(), Failure>
-    ensures holds { OnOk result (IsClosed branch.now) }
-    ensures fails { IfErr result (IsFailure (claim Empty line (IsClosed branch.now) ∷ [])) }
-{
-    if !branch.inside().is_empty() || !branch.free().is_empty() {
-        return Err(Failure::Fails {
-            kind: Kind::Empty,
             line,
         });
     }

@@ -7,7 +7,7 @@ pub returns : goal.returns
 returns c =
     let p = c.args.instance.now in
     dual_by_values p c.args.part c.args.commodity c.args.dual.now c.spread.new.values c.is_covered_by_all.result
-    c.size.ensures.problem.any_length c.spread.ensures.values
+    c.spread.ensures.values
     (c.lists_candidates.ensures.0 c.if-not-lists_candidates.false)
     (subst (λ (a : ℕ). IsTrue c.is_covered_by_all.result ↔ IsCoveredByAll p c.args.part c.args.commodity a c.spread.new.values) c.price.ensures
     c.is_covered_by_all.ensures)

@@ -1,30 +1,32 @@
-use Rattle.std.proofs.Common.{◌≡◌, ◌+◌, ap, refl, arith}
+use Rattle.std.proofs.Common.{rules}
+use Rattle.std.proofs.lemmas.Result.{err_from_is_err_and}
+use Rattle.hub_spec.specs.Problem.{commodities}
 use Rattle.cert_spec.specs.PartConditions.{route_claims}
-use Rattle.std.proofs.lemmas.List.{drop_all}
-use Rattle.cert_checker.specs.declared.kinds.Kind.TheVariants as code
-use Rattle.cert_checker.proofs.Parts.{route_claims_at}
-use Rattle.cert_checker.proofs.Reductions.{reduces_itself, reduces_same, not_by, fails_here, goes_on, none_left}
+use Rattle.cert_checker.proofs.Parts.{route_fails, route_holds, left_routes, no_routes_left}
+use Rattle.cert_checker.proofs.Reductions.{none_left}
 use Rattle.cert_checker.proofs.plans.check_routes.Goals as goal
 
-pub loop-i-init : goal.loop-i-init
-loop-i-init c =
-    let all = route_claims c.args.hubs.now c.args.line c.args.routes.now in
-    reduces_same all all _ (ap (λ m. route_claims c.args.hubs.now m c.args.routes.now) (let e : c.args.line ≡ c.args.line + 0 = omega arith in e))
-    (reduces_itself all)
+pub returns-in_err-check_route-clause-fails : goal.returns-in_err-check_route-clause-fails
+returns-in_err-check_route-clause-fails c =
+    let p = c.args.instance.now in
+    let hubs = c.args.hubs.now in
+    let rs = c.args.routes.now in
+    let e = err_from_is_err_and c.from_residual.result c.from_residual.ensures.1 in
+    rw (e.1, e.2) (route_fails (route_claims p hubs c.args.line (commodities p.size) rs) p hubs c.args.line rs c.size-n.result c.loop-t.t _
+    c.size-n.ensures.value (search rules) c.requires.one_route_each c.loop-t.invariant c.in_err-check_route.ensures.fails)
 
-pub returns-then-not-goes_through-clause-fails : goal.returns-then-not-goes_through-clause-fails
-returns-then-not-goes_through-clause-fails c =
-    fails_here (route_claims c.args.hubs.now c.args.line c.args.routes.now) _ _ _ code.Route c.loop-i.invariant
-    (route_claims_at c.args.hubs.now c.args.line c.args.routes.now c.loop-i.i c.loop-i-test.true)
-    (not_by c.goes_through.result c.goes_through.ensures c.if-not-goes_through.true) refl
-
-pub loop-i-preserved : goal.loop-i-preserved
-loop-i-preserved c =
-    goes_on (route_claims c.args.hubs.now c.args.line c.args.routes.now) _ _ _ c.loop-i.invariant
-    (route_claims_at c.args.hubs.now c.args.line c.args.routes.now c.loop-i.i c.loop-i-test.true)
-    (c.goes_through.ensures.0 c.if-not-goes_through.false)
+pub loop-t-preserved : goal.loop-t-preserved
+loop-t-preserved c =
+    let p = c.args.instance.now in
+    let hubs = c.args.hubs.now in
+    let rs = c.args.routes.now in
+    route_holds (route_claims p hubs c.args.line (commodities p.size) rs) p hubs c.args.line rs c.size-n.result c.loop-t.t
+    c.size-n.ensures.value (search rules) c.requires.one_route_each c.loop-t.invariant c.in_ok-check_route.ensures.holds
 
 pub returns-clause-holds : goal.returns-clause-holds
 returns-clause-holds c =
-    none_left (route_claims c.args.hubs.now c.args.line c.args.routes.now) _ c.loop-i.invariant
-    (ap (route_claims c.args.hubs.now (c.args.line + c.loop-i.i)) (drop_all c.loop-i.i c.args.routes.now c.loop-i-test.false))
+    let p = c.args.instance.now in
+    let hubs = c.args.hubs.now in
+    let rs = c.args.routes.now in
+    none_left (route_claims p hubs c.args.line (commodities p.size) rs) (left_routes p hubs c.args.line rs c.loop-t.t) c.loop-t.invariant
+    (no_routes_left p hubs c.args.line rs c.size-n.result c.loop-t.t c.size-n.ensures.value (search rules))

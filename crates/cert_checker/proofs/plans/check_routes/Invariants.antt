@@ -1,7 +1,9 @@
-use Rattle.std.proofs.Common.{◌+◌, drop}
+use Rattle.hub_spec.specs.Problem.{commodities}
 use Rattle.cert_spec.specs.PartConditions.{route_claims}
 use Rattle.cert_checker.proofs.Reductions.{Reduces}
+use Rattle.cert_checker.proofs.Parts.{left_routes}
 use Rattle.cert_checker.proofs.plans.check_routes.Given as goal
 
-abbrev pub invariant-loop-i : goal.invariant-loop-i
-invariant-loop-i l = Reduces (route_claims l.hubs l.line l.routes) (route_claims l.hubs (l.line + l.i) (drop l.i l.routes))
+abbrev pub invariant-loop-t : goal.invariant-loop-t
+invariant-loop-t l =
+    Reduces (route_claims l.instance l.hubs l.line (commodities l.instance.size) l.routes) (left_routes l.instance l.hubs l.line l.routes l.t)

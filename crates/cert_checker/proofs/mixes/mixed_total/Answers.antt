@@ -3,7 +3,7 @@ use Rattle.hub_spec.specs.Cuts.{total}
 use Rattle.hub_spec.specs.Trees.{weight_sum, cut_at}
 use Rattle.hub_spec.proofs.Mixes.{mixed_limit}
 use Rattle.cert_checker.proofs.Mixing.{product_fits, next_mixed}
-use Rattle.cert_checker.proofs.bounds.mixed_total.Goals as goal
+use Rattle.cert_checker.proofs.mixes.mixed_total.Goals as goal
 
 pub overflow_mul-sum : goal.overflow_mul-sum
 overflow_mul-sum c =
