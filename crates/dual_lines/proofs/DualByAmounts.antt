@@ -2,10 +2,9 @@
 use Rattle.std.proofs.Common.{ℕ, ◌^◌, ◌<◌, ◌≤◌, List, [], ◌∷◌, slice_index, get_or, nat_eq, Bool, IsTrue, ◌↔◌, All, Contains, inl, inr, ⊎_elim, subst, arith}
 use Rattle.std.proofs.lemmas.Bool.{cases_eq, cond_both}
 use Rattle.std.proofs.lemmas.List.Elements.{All-head, All-tail, All-contains, All-weaker, All-get_or, All-from_get_or, Contains-get_or}
-use Rattle.hub_spec.specs.Problem.{Problem, IsProblem}
+use Rattle.hub_spec.specs.Problem.{Problem}
 use Rattle.hub_spec.specs.Ranges.{IsAmount, IsDualInRange}
 use Rattle.hub_spec.specs.Cuts.{Prices, value_at, IsDual}
-use Rattle.hub_spec.proofs.PlanCosts.{any_allowed}
 use Rattle.hub_spec.proofs.Sets.{All-from_contains}
 use Rattle.dual_lines.specs.Covers.{IsCoveredBy, IsCoveredFirst}
 use Rattle.dual_lines.specs.Places.{ArePlaces}
@@ -55,29 +54,29 @@ dual_from_amounts : (p : Problem) (part : ℕ) (c : ℕ × ℕ) (d : Prices) (am
     → All (λ (e : ℕ × ℕ). Contains p.candidates e.0) d.u → All (IsCoveredFirst p part c d.a amounts) p.candidates → IsDual p part c d
 dual_from_amounts p part c d amounts are listed covered = record {
   are_candidates = listed;
-  one_hub = λ k in_k _.
-      let h = All-contains (IsCoveredFirst p part c d.a amounts) p.candidates k covered in_k in omega (arith, h.0, are.each k);
-  two_hubs = λ k m in_k in_m apart _.
-      ⊎_elim (λ same. absurd (apart same)) (λ h. omega (arith, h, are.each k, are.each m))
+  one_hub = λ k in_k allowed.
+      let h = All-contains (IsCoveredFirst p part c d.a amounts) p.candidates k covered in_k in omega (arith, h.0 allowed, are.each k);
+  two_hubs = λ k m in_k in_m apart allowed.
+      ⊎_elim (λ same. absurd (apart same)) (λ h. omega (arith, h allowed, are.each k, are.each m))
       (All-contains (IsCoveredBy p part c d.a amounts k) p.candidates m
       (All-contains (IsCoveredFirst p part c d.a amounts) p.candidates k covered in_k).1 in_m);
 }
 
-covered_from_dual : (p : Problem) (part : ℕ) (c : ℕ × ℕ) (d : Prices) (amounts : List ℕ) → IsProblem p → AreAmounts p.size d.u amounts → IsDual p part c d
+covered_from_dual : (p : Problem) (part : ℕ) (c : ℕ × ℕ) (d : Prices) (amounts : List ℕ) → AreAmounts p.size d.u amounts → IsDual p part c d
     → All (IsCoveredFirst p part c d.a amounts) p.candidates
-covered_from_dual p part c d amounts ok are h =
+covered_from_dual p part c d amounts are h =
     All-from_contains (IsCoveredFirst p part c d.a amounts) p.candidates (λ k in_k. (
-      (let g = h.one_hub k in_k (any_allowed p c k k ok.any_length) in omega (arith, g, are.each k)),
+      λ allowed. omega (arith, h.one_hub k in_k allowed, are.each k),
       All-from_contains (IsCoveredBy p part c d.a amounts k) p.candidates (λ m in_m.
-          ⊎_elim (λ same. inl same) (λ apart. let g = h.two_hubs k m in_k in_m apart (any_allowed p c k m ok.any_length) in inr (omega (arith, g, are.each k, are.each m)))
+          ⊎_elim (λ same. inl same) (λ apart. inr (λ allowed. omega (arith, h.two_hubs k m in_k in_m apart allowed, are.each k, are.each m)))
           (cases_eq k m)),
     ))
 
--- the dual is feasible just where only candidates are listed, and all routes and values cover its price
-pub dual_by_amounts : (p : Problem) (part : ℕ) (c : ℕ × ℕ) (d : Prices) (amounts : List ℕ) (covered : Bool) → IsProblem p → AreAmounts p.size d.u amounts
+-- the dual is feasible just where only candidates are listed, and all routes that are allowed and values cover its price
+pub dual_by_amounts : (p : Problem) (part : ℕ) (c : ℕ × ℕ) (d : Prices) (amounts : List ℕ) (covered : Bool) → AreAmounts p.size d.u amounts
     → All (λ (e : ℕ × ℕ). Contains p.candidates e.0) d.u → (IsTrue covered ↔ All (IsCoveredFirst p part c d.a amounts) p.candidates)
     → (IsTrue covered ↔ IsDual p part c d)
-dual_by_amounts p part c d amounts covered ok are listed says = (
+dual_by_amounts p part c d amounts covered are listed says = (
   λ yes. dual_from_amounts p part c d amounts are listed (says.0 yes),
-  λ dual. says.1 (covered_from_dual p part c d amounts ok are dual),
+  λ dual. says.1 (covered_from_dual p part c d amounts are dual),
 )

@@ -23,10 +23,10 @@ unfolding route_cost
 covered_by_unit p part c a price amounts units x low are place covered =
     let f = flow p c.0 c.1 in
     let k = candidate_at p x in (
-      alone_by_unit part f a price (collection_length p c.0 x) (trunk_length p x x) (delivery_length p c.1 x) (slice_index units x) (slice_index amounts k)
+      λ _. alone_by_unit part f a price (collection_length p c.0 x) (trunk_length p x x) (delivery_length p c.1 x) (slice_index units x) (slice_index amounts k)
           low covered.alone (are.all x place),
       All-from_get_or (IsCoveredBy p part c a amounts k) p.candidates 0 (λ y below.
-          inr (by_two_by_unit part f a price (collection_length p c.0 x) (trunk_length p x y) (delivery_length p c.1 y) (slice_index units x)
+          inr (λ _. by_two_by_unit part f a price (collection_length p c.0 x) (trunk_length p x y) (delivery_length p c.1 y) (slice_index units x)
           (slice_index units y) (slice_index amounts k) (slice_index amounts (candidate_at p y)) low (covered.by_two y below) (are.all x place)
           (are.all y below))),
     )
@@ -34,8 +34,8 @@ covered_by_unit p part c a price amounts units x low are place covered =
 -- the price 0 is covered by whatever
 free_covered : (p : Problem) (part : ℕ) (c : ℕ × ℕ) (a : ℕ) (amounts : List ℕ) (k : ℕ) → a ≤ 0 → IsCoveredFirst p part c a amounts k
 free_covered p part c a amounts k none = (
-  omega (arith, none),
-  All-from_get_or (IsCoveredBy p part c a amounts k) p.candidates 0 (λ y below. inr (omega (arith, none))),
+  λ _. omega (arith, none),
+  All-from_get_or (IsCoveredBy p part c a amounts k) p.candidates 0 (λ y below. inr (λ _. omega (arith, none))),
 )
 
 -- what is covered in steps is covered in costs
@@ -47,10 +47,10 @@ covered_by_cost l part c a price cost amounts values x low is are place covered 
     let p = l.problem in
     let f = flow p c.0 c.1 in
     let k = candidate_at p x in (
-      alone_by_unit part f a (l.step * price) (collection_length p c.0 x) (trunk_length p x x) (delivery_length p c.1 x) (l.step * slice_index values x)
+      λ _. alone_by_unit part f a (l.step * price) (collection_length p c.0 x) (trunk_length p x x) (delivery_length p c.1 x) (l.step * slice_index values x)
           (slice_index amounts k) whole covered.alone (value x place),
       All-from_get_or (IsCoveredBy p part c a amounts k) p.candidates 0 (λ y below.
-          inr (by_two_by_unit part f a (l.step * price) (collection_length p c.0 x) (trunk_length p x y) (delivery_length p c.1 y)
+          inr (λ _. by_two_by_unit part f a (l.step * price) (collection_length p c.0 x) (trunk_length p x y) (delivery_length p c.1 y)
           (l.step * slice_index values x) (l.step * slice_index values y) (slice_index amounts k) (slice_index amounts (candidate_at p y)) whole
           (covered.by_two y below) (value x place) (value y below))),
     )

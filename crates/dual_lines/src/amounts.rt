@@ -1,4 +1,5 @@
-//! The exact test: a price against the costs of routes, as often as its part says, and the values as they are listed.
+//! The exact test: a price against the costs of the routes that are allowed, as often as its part says, and the values as
+//! they are listed.
 
 ghost use Rattle.std.specs.Prelude.{◌≡◌, ◌*◌, ◌<◌, ◌≤◌, ◌↔◌, length, IsTrue, All};
 ghost use Rattle.hub_spec.specs.Limits.{most_part, most_cost};
@@ -57,7 +58,7 @@ fn is_covered_alone(instance: &Instance, line: Priced, amounts: &[u128], k: u32)
     ensures { IsTrue result ↔ IsCoveredAlone instance.now line.part (line.from, line.to) line.price amounts.now k }
 {
     let cost = times_part(line.part, instance.cost_of_route(line.from, line.to, k, k));
-    line.price <= cost + amounts[k as usize]
+    line.price <= cost + amounts[k as usize] || !instance.allowed(line.from, line.to, k, k)
 }
 
 fn is_covered_from(instance: &Instance, line: Priced, amounts: &[u128], k: u32) -> bool
@@ -93,7 +94,7 @@ fn is_covered_by(instance: &Instance, line: Priced, amounts: &[u128], k: u32, m:
     }
     let cost = times_part(line.part, instance.cost_of_route(line.from, line.to, k, m));
     let values = amounts[k as usize] + amounts[m as usize];
-    line.price <= cost + values
+    line.price <= cost + values || !instance.allowed(line.from, line.to, k, m)
 }
 
 /// The cost as often as the part says.

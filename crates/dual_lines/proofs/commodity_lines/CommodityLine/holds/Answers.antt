@@ -18,7 +18,7 @@ returns-then-self c =
     let line = c.self.inside.line in
     let d : Prices = record { a = line.price; u = c.self.inside.listed.items } in
     subst (λ (v : CommodityDual). IsTrue c.is_covered.result ↔ IsDual v.problem v.part v.commodity v.dual) c.self.view_is
-    (dual_by_amounts p line.part (line.from, line.to) d c.self.inside.amounts.items c.is_covered.result c.self.invariant.problem c.self.invariant.amounts
+    (dual_by_amounts p line.part (line.from, line.to) d c.self.inside.amounts.items c.is_covered.result c.self.invariant.amounts
     (listed_are_candidates p c.self.inside.places.items d c.self.invariant.places c.self.invariant.range (c.self.invariant.candidates.0 c.if-self.true))
     (subst (λ (vs : List ℕ). IsTrue c.is_covered.result ↔ All (IsCoveredFirst p line.part (line.from, line.to) line.price vs) p.candidates) c.deref.ensures.value
     c.is_covered.ensures))
