@@ -1,8 +1,10 @@
 -- The problem that a worked case is.
-use Rattle.std.specs.Prelude.{◌*◌, ◌^◌, map, None, Some}
+use Rattle.std.specs.Prelude.{ℕ, ◌*◌, ◌^◌, ◌≤◌, map, Option, None, Some}
+use Rattle.std.specs.Option.{option_map}
+use Rattle.hub_spec.specs.Limits.{most_nodes, most_length}
 use Rattle.hub_spec.specs.Problem.{Problem}
 use Rattle.file_spec.specs.Contents.{Contents}
-use Rattle.file_spec.specs.Options.{Options}
+use Rattle.file_spec.specs.Options.{Options, said_number}
 use Rattle.hub_model.specs.Amounts.{natural}
 use Rattle.hub_model.specs.Defaults.{plain_options}
 use Rattle.worked_cases.specs.declared.cases.Case.{Case}
@@ -20,9 +22,24 @@ contents_of case = record {
   costs = None;
 }
 
--- the options that name the case's candidates
+-- the longest route in 10^-3
+abbrev pub longest_of : Case → Option ℕ
+longest_of case = option_map (λ x. x * 10 ^ 3) case.longest
+
+-- a longest route, in 10^-3, or a number of hubs that may be asked for, not both
+abbrev pub MayBeAsked : Option ℕ → Option ℕ → Type 0
+MayBeAsked None None = Unit {0}
+MayBeAsked (Some most) None = most ≤ most_length
+MayBeAsked None (Some n) = (1 ≤ n) × (n ≤ most_nodes)
+MayBeAsked (Some most) (Some n) = ⊥
+
+-- the options that name the case's candidates, and what is asked for
 abbrev pub terms_of : Case → Options
-terms_of case = record plain_options { candidates = Some case.candidates.now }
+terms_of case = record plain_options {
+  candidates = Some case.candidates.now;
+  longest = longest_of case;
+  hubs = option_map said_number case.wanted;
+}
 
 -- the case's instance: flows in 10^-6, distances and factors in 10^-3, fixed costs in 10^-12
 abbrev pub problem_of : Case → Problem
@@ -36,6 +53,6 @@ problem_of case = record {
   trunk = natural case.factors.trunk;
   deliver = natural case.factors.deliver;
   listed_p = None;
-  longest = None;
-  wanted = None;
+  longest = longest_of case;
+  wanted = case.wanted;
 }
