@@ -1,5 +1,5 @@
 -- What a search found, as a certificate.
-use Rattle.std.specs.Prelude.{◌≡◌, ℕ, List, length, map, All, ◌⊎◌}
+use Rattle.std.specs.Prelude.{◌≡◌, ℕ, List, length, map, All, ◌⊎◌, None}
 use Rattle.hub_spec.specs.Problem.{Problem}
 use Rattle.hub_spec.specs.Trees.{Tree, TreeLine, preorder}
 use Rattle.hub_spec.specs.Certificates.{Proof, Holds}
@@ -26,11 +26,20 @@ proof_of version p found tree = record {
   tree = tree;
 }
 
--- its cuts fit, and its lines are those of a tree with which it is a certificate of the problem, and in each version that
--- there is within the ranges of a certificate
+-- no length of routes is limited, and any number of hubs will do
+pub record IsUnlimited (p : Problem) : Type 0 where
+  pub any_length : p.longest ≡ None
+  pub any_number : p.wanted ≡ None
+
+-- a version that has a text for each finding of the problem: the second, and where the problem is unlimited the first too
+abbrev pub IsVersionFor : Problem → ℕ → Type 0
+IsVersionFor p version = ((version ≡ 1) × IsUnlimited p) ⊎ IsSecond version
+
+-- its cuts fit, and its lines are those of a tree with which it is a certificate of the problem, and in each of these
+-- versions within the ranges of a certificate
 pub record IsProved (p : Problem) (found : Found) : Type 0 where
   pub fit : All (IsKeptFor p) found.cuts.cuts
   pub tree : Tree
   pub lines : lines_of found.tree.items ≡ preorder tree
-  pub in_range : (version : ℕ) → (version ≡ 1) ⊎ IsSecond version → IsInRange (proof_of version p found tree)
+  pub in_range : (version : ℕ) → IsVersionFor p version → IsInRange (proof_of version p found tree)
   pub holds : (version : ℕ) → Holds p (proof_of version p found tree)
