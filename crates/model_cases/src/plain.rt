@@ -12,9 +12,11 @@ use hub_plain::{
 use plan_model::{HubSet, plan_cost};
 use std::alloc::{AllocError, Global};
 
-/// What an optimal plan costs, by its routes.
+/// What an optimal plan costs, by its routes, if there is one.
 pub fn best(alloc: Global, instance: &Instance) -> Result<String, AllocError> {
-    let plan = best_plan(alloc, instance)?;
+    let Some(plan) = best_plan(alloc, instance)? else {
+        return String::from_str(alloc, "none");
+    };
     if !is_plan(instance, &plan) {
         return String::from_str(alloc, "no plan");
     }
@@ -24,7 +26,10 @@ pub fn best(alloc: Global, instance: &Instance) -> Result<String, AllocError> {
 
 /// The hubs and the routes of a copy of it.
 pub fn plan(alloc: Global, instance: &Instance) -> Result<String, AllocError> {
-    let plan = best_plan(alloc, instance)?.clone()?;
+    let Some(best) = best_plan(alloc, instance)? else {
+        return String::from_str(alloc, "none");
+    };
+    let plan = best.clone()?;
     let hubs = plan.hubs();
     let routes = plan.routes();
     format!(in alloc; "hubs {hubs:?} routes {routes:?}")
