@@ -1,29 +1,23 @@
 -- Lengths of ways, times the flow.
-use Rattle.std.proofs.Common.{◌≡◌, ℕ, ◌+◌, ◌-◌, ◌*◌, ◌<◌, List, length, slice_index, Contains, sym, ap, ap₂, subst, ◌∙◌, arith}
-use Rattle.std.proofs.lemmas.List.{get_or_default}
-use Rattle.std.proofs.lemmas.List.Elements.{Contains-get_or}
+use Rattle.std.proofs.Common.{◌≡◌, ℕ, ◌+◌, ◌*◌, ◌<◌, List, slice_index, Contains, ap, ap₂, subst, arith}
 use Rattle.hub_spec.specs.Problem.{Problem, flow, distance, route_cost}
 use Rattle.unit_duals.specs.Lengths.{UnitLegs, IsHub, stops, alone}
 use Rattle.leg_tables.specs.StopLegs.{stop_node, AreLegsOf, AreFirstLegsOf}
 use Rattle.leg_tables.specs.Theorems.{IsHubStop, HubStopsAreHubs, WaysCostRoutes, AloneCostsRoute}
-use Rattle.leg_tables.proofs.StopNodes.{hub_node}
+use Rattle.leg_tables.proofs.StopNodes.{hub_place, place_hub}
 
 -- ---- stops and hubs
 
 pub hub_stop : (p : Problem) (hubs order : List ℕ) (start h : ℕ) (l : UnitLegs) → AreLegsOf p hubs order start l → Contains hubs h
     → IsHubStop l hubs order h
-hub_stop p hubs order start h l legs is_in = (
-  length order + is_in.0,
-  (omega (arith, legs.places), omega (arith, legs.places, legs.hubs_too, is_in.1)),
-  hub_node hubs order is_in.0 ∙ get_or_default hubs is_in.0 0 h is_in.1 ∙ is_in.2,
-)
+hub_stop p hubs order start h l legs is_in =
+    let m = hub_place hubs order h is_in in
+    (m.0, (omega (arith, legs.places, m.1.0), omega (arith, legs.places, legs.hubs_too, m.1.1)), m.2)
 
 pub stop_hub : (p : Problem) (hubs order : List ℕ) (start k : ℕ) (l : UnitLegs) → AreLegsOf p hubs order start l → IsHub l k
     → Contains hubs (stop_node hubs order k)
 stop_hub p hubs order start k l legs hub =
-    let same : length order + (k - length order) ≡ k = omega (arith, legs.places, hub.0) in
-    let here = Contains-get_or hubs (k - length order) 0 (omega (arith, legs.places, legs.hubs_too, hub.0, hub.1)) in
-    subst (λ (s : ℕ). Contains hubs (stop_node hubs order s)) same (subst (Contains hubs) (sym (hub_node hubs order (k - length order))) here)
+    place_hub hubs order k (omega (arith, legs.places, hub.0), omega (arith, legs.places, legs.hubs_too, hub.1))
 
 pub hub_stops : HubStopsAreHubs
 hub_stops p hubs order start h l legs =

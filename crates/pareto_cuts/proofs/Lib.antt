@@ -1,4 +1,3 @@
-pub mod PlaceValues
 pub mod OriginDuals
 pub mod CommoditySums
 pub mod Columns

@@ -1,0 +1,11 @@
+pub mod LoweredRows
+pub mod LoweredSets
+pub mod WayLegs
+pub mod SparedWays
+pub mod HubWays
+pub mod BesideRows
+pub mod ReachedStops
+pub mod PlaceWays
+pub mod ValueRows
+pub mod AllowedWays
+pub mod MinimalDuals

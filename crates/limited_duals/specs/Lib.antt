@@ -1,0 +1,6 @@
+pub mod Ways
+pub mod Lowered
+pub mod Duals
+pub mod Parts
+pub mod ReachRoom
+pub mod DualRoom

@@ -1,0 +1,18 @@
+//! The duals of all commodities of one origin by unit of flow, and least routes, where the length of routes is limited.
+//!
+//! Stops are counted as in `leg_tables`: the places of an order come first, and then the hubs. `ways` are the ways from
+//! one origin by way of stops: how long, in 10^-6 by unit of flow, and how far, in 10^-3. Numbers for all destinations
+//! are lowered to the lengths of one way after another (`lowering`), along rows, so that several destinations are taken
+//! at a time; a way that is no shorter and no nearer than one that serves already is spared (`reaches`). `prices` and
+//! `turns` do so for the hubs and for each place in its turn, and `duals` has the room for it.
+#![tactic(auto)]
+
+mod duals;
+mod lowering;
+mod prices;
+mod reaches;
+mod turns;
+mod ways;
+
+pub use duals::LimitedDuals;
+pub use ways::Ways;
