@@ -5,5 +5,4 @@ pub mod CandidateTables
 pub mod FilledLegs
 pub mod RouteLengths
 pub mod LeastRoutes
-pub mod HubRoutes
 pub mod PlaceValues

@@ -1,16 +1,17 @@
 -- What is worked out over ways that are near enough are the minimal duals by unit of flow.
 use Rattle.std.proofs.Common.{◌≡◌, ℕ, ◌+◌, ◌-◌, ◌*◌, ◌<◌, ◌≤◌, true, List, length, slice_index, Contains, ⊎_elim, refl, ap, ap₂, sym, ◌∙◌, eq-zero-or-pos, mul-le-mul_left, arith}
-use Rattle.hub_spec.specs.Problem.{Problem, flow, route_cost, is_allowed}
+use Rattle.hub_spec.specs.Problem.{Problem, IsProblem, flow, route_cost, is_allowed}
+use Rattle.hub_spec.specs.Plans.{IsHubSet}
 use Rattle.hub_spec.specs.Edges.{IsLeastCost}
 use Rattle.hub_spec.specs.Cuts.{Prices, value_at}
-use Rattle.hub_spec.specs.Separation.{IsMinimalDual, minimal_dual}
+use Rattle.hub_spec.specs.Separation.{IsOrder, IsMinimalDual, minimal_dual}
 use Rattle.hub_spec.proofs.SetCuts.{value_within}
-use Rattle.hub_spec.proofs.SetCutFunction.{price_same}
+use Rattle.hub_spec.proofs.SetCutFunction.{minimal_dual_is, price_same}
+use Rattle.hub_plain.proofs.AllowedRoutes.{set_has_route}
 use Rattle.unit_duals.specs.Cells.{cell}
 use Rattle.leg_tables.specs.UnitDuals.{AreUnitDuals}
 use Rattle.leg_tables.proofs.LegLimits.{distance_limit, leg_limit}
 use Rattle.leg_tables.proofs.LeastRoutes.{no_flow_cost}
-use Rattle.leg_tables.proofs.HubRoutes.{route_through, minimal_dual_of}
 use Rattle.leg_tables.proofs.StopNodes.{hub_place, place_hub}
 use Rattle.leg_tables.proofs.PlaceValues.{AreWaysPriced, IsAsked, nothing, by_itself, to_hub, from_hub, to_earlier, from_earlier, IsLeastAsked, values_of_minimal}
 use Rattle.limited_duals.specs.Ways.{WaysFrom, stop_count, node_of, IsHub, IsNear, way, no_way}
@@ -70,7 +71,7 @@ price_reached : (w : WaysFrom) (prices : List ℕ) (j : ℕ) → AreWays w → A
     → IsHubWay w j (slice_index prices j)
 price_reached w prices j is are low some =
     let to = destination w j is low in
-    let has = route_through w.problem w.hubs w.origin (w.start + j) is.set is.from to in
+    let has = set_has_route w.problem w.hubs w.origin (w.start + j) is.set is.from to in
     let below = price_below w prices j has.0.0 has.0.1 is are low some has.1.first has.1.last has.1.allowed in
     ⊎_elim (λ (none : slice_index prices j ≡ no_way). absurd (omega (arith, none, below.6, way_limit w below.0 below.1 j is below.2.1 below.3.1 low)))
     (λ way_is. way_is) (are.is j low)
@@ -130,6 +131,11 @@ no_price : (p : Problem) (hubs : List ℕ) (i j a : ℕ) → flow p i j ≡ 0 �
 no_price p hubs i j a none least = omega (arith, least.reached.4, no_flow_cost p i j least.reached.0 least.reached.1 none)
 
 -- ---- all of an origin
+
+pub minimal_dual_of : (p : Problem) (hubs order : List ℕ) (i j : ℕ) → IsProblem p → IsHubSet p hubs → IsOrder p hubs order → i < p.size → j < p.size
+    → IsMinimalDual p hubs order (i, j) (minimal_dual p hubs order (i, j))
+minimal_dual_of p hubs order i j ok set is_order from to =
+    minimal_dual_is p hubs order (i, j) ok (set_has_route p hubs i j set from to) is_order
 
 minimal_at : (w : WaysFrom) (j : ℕ) → AreWays w → j < w.size
     → IsMinimalDual w.problem w.hubs w.order (w.origin, w.start + j) (minimal_dual w.problem w.hubs w.order (w.origin, w.start + j))

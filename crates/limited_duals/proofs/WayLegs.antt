@@ -1,11 +1,10 @@
 -- The legs of ways.
-use Rattle.std.proofs.Common.{◌≡◌, ℕ, ◌+◌, ◌*◌, ◌<◌, ◌≤◌, List, length, slice_index, All, Contains, sym, subst, ap, ap₂, ◌∙◌, arith}
+use Rattle.std.proofs.Common.{◌≡◌, ℕ, ◌+◌, ◌*◌, ◌<◌, ◌≤◌, List, length, slice_index, All, sym, subst, ap, ap₂, ◌∙◌, arith}
 use Rattle.std.proofs.lemmas.Nat.{mul-add-lt}
-use Rattle.std.proofs.lemmas.List.Elements.{All-contains, All-weaker}
 use Rattle.hub_spec.specs.Limits.{most_distance}
-use Rattle.hub_spec.specs.Problem.{Problem, IsProblem, distance}
-use Rattle.hub_spec.specs.Separation.{IsOrder}
+use Rattle.hub_spec.specs.Problem.{Problem, distance}
 use Rattle.hub_spec.proofs.Limits.{hubs_are_nodes}
+use Rattle.hub_plain.proofs.Turns.{order_nodes}
 use Rattle.unit_duals.specs.Limits.{most_leg}
 use Rattle.unit_duals.specs.Lengths.{stops}
 use Rattle.unit_duals.proofs.TableCells.{row_within}
@@ -14,11 +13,6 @@ use Rattle.leg_tables.proofs.StopNodes.{stop_is_node}
 use Rattle.limited_duals.specs.Ways.{WaysFrom, node_of, stop_count, base, delivery, rest}
 use Rattle.limited_duals.specs.Parts.{AreWays, held_ways, AreWayParts}
 use Rattle.limited_duals.specs.declared.ways.Ways.TheInside.{Inside}
-
-order_nodes : (p : Problem) (hubs order : List ℕ) → IsProblem p → IsOrder p hubs order → All (λ k. k < p.size) order
-order_nodes p hubs order ok is =
-    All-weaker (Contains p.candidates) (λ k. k < p.size)
-    (λ k candidate. All-contains (λ m. m < p.size) p.candidates k ok.candidates_are_nodes candidate) order is.are_candidates
 
 -- a stop is a node
 pub stop_node_below : (w : WaysFrom) (k : ℕ) → AreWays w → k < stop_count w → node_of w k < w.problem.size

@@ -9,8 +9,8 @@ use Rattle.hub_spec.specs.Separation.{IsMinimalDual, minimal_dual}
 use Rattle.hub_spec.proofs.Sets.{is_in, is_in-yes, Contains-from_is_in}
 use Rattle.hub_spec.proofs.SetCuts.{unlisted_value}
 use Rattle.hub_spec.proofs.SumLemmas.{by_test}
-use Rattle.hub_spec.proofs.SetCutFunction.{minimal_dual_is}
 use Rattle.unit_duals.specs.Cells.{cell}
+use Rattle.limited_duals.proofs.MinimalDuals.{minimal_dual_of}
 use Rattle.pareto_cuts.specs.AddedRows.{row_sum, AreRowsAdded}
 use Rattle.pareto_cuts.specs.Separations.{SetSeparation, IsSeparation, sum_of, origin_load, origin_total}
 use Rattle.pareto_cuts.specs.UnitCosts.{AreDualsFrom}
@@ -78,20 +78,21 @@ column_is p hubs order c d added old new minimal is none rows k =
 
 -- ---- the loads of an origin
 
-pub minimal_of : (s : SetSeparation) (i j : ℕ) → IsSeparation s
+pub minimal_of : (s : SetSeparation) (i j : ℕ) → IsSeparation s → i < s.problem.size → j < s.legs.size
     → IsMinimalDual s.problem s.hubs s.order (i, s.start + j) (minimal_dual s.problem s.hubs s.order (i, s.start + j))
-minimal_of s i j is = minimal_dual_is s.problem s.hubs s.order (i, s.start + j) is.problem is.set is.order
+minimal_of s i j is from to =
+    minimal_dual_of s.problem s.hubs s.order i (s.start + j) is.problem is.set is.order from (omega (arith, to, is.legs.destinations))
 
-pub loads_added : (s : SetSeparation) (i : ℕ) (flows prices values old new : List ℕ) → IsSeparation s → AreDualsFrom s i prices values
+pub loads_added : (s : SetSeparation) (i : ℕ) (flows prices values old new : List ℕ) → IsSeparation s → i < s.problem.size → AreDualsFrom s i prices values
     → length flows ≡ s.legs.size → ((j : ℕ) → j < s.legs.size → slice_index flows j ≡ flow s.problem i (s.start + j))
     → AreRowsAdded s.order (length s.order) (row_sum flows values) old new
     → (k : ℕ) → slice_index new k ≡ slice_index old k + origin_load s.problem s.hubs s.order i s.start s.legs.size k
-loads_added s i flows prices values old new is duals long are rows k =
+loads_added s i flows prices values old new is from duals long are rows k =
     ⊎_elim
     (λ place. subst (λ m. slice_index new m ≡ slice_index old m + origin_load s.problem s.hubs s.order i s.start s.legs.size m) place.2
     (rows.here place.0 place.1 ∙ ap (λ z. slice_index old (slice_index s.order place.0) + z) (row place.0 place.1)))
     (λ out. let none = sum_zero s.legs.size (λ j. value_at (minimal_dual s.problem s.hubs s.order (i, s.start + j)).u k)
-    (λ j below. none_outside s.problem s.hubs s.order (i, s.start + j) _ k (minimal_of s i j is) out) in
+    (λ j below. none_outside s.problem s.hubs s.order (i, s.start + j) _ k (minimal_of s i j is from below) out) in
     omega (arith, rows.others k (none_left s.order k out), none))
     (in_or_out s.order k)
   where

@@ -25,17 +25,17 @@ price_limit p hubs i j a ok set from to least =
       route_cost_limit p i j k m ok from to (All-contains (λ x. x < p.size) hubs k nodes first) (All-contains (λ x. x < p.size) hubs m nodes last),
     )
 
-pub value_limit : (s : SetSeparation) (i j : ℕ) (values : List ℕ) → IsSeparation s → i < s.problem.size → s.start + j < s.problem.size
+pub value_limit : (s : SetSeparation) (i j : ℕ) (values : List ℕ) → IsSeparation s → i < s.problem.size → j < s.legs.size
     → AreValuesOf s i j values → All (λ v. v ≤ most_cost) values
 value_limit s i j values is from to are =
     let d = minimal_dual s.problem s.hubs s.order (i, s.start + j) in
-    let minimal = minimal_of s i j is in
+    let minimal = minimal_of s i j is from to in
     All-from_get_or (λ v. v ≤ most_cost) values 0
     (λ k below. omega (
       arith,
       are.each k,
       value_within s.problem s.hubs s.order (i, s.start + j) d k minimal,
-      price_limit s.problem s.hubs i (s.start + j) d.a is.problem is.set from to minimal.price,
+      price_limit s.problem s.hubs i (s.start + j) d.a is.problem is.set from (omega (arith, to, is.legs.destinations)) minimal.price,
     ))
 
 listed : (v : ℕ → ℕ) (p : Problem) → IsProblem p → AreListedValues (values_listed v p.candidates)
@@ -45,9 +45,9 @@ listed v p ok = record {
 }
 
 -- what lists the values by node is the dual's list
-pub values_are_listed : (s : SetSeparation) (i j : ℕ) (values : List ℕ) → IsSeparation s → AreValuesOf s i j values
+pub values_are_listed : (s : SetSeparation) (i j : ℕ) (values : List ℕ) → IsSeparation s → i < s.problem.size → j < s.legs.size → AreValuesOf s i j values
     → values_listed (slice_index values) s.problem.candidates ≡ (minimal_dual s.problem s.hubs s.order (i, s.start + j)).u
-values_are_listed s i j values is are =
+values_are_listed s i j values is from to are =
     values_same (values_listed v s.problem.candidates) d.u (listed v s.problem is.problem) minimal.listed
     (λ k. value_at_listed v s.problem.candidates k (known k) ∙ are.each k)
   where
@@ -55,7 +55,7 @@ values_are_listed s i j values is are =
     d = minimal_dual s.problem s.hubs s.order (i, s.start + j)
 
     minimal : IsMinimalDual s.problem s.hubs s.order (i, s.start + j) d
-    minimal = minimal_of s i j is
+    minimal = minimal_of s i j is from to
 
     v : ℕ → ℕ
     v = slice_index values

@@ -3,21 +3,10 @@ use Rattle.std.specs.Prelude.{◌≡◌, ℕ, ◌+◌, ◌*◌, ◌<◌, List, l
 use Rattle.hub_spec.specs.Problem.{Problem, flow}
 use Rattle.hub_spec.specs.Cuts.{value_at}
 use Rattle.hub_spec.specs.Separation.{minimal_dual}
-use Rattle.unit_duals.specs.Cells.{cell}
+use Rattle.leg_tables.specs.UnitDuals.{AreUnitDuals}
 use Rattle.pareto_cuts.specs.Separations.{SetSeparation}
 
--- the prices of the commodities from i to n destinations from `start` on, and the values of the candidates of the order
--- for them, row by row, are those of their minimal duals by unit of flow
-pub record AreUnitDuals (p : Problem) (hubs order : List ℕ) (i start n : ℕ) (prices values : List ℕ) : Type 0 where
-  pub prices_long : length prices ≡ n
-  pub values_long : length values ≡ length order * n
-  pub price : (j : ℕ) → j < n
-      → flow p i (start + j) * slice_index prices j ≡ (minimal_dual p hubs order (i, start + j)).a
-  pub value : (t j : ℕ) → t < length order → j < n
-      → flow p i (start + j) * cell n values t j
-      ≡ value_at (minimal_dual p hubs order (i, start + j)).u (slice_index order t)
-
--- so they are of the separation's hubs, order and destinations
+-- prices and values by unit of flow are of the separation's hubs, order and destinations
 abbrev pub AreDualsFrom : SetSeparation → ℕ → List ℕ → List ℕ → Type 0
 AreDualsFrom s i prices values = AreUnitDuals s.problem s.hubs s.order i s.start s.legs.size prices values
 

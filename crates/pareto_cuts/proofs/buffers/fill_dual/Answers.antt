@@ -30,7 +30,7 @@ list_values-requires-clause-limit c =
     let is = c.candidates.ensures.separation in
     let s = c.args.separation.now in
     let within = value_limit s c.args.i c.args.j c.set_values.new.by_node is c.requires.origin
-    (omega (arith, c.requires.destination, is.legs.destinations)) c.set_values.ensures in
+    c.requires.destination c.set_values.ensures in
     All-weaker (λ (v : ℕ). v ≤ most_cost) (λ (v : ℕ). v < 2 ^ 127) (λ v low. omega (arith, low)) c.set_values.new.by_node within
 
 pub returns-clause-values : goal.returns-clause-values
@@ -40,7 +40,7 @@ returns-clause-values c =
     let values = c.set_values.new.by_node in
     c.list_values.ensures.are
     ∙ ap (λ (ks : List ℕ). signed_values (values_listed (slice_index values) ks)) c.candidates.ensures.value
-    ∙ ap signed_values (values_are_listed s c.args.i c.args.j values is c.set_values.ensures)
+    ∙ ap signed_values (values_are_listed s c.args.i c.args.j values is c.requires.origin c.requires.destination c.set_values.ensures)
 
 pub returns-clause-signed : goal.returns-clause-signed
 returns-clause-signed c =
@@ -50,7 +50,7 @@ returns-clause-signed c =
     let d = minimal_dual s.problem s.hubs s.order (c.args.i, s.start + c.args.j) in
     let are : c.list_values.new.list.items ≡ signed_values d.u = c.list_values.ensures.are
     ∙ ap (λ (ks : List ℕ). signed_values (values_listed (slice_index values) ks)) c.candidates.ensures.value
-    ∙ ap signed_values (values_are_listed s c.args.i c.args.j values is c.set_values.ensures) in
+    ∙ ap signed_values (values_are_listed s c.args.i c.args.j values is c.requires.origin c.requires.destination c.set_values.ensures) in
     let price : to_z w128 (of_z w128 c.price_of.result) ≡ pos d.a =
     (let fits : SFits w128 c.price_of.result = search (rules, arith) in to_z-of_z fits ∙ c.price_of.ensures) in
-    rw (price, are) (signed_listed d.a d.u (minimal_of s c.args.i c.args.j is).listed)
+    rw (price, are) (signed_listed d.a d.u (minimal_of s c.args.i c.args.j is c.requires.origin c.requires.destination).listed)

@@ -17,5 +17,5 @@ returns c =
     let product : slice_index c.flows_from.result.now j * slice_index c.args.prices.now j ≡ a =
     ap (λ w. w * slice_index c.args.prices.now j) there ∙ c.requires.duals.price j c.requires.destination in
     let low = price_limit s.problem s.hubs c.args.i (s.start + j) a is.problem is.set c.requires.origin
-    (omega (arith, c.requires.destination, is.legs.destinations)) (minimal_of s c.args.i j is).price in
+    (omega (arith, c.requires.destination, is.legs.destinations)) (minimal_of s c.args.i j is c.requires.origin c.requires.destination).price in
     handed_on c.signed.result a (c.signed.ensures ∙ ap pos product) low

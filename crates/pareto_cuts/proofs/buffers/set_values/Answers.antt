@@ -33,5 +33,5 @@ returns c =
     ap₂ (λ x n. x * cell n values t j) there c.requires.duals.prices_long ∙ c.requires.duals.value t j within c.requires.destination in
     record {
       each = column_is s.problem s.hubs s.order (c.args.i, s.start + j) d added c.args.by_node.now c.set_column.new.by_node
-          (minimal_of s c.args.i j is) value c.requires.none rows;
+          (minimal_of s c.args.i j is c.requires.origin c.requires.destination) value c.requires.none rows;
     }

@@ -6,7 +6,8 @@ use Rattle.hub_spec.specs.Cuts.{cut_by}
 use Rattle.hub_spec.specs.Separation.{IsMinimalDual, IsSetCut}
 use Rattle.hub_spec.proofs.Commodities.{next_route, length_commodities}
 use Rattle.hub_spec.proofs.SetCuts.{set_cut_is_cut}
-use Rattle.hub_spec.proofs.SetCutFunction.{minimal_dual_is, set_cut_is_one_lem}
+use Rattle.hub_spec.proofs.SetCutFunction.{set_cut_is_one_lem}
+use Rattle.limited_duals.proofs.MinimalDuals.{minimal_dual_of}
 use Rattle.pareto_cuts.proofs.set_cuts.set_duals.Goals as goal
 use Rattle.pareto_cuts.proofs.set_cuts.set_duals.Goals.{After-loop-i}
 
@@ -16,7 +17,7 @@ loop-j-preserved c =
     let hubs = c.args.set.now in
     let order = c.args.order.now in
     let minimal = subst (IsMinimalDual p hubs order (c.loop-i.i, c.loop-j.j)) (sym (c.in_ok-lent_dual.ensures ∙ c.make_dual.ensures.dual))
-    (minimal_dual_is p hubs order (c.loop-i.i, c.loop-j.j) c.size-n.ensures.problem c.requires.set c.requires.order) in
+    (minimal_dual_of p hubs order c.loop-i.i c.loop-j.j c.size-n.ensures.problem c.requires.set c.requires.order (omega arith) (omega arith)) in
     record {
       rows = rw c.in_ok-push.ensures.items
           (next_route (IsMinimalDual p hubs order) p.size c.loop-i.i c.loop-j.j c.loop-j.rows.items c.in_ok-lent_dual.field-0

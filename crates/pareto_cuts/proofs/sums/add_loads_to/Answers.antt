@@ -21,7 +21,7 @@ returns c =
     c.order.ensures.value c.add_rows.ensures in
     record {
       loads = λ k below.
-          loads_added s c.args.i flows c.args.prices.now values c.args.loads.now c.add_rows.new.loads c.order.ensures.separation c.requires.duals
+          loads_added s c.args.i flows c.args.prices.now values c.args.loads.now c.add_rows.new.loads c.order.ensures.separation c.requires.origin c.requires.duals
           (c.flows_from-flows.ensures.long ∙ c.requires.duals.prices_long)
           (λ j less. c.flows_from-flows.ensures.each j (omega (arith, less, c.requires.duals.prices_long))
           ∙ ap₂ (λ (p : Problem) (b : ℕ). flow p c.args.i (b + j)) c.instance.ensures.value c.start.ensures.value)
