@@ -129,14 +129,14 @@ nearest_one a b k up some =
 
 -- ---- ascending lists as sets
 
-one_set : (P : ℕ → Type 0) (xs ys : List ℕ) → IsStrictlyIncreasing xs → IsStrictlyIncreasing ys
+pub one_set : (P : ℕ → Type 0) (xs ys : List ℕ) → IsStrictlyIncreasing xs → IsStrictlyIncreasing ys
     → ((k : ℕ) → Contains xs k ↔ P k) → ((k : ℕ) → Contains ys k ↔ P k) → xs ≡ ys
 one_set P xs ys up rising first second =
     sym (part_is_filter ys xs rising up (All-from_contains (Contains ys) xs (λ k c. (second k).1 ((first k).0 c))))
     ∙ filter_same (is_in xs) (is_in ys) ys (λ k c. is_in-yes xs k ((first k).1 ((second k).0 c)) ∙ sym (is_in-yes ys k c))
     ∙ part_is_filter ys ys rising rising (All-from_contains (Contains ys) ys (λ k c. c))
 
-filter_has : (test : ℕ → Bool) (ks : List ℕ) (k : ℕ) → Contains ks k → test k ≡ true → Contains (filter test ks) k
+pub filter_has : (test : ℕ → Bool) (ks : List ℕ) (k : ℕ) → Contains ks k → test k ≡ true → Contains (filter test ks) k
 filter_has test [] k c passes = c
 filter_has test (m ∷ ms) k c passes =
     ⊎_elim (λ here. let e : test m ≡ true = ap test here ∙ passes in rw e (subst (Contains (m ∷ filter test ms)) here (Contains-head m (filter test ms))))

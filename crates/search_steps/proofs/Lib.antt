@@ -6,3 +6,4 @@ pub mod Points
 pub mod Choosing
 pub mod LeafPairs
 pub mod RuleChoices
+pub mod OpenBranches

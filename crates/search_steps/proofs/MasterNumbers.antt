@@ -1,5 +1,5 @@
 -- The master of a pool's cuts, and what it advises a search.
-use Rattle.std.proofs.Common.{◌≡◌, ℕ, ◌*◌, ◌/◌, ◌<◌, ◌≤◌, ℤ, pos, List, [], ◌∷◌, ◌++◌, length, map, sum, All, refl, sym, ap, ap₂, subst, ◌∙◌, Option, div-mul-le_self, arith}
+use Rattle.std.proofs.Common.{◌≡◌, ℕ, ◌*◌, ◌/◌, ◌<◌, ◌≤◌, ℤ, pos, List, [], ◌∷◌, ◌++◌, length, map, sum, All, refl, sym, ap, ap₂, subst, ◌∙◌, Option, div-mul-le_self, arith, ◌+◌, Some, None}
 use Rattle.std.proofs.Math.Nat.{div-one, mul-div_cancel}
 use Rattle.std.proofs.lemmas.Int.{ints}
 use Rattle.std.proofs.lemmas.List.{length-map}
@@ -19,64 +19,74 @@ use Rattle.frac_master.specs.Theorems.{IsMaster, IsMixed}
 use Rattle.frac_master.proofs.MasterTables.{weights_are_a_mix}
 use Rattle.search_spec.specs.States.{denominator}
 use Rattle.cut_pool.specs.Entries.{Entry}
-use Rattle.search_core.proofs.Weightings.{below_size, branch_below}
+use Rattle.search_core.proofs.Weightings.{below_size}
 use Rattle.search_steps.specs.Pools.{entry_cut, IsSumsOf, IsPoolOf, pool_cuts, state_by}
-use Rattle.search_steps.specs.Advising.{master_numbers, told_by, in_parts, advised_on, master_advising}
+use Rattle.search_steps.specs.Advising.{with_share, advised_costs, master_numbers, told_by, in_parts, advised_on, master_advising}
 use Rattle.search_steps.specs.Weights.{AreNodeWeights}
 use Rattle.search_steps.specs.Theorems.{AdvisingIsSound}
 use Rattle.search_steps.proofs.PoolNumbers.{lent_totals, lent_loads, lent_parts, parts_are, naturals_totals, naturals_loads, loads_least, loads_below, loads_long}
 
--- the numbers are those that the pool lends, with the problem's fixed costs
-pub record AreMasters (p : Problem) (entries : List Entry) (totals : List ℤ) (loads : List (List ℤ)) (fixed : List ℕ) : Type 0 where
+-- ---- the fixed costs that the master is asked with
+
+share_long : (wanted : Option ℕ) (cost : ℕ) (fixed : List ℕ) → length (with_share wanted cost fixed) ≡ length fixed
+share_long None cost fixed = refl
+share_long (Some n) cost fixed = length-map fixed (λ (f : ℕ). f + cost / n)
+
+-- one for each node
+costs_long : (p : Problem) (cost : ℕ) (fixed : List ℕ) → IsProblem p → fixed ≡ advised_costs p cost → length fixed ≡ p.size
+costs_long p cost fixed ok costs = ap length costs ∙ share_long p.wanted cost p.fixed_costs ∙ ok.cost_for_each_node
+
+-- ---- the numbers
+
+-- the numbers are those that the pool lends, with the fixed costs for an incumbent of this cost
+pub record AreMasters (p : Problem) (entries : List Entry) (cost : ℕ) (totals : List ℤ) (loads : List (List ℤ)) (fixed : List ℕ) : Type 0 where
   pub problem : IsProblem p
   pub pool : IsPoolOf p entries
-  pub costs : fixed ≡ p.fixed_costs
+  pub costs : fixed ≡ advised_costs p cost
   pub are_totals : totals ≡ lent_totals entries
   pub are_loads : loads ≡ lent_loads entries
 
-pub many_totals : (p : Problem) (entries : List Entry) (totals : List ℤ) (loads : List (List ℤ)) (fixed : List ℕ)
-    → AreMasters p entries totals loads fixed → length totals ≡ length entries
-many_totals p entries totals loads fixed are = ap length are.are_totals ∙ length-map entries (λ (e : Entry). pos e.total)
+pub many_totals : (p : Problem) (entries : List Entry) (cost : ℕ) (totals : List ℤ) (loads : List (List ℤ)) (fixed : List ℕ)
+    → AreMasters p entries cost totals loads fixed → length totals ≡ length entries
+many_totals p entries cost totals loads fixed are = ap length are.are_totals ∙ length-map entries (λ (e : Entry). pos e.total)
 
-pub numbers_serve : (p : Problem) (entries : List Entry) (totals : List ℤ) (loads : List (List ℤ)) (fixed : List ℕ)
-    → AreMasters p entries totals loads fixed → AreMasterNumbers totals loads fixed
-numbers_serve p entries totals loads fixed are = record {
-  one_each = ap length are.are_loads ∙ length-map entries (λ (e : Entry). map pos e.loads) ∙ sym (many_totals p entries totals loads fixed are);
+pub numbers_serve : (p : Problem) (entries : List Entry) (cost : ℕ) (totals : List ℤ) (loads : List (List ℤ)) (fixed : List ℕ)
+    → AreMasters p entries cost totals loads fixed → AreMasterNumbers totals loads fixed
+numbers_serve p entries cost totals loads fixed are = record {
+  one_each = ap length are.are_loads ∙ length-map entries (λ (e : Entry). map pos e.loads) ∙ sym (many_totals p entries cost totals loads fixed are);
   as_long = subst (All (λ (row : List ℤ). length row ≡ length fixed)) (sym are.are_loads)
-      (loads_long p entries (length fixed) are.pool (ap length are.costs ∙ are.problem.cost_for_each_node));
+      (loads_long p entries (length fixed) are.pool (costs_long p cost fixed are.problem are.costs));
   totals_low = subst (All IsNatural) (sym are.are_totals) (All-map IsNatural (λ (e : Entry). pos e.total) entries
       (All-weaker (IsSumsOf p) (λ (e : Entry). IsNatural (pos e.total)) (λ e is. omega (arith, ints)) entries are.pool));
   loads_low = subst (All (λ (row : List ℤ). All IsNatural row)) (sym are.are_loads) (loads_least entries);
 }
 
-pub within_totals : (p : Problem) (entries : List Entry) (totals : List ℤ) (loads : List (List ℤ)) (fixed : List ℕ)
-    → AreMasters p entries totals loads fixed → AreWithinTotals totals loads
-within_totals p entries totals loads fixed are =
+pub within_totals : (p : Problem) (entries : List Entry) (cost : ℕ) (totals : List ℤ) (loads : List (List ℤ)) (fixed : List ℕ)
+    → AreMasters p entries cost totals loads fixed → AreWithinTotals totals loads
+within_totals p entries cost totals loads fixed are =
     rw (are.are_totals, are.are_loads) (loads_below p entries are.problem are.pool)
 
-pub nodes_serve : (p : Problem) (fixed : List ℕ) (b : Branching) → IsProblem p → fixed ≡ p.fixed_costs → IsBranch p b
+pub nodes_serve : (p : Problem) (cost : ℕ) (fixed : List ℕ) (b : Branching) → IsProblem p → fixed ≡ advised_costs p cost → IsBranch p b
     → All (λ k. k < length fixed) (candidates_of b)
-nodes_serve p fixed b ok costs is =
-    let n = length fixed in
-    let below = branch_below p fixed b ok costs is in
-    All-append (λ k. k < n) b.inside (b.outside ++ b.free) below.inside (All-append (λ k. k < n) b.outside b.free below.outside below.free)
+nodes_serve p cost fixed b ok costs is =
+    let below = below_size p b ok is in
+    subst (λ (n : ℕ). All (λ k. k < n) (candidates_of b)) (sym (costs_long p cost fixed ok costs))
+    (All-append (λ k. k < p.size) b.inside (b.outside ++ b.free) below.inside
+    (All-append (λ k. k < p.size) b.outside b.free below.outside below.free))
 
 is_master : (p : Problem) (cuts : List Cut) (cost : ℕ) (b : Branching) → IsProblem p → IsBranch p b → IsMaster (master_numbers p cuts cost) b
 is_master p cuts cost b ok is =
-    let below = below_size p b ok is in
-    let n = length p.fixed_costs in
-    let same : n ≡ p.size = ok.cost_for_each_node in
+    let same = costs_long p cost (advised_costs p cost) ok refl in
     record {
       split = is.split;
-      nodes = subst (λ (m : ℕ). All (λ k. k < m) (candidates_of b)) (sym same)
-          (All-append (λ k. k < p.size) b.inside (b.outside ++ b.free) below.inside (All-append (λ k. k < p.size) b.outside b.free below.outside below.free));
+      nodes = nodes_serve p cost (advised_costs p cost) b ok refl is;
       few = omega (arith, same, ok.size_limit);
     }
 
 -- the numbers are those of the master of the cuts
-masters_same : (p : Problem) (entries : List Entry) (totals : List ℤ) (loads : List (List ℤ)) (fixed : List ℕ) (cost : ℕ)
-    → AreMasters p entries totals loads fixed → master_of totals loads fixed ≡ master_numbers p (pool_cuts p entries) cost
-masters_same p entries totals loads fixed cost are =
+masters_same : (p : Problem) (entries : List Entry) (cost : ℕ) (totals : List ℤ) (loads : List (List ℤ)) (fixed : List ℕ)
+    → AreMasters p entries cost totals loads fixed → master_of totals loads fixed ≡ master_numbers p (pool_cuts p entries) cost
+masters_same p entries cost totals loads fixed are =
     let of : List ℕ → List (List ℕ) → MasterNumbers = λ t l. record { totals = t; loads = l; fixed = fixed } in
     ap₂ of (ap naturals are.are_totals ∙ naturals_totals p entries are.pool) (ap (map naturals) are.are_loads ∙ naturals_loads p entries are.pool)
     ∙ ap (λ (f : List ℕ). record (master_numbers p (pool_cuts p entries) cost) { fixed = f }) are.costs
@@ -94,28 +104,28 @@ advised_same p entries a long =
     ap (λ (ws : List ℕ). record a { weights = ws })
     (ap (in_parts a.weights) (sym (parts_are p entries)) ∙ in_ones a.weights entries long)
 
-pub advice_is : (p : Problem) (entries : List Entry) (totals : List ℤ) (loads : List (List ℤ)) (fixed : List ℕ) (b : Branching) (a : Advised)
-    → AreMasters p entries totals loads fixed → IsBranch p b → a ≡ advice (master_of totals loads fixed) b
-    → (hubs : List ℕ) (cost made : ℕ) (stop : Option ℕ) → told_by a ≡ master_advising p (state_by p entries hubs cost made stop) b
+pub advice_is : (p : Problem) (entries : List Entry) (cost : ℕ) (totals : List ℤ) (loads : List (List ℤ)) (fixed : List ℕ) (b : Branching) (a : Advised)
+    → AreMasters p entries cost totals loads fixed → IsBranch p b → a ≡ advice (master_of totals loads fixed) b
+    → (hubs : List ℕ) (made : ℕ) (stop : Option ℕ) → told_by a ≡ master_advising p (state_by p entries hubs cost made stop) b
 unfolding master_advising
-advice_is p entries totals loads fixed b a are is_branch is hubs cost made stop =
+advice_is p entries cost totals loads fixed b a are is_branch is hubs made stop =
     let m = master_numbers p (pool_cuts p entries) cost in
     let mixed = weights_are_a_mix m b (is_master p (pool_cuts p entries) cost b are.problem is_branch) in
     let long : length (advice m b).weights ≡ length entries =
     mixed.one_each ∙ length-map (pool_cuts p entries) total ∙ length-map entries (entry_cut p) in
-    ap told_by (is ∙ ap (λ (n : MasterNumbers). advice n b) (masters_same p entries totals loads fixed cost are)
+    ap told_by (is ∙ ap (λ (n : MasterNumbers). advice n b) (masters_same p entries cost totals loads fixed are)
     ∙ sym (advised_same p entries (advice m b) long))
 
-pub point_long : (p : Problem) (entries : List Entry) (totals : List ℤ) (loads : List (List ℤ)) (fixed : List ℕ) (b : Branching) (a : Advised)
-    → AreMasters p entries totals loads fixed → a ≡ advice (master_of totals loads fixed) b → length a.point ≡ p.size
+pub point_long : (p : Problem) (entries : List Entry) (cost : ℕ) (totals : List ℤ) (loads : List (List ℤ)) (fixed : List ℕ) (b : Branching) (a : Advised)
+    → AreMasters p entries cost totals loads fixed → a ≡ advice (master_of totals loads fixed) b → length a.point ≡ p.size
 unfolding advice
-point_long p entries totals loads fixed b a are is =
-    ap (λ (x : Advised). length x.point) is ∙ length-map-range_with_len _ 0 (length fixed) ∙ ap length are.costs ∙ are.problem.cost_for_each_node
+point_long p entries cost totals loads fixed b a are is =
+    ap (λ (x : Advised). length x.point) is ∙ length-map-range_with_len _ 0 (length fixed) ∙ costs_long p cost fixed are.problem are.costs
 
-pub node_weights : (p : Problem) (entries : List Entry) (totals : List ℤ) (loads : List (List ℤ)) (fixed : List ℕ) (weights : List ℤ)
-    → AreMasters p entries totals loads fixed → AreMixWeights (length totals) weights → AreNodeWeights (length entries) weights
-node_weights p entries totals loads fixed weights are mix = record {
-  few = omega (arith, mix.one_each, many_totals p entries totals loads fixed are);
+pub node_weights : (p : Problem) (entries : List Entry) (cost : ℕ) (totals : List ℤ) (loads : List (List ℤ)) (fixed : List ℕ) (weights : List ℤ)
+    → AreMasters p entries cost totals loads fixed → AreMixWeights (length totals) weights → AreNodeWeights (length entries) weights
+node_weights p entries cost totals loads fixed weights are mix = record {
+  few = omega (arith, mix.one_each, many_totals p entries cost totals loads fixed are);
   low = mix.low;
   most = mix.most;
 }

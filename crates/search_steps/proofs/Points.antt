@@ -1,24 +1,22 @@
 -- Choices by a point: nodes in ascending lists, and the first best of a list.
-use Rattle.std.proofs.Common.{◌≡◌, ℕ, zero, suc, ◌+◌, ◌-◌, ◌<◌, ◌≤◌, ◌++◌, int_lt, List, [], ◌∷◌, length, get_or, Contains, All, Bool, false, nat_eq, nat_lt, Result, Ok, Err, refl, sym, ap, subst, ◌∙◌, add-zero, ne_eqb, eq-eqb, ltb-true, ⊎_elim, arith}
+use Rattle.std.proofs.Common.{◌≡◌, ℕ, zero, suc, ◌+◌, ◌-◌, ◌<◌, ◌≤◌, ◌++◌, int_lt, List, [], ◌∷◌, length, get_or, Contains, All, Bool, false, ◌&&◌, ◌||◌, nat_eq, nat_lt, Result, Ok, Err, refl, sym, ap, subst, ◌∙◌, add-zero, ne_eqb, eq-eqb, ltb-true, ⊎_elim, arith}
 use Rattle.std.specs.Prelude.{is_ok}
 use Rattle.std.specs.Ordering.{nat_cmp}
 use Rattle.std.specs.List.{best_of}
 use Rattle.std.specs.List.Sorted.{IsStrictlyIncreasing, IsBinarySearchResult}
-use Rattle.std.proofs.lemmas.Bool.{ltb-false}
+use Rattle.std.proofs.lemmas.Bool.{eqb-false, ltb-false}
 use Rattle.std.proofs.lemmas.List.Sorted.{searched}
-use Rattle.std.proofs.lemmas.List.Elements.{All-contains, All-from_get_or, Contains-get_or}
+use Rattle.std.proofs.lemmas.List.Elements.{All-nil, All-cons, All-contains, All-contains_itself, All-filter, All-from_get_or, Contains-get_or}
+use Rattle.std.proofs.lemmas.List.Kept.{IsStrictlyIncreasing-filter}
 use Rattle.hub_spec.specs.Problem.{Problem, IsProblem}
-use Rattle.hub_spec.specs.Plans.{IsHubSet}
+use Rattle.hub_spec.specs.Plans.{IsCandidateSet}
 use Rattle.hub_spec.specs.Trees.{Branching, IsBranch}
+use Rattle.hub_spec.proofs.Ascending.{ascend_nil, ascend_cons}
 use Rattle.hub_spec.proofs.Sets.{Contains-head, Contains-later}
-use Rattle.hub_spec.proofs.SumLemmas.{by_test, Contains-cons_cases}
+use Rattle.hub_spec.proofs.SumLemmas.{by_test, Contains-cons_cases, nil_contains_none}
 use Rattle.search_spec.specs.States.{Advice}
-use Rattle.search_spec.specs.Laws.{GoesOn}
-use Rattle.search_spec.specs.Choices.{has_node, first_best, rounded, picked, all_closed, all_decided, rule_parts}
-use Rattle.search_spec.proofs.Bounds.{any_room}
-use Rattle.search_spec.proofs.RuleParts.{has_when, in_when, rule_sound}
-use Rattle.search_steps.specs.Advising.{master_advising}
-use Rattle.search_steps.proofs.MasterNumbers.{advising_sound}
+use Rattle.search_spec.specs.Choices.{has_node, first_best, is_half, rounded, picked}
+use Rattle.search_spec.proofs.RuleParts.{has_when, in_when}
 
 -- ---- nodes in ascending lists
 
@@ -64,23 +62,33 @@ pub first_best_in : (beats : ℕ → ℕ → Bool) (ks : List ℕ) → 1 ≤ len
 first_best_in beats [] some = absurd (omega arith)
 first_best_in beats (k ∷ ks) some = best_in beats k ks
 
--- ---- the picks of the rule
+-- ---- the set that is picked
 
-not_none : (b : Branching) → 1 ≤ length b.free → nat_eq (length b.free) 0 ≡ false
-not_none b some = ne_eqb (length b.free) 0 (λ e. omega (arith, e, some))
-
-goes_on : (p : Problem) (b : Branching) → 1 ≤ length b.free → GoesOn (rule_parts p (master_advising p)) b
-unfolding rule_parts all_closed all_decided
-goes_on p b some = record {
-  barren = rw (not_none b some) (by_test (nat_eq (length b.inside) 0) (λ t. rw t refl) (λ t. rw t refl));
-  blocked = refl;
-  only = rw (not_none b some) refl;
+one_hub : (p : Problem) (k : ℕ) → Contains p.candidates k → IsCandidateSet p (k ∷ [])
+one_hub p k candidate = record {
+  some_hub = omega arith;
+  ascend = ascend_cons k [] (λ m c. nil_contains_none m c) ascend_nil;
+  are_candidates = All-cons (Contains p.candidates) k [] candidate (All-nil (Contains p.candidates));
 }
 
-pub picked_is_set : (p : Problem) (a : Advice) (b : Branching) → IsProblem p → IsBranch p b → 1 ≤ length b.free → IsHubSet p (picked p a b)
-unfolding rule_parts
+rounded_is_set : (p : Problem) (a : Advice) (b : Branching) → IsProblem p → 1 ≤ length (rounded p a b) → IsCandidateSet p (rounded p a b)
+unfolding rounded
+rounded_is_set p a b ok some =
+    let test : ℕ → Bool = λ k. has_node b.inside k || (has_node b.free k && is_half a k) in
+    record {
+      some_hub = some;
+      ascend = IsStrictlyIncreasing-filter test p.candidates ok.candidates_ascend;
+      are_candidates = All-filter test (Contains p.candidates) p.candidates (All-contains_itself p.candidates);
+    }
+
+pub picked_is_set : (p : Problem) (a : Advice) (b : Branching) → IsProblem p → IsBranch p b → 1 ≤ length b.free → IsCandidateSet p (picked p a b)
+unfolding picked
 picked_is_set p a b ok is some =
-    ((rule_sound p (master_advising p) ok (advising_sound p ok)).pick a b is (any_room p b ok.any_number) (goes_on p b some)).is_set
+    let beats : ℕ → ℕ → Bool = λ k m. int_lt (a.point m) (a.point k) in
+    by_test (nat_eq (length (rounded p a b)) 0)
+    (λ e. rw e (one_hub p (first_best beats b.free)
+    (All-contains (Contains p.candidates) b.free (first_best beats b.free) is.free_are (first_best_in beats b.free some))))
+    (λ e. let none = eqb-false (length (rounded p a b)) 0 e in rw e (rounded_is_set p a b ok (omega (arith, none))))
 
 -- nothing is rounded up
 pub picked_greatest : (p : Problem) (a : Advice) (b : Branching) (set : List ℕ) (k : ℕ) → set ≡ rounded p a b → length set ≡ 0

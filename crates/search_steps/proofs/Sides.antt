@@ -1,5 +1,5 @@
 -- The sides that bounds give are those of the search's definition.
-use Rattle.std.proofs.Common.{◌≡◌, ℕ, ℤ, List, [], ◌∷◌, Contains, Option, Some, None, Bool, true, false, cond, refl, ap, ap₂, ◌∙◌}
+use Rattle.std.proofs.Common.{◌≡◌, ℕ, List, [], ◌∷◌, Contains, Option, Some, None, Bool, true, false, cond, refl, ap, ap₂, ◌∙◌}
 use Rattle.std.specs.Prelude.{filter_map}
 use Rattle.std.specs.Option.{option_map}
 use Rattle.std.specs.List.{cons_option}
@@ -7,18 +7,12 @@ use Rattle.hub_spec.specs.Problem.{Problem}
 use Rattle.hub_spec.specs.Trees.{Branching, IsBranch, open_child, closed_child}
 use Rattle.hub_spec.proofs.ChildLists.{open_branch, closed_branch}
 use Rattle.hub_spec.proofs.Sets.{Contains-head, Contains-later}
+use Rattle.search_spec.specs.States.{State}
 use Rattle.search_spec.specs.Steps as steps
 use Rattle.search_spec.specs.Steps.{closes_at, fixed_side, fixing, fixings}
-use Rattle.leaf_bound.specs.declared.weightings.Weighting as lent
-use Rattle.leaf_bound.specs.Numbers.{weighting_of}
 use Rattle.hub_fixing.specs.declared.sides.Side.{Side}
 use Rattle.hub_fixing.specs.declared.sides.Side.TheVariants.{In, Out}
-use Rattle.hub_fixing.specs.Fixing as sides
-use Rattle.hub_fixing.specs.Fixing.{closes_by, side_of}
-use Rattle.cut_pool.specs.Entries.{Entry}
-use Rattle.search_steps.specs.Pools.{state_by}
-use Rattle.search_steps.specs.Weights.{pairs_of, side_as, sides_as}
-use Rattle.search_steps.proofs.Weighed.{AreLent, lent_closes}
+use Rattle.search_steps.specs.Weights.{side_as, sides_as}
 
 -- the node with its side as the search has it
 abbrev node_as : ℕ × Side → ℕ × steps.Side
@@ -37,25 +31,24 @@ listed_as f g (k ∷ ks) same =
     put (f k) (g k) (filter_map f ks) (filter_map g ks) (same k (Contains-head k ks)) (listed_as f g ks (λ m c. same m (Contains-later k ks m c)))
 
 -- the side by the tests of the two children
+abbrev pub side_when : Bool → Bool → Option Side
+side_when closed opened = cond closed (Some In) (cond opened (Some Out) None)
+
 by_tests : (k : ℕ) (closed opened : Bool)
-    → option_map node_as (option_map (λ (side : Side). (k, side)) (cond closed (Some In) (cond opened (Some Out) None)))
+    → option_map node_as (option_map (λ (side : Side). (k, side)) (side_when closed opened))
     ≡ option_map (λ (side : steps.Side). (k, side)) (cond closed (Some steps.stays_open) (cond opened (Some steps.stays_closed) None))
 by_tests k true opened = refl
 by_tests k false true = refl
 by_tests k false false = refl
 
-pub sides_are : (p : Problem) (entries : List Entry) (weights : List ℤ) (m : lent.Weighting) (b : Branching)
-    → AreLent p entries weights m → IsBranch p b → (hubs : List ℕ) (cost made : ℕ) (stop : Option ℕ)
-    → sides_as (sides.fixings (weighting_of m) cost b)
-    ≡ fixings p (state_by p entries hubs cost made stop) b (pairs_of weights)
+-- the sides that a test of the children gives, where it is the search's test of them
+pub sides_are : (p : Problem) (s : State) (b : Branching) (w : List (ℕ × ℕ)) (closes : Branching → Bool) → IsBranch p b
+    → ((c : Branching) → IsBranch p c → closes c ≡ closes_at p s c w)
+    → sides_as (filter_map (λ k. option_map (λ side. (k, side)) (side_when (closes (closed_child b k)) (closes (open_child b k)))) b.free) ≡ fixings p s b w
 unfolding fixings fixing fixed_side
-sides_are p entries weights m b lent is hubs cost made stop =
-    let s = state_by p entries hubs cost made stop in
-    let w = pairs_of weights in
+sides_are p s b w closes is same =
     let side : Bool → Bool → ℕ → Option (ℕ × steps.Side) =
     λ closed opened k. option_map (λ (side : steps.Side). (k, side)) (cond closed (Some steps.stays_open) (cond opened (Some steps.stays_closed) None)) in
-    listed_as (λ k. option_map (λ (side : Side). (k, side)) (side_of (weighting_of m) cost b k)) (fixing p s b w) b.free (λ k free.
-    by_tests k (closes_by (weighting_of m) cost (closed_child b k)) (closes_by (weighting_of m) cost (open_child b k))
-    ∙ ap₂ (λ (x y : Bool). side x y k)
-    (lent_closes p entries weights m (closed_child b k) lent (closed_branch p b k is free) hubs cost made stop)
-    (lent_closes p entries weights m (open_child b k) lent (open_branch p b k is free) hubs cost made stop))
+    listed_as (λ k. option_map (λ (side : Side). (k, side)) (side_when (closes (closed_child b k)) (closes (open_child b k)))) (fixing p s b w) b.free
+    (λ k free. by_tests k (closes (closed_child b k)) (closes (open_child b k))
+    ∙ ap₂ (λ (x y : Bool). side x y k) (same (closed_child b k) (closed_branch p b k is free)) (same (open_child b k) (open_branch p b k is free)))

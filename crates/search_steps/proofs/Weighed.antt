@@ -1,5 +1,5 @@
 -- The bound that a node's weights give is the bound in the search's state.
-use Rattle.std.proofs.Common.{◌≡◌, ℕ, ◌*◌, ◌≤◌, ℤ, pos, ◌-ℤ◌, List, length, map, get_or, All, Option, if◌then◌else◌, int_lt, sym, ap, ap₂, subst, ◌∙◌, arith}
+use Rattle.std.proofs.Common.{◌≡◌, ℕ, ◌*◌, ◌≤◌, ℤ, pos, ◌-ℤ◌, List, length, map, get_or, All, Option, Some, None, if◌then◌else◌, int_lt, sym, ap, ap₂, subst, ◌∙◌, arith}
 use Rattle.std.specs.List.{AllZip}
 use Rattle.std.proofs.lemmas.Int.{ints}
 use Rattle.std.proofs.lemmas.List.{length-map}
@@ -10,11 +10,12 @@ use Rattle.hub_model.specs.Amounts.{natural, IsNatural}
 use Rattle.leaf_bound.specs.declared.weightings.Weighting as lent
 use Rattle.leaf_bound.specs.Bounds.{AreMultiples, bound_of}
 use Rattle.leaf_bound.specs.Numbers.{naturals, AreWeightingNumbers, IsBranchBelow, weighting_of}
-use Rattle.leaf_bound.specs.Theorems.{AreLoadsOf, IsWeightingOf}
+use Rattle.leaf_bound.specs.Theorems.{weight_pairs, AreLoadsOf, IsWeightingOf}
 use Rattle.leaf_bound.proofs.LeafWeights.{leaf_has_bound}
 use Rattle.search_spec.specs.States.{State, denominator}
 use Rattle.search_spec.specs.Steps.{bound_at, closes_at, better}
-use Rattle.hub_fixing.specs.Fixing.{closes_by}
+use Rattle.p_hub.specs.Counted.{counted_of}
+use Rattle.p_hub.proofs.CountedBounds.{leaf_counted}
 use Rattle.cut_pool.specs.Entries.{Entry}
 use Rattle.search_core.proofs.Weightings.{below_size, branch_below}
 use Rattle.search_steps.specs.Pools.{entry_cut, IsPoolOf, pool_cuts, state_by}
@@ -67,24 +68,37 @@ weighting_is p entries weights m lent = record {
   few_weights = omega (arith, length-map m.weights.now natural, ap length lent.is.are_weights, length-map entries (entry_cut p), lent.are_weights.few);
 }
 
--- the bound in each state with these entries
-pub lent_bound : (p : Problem) (entries : List Entry) (weights : List ℤ) (m : lent.Weighting) (b : Branching)
+-- the bound of a leaf with the weighting's numbers is the bound in each state with these entries
+lent_bound : (p : Problem) (entries : List Entry) (weights : List ℤ) (m : lent.Weighting) (b : Branching) (z : ℤ)
+    → AreLent p entries weights m → leaf_bound p (pool_cuts p entries) (natural m.denom) (weight_pairs (naturals m.weights.now)) b ≡ z
+    → (hubs : List ℕ) (cost made : ℕ) (stop : Option ℕ) → z ≡ bound_at p (state_by p entries hubs cost made stop) b (pairs_of weights)
+unfolding bound_at
+lent_bound p entries weights m b z lent is hubs cost made stop =
+    sym is ∙ ap₂ (λ (d : ℕ) (ws : List ℤ). leaf_bound p (pool_cuts p entries) d (pairs_of ws) b) (ap natural lent.is.is_denom) lent.is.are_weights
+
+-- where any number of hubs will do
+pub plain_lent : (p : Problem) (entries : List Entry) (weights : List ℤ) (m : lent.Weighting) (b : Branching) → p.wanted ≡ None
     → AreLent p entries weights m → IsBranch p b → (hubs : List ℕ) (cost made : ℕ) (stop : Option ℕ)
     → bound_of (weighting_of m) b ≡ bound_at p (state_by p entries hubs cost made stop) b (pairs_of weights)
-unfolding bound_at
-lent_bound p entries weights m b lent is hubs cost made stop =
-    sym (ap₂ (λ (d : ℕ) (ws : List ℤ). leaf_bound p (pool_cuts p entries) d (pairs_of ws) b) (sym (ap natural lent.is.is_denom)) (sym lent.is.are_weights)
-    ∙ leaf_has_bound p (pool_cuts p entries) (weighting_of m) b lent.problem.any_number (weighting_is p entries weights m lent)
-    (below_size p b lent.problem is))
+plain_lent p entries weights m b any lent is =
+    lent_bound p entries weights m b (bound_of (weighting_of m) b) lent
+    (leaf_has_bound p (pool_cuts p entries) (weighting_of m) b any (weighting_is p entries weights m lent) (below_size p b lent.problem is))
+
+-- where just so many are wanted
+pub counted_lent : (n : ℕ) (p : Problem) (entries : List Entry) (weights : List ℤ) (m : lent.Weighting) (b : Branching) → p.wanted ≡ Some n
+    → AreLent p entries weights m → IsBranch p b → (hubs : List ℕ) (cost made : ℕ) (stop : Option ℕ)
+    → counted_of n (weighting_of m) b ≡ bound_at p (state_by p entries hubs cost made stop) b (pairs_of weights)
+counted_lent n p entries weights m b wanted lent is =
+    lent_bound p entries weights m b (counted_of n (weighting_of m) b) lent
+    (leaf_counted n p (pool_cuts p entries) (weighting_of m) b wanted (weighting_is p entries weights m lent) (below_size p b lent.problem is))
 
 -- the test of the bound against the cost
-pub lent_closes : (p : Problem) (entries : List Entry) (weights : List ℤ) (m : lent.Weighting) (b : Branching)
-    → AreLent p entries weights m → IsBranch p b → (hubs : List ℕ) (cost made : ℕ) (stop : Option ℕ)
-    → closes_by (weighting_of m) cost b ≡ closes_at p (state_by p entries hubs cost made stop) b (pairs_of weights)
+pub lent_closes : (p : Problem) (entries : List Entry) (weights : List ℤ) (m : lent.Weighting) (b : Branching) (z : ℤ) (hubs : List ℕ) (cost made : ℕ)
+    (stop : Option ℕ) → AreLent p entries weights m → z ≡ bound_at p (state_by p entries hubs cost made stop) b (pairs_of weights)
+    → int_lt (pos (natural m.denom * cost) -ℤ pos (natural m.denom)) z ≡ closes_at p (state_by p entries hubs cost made stop) b (pairs_of weights)
 unfolding closes_at
-lent_closes p entries weights m b lent is hubs cost made stop =
-    ap₂ (λ (d : ℕ) (z : ℤ). int_lt (pos (d * cost) -ℤ pos d) z) (ap natural lent.is.is_denom)
-    (lent_bound p entries weights m b lent is hubs cost made stop)
+lent_closes p entries weights m b z hubs cost made stop lent is =
+    ap₂ (λ (d : ℕ) (y : ℤ). int_lt (pos (d * cost) -ℤ pos d) y) (ap natural lent.is.is_denom) is
 
 -- the test of a bound against what it has to be above
 pub closes_by_bound : (p : Problem) (s : State) (b : Branching) (w : List (ℕ × ℕ)) (x y : ℤ) → x ≡ (pos (denominator * s.cost) -ℤ pos denominator)

@@ -1,5 +1,5 @@
 -- What the master of a branch advises a search that has these cuts.
-use Rattle.std.specs.Prelude.{ℕ, ◌*◌, ◌/◌, List, [], ◌∷◌, map, slice_index_or, pos}
+use Rattle.std.specs.Prelude.{ℕ, ◌+◌, ◌*◌, ◌/◌, List, [], ◌∷◌, map, slice_index_or, pos, Option, Some, None}
 use Rattle.std.specs.List.{range_with_len}
 use Rattle.hub_spec.specs.Problem.{Problem}
 use Rattle.hub_spec.specs.Cuts.{Cut, total, load}
@@ -13,9 +13,14 @@ use Rattle.frac_master.specs.Advice.{Advised, advice}
 abbrev pub node_loads : Problem → Cut → List ℕ
 node_loads p cut = map (load cut) (range_with_len 0 p.size)
 
--- the fixed costs that the master is asked with, where the incumbent has this cost: the problem's own
+-- these fixed costs; where just so many hubs are wanted, each with what the incumbent costs by hub besides
+abbrev pub with_share : Option ℕ → ℕ → List ℕ → List ℕ
+with_share None cost fixed = fixed
+with_share (Some n) cost fixed = map (λ f. f + cost / n) fixed
+
+-- the fixed costs that the master is asked with, where the incumbent has this cost
 abbrev pub advised_costs : Problem → ℕ → List ℕ
-advised_costs p cost = p.fixed_costs
+advised_costs p cost = with_share p.wanted cost p.fixed_costs
 
 -- the numbers of a master of these cuts
 abbrev pub master_numbers : Problem → List Cut → ℕ → MasterNumbers

@@ -1,10 +1,11 @@
 //! What the master of a node's branch advises.
 
-ghost use Rattle.std.specs.Prelude.{◌≡◌, length, map, pos, IfOk, IfSome};
+ghost use Rattle.std.specs.Prelude.{◌≡◌, ◌≤◌, length, map, pos, IfOk, IfSome};
+ghost use Rattle.hub_spec.specs.Limits.{most_cost};
 ghost use Rattle.hub_spec.specs.Trees.{IsBranch};
 ghost use Rattle.frac_master.specs.Advice.{advice_of_code};
 ghost use Rattle.frac_master.specs.Masters.{AreShortRows};
-ghost use Rattle.search_steps.specs.Pools.{IsPoolOf, InEachState};
+ghost use Rattle.search_steps.specs.Pools.{IsPoolOf, InEachStateAt};
 ghost use Rattle.search_steps.specs.Advising.{told_by, master_advising};
 ghost use Rattle.search_steps.specs.Weights.{AreNodeWeights};
 
@@ -30,7 +31,8 @@ pub fn node_advice<R: Rule>(
     requires serves { R.serves rule.now instance.now }
     requires pool { IsPoolOf instance.now pool.now.entries }
     requires branch { IsBranch instance.now branch.now }
-    ensures advice { let p = instance.now in IfOk result (λ a. InEachState p pool.now.entries
+    requires cost { cost ≤ most_cost }
+    ensures advice { let p = instance.now in IfOk result (λ a. InEachStateAt p pool.now.entries cost
         (λ s. told_by (advice_of_code a) ≡ master_advising p s branch.now)) }
     ensures weights { IfOk result (λ a. AreNodeWeights (length pool.now.entries) a.weights.items) }
     ensures point { IfOk result (λ a. length a.point.items ≡ instance.now.size) }

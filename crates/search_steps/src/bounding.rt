@@ -2,7 +2,7 @@
 
 ghost use Rattle.std.specs.Prelude.{◌≡◌, ◌≤◌, ◌↔◌, ◌<ℤ◌, length, IsTrue, if◌then◌else◌};
 ghost use Rattle.hub_spec.specs.Limits.{most_cost};
-ghost use Rattle.hub_spec.specs.Trees.{IsBranch};
+ghost use Rattle.hub_spec.specs.Trees.{IsBranch, HasRoom};
 ghost use Rattle.search_spec.specs.Steps.{bound_at, better, closes_at};
 ghost use Rattle.search_steps.specs.Pools.{InEachState, InEachStateAt};
 ghost use Rattle.search_steps.specs.Weights.{AreNodeWeights, AreWeighed, pairs_of};
@@ -24,6 +24,7 @@ pub fn is_better<R: Rule>(
     requires serves { R.serves rule.now present.now.instance.now }
     requires present { AreWeighed present.now }
     requires branch { IsBranch present.now.instance.now branch.now }
+    requires room { HasRoom present.now.instance.now.wanted branch.now }
     requires advised { AreNodeWeights (length present.now.pool.now.entries) advised.now }
     ensures above { let p = present.now.instance.now in InEachState p present.now.pool.now.entries (λ s. IsTrue result
         ↔ (bound_at p s branch.now (pairs_of present.now.weights.now) <ℤ bound_at p s branch.now (pairs_of advised.now))) }
@@ -45,6 +46,7 @@ pub fn closes<R: Rule>(rule: &R, weighed: &NodeWeights, branch: &Branch, cost: u
     requires serves { R.serves rule.now weighed.now.instance.now }
     requires weighed { AreWeighed weighed.now }
     requires branch { IsBranch weighed.now.instance.now branch.now }
+    requires room { HasRoom weighed.now.instance.now.wanted branch.now }
     requires cost { cost ≤ most_cost }
     ensures { let p = weighed.now.instance.now in InEachStateAt p weighed.now.pool.now.entries cost
         (λ s. result ≡ closes_at p s branch.now (pairs_of weighed.now.weights.now)) }

@@ -6,9 +6,10 @@
 //! whether the bound of weights closes the incumbent's cost. `nearest` chooses by the point the node that is branched on,
 //! and `leaf_line` writes a leaf.
 //!
-//! What hangs on the plans that are wanted is asked of a [`Rule`]: how a branch ends, the set that is left alone in it,
-//! bounds, the free nodes that bounds decide, the hub set that is separated, and the fixed costs that the master is asked
-//! with. [`Plain`] is the rule for plans with any number of hubs.
+//! What hangs on the plans that are wanted is asked of a [`Rule`]: the first incumbent, how a branch ends, the set that
+//! is left alone in it, bounds, the free nodes that bounds decide, the hub set that is separated, and the fixed costs
+//! that the master is asked with. [`Plain`] is the rule for plans with any number of hubs, [`Counted`] that for plans
+//! with just so many.
 //!
 //! Each of these is proved equal to the step of its name in the search's definition, and what the choices of that
 //! definition mean are laws: `greatest_is_one`, `nearest_is_one` and `picked_is_one`.
@@ -18,8 +19,10 @@
 
 mod advising;
 mod bounding;
+mod counted;
 mod laws;
 mod leaves;
+mod openings;
 mod picking;
 mod plain;
 mod rules;
@@ -27,6 +30,7 @@ mod weightings;
 
 pub use advising::node_advice;
 pub use bounding::{closes, is_better};
+pub use counted::Counted;
 pub use laws::{advising_is_sound, greatest_is_one, nearest_is_one, picked_is_one};
 pub use leaves::leaf_line;
 pub use picking::nearest;

@@ -4,7 +4,7 @@ ghost use Rattle.std.specs.Prelude.{◌≡◌, ◌≤◌, ◌&&◌, ◌||◌, �
 ghost use Rattle.std.specs.Int.{int_rem_euclid};
 ghost use Rattle.std.specs.List.Sorted.{IsStrictlyIncreasing};
 ghost use Rattle.hub_spec.specs.Problem.{IsProblem};
-ghost use Rattle.hub_spec.specs.Plans.{IsHubSet};
+ghost use Rattle.hub_spec.specs.Plans.{IsCandidateSet};
 ghost use Rattle.hub_spec.specs.Trees.{IsBranch};
 ghost use Rattle.hub_model.specs.Amounts.{natural};
 ghost use Rattle.search_spec.specs.Choices.{has_node, first_best, is_half, rounded, picked, nearest_half, from_half};
@@ -28,7 +28,7 @@ pub(crate) fn pick(
 ) -> Result<Vec<u32>, AllocError>
     requires { IsBranch instance.now branch.now }
     ensures picked { IfOk result (λ set. set.items ≡ picked instance.now (told_by (advice_of_code advice.now)) branch.now) }
-    ensures set { IfOk result (λ set. 1 ≤ length branch.now.free → IsHubSet instance.now set.items) }
+    ensures set { IfOk result (λ set. 1 ≤ length branch.now.free → IsCandidateSet instance.now set.items) }
 {
     let mut set = rounded(alloc, instance, advice, branch)?;
     if set.is_empty() {
@@ -60,8 +60,8 @@ fn is_rounded(advice: &Advice, branch: &Branch, k: u32) -> bool
     has_node(branch.inside(), k) || (has_node(branch.free(), k) && is_half(advice, k))
 }
 
-// Whether the ascending list has the node.
-fn has_node(nodes: &[u32], k: u32) -> bool
+/// Whether the ascending list has the node.
+pub(crate) fn has_node(nodes: &[u32], k: u32) -> bool
     requires { IsStrictlyIncreasing nodes.now }
     ensures { result ≡ has_node nodes.now k }
 {

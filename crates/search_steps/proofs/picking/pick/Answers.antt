@@ -1,6 +1,6 @@
 use Rattle.std.proofs.Common.{ℕ, ℤ, pos, int_lt, List, get_or, Vec, Global, ap, ap₂, sym, subst, ◌∙◌, vec_len, eqb-true, arith}
 use Rattle.std.proofs.lemmas.Bool.{eqb-false}
-use Rattle.hub_spec.specs.Plans.{IsHubSet}
+use Rattle.hub_spec.specs.Plans.{IsCandidateSet}
 use Rattle.search_spec.specs.Choices.{first_best}
 use Rattle.frac_master.specs.Advice.{advice_of_code}
 use Rattle.search_steps.specs.Advising.{told_by}
@@ -25,5 +25,5 @@ returns-clause-picked c =
 
 pub returns-clause-set : goal.returns-clause-set
 returns-clause-set c =
-    λ some. subst (IsHubSet c.args.instance.now) (sym (returns-clause-picked c))
+    λ some. subst (IsCandidateSet c.args.instance.now) (sym (returns-clause-picked c))
     (picked_is_set c.args.instance.now (told_by (advice_of_code c.args.advice.now)) c.args.branch.now c.in_ok-set.ensures.problem c.requires some)

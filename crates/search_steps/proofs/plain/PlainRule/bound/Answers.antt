@@ -1,7 +1,7 @@
 use Rattle.std.proofs.Common.{FitsSigned, rules, ◌∙◌}
 use Rattle.std.specs.Int.{w128}
 use Rattle.std.proofs.lemmas.Int.{to_z-of_z}
-use Rattle.search_steps.proofs.Weighed.{AreLent, weighting_numbers, weighted_below, lent_bound}
+use Rattle.search_steps.proofs.Weighed.{AreLent, weighting_numbers, weighted_below, plain_lent}
 use Rattle.search_steps.proofs.plain.PlainRule.bound.Goals as goal
 use Rattle.search_steps.proofs.plain.PlainRule.bound.Goals.{After-weighting}
 
@@ -28,5 +28,5 @@ pub returns-clause-value : goal.returns-clause-value
 returns-clause-value c =
     let fits : FitsSigned w128 c.bound.result = search rules in
     λ hubs cost made stop. to_z-of_z w128 c.bound.result fits ∙ c.bound.ensures.value
-    ∙ lent_bound c.args.weighed.now.instance.now c.args.weighed.now.pool.now.entries c.args.weighed.now.weights.now c.weighting.result c.args.branch.now
-    (lent (goal.at.returns-clause-value c).After-weighting) c.requires.branch hubs cost made stop
+    ∙ plain_lent c.args.weighed.now.instance.now c.args.weighed.now.pool.now.entries c.args.weighed.now.weights.now c.weighting.result c.args.branch.now
+    c.requires.serves (lent (goal.at.returns-clause-value c).After-weighting) c.requires.branch hubs cost made stop
