@@ -17,7 +17,7 @@ use Rattle.pareto_cuts.proofs.Columns.{in_or_out, none_outside, minimal_of}
 pub price_limit : (p : Problem) (hubs : List ℕ) (i j a : ℕ) → IsProblem p → IsHubSet p hubs → i < p.size → j < p.size
     → IsLeastCost p hubs (i, j) a → a ≤ most_cost
 price_limit p hubs i j a ok set from to least =
-    let (k, m, first, last, is) = least.reached in
+    let (k, m, first, last, is, allowed) = least.reached in
     let nodes = hubs_are_nodes p hubs ok.limits set in
     omega (
       arith,

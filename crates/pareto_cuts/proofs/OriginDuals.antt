@@ -1,15 +1,15 @@
 -- What is worked out by unit of flow over the legs of a separation are its minimal duals, where no length is limited.
-use Rattle.std.proofs.Common.{◌≡◌, ℕ, ◌+◌, ◌*◌, ◌<◌, Unit, tt, None, List, length, slice_index, ap, ◌∙◌, arith}
-use Rattle.hub_spec.specs.Problem.{Problem, IsProblem, flow, distance}
+use Rattle.std.proofs.Common.{◌≡◌, ℕ, ◌+◌, ◌*◌, ◌<◌, None, List, length, slice_index, ap, ◌∙◌, arith}
+use Rattle.hub_spec.specs.Problem.{flow}
 use Rattle.hub_spec.specs.Separation.{minimal_dual}
 use Rattle.hub_spec.proofs.Limits.{hubs_are_nodes}
 use Rattle.hub_spec.proofs.PlanCosts.{any_allowed}
 use Rattle.hub_spec.proofs.SetCutFunction.{price_same}
 use Rattle.hub_plain.proofs.Turns.{order_nodes}
 use Rattle.unit_duals.specs.Cells.{cell}
-use Rattle.unit_duals.specs.Lengths.{UnitLegs, stops, alone, way}
+use Rattle.unit_duals.specs.Lengths.{stops, alone, way}
 use Rattle.unit_duals.specs.LeastValues.{IsAsked as IsAskedOf, nothing as asked_nothing, by_itself as asked_by_itself, to_hub as asked_to_hub, from_hub as asked_from_hub, to_earlier as asked_to_earlier, from_earlier as asked_from_earlier, IsLeastValue, ArePrices, AreLeastValues}
-use Rattle.leg_tables.specs.StopLegs.{stop_node, AreLegsOf, AreFirstLegsOf}
+use Rattle.leg_tables.specs.StopLegs.{stop_node, AreFirstLegsOf}
 use Rattle.leg_tables.proofs.StopNodes.{stop_is_node}
 use Rattle.leg_tables.proofs.RouteLengths.{way_costs}
 use Rattle.leg_tables.proofs.LeastRoutes.{price_is_least}

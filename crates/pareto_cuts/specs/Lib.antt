@@ -4,3 +4,5 @@ pub mod UnitCosts
 pub mod AddedRows
 pub mod Buffers
 pub mod Scratches
+pub mod TableParts
+pub mod OriginParts

@@ -1,6 +1,5 @@
 -- The duals of one origin's commodities by unit of flow: the flow times them are the minimal duals.
-use Rattle.std.specs.Prelude.{◌≡◌, ℕ, ◌+◌, ◌*◌, ◌<◌, List, length, slice_index}
-use Rattle.hub_spec.specs.Problem.{Problem, flow}
+use Rattle.std.specs.Prelude.{◌≡◌, ℕ, ◌+◌, List, slice_index}
 use Rattle.hub_spec.specs.Cuts.{value_at}
 use Rattle.hub_spec.specs.Separation.{minimal_dual}
 use Rattle.leg_tables.specs.UnitDuals.{AreUnitDuals}

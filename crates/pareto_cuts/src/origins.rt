@@ -2,10 +2,12 @@
 
 ghost use Rattle.std.specs.Prelude.{◌≡◌, ◌+◌, ◌*◌, ◌<◌, ◌≤◌, [], length, IfOk};
 ghost use Rattle.unit_duals.specs.Limits.{most_room};
+ghost use Rattle.leg_tables.specs.StopLegs.{AreFirstLegsOf};
 ghost use Rattle.pareto_cuts.specs.UnitCosts.{AreDualsFrom};
 
 use crate::Separation;
 use leg_tables::FirstLegs;
+use limited_duals::{LimitedDuals, Ways};
 use std::alloc::{AllocError, Global};
 use std::marker::Model;
 use unit_duals::UnitDuals;
@@ -16,17 +18,20 @@ use unit_duals::UnitDuals;
 pub struct OriginScratch {
     first: FirstLegs,
     unit: UnitDuals,
+    limited: LimitedDuals,
+    // Whether those that were worked out last are the limited ones.
+    is_limited: bool,
 }
 
 impl Model for OriginScratch {
-    ghost use Rattle.std.specs.Prelude.{◌≡◌};
     ghost use Rattle.unit_duals.specs.LeastValues.{OriginDuals};
+    ghost use Rattle.pareto_cuts.specs.OriginParts.{held_duals, HasOriginRoom};
 
     ghost Value = { OriginDuals };
 
-    ghost view = { λ s. s.unit };
+    ghost view = { held_duals };
 
-    ghost invariant = { λ s. s.first.room ≡ s.unit.room };
+    ghost invariant = { HasOriginRoom };
 }
 
 impl OriginScratch {
@@ -38,6 +43,8 @@ impl OriginScratch {
         Ok(OriginScratch {
             first: FirstLegs::new(alloc, room)?,
             unit: UnitDuals::new(alloc, room)?,
+            limited: LimitedDuals::new(alloc, room)?,
+            is_limited: false,
         })
     }
 
@@ -54,21 +61,58 @@ impl OriginScratch {
             separation.order(),
             i,
         );
-        self.unit
-            .values_from(separation.tables().tables(), self.first.as_slice());
+        match separation.tables_of_any_length() {
+            Some(tables) => {
+                self.is_limited = false;
+                self.unit.values_from(tables, self.first.as_slice());
+            }
+            None => {
+                self.is_limited = true;
+                work_out_limited(separation, self.first.as_slice(), i, &mut self.limited);
+            }
+        }
     }
 
     /// The price of each destination, by unit of flow.
     pub(crate) fn prices(&self) -> &[u64]
         ensures { result.now ≡ self.now.prices }
     {
-        self.unit.prices()
+        if self.is_limited {
+            self.limited.prices()
+        } else {
+            self.unit.prices()
+        }
     }
 
     /// The values, row by row: a row for each candidate of the order, a value for each destination, by unit of flow.
     pub(crate) fn values(&self) -> &[u64]
         ensures { result.now ≡ self.now.values }
     {
-        self.unit.values()
+        if self.is_limited {
+            self.limited.values()
+        } else {
+            self.unit.values()
+        }
     }
+}
+
+/// Works out the duals over the routes that are allowed, whatever their length is limited to.
+fn work_out_limited(separation: &Separation, first: &[u64], i: u32, duals: &mut LimitedDuals)
+    requires origin { i < separation.now.problem.size }
+    requires room { separation.now.problem.size ≤ duals.old.room }
+    requires first { let s = separation.now in AreFirstLegsOf s.problem s.hubs s.order i first.now }
+    ensures room { duals.new.room ≡ duals.old.room }
+    ensures duals { AreDualsFrom separation.now i duals.new.prices duals.new.values }
+{
+    let legs = separation.tables().legs();
+    let ways = Ways::new(
+        separation.instance(),
+        separation.hubs(),
+        separation.order(),
+        separation.start(),
+        i,
+        &legs,
+        first,
+    );
+    duals.work_out(&ways);
 }

@@ -1,6 +1,6 @@
 //! All that the duals of an origin hang on.
 
-ghost use Rattle.std.specs.Prelude.{◌≡◌, ◌+◌, ◌≤◌, length};
+ghost use Rattle.std.specs.Prelude.{◌≡◌, ◌+◌, ◌≤◌, length, None, IfSome};
 ghost use Rattle.hub_spec.specs.Problem.{IsProblem};
 ghost use Rattle.hub_spec.specs.Plans.{IsHubSet};
 ghost use Rattle.hub_spec.specs.Separation.{IsOrder};
@@ -10,6 +10,7 @@ ghost use Rattle.pareto_cuts.specs.Separations.{IsSeparation};
 use crate::SetTables;
 use hub_model::Instance;
 use std::marker::Model;
+use unit_duals::Tables;
 
 /// A hub set and an order of the candidates outside it, with their tables, and the destinations: so many nodes from
 /// `start` on.
@@ -104,5 +105,16 @@ impl<'a> Separation<'a> {
         ensures separation { IsSeparation self.now }
     {
         self.tables
+    }
+
+    /// The tables by unit of flow, where the length of routes is not limited and they are filled.
+    pub(crate) fn tables_of_any_length(&self) -> Option<&Tables>
+        ensures value { IfSome result (λ t. t.now.legs ≡ self.now.legs) }
+        ensures any_length { IfSome result (λ _. self.now.problem.longest ≡ None) }
+    {
+        match self.instance.length_limit() {
+            None => self.tables.tables(),
+            Some(_) => None,
+        }
     }
 }

@@ -1,4 +1,4 @@
-//! What is worked out once for a hub set and an order.
+//! What is worked out once for a hub set and an order: the legs, and where no length is limited what hangs on them.
 
 ghost use Rattle.std.specs.Prelude.{◌≡◌, ◌+◌, ◌<◌, ◌≤◌, IfOk, IfSome, IsNone};
 ghost use Rattle.hub_spec.specs.Problem.{IsProblem};
@@ -13,7 +13,7 @@ use leg_tables::SetLegs;
 use plan_model::HubSet;
 use std::alloc::{AllocError, Global};
 use std::marker::Model;
-use unit_duals::Tables;
+use unit_duals::{Legs, Tables};
 
 /// The tables of a hub set and an order, with the room that was taken for them: so many destinations, and so many hubs
 /// and candidates of the order, there may be.
@@ -23,17 +23,19 @@ use unit_duals::Tables;
 pub struct SetTables {
     legs: SetLegs,
     tables: Tables,
+    // Whether the tables are those of the legs. They are not filled where the length of routes is limited.
+    is_filled: bool,
 }
 
 impl Model for SetTables {
-    ghost use Rattle.std.specs.Prelude.{◌≡◌};
     ghost use Rattle.unit_duals.specs.Lengths.{RoomedLegs};
+    ghost use Rattle.pareto_cuts.specs.TableParts.{AreSetTables};
 
     ghost Value = { RoomedLegs };
 
-    ghost view = { λ s. s.tables };
+    ghost view = { λ s. s.legs };
 
-    ghost invariant = { λ s. s.legs.room ≡ s.tables.room };
+    ghost invariant = { AreSetTables };
 }
 
 impl SetTables {
@@ -45,6 +47,7 @@ impl SetTables {
         Ok(SetTables {
             legs: SetLegs::new(alloc, room)?,
             tables: Tables::new(alloc, room)?,
+            is_filled: false,
         })
     }
 
@@ -83,13 +86,27 @@ impl SetTables {
         ensures tables { AreTablesOf instance.now hubs.now order.now start size self.new.legs }
     {
         self.legs.fill(instance, hubs, order, start, size);
-        self.tables.fill(&self.legs.legs());
+        self.is_filled = instance.length_limit().is_none();
+        if self.is_filled {
+            self.tables.fill(&self.legs.legs());
+        }
     }
 
-    /// The tables by unit of flow.
-    pub(crate) fn tables(&self) -> &Tables
-        ensures { result.now ≡ self.now }
+    /// The legs by unit of flow.
+    pub(crate) fn legs(&self) -> Legs<'_>
+        ensures { result ≡ self.now.legs }
     {
-        &self.tables
+        self.legs.legs()
+    }
+
+    /// The tables by unit of flow, if they are filled.
+    pub(crate) fn tables(&self) -> Option<&Tables>
+        ensures { IfSome result (λ t. t.now ≡ self.now) }
+    {
+        if self.is_filled {
+            Some(&self.tables)
+        } else {
+            None
+        }
     }
 }

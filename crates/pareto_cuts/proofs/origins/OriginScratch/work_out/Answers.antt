@@ -1,8 +1,8 @@
-use Rattle.std.proofs.Common.{ℕ, ◌<◌, List, length, All, ap, sym, subst, ◌∙◌, arith}
+use Rattle.std.proofs.Common.{ℕ, ◌<◌, List, length, All, ap, sym, subst, arith}
 use Rattle.hub_spec.specs.Problem.{Problem}
 use Rattle.hub_spec.proofs.Limits.{hubs_are_nodes}
 use Rattle.hub_plain.proofs.Turns.{order_nodes}
-use Rattle.unit_duals.specs.Lengths.{UnitLegs, RoomedLegs}
+use Rattle.unit_duals.specs.Lengths.{UnitLegs}
 use Rattle.unit_duals.specs.LeastValues.{OriginDuals}
 use Rattle.pareto_cuts.proofs.StopCounts.{stops_within}
 use Rattle.pareto_cuts.proofs.OriginDuals.{duals_from}
@@ -40,7 +40,7 @@ pub values_from-requires-clause-stops : goal.values_from-requires-clause-stops
 values_from-requires-clause-stops c =
     let s = c.args.separation.now in
     let is = c.order.ensures.separation in
-    let legs = ap (λ (t : RoomedLegs). t.legs) c.tables-2.ensures ∙ c.tables.ensures.value in
+    let legs = c.in-Some.ensures.value in
     omega (
       arith,
       stops_within s.problem s.hubs s.order is.problem is.set is.order,
@@ -52,12 +52,14 @@ values_from-requires-clause-stops c =
       ap (λ (d : OriginDuals). d.room) c.self.view_is,
     )
 
-pub returns-clause-duals : goal.returns-clause-duals
-returns-clause-duals c =
+pub returns-in-Some-clause-duals : goal.returns-in-Some-clause-duals
+returns-in-Some-clause-duals c =
     let s = c.args.separation.now in
-    let legs = ap (λ (t : RoomedLegs). t.legs) c.tables-2.ensures ∙ c.tables.ensures.value in
+    let legs = c.in-Some.ensures.value in
     duals_from s c.args.i c.fill.new.self.items c.values_from.new.self.prices c.values_from.new.self.values (record {
       separation = c.order.ensures.separation;
+      any_length = c.in-Some.ensures.any_length;
+      from = c.requires.origin;
       legs_from = rw (c.instance.ensures.value, c.hubs.ensures.value, c.order.ensures.value) at c.fill.ensures.legs;
       are_prices = rw (legs, c.as_slice.ensures) at c.values_from.ensures.prices;
       are_values = rw (legs, c.as_slice.ensures) at c.values_from.ensures.values;

@@ -21,8 +21,8 @@ fill-requires-clause-room_stops c =
       c.self.invariant,
     )
 
-pub fill-requires-2-clause-stops : goal.fill-requires-2-clause-stops
-fill-requires-2-clause-stops c =
+pub fill-requires-then-self-clause-stops : goal.fill-requires-then-self-clause-stops
+fill-requires-then-self-clause-stops c =
     omega (
       arith,
       stops_within c.args.instance.now c.args.hubs.now c.args.order.now c.requires.problem c.requires.set c.requires.order,
