@@ -14,7 +14,7 @@ use Rattle.cert_spec.specs.Grammar.{Shape, want_hubs, want_route, want_dual, wan
 use Rattle.cert_spec.proofs.Stages.{run_within}
 use Rattle.cert_spec.specs.Progress.{Progress}
 use Rattle.cert_stream.specs.Sums.{CutTally, most_duals, last_of}
-use Rattle.cert_stream.specs.Steps.{MayHub, MayRoute, MayCut, MayEndDual, MayDual, MayValue, MayEndLeaf, MayAdd, MayWeight}
+use Rattle.cert_stream.specs.Steps.{MayHub, MayRoute, MayCut, MayEndDual, MayDual, MayValue, MayBlock, MayEndLeaf, MayAdd, MayWeight}
 use Rattle.cert_stream.specs.Taken.{Part, nothing, some_hubs, some_values, StandsFirm, AreSumsOfCut, DualsStand, Keeps}
 use Rattle.cert_stream.specs.declared.checks.Checks.{Checks}
 use Rattle.cert_stream.proofs.Lists.{all_last, ascend_last, not_nil}
@@ -111,6 +111,15 @@ may_fill c s sh places left part keeps e =
     let tree = keeps.2 in
     let none : s.pending ≡ [] = sym tree.are ∙ e in
     omega (arith, ap length none, tree.count, tree.some)
+
+pub may_block : (c : Checks) (s : Progress) (sh : Shape) (places left : ℕ) (commodity : ℕ × ℕ) (part : Part) → StandsFirm c s
+    → Keeps c s (want_tree sh places left) part → commodity.0 < sh.size → commodity.1 < sh.size → MayBlock c commodity
+may_block c s sh places left commodity part st keeps from to = record {
+  some = may_fill c s sh places left part keeps;
+  candidates = st.candidates_are;
+  from = omega (arith, from, keeps.0.wanted_is);
+  to = omega (arith, to, keeps.0.wanted_is);
+}
 
 pub may_end_leaf : (c : Checks) (s : Progress) (sh : Shape) (places left : ℕ) (part : Part) → StandsFirm c s
     → Keeps c s (want_tree sh places left) part → MayEndLeaf c

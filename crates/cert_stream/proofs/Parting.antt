@@ -12,7 +12,7 @@ use Rattle.cert_spec.specs.Grammar.{Shape, Stage, want_version, want_size, want_
 use Rattle.cert_scan.specs.Versions.{version_of}
 use Rattle.cert_scan.specs.Parts.{parts_of, none_left, hub_parts, value_parts, weight_parts, open_hubs, open_values, open_weights}
 use Rattle.cert_scan.specs.declared.items.Item.{Item}
-use Rattle.cert_scan.specs.declared.items.Item.TheVariants.{Version, Size, Cost, Bound, Hub, Route, Cuts, Cut, Dual, DualPair, Nodes, Branch, Leaf, LeafPair, Empty, End}
+use Rattle.cert_scan.specs.declared.items.Item.TheVariants.{Version, Size, Cost, Bound, Hub, Route, Cuts, Cut, Dual, DualPair, Nodes, Branch, Leaf, LeafPair, Empty, Block, Count, End}
 use Rattle.cert_stream.specs.Taken.{Part, nothing, some_hubs, some_values, some_weights, part_items, IsPart}
 use Rattle.cert_stream.proofs.Lists.{by_last, ascend_front, not_nil, all_front}
 
@@ -46,8 +46,8 @@ Closing (says_tree (leaf_of denom weights)) before i =
     ((weights ≡ []) × (before ≡ nothing) × (i ≡ Leaf denom true))
     ⊎ ((front : List (ℕ × ℕ)) × (e : ℕ × ℕ) × (weights ≡ front ++ e ∷ []) × (before ≡ some_weights denom front) × (i ≡ LeafPair e.0 e.1 true))
 Closing (says_tree no_hub) before i = (before ≡ nothing) × (i ≡ Empty)
-Closing (says_tree (no_route commodity)) before i = ⊥
-Closing (says_tree no_count) before i = ⊥
+Closing (says_tree (no_route commodity)) before i = (before ≡ nothing) × (i ≡ Block commodity.0 commodity.1)
+Closing (says_tree no_count) before i = (before ≡ nothing) × (i ≡ Count)
 Closing says_end before i = (before ≡ nothing) × (i ≡ End)
 
 -- an item that grows a part at a stage
@@ -215,8 +215,9 @@ each_ends (want_tree s places left) (says_tree (branch_on k)) h =
     (Branch k, whole (want_tree s places left) (says_tree (branch_on k)) (Branch k) tt refl (refl, refl))
 each_ends (want_tree s places left) (says_tree (leaf_of denom weights)) h = ends_leaf s places left denom weights h.0
 each_ends (want_tree s places left) (says_tree no_hub) h = (Empty, whole (want_tree s places left) (says_tree no_hub) Empty tt refl (refl, refl))
-each_ends (want_tree s places left) (says_tree (no_route commodity)) h = absurd h.1
-each_ends (want_tree s places left) (says_tree no_count) h = absurd h.1
+each_ends (want_tree s places left) (says_tree (no_route c)) h =
+    (Block c.0 c.1, whole (want_tree s places left) (says_tree (no_route c)) (Block c.0 c.1) tt refl (refl, refl))
+each_ends (want_tree s places left) (says_tree no_count) h = (Count, whole (want_tree s places left) (says_tree no_count) Count tt refl (refl, refl))
 each_ends want_end says_end h = (End, whole want_end says_end End tt refl (refl, refl))
 each_ends stage l h = absurd h
 

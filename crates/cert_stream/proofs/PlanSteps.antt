@@ -1,15 +1,15 @@
 -- The items up to the last route.
-use Rattle.std.proofs.Common.{◌≡◌, ℕ, ◌+◌, ◌*◌, ◌<◌, ◌≤◌, ◌↔◌, Bool, true, false, IsTrue, List, [], ◌∷◌, ◌++◌, length, nat_eq, None, IfSome, All, Contains, refl, sym, ap, ap₂, subst, ◌∙◌, mul-pos, div-add-mod', length-append, arith}
+use Rattle.std.proofs.Common.{◌≡◌, ℕ, ◌+◌, ◌*◌, ◌<◌, ◌≤◌, ◌↔◌, Bool, true, false, IsTrue, List, [], ◌∷◌, ◌++◌, length, nat_eq, None, All, Contains, refl, sym, ap, ap₂, subst, ◌∙◌, mul-pos, div-add-mod', length-append, arith}
 use Rattle.std.proofs.lemmas.Bool.{eqb-true}
 use Rattle.std.proofs.lemmas.List.Sums.{sum_by_push}
 use Rattle.std.proofs.lemmas.List.Elements.{All-push, All-nil}
-use Rattle.hub_spec.specs.Problem.{Problem, IsProblem, fixed_cost, commodity_at}
+use Rattle.hub_spec.specs.Problem.{Problem, IsProblem, fixed_cost, is_allowed, commodity_at}
 use Rattle.hub_spec.specs.Plans.{plan_cost, HasWanted}
 use Rattle.hub_spec.specs.Ranges.{IsShort}
 use Rattle.hub_spec.proofs.Commodities.{commodity_nodes}
 use Rattle.cert_spec.specs.Lines.{says_version, says_size, says_cost, says_bound, says_hubs, says_route}
 use Rattle.cert_spec.specs.Grammar.{Shape, want_version, want_size, want_cost, want_bound, want_hubs, want_route}
-use Rattle.cert_spec.specs.Conditions.{claim, Size, BoundOverCost, Hubs, Number, Route, Cost, if_time}
+use Rattle.cert_spec.specs.Conditions.{claim, Size, BoundOverCost, Hubs, Number, Route, Length, Cost, if_time}
 use Rattle.cert_spec.specs.Progress.{Progress}
 use Rattle.plan_lines.specs.Tallies.{PlanTally, no_plan, with_hub, with_route, IsTallyOf}
 use Rattle.plan_lines.proofs.PlanTallies.{costs_plan, has_route}
@@ -18,7 +18,7 @@ use Rattle.cert_stream.specs.Taken.{nothing, some_hubs, StandsFirm, HubsStand, K
 use Rattle.cert_stream.specs.declared.checks.Checks.{Checks}
 use Rattle.cert_stream.proofs.Lists.{all_front, all_last}
 use Rattle.cert_stream.proofs.Counting.{route_cases}
-use Rattle.cert_stream.proofs.Trying.{tried_more, tried_cons, tried_one, tried_time}
+use Rattle.cert_stream.proofs.Trying.{tried_cons, tried_one, tried_time}
 use Rattle.cert_stream.proofs.Kept.{Closed, Grown}
 
 pub close_version : (c : Checks) (s : Progress) (v : ℕ) (new : Checks) → StandsFirm c s → Keeps c s want_version nothing
@@ -134,10 +134,6 @@ grow_hub c s sh front k new st keeps h =
       keeps = (keeps.0, hubs_more c.instance.now front k s.routes c.plan c.are_candidates h.are keeps.1 h.known, keeps.2);
     })
 
--- where no number of hubs is wanted, any is
-any_wanted : (p : Problem) (hubs : List ℕ) → p.wanted ≡ None → HasWanted p hubs
-any_wanted p hubs any = subst (λ o. IfSome o (λ n. length hubs ≡ n)) (sym any) tt
-
 some_square : (p : Problem) → IsProblem p → 0 < p.size * p.size
 some_square p ok = mul-pos ok.some_node ok.some_node
 
@@ -145,6 +141,7 @@ pub close_hubs : (c : Checks) (s : Progress) (sh : Shape) (front : List ℕ) (k 
     → Keeps c s (want_hubs sh) (some_hubs front) → HubTaken c k true new → Closed c s (want_hubs sh) (says_hubs (front ++ k ∷ [])) new
 close_hubs c s sh front k new e st keeps h =
     let p = c.instance.now in
+    let hubs = front ++ k ∷ [] in
     let more = hubs_more p front k s.routes c.plan c.are_candidates h.are keeps.1 h.known in
     record {
       kept = hubbed c k h.are;
@@ -152,9 +149,11 @@ close_hubs c s sh front k new e st keeps h =
       is = h.goes.is;
       same = refl;
       line_is = refl;
-      tried = tried_more (claim Hubs s.line (All (Contains p.candidates) (front ++ k ∷ [])) ∷ [])
-          (claim Number s.line (HasWanted p (front ++ k ∷ [])) ∷ []) h.goes.found c.line (any_wanted p (front ++ k ∷ []) st.problem.any_number, tt)
-          (tried_one Hubs c.line s.line c.line (IsTrue h.are) (All (Contains p.candidates) (front ++ k ∷ [])) h.goes.found e more.known.0 more.known.1 h.goes.tried);
+      tried = tried_cons Hubs c.line s.line c.line (IsTrue h.are) (All (Contains p.candidates) hubs)
+          (claim Number c.line (HasWanted p (with_hub p c.plan k).hubs) ∷ []) (claim Number s.line (HasWanted p hubs) ∷ []) h.goes.found e
+          more.known.0 more.known.1
+          (λ are. tried_one Number c.line s.line c.line (HasWanted p (with_hub p c.plan k).hubs) (HasWanted p hubs) h.goes.found e
+          (subst (HasWanted p) more.tally.hubs_are) (subst (HasWanted p) (sym more.tally.hubs_are))) h.goes.tried;
       keeps = λ all. (
         st,
         (
@@ -185,7 +184,7 @@ next_commodity n m t commodity e below at =
 
 pub close_route : (c : Checks) (s : Progress) (sh : Shape) (t : ℕ) (commodity route : ℕ × ℕ) (new : Checks) → c.line ≡ s.line
     → commodity ≡ commodity_at sh.size t → StandsFirm c s → Keeps c s (want_route sh t) nothing
-    → Ends (route_tests (routed c commodity route) route) (routed c commodity route) new → Closed c s (want_route sh t) (says_route commodity route) new
+    → Ends (route_tests (routed c commodity route) commodity route) (routed c commodity route) new → Closed c s (want_route sh t) (says_route commodity route) new
 close_route c s sh t commodity route new e at st keeps h =
     let p = c.instance.now in
     let next = next_commodity p.size sh.size t commodity keeps.0.wanted_is keeps.1.more at in
@@ -198,6 +197,9 @@ close_route c s sh t commodity route new e at st keeps h =
     let square : sh.size * sh.size ≡ p.size * p.size = ap (λ n. n * n) keeps.0.wanted_is in
     let all_routed : length routes ≡ s.size * s.size → tally.cost ≡ plan_cost p (record { hubs = s.hubs; routes = routes }) =
     λ whole. costs_plan p s.hubs routes tally is (is.routed_is ∙ whole ∙ sym sizes) in
+    let cost_of_kept = if_time (nat_eq tally.routed (tally.size * tally.size)) (claim Cost c.line (c.cost ≡ tally.cost)) in
+    let cost_of_lines =
+    if_time (nat_eq (length routes) (s.size * s.size)) (claim Cost s.line (s.cost ≡ plan_cost p (record { hubs = s.hubs; routes = routes }))) in
     record {
       kept = routed c commodity route;
       found = h.found;
@@ -205,16 +207,17 @@ close_route c s sh t commodity route new e at st keeps h =
       same = refl;
       line_is = refl;
       tried = tried_cons Route c.line s.line c.line (Contains c.plan.hubs route.0 × Contains c.plan.hubs route.1) (Contains s.hubs route.0 × Contains s.hubs route.1)
-          (if_time (nat_eq tally.routed (tally.size * tally.size)) (claim Cost c.line (c.cost ≡ tally.cost)))
-          (if_time (nat_eq (length routes) (s.size * s.size)) (claim Cost s.line (s.cost ≡ plan_cost p (record { hubs = s.hubs; routes = routes }))))
-          h.found e
+          (claim Length c.line (is_allowed p commodity route.0 route.1 ≡ true) ∷ cost_of_kept)
+          (claim Length s.line (is_allowed p commodity route.0 route.1 ≡ true) ∷ cost_of_lines) h.found e
           (subst (λ (l : List ℕ). Contains l route.0 × Contains l route.1) before.hubs_are)
           (subst (λ (l : List ℕ). Contains l route.0 × Contains l route.1) (sym before.hubs_are))
-          (λ q. tried_time (nat_eq tally.routed (tally.size * tally.size)) (nat_eq (length routes) (s.size * s.size)) Cost c.line s.line c.line
+          (λ through. tried_cons Length c.line s.line c.line (is_allowed p commodity route.0 route.1 ≡ true) (is_allowed p commodity route.0 route.1 ≡ true)
+          cost_of_kept cost_of_lines h.found e (λ x. x) (λ x. x)
+          (λ short. tried_time (nat_eq tally.routed (tally.size * tally.size)) (nat_eq (length routes) (s.size * s.size)) Cost c.line s.line c.line
           (c.cost ≡ tally.cost) (s.cost ≡ plan_cost p (record { hubs = s.hubs; routes = routes })) h.found
           (ap₂ nat_eq is.routed_is (ap (λ n. n * n) before.size_is ∙ sizes)) e
           (λ whole x. sym st.cost_is ∙ x ∙ all_routed (eqb-true (length routes) (s.size * s.size) whole))
-          (λ whole x. st.cost_is ∙ x ∙ sym (all_routed (eqb-true (length routes) (s.size * s.size) whole))))
+          (λ whole x. st.cost_is ∙ x ∙ sym (all_routed (eqb-true (length routes) (s.size * s.size) whole)))))
           h.tried;
       keeps = λ all. (
         st,

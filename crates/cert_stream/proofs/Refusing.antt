@@ -14,7 +14,7 @@ use Rattle.cert_scan.specs.Parts.{parts_of, hub_parts, value_parts, weight_parts
 use Rattle.cert_scan.specs.Given.{IsBegun}
 use Rattle.cert_scan.specs.Runs.{Runs}
 use Rattle.cert_scan.specs.declared.items.Item.{Item}
-use Rattle.cert_scan.specs.declared.items.Item.TheVariants.{Version, Size, Cost, Bound, Hub, Route, Cuts, Cut, Dual, DualPair, Nodes, Branch, Leaf, LeafPair, Empty, End}
+use Rattle.cert_scan.specs.declared.items.Item.TheVariants.{Version, Size, Cost, Bound, Hub, Route, Cuts, Cut, Dual, DualPair, Nodes, Branch, Leaf, LeafPair, Empty, Block, Count, End}
 use Rattle.cert_scan.specs.declared.scanner.Scan.{Scan}
 use Rattle.cert_scan.proofs.ScanBytes.{scanned-append, given_all-append}
 use Rattle.cert_scan.proofs.Tracks.{scanned_given}
@@ -106,8 +106,8 @@ tree_no_cut (branch_on k) = All-cons IsNoCut (Branch k) [] (λ is. is) (All-nil 
 tree_no_cut (leaf_of denom weights) =
     All-cons IsNoCut (Leaf denom (none_left weights)) (weight_parts weights) (λ is. is) (All-weaker IsOfList IsNoCut list_no_cut (weight_parts weights) (weights_of_list weights))
 tree_no_cut no_hub = All-cons IsNoCut Empty [] (λ is. is) (All-nil IsNoCut)
-tree_no_cut (no_route commodity) = All-nil IsNoCut
-tree_no_cut no_count = All-nil IsNoCut
+tree_no_cut (no_route commodity) = All-cons IsNoCut (Block commodity.0 commodity.1) [] (λ is. is) (All-nil IsNoCut)
+tree_no_cut no_count = All-cons IsNoCut Count [] (λ is. is) (All-nil IsNoCut)
 
 -- a line begins a cut, or none of its items does
 pub cut_or_none : (line : Line) → ((number : ℕ) × (part : Option ℕ) × (line ≡ says_cut number part)) ⊎ All IsNoCut (parts_of line)
@@ -173,8 +173,8 @@ tree_in_turn : (line : TreeLine) (rest : List Item) → InTurn rest → InTurn (
 tree_in_turn (branch_on k) rest h = ((λ is. absurd is), h)
 tree_in_turn (leaf_of denom weights) rest h = ((λ is. absurd is), list_in_turn (weight_parts weights) rest (weights_of_list weights) h)
 tree_in_turn no_hub rest h = ((λ is. absurd is), h)
-tree_in_turn (no_route commodity) rest h = h
-tree_in_turn no_count rest h = h
+tree_in_turn (no_route commodity) rest h = ((λ is. absurd is), h)
+tree_in_turn no_count rest h = ((λ is. absurd is), h)
 
 line_in_turn : (line : Line) (stage : Stage) (rest : List Item) → Wants stage line → InTurn rest → (IsInTree (after stage line) → All IsNoCut rest)
     → InTurn (parts_of line ++ rest)

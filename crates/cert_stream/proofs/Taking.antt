@@ -10,7 +10,7 @@ use Rattle.cert_spec.specs.Progress.{Progress}
 use Rattle.dual_lines.specs.Lines.{ListedDual}
 use Rattle.cert_scan.specs.Versions.{version_of}
 use Rattle.cert_scan.specs.declared.items.Item.{Item}
-use Rattle.cert_scan.specs.declared.items.Item.TheVariants.{Version, Size, Cost, Bound, Hub, Route, Cuts, Cut, Dual, DualPair, Nodes, Branch, Leaf, LeafPair, Empty, End}
+use Rattle.cert_scan.specs.declared.items.Item.TheVariants.{Version, Size, Cost, Bound, Hub, Route, Cuts, Cut, Dual, DualPair, Nodes, Branch, Leaf, LeafPair, Empty, Block, Count, End}
 use Rattle.cert_stream.specs.Steps.{IsTaken, MayCome, begun_dual, with_value, dual_with, leaf_with, LeafEnds}
 use Rattle.cert_stream.specs.Taken.{Part, nothing, some_hubs, some_values, some_weights, IsPart, StandsFirm, Lists, Keeps}
 use Rattle.cert_stream.specs.declared.checks.Checks.{Checks}
@@ -20,8 +20,8 @@ use Rattle.cert_stream.proofs.Parting.{Growing, Closing}
 use Rattle.cert_stream.proofs.Kept.{Closed, Grown}
 use Rattle.cert_stream.proofs.PlanSteps.{close_version, close_size, close_cost, close_bound, grow_hub, close_hubs, close_route}
 use Rattle.cert_stream.proofs.CutSteps.{close_cuts, close_cut, dual_firm, grow_dual, close_dual}
-use Rattle.cert_stream.proofs.TreeSteps.{close_nodes, close_end, close_branch, close_empty, begun_leaf, weighed_as, weighed_leaf, close_leaf}
-use Rattle.cert_stream.proofs.MayCome.{may_hub, may_route, may_cut, may_dual, may_value, may_fill, may_end_leaf, may_weight}
+use Rattle.cert_stream.proofs.TreeSteps.{close_nodes, close_end, close_branch, close_empty, close_block, close_count, begun_leaf, weighed_as, weighed_leaf, close_leaf}
+use Rattle.cert_stream.proofs.MayCome.{may_hub, may_route, may_cut, may_dual, may_value, may_fill, may_block, may_end_leaf, may_weight}
 
 -- what an item is for a check that keeps what it should: it may come, and so it leaves the check
 pub record IsSafe (c : Checks) (i : Item) (After : Checks → Type 0) : Type 0 where
@@ -276,8 +276,20 @@ closes (want_tree sh places left) (says_tree no_hub) before i c s e w g st keeps
       may = may_fill c s sh places left before keeps;
       leaves = λ new h. close_empty c s sh places left new e w.2 st (keeps_at c s at before nothing g.0 keeps) h;
     })
-closes (want_tree sh places left) (says_tree (no_route commodity)) before i c s e w g st keeps = absurd w.1
-closes (want_tree sh places left) (says_tree no_count) before i c s e w g st keeps = absurd w.1
+closes (want_tree sh places left) (says_tree (no_route commodity)) before i c s e w g st keeps =
+    let at = want_tree sh places left in
+    by_item c i (Block commodity.0 commodity.1) (Closed c s at (says_tree (no_route commodity))) g.1
+    (record {
+      may = may_block c s sh places left commodity before st keeps w.0.0 w.0.1;
+      leaves = λ new h. close_block c s sh places left commodity new e w.2 st (keeps_at c s at before nothing g.0 keeps) h;
+    })
+closes (want_tree sh places left) (says_tree no_count) before i c s e w g st keeps =
+    let at = want_tree sh places left in
+    by_item c i Count (Closed c s at (says_tree no_count)) g.1
+    (record {
+      may = may_fill c s sh places left before keeps;
+      leaves = λ new h. close_count c s sh places left new e w.2 st (keeps_at c s at before nothing g.0 keeps) h;
+    })
 closes want_end says_end before i c s e w g st keeps =
     by_item c i End (Closed c s want_end says_end) g.1 (record { may = tt; leaves = λ new h. close_end c s new st h })
 closes at l before i c s e w g st keeps = absurd w

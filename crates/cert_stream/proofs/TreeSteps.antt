@@ -6,11 +6,11 @@ use Rattle.std.proofs.lemmas.List.Elements.{All-push, All-nil, All-cons, All-hea
 use Rattle.std.proofs.lemmas.Slice.Zip.{AllZip-long}
 use Rattle.hub_spec.specs.Problem.{Problem, IsProblem}
 use Rattle.hub_spec.specs.Cuts.{Cut, cut_by, total, load}
-use Rattle.hub_spec.specs.Trees.{Branching, root, open_child, closed_child, IsBranch, IsClosed, cut_at, share, IsMultiple, weight_sum, HasRoom, leaf_bound, Closes, TreeLine, branch_on, leaf_of, no_hub}
+use Rattle.hub_spec.specs.Trees.{Branching, root, open_child, closed_child, IsBranch, IsClosed, IsBlocked, cut_at, share, IsMultiple, weight_sum, HasRoom, LacksRoom, leaf_bound, Closes, TreeLine, branch_on, leaf_of, no_hub, no_route, no_count}
 use Rattle.hub_spec.proofs.ChildLists.{root_branch, open_branch, closed_branch}
 use Rattle.cert_spec.specs.Lines.{says_nodes, says_tree, says_end}
 use Rattle.cert_spec.specs.Grammar.{Shape, want_nodes, want_tree, want_end, IsOpen, places_after, after_tree}
-use Rattle.cert_spec.specs.Conditions.{Claim, claim, AllHold, Empty, Count, CutNumber, Multiple, Weight, Leaf, tree_conditions}
+use Rattle.cert_spec.specs.Conditions.{Kind, Claim, claim, AllHold, Empty, Block, Count, CutNumber, Multiple, Weight, Leaf, tree_conditions}
 use Rattle.cert_spec.specs.Progress.{Progress, filled}
 use Rattle.cert_checker.specs.declared.kinds.Kind as code
 use Rattle.tree_lines.specs.Trails.{undecided}
@@ -18,7 +18,7 @@ use Rattle.tree_lines.specs.Paths.{next, behind_next}
 use Rattle.tree_lines.specs.Tallies.{Tally, IsMultipleOf, IsBegun, IsAdded, tally_bound, AreSumsOf}
 use Rattle.tree_lines.proofs.TallyBounds.{bounds_leaf}
 use Rattle.cert_stream.specs.Sums.{CutTally, no_sums, numbered}
-use Rattle.cert_stream.specs.Steps.{Tried, ended, Ends, rooted, branched, path_filled, BranchTaken, empty_tests, leaf_with, LeafEnds, no_multiple, IsWeighed, no_cut, not_multiple, failed, too_much, added}
+use Rattle.cert_stream.specs.Steps.{Tried, ended, Ends, rooted, branched, path_filled, BranchTaken, empty_tests, block_tests, count_tests, leaf_with, LeafFound, LeafEnds, no_multiple, IsWeighed, no_cut, not_multiple, failed, too_much, added}
 use Rattle.cert_stream.specs.Taken.{nothing, some_weights, StandsFirm, AreSumsOfCut, AreCutSums, TreeStands, AreNumbers, WeightsStand, Sized, Cutted, Keeps}
 use Rattle.cert_stream.specs.declared.checks.Checks.{Checks}
 use Rattle.cert_stream.proofs.Lists.{all_front, all_last}
@@ -144,25 +144,48 @@ filled_kept c s sh places left l b rest st sized cuts tree e fills opens =
     (let count : length rest + 1 ≡ places = count_behind s.pending b rest places e tree.count in omega arith)
     (All-tail (IsBranch p) b rest (subst (All (IsBranch p)) e tree.branches)) opens
 
-pub close_empty : (c : Checks) (s : Progress) (sh : Shape) (places left : ℕ) (new : Checks) → c.line ≡ s.line
-    → IsOpen (places - 1) (left - 1) → StandsFirm c s → Keeps c s (want_tree sh places left) nothing → Ends (empty_tests c) (path_filled c) new
-    → Closed c s (want_tree sh places left) (says_tree no_hub) new
-close_empty c s sh places left new e opens st keeps h =
-    let p = c.instance.now in
+-- a line that fills the next branch, with one condition on it
+close_filled : (c : Checks) (s : Progress) (sh : Shape) (places left : ℕ) (l : TreeLine) (kind : Kind) (P : Branching → Type 0) (new : Checks)
+    → c.line ≡ s.line → IsOpen (places - 1) (left - 1) → StandsFirm c s → Keeps c s (want_tree sh places left) nothing
+    → ((b : Branching) (rest : List Branching) → tree_conditions c.instance.now s (b ∷ rest) l ≡ claim kind s.line (P b) ∷ [])
+    → ((b : Branching) (rest : List Branching) → filled (b ∷ rest) l ≡ rest) → places_after places l ≡ places - 1
+    → Ends (claim kind c.line (P (next c.path.pending)) ∷ []) (path_filled c) new → Closed c s (want_tree sh places left) (says_tree l) new
+close_filled c s sh places left l kind P new e opens st keeps conditions fills places_are h =
     let tree = keeps.2 in
     let n = some_next s.pending (omega (arith, tree.count, tree.some)) in
     let path : c.path.pending ≡ n.0 ∷ n.1 = tree.are ∙ n.2 in
+    let after_it : Progress = record s { line = s.line + 1; pending = filled s.pending l } in
     record {
       kept = path_filled c;
       found = h.found;
       is = h.is;
       same = refl;
       line_is = refl;
-      tried = subst (λ l. Tried (tree_conditions p s l no_hub) h.found c.line) (sym n.2)
-          (tried_one Empty c.line s.line c.line (IsClosed (next c.path.pending)) (IsClosed n.0) h.found e
-          (subst (λ l. IsClosed (next l)) path) (subst (λ l. IsClosed (next l)) (sym path)) h.tried);
-      keeps = λ held. filled_kept c s sh places left no_hub n.0 n.1 st keeps.0 keeps.1 tree n.2 refl opens;
+      tried = subst (λ (cs : List Claim). Tried cs h.found c.line) (sym (ap (λ x. tree_conditions c.instance.now s x l) n.2 ∙ conditions n.0 n.1))
+          (tried_one kind c.line s.line c.line (P (next c.path.pending)) (P n.0) h.found e
+          (subst (λ x. P (next x)) path) (subst (λ x. P (next x)) (sym path)) h.tried);
+      keeps = λ held. subst (λ m. StandsFirm (path_filled c) after_it × Keeps (path_filled c) after_it (after_tree sh m (left - 1)) nothing) (sym places_are)
+          (filled_kept c s sh places left l n.0 n.1 st keeps.0 keeps.1 tree n.2 (fills n.0 n.1) opens);
     }
+
+pub close_empty : (c : Checks) (s : Progress) (sh : Shape) (places left : ℕ) (new : Checks) → c.line ≡ s.line
+    → IsOpen (places - 1) (left - 1) → StandsFirm c s → Keeps c s (want_tree sh places left) nothing → Ends (empty_tests c) (path_filled c) new
+    → Closed c s (want_tree sh places left) (says_tree no_hub) new
+close_empty c s sh places left new e opens st keeps h =
+    close_filled c s sh places left no_hub Empty IsClosed new e opens st keeps (λ b rest. refl) (λ b rest. refl) refl h
+
+pub close_block : (c : Checks) (s : Progress) (sh : Shape) (places left : ℕ) (commodity : ℕ × ℕ) (new : Checks) → c.line ≡ s.line
+    → IsOpen (places - 1) (left - 1) → StandsFirm c s → Keeps c s (want_tree sh places left) nothing → Ends (block_tests c commodity) (path_filled c) new
+    → Closed c s (want_tree sh places left) (says_tree (no_route commodity)) new
+close_block c s sh places left commodity new e opens st keeps h =
+    close_filled c s sh places left (no_route commodity) Block (λ b. IsBlocked c.instance.now b commodity) new e opens st keeps (λ b rest. refl)
+    (λ b rest. refl) refl h
+
+pub close_count : (c : Checks) (s : Progress) (sh : Shape) (places left : ℕ) (new : Checks) → c.line ≡ s.line
+    → IsOpen (places - 1) (left - 1) → StandsFirm c s → Keeps c s (want_tree sh places left) nothing → Ends (count_tests c) (path_filled c) new
+    → Closed c s (want_tree sh places left) (says_tree no_count) new
+close_count c s sh places left new e opens st keeps h =
+    close_filled c s sh places left no_count Count (LacksRoom c.instance.now.wanted) new e opens st keeps (λ b rest. refl) (λ b rest. refl) refl h
 
 -- ---- the weights of a leaf
 
@@ -366,10 +389,6 @@ closes_same p cuts denom weights b sums bound said l ok branch h e n =
     ∙ ap (λ x. Closes sums.denom bound x) (bounds_leaf p cuts denom weights b sums ok branch h)
     ∙ ap₂ (λ x y. Closes x y (leaf_bound p cuts denom weights b)) h.denom_is e
 
--- where no number of hubs is wanted, any can be had
-any_room : (p : Problem) (b : Branching) → p.wanted ≡ None → HasRoom p.wanted b
-any_room p b any = subst (λ o. HasRoom o b) (sym any) tt
-
 -- the conditions of a leaf from that of its weights' sum on, from that of their multiples on, and from that of their cuts
 abbrev sum_claims : Problem → Progress → ℕ → List (ℕ × ℕ) → Branching → List Claim
 sum_claims p s denom weights b =
@@ -406,17 +425,20 @@ weights_tried c s denom weights b rest (Some code.TheVariants.CutNumber) found e
     subst (λ x. Tried (weight_claims c.instance.now s denom weights b) x c.line) (sym t) (inl (h, refl, sym e))
 weights_tried c s denom weights b rest (Some other) found e st branch path h t = absurd h
 
-leaf_tried : (c : Checks) (s : Progress) (denom : ℕ) (weights : List (ℕ × ℕ)) (b : Branching) (rest : List Branching) (f found : Option code.Kind)
+leaf_tried : (c : Checks) (s : Progress) (denom : ℕ) (weights : List (ℕ × ℕ)) (b : Branching) (rest : List Branching) (found : Option code.Kind)
     → c.line ≡ s.line → StandsFirm c s → IsBranch c.instance.now b → c.path.pending ≡ b ∷ rest
-    → WeightsStand c.instance.now s.cuts c.leaf denom weights f
-    → MatchOption f
-    (Tried (claim Leaf c.line (Closes c.leaf.denom c.bound (tally_bound c.instance.now c.leaf (next c.path.pending))) ∷ []) found c.line)
-    (λ kind. found ≡ Some kind)
+    → WeightsStand c.instance.now s.cuts c.leaf denom weights c.leaf_failure → LeafFound c found
     → Tried (tree_conditions c.instance.now s (b ∷ rest) (leaf_of denom weights)) found c.line
-leaf_tried c s denom weights b rest f found e st branch path h t =
+leaf_tried c s denom weights b rest found e st branch path h t =
     let p = c.instance.now in
-    tried_behind Count s.line c.line (HasRoom p.wanted b) (weight_claims p s denom weights b) found (any_room p b st.problem.any_number)
-    (weights_tried c s denom weights b rest f found e st branch path h t)
+    let room : HasRoom p.wanted (next c.path.pending) → HasRoom p.wanted b = subst (λ l. HasRoom p.wanted (next l)) path in
+    let room_back : HasRoom p.wanted b → HasRoom p.wanted (next c.path.pending) = subst (λ l. HasRoom p.wanted (next l)) (sym path) in
+    ⊎_elim
+    (λ none. subst (λ x. Tried (tree_conditions p s (b ∷ rest) (leaf_of denom weights)) x c.line) (sym none.1)
+    (inl ((λ has. none.0 (room_back has)), refl, sym e)))
+    (λ some. tried_behind Count s.line c.line (HasRoom p.wanted b) (weight_claims p s denom weights b) found (room some.0)
+    (weights_tried c s denom weights b rest c.leaf_failure found e st branch path h some.1))
+    t
 
 pub close_leaf : (c : Checks) (s : Progress) (sh : Shape) (places left denom : ℕ) (weights : List (ℕ × ℕ)) (new : Checks) → c.line ≡ s.line
     → IsOpen (places - 1) (left - 1) → StandsFirm c s → Keeps c s (want_tree sh places left) (some_weights denom weights) → LeafEnds c new
@@ -434,6 +456,6 @@ close_leaf c s sh places left denom weights new e opens st keeps h =
       same = refl;
       line_is = refl;
       tried = subst (λ l. Tried (tree_conditions p s l (leaf_of denom weights)) h.found c.line) (sym n.2)
-          (leaf_tried c s denom weights n.0 n.1 c.leaf_failure h.found e st (All-head (IsBranch p) n.0 n.1 branches) path keeps.3 h.tried);
+          (leaf_tried c s denom weights n.0 n.1 h.found e st (All-head (IsBranch p) n.0 n.1 branches) path keeps.3 h.tried);
       keeps = λ held. filled_kept c s sh places left (leaf_of denom weights) n.0 n.1 st keeps.0 keeps.1 tree n.2 refl opens;
     }

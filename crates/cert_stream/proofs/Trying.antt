@@ -24,11 +24,6 @@ pub tells_more : (xs ys : List Claim) (found : Option code.Kind) (line : ℕ) �
 tells_more xs ys None line h k = all_hold xs ys h k
 tells_more xs ys (Some kind) line h k = fails_later xs ys (kind_of kind) line h k
 
--- with conditions behind that hold
-pub tried_more : (xs ys : List Claim) (found : Option code.Kind) (line : ℕ) → AllHold ys → Tried xs found line → Tried (xs ++ ys) found line
-tried_more xs ys None line h k = all_hold xs ys k h
-tried_more xs ys (Some kind) line h k = fails_before xs ys (kind_of kind) line k
-
 -- behind a condition that holds
 pub tried_behind : (kind : Kind) (n m : ℕ) (P : Type 0) (cs : List Claim) (found : Option code.Kind) → P → Tried cs found m → Tried (claim kind n P ∷ cs) found m
 tried_behind kind n m P cs None h t = (h, t)

@@ -90,8 +90,8 @@ closed_ends (says_tree (branch_on k)) before i g = ap ends g.1
 closed_ends (says_tree (leaf_of denom weights)) before i (inl g) = ap ends g.2
 closed_ends (says_tree (leaf_of denom weights)) before i (inr g) = ap ends g.4
 closed_ends (says_tree no_hub) before i g = ap ends g.1
-closed_ends (says_tree (no_route commodity)) before i g = absurd g
-closed_ends (says_tree no_count) before i g = absurd g
+closed_ends (says_tree (no_route commodity)) before i g = ap ends g.1
+closed_ends (says_tree no_count) before i g = ap ends g.1
 closed_ends says_end before i g = ap ends g.1
 
 -- ---- the items are those of lines

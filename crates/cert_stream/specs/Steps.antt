@@ -1,10 +1,12 @@
 -- What an item makes of a check.
 use Rattle.std.specs.Prelude.{◌≡◌, ◌≢◌, ℕ, ◌+◌, ◌-◌, ◌*◌, ◌^◌, ◌<◌, ◌≤◌, ◌↔◌, Bool, true, false, IsTrue, List, [], ◌∷◌, ◌++◌, length, Option, Some, None, MatchOption, nat_eq, All, Contains, ◌⊎◌, if◌then◌else◌}
 use Rattle.hub_spec.specs.Limits.{most_part, most_denominator}
+use Rattle.hub_spec.specs.Problem.{is_allowed}
+use Rattle.hub_spec.specs.Plans.{HasWanted}
 use Rattle.hub_spec.specs.Cuts.{IsDual}
-use Rattle.hub_spec.specs.Trees.{Closes, IsClosed, open_child, closed_child}
+use Rattle.hub_spec.specs.Trees.{Closes, IsClosed, IsBlocked, HasRoom, LacksRoom, open_child, closed_child}
 use Rattle.hub_spec.specs.Ranges.{IsShort, IsAmount}
-use Rattle.cert_spec.specs.Conditions.{Claim, claim, Size, BoundOverCost, Hubs, Route, Cost, Dual, Sum, Empty, Leaf, AllHold, FailsFirst, if_time}
+use Rattle.cert_spec.specs.Conditions.{Claim, claim, Size, BoundOverCost, Hubs, Number, Route, Length, Cost, Dual, Sum, Empty, Block, Count, Leaf, AllHold, FailsFirst, if_time}
 use Rattle.cert_checker.specs.Answers.{kind_of}
 use Rattle.cert_checker.specs.declared.kinds.Kind as code
 use Rattle.cert_scan.specs.declared.items.Item as item
@@ -59,11 +61,12 @@ abbrev pub bound_tests : Checks → List Claim
 bound_tests c = claim BoundOverCost c.line (c.bound ≤ c.cost) ∷ []
 
 abbrev pub hub_tests : Checks → List Claim
-hub_tests c = claim Hubs c.line (IsTrue c.are_candidates) ∷ []
+hub_tests c = claim Hubs c.line (IsTrue c.are_candidates) ∷ claim Number c.line (HasWanted c.instance.now c.plan.hubs) ∷ []
 
-abbrev pub route_tests : Checks → ℕ × ℕ → List Claim
-route_tests c route =
+abbrev pub route_tests : Checks → ℕ × ℕ → ℕ × ℕ → List Claim
+route_tests c commodity route =
     claim Route c.line (Contains c.plan.hubs route.0 × Contains c.plan.hubs route.1)
+    ∷ claim Length c.line (is_allowed c.instance.now commodity route.0 route.1 ≡ true)
     ∷ if_time (nat_eq c.plan.routed (c.plan.size * c.plan.size)) (claim Cost c.line (c.cost ≡ c.plan.cost))
 
 -- with one more hub; it and those before it are all candidates, or not
@@ -156,17 +159,29 @@ BranchTaken old k new =
 abbrev pub empty_tests : Checks → List Claim
 empty_tests c = claim Empty c.line (IsClosed (next c.path.pending)) ∷ []
 
+abbrev pub block_tests : Checks → ℕ × ℕ → List Claim
+block_tests c commodity = claim Block c.line (IsBlocked c.instance.now (next c.path.pending) commodity) ∷ []
+
+abbrev pub count_tests : Checks → List Claim
+count_tests c = claim Count c.line (LacksRoom c.instance.now.wanted (next c.path.pending)) ∷ []
+
 -- with these sums of a leaf, and what fails of its weights
 abbrev pub leaf_with : Checks → Tally → Option code.Kind → Checks
 leaf_with c sums failure = record c { leaf = sums; leaf_failure = failure }
 
--- what a leaf's conditions come to
-abbrev pub LeafFound : Checks → Option code.Kind → Type 0
-LeafFound c found =
+-- what a leaf's conditions come to behind that of its room
+abbrev pub WeightsFound : Checks → Option code.Kind → Type 0
+WeightsFound c found =
     MatchOption c.leaf_failure
     (Tried (claim Leaf c.line (Closes c.leaf.denom c.bound (tally_bound c.instance.now c.leaf (next c.path.pending))) ∷ [])
     found c.line)
     (λ kind. found ≡ Some kind)
+
+-- there is no room for the wanted hubs, or there is, and this comes behind
+abbrev pub LeafFound : Checks → Option code.Kind → Type 0
+LeafFound c found =
+    ((HasRoom c.instance.now.wanted (next c.path.pending) → ⊥) × (found ≡ Some code.TheVariants.Count))
+    ⊎ (HasRoom c.instance.now.wanted (next c.path.pending) × WeightsFound c found)
 
 pub record LeafEnds (kept new : Checks) : Type 0 where
   pub found : Option code.Kind
@@ -220,7 +235,7 @@ IsTaken old (item.TheVariants.Bound bound) new =
     Ends (bound_tests (record old { bound = bound })) (record old { bound = bound }) new
 IsTaken old (item.TheVariants.Hub k last) new = HubTaken old k last new
 IsTaken old (item.TheVariants.Route i j k m) new =
-    Ends (route_tests (routed old (i, j) (k, m)) (k, m)) (routed old (i, j) (k, m)) new
+    Ends (route_tests (routed old (i, j) (k, m)) (i, j) (k, m)) (routed old (i, j) (k, m)) new
 IsTaken old (item.TheVariants.Cuts all) new = new ≡ ended old None
 IsTaken old (item.TheVariants.Cut number part) new = CutTaken old part new
 IsTaken old (item.TheVariants.Dual i j run a last) new =
@@ -231,6 +246,8 @@ IsTaken old (item.TheVariants.Branch k) new = BranchTaken old k new
 IsTaken old (item.TheVariants.Leaf denom last) new = LeafTaken old denom last new
 IsTaken old (item.TheVariants.LeafPair c w last) new = WeightTaken old c w last new
 IsTaken old item.TheVariants.Empty new = Ends (empty_tests old) (path_filled old) new
+IsTaken old (item.TheVariants.Block i j) new = Ends (block_tests old (i, j)) (path_filled old) new
+IsTaken old item.TheVariants.Count new = Ends (count_tests old) (path_filled old) new
 IsTaken old item.TheVariants.End new = new ≡ ended old None
 
 -- with an item taken where one had failed
@@ -285,6 +302,13 @@ pub record MayValue (c : Checks) (k u : ℕ) : Type 0 where
   pub short : IsAmount u
   pub may_end : MayEndDual c c.dual.run
 
+-- a branch is to be filled, and the commodity is one of the instance's
+pub record MayBlock (c : Checks) (commodity : ℕ × ℕ) : Type 0 where
+  pub some : c.path.pending ≢ []
+  pub candidates : c.path.candidates ≡ c.instance.now.candidates
+  pub from : commodity.0 < c.instance.now.size
+  pub to : commodity.1 < c.instance.now.size
+
 -- a branch is to be filled, and a leaf's bound can be reckoned
 pub record MayEndLeaf (c : Checks) : Type 0 where
   pub some : c.path.pending ≢ []
@@ -312,6 +336,8 @@ MayCome c (item.TheVariants.Branch k) = c.path.pending ≢ []
 MayCome c (item.TheVariants.Leaf denom last) = (denom ≤ most_denominator) × MayEndLeaf c
 MayCome c (item.TheVariants.LeafPair number w last) = MayWeight c number
 MayCome c item.TheVariants.Empty = c.path.pending ≢ []
+MayCome c (item.TheVariants.Block i j) = MayBlock c (i, j)
+MayCome c item.TheVariants.Count = c.path.pending ≢ []
 MayCome c other = Unit {0}
 
 -- its line can be counted, and where no condition failed before, it may come

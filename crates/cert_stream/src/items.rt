@@ -48,6 +48,8 @@ impl<'a> Checks<'a> {
             Item::Leaf { denom, last } => self.take_leaf(denom, last),
             Item::LeafPair { c, w, last } => self.take_weight(c, w, last),
             Item::Empty => self.take_empty(),
+            Item::Block { i, j } => self.take_block((i, j)),
+            Item::Count => self.take_count(),
             Item::Version(_) | Item::Cuts(_) | Item::Cut { .. } | Item::End => self.end_line(None),
         }
     }

@@ -91,28 +91,40 @@ impl<'a> Checks<'a> {
     fn failed_hubs(&self) -> Option<Kind>
         ensures { Tried (hub_tests self.now) result self.now.line }
     {
-        if self.are_candidates {
-            return None;
+        if !self.are_candidates {
+            return Some(Kind::Hubs);
         }
-        Some(Kind::Hubs)
+        if !self.plan.has_wanted(self.instance) {
+            return Some(Kind::Number);
+        }
+        None
     }
 
     pub(crate) fn take_route(&mut self, commodity: (u32, u32), route: (u32, u32))
         requires room { self.old.line < 2 ^ 64 - 1 }
         requires route { MayRoute self.old commodity route }
-        ensures { Ends (route_tests (routed self.old commodity route) route) (routed self.old commodity route) self.new }
+        ensures { Ends (route_tests (routed self.old commodity route) commodity route) (routed self.old commodity route) self.new }
     {
         self.plan.add_route(self.instance, commodity, route);
-        let found = self.failed_route(route);
+        let found = self.failed_route(commodity, route);
         self.end_line(found);
     }
 
     // Of a route that is added already; with the last one, the plan's cost is tried.
-    fn failed_route(&self, route: (u32, u32)) -> Option<Kind>
-        ensures { Tried (route_tests self.now route) result self.now.line }
+    fn failed_route(&self, commodity: (u32, u32), route: (u32, u32)) -> Option<Kind>
+        requires from { commodity.0 < self.now.instance.now.size }
+        requires to { commodity.1 < self.now.instance.now.size }
+        requires first { route.0 < self.now.instance.now.size }
+        requires last { route.1 < self.now.instance.now.size }
+        ensures { Tried (route_tests self.now commodity route) result self.now.line }
     {
-        if !self.plan.has_hub(route.0) || !self.plan.has_hub(route.1) {
+        let (i, j) = commodity;
+        let (k, m) = route;
+        if !self.plan.has_hub(k) || !self.plan.has_hub(m) {
             return Some(Kind::Route);
+        }
+        if !self.instance.allowed(i, j, k, m) {
+            return Some(Kind::Length);
         }
         if self.plan.is_whole() && self.plan.cost() != self.cost {
             return Some(Kind::Cost);

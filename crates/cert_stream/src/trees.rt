@@ -10,12 +10,16 @@ ghost use Rattle.cert_stream.specs.Steps.{
   path_filled,
   BranchTaken,
   empty_tests,
+  block_tests,
+  count_tests,
+  WeightsFound,
   LeafFound,
   LeafEnds,
   LeafTaken,
   no_multiple,
   IsWeighed,
   WeightTaken,
+  MayBlock,
   MayEndLeaf,
   MayWeight,
 };
@@ -64,6 +68,49 @@ impl<'a> Checks<'a> {
             return None;
         }
         Some(Kind::Empty)
+    }
+
+    pub(crate) fn take_block(&mut self, commodity: (u32, u32))
+        requires room { self.old.line < 2 ^ 64 - 1 }
+        requires may { MayBlock self.old commodity }
+        ensures { Ends (block_tests self.old commodity) (path_filled self.old) self.new }
+    {
+        let found = self.failed_block(commodity);
+        self.path.fill();
+        self.end_line(found);
+    }
+
+    fn failed_block(&self, commodity: (u32, u32)) -> Option<Kind>
+        requires { MayBlock self.now commodity }
+        ensures { Tried (block_tests self.now commodity) result self.now.line }
+    {
+        if self
+            .path
+            .is_blocked(self.instance, commodity.0, commodity.1)
+        {
+            return None;
+        }
+        Some(Kind::Block)
+    }
+
+    pub(crate) fn take_count(&mut self)
+        requires room { self.old.line < 2 ^ 64 - 1 }
+        requires some { self.old.path.pending ≢ [] }
+        ensures { Ends (count_tests self.old) (path_filled self.old) self.new }
+    {
+        let found = self.failed_count();
+        self.path.fill();
+        self.end_line(found);
+    }
+
+    fn failed_count(&self) -> Option<Kind>
+        requires { self.now.path.pending ≢ [] }
+        ensures { Tried (count_tests self.now) result self.now.line }
+    {
+        if self.path.lacks_room(self.instance.wanted()) {
+            return None;
+        }
+        Some(Kind::Count)
     }
 
     pub(crate) fn take_leaf(&mut self, denom: u32, last: bool)
@@ -126,9 +173,20 @@ impl<'a> Checks<'a> {
         self.end_line(found);
     }
 
+    // That there is room for the wanted hubs comes before what was found of the weights.
     fn failed_leaf(&self) -> Option<Kind>
         requires { MayEndLeaf self.now }
         ensures { LeafFound self.now result }
+    {
+        if !self.path.has_room(self.instance.wanted()) {
+            return Some(Kind::Count);
+        }
+        self.failed_weights()
+    }
+
+    fn failed_weights(&self) -> Option<Kind>
+        requires { MayEndLeaf self.now }
+        ensures { WeightsFound self.now result }
     {
         if self.leaf_failure.is_some() {
             return self.leaf_failure;
