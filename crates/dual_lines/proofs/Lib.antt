@@ -4,4 +4,5 @@ pub mod HeldLines
 pub mod DualByAmounts
 pub mod NearEnds
 pub mod StepTables
+pub mod StepLengths
 pub mod StepsAnew

@@ -47,12 +47,12 @@ covered_by_cost l part c a price cost amounts values x low is are place covered 
     let p = l.problem in
     let f = flow p c.0 c.1 in
     let k = candidate_at p x in (
-      λ _. alone_by_unit part f a (l.step * price) (collection_length p c.0 x) (trunk_length p x x) (delivery_length p c.1 x) (l.step * slice_index values x)
-          (slice_index amounts k) whole covered.alone (value x place),
+      λ allowed. alone_by_unit part f a (l.step * price) (collection_length p c.0 x) (trunk_length p x x) (delivery_length p c.1 x) (l.step * slice_index values x)
+          (slice_index amounts k) whole (covered.alone allowed) (value x place),
       All-from_get_or (IsCoveredBy p part c a amounts k) p.candidates 0 (λ y below.
-          inr (λ _. by_two_by_unit part f a (l.step * price) (collection_length p c.0 x) (trunk_length p x y) (delivery_length p c.1 y)
+          inr (λ allowed. by_two_by_unit part f a (l.step * price) (collection_length p c.0 x) (trunk_length p x y) (delivery_length p c.1 y)
           (l.step * slice_index values x) (l.step * slice_index values y) (slice_index amounts k) (slice_index amounts (candidate_at p y)) whole
-          (covered.by_two y below) (value x place) (value y below))),
+          (covered.by_two y below allowed) (value x place) (value y below))),
     )
   where
     by_flow : (m : ℕ) → cost * m ≡ weighted_flow l.problem part c * (l.step * m)

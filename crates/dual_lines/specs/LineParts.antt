@@ -1,5 +1,5 @@
 -- What the line of a commodity holds besides the dual that is listed: its values by node, and by place in steps.
-use Rattle.std.specs.Prelude.{◌≡◌, ℕ, ◌<◌, ◌≤◌, ◌↔◌, List, length, slice_index, All, IsTrue, vec_capacity}
+use Rattle.std.specs.Prelude.{◌≡◌, ℕ, ◌<◌, ◌≤◌, ◌↔◌, List, length, slice_index, All, IsTrue, IfSome, vec_capacity}
 use Rattle.hub_spec.specs.Limits.{most_part}
 use Rattle.hub_spec.specs.Problem.{Problem, IsProblem}
 use Rattle.hub_spec.specs.Cuts.{Prices, value_at}
@@ -31,6 +31,7 @@ pub record IsLineHeld (s : Inside) : Type 0 where
   pub part : s.line.part ≤ most_part
   pub carried : s.carried ≡ weighted_flow s.legs.problem s.line.part (s.line.from, s.line.to)
   pub cost : IsStepCost s.carried s.legs.step s.step_cost
+  pub lengths : IfSome s.lengths (λ l. l.problem ≡ s.legs.problem)
   pub room : s.legs.problem.size ≤ vec_capacity s.listed
   pub places : ArePlaces s.legs.problem s.places.items
   pub amounts : AreAmounts s.legs.problem.size s.listed.items s.amounts.items

@@ -1,6 +1,6 @@
 -- Legs, prices and values by unit of flow in steps, so that they fit 32 bits. A step is so many times 10^-6.
-use Rattle.std.specs.Prelude.{◌≡◌, ℕ, ◌+◌, ◌*◌, ◌^◌, ◌<◌, ◌≤◌, List, length, slice_index, All, ◌⊎◌}
-use Rattle.hub_spec.specs.Problem.{Problem}
+use Rattle.std.specs.Prelude.{◌≡◌, ℕ, ◌+◌, ◌*◌, ◌^◌, ◌<◌, ◌≤◌, true, List, length, slice_index, All, ◌⊎◌}
+use Rattle.hub_spec.specs.Problem.{Problem, is_allowed}
 use Rattle.unit_duals.specs.Cells.{cell}
 use Rattle.leg_tables.specs.CandidateLegs.{candidate_at, collection_length, trunk_length, delivery_length}
 
@@ -52,10 +52,15 @@ pub record AreStepEnds (n : ℕ) (legs values ends : List ℕ) : Type 0 where
   pub limit : (y : ℕ) → y < n → slice_index ends y ≤ 2 * most_steps
   pub each : (y : ℕ) → y < n → slice_index ends y ≡ slice_index legs y + slice_index values y
 
+-- the commodity may go by way of the candidates at these places
+abbrev pub MayGo : Problem → ℕ × ℕ → ℕ → ℕ → Type 0
+MayGo p c x y = is_allowed p c (candidate_at p x) (candidate_at p y) ≡ true
+
 -- the price in steps is covered by length and value with the candidate at place x as the only hub, and as the first
--- with each as the last
+-- with each as the last, where the commodity may go that way
 pub record IsCoveredInSteps (l : LegsInSteps) (c : ℕ × ℕ) (price : ℕ) (values : List ℕ) (x : ℕ) : Type 0 where
-  pub alone : l.step * price ≤ collection_length l.problem c.0 x + l.step * slice_index values x + delivery_length l.problem c.1 x
-  pub by_two : (y : ℕ) → y < length l.problem.candidates
+  pub alone : MayGo l.problem c x x
+      → l.step * price ≤ collection_length l.problem c.0 x + l.step * slice_index values x + delivery_length l.problem c.1 x
+  pub by_two : (y : ℕ) → y < length l.problem.candidates → MayGo l.problem c x y
       → l.step * price ≤ collection_length l.problem c.0 x + l.step * slice_index values x
       + (trunk_length l.problem x y + delivery_length l.problem c.1 y + l.step * slice_index values y)

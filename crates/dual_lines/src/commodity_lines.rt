@@ -7,9 +7,11 @@ ghost use Rattle.hub_spec.specs.Ranges.{IsAmount, IsDualInRange};
 ghost use Rattle.dual_lines.specs.Units.{weighted_flow};
 
 use crate::amounts::Priced;
+use crate::limited::is_covered;
 use crate::places::{clear, put_anew, put_steps, set_places};
+use crate::step_lengths::StepLengths;
 use crate::step_tables::StepLegs;
-use crate::steps::{is_covered, step_cost_of, value_in_steps};
+use crate::steps::{step_cost_of, value_in_steps};
 use crate::units::inverse_of;
 use hub_model::Instance;
 use std::alloc::{AllocError, Global};
@@ -21,6 +23,7 @@ use std::marker::Model;
 #[derive(Drop)]
 pub(crate) struct CommodityLine<'a> {
     legs: StepLegs<'a>,
+    lengths: Option<StepLengths<'a>>,
     places: Vec<u32>,
     line: Priced,
     carried: u64,
@@ -59,6 +62,7 @@ impl<'a> CommodityLine<'a> {
             ≡ record { problem = instance.now; commodity = (0, 0); part = 1; dual = record { a = 0; u = [] } }) }
     {
         let legs = StepLegs::new(alloc, instance)?;
+        let lengths = StepLengths::of(alloc, instance, legs.long().farthest())?;
         let nodes = instance.size() as usize;
         let count = legs.places();
         let mut places = vec![in alloc; count as u32; nodes]?;
@@ -67,6 +71,7 @@ impl<'a> CommodityLine<'a> {
         let step_cost = step_cost_of(carried, legs.step());
         Ok(CommodityLine {
             legs,
+            lengths,
             places,
             line: Priced {
                 from: 0,
@@ -150,14 +155,15 @@ impl<'a> CommodityLine<'a> {
         self.are_candidates = self.are_candidates && placed;
     }
 
-    /// Tells whether it is a feasible dual of the commodity: with the values of its hubs added, no route by way of
-    /// candidates costs, times the part, less than the price, and only candidates are listed.
+    /// Tells whether it is a feasible dual of the commodity: with the values of its hubs added, no route that is allowed
+    /// by way of candidates costs, times the part, less than the price, and only candidates are listed.
     pub(crate) fn holds(&self) -> bool
         ensures { IsTrue result ↔ IsDual self.now.problem self.now.part self.now.commodity self.now.dual }
     {
         self.are_candidates
             && is_covered(
                 &self.legs,
+                self.lengths.as_ref(),
                 self.line,
                 self.carried,
                 self.step_cost,

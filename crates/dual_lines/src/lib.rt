@@ -15,8 +15,10 @@
 
 mod amounts;
 mod commodity_lines;
+mod limited;
 mod lines;
 mod places;
+mod step_lengths;
 mod step_tables;
 mod stepping;
 mod steps;

@@ -87,8 +87,8 @@ impl<'a> DualLine<'a> {
         self.line.list(k, u);
     }
 
-    /// Tells whether it is a feasible dual of each commodity of the run: with the values of its hubs added, no route by
-    /// way of candidates costs, times the part, less than the price, and only candidates are listed.
+    /// Tells whether it is a feasible dual of each commodity of the run: with the values of its hubs added, no route that
+    /// is allowed by way of candidates costs, times the part, less than the price, and only candidates are listed.
     pub fn holds(&mut self) -> bool
         ensures holds { IsTrue result
             ↔ ((s : ℕ) → s < self.old.run

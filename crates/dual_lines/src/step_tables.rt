@@ -102,7 +102,7 @@ impl<'a> StepLegs<'a> {
 }
 
 /// Row `t` of a table with `n` columns.
-fn row(table: &[u32], t: usize, n: usize) -> &[u32]
+pub(crate) fn row(table: &[u32], t: usize, n: usize) -> &[u32]
     requires { t * n + n ≤ length table.now }
     ensures long { length result.now ≡ n }
     ensures each { (j : ℕ) → j < n → slice_index result.now j ≡ cell n table.now t j }

@@ -1,4 +1,4 @@
-//! The step that lengths by unit of flow are told in, and legs in steps.
+//! The steps that lengths by unit of flow, and distances, are told in, and legs in steps.
 //!
 //! Where it can, a step divides all legs, so that nothing is lost by telling them in steps, and is fine, so that values
 //! are told in it too; where no divisor is great enough, legs are rounded down. No proof rests on which step it is.
@@ -27,6 +27,14 @@ pub(crate) fn step_of(instance: &Instance, farthest: u64) -> u64
     let longest = factor.wrapping_mul(farthest);
     let least = longest.div_ceil(MOST_STEPS);
     finest(exact, least).max(least).min(MOST_STEP)
+}
+
+/// The step for the distances of an instance, of which this is the greatest, in 10^-3.
+pub(crate) fn length_step_of(instance: &Instance, farthest: u64) -> u64
+    ensures { 1 ≤ result }
+{
+    let least = farthest.div_ceil(MOST_STEPS);
+    common_divisor(instance.distances()).max(least).max(1)
 }
 
 /// The table of these legs in steps.

@@ -16,10 +16,10 @@ use crate::step_tables::StepLegs;
 use crate::stepping::MOST_STEPS;
 use crate::units::{MOST_PLACES, is_covered_by_flow, unit_value};
 
-/// Tells whether the price is covered with each candidate as the first hub. `amounts` has a value for each node,
-/// `values` for each place in steps; `carried` is the flow times the part, and `step_cost` what a step costs, by
-/// `step_cost_of`.
-pub(crate) fn is_covered(
+/// Tells whether the price is covered with each candidate as the first hub, by all routes first, whether they are allowed
+/// or not. `amounts` has a value for each node, `values` for each place in steps; `carried` is the flow times the part,
+/// and `step_cost` what a step costs, by `step_cost_of`.
+pub(crate) fn is_covered_by_all(
     legs: &StepLegs,
     line: Priced,
     carried: u64,
@@ -70,7 +70,7 @@ pub(crate) fn step_cost_of(carried: u64, step: u64) -> u64
 }
 
 /// The price in steps, rounded up; none where it is too great, or steps cost nothing.
-fn price_in_steps(price: u128, step_cost: u64) -> Option<u32>
+pub(crate) fn price_in_steps(price: u128, step_cost: u64) -> Option<u32>
     requires { IsAmount price }
     ensures { IfSome result (λ a. price ≤ step_cost * a) }
 {
@@ -151,7 +151,7 @@ fn is_place_covered(
 }
 
 /// Sets the ends of the last hubs, each a leg of delivery and its value together, and gives the least.
-fn set_ends(legs: &[u32], values: &[u32], ends: &mut [u32]) -> u32
+pub(crate) fn set_ends(legs: &[u32], values: &[u32], ends: &mut [u32]) -> u32
     requires long { length values.now ≡ length legs.now }
     requires legs { All (λ v. v ≤ most_steps) legs.now }
     requires short { All (λ v. v ≤ most_steps) values.now }

@@ -11,8 +11,8 @@ returns-then-first-last c = λ _.
     let d = slice_index c.delivery_steps.result.now x in
     let near : c.args.price ≤ a + u + d = omega (arith, c.if-first-delivery_steps.false) in
     record {
-      alone = omega (arith, c.collection_steps.ensures.each x place, c.delivery_steps.ensures.each x place, mul-le-mul_left s near);
-      by_two = λ y below.
+      alone = λ _. omega (arith, c.collection_steps.ensures.each x place, c.delivery_steps.ensures.each x place, mul-le-mul_left s near);
+      by_two = λ y below _.
           (let e = slice_index c.args.ends.now y in
           let far : c.args.price ≤ a + u + e = omega (arith, c.if-first-last.true, c.requires.last y below) in
           omega (arith, c.collection_steps.ensures.each x place, c.requires.each y below, mul-le-mul_left s far));
@@ -28,8 +28,8 @@ returns-else-first-last c = λ yes.
     let d = slice_index c.delivery_steps.result.now x in
     let near : c.args.price ≤ a + u + d = omega (arith, c.if-first-delivery_steps.false) in
     record {
-      alone = omega (arith, c.collection_steps.ensures.each x place, c.delivery_steps.ensures.each x place, mul-le-mul_left s near);
-      by_two = λ y below.
+      alone = λ _. omega (arith, c.collection_steps.ensures.each x place, c.delivery_steps.ensures.each x place, mul-le-mul_left s near);
+      by_two = λ y below _.
           (let e = slice_index c.args.ends.now y in
           let t = slice_index c.trunk_steps.result.now y in
           let far : c.args.price ≤ a + u + t + e = omega (arith, c.are_beyond.ensures yes y (omega (arith, below, c.trunk_steps.ensures.long))) in

@@ -28,6 +28,7 @@ invariant_of-self c =
       part = c.requires.part;
       carried = c.carried-self-inside.ensures;
       cost = subst (λ (n : ℕ). IsStepCost c.carried-self-inside.result n c.step_cost_of-self-inside.result) c.step.ensures.value c.step_cost_of-self-inside.ensures;
+      lengths = c.self.invariant.lengths;
       room = omega (arith, c.clear-2.ensures.capacity, c.self.invariant.room);
       places = c.self.invariant.places;
       amounts = rw (none, amounts_are) (amounts_begun p.size c.clear.new.amounts amounts_long c.clear.ensures.amounts);

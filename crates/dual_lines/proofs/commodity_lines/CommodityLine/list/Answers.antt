@@ -43,6 +43,7 @@ invariant_of-self c =
       part = c.self.invariant.part;
       carried = c.self.invariant.carried;
       cost = c.self.invariant.cost;
+      lengths = c.self.invariant.lengths;
       room = omega (arith, c.push_reserved.ensures.capacity, c.self.invariant.room);
       places = c.self.invariant.places;
       amounts = rw c.push_reserved.ensures.items (amounts_listed p.size u s.amounts.items k v node fresh c.self.invariant.amounts (search rules));

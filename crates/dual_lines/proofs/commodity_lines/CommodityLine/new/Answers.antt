@@ -30,6 +30,7 @@ invariant_of-result-2 c =
       range = rw none (range_begun p.size 0 (omega arith));
       part = omega arith;
       carried = omega (arith, c.flow_between-carried.ensures.value);
+      lengths = c.in_ok-lengths.ensures;
       room = omega (arith, c.in_ok-with_capacity.ensures.capacity, c.size-nodes.ensures.value);
       places = rw places_are c.set_places.ensures;
       amounts = rw none (amounts_begun p.size c.in_ok-vec.field-0.items (omega (arith, c.in_ok-vec.ensures.len, c.in_ok-vec.field-0.ok.0, c.size-nodes.ensures.value)) (zeros c.size-nodes.result c.in_ok-vec.field-0.items (c.in_ok-vec.ensures.items_if_clones_equal (λ y h. h))));

@@ -25,6 +25,7 @@ invariant_of-self c =
       part = c.self.invariant.part;
       carried = c.carried-self-inside.ensures;
       cost = subst (λ (n : ℕ). IsStepCost c.carried-self-inside.result n cost) c.step.ensures.value c.step_cost_of-self-inside.ensures;
+      lengths = c.self.invariant.lengths;
       room = c.self.invariant.room;
       places = c.self.invariant.places;
       amounts = c.self.invariant.amounts;
