@@ -125,7 +125,7 @@ impl LeafSums {
                 let missing = (wanted as usize).saturating_sub(path.hub_count());
                 sum_of_least(instance, self.denom, &self.loads, free, missing)
             }
-            None => 0 - signed(losses(instance, self.denom, &self.loads, free)),
+            None => -signed(losses(instance, self.denom, &self.loads, free)),
         }
     }
 }
