@@ -20,10 +20,10 @@ distance_beyond p j y = distance p (candidate_at p y) j
 
 -- the first cells of a table of candidates by place, read from a table of nodes
 pub record AreBetween (p : Problem) (distances : List ℕ) (upto : ℕ) (table : List ℕ) : Type 0 where
-  pub each : (at : ℕ) → at < upto → slice_index table at
-      ≡ slice_index distances (candidate_at p (at / length p.candidates) * p.size + candidate_at p (at % length p.candidates))
+  pub each : (at : ℕ) → at < upto → slice_index table at ≡ slice_index distances
+      (candidate_at p (at / length p.candidates) * p.size + candidate_at p (at % length p.candidates))
 
 -- what is no longer in steps than an allowed route is within this limit
 pub record IsStepLimit (l : LengthsInSteps) : Type 0 where
-  pub each : (length steps : ℕ) → is_within l.problem.longest length ≡ true → l.step * steps ≤ length → steps ≤ 3 * most_steps
-      → steps ≤ l.most
+  pub each : (length steps : ℕ) → is_within l.problem.longest length ≡ true → l.step * steps ≤ length
+      → steps ≤ 3 * most_steps → steps ≤ l.most

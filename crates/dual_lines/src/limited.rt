@@ -1,5 +1,5 @@
-//! The test of a price where the length of routes is limited: in steps, by the routes that are no longer in steps than the
-//! limit, and what is not sure then in the numbers that are listed.
+//! The test of a price where the length of routes is limited: in steps, by the routes that are no longer in steps than
+//! the limit, and what is not sure then in the numbers that are listed.
 //!
 //! Distances are rounded down, so that each route that is allowed counts. A place that is covered here is covered in the
 //! costs that are listed.
@@ -131,9 +131,10 @@ fn is_place_covered(
     requires long { length amounts.now ≡ legs.now.problem.size }
     requires short { All IsAmount amounts.now }
     requires place { x < length legs.now.problem.candidates }
-    requires sure { IsTrue is_sure → IsCoveredFirst legs.now.problem line.part (line.from, line.to) line.price amounts.now (candidate_at legs.now.problem x) }
-    ensures { IsTrue result
-        ↔ IsCoveredFirst legs.now.problem line.part (line.from, line.to) line.price amounts.now (candidate_at legs.now.problem x) }
+    requires sure { IsTrue is_sure → IsCoveredFirst legs.now.problem line.part (line.from, line.to) line.price amounts.now
+        (candidate_at legs.now.problem x) }
+    ensures { IsTrue result ↔ IsCoveredFirst legs.now.problem line.part (line.from, line.to) line.price amounts.now
+        (candidate_at legs.now.problem x) }
 {
     if is_sure {
         return true;
@@ -142,8 +143,9 @@ fn is_place_covered(
     is_covered_first(instance, line, amounts, instance.candidates()[x])
 }
 
-/// Tells for sure that the price in steps is covered with the candidate at the place as the first hub, by the routes that
-/// are no longer in steps than the limit. Where collection and the nearest end cover the price, no last hub is visited.
+/// Tells for sure that the price in steps is covered with the candidate at the place as the first hub, by the routes
+/// that are no longer in steps than the limit. Where collection and the nearest end cover the price, no last hub is
+/// visited.
 fn is_surely_covered(
     legs: &StepLegs,
     lengths: &StepLengths,

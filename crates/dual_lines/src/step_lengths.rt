@@ -97,7 +97,8 @@ impl<'a> StepLengths<'a> {
     /// The distances from the candidate at the place to each candidate.
     pub(crate) fn between(&self, x: usize) -> &[u32]
         requires { x < length self.now.problem.candidates }
-        ensures { IsStepRow (length self.now.problem.candidates) self.now.step (distance_between self.now.problem x) result.now }
+        ensures { IsStepRow (length self.now.problem.candidates) self.now.step (distance_between self.now.problem x)
+            result.now }
     {
         row(&self.between, x, self.instance.candidates().len())
     }

@@ -55,7 +55,8 @@ tally_gain p tally k = gain tally.denom (fixed_cost p) (slice_index tally.loads)
 abbrev pub tally_bound : Problem → Tally → Branching → ℤ
 tally_bound p tally b = bound_by p.wanted tally.base (tally_gain p tally) b
 
--- what the free nodes of the branch add to it: what gains below 0 sum up to, or as many of the least as hubs are missing
+-- what the free nodes of the branch add to it: the sum of the gains below 0, or of as many of the least as hubs are
+-- missing
 abbrev pub free_sum : Option ℕ → (ℕ → ℤ) → Branching → ℤ
 free_sum None gains b = sum_ints (λ k. int_min (pos 0) (gains k)) b.free
 free_sum (Some n) gains b = least_sum (n - length b.inside) gains b.free

@@ -116,7 +116,8 @@ impl LeafSums {
         requires some { path.now.pending ≢ [] }
         requires nodes { path.now.size ≡ instance.now.size }
         requires loads { length self.now.loads ≡ instance.now.size }
-        ensures value { result ≡ free_sum instance.now.wanted (tally_gain instance.now self.now) (next path.now.pending) }
+        ensures value { result
+            ≡ free_sum instance.now.wanted (tally_gain instance.now self.now) (next path.now.pending) }
         ensures limit { AreGains most_nodes result }
     {
         let free = path.free();
