@@ -9,3 +9,5 @@ pub mod PlaceWays
 pub mod ValueRows
 pub mod AllowedWays
 pub mod MinimalDuals
+pub mod LeastRoutes
+pub mod NearestHubs

@@ -4,3 +4,5 @@ pub mod Duals
 pub mod Parts
 pub mod ReachRoom
 pub mod DualRoom
+pub mod Routes
+pub mod Nearest
