@@ -29,8 +29,8 @@ reaching p hubs c v cost = (cost.reached.0, cost.reached.1)
 pub reaching_cheapest : (p : Problem) (hubs : List ℕ) (c : ℕ × ℕ) (v : ℕ) (cost : IsLeastCost p hubs c v)
     → IsCheapest p hubs c (reaching p hubs c v cost)
 reaching_cheapest p hubs c v cost = record {
-  is_route = record { first = cost.reached.2; last = cost.reached.3 };
-  least = λ o taken. omega (arith, cost.reached.4, cost.least o.0 o.1 taken.first taken.last);
+  is_route = record { first = cost.reached.2; last = cost.reached.3; allowed = cost.reached.5 };
+  least = λ o taken. omega (arith, cost.reached.4, cost.least o.0 o.1 taken.first taken.last taken.allowed);
 }
 
 pub summed_limit : (p : Problem) (hubs : List ℕ) (i j total v : ℕ) → IsProblem p → IsHubSet p hubs → i < p.size → j < p.size

@@ -1,11 +1,12 @@
 -- Least lengths by unit of flow: their limits, and what they cost with the flow.
-use Rattle.std.proofs.Common.{◌≡◌, ℕ, ◌+◌, ◌*◌, ◌<◌, ◌≤◌, List, length, slice_index, sym, ap, ⊎_elim, ◌∙◌, mul-le-mul_left, arith}
+use Rattle.std.proofs.Common.{◌≡◌, ℕ, ◌+◌, ◌*◌, ◌<◌, ◌≤◌, List, None, length, slice_index, sym, ap, ⊎_elim, ◌∙◌, mul-le-mul_left, arith}
 use Rattle.std.proofs.lemmas.List.{get_or_default}
 use Rattle.std.proofs.lemmas.List.Elements.{Contains-get_or}
 use Rattle.hub_spec.specs.Problem.{Problem, IsProblem, flow, distance, route_cost}
 use Rattle.hub_spec.specs.Edges.{IsLeastCost}
 use Rattle.hub_spec.specs.Plans.{IsHubSet}
 use Rattle.hub_spec.proofs.BestRoutes.{hub_is_node}
+use Rattle.hub_spec.proofs.PlanCosts.{any_allowed}
 use Rattle.unit_duals.specs.Limits.{most_leg}
 use Rattle.unit_duals.specs.Leasts.{least_of}
 use Rattle.unit_duals.proofs.LeastNumbers.{least_of_le_start, least_of_le, least_of_is}
@@ -57,18 +58,19 @@ length_is p hubs i j set =
     let first = least_at (reach_by p hubs i (slice_index hubs last.0)) (length hubs) set.some_hub in
     (first.0, last.0, first.1, last.1, omega (arith, last.2, first.2))
 
--- the flow times the least length is the least cost
-pub least_length_costs : (p : Problem) (hubs : List ℕ) (i j : ℕ) → IsHubSet p hubs → IsLeastCost p hubs (i, j) (flow p i j * least_length p hubs i j)
+-- where no length is limited, the flow times the least length is the least cost
+pub least_length_costs : (p : Problem) (hubs : List ℕ) (i j : ℕ) → p.longest ≡ None → IsHubSet p hubs → IsLeastCost p hubs (i, j) (flow p i j * least_length p hubs i j)
 unfolding route_cost
-least_length_costs p hubs i j set = record {
+least_length_costs p hubs i j any set = record {
   reached = (let r = length_is p hubs i j set in (
     slice_index hubs r.0,
     slice_index hubs r.1,
     Contains-get_or hubs r.0 0 r.2,
     Contains-get_or hubs r.1 0 r.3,
     ap (λ (x : ℕ). flow p i j * x) (sym r.4),
+    any_allowed p (i, j) (slice_index hubs r.0) (slice_index hubs r.1) any,
   ));
-  least = λ k m is_hub is_other. (let same = get_or_default hubs is_hub.0 0 k is_hub.1 ∙ is_hub.2 in
+  least = λ k m is_hub is_other allowed. (let same = get_or_default hubs is_hub.0 0 k is_hub.1 ∙ is_hub.2 in
       let same_last = get_or_default hubs is_other.0 0 m is_other.1 ∙ is_other.2 in
       rw (← same, ← same_last) (mul-le-mul_left (flow p i j) (length_le p hubs i j is_hub.0 is_other.0 is_hub.1 is_other.1)));
 }

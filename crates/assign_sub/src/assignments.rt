@@ -1,6 +1,6 @@
 //! What a hub set costs, with the route of each commodity.
 
-ghost use Rattle.std.specs.Prelude.{◌≡◌, ◌<◌, ◌≤◌, [], IfOk, pos};
+ghost use Rattle.std.specs.Prelude.{◌≡◌, ◌<◌, ◌≤◌, [], None, length, slice_index, IfOk, pos};
 ghost use Rattle.hub_spec.specs.Limits.{most_cost};
 ghost use Rattle.hub_spec.specs.Problem.{route_cost, IsProblem};
 ghost use Rattle.hub_spec.specs.Plans.{IsHubSet, IsLeastRoute, IsSetCost, plan_cost};
@@ -8,6 +8,7 @@ ghost use Rattle.hub_model.specs.Amounts.{natural};
 ghost use Rattle.hub_plain.specs.Assignments.{AreLeastRoutes, plan_of};
 ghost use Rattle.leg_tables.specs.StopLegs.{AreLegsOf, AreFirstLegsOf};
 
+use crate::limited::assign_limited;
 use hub_model::{Instance, signed};
 use leg_tables::{FirstLegs, SetLegs};
 use plan_model::HubSet;
@@ -23,10 +24,10 @@ pub struct Assignment {
 
 /// The first and the last hub of a commodity's route, and what the route costs, in 10^-12.
 #[derive(Clone, Copy)]
-struct PricedRoute {
-    first: u32,
-    last: u32,
-    cost: u128,
+pub(crate) struct PricedRoute {
+    pub first: u32,
+    pub last: u32,
+    pub cost: u128,
 }
 
 /// The cost of the hub set, and the least route of each commodity: of those that cost the same the one with the
@@ -42,6 +43,24 @@ pub fn assign(alloc: Global, instance: &Instance, set: &HubSet) -> Result<Assign
 
 fn assign_to(alloc: Global, instance: &Instance, hubs: &[u32]) -> Result<Assignment, AllocError>
     requires { IsHubSet instance.now hubs.now }
+    ensures routes { IfOk result (λ a. AreLeastRoutes instance.now hubs.now a.routes.items) }
+    ensures cost { IfOk result (λ a. a.cost ≡ pos (plan_cost instance.now (plan_of hubs.now a.routes.items))) }
+    ensures set_cost { IfOk result (λ a. IsSetCost instance.now hubs.now (natural a.cost)) }
+{
+    match instance.length_limit() {
+        None => assign_any_length(alloc, instance, hubs),
+        Some(_) => assign_limited(alloc, instance, hubs),
+    }
+}
+
+/// The same where the length of routes is not limited.
+fn assign_any_length(
+    alloc: Global,
+    instance: &Instance,
+    hubs: &[u32],
+) -> Result<Assignment, AllocError>
+    requires set { IsHubSet instance.now hubs.now }
+    requires any { instance.now.longest ≡ None }
     ensures routes { IfOk result (λ a. AreLeastRoutes instance.now hubs.now a.routes.items) }
     ensures cost { IfOk result (λ a. a.cost ≡ pos (plan_cost instance.now (plan_of hubs.now a.routes.items))) }
     ensures set_cost { IfOk result (λ a. IsSetCost instance.now hubs.now (natural a.cost)) }
@@ -92,6 +111,7 @@ fn route_of(
 ) -> PricedRoute
     requires problem { IsProblem instance.now }
     requires set { IsHubSet instance.now hubs.now }
+    requires any { instance.now.longest ≡ None }
     requires hops { AreLegsOf instance.now hubs.now [] 0 hops.now.legs }
     requires first { AreFirstLegsOf instance.now hubs.now [] i first.now }
     requires size { hops.now.legs.size ≡ instance.now.size }
@@ -102,16 +122,24 @@ fn route_of(
 {
     let flow = instance.flow_between(i, j);
     if flow == 0 {
-        return PricedRoute {
-            first: hubs[0],
-            last: hubs[0],
-            cost: 0,
-        };
+        return route_without_flow(hubs);
     }
     let route = hops.route(first, j as usize);
     PricedRoute {
         first: hubs[route.first],
         last: hubs[route.last],
         cost: flow as u128 * route.length as u128,
+    }
+}
+
+/// The route of a commodity that has no flow: the first hub twice.
+pub(crate) fn route_without_flow(hubs: &[u32]) -> PricedRoute
+    requires { 1 ≤ length hubs.now }
+    ensures { result ≡ record { first = slice_index hubs.now 0; last = slice_index hubs.now 0; cost = 0 } }
+{
+    PricedRoute {
+        first: hubs[0],
+        last: hubs[0],
+        cost: 0,
     }
 }

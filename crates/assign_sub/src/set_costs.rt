@@ -1,6 +1,6 @@
 //! What a hub set costs, without memory.
 
-ghost use Rattle.std.specs.Prelude.{◌≡◌, ◌+◌, ◌*◌, ◌<◌, ◌≤◌, length};
+ghost use Rattle.std.specs.Prelude.{◌≡◌, ◌+◌, ◌*◌, ◌<◌, ◌≤◌, None, length};
 ghost use Rattle.hub_spec.specs.Limits.{most_cost};
 ghost use Rattle.hub_spec.specs.Problem.{distance, IsProblem};
 ghost use Rattle.hub_spec.specs.Plans.{IsHubSet, IsSetCost};
@@ -8,6 +8,7 @@ ghost use Rattle.hub_model.specs.Amounts.{natural, IsNatural};
 ghost use Rattle.unit_duals.specs.Limits.{most_leg};
 ghost use Rattle.assign_sub.specs.LeastLengths.{AreReaches, least_reach, least_length};
 
+use crate::limited::cost_of_limited;
 use hub_model::{Instance, signed};
 use plan_model::HubSet;
 
@@ -25,6 +26,19 @@ pub fn set_cost(instance: &Instance, set: &HubSet) -> i128
 
 fn cost_of(instance: &Instance, hubs: &[u32]) -> u128
     requires { IsHubSet instance.now hubs.now }
+    ensures value { IsSetCost instance.now hubs.now result }
+    ensures limit { result ≤ most_cost }
+{
+    match instance.length_limit() {
+        None => cost_of_any_length(instance, hubs),
+        Some(_) => cost_of_limited(instance, hubs),
+    }
+}
+
+/// The same where the length of routes is not limited.
+fn cost_of_any_length(instance: &Instance, hubs: &[u32]) -> u128
+    requires set { IsHubSet instance.now hubs.now }
+    requires any { instance.now.longest ≡ None }
     ensures value { IsSetCost instance.now hubs.now result }
     ensures limit { result ≤ most_cost }
 {

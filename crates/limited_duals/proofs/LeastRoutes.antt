@@ -1,12 +1,12 @@
 -- The least route by unit of flow, in a loop over first hubs and last hubs, some of which are passed over.
-use Rattle.std.proofs.Common.{◌≡◌, ℕ, ◌+◌, ◌*◌, ◌<◌, ◌≤◌, true, false, List, length, get_or, Contains, Option, Some, None, ◌⊎◌, inl, inr, refl, sym, ap, subst, ⊎_elim, ◌∙◌, mul-le-mul_left, true≢false, below_more, arith}
+use Rattle.std.proofs.Common.{◌≡◌, ℕ, ◌+◌, ◌*◌, ◌<◌, ◌≤◌, true, false, List, length, get_or, Option, Some, None, ◌⊎◌, inl, refl, sym, ap, subst, ⊎_elim, ◌∙◌, mul-le-mul_left, true≢false, below_more, arith}
 use Rattle.std.specs.Prelude.{IfSome}
 use Rattle.std.specs.Option.{IsSome}
 use Rattle.std.proofs.lemmas.Bool.{cases_lt}
 use Rattle.std.proofs.lemmas.List.{get_or_default}
 use Rattle.std.proofs.lemmas.List.Elements.{Contains-get_or}
 use Rattle.hub_spec.specs.Problem.{Problem, flow, distance, route_cost, is_allowed}
-use Rattle.hub_spec.specs.Plans.{IsRoute, HasRoute, IsLeastRoute, IsNotAfter, IsUpTo, cost_of_route}
+use Rattle.hub_spec.specs.Plans.{IsRoute, HasRoute, IsNotAfter, cost_of_route}
 use Rattle.hub_spec.proofs.BestRoutes.{not_after_trans}
 use Rattle.limited_duals.specs.declared.routes.LimitedRoute.{LimitedRoute}
 use Rattle.limited_duals.specs.Routes.{unit_length, hubs_of, IsShortest, IsLongerThan}

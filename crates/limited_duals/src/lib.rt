@@ -11,7 +11,6 @@
 #![tactic(auto)]
 
 mod duals;
-
 mod lowering;
 mod prices;
 mod reaches;
@@ -21,7 +20,6 @@ mod turns;
 mod ways;
 
 pub use duals::LimitedDuals;
-
 pub use routes::{LimitedRoute, least_route};
 pub use serving::lacking;
 pub use ways::Ways;

@@ -8,12 +8,14 @@ use Rattle.assign_sub.proofs.assignments.route_of.Goals as goal
 
 pub returns-then-flow-eq0-clause-least : goal.returns-then-flow-eq0-clause-least
 returns-then-flow-eq0-clause-least c =
-    no_flow_route c.args.instance.now c.args.hubs.now c.args.i c.args.j c.requires.set (omega (arith, c.flow_between-flow.ensures.value))
+    rw c.route_without_flow.ensures
+    (no_flow_route c.args.instance.now c.args.hubs.now c.args.i c.args.j c.requires.set (omega (arith, c.flow_between-flow.ensures.value)))
 
 pub returns-then-flow-eq0-clause-cost : goal.returns-then-flow-eq0-clause-cost
 returns-then-flow-eq0-clause-cost c =
     let h = slice_index c.args.hubs.now 0 in
-    sym (no_flow_cost c.args.instance.now c.args.i c.args.j h h (omega (arith, c.flow_between-flow.ensures.value)))
+    rw c.route_without_flow.ensures
+    (sym (no_flow_cost c.args.instance.now c.args.i c.args.j h h (omega (arith, c.flow_between-flow.ensures.value))))
 
 pub returns-clause-least : goal.returns-clause-least
 returns-clause-least c =
@@ -24,7 +26,7 @@ returns-clause-least c =
     let same : 0 + c.args.j ≡ c.args.j = omega arith in
     let some : 1 ≤ flow p c.args.i c.args.j = omega (arith, c.flow_between-flow.ensures.value) in
     subst (λ (j : ℕ). IsLeastRoute p hubs (c.args.i, j) (slice_index hubs k, slice_index hubs m)) same
-    (first_route_least p hubs [] 0 c.args.i c.args.j k m c.args.hops.now.legs c.args.first.now c.requires.set c.requires.hops c.requires.first
+    (first_route_least p hubs [] 0 c.args.i c.args.j k m c.args.hops.now.legs c.args.first.now c.requires.any c.requires.set c.requires.hops c.requires.first
     (omega (arith, c.requires.to, c.requires.size)) (subst (λ (j : ℕ). 1 ≤ flow p c.args.i j) (sym same) some) c.route-route.ensures.route)
 
 pub returns-clause-cost : goal.returns-clause-cost

@@ -1,4 +1,4 @@
-use Rattle.std.proofs.Common.{sym, ap, ◌+◌, arith}
+use Rattle.std.proofs.Common.{sym, arith}
 use Rattle.limited_duals.proofs.NearestHubs.{member_is_node, no_flow_served, served_by, served_by_none}
 use Rattle.limited_duals.proofs.serving.is_served.Goals as goal
 

@@ -5,20 +5,20 @@ use Rattle.hub_model.specs.Amounts.{natural}
 use Rattle.hub_plain.proofs.Assigned.{assigned_limit, assigned_more, assigned_whole, IsWhole}
 use Rattle.hub_plain.proofs.SignedCosts.{handed_on}
 use Rattle.assign_sub.proofs.HubNodes.{few_hubs}
-use Rattle.assign_sub.proofs.assignments.assign_to.Goals as goal
-use Rattle.assign_sub.proofs.assignments.assign_to.Goals.{After-loop-i}
+use Rattle.assign_sub.proofs.assignments.assign_any_length.Goals as goal
+use Rattle.assign_sub.proofs.assignments.assign_any_length.Goals.{After-loop-i}
 
 pub fill-requires-clause-hubs : goal.fill-requires-clause-hubs
-fill-requires-clause-hubs c = hubs_are_nodes c.args.instance.now c.args.hubs.now c.size-n.ensures.problem.limits c.requires
+fill-requires-clause-hubs c = hubs_are_nodes c.args.instance.now c.args.hubs.now c.size-n.ensures.problem.limits c.requires.set
 
 pub fill-requires-clause-room_stops : goal.fill-requires-clause-room_stops
 fill-requires-clause-room_stops c =
-    omega (arith, few_hubs c.args.instance.now c.args.hubs.now c.size-n.ensures.problem c.requires, c.loop-i.invariant.room)
+    omega (arith, few_hubs c.args.instance.now c.args.hubs.now c.size-n.ensures.problem c.requires.set, c.loop-i.invariant.room)
 
 pub overflow_add-cost : goal.overflow_add-cost
 overflow_add-cost c =
     let fits = assigned_limit c.args.instance.now c.args.hubs.now c.loop-i.i c.loop-j.j c.loop-j.routes.items c.loop-j.cost
-    (c.route_of-route.result.first, c.route_of-route.result.last) c.size-n.ensures.problem c.requires
+    (c.route_of-route.result.first, c.route_of-route.result.last) c.size-n.ensures.problem c.requires.set
     (omega arith) (omega arith) c.loop-j.invariant c.route_of-route.ensures.least in
     omega (arith, fits, c.route_of-route.ensures.cost)
 
@@ -30,7 +30,7 @@ loop-j-preserved c =
     (omega arith) (omega arith) c.loop-j.invariant c.route_of-route.ensures.least)
 
 whole : (c : After-loop-i) → IsWhole c.args.instance.now c.args.hubs.now c.loop-i.routes.items c.loop-i.cost
-whole c = assigned_whole c.args.instance.now c.args.hubs.now c.loop-i.i c.loop-i.routes.items c.loop-i.cost c.size-n.ensures.problem c.requires (omega arith)
+whole c = assigned_whole c.args.instance.now c.args.hubs.now c.loop-i.i c.loop-i.routes.items c.loop-i.cost c.size-n.ensures.problem c.requires.set (omega arith)
     c.loop-i.invariant.assigned
 
 pub signed-requires : goal.signed-requires

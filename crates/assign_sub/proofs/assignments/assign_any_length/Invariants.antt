@@ -1,6 +1,6 @@
 use Rattle.std.proofs.Common.{◌≡◌, ◌+◌, ◌*◌}
 use Rattle.hub_plain.proofs.Assigned.{IsAssigned}
-use Rattle.assign_sub.proofs.assignments.assign_to.Given as goal
+use Rattle.assign_sub.proofs.assignments.assign_any_length.Given as goal
 
 abbrev pub invariant-loop-i : goal.invariant-loop-i
 invariant-loop-i l = record {
