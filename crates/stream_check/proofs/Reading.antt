@@ -1,5 +1,5 @@
 -- What was read of a file, and the verdict on what is held.
-use Rattle.std.proofs.Common.{◌≡◌, ℕ, ◌+◌, ◌<◌, List, [], ◌++◌, length, take, drop, ◌≤◌, Result, Ok, Err, IfOk, Option, Some, None, IsSome, inl, inr, sym, ap, subst, ◌∙◌, append-nil, arith}
+use Rattle.std.proofs.Common.{◌≡◌, ℕ, ◌+◌, ◌<◌, List, ◌++◌, length, take, drop, ◌≤◌, Result, Ok, Err, IfOk, Option, Some, None, IsSome, inl, inr, sym, ap, subst, ◌∙◌, append-nil, arith}
 use Rattle.std.specs.Io.KnownBytes.{Consumes, IsAtEnd}
 use Rattle.std.proofs.Math.Seq.{drop-append_seam}
 use Rattle.std.proofs.lemmas.List.{length-append, length-take-le}

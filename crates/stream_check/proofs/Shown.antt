@@ -1,5 +1,5 @@
 -- What a verdict on bytes shows of the plan that they name.
-use Rattle.std.proofs.Common.{◌≡◌, ℕ, List, sym, subst, ◌∙◌}
+use Rattle.std.proofs.Common.{ℕ, List, sym, subst, ◌∙◌}
 use Rattle.hub_spec.specs.Problem.{Problem, IsProblem}
 use Rattle.hub_spec.specs.Plans.{NoPlanBelow}
 use Rattle.hub_spec.proofs.WeakDuality.{no_plan_below_bound}

@@ -1,5 +1,5 @@
 -- What is held is judged too long, also where the shelf tells nothing of it.
-use Rattle.std.proofs.Common.{◌≡◌, ℕ, ◌+◌, ◌<◌, List, length, Option, Some, None, replicate, arith}
+use Rattle.std.proofs.Common.{ℕ, ◌+◌, ◌<◌, List, length, Option, Some, None, replicate, arith}
 use Rattle.std.proofs.lemmas.List.{length-replicate}
 use Rattle.hub_io.specs.Outside.{Files, HoldsMore}
 use Rattle.hub_spec.specs.Problem.{Problem}
