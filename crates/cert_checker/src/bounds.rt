@@ -49,8 +49,8 @@ fn free_sum(
     requires branch { IsBranch instance.now branch.now }
     requires mix { IsMix cuts.now mix.now.denom mix.now.weights }
     requires room { HasRoom instance.now.wanted branch.now }
-    ensures value { IfOk result (λ sum.
-        sum ≡ free_sum instance.now.wanted (mixed_gain instance.now cuts.now mix.now.denom mix.now.weights) branch.now) }
+    ensures value { IfOk result (λ sum. sum
+        ≡ free_sum instance.now.wanted (mixed_gain instance.now cuts.now mix.now.denom mix.now.weights) branch.now) }
     ensures limit { IfOk result (AreGains most_nodes) }
 {
     match instance.wanted() {

@@ -1,5 +1,5 @@
-//! The conditions of a branch that ends without weights: no hub is left, a commodity has no route, or the wanted number of
-//! hubs can't be had.
+//! The conditions of a branch that ends without weights: no hub is left, a commodity has no route, or the wanted number
+//! of hubs can't be had.
 
 ghost use Rattle.std.specs.Prelude.{◌↔◌, ◌<◌, Some, [], ◌∷◌, Contains, IsTrue, IfErr, OnOk};
 ghost use Rattle.hub_spec.specs.Trees.{IsClosed, IsBlocked, HasRoom, LacksRoom};

@@ -86,8 +86,10 @@ fn check_routes(
     requires hubs { All (Contains instance.now.candidates) hubs.now }
     requires one_route_each { length routes.now ≡ instance.now.size * instance.now.size }
     requires line { line < 2 ^ 59 }
-    ensures holds { OnOk result (AllHold (route_claims instance.now hubs.now line (commodities instance.now.size) routes.now)) }
-    ensures fails { IfErr result (IsFailure (route_claims instance.now hubs.now line (commodities instance.now.size) routes.now)) }
+    ensures holds { OnOk result (AllHold
+        (route_claims instance.now hubs.now line (commodities instance.now.size) routes.now)) }
+    ensures fails { IfErr result (IsFailure
+        (route_claims instance.now hubs.now line (commodities instance.now.size) routes.now)) }
 {
     let n = instance.size();
     for t in 0..n * n {

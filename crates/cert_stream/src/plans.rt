@@ -103,7 +103,8 @@ impl<'a> Checks<'a> {
     pub(crate) fn take_route(&mut self, commodity: (u32, u32), route: (u32, u32))
         requires room { self.old.line < 2 ^ 64 - 1 }
         requires route { MayRoute self.old commodity route }
-        ensures { Ends (route_tests (routed self.old commodity route) commodity route) (routed self.old commodity route) self.new }
+        ensures { Ends (route_tests (routed self.old commodity route) commodity route)
+            (routed self.old commodity route) self.new }
     {
         self.plan.add_route(self.instance, commodity, route);
         let found = self.failed_route(commodity, route);
