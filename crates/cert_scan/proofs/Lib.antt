@@ -18,7 +18,7 @@ pub mod Finishing
 pub mod OnTime
 pub mod Stepping
 pub mod PairRuns
-pub mod ShortDigits
+pub mod SpelledNumbers
 pub mod Leftover
 pub mod Walks
 pub mod Repeated
@@ -26,3 +26,4 @@ pub mod Tight
 pub mod Sifted
 pub mod ScanBytes
 pub mod Letters
+pub mod EightBytes

@@ -6,10 +6,10 @@ use Rattle.cert_scan.specs.Moves.{moved_by, taken_by, move, refusal, open_by, am
 use Rattle.cert_scan.specs.Repeats.{noted_by, repeats_by}
 use Rattle.cert_scan.specs.Scans.{shape_by, line_by, put, with_item, sifted, moved}
 use Rattle.cert_scan.specs.Runs.{Runs}
-use Rattle.cert_scan.specs.PairAhead.{IsPairAhead}
+use Rattle.cert_scan.specs.Ahead.{IsPairAhead}
 use Rattle.cert_scan.proofs.ScanBytes.{quiet_step, quiet_gives}
 use Rattle.cert_scan.proofs.Tracks.{open_quiet}
-use Rattle.cert_scan.proofs.Stepping.{HasRun, digits_after, digits_nothing, digits_scanned, digits_give, run_digits, run_byte, run_item, run_end, failed_after, failed_nothing}
+use Rattle.cert_scan.proofs.Stepping.{HasRun, digits_after, digits_nothing, digits_scanned, digits_give, run_more, run_digits, run_byte, run_item, run_end, failed_after, failed_nothing}
 use Rattle.cert_scan.specs.declared.items.Version.{Version as TextVersion}
 use Rattle.cert_scan.specs.declared.items.Version.TheVariants.{First, Second}
 use Rattle.cert_scan.specs.declared.stages.Stage.{Stage}
@@ -53,7 +53,7 @@ pair_front old run before bytes pair is ahead =
     let noded = put old (Number (ValueNode run before) (Some pair.number)) in
     let spaced = put old (Number (ValueAmount run pair.number) None) in
     let valued = put old (Number (ValueAmount run pair.number) (Some pair.value)) in
-    let digits = take pair.back (take (length bytes - (pair.front + 1)) (drop (pair.front + 1) bytes)) in
+    let digits = take pair.back (drop (pair.front + 1) bytes) in
     let first : HasRun old bytes pair.front (put old (Number (ValueNode run before) (Some pair.number))) = record {
       within = omega arith;
       after = digits_after old (ValueNode run before) None (Some pair.number) (take pair.front bytes) is ahead.node;
@@ -63,7 +63,7 @@ pair_front old run before bytes pair is ahead =
     let second : HasRun old bytes (pair.front + 1) (put old (Number (ValueAmount run pair.number) None)) =
     run_byte old noded spaced bytes pair.front 32 None first (omega arith) (sym ahead.space)
     (sym (quiet_gives noded 32 (Number (ValueAmount run pair.number) None) node)) (sym (quiet_step noded 32 (Number (ValueAmount run pair.number) None) node)) refl in
-    run_digits old spaced valued bytes (pair.front + 1) pair.back second ahead.fits
+    run_more old spaced valued bytes (pair.front + 1) pair.back second (omega (arith, room))
     (sym (digits_scanned old (ValueAmount run pair.number) None digits (Some pair.value) ahead.amount))
     (digits_give old (ValueAmount run pair.number) None digits (Some pair.value) ahead.amount)
 

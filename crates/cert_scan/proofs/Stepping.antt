@@ -92,12 +92,25 @@ take_nothing : (k : ℕ) → take {A = ℕ} k [] ≡ []
 take_nothing zero = refl
 take_nothing (suc k) = refl
 
-take-add : (k m : ℕ) (bytes : List ℕ) → take (k + m) bytes ≡ take k bytes ++ take m (drop k bytes)
+pub take-add : (k m : ℕ) (bytes : List ℕ) → take (k + m) bytes ≡ take k bytes ++ take m (drop k bytes)
 take-add zero m bytes = let none : 0 + m ≡ m = omega arith in ap (λ x. take x bytes) none
 take-add (suc k) m [] = let some : suc k + m ≡ suc (k + m) = omega arith in ap (λ x. take x []) some ∙ sym (take_nothing m)
 take-add (suc k) m (b ∷ bytes) = let some : suc k + m ≡ suc (k + m) = omega arith in ap (λ x. take x (b ∷ bytes)) some ∙ ap (λ l. b ∷ l) (take-add k m bytes)
 
--- the digits behind those bytes gave nothing either
+-- the bytes behind those gave nothing either
+pub run_more : (old mid new : Scan) (bytes : List ℕ) (taken count : ℕ) → HasRun old bytes taken mid → taken + count ≤ length bytes
+    → new ≡ scanned mid (take count (drop taken bytes)) → given_all mid (take count (drop taken bytes)) ≡ [] → HasRun old bytes (taken + count) new
+run_more old mid new bytes taken count h fits after nothing =
+    let front : take (taken + count) bytes ≡ take taken bytes ++ take count (drop taken bytes) = take-add taken count bytes in
+    let part = take count (drop taken bytes) in
+    record {
+      within = fits;
+      after = after ∙ ap (λ s. scanned s part) h.after ∙ sym (scanned-append old (take taken bytes) part) ∙ ap (scanned old) (sym front);
+      nothing = ap (given_all old) front ∙ given_all-append old (take taken bytes) part
+          ∙ (λ i. h.nothing i ++ given_all (sym h.after i) part) ∙ nothing;
+    }
+
+-- the same of the slice of them
 pub run_digits : (old mid new : Scan) (bytes : List ℕ) (taken count : ℕ) → HasRun old bytes taken mid → count ≤ length (take (length bytes - taken) (drop taken bytes))
     → new ≡ scanned mid (take count (take (length bytes - taken) (drop taken bytes))) → given_all mid (take count (take (length bytes - taken) (drop taken bytes))) ≡ []
     → HasRun old bytes (taken + count) new
@@ -105,15 +118,8 @@ run_digits old mid new bytes taken count h fits after nothing =
     let within = h.within in
     let long : length (drop taken bytes) ≤ length bytes - taken = omega (arith, length-drop taken bytes) in
     let whole : take (length bytes - taken) (drop taken bytes) ≡ drop taken bytes = take_all (length bytes - taken) (drop taken bytes) long in
-    let front : take (taken + count) bytes ≡ take taken bytes ++ take count (take (length bytes - taken) (drop taken bytes)) =
-    take-add taken count bytes ∙ ap (λ l. take taken bytes ++ take count l) (sym whole) in
-    let part = take count (take (length bytes - taken) (drop taken bytes)) in
-    record {
-      within = omega (arith, fits, ap length whole, length-drop taken bytes);
-      after = after ∙ ap (λ s. scanned s part) h.after ∙ sym (scanned-append old (take taken bytes) part) ∙ ap (scanned old) (sym front);
-      nothing = ap (given_all old) front ∙ given_all-append old (take taken bytes) part
-          ∙ (λ i. h.nothing i ++ given_all (sym h.after i) part) ∙ nothing;
-    }
+    run_more old mid new bytes taken count h (omega (arith, fits, ap length whole, length-drop taken bytes))
+    (after ∙ ap (λ l. scanned mid (take count l)) whole) (ap (λ l. given_all mid (take count l)) (sym whole) ∙ nothing)
 
 -- one byte more
 byte_after : (old mid new : Scan) (bytes : List ℕ) (taken byte : ℕ) → HasRun old bytes taken mid → taken < length bytes → byte ≡ get_or bytes taken 0 → new ≡ stepped mid byte

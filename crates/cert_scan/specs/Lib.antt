@@ -7,4 +7,5 @@ pub mod Given
 pub mod Scanned
 pub mod Pieces
 pub mod Runs
-pub mod PairAhead
+pub mod Digits
+pub mod Ahead

@@ -1,32 +1,136 @@
 //! Digits that spell a number.
-ghost use Rattle.std.specs.Prelude.{◌≡◌, ◌+◌, ◌*◌, ◌^◌, ◌≤◌, [], ◌∷◌, length, take, Some, None, IfSome};
+ghost use Rattle.std.specs.Prelude.{◌≡◌, ◌+◌, ◌*◌, ◌^◌, ◌<◌, ◌≤◌, [], ◌∷◌, length, take, drop, Some, None, IfSome, true, false};
 ghost use Rattle.cert_scan.specs.Runs.{SpellsOn};
+ghost use Rattle.cert_scan.specs.Digits.{Spell};
+ghost use Rattle.cert_scan.specs.Ahead.{IsNumberAt};
 
 use crate::bytes::with_digit;
+use crate::words::{leading_digits, word_at};
 
 // Any number of so many digits fits 64 bits.
-const SHORT: usize = 18;
+pub(crate) const SHORT: usize = 18;
+
+static TENS: [u64; 9] = [
+    1,
+    10,
+    100,
+    1_000,
+    10_000,
+    100_000,
+    1_000_000,
+    10_000_000,
+    100_000_000,
+];
+
+// A number of few digits. `last` says that its line ends behind it; else a space stands there.
+#[derive(Clone, Copy)]
+pub(crate) struct ShortNumber {
+    pub digits: usize,
+    pub value: u64,
+    pub last: bool,
+}
+
+// The short number that stands whole at this place, with the byte behind it.
+#[inline(always)]
+pub(crate) fn number_at(bytes: &[u8], at: usize) -> Option<ShortNumber>
+    requires { at + 19 ≤ length bytes.now }
+    ensures { IfSome result (IsNumberAt bytes.now at) }
+{
+    let (digits, value) = short_digits(bytes, at);
+    if digits < 1 || (digits > 1 && bytes[at] == b'0') {
+        return None;
+    }
+    let last = ends_line(bytes[at + digits])?;
+    Some(ShortNumber {
+        digits,
+        value,
+        last,
+    })
+}
+
+// Whether a number's line ends with the byte behind it, if that byte may stand there.
+#[inline(always)]
+fn ends_line(byte: u8) -> Option<bool>
+    ensures { IfSome result (λ last. (last ≡ true → byte ≡ 10) × (last ≡ false → byte ≡ 32)) }
+{
+    match byte {
+        b'\n' => Some(true),
+        b' ' => Some(false),
+        _ => None,
+    }
+}
+
+// How many of the bytes from this one on are digits, up to 18, and the number that they spell.
+#[inline(always)]
+fn short_digits(bytes: &[u8], at: usize) -> (usize, u64)
+    requires { at + 18 ≤ length bytes.now }
+    ensures few { result.0 ≤ 18 }
+    ensures spell { Spell (take result.0 (drop at bytes.now)) result.1 }
+{
+    let (front, value) = leading_digits(word_at(bytes, at));
+    if front < 8 {
+        return (front, value);
+    }
+    let (back, more) = leading_digits(word_at(bytes, at + 8));
+    let long = value * ten_to(back) + more;
+    if back < 8 {
+        return (8 + back, long);
+    }
+    last_digits(bytes, at, long)
+}
+
+#[inline(always)]
+fn ten_to(n: usize) -> u64
+    requires { n ≤ 8 }
+    ensures { result ≡ 10 ^ n }
+{
+    TENS[n]
+}
+
+// The last digits of a short number, behind 16.
+fn last_digits(bytes: &[u8], at: usize, front: u64) -> (usize, u64)
+    requires room { at + 18 ≤ length bytes.now }
+    requires front { Spell (take 16 (drop at bytes.now)) front }
+    ensures few { result.0 ≤ 18 }
+    ensures spell { Spell (take result.0 (drop at bytes.now)) result.1 }
+{
+    let mut value = front;
+    for i in 16..SHORT {
+        let Some(digit) = digit_of(bytes[at + i]) else {
+            return (i, value);
+        };
+        value = value * 10 + digit;
+    }
+    (SHORT, value)
+}
+
+// The digit that the byte is, if it is one.
+fn digit_of(byte: u8) -> Option<u64>
+    ensures { IfSome result (λ digit. (byte ≡ 48 + digit) × (digit ≤ 9)) }
+{
+    if byte < b'0' || byte > b'9' {
+        return None;
+    }
+    Some((byte - b'0') as u64)
+}
 
 // How many of the bytes are digits that go on with a number, and the number with them.
 pub(crate) fn more_digits(first: Option<u128>, bytes: &[u8]) -> (usize, Option<u128>)
     ensures within { result.0 ≤ length bytes.now }
     ensures spelled { SpellsOn first (take result.0 bytes.now) result.1 }
 {
-    if first.is_some() {
+    if first.is_some() || bytes.len() < SHORT {
         return long_digits(first, bytes);
     }
-    let (front, short) = short_digits(bytes);
-    let (back, value) = long_digits(widened(short), &bytes[front..]);
-    (front + back, value)
-}
-
-fn widened(value: Option<u64>) -> Option<u128>
-    ensures { result ≡ value }
-{
-    match value {
-        Some(number) => Some(number as u128),
-        None => None,
+    let (front, short) = short_digits(bytes, 0);
+    if front < 1 {
+        return (0, None);
     }
+    if bytes[0] == b'0' {
+        return (1, Some(0));
+    }
+    let (back, value) = long_digits(Some(short as u128), &bytes[front..]);
+    (front + back, value)
 }
 
 fn long_digits(first: Option<u128>, bytes: &[u8]) -> (usize, Option<u128>)
@@ -51,47 +155,4 @@ fn digit_behind(value: Option<u128>, byte: u8) -> Option<u128>
         return None;
     }
     with_digit(value, byte)
-}
-
-// The first digits of a number: one where it is 0, and else no more than 18.
-pub(crate) fn short_digits(bytes: &[u8]) -> (usize, Option<u64>)
-    ensures within { result.0 ≤ length bytes.now }
-    ensures spelled { SpellsOn None (take result.0 bytes.now) result.1 }
-{
-    if bytes.len() == 0 {
-        return (0, None);
-    }
-    let Some(first) = digit_of(bytes[0]) else {
-        return (0, None);
-    };
-    if first < 1 {
-        return (1, Some(first));
-    }
-    let mut value = first;
-    let limit = bytes.len().min(SHORT);
-    for i in 1..limit {
-        let Some(digit) = digit_of(bytes[i]) else {
-            return (i, Some(value));
-        };
-        value = with_short_digit(value, digit);
-    }
-    (limit, Some(value))
-}
-
-// The digit that the byte is, if it is one.
-fn digit_of(byte: u8) -> Option<u64>
-    ensures { IfSome result (λ digit. (byte ≡ 48 + digit) × (digit ≤ 9)) }
-{
-    if byte < b'0' || byte > b'9' {
-        return None;
-    }
-    Some((byte - b'0') as u64)
-}
-
-fn with_short_digit(value: u64, digit: u64) -> u64
-    requires value { value ≤ 10 ^ 17 }
-    requires digit { digit ≤ 9 }
-    ensures { result ≡ value * 10 + digit }
-{
-    value * 10 + digit
 }

@@ -25,6 +25,7 @@ mod places;
 mod repeats;
 mod scanner;
 mod stages;
+mod words;
 
 pub use items::{Fault, Item, Version};
 pub use pieces::pieces_are_text;

@@ -1,8 +1,8 @@
 //! What a dual lists next, where it stands whole in the bytes at hand.
-ghost use Rattle.std.specs.Prelude.{◌≡◌, ◌<◌, ◌≤◌, true, false, Some, IfSome};
-ghost use Rattle.cert_scan.specs.PairAhead.{IsPairAhead};
+ghost use Rattle.std.specs.Prelude.{◌≡◌, ◌<◌, ◌≤◌, Some, IfSome};
+ghost use Rattle.cert_scan.specs.Ahead.{IsPairAhead};
 
-use crate::digits::short_digits;
+use crate::digits::{SHORT, number_at};
 
 // A node's number and a value, and how many digits each has. `last` says that the line ends behind them.
 #[derive(Clone, Copy)]
@@ -14,57 +14,41 @@ pub(crate) struct Pair {
     pub last: bool,
 }
 
+// Two numbers of as many digits as are short, with a byte behind each.
+const LONGEST: usize = 2 * SHORT + 2;
+
 // The number of one of `n` nodes above the one before it, and a value, with the byte that ends it.
+#[inline(always)]
 pub(crate) fn pair_ahead(n: u32, before: u32, bytes: &[u8]) -> Option<Pair>
     ensures { IfSome result (IsPairAhead n before bytes.now) }
 {
-    let (front, node) = short_digits(bytes);
-    let number = node_above(n, before, node)?;
-    if front >= bytes.len() || bytes[front] != b' ' {
+    if bytes.len() < LONGEST {
         return None;
     }
-    let (back, amount) = short_digits(&bytes[front + 1..]);
-    let value = positive(amount)?;
-    if back >= bytes.len() - (front + 1) {
+    let node = number_at(bytes, 0)?;
+    if node.last {
         return None;
     }
-    let last = ends_line(bytes[front + 1 + back])?;
+    let number = node_above(n, before, node.value)?;
+    let amount = number_at(bytes, node.digits + 1)?;
+    if amount.value < 1 {
+        return None;
+    }
     Some(Pair {
-        front,
-        back,
+        front: node.digits,
+        back: amount.digits,
         number,
-        value,
-        last,
+        value: amount.value,
+        last: amount.last,
     })
 }
 
-fn node_above(n: u32, before: u32, number: Option<u64>) -> Option<u32>
-    ensures { IfSome result (λ k. (number ≡ Some k) × (before < k) × (k ≤ n)) }
+#[inline(always)]
+fn node_above(n: u32, before: u32, number: u64) -> Option<u32>
+    ensures { IfSome result (λ k. (number ≡ k) × (before < k) × (k ≤ n)) }
 {
-    let number = number?;
     if number <= before as u64 || number > n as u64 {
         return None;
     }
     Some(number as u32)
-}
-
-fn positive(amount: Option<u64>) -> Option<u64>
-    ensures { IfSome result (λ value. (amount ≡ Some value) × (1 ≤ value)) }
-{
-    let value = amount?;
-    if value < 1 {
-        return None;
-    }
-    Some(value)
-}
-
-// Whether a number's line ends with the byte behind it, if that byte may stand there.
-fn ends_line(byte: u8) -> Option<bool>
-    ensures { IfSome result (λ last. (last ≡ true → byte ≡ 10) × (last ≡ false → byte ≡ 32)) }
-{
-    match byte {
-        b'\n' => Some(true),
-        b' ' => Some(false),
-        _ => None,
-    }
 }
