@@ -26,7 +26,7 @@ letter_moves sh head matched byte low is =
     (and_from (nat_lt matched (length (keyword_of head))) (nat_eq byte (get_or (keyword_of head) matched 0)) (lt-ltb matched (length (keyword_of head)) low)
     (eq-eqb byte (get_or (keyword_of head) matched 0) is))
 
-letters_scanned : (s : Scan) (head : Head) (matched : ℕ) (bytes : List ℕ) → GoesOn (keyword_of head) matched bytes
+pub letters_scanned : (s : Scan) (head : Head) (matched : ℕ) (bytes : List ℕ) → GoesOn (keyword_of head) matched bytes
     → scanned (put s (Keyword head matched)) bytes ≡ put s (Keyword head (matched + length bytes))
 letters_scanned s head matched [] h = ap (λ k. put s (Keyword head k)) (let none : matched ≡ matched + 0 = omega arith in none)
 letters_scanned s head matched (byte ∷ bytes) h =
@@ -34,7 +34,7 @@ letters_scanned s head matched (byte ∷ bytes) h =
     quiet_scanned (put s (Keyword head matched)) (put s (Keyword head (matched + length (byte ∷ bytes)))) byte (Keyword head (matched + 1)) bytes
     (letter_moves s.shape head matched byte h.0 h.1) (letters_scanned s head (matched + 1) bytes h.2 ∙ ap (λ k. put s (Keyword head k)) next)
 
-letters_give : (s : Scan) (head : Head) (matched : ℕ) (bytes : List ℕ) → GoesOn (keyword_of head) matched bytes → given_all (put s (Keyword head matched)) bytes ≡ []
+pub letters_give : (s : Scan) (head : Head) (matched : ℕ) (bytes : List ℕ) → GoesOn (keyword_of head) matched bytes → given_all (put s (Keyword head matched)) bytes ≡ []
 letters_give s head matched [] h = refl
 letters_give s head matched (byte ∷ bytes) h =
     quiet_given (put s (Keyword head matched)) byte (Keyword head (matched + 1)) bytes (letter_moves s.shape head matched byte h.0 h.1)

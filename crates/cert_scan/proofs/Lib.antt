@@ -17,6 +17,7 @@ pub mod Tracks
 pub mod Finishing
 pub mod OnTime
 pub mod Stepping
+pub mod LineRuns
 pub mod PairRuns
 pub mod SpelledNumbers
 pub mod Leftover

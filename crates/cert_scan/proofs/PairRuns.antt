@@ -9,7 +9,8 @@ use Rattle.cert_scan.specs.Runs.{Runs}
 use Rattle.cert_scan.specs.Ahead.{IsPairAhead}
 use Rattle.cert_scan.proofs.ScanBytes.{quiet_step, quiet_gives}
 use Rattle.cert_scan.proofs.Tracks.{open_quiet}
-use Rattle.cert_scan.proofs.Stepping.{HasRun, digits_after, digits_nothing, digits_scanned, digits_give, run_more, run_digits, run_byte, run_item, run_end, failed_after, failed_nothing}
+use Rattle.cert_scan.proofs.LineRuns.{number_goes}
+use Rattle.cert_scan.proofs.Stepping.{HasRun, digits_after, digits_nothing, digits_scanned, digits_give, run_more, run_digits, run_byte, takes_byte, takes_run, run_end, failed_after, failed_nothing}
 use Rattle.cert_scan.specs.declared.items.Version.{Version as TextVersion}
 use Rattle.cert_scan.specs.declared.items.Version.TheVariants.{First, Second}
 use Rattle.cert_scan.specs.declared.stages.Stage.{Stage}
@@ -30,14 +31,6 @@ node_goes : (sh : Shape) (before number : ℕ) (run : Run) → before < number �
     → moved_by sh (Number (ValueNode run before) (Some number)) 32 ≡ move (Number (ValueAmount run number) None) None
 node_goes sh before number run above within =
     cond-true (follows sh.n before number) _ _ (and_from (nat_lt before number) (nat_le number sh.n) (lt-ltb before number above) (le-leb number sh.n within))
-
--- the byte behind a value
-value_goes : (sh : Shape) (number value byte : ℕ) (run : Run) (last : Bool) → (last ≡ true → byte ≡ 10) → (last ≡ false → byte ≡ 32)
-    → moved_by sh (Number (ValueAmount run number) (Some value)) byte ≡ taken_by sh (ValueAmount run number) value last
-value_goes sh number value byte run true end more =
-    subst (λ b. moved_by sh (Number (ValueAmount run number) (Some value)) b ≡ taken_by sh (ValueAmount run number) value true) (sym (end refl)) refl
-value_goes sh number value byte run false end more =
-    subst (λ b. moved_by sh (Number (ValueAmount run number) (Some value)) b ≡ taken_by sh (ValueAmount run number) value false) (sym (more refl)) refl
 
 -- where a scan stands, by what was matched
 pub stands_at : (position : Position) (place : Place) (value : Option ℕ) (run : Run) (before : ℕ) → position ≡ Number place value
@@ -72,7 +65,7 @@ pair_goes : (old : Scan) (run : Run) (before : ℕ) (bytes : List ℕ) (pair : P
     → next ≡ taken_by old.shape (ValueAmount run pair.number) pair.value pair.last
     → next ≡ moved_by old.shape (Number (ValueAmount run pair.number) (Some pair.value)) (get_or bytes (pair.front + 1 + pair.back) 0)
 pair_goes old run before bytes pair next ahead taken =
-    taken ∙ sym (value_goes old.shape pair.number pair.value (get_or bytes (pair.front + 1 + pair.back) 0) run pair.last ahead.line_end ahead.more)
+    taken ∙ sym (number_goes old.shape (ValueAmount run pair.number) pair.value (get_or bytes (pair.front + 1 + pair.back) 0) pair.last ahead.line_end ahead.more)
 
 -- the pair is taken, and gives its item
 pub pair_runs : (old new : Scan) (run : Run) (before : ℕ) (bytes : List ℕ) (pair : Pair) (item : Option Item) (next : Move)
@@ -83,8 +76,9 @@ pair_runs old new run before bytes pair item next is ahead taken gives after som
     let valued = put old (Number (ValueAmount run pair.number) (Some pair.value)) in
     let byte = get_or bytes (pair.front + 1 + pair.back) 0 in
     let goes = pair_goes old run before bytes pair next ahead taken in
-    run_item old valued new bytes (pair.front + 1 + pair.back) byte item (pair_front old run before bytes pair is ahead) ahead.room refl
-    (gives ∙ ap (λ m. (sifted old m).item) goes) (after ∙ ap (moved old) goes) some
+    takes_run old new bytes (pair.front + 1 + pair.back + 1) item
+    (takes_byte old valued new bytes (pair.front + 1 + pair.back) byte item (pair_front old run before bytes pair is ahead) ahead.room refl
+    (gives ∙ ap (λ m. (sifted old m).item) goes) (after ∙ ap (moved old) goes)) some
 
 limit_least : (v : TextVersion) → 2 ^ 64 ≤ amount_limit v
 limit_least First = omega arith

@@ -8,7 +8,7 @@ use Rattle.cert_scan.specs.Moves.{move, moved_by, with_digit_of, refusal, spelle
 use Rattle.cert_scan.specs.Scans.{put, new_scan, given_by, stepped, scanned, given_all}
 use Rattle.cert_scan.specs.Given.{IsGiven}
 use Rattle.cert_scan.specs.Scanned.{HasScanned, IsLost}
-use Rattle.cert_scan.specs.Runs.{SpellsOn, HasNoLineEnd, Runs}
+use Rattle.cert_scan.specs.Runs.{SpellsOn, HasNoLineEnd, Takes, Runs}
 use Rattle.cert_scan.proofs.Goes.{nil_front}
 use Rattle.cert_scan.proofs.ScanBytes.{scanned-append, given_all-append, quiet_step, quiet_gives, quiet_scanned, quiet_given}
 use Rattle.cert_scan.specs.declared.stages.Shape.{Shape}
@@ -144,17 +144,71 @@ run_byte old mid new bytes taken byte item h low is gives after none = record {
   nothing = byte_given old mid bytes taken byte item h low is gives ∙ ap option_to_list none;
 }
 
-pub run_item : (old mid new : Scan) (bytes : List ℕ) (taken byte : ℕ) (item : Option Item) → HasRun old bytes taken mid → taken < length bytes → byte ≡ get_or bytes taken 0
-    → item ≡ given_by mid byte → new ≡ stepped mid byte → (item ≡ None → ⊥) → Runs old bytes (taken + 1) item new
-run_item old mid new bytes taken byte item h low is gives after some =
+-- one byte more, whatever it gives
+pub takes_byte : (old mid new : Scan) (bytes : List ℕ) (taken byte : ℕ) (item : Option Item) → HasRun old bytes taken mid → taken < length bytes → byte ≡ get_or bytes taken 0
+    → item ≡ given_by mid byte → new ≡ stepped mid byte → Takes old bytes (taken + 1) item new
+takes_byte old mid new bytes taken byte item h low is gives after =
     let back : taken + 1 - 1 ≡ taken = omega arith in
     record {
+      some = omega arith;
       within = omega arith;
       after = sym (byte_after old mid new bytes taken byte h low is after);
       given = byte_given old mid bytes taken byte item h low is gives;
       nothing_before = ap (λ k. given_all old (take k bytes)) back ∙ h.nothing;
+    }
+
+-- bytes that gave nothing
+pub takes_nothing : (old new : Scan) (bytes : List ℕ) (taken : ℕ) → 0 < taken → HasRun old bytes taken new → Takes old bytes taken None new
+takes_nothing old new bytes taken some h =
+    let within = h.within in
+    let before = take (taken - 1) bytes in
+    let split : taken - 1 + (taken - (taken - 1)) ≡ taken = omega arith in
+    let front : take taken bytes ≡ take (taken - 1) bytes ++ take (taken - (taken - 1)) (drop (taken - 1) bytes) =
+    ap (λ k. take k bytes) (sym split) ∙ take-add (taken - 1) (taken - (taken - 1)) bytes in
+    record {
+      some = some;
+      within = h.within;
+      after = sym h.after;
+      given = h.nothing;
+      nothing_before = nil_front (given_all old before) _
+          (sym (given_all-append old before (take (taken - (taken - 1)) (drop (taken - 1) bytes))) ∙ ap (given_all old) (sym front) ∙ h.nothing);
+    }
+
+-- bytes that were taken behind those, of the slice of them
+takes_front : (bytes : List ℕ) (taken : ℕ) → take (length bytes - taken) (drop taken bytes) ≡ drop taken bytes
+takes_front bytes taken = take_all (length bytes - taken) (drop taken bytes) (omega (arith, length-drop taken bytes))
+
+pub run_on : (old mid new : Scan) (bytes : List ℕ) (taken count : ℕ) (item : Option Item) → HasRun old bytes taken mid
+    → Takes mid (take (length bytes - taken) (drop taken bytes)) count item new → item ≡ None → HasRun old bytes (taken + count) new
+run_on old mid new bytes taken count item h t none =
+    run_digits old mid new bytes taken count h t.within (sym t.after) (t.given ∙ ap option_to_list none)
+
+pub run_item : (old mid new : Scan) (bytes : List ℕ) (taken count : ℕ) (item : Option Item) → HasRun old bytes taken mid
+    → Takes mid (take (length bytes - taken) (drop taken bytes)) count item new → (item ≡ None → ⊥) → Runs old bytes (taken + count) item new
+run_item old mid new bytes taken count item h t some =
+    let whole = takes_front bytes taken in
+    let positive = t.some in
+    let part = take count (drop taken bytes) in
+    let before = take (count - 1) (drop taken bytes) in
+    let front : take (taken + count) bytes ≡ take taken bytes ++ take count (drop taken bytes) = take-add taken count bytes in
+    let back : taken + count - 1 ≡ taken + (count - 1) = omega arith in
+    let front_before : take (taken + count - 1) bytes ≡ take taken bytes ++ take (count - 1) (drop taken bytes) =
+    ap (λ k. take k bytes) back ∙ take-add taken (count - 1) bytes in
+    record {
+      within = omega (arith, h.within, t.within, ap length whole, length-drop taken bytes);
+      after = ap (scanned old) front ∙ scanned-append old (take taken bytes) part ∙ ap (λ s. scanned s part) (sym h.after)
+          ∙ ap (λ l. scanned mid (take count l)) (sym whole) ∙ t.after;
+      given = ap (given_all old) front ∙ given_all-append old (take taken bytes) part ∙ (λ i. h.nothing i ++ given_all (sym h.after i) part)
+          ∙ ap (λ l. given_all mid (take count l)) (sym whole) ∙ t.given;
+      nothing_before = ap (given_all old) front_before ∙ given_all-append old (take taken bytes) before ∙ (λ i. h.nothing i ++ given_all (sym h.after i) before)
+          ∙ ap (λ l. given_all mid (take (count - 1) l)) (sym whole) ∙ t.nothing_before;
       all = λ none. absurd (some none);
     }
+
+-- what was taken from the first byte on
+pub takes_run : (old new : Scan) (bytes : List ℕ) (taken : ℕ) (item : Option Item) → Takes old bytes taken item new → (item ≡ None → ⊥) → Runs old bytes taken item new
+takes_run old new bytes taken item t some =
+    record { within = t.within; after = t.after; given = t.given; nothing_before = t.nothing_before; all = λ none. absurd (some none) }
 
 pub run_end : (old new : Scan) (bytes : List ℕ) (taken : ℕ) → HasRun old bytes taken new → length bytes ≤ taken → Runs old bytes taken None new
 run_end old new bytes taken h all =

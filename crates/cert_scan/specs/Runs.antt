@@ -21,6 +21,14 @@ abbrev pub HasNoLineEnd : List ℕ → Type 0
 HasNoLineEnd [] = Unit
 HasNoLineEnd (byte ∷ bytes) = (nat_eq byte 10 ≡ false) × HasNoLineEnd bytes
 
+-- some of the bytes were taken one after another, and the last one gave the item, if there is one
+pub record Takes (old : Scan) (bytes : List ℕ) (taken : ℕ) (item : Option Item) (new : Scan) : Type 0 where
+  pub some : 0 < taken
+  pub within : taken ≤ length bytes
+  pub after : scanned old (take taken bytes) ≡ new
+  pub given : given_all old (take taken bytes) ≡ option_to_list item
+  pub nothing_before : given_all old (take (taken - 1) bytes) ≡ []
+
 -- so many of the bytes were taken one after another, and the last one gave the item; all were taken where there is none
 pub record Runs (old : Scan) (bytes : List ℕ) (taken : ℕ) (item : Option Item) (new : Scan) : Type 0 where
   pub within : taken ≤ length bytes

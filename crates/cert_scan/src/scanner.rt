@@ -1,5 +1,5 @@
 //! A scan of the bytes of a text.
-ghost use Rattle.std.specs.Prelude.{◌≡◌, ℕ, ◌-◌, ◌++◌, ◌≤◌, List, [], ◌∷◌, length, take, Some, None, false, IfSome, option_to_list};
+ghost use Rattle.std.specs.Prelude.{◌≡◌, ℕ, ◌-◌, ◌++◌, ◌<◌, ◌≤◌, List, [], ◌∷◌, length, take, Some, None, false, IfSome, option_to_list};
 ghost use Rattle.hub_spec.specs.Certificates.{Proof};
 ghost use Rattle.cert_spec.specs.Text.{Spells};
 ghost use Rattle.cert_scan.specs.Scans.{
@@ -21,7 +21,7 @@ ghost use Rattle.cert_scan.specs.Parts.{items_of};
 ghost use Rattle.cert_scan.specs.Given.{IsGiven};
 ghost use Rattle.cert_scan.specs.Scanned.{HasScanned, IsLost, AreCountable, Tells, IsLineAtHand};
 ghost use Rattle.cert_scan.specs.Pieces.{AreOnTime};
-ghost use Rattle.cert_scan.specs.Runs.{Runs, HasNoLineEnd};
+ghost use Rattle.cert_scan.specs.Runs.{Takes, Runs, HasNoLineEnd};
 ghost use Rattle.cert_scan.specs.declared.items.Item.{Item as ItemOf};
 ghost use Rattle.cert_scan.specs.declared.items.Item.TheVariants.{DualPair};
 ghost use Rattle.cert_scan.specs.declared.bytes.Position.TheVariants.{Number};
@@ -29,11 +29,11 @@ ghost use Rattle.cert_scan.specs.declared.places.Place.TheVariants.{ValueNode};
 ghost use Rattle.cert_scan.specs.declared.stages.Run.{Run as RunOf};
 
 use crate::bytes::{Move, Position, after_byte};
-use crate::digits::more_digits;
-use crate::heads::letters_ahead;
+use crate::digits::{SHORT, more_digits, number_at};
+use crate::heads::{form, head_of, letters_ahead};
 use crate::items::{Fault, Item, Version};
 use crate::pairs::{Pair, pair_ahead};
-use crate::places::{Place, take_value};
+use crate::places::{Place, take, take_value};
 use crate::repeats::DualSoFar;
 use crate::stages::{Shape, Stage};
 use memchr::memchr;
@@ -161,17 +161,82 @@ impl Scan {
     {
         let mut at = 0;
         while at < bytes.len() {
-            at += self.take_quietly(&bytes[at..]);
-            if at == bytes.len() {
-                break;
-            }
-            let item = self.advance(bytes[at]);
-            at += 1;
+            let (taken, item) = self.take_next(&bytes[at..]);
+            at += taken;
             if item.is_some() {
                 return (at, item);
             }
         }
         (at, None)
+    }
+
+    // Takes some bytes, of which none but the last gives an item.
+    fn take_next(&mut self, bytes: &[u8]) -> (usize, Option<Item>)
+        requires { 0 < length bytes.now }
+        ensures { Takes self.old bytes.now result.0 result.1 self.new }
+    {
+        if let Some(taken) = self.take_word(bytes) {
+            return (taken, None);
+        }
+        if let Some(taken) = self.take_number(bytes) {
+            return taken;
+        }
+        self.take_bytes(bytes)
+    }
+
+    // Takes the first word of a line that begins, and the space behind it, where they stand there whole and as wanted.
+    fn take_word(&mut self, bytes: &[u8]) -> Option<usize>
+        requires { 0 < length bytes.now }
+        ensures takes { IfSome result (λ taken. Takes self.old bytes.now taken None self.new) }
+        ensures same { result ≡ None → self.new ≡ self.old }
+    {
+        let Position::Start(stage) = self.position else {
+            return None;
+        };
+        let head = head_of(self.shape.version, stage, bytes[0])?;
+        let (word, first) = form(head);
+        let place = first?;
+        let count = letters_ahead(head, 0, bytes);
+        if count < word.len() || count >= bytes.len() || bytes[count] != b' ' {
+            return None;
+        }
+        self.position = Position::Number(place, None);
+        Some(count + 1)
+    }
+
+    // Takes a number that begins, and the byte behind it, where they stand there whole and the number is short.
+    fn take_number(&mut self, bytes: &[u8]) -> Option<(usize, Option<Item>)>
+        ensures takes { IfSome result (λ taken. Takes self.old bytes.now taken.0 taken.1 self.new) }
+        ensures same { result ≡ None → self.new ≡ self.old }
+    {
+        let Position::Number(place, value) = self.position else {
+            return None;
+        };
+        if value.is_some() || bytes.len() <= SHORT {
+            return None;
+        }
+        let number = number_at(bytes, 0)?;
+        let next = take(
+            self.shape,
+            place,
+            number.value as u128,
+            number.last,
+        );
+        let item = self.go(next);
+        Some((number.digits + 1, item))
+    }
+
+    // Takes bytes that give nothing, and one more where one is left.
+    fn take_bytes(&mut self, bytes: &[u8]) -> (usize, Option<Item>)
+        requires { 0 < length bytes.now }
+        ensures { Takes self.old bytes.now result.0 result.1 self.new }
+    {
+        let count = self.take_quietly(bytes);
+        if count == bytes.len() {
+            return (count, None);
+        }
+        let item = self.advance(bytes[count]);
+        (count + 1, item)
     }
 
     // Takes bytes of which none can give an item, at once, and tells how many: letters that go on with the first word of
