@@ -33,9 +33,13 @@ node_goes sh before number run above within =
     cond-true (follows sh.n before number) _ _ (and_from (nat_lt before number) (nat_le number sh.n) (lt-ltb before number above) (le-leb number sh.n within))
 
 -- where a scan stands, by what was matched
-pub stands_at : (position : Position) (place : Place) (value : Option ℕ) (run : Run) (before : ℕ) → position ≡ Number place value
-    → place ≡ ValueNode run before → value ≡ None → position ≡ Number (ValueNode run before) None
-stands_at position place value at before e f g = e ∙ (λ i. Number (f i) (g i))
+same_run : (run of : Run) (before other : ℕ) (value : Option ℕ) → Number (ValueNode run before) None ≡ Number (ValueNode of other) value → run ≡ of
+same_run run of before other value e = cc
+
+pub stands_at : (position : Position) (run of : Run) (before other : ℕ) (place : Place) (value : Option ℕ) → position ≡ Number (ValueNode run before) None
+    → position ≡ Number place value → place ≡ ValueNode of other → position ≡ Number (ValueNode of before) None
+stands_at position run of before other place value at is e =
+    at ∙ ap (λ r. Number (ValueNode r before) None) (same_run run of before other value (sym at ∙ is ∙ ap (λ p. Number p value) e))
 
 -- the bytes before the last one of the pair
 pair_front : (old : Scan) (run : Run) (before : ℕ) (bytes : List ℕ) (pair : Pair) → old.position ≡ Number (ValueNode run before) None

@@ -87,7 +87,8 @@ impl DualSoFar {
         self.come = 0;
     }
 
-    fn list(&mut self, node: u32, value: u128)
+    #[inline(always)]
+    pub(crate) fn list(&mut self, node: u32, value: u128)
         ensures { self.new ≡ with_value self.old (node, value) }
     {
         let next = self.repeats && self.come < self.all && self.pairs[self.come] == (node, value);

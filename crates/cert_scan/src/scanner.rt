@@ -21,6 +21,7 @@ ghost use Rattle.cert_scan.specs.Parts.{items_of};
 ghost use Rattle.cert_scan.specs.Given.{IsGiven};
 ghost use Rattle.cert_scan.specs.Scanned.{HasScanned, IsLost, AreCountable, Tells, IsLineAtHand};
 ghost use Rattle.cert_scan.specs.Pieces.{AreOnTime};
+ghost use Rattle.cert_scan.specs.Ahead.{IsPairAhead};
 ghost use Rattle.cert_scan.specs.Runs.{Takes, Runs, HasNoLineEnd};
 ghost use Rattle.cert_scan.specs.declared.items.Item.{Item as ItemOf};
 ghost use Rattle.cert_scan.specs.declared.items.Item.TheVariants.{DualPair};
@@ -110,50 +111,72 @@ impl Scan {
     }
 
     // Takes the node and the value that a dual lists next, where they stand there whole and as wanted.
+    #[inline(always)]
     fn take_pair(&mut self, bytes: &[u8]) -> Option<(usize, Option<Item>)>
         ensures runs { IfSome result (λ taken. Runs self.old bytes.now taken.0 taken.1 self.new) }
+        ensures same { result ≡ None → self.new ≡ self.old }
+    {
+        let before = self.node_before()?;
+        let pair = pair_ahead(self.shape.n, before, bytes)?;
+        if pair.last {
+            return self.end_dual(pair, bytes);
+        }
+        let item = self.list_pair(pair);
+        Some((pair.front + 1 + pair.back + 1, Some(item)))
+    }
+
+    // The number of the last node that a dual lists, 0 for none, where another one may begin.
+    #[inline(always)]
+    fn node_before(&self) -> Option<u32>
+        ensures { IfSome result (λ before. (run : RunOf) × (self.now.position ≡ Number (ValueNode run before) None)) }
+    {
+        match self.position {
+            Position::Number(Place::ValueNode(_, before), None) => Some(before),
+            _ => None,
+        }
+    }
+
+    // Takes a pair behind which the line goes on.
+    #[inline(always)]
+    fn list_pair(&mut self, pair: Pair) -> Item
+        ensures given { result ≡ DualPair (pair.number - 1) pair.value false }
+        ensures after { (run : RunOf) (before : ℕ) → self.old.position ≡ Number (ValueNode run before) None
+            → self.new ≡ with_item (put self.old (Number (ValueNode run pair.number) None)) result }
+    {
+        // The place is moved first: no other write lies between it and the test of where the scan stands.
+        if let Position::Number(Place::ValueNode(_, before), None) = &mut self.position {
+            *before = pair.number;
+        }
+        let k = pair.number.saturating_sub(1);
+        let u = pair.value as u128;
+        if let Version::Second = self.shape.version {
+            self.so_far.list(k, u);
+        }
+        Item::DualPair { k, u, last: false }
+    }
+
+    // Takes a pair behind which the line ends.
+    #[inline(never)]
+    fn end_dual(&mut self, pair: Pair, bytes: &[u8]) -> Option<(usize, Option<Item>)>
+        requires { (before : ℕ) × IsPairAhead self.old.shape.n before bytes.now pair }
+        ensures runs { (run : RunOf) (before : ℕ) → self.old.position ≡ Number (ValueNode run before) None
+            → IsPairAhead self.old.shape.n before bytes.now pair
+            → IfSome result (λ taken. Runs self.old bytes.now taken.0 taken.1 self.new) }
         ensures same { result ≡ None → self.new ≡ self.old }
     {
         let Position::Number(place, value) = self.position else {
             return None;
         };
-        let Place::ValueNode(of, before) = place else {
+        let Place::ValueNode(of, last_node) = place else {
             return None;
         };
-        if value.is_some() {
-            return None;
-        }
-        let pair = pair_ahead(self.shape.n, before, bytes)?;
-        let taken = pair.front + 1 + pair.back + 1;
-        if !pair.last {
-            let item = self.list_pair(pair);
-            return Some((taken, Some(item)));
-        }
         let next = take_value(self.shape, of, pair.number, pair.value as u128, pair.last);
         let item = self.go(next);
         if item.is_none() {
             // The dual repeats the one before it, so that nothing comes any more.
             return Some((bytes.len(), None));
         }
-        Some((taken, item))
-    }
-
-    // Takes a pair behind which the line goes on.
-    fn list_pair(&mut self, pair: Pair) -> Item
-        ensures given { result ≡ DualPair (pair.number - 1) pair.value false }
-        ensures after { (run : RunOf) (before : ℕ) → self.old.position ≡ Number (ValueNode run before) None
-            → self.new ≡ with_item (put self.old (Number (ValueNode run pair.number) None)) result }
-    {
-        let item = Item::DualPair {
-            k: pair.number.saturating_sub(1),
-            u: pair.value as u128,
-            last: false,
-        };
-        self.notes_repeat(item);
-        if let Position::Number(Place::ValueNode(_, before), None) = &mut self.position {
-            *before = pair.number;
-        }
-        item
+        Some((pair.front + 1 + pair.back + 1, item))
     }
 
     fn advance_all(&mut self, bytes: &[u8]) -> (usize, Option<Item>)
