@@ -101,37 +101,28 @@ impl Scan {
         self.take_run(bytes)
     }
 
+    #[inline(always)]
     fn take_run(&mut self, bytes: &[u8]) -> (usize, Option<Item>)
         ensures { Runs self.old bytes.now result.0 result.1 self.new }
     {
-        if let Some(taken) = self.take_pair(bytes) {
-            return taken;
-        }
-        self.advance_all(bytes)
-    }
-
-    // Takes the node and the value that a dual lists next, where they stand there whole and as wanted.
-    #[inline(always)]
-    fn take_pair(&mut self, bytes: &[u8]) -> Option<(usize, Option<Item>)>
-        ensures runs { IfSome result (λ taken. Runs self.old bytes.now taken.0 taken.1 self.new) }
-        ensures same { result ≡ None → self.new ≡ self.old }
-    {
-        let before = self.node_before()?;
-        let pair = pair_ahead(self.shape.n, before, bytes)?;
+        let Some(pair) = self.pair_ahead(bytes) else {
+            return self.advance_all(bytes);
+        };
         if pair.last {
             return self.end_dual(pair, bytes);
         }
         let item = self.list_pair(pair);
-        Some((pair.front + 1 + pair.back + 1, Some(item)))
+        (pair.front + 1 + pair.back + 1, Some(item))
     }
 
-    // The number of the last node that a dual lists, 0 for none, where another one may begin.
+    // The node and the value that a dual lists next, where they stand there whole and as wanted.
     #[inline(always)]
-    fn node_before(&self) -> Option<u32>
-        ensures { IfSome result (λ before. (run : RunOf) × (self.now.position ≡ Number (ValueNode run before) None)) }
+    fn pair_ahead(&self, bytes: &[u8]) -> Option<Pair>
+        ensures { IfSome result (λ pair. (run : RunOf) × (before : ℕ)
+            × (self.now.position ≡ Number (ValueNode run before) None) × IsPairAhead self.now.shape.n before bytes.now pair) }
     {
         match self.position {
-            Position::Number(Place::ValueNode(_, before), None) => Some(before),
+            Position::Number(Place::ValueNode(_, before), None) => pair_ahead(self.shape.n, before, bytes),
             _ => None,
         }
     }
@@ -155,30 +146,29 @@ impl Scan {
         Item::DualPair { k, u, last: false }
     }
 
-    // Takes a pair behind which the line ends.
+    // Takes a pair behind which the line ends. Apart, as what follows: the way of any other pair is to stay short.
     #[inline(never)]
-    fn end_dual(&mut self, pair: Pair, bytes: &[u8]) -> Option<(usize, Option<Item>)>
-        requires { (before : ℕ) × IsPairAhead self.old.shape.n before bytes.now pair }
-        ensures runs { (run : RunOf) (before : ℕ) → self.old.position ≡ Number (ValueNode run before) None
-            → IsPairAhead self.old.shape.n before bytes.now pair
-            → IfSome result (λ taken. Runs self.old bytes.now taken.0 taken.1 self.new) }
-        ensures same { result ≡ None → self.new ≡ self.old }
+    fn end_dual(&mut self, pair: Pair, bytes: &[u8]) -> (usize, Option<Item>)
+        requires { (run : RunOf) × (before : ℕ)
+            × (self.old.position ≡ Number (ValueNode run before) None) × IsPairAhead self.old.shape.n before bytes.now pair }
+        ensures { Runs self.old bytes.now result.0 result.1 self.new }
     {
         let Position::Number(place, value) = self.position else {
-            return None;
+            return self.advance_all(bytes);
         };
         let Place::ValueNode(of, last_node) = place else {
-            return None;
+            return self.advance_all(bytes);
         };
         let next = take_value(self.shape, of, pair.number, pair.value as u128, pair.last);
         let item = self.go(next);
         if item.is_none() {
             // The dual repeats the one before it, so that nothing comes any more.
-            return Some((bytes.len(), None));
+            return (bytes.len(), None);
         }
-        Some((pair.front + 1 + pair.back + 1, item))
+        (pair.front + 1 + pair.back + 1, item)
     }
 
+    #[inline(never)]
     fn advance_all(&mut self, bytes: &[u8]) -> (usize, Option<Item>)
         ensures { Runs self.old bytes.now result.0 result.1 self.new }
     {
