@@ -1,12 +1,12 @@
 -- Digits in the bytes of a word.
-use Rattle.std.proofs.Common.{◌≡◌, ℕ, zero, suc, ◌+◌, ◌-◌, ◌*◌, ◌/◌, ◌%◌, ◌^◌, ◌<◌, ◌≤◌, Bool, true, false, ◌&&◌, ◌||◌, List, [], ◌∷◌, ◌++◌, length, map, take, drop, get_or, nat_eq, nat_lt, nat_le, inl, inr, refl, sym, ap, ◌∙◌, subst, arith, map-id}
-use Rattle.std.specs.Prelude.{replicate, if◌then◌else◌}
+use Rattle.std.proofs.Common.{◌≡◌, ℕ, zero, suc, ◌+◌, ◌-◌, ◌*◌, ◌/◌, ◌%◌, ◌^◌, ◌<◌, ◌≤◌, Bool, true, false, ◌&&◌, ◌||◌, List, [], ◌∷◌, ◌++◌, length, map, take, drop, get_or, nat_eq, nat_le, inl, inr, refl, sym, ap, ◌∙◌, subst, arith, map-id}
+use Rattle.std.specs.Prelude.{replicate}
 use Rattle.std.specs.Int.Bits.{bit_and, bit_or, bit_xor}
 use Rattle.std.specs.Int.{bit_at, w64, trailing_zeros}
-use Rattle.std.proofs.lemmas.Bool.{and_parts, or_cases, cond-true, cond-false, eqb-true, leb-true, leb-false, false≢true, cases_eq}
+use Rattle.std.proofs.lemmas.Bool.{and_parts, or_cases, cond-true, cond-false, eqb-true, leb-true, false≢true, cases_eq}
 use Rattle.std.proofs.lemmas.Nat.{and_block, or_block, xor_block, and_mask, or_lt, xor_lt, and_le_r, pow-add, mul-mod_first}
 use Rattle.std.proofs.lemmas.Nat.Bits.{bit_at_cat_low, bit_at_cat_high, bit_at-trailing_zeros, bit_at-zero}
-use Rattle.std.proofs.lemmas.List.{drop_more, take_all, length-append, length-replicate, length-take, length-take-le, length-drop, length-map}
+use Rattle.std.proofs.lemmas.List.{drop_more, take_all, length-append, length-replicate, length-take-le, length-drop, length-map}
 use Rattle.std.proofs.Math.Nat.{mul-div_cancel, mul_assoc, add-zero, mod-eq_of_lt, pow-suc, zero-mod, mul-mod_left}
 use Rattle.std.proofs.Math.Arith.{digits_div, digits_mod, mod-mul}
 use Rattle.hub_spec.proofs.SumLemmas.{by_test}

@@ -1,5 +1,5 @@
 -- What is taken at once of a line: its first word, and a number.
-use Rattle.std.proofs.Common.{◌≡◌, ℕ, zero, suc, ◌+◌, ◌<◌, ◌≤◌, Bool, true, false, ◌&&◌, List, [], ◌∷◌, ◌++◌, length, take, get_or, Option, Some, None, nat_eq, nat_lt, ◌⊎◌, inl, inr, refl, sym, ap, ◌∙◌, subst, arith}
+use Rattle.std.proofs.Common.{◌≡◌, ℕ, zero, suc, ◌+◌, ◌<◌, ◌≤◌, Bool, true, false, ◌&&◌, List, [], ◌∷◌, ◌++◌, length, take, get_or, Option, Some, None, nat_eq, nat_lt, refl, sym, ap, ◌∙◌, subst, arith}
 use Rattle.std.specs.Prelude.{option_to_list, if◌then◌else◌}
 use Rattle.std.proofs.lemmas.Bool.{ltb-true}
 use Rattle.std.proofs.lemmas.List.{length-take-le}
@@ -14,7 +14,6 @@ use Rattle.cert_scan.proofs.Letters.{letters_scanned, letters_give}
 use Rattle.cert_scan.proofs.Stepping.{HasRun, digits_after, digits_nothing, run_byte, takes_byte, takes_nothing}
 use Rattle.cert_scan.specs.declared.items.Item.{Item}
 use Rattle.cert_scan.specs.declared.bytes.Move.{Move}
-use Rattle.cert_scan.specs.declared.bytes.Position.{Position}
 use Rattle.cert_scan.specs.declared.bytes.Position.TheVariants.{Start, Keyword, Number}
 use Rattle.cert_scan.specs.declared.digits.ShortNumber.{ShortNumber}
 use Rattle.cert_scan.specs.declared.heads.Head.{Head}

@@ -1,9 +1,8 @@
 -- Numbers that digits spell.
-use Rattle.std.proofs.Common.{◌≡◌, ℕ, zero, suc, ◌+◌, ◌-◌, ◌*◌, ◌^◌, ◌<◌, ◌≤◌, List, [], ◌∷◌, ◌++◌, length, map, take, drop, get_or, Some, None, ◌⊎◌, inl, inr, refl, sym, ap, ◌∙◌, subst, arith, mul-le-mul_left}
+use Rattle.std.proofs.Common.{◌≡◌, ℕ, zero, suc, ◌+◌, ◌-◌, ◌*◌, ◌^◌, ◌<◌, ◌≤◌, List, [], ◌∷◌, ◌++◌, length, take, drop, get_or, Some, None, ◌⊎◌, inl, inr, refl, sym, ap, ◌∙◌, subst, arith, mul-le-mul_left}
 use Rattle.std.proofs.Math.Nat.{pow-suc, mul-le-mul_right, pow-le-pow_right}
 use Rattle.std.proofs.lemmas.Bool.{cases_eq}
 use Rattle.std.proofs.lemmas.List.{take_more, length-take, length-take-le, length-drop, length-map, map-append, take-take, drop-drop}
-use Rattle.cert_scan.specs.Moves.{with_digit_of}
 use Rattle.cert_scan.specs.Runs.{SpellsOn}
 use Rattle.cert_scan.specs.Digits.{AreDigits, spelled, digit_values, Spell}
 use Rattle.cert_scan.proofs.Goes.{with_digit-more}
@@ -112,9 +111,14 @@ spells_whole (b ∷ bytes) (suc (suc n)) value h some few fits first =
     let power : 10 ^ length (take (suc n) bytes) ≤ 10 ^ 17 = pow-le-pow_right {n = 10} (omega arith) short in
     let scaled : (b - 48 + 1) * 10 ^ length (take (suc n) bytes) ≤ (b - 48 + 1) * 10 ^ 17 = mul-le-mul_left (b - 48 + 1) power in
     let start : 0 * 10 + (b - 48) ≡ b - 48 = omega arith in
-    let spelled_is : spelled (b - 48) (digit_values rest) ≡ value = ap (λ m. spelled m (digit_values rest)) (sym start) ∙ sym h.is in
-    (b - 48, digit, high, refl, subst (λ v. SpellsOn (Some (b - 48)) rest (Some v)) spelled_is
-    (spells_on (b - 48) rest more (omega (arith, above)) (omega (arith, scaled, high))))
+    let spelled_is : spelled (b - 48) (digit_values rest) ≡ value = ap (λ m. spelled m (digit_values rest)) (sym start) ∙ sym h.is in (
+      b - 48,
+      digit,
+      high,
+      refl,
+      subst (λ v. SpellsOn (Some (b - 48)) rest (Some v)) spelled_is
+          (spells_on (b - 48) rest more (omega (arith, above)) (omega (arith, scaled, high))),
+    )
 
 -- ---- digits of a text, by words
 
@@ -150,3 +154,43 @@ pub words_low : (bytes : List ℕ) (at power : ℕ) (front back : ℕ × ℕ) �
 words_low bytes at power front back a b whole is fits =
     let few = b.few in
     spell_below (drop at bytes) (8 + back.0) 16 (front.1 * power + back.1) (spell_words bytes at power front back a b whole is fits) (omega arith)
+
+-- ---- the least numbers of so many digits
+
+-- n numbers from p on, each ten times the one before it
+abbrev powers : ℕ → ℕ → List ℕ
+powers p zero = []
+powers p (suc n) = p ∷ powers (p * 10) n
+
+power_at : (p n i : ℕ) → i < n → get_or (powers p n) i 0 ≡ p * 10 ^ i
+power_at p zero i low = absurd (omega arith)
+power_at p (suc n) zero low = omega arith
+power_at p (suc n) (suc i) low = omega (arith, power_at (p * 10) n i (omega arith), ap (λ x. p * x) (pow-suc 10 i))
+
+pub least_is : (digits : ℕ) → digits ≤ 18 → 2 ≤ digits → get_or (18446744073709551615 ∷ 0 ∷ powers 10 17) digits 0 ≡ 10 ^ (digits - 1)
+least_is zero few some = absurd (omega arith)
+least_is (suc zero) few some = absurd (omega arith)
+least_is (suc (suc i)) few some =
+    let back : suc i ≡ suc (suc i) - 1 = omega arith in
+    power_at 10 17 i (omega arith) ∙ omega (arith, pow-suc 10 i, ap (λ k. 10 ^ k) back)
+
+-- a number that is not below the least one of its digits begins with another digit than 0, or has one digit
+pub not_padded : (bytes : List ℕ) (count value : ℕ) → Spell (take count bytes) value → 1 ≤ count → count ≤ length bytes → (2 ≤ count → 10 ^ (count - 1) ≤ value)
+    → (count ≡ 1) ⊎ (get_or bytes 0 0 ≡ 48 → ⊥)
+not_padded [] count value h some fits least = absurd (omega (arith, some, fits))
+not_padded (b ∷ bytes) zero value h some fits least = absurd (omega (arith, some))
+not_padded (b ∷ bytes) (suc zero) value h some fits least = inl refl
+not_padded (b ∷ bytes) (suc (suc n)) value h some fits least = inr (λ zero_is. (
+    let rest = take (suc n) bytes in
+    let long : length (take (suc n) bytes) ≡ suc n = length-take-le (suc n) bytes (omega (arith, fits)) in
+    let start : 0 * 10 + (b - 48) ≡ 0 = omega (arith, zero_is) in
+    let value_is : value ≡ spelled 0 (digit_values rest) = h.is ∙ ap (λ m. spelled m (digit_values rest)) start in
+    let low : spelled 0 (digit_values rest) + 1 ≤ (0 + 1) * 10 ^ suc n = subst (λ k. spelled 0 (digit_values rest) + 1 ≤ (0 + 1) * 10 ^ k) long (spelled_low 0 rest h.digits.2) in
+    let back : suc (suc n) - 1 ≡ suc n = omega arith in
+    let most : 10 ^ suc n ≤ value = subst (λ k. 10 ^ k ≤ value) back (least (omega arith)) in
+    absurd (omega (arith, value_is, low, most))))
+
+-- no number has no digits
+pub some_digits : (bytes : List ℕ) (count value least : ℕ) → Spell (take count bytes) value → least ≤ value → (count ≡ 0 → 10 ^ 18 ≤ least) → 1 ≤ count
+some_digits bytes zero value least h low none = absurd (omega (arith, h.is, low, none refl))
+some_digits bytes (suc n) value least h low none = omega arith

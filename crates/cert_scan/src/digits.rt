@@ -1,5 +1,5 @@
 //! Digits that spell a number.
-ghost use Rattle.std.specs.Prelude.{◌≡◌, ◌+◌, ◌*◌, ◌^◌, ◌<◌, ◌≤◌, [], ◌∷◌, length, take, drop, Some, None, IfSome, true, false};
+ghost use Rattle.std.specs.Prelude.{◌≡◌, ◌+◌, ◌-◌, ◌*◌, ◌^◌, ◌<◌, ◌≤◌, [], ◌∷◌, length, take, drop, Some, None, IfSome, true, false};
 ghost use Rattle.cert_scan.specs.Runs.{SpellsOn};
 ghost use Rattle.cert_scan.specs.Digits.{Spell};
 ghost use Rattle.cert_scan.specs.Ahead.{IsNumberAt};
@@ -22,6 +22,29 @@ static TENS: [u64; 9] = [
     100_000_000,
 ];
 
+// The least number of so many digits, of which the first is 0 only where it is alone. No number has none.
+static LEAST: [u64; SHORT + 1] = [
+    u64::MAX,
+    0,
+    10,
+    100,
+    1_000,
+    10_000,
+    100_000,
+    1_000_000,
+    10_000_000,
+    100_000_000,
+    1_000_000_000,
+    10_000_000_000,
+    100_000_000_000,
+    1_000_000_000_000,
+    10_000_000_000_000,
+    100_000_000_000_000,
+    1_000_000_000_000_000,
+    10_000_000_000_000_000,
+    100_000_000_000_000_000,
+];
+
 // A number of few digits. `last` says that its line ends behind it; else a space stands there.
 #[derive(Clone, Copy)]
 pub(crate) struct ShortNumber {
@@ -37,7 +60,7 @@ pub(crate) fn number_at(bytes: &[u8], at: usize) -> Option<ShortNumber>
     ensures { IfSome result (IsNumberAt bytes.now at) }
 {
     let (digits, value) = short_digits(bytes, at);
-    if digits < 1 || (digits > 1 && bytes[at] == b'0') {
+    if value < least_of(digits) {
         return None;
     }
     let last = ends_line(bytes[at + digits])?;
@@ -46,6 +69,15 @@ pub(crate) fn number_at(bytes: &[u8], at: usize) -> Option<ShortNumber>
         value,
         last,
     })
+}
+
+#[inline(always)]
+fn least_of(digits: usize) -> u64
+    requires { digits ≤ 18 }
+    ensures none { digits ≡ 0 → 10 ^ 18 ≤ result }
+    ensures several { 2 ≤ digits → result ≡ 10 ^ (digits - 1) }
+{
+    LEAST[digits]
 }
 
 // Whether a number's line ends with the byte behind it, if that byte may stand there.

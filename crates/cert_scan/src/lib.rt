@@ -13,6 +13,10 @@
 //! The text is defined in the crate `cert_spec`. A line begins at a stage of the text (`stages`), has a keyword
 //! (`heads`) and numbers at places (`places`); what one byte makes of it all is in `bytes`. In the second version no dual
 //! may repeat the one before it in its origin: `repeats` tells that by the items.
+//!
+//! What stands whole in the bytes at hand is taken at once, which comes to the same as its bytes one by one: the first
+//! word of a line, a short number (`digits`), and a node of a dual with its value (`pairs`). Their digits are read from
+//! words of eight bytes (`words`).
 #![tactic(auto)]
 
 mod bytes;

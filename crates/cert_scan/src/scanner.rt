@@ -87,6 +87,8 @@ impl Scan {
     /// Takes bytes up to the one that gives an item, and with it, or all where none does: how many, and the item.
     ///
     /// It does what `step` does with each of them: the item comes with the last byte taken, and with none before.
+    // In its callers, where what it gives need not be copied.
+    #[inline(always)]
     pub fn run(&mut self, bytes: &[u8]) -> (usize, Option<Item>)
         ensures runs { Runs self.old bytes.now result.0 result.1 self.new }
         ensures scanned { (front : List ℕ) (given : List ItemOf) → HasScanned front given self.old
@@ -122,7 +124,11 @@ impl Scan {
             × (self.now.position ≡ Number (ValueNode run before) None) × IsPairAhead self.now.shape.n before bytes.now pair) }
     {
         match self.position {
-            Position::Number(Place::ValueNode(_, before), None) => pair_ahead(self.shape.n, before, bytes),
+            Position::Number(Place::ValueNode(_, before), None) => pair_ahead(
+                self.shape.n,
+                before,
+                bytes,
+            ),
             _ => None,
         }
     }
@@ -229,12 +235,7 @@ impl Scan {
             return None;
         }
         let number = number_at(bytes, 0)?;
-        let next = take(
-            self.shape,
-            place,
-            number.value as u128,
-            number.last,
-        );
+        let next = take(self.shape, place, number.value as u128, number.last);
         let item = self.go(next);
         Some((number.digits + 1, item))
     }

@@ -1,4 +1,4 @@
-use Rattle.std.proofs.Common.{◌≡◌, ◌+◌, ◌∙◌, get_or, take, drop, length, subst, arith}
+use Rattle.std.proofs.Common.{◌≡◌, ◌∙◌, take, drop, subst, arith}
 use Rattle.std.proofs.lemmas.List.{get_or-drop, length-drop}
 use Rattle.cert_scan.specs.Digits.{Spell}
 use Rattle.cert_scan.proofs.SpelledNumbers.{spell_below, spell_more}

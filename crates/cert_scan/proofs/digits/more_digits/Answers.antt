@@ -1,4 +1,4 @@
-use Rattle.std.proofs.Common.{◌∙◌, ◌+◌, ◌-◌, Some, take, drop, length, subst, sym, inr, arith}
+use Rattle.std.proofs.Common.{◌∙◌, ◌+◌, Some, take, subst, sym, inr, arith}
 use Rattle.cert_scan.specs.Runs.{SpellsOn}
 use Rattle.cert_scan.proofs.Stepping.{spells_both, none_of}
 use Rattle.cert_scan.proofs.SpelledNumbers.{spells_whole}

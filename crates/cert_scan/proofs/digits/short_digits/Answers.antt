@@ -14,8 +14,11 @@ overflow_mul-long c =
     record { few = c.leading_digits-front.ensures.few; spell = c.leading_digits-front.ensures.spell _ c.word_at.ensures.eight c.word_at.ensures.word } in
     let back : WordAt c.args.bytes.now (c.args.at + 8) c.leading_digits-back.result =
     record { few = c.leading_digits-back.ensures.few; spell = c.leading_digits-back.ensures.spell _ c.word_at-2.ensures.eight c.word_at-2.ensures.word } in
-    omega (arith, words_low c.args.bytes.now c.args.at c.ten_to.result c.leading_digits-front.result c.leading_digits-back.result front back (omega arith) c.ten_to.ensures
-    (omega arith))
+    omega (
+      arith,
+      words_low c.args.bytes.now c.args.at c.ten_to.result c.leading_digits-front.result c.leading_digits-back.result front back (omega arith) c.ten_to.ensures
+          (omega arith),
+    )
 
 pub overflow_add-long : goal.overflow_add-long
 overflow_add-long c =
@@ -23,8 +26,11 @@ overflow_add-long c =
     record { few = c.leading_digits-front.ensures.few; spell = c.leading_digits-front.ensures.spell _ c.word_at.ensures.eight c.word_at.ensures.word } in
     let back : WordAt c.args.bytes.now (c.args.at + 8) c.leading_digits-back.result =
     record { few = c.leading_digits-back.ensures.few; spell = c.leading_digits-back.ensures.spell _ c.word_at-2.ensures.eight c.word_at-2.ensures.word } in
-    omega (arith, words_low c.args.bytes.now c.args.at c.ten_to.result c.leading_digits-front.result c.leading_digits-back.result front back (omega arith) c.ten_to.ensures
-    (omega arith))
+    omega (
+      arith,
+      words_low c.args.bytes.now c.args.at c.ten_to.result c.leading_digits-front.result c.leading_digits-back.result front back (omega arith) c.ten_to.ensures
+          (omega arith),
+    )
 
 pub returns-then-back-lt8-clause-spell : goal.returns-then-back-lt8-clause-spell
 returns-then-back-lt8-clause-spell c =

@@ -1,4 +1,4 @@
-use Rattle.std.proofs.Common.{sym, ap, ◌∙◌, ◌≤◌, length, subst}
+use Rattle.std.proofs.Common.{sym, ◌∙◌, ◌≤◌, length, subst}
 use Rattle.cert_scan.proofs.LineRuns.{takes_word}
 use Rattle.cert_scan.proofs.scanner.Scan.take_word.Goals as goal
 
