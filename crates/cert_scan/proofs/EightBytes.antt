@@ -1,50 +1,16 @@
 -- Digits in the bytes of a word.
-use Rattle.std.proofs.Common.{◌≡◌, ℕ, zero, suc, ◌+◌, ◌-◌, ◌*◌, ◌/◌, ◌%◌, ◌^◌, ◌<◌, ◌≤◌, Bool, true, false, ◌&&◌, ◌||◌, List, [], ◌∷◌, ◌++◌, length, map, take, drop, get_or, nat_eq, nat_le, inl, inr, refl, sym, ap, ◌∙◌, subst, arith, map-id}
+use Rattle.std.proofs.Common.{◌≡◌, ℕ, zero, suc, ◌+◌, ◌-◌, ◌*◌, ◌/◌, ◌%◌, ◌^◌, ◌<◌, ◌≤◌, Bool, true, false, ◌&&◌, ◌||◌, List, [], ◌∷◌, ◌++◌, length, map, take, nat_eq, nat_le, inl, inr, refl, sym, ap, ◌∙◌, arith, map-id}
 use Rattle.std.specs.Prelude.{replicate}
 use Rattle.std.specs.Int.Bits.{bit_and, bit_or, bit_xor}
 use Rattle.std.specs.Int.{bit_at, w64, trailing_zeros}
 use Rattle.std.proofs.lemmas.Bool.{and_parts, or_cases, cond-true, cond-false, eqb-true, leb-true, false≢true, cases_eq}
 use Rattle.std.proofs.lemmas.Nat.{and_block, or_block, xor_block, and_mask, or_lt, xor_lt, and_le_r, pow-add, mul-mod_first}
 use Rattle.std.proofs.lemmas.Nat.Bits.{bit_at_cat_low, bit_at_cat_high, bit_at-trailing_zeros, bit_at-zero}
-use Rattle.std.proofs.lemmas.List.{drop_more, take_all, length-append, length-replicate, length-take-le, length-drop, length-map}
+use Rattle.std.proofs.lemmas.List.{take_all, length-append, length-replicate, length-take-le, length-map}
 use Rattle.std.proofs.Math.Nat.{mul-div_cancel, mul_assoc, add-zero, mod-eq_of_lt, pow-suc, zero-mod, mul-mod_left}
 use Rattle.std.proofs.Math.Arith.{digits_div, digits_mod, mod-mul}
 use Rattle.hub_spec.proofs.SumLemmas.{by_test}
 use Rattle.cert_scan.specs.Digits.{AreDigits, spelled, digit_values, Spell, AreBelow, AreEight, word_of, mark}
-
--- ---- eight bytes of a text
-
--- n values of f from k on
-abbrev values : (ℕ → ℕ) → ℕ → ℕ → List ℕ
-values f k zero = []
-values f k (suc n) = f k ∷ values f (suc k) n
-
-front_values : (bytes : List ℕ) (at k n : ℕ) → at + k + n ≤ length bytes → take n (drop (at + k) bytes) ≡ values (λ j. get_or bytes (at + j) 0) k n
-front_values bytes at k zero fits = refl
-front_values bytes at k (suc n) fits =
-    let next : at + k + 1 ≡ at + suc k = omega arith in
-    ap (take (suc n)) (drop_more bytes (at + k) 0 (omega arith))
-    ∙ ap (λ l. get_or bytes (at + k) 0 ∷ l) (ap (λ m. take n (drop m bytes)) next ∙ front_values bytes at (suc k) n (omega arith))
-
-values_below : (limit : ℕ) (f : ℕ → ℕ) (k n : ℕ) → ((j : ℕ) → f j < limit) → AreBelow limit (values f k n)
-values_below limit f k zero h = tt
-values_below limit f k (suc n) h = (h k, values_below limit f (suc k) n h)
-
-pub eight_at : (bytes : List ℕ) (at : ℕ) → ((j : ℕ) → get_or bytes j 0 < 256) → at + 8 ≤ length bytes → AreEight 256 (take 8 (drop at bytes))
-eight_at bytes at each fits =
-    let none : at + 0 ≡ at = omega arith in
-    record {
-      eight = length-take-le 8 (drop at bytes) (omega (arith, length-drop at bytes));
-      below = subst (AreBelow 256) (sym (front_values bytes at 0 8 (omega arith)) ∙ ap (λ m. take 8 (drop m bytes)) none)
-          (values_below 256 (λ j. get_or bytes (at + j) 0) 0 8 (λ j. each (at + j)));
-    }
-
--- the word of eight bytes, by their places
-pub word_there : (bytes : List ℕ) (at word : ℕ) → at + 8 ≤ length bytes
-    → word ≡ word_of (values (λ j. get_or bytes (at + j) 0) 0 8) → word ≡ word_of (take 8 (drop at bytes))
-word_there bytes at word fits e =
-    let none : at + 0 ≡ at = omega arith in
-    e ∙ ap word_of (sym (front_values bytes at 0 8 (omega arith)) ∙ ap (λ m. take 8 (drop m bytes)) none)
 
 -- ---- an operation goes by the byte
 

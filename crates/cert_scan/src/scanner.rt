@@ -159,10 +159,10 @@ impl Scan {
             × (self.old.position ≡ Number (ValueNode run before) None) × IsPairAhead self.old.shape.n before bytes.now pair }
         ensures { Runs self.old bytes.now result.0 result.1 self.new }
     {
-        let Position::Number(place, value) = self.position else {
+        let Position::Number(place, _) = self.position else {
             return self.advance_all(bytes);
         };
-        let Place::ValueNode(of, last_node) = place else {
+        let Place::ValueNode(of, _) = place else {
             return self.advance_all(bytes);
         };
         let next = take_value(self.shape, of, pair.number, pair.value as u128, pair.last);
