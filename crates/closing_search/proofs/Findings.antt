@@ -1,5 +1,5 @@
 -- What a search found, as a certificate that holds.
-use Rattle.std.proofs.Common.{◌≡◌, ℕ, ◌+◌, ◌^◌, ◌<◌, ◌≤◌, List, [], ◌∷◌, length, All, Option, None, Some, IsSome, IsNone, ◌⊎◌, is_some, true≢false, refl, sym, ap, subst, ◌∙◌, arith}
+use Rattle.std.proofs.Common.{◌≡◌, ℕ, ◌+◌, ◌^◌, ◌<◌, ◌≤◌, List, [], ◌∷◌, length, All, Option, None, Some, IsSome, IsNone, is_some, true≢false, refl, sym, ap, subst, ◌∙◌, arith}
 use Rattle.std.specs.List.{AllZip}
 use Rattle.std.proofs.lemmas.List.{length-map}
 use Rattle.std.proofs.lemmas.List.Elements.{All-nil, All-cons, All-weaker, All-map, All-contains_itself}
@@ -10,7 +10,7 @@ use Rattle.hub_spec.specs.Plans.{Plan, IsHubSet, IsSetCost, IsLeastRoute, IsPlan
 use Rattle.hub_spec.specs.Cuts.{IsCut}
 use Rattle.hub_spec.specs.Trees.{root, Tree, preorder, IsSound}
 use Rattle.hub_spec.specs.Certificates.{Holds}
-use Rattle.hub_spec.specs.Ranges.{IsCutInRange, IsLineInRange, IsSecond, IsInRange}
+use Rattle.hub_spec.specs.Ranges.{IsCutInRange, IsFirstLine, IsLineInRange, IsInRange}
 use Rattle.hub_spec.proofs.Commodities.{length_commodities}
 use Rattle.hub_spec.proofs.Limits.{AreNodes, few_candidates, hubs_are_nodes, least_route_nodes, plan_cost_limit}
 use Rattle.hub_spec.proofs.Preorders.{length-preorder}
@@ -19,18 +19,18 @@ use Rattle.hub_spec.proofs.WeakDuality.{no_plan_below_bound}
 use Rattle.plan_model.specs.Lines.{tree_line_of}
 use Rattle.search_spec.specs.States.{lesser}
 use Rattle.search_spec.specs.Findings.{AreWithin, IsSpent, IsEnough}
-use Rattle.search_spec.proofs.Bounds.{any_wanted}
 use Rattle.search_spec.proofs.Invariants.{lesser_least}
 use Rattle.tree_walks.specs.Walks.{Walks}
 use Rattle.tree_walks.proofs.Walking.{is_tree}
 use Rattle.kept_cuts.specs.Kept.{Kept, kept_cut, kept_cuts, IsKeptFor}
 use Rattle.kept_cuts.specs.declared.found.Found.{Found}
-use Rattle.kept_cuts.specs.Findings.{lines_of, proof_of, IsProved}
+use Rattle.kept_cuts.specs.Findings.{lines_of, proof_of, IsUnlimited, IsVersionFor, IsProved}
 use Rattle.kept_cuts.proofs.KeptCutLaws.{kept_is_cut, kept_in_range}
 use Rattle.kept_cuts.proofs.Versions.{has_text}
 use Rattle.search_core.specs.declared.tasks.Task.{Task}
 use Rattle.closing_search.specs.declared.progress.Progress.{Progress}
 use Rattle.closing_search.specs.Progressing.{target_of, IsGoing, IsOver}
+use Rattle.closing_search.proofs.Unlimited.{hub_set, any_wanted}
 
 -- the finding is what the search has at its end, with the least routes of the incumbent
 pub record IsFoundOf (t : Task) (s : Progress) (found : Found) : Type 0 where
@@ -84,7 +84,7 @@ module _ (t : Task) (s : Progress) (found : Found) (over : IsOver t s) (is : IsF
         candidates = refl;
         bound = found_within;
         plan = found_plan;
-        wanted = any_wanted p found.plan.hubs over.going.problem.any_number;
+        wanted = any_wanted p found.plan.hubs over.going.unlimited;
         cost = found_cost;
         cuts = All-map (IsCut p) (kept_cut p) found.cuts.cuts
             (All-weaker (IsKeptFor p) (λ (k : Kept). IsCut p (kept_cut p k)) (λ k fits. kept_is_cut p k over.going.problem fits)
@@ -92,7 +92,7 @@ module _ (t : Task) (s : Progress) (found : Found) (over : IsOver t s) (is : IsF
         tree = h.sound;
       }
 
-  found_in_range : (h : HasTree t.instance.now found) (version : ℕ) → (version ≡ 1) ⊎ IsSecond version
+  found_in_range : (h : HasTree t.instance.now found) (version : ℕ) → IsVersionFor t.instance.now version
       → IsInRange (proof_of version t.instance.now found h.tree)
   found_in_range h version there =
       let p = t.instance.now in
@@ -100,8 +100,10 @@ module _ (t : Task) (s : Progress) (found : Found) (over : IsOver t s) (is : IsF
       let cost = plan_cost_limit p found.plan ok found_plan in
       let nodes = least_route_nodes p found.plan.hubs (commodities p.size) found.plan.routes ok.limits found_set is.routes in
       let lines : All (IsLineInRange p.size) (lines_of found.tree.items) = rw is.lines over.going.in_range in
+      let first : All IsFirstLine (lines_of found.tree.items) = rw is.lines over.going.first_lines in
       record {
-        version = has_text p found h.tree version ok found_kept (sym h.lines) there;
+        version = has_text p found h.tree version ok found_kept
+            (λ any. subst (All IsFirstLine) (sym h.lines) first) there;
         some_node = ok.some_node;
         size = ok.size_limit;
         some_candidate = ok.some_candidate;
@@ -178,10 +180,15 @@ set_cost_within p hubs cost ok is =
 
 -- ---- the start
 
-pub all_set : (p : Problem) (hubs : List ℕ) → IsProblem p → hubs ≡ p.candidates → IsHubSet p hubs
-all_set p hubs ok same =
+pub all_set : (p : Problem) (hubs : List ℕ) → IsProblem p → IsUnlimited p → hubs ≡ p.candidates → IsHubSet p hubs
+all_set p hubs ok any same =
     subst (IsHubSet p) (sym same)
-    (record { some_hub = ok.some_candidate; ascend = ok.candidates_ascend; are_candidates = All-contains_itself p.candidates })
+    (hub_set p p.candidates any
+    (record {
+      some_hub = ok.some_candidate;
+      ascend = ok.candidates_ascend;
+      are_candidates = All-contains_itself p.candidates;
+    }))
 
 within_one : (n : Option ℕ) → AreWithin n 1
 within_one None = tt
@@ -191,18 +198,20 @@ no_stop : (o : Option ℕ) (n : Option ℕ) (made : ℕ) → o ≡ None → IsSo
 no_stop None n made none some = absurd (true≢false (sym some))
 no_stop (Some m) n made none some = absurd (true≢false (ap is_some none))
 
-pub begun_going : (t : Task) (s : Progress) → IsProblem t.instance.now
+pub begun_going : (t : Task) (s : Progress) → IsProblem t.instance.now → IsUnlimited t.instance.now
     → s.cuts ≡ record { cuts = []; totals = []; loads = [] } → s.lines.items ≡ [] → s.hubs ≡ t.instance.now.candidates
     → IsSetCost t.instance.now s.hubs s.cost → s.made ≡ 1 → s.stop ≡ None → IsGoing t s
-begun_going t s ok cuts lines hubs is_cost made stop =
+begun_going t s ok any cuts lines hubs is_cost made stop =
     let p = t.instance.now in
     record {
       problem = ok;
+      unlimited = any;
       kept = rw cuts (record { fit = All-nil (IsKeptFor p); are_totals = refl; are_loads = refl });
       few_cuts = rw cuts (omega arith);
       few_lines = rw lines (omega arith);
       in_range = rw lines (All-nil (IsLineInRange p.size));
-      hubs = all_set p s.hubs ok hubs;
+      first_lines = rw lines (All-nil IsFirstLine);
+      hubs = all_set p s.hubs ok any hubs;
       cost = is_cost;
       at_most = λ most is_most. omega (arith, one_set_cost p p.candidates s.cost most (subst (λ (hs : List ℕ). IsSetCost p hs s.cost) hubs is_cost) is_most);
       cost_limit = set_cost_within p s.hubs s.cost ok is_cost;

@@ -5,3 +5,4 @@ pub mod Choices
 pub mod SetLeaves
 pub mod Findings
 pub mod Walks
+pub mod Unlimited

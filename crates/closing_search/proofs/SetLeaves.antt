@@ -18,20 +18,24 @@ use Rattle.search_spec.proofs.Separated.{serves_reaches}
 use Rattle.value_cuts.specs.Values.{ValueRows, value_cut}
 use Rattle.value_cuts.proofs.ValueSums.{cut_is}
 use Rattle.kept_cuts.specs.Kept.{by_values, by_set}
+use Rattle.kept_cuts.specs.Findings.{IsUnlimited}
 use Rattle.closing_search.specs.declared.leaves.OrderedSet.{OrderedSet}
 use Rattle.closing_search.specs.SingleCuts.{AreLoads, ClosesBy, IsOrderedSet}
 use Rattle.closing_search.proofs.KeptSums.{kept_whole}
+use Rattle.closing_search.proofs.Unlimited.{hub_set}
 
-pub inside_set : (p : Problem) (b : Branching) → IsBranch p b → 1 ≤ length b.inside → IsHubSet p b.inside
-inside_set p b is some = record { some_hub = some; ascend = is.inside_ascends; are_candidates = is.inside_are }
+pub inside_set : (p : Problem) (b : Branching) → IsUnlimited p → IsBranch p b → 1 ≤ length b.inside
+    → IsHubSet p b.inside
+inside_set p b any is some =
+    hub_set p b.inside any (record { some_hub = some; ascend = is.inside_ascends; are_candidates = is.inside_are })
 
-reached_closes : (p : Problem) (cut : Cut) (hubs outside : List ℕ) (target : ℕ) → IsProblem p → cut.part ≡ 1
+reached_closes : (p : Problem) (cut : Cut) (hubs outside : List ℕ) (target : ℕ) → IsUnlimited p → cut.part ≡ 1
     → Reaches p target hubs cut → ClosesBy p cut target (record { inside = hubs; outside = outside; free = [] })
-reached_closes p cut hubs outside target ok whole reaches =
+reached_closes p cut hubs outside target any whole reaches =
     let b : Branching = record { inside = hubs; outside = outside; free = [] } in
     let whole_cut : AreWhole (cut ∷ []) =
     All-cons (λ (c : Cut). c.part ≡ 1) cut [] whole (All-nil (λ (c : Cut). c.part ≡ 1)) in
-    let bound = plain_bound p (cut ∷ []) denominator (whole_on 1) b ok.any_number in
+    let bound = plain_bound p (cut ∷ []) denominator (whole_on 1) b any.any_number in
     let gains = sum_of_gains denominator (fixed_cost p) (mixed_load (cut ∷ []) (whole_on 1)) hubs in
     let totals = whole_total (cut ∷ []) (whole_on 1) whole_cut in
     let loads = sum_by-same (mixed_load (cut ∷ []) (whole_on 1)) (λ k. denominator * load cut k) hubs
@@ -41,9 +45,10 @@ reached_closes p cut hubs outside target ok whole reaches =
     let opened = ap (λ (e : ℕ). e * opening_cost p hubs) whole in
     omega (arith, ints, bound, reaches.says, aim, opened, gains, totals, loads, scaled)
 
-set_closes : (p : Problem) (b : Branching) (hubs order : List ℕ) (cost target : ℕ) → IsProblem p → IsHubSet p hubs → IsOrder p hubs order
-    → hubs ≡ b.inside → b.free ≡ [] → IsSetCost p hubs cost → target ≤ cost → ClosesBy p (set_cut p hubs order) target b
-set_closes p b hubs order cost target ok set is_order same none is_cost less =
+set_closes : (p : Problem) (b : Branching) (hubs order : List ℕ) (cost target : ℕ) → IsProblem p → IsUnlimited p
+    → IsHubSet p hubs → IsOrder p hubs order → hubs ≡ b.inside → b.free ≡ [] → IsSetCost p hubs cost → target ≤ cost
+    → ClosesBy p (set_cut p hubs order) target b
+set_closes p b hubs order cost target ok any set is_order same none is_cost less =
     let cut = set_cut p hubs order in
     let reaches = serves_reaches p hubs cut cost (set_cut_serves p hubs order ok set is_order) is_cost in
     let lower : Reaches p target hubs cut = record {
@@ -52,7 +57,7 @@ set_closes p b hubs order cost target ok set is_order same none is_cost less =
     } in
     subst (λ (ks : List ℕ). ClosesBy p cut target (record b { free = ks })) (sym none)
     (subst (λ (ks : List ℕ). ClosesBy p cut target (record { inside = ks; outside = b.outside; free = [] })) same
-    (reached_closes p cut hubs b.outside target ok (kept_whole p (by_set hubs order)) lower))
+    (reached_closes p cut hubs b.outside target any (kept_whole p (by_set hubs order)) lower))
 
 -- the set costs the total of its cut, and what its hubs cost
 cost_by_sums : (p : Problem) (hubs order : List ℕ) (sum : ℕ) → IsProblem p → IsHubSet p hubs → IsOrder p hubs order
@@ -70,10 +75,11 @@ inside_cost p q b inside order loads sum same same_order ok is are =
     ∙ ap (λ (x : Problem). total (set_cut x inside.set inside.order.items)) same))
 
 -- the cut of the hubs closes what is not above their cost
-pub inside_closes : (p : Problem) (b : Branching) (inside : OrderedSet) (cost target : ℕ) → IsProblem p → IsOrderedSet p b inside → b.free ≡ []
-    → IsSetCost p b.inside cost → target ≤ cost → ClosesBy p (set_cut p inside.set inside.order.items) target b
-inside_closes p b inside cost target ok is none is_cost less =
-    set_closes p b inside.set inside.order.items cost target ok is.is_set is.is_order is.hubs none
+pub inside_closes : (p : Problem) (b : Branching) (inside : OrderedSet) (cost target : ℕ) → IsProblem p
+    → IsUnlimited p → IsOrderedSet p b inside → b.free ≡ [] → IsSetCost p b.inside cost → target ≤ cost
+    → ClosesBy p (set_cut p inside.set inside.order.items) target b
+inside_closes p b inside cost target ok any is none is_cost less =
+    set_closes p b inside.set inside.order.items cost target ok any is.is_set is.is_order is.hubs none
     (subst (λ (hs : List ℕ). IsSetCost p hs cost) (sym is.hubs) is_cost) less
 
 -- ---- the sums as they are worked out

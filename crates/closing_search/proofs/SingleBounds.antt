@@ -134,16 +134,16 @@ on_cut p cut m on =
 
 -- the bound by these weights, as they are lent
 lent_bound : (p : Problem) (cuts : List Cut) (m : lent.Weighting) (ws : List ℤ) (b : Branching) → IsProblem p
-    → IsBranch p b → IsWeightingOf p cuts (weighting_of m) → m.weights.now ≡ ws → m.denom ≡ pos denominator
-    → bound_of (weighting_of m) b ≡ leaf_bound p cuts denominator (weight_pairs (naturals ws)) b
-lent_bound p cuts m ws b ok is on weights denom =
-    sym (leaf_has_bound p cuts (weighting_of m) b ok.any_number on (below_size p b ok is))
+    → p.wanted ≡ None → IsBranch p b → IsWeightingOf p cuts (weighting_of m) → m.weights.now ≡ ws
+    → m.denom ≡ pos denominator → bound_of (weighting_of m) b ≡ leaf_bound p cuts denominator (weight_pairs (naturals ws)) b
+lent_bound p cuts m ws b ok any is on weights denom =
+    sym (leaf_has_bound p cuts (weighting_of m) b any on (below_size p b ok is))
     ∙ ap₂ (λ (d : ℕ) (xs : List ℤ). leaf_bound p cuts d (weight_pairs (naturals xs)) b) (ap natural denom) weights
 
-pub cut_bound_is : (p : Problem) (cut : Cut) (m : lent.Weighting) (b : Branching) → IsProblem p → IsBranch p b
-    → IsOnCut p cut m → bound_of (weighting_of m) b ≡ cut_bound p cut b
-cut_bound_is p cut m b ok is on =
-    lent_bound p (cut ∷ []) m (pos denominator ∷ []) b ok is (on_cut p cut m on) on.weights_are on.denom_is
+pub cut_bound_is : (p : Problem) (cut : Cut) (m : lent.Weighting) (b : Branching) → IsProblem p → p.wanted ≡ None
+    → IsBranch p b → IsOnCut p cut m → bound_of (weighting_of m) b ≡ cut_bound p cut b
+cut_bound_is p cut m b ok any is on =
+    lent_bound p (cut ∷ []) m (pos denominator ∷ []) b ok any is (on_cut p cut m on) on.weights_are on.denom_is
 
 on_none : (p : Problem) (m : lent.Weighting) → IsOnNone p m → IsWeightingOf p [] (weighting_of m)
 on_none p m on = record {
@@ -154,9 +154,10 @@ on_none p m on = record {
   few_weights = omega (arith, length-map m.weights.now natural, ap length on.weights_are);
 }
 
-pub none_bound_is : (p : Problem) (m : lent.Weighting) (b : Branching) → IsProblem p → IsBranch p b → IsOnNone p m
+pub none_bound_is : (p : Problem) (m : lent.Weighting) (b : Branching) → IsProblem p → p.wanted ≡ None → IsBranch p b
+    → IsOnNone p m
     → bound_of (weighting_of m) b ≡ leaf_bound p [] denominator [] b
-none_bound_is p m b ok is on = lent_bound p [] m [] b ok is (on_none p m on) on.weights_are on.denom_is
+none_bound_is p m b ok any is on = lent_bound p [] m [] b ok any is (on_none p m on) on.weights_are on.denom_is
 
 -- ---- the bound by no cut is not below 0
 

@@ -7,7 +7,7 @@ use Rattle.hub_spec.specs.Problem.{Problem}
 use Rattle.hub_spec.specs.Plans.{IsHubSet, IsSetCost}
 use Rattle.hub_spec.specs.Cuts.{Cut}
 use Rattle.hub_spec.specs.Trees.{Branching, root, open_child, closed_child, TreeLine, branch_on}
-use Rattle.hub_spec.specs.Ranges.{IsLineInRange}
+use Rattle.hub_spec.specs.Ranges.{IsFirstLine, IsLineInRange}
 use Rattle.plan_model.specs.declared.tree_lines.TreeLine as model
 use Rattle.plan_model.specs.Lines.{tree_line_of}
 use Rattle.search_spec.specs.States.{lesser}
@@ -56,15 +56,19 @@ spent_on None made more less spent = spent
 spent_on (Some most) made more less spent = omega (arith, less, spent)
 
 line_going : (t : Task) (before after : Progress) (line : model.TreeLine) (count : ℕ) → IsGoing t before → HasLine before after line count
-    → length after.lines.items ≤ most_tree_lines → IsLineInRange t.instance.now.size (tree_line_of line) → before.made ≤ count
+    → length after.lines.items ≤ most_tree_lines → IsLineInRange t.instance.now.size (tree_line_of line)
+    → IsFirstLine (tree_line_of line) → before.made ≤ count
     → count ≤ before.made + 2 → AreWithin t.nodes count → IsGoing t after
-line_going t before after line count going has few in_range more less within = record {
+line_going t before after line count going has few in_range first more less within = record {
   problem = going.problem;
+  unlimited = going.unlimited;
   kept = subst (AreKeptFor t.instance.now) (sym has.cuts) going.kept;
   few_cuts = rw has.cuts going.few_cuts;
   few_lines = few;
   in_range = rw (has.lines, map_push tree_line_of before.lines.items line)
       (All-push (IsLineInRange t.instance.now.size) (lines_of before.lines.items) (tree_line_of line) going.in_range in_range);
+  first_lines = rw (has.lines, map_push tree_line_of before.lines.items line)
+      (All-push IsFirstLine (lines_of before.lines.items) (tree_line_of line) going.first_lines first);
   hubs = rw has.hubs going.hubs;
   cost = rw (has.hubs, has.cost) going.cost;
   at_most = rw has.cost going.at_most;
@@ -77,12 +81,14 @@ line_going t before after line count going has few in_range more less within = r
 
 pub line_done : (t : Task) (b : Branching) (before after : Progress) (line : model.TreeLine) → IsGoing t before → IsEndLine (tree_line_of line)
     → IsSoundLine t.instance.now (cuts_of t.instance.now before) (target_of before) b (tree_line_of line)
-    → IsLineInRange t.instance.now.size (tree_line_of line) → length after.lines.items ≤ most_tree_lines
+    → IsLineInRange t.instance.now.size (tree_line_of line) → IsFirstLine (tree_line_of line)
+    → length after.lines.items ≤ most_tree_lines
     → HasLine before after line before.made → IsDone t b before after
-line_done t b before after line going end sound in_range few has =
+line_done t b before after line going end sound in_range first few has =
     let p = t.instance.now in
     record {
-      going = line_going t before after line before.made going has few in_range (omega arith) (omega arith) going.allowed;
+      going = line_going t before after line before.made going has few in_range first (omega arith) (omega arith)
+          going.allowed;
       walks = λ first pending walks. subst (WalksTo p after first) (end b pending)
           (line_walks p before after line before.made b first pending has sound walks);
       lines = omega (arith, line_more before after line before.made has, has.made);
@@ -98,7 +104,9 @@ line_halved t b k before after line going is sound node within few has =
     let p = t.instance.now in
     record {
       free = sound;
-      going = line_going t before after line (before.made + 2) going has few (subst (IsLineInRange p.size) (sym is) node) (omega arith) (omega arith) within;
+      going = line_going t before after line (before.made + 2) going has few
+          (subst (IsLineInRange p.size) (sym is) node) (subst IsFirstLine (sym is) tt)
+          (omega arith) (omega arith) within;
       walks = λ first pending walks. subst (λ (l : TreeLine). WalksTo p after first (filled b l pending)) is
           (line_walks p before after line (before.made + 2) b first pending has
           (subst (IsSoundLine p (cuts_of p before) (target_of before) b) (sym is) sound) walks);
@@ -159,10 +167,12 @@ offer_at t before after going has set is_cost =
     record {
       going = record {
         problem = going.problem;
+        unlimited = going.unlimited;
         kept = subst (AreKeptFor p) (sym has.cuts) going.kept;
         few_cuts = rw has.cuts going.few_cuts;
         few_lines = rw has.lines going.few_lines;
         in_range = rw has.lines going.in_range;
+        first_lines = rw has.lines going.first_lines;
         hubs = set;
         cost = is_cost;
         at_most = λ most is_most. omega (arith, has.cost, going.at_most most is_most);
@@ -198,10 +208,12 @@ cut_at_step t before after cut sum loads going has fits sums few =
     record {
       going = record {
         problem = going.problem;
+        unlimited = going.unlimited;
         kept = kept_more p before.cuts after.cuts cut sum loads going.kept fits sums has.cuts;
         few_cuts = rw has.cuts (omega (arith, length_push before.cuts.cuts cut, few));
         few_lines = rw has.lines going.few_lines;
         in_range = rw has.lines going.in_range;
+        first_lines = rw has.lines going.first_lines;
         hubs = rw has.hubs going.hubs;
         cost = rw (has.hubs, has.cost) going.cost;
         at_most = rw has.cost going.at_most;
@@ -224,10 +236,12 @@ pub stop_going : (t : Task) (before : Progress) (low : ℕ) → IsGoing t before
     → IsGoing t (record before { stop = Some low })
 stop_going t before low going spent = record {
   problem = going.problem;
+  unlimited = going.unlimited;
   kept = going.kept;
   few_cuts = going.few_cuts;
   few_lines = going.few_lines;
   in_range = going.in_range;
+  first_lines = going.first_lines;
   hubs = going.hubs;
   cost = going.cost;
   at_most = going.at_most;

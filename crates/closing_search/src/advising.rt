@@ -9,7 +9,7 @@ use crate::progress::{Progress, offer};
 use crate::walker::Walker;
 use assign_sub::set_cost;
 use hub_model::{signed, unsigned};
-use hub_plain::is_hub_set;
+use hub_plain::is_candidate_set;
 use plan_model::{Branch, HubSet};
 use search_advice::Advice;
 use search_core::Task;
@@ -110,7 +110,8 @@ fn most_passes(branch: &Branch) -> u32 {
     }
 }
 
-// Makes the nodes the incumbent, if they are a hub set and cost less.
+// Makes the nodes the incumbent, if they are a set of candidates and cost less. No route is forbidden, so that any
+// candidates will do.
 fn offer_nodes(
     alloc: Global,
     task: &Task,
@@ -120,7 +121,7 @@ fn offer_nodes(
     requires { IsGoing task.now progress.old }
     ensures { OnOk result (IsAt task.now progress.old progress.new) }
 {
-    if !is_hub_set(task.instance, hubs) {
+    if !is_candidate_set(task.instance, hubs) {
         return Ok(());
     }
     let set = HubSet::of(alloc, hubs)?;

@@ -1,6 +1,6 @@
 //! The bound of one cut alone.
 
-ghost use Rattle.std.specs.Prelude.{◌≡◌, ◌≤◌, [], map, length, IsTrue, IfOk};
+ghost use Rattle.std.specs.Prelude.{◌≡◌, ◌≤◌, [], map, length, None, IsTrue, IfOk};
 ghost use Rattle.hub_spec.specs.Problem.{IsProblem};
 ghost use Rattle.hub_spec.specs.Cuts.{Cut};
 ghost use Rattle.hub_spec.specs.Trees.{IsBranch, leaf_bound, cut_at, Closes};
@@ -62,6 +62,7 @@ fn bare_weighting<'a>(instance: &'a Instance) -> Weighting<'a>
 
 /// The bound of the branch by no cut.
 pub(crate) fn bare_bound(instance: &Instance, branch: &Branch) -> i128
+    requires any_number { instance.now.wanted ≡ None }
     requires branch { IsBranch instance.now branch.now }
     ensures bound { result ≡ leaf_bound instance.now [] denominator [] branch.now }
     ensures limit { IsWithin most_bound result }

@@ -9,6 +9,7 @@ ghost use Rattle.plan_model.specs.Lines.{tree_line_of};
 ghost use Rattle.leaf_bound.specs.Weighing.{most_bound, IsWithin};
 ghost use Rattle.search_spec.specs.States.{denominator};
 ghost use Rattle.search_spec.specs.Findings.{IsSpent};
+ghost use Rattle.kept_cuts.specs.Findings.{IsUnlimited};
 ghost use Rattle.closing_search.specs.Progressing.{cuts_of, target_of, IsGoing, IsAt, IsDone};
 ghost use Rattle.closing_search.specs.Walking.{IsWalking, IsSameWalk};
 ghost use Rattle.closing_search.specs.SingleCuts.{ClosesBy, weights_on, IsChoice, IsOrderedSet};
@@ -116,6 +117,7 @@ pub(crate) struct OrderedSet {
 }
 
 fn ordered_set(alloc: Global, task: &Task, branch: &Branch) -> Result<OrderedSet, AllocError>
+    requires unlimited { IsUnlimited task.now.instance.now }
     requires branch { IsBranch task.now.instance.now branch.now }
     requires some_inside { 1 ≤ length branch.now.inside }
     ensures { IfOk result (IsOrderedSet task.now.instance.now branch.now) }

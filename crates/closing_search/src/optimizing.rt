@@ -6,7 +6,7 @@ ghost use Rattle.hub_spec.specs.Problem.{commodities};
 ghost use Rattle.hub_spec.specs.Plans.{IsSetCost, IsLeastRoute, NoPlanBelow};
 ghost use Rattle.hub_spec.specs.Trees.{root};
 ghost use Rattle.search_spec.specs.Findings.{AreWithin, IsSpent, IsEnough};
-ghost use Rattle.kept_cuts.specs.Findings.{IsProved};
+ghost use Rattle.kept_cuts.specs.Findings.{IsUnlimited, IsProved};
 ghost use Rattle.closing_search.specs.Progressing.{IsGoing, IsDone, IsOver};
 
 use crate::progress::{Progress, target};
@@ -20,9 +20,10 @@ use search_core::Task;
 use std::alloc::{AllocError, Global};
 use std::thread::Threads;
 
-/// A plan with the cuts and the tree that bound what any plan costs. `nodes` is the most nodes of the tree, the root among
-/// them; with `None` they are not limited. The routes are least ones through the hubs of the plan, and it costs at most
-/// what all candidates as hubs cost, since the search begins with them.
+/// A plan with the cuts and the tree that bound what any plan costs, where no length of routes is limited and any
+/// number of hubs will do. `nodes` is the most nodes of the tree, the root among them; with `None` they are not
+/// limited. The routes are least ones through the hubs of the plan, and it costs at most what all candidates as hubs
+/// cost, since the search begins with them.
 ///
 /// Only where two nodes more are not allowed the search stops, and then the bound may be below the cost. Else both are
 /// equal and the plan is optimal. So many nodes as a whole tree has, 2^(q + 1) - 1 for q candidates, are always enough.
@@ -39,6 +40,8 @@ pub fn optimize<R: Threads + Sync, A: Advice + Drop>(
     nodes: Option<u64>,
     advice: A,
 ) -> Result<Found, AllocError>
+    requires any_length { instance.now.longest ≡ None }
+    requires any_number { instance.now.wanted ≡ None }
     ensures proved { IfOk result (IsProved instance.now) }
     ensures routes { IfOk result (λ found. AllZip (IsLeastRoute instance.now found.plan.hubs) (commodities instance.now.size) found.plan.routes) }
     ensures at_most { IfOk result (λ found. (cost : ℕ) → IsSetCost instance.now instance.now.candidates cost → found.cost ≤ cost) }
@@ -76,6 +79,7 @@ fn fill_tree<'a, R: Threads + Sync, A: Advice + Drop>(
 
 // No cut and no line, with the set of all candidates as the first incumbent.
 fn begin(alloc: Global, task: &Task) -> Result<Progress, AllocError>
+    requires { IsUnlimited task.now.instance.now }
     ensures going { IfOk result (IsGoing task.now) }
     ensures no_line { IfOk result (λ s. s.lines.items ≡ []) }
     ensures one_node { IfOk result (λ s. s.made ≡ 1) }

@@ -3,7 +3,7 @@
 ghost use Rattle.std.specs.Prelude.{◌≡◌, ◌+◌, ◌≤◌, IsTrue, false, Contains, OnOk};
 ghost use Rattle.hub_spec.specs.Plans.{IsHubSet, IsSetCost};
 ghost use Rattle.hub_spec.specs.Trees.{IsBranch};
-ghost use Rattle.hub_spec.specs.Ranges.{IsLineInRange};
+ghost use Rattle.hub_spec.specs.Ranges.{IsFirstLine, IsLineInRange};
 ghost use Rattle.plan_model.specs.Lines.{tree_line_of};
 ghost use Rattle.search_spec.specs.Findings.{AreWithin, IsSpent};
 ghost use Rattle.tree_walks.specs.Walks.{IsSoundLine};
@@ -44,6 +44,7 @@ pub(crate) fn end_with(
     requires end { IsEndLine (tree_line_of line) }
     requires sound { IsSoundLine task.now.instance.now (cuts_of task.now.instance.now progress.old) (target_of progress.old) branch.now (tree_line_of line) }
     requires in_range { IsLineInRange task.now.instance.now.size (tree_line_of line) }
+    requires first { IsFirstLine (tree_line_of line) }
     ensures { OnOk result (IsDone task.now branch.now progress.old progress.new) }
 {
     add_line(&mut progress.lines, line)?;

@@ -19,4 +19,4 @@ returns-clause-bound c =
     let fits : FitsSigned w128 c.bound.result = search rules in
     to_z-of_z w128 c.bound.result fits ∙ c.bound.ensures.value
     ∙ none_bound_is c.args.instance.now c.bare_weighting.result c.args.branch.now c.bare_weighting.ensures.problem
-    c.requires.branch c.bare_weighting.ensures.lent
+    c.requires.any_number c.requires.branch c.bare_weighting.ensures.lent

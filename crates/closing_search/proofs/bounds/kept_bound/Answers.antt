@@ -48,4 +48,5 @@ returns-clause-bound c =
     let fits : FitsSigned w128 c.bound.result = search rules in
     to_z-of_z w128 c.bound.result fits ∙ c.bound.ensures.value
     ∙ cut_bound_is c.args.task.now.instance.now _ c.cut_weighting.result c.args.branch.now
-    c.requires.going.problem c.requires.branch (on_cut (goal.at.returns-clause-bound c).After-cut_weighting)
+    c.requires.going.problem c.requires.going.unlimited.any_number c.requires.branch
+    (on_cut (goal.at.returns-clause-bound c).After-cut_weighting)

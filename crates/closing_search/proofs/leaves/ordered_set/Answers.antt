@@ -9,6 +9,7 @@ returns c =
     let same = c.in_ok-set.ensures ∙ c.inside.ensures.value in
     record {
       hubs = same;
-      is_set = subst (IsHubSet p) (sym same) (inside_set p c.args.branch.now c.requires.branch c.requires.some_inside);
+      is_set = subst (IsHubSet p) (sym same)
+          (inside_set p c.args.branch.now c.requires.unlimited c.requires.branch c.requires.some_inside);
       is_order = c.in_ok-order.ensures.order;
     }

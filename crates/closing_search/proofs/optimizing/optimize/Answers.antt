@@ -1,9 +1,15 @@
-use Rattle.std.proofs.Common.{◌≤◌, subst}
+use Rattle.std.proofs.Common.{◌≤◌, sym, subst}
 use Rattle.std.specs.Prelude.{ℕ, IfOk}
 use Rattle.hub_spec.specs.Problem.{Problem}
 use Rattle.hub_spec.specs.Plans.{IsSetCost, NoPlanBelow}
+use Rattle.kept_cuts.specs.Findings.{IsUnlimited}
 use Rattle.closing_search.proofs.Steps.{is_over}
 use Rattle.closing_search.proofs.optimizing.optimize.Goals as goal
+
+pub begin-requires : goal.begin-requires
+begin-requires g c =
+    subst IsUnlimited (sym c.new-task.ensures.instance)
+    (record { any_length = c.requires.any_length; any_number = c.requires.any_number })
 
 pub finish-requires : goal.finish-requires
 finish-requires g c =

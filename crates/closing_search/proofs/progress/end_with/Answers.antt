@@ -6,4 +6,5 @@ pub returns : goal.returns
 returns c =
     let added = c.in_ok-add_line.ensures in
     line_done c.args.task.now c.args.branch.now c.args.progress.now _ c.args.line c.requires.going c.requires.end c.requires.sound c.requires.in_range
-    added.few (record { cuts = refl; lines = added.added; hubs = refl; cost = refl; made = refl; stop = refl })
+    c.requires.first added.few
+    (record { cuts = refl; lines = added.added; hubs = refl; cost = refl; made = refl; stop = refl })

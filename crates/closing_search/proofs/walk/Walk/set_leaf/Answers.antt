@@ -13,7 +13,9 @@ use Rattle.closing_search.proofs.SetLeaves.{inside_set, inside_cost, inside_clos
 use Rattle.closing_search.proofs.walk.Walk.set_leaf.Goals as goal
 
 pub offer_inside-requires-clause-set : goal.offer_inside-requires-clause-set
-offer_inside-requires-clause-set c = inside_set c.args.self.now.task.now.instance.now c.args.branch.now c.requires.branch c.requires.some_inside
+offer_inside-requires-clause-set c =
+    inside_set c.args.self.now.task.now.instance.now c.args.branch.now c.requires.walking.going.unlimited
+    c.requires.branch c.requires.some_inside
 
 pub offer_inside-requires-clause-total : goal.offer_inside-requires-clause-total
 offer_inside-requires-clause-total c = total_within _ _ c.set_sums-total.result _ c.set_sums-total.ensures.sums
@@ -40,7 +42,8 @@ cut_leaf-requires-clause-closes c =
     subst (λ (t : Task). ClosesBy t.instance.now (cut_at (cuts_of t.instance.now after) c.in_ok-number.number) (target_of after) b)
     (sym c.in_ok-number.ensures.same.task)
     (subst (λ (cut : Cut). ClosesBy p cut (target_of after) b) (sym c.in_ok-number.ensures.cut)
-    (inside_closes p b c.in_ok-inside.inside cost (target_of after) c.requires.walking.going.problem c.in_ok-inside.ensures c.requires.none_free is_cost low))
+    (inside_closes p b c.in_ok-inside.inside cost (target_of after) c.requires.walking.going.problem
+    c.requires.walking.going.unlimited c.in_ok-inside.ensures c.requires.none_free is_cost low))
 
 pub returns-clause-done : goal.returns-clause-done
 returns-clause-done c =

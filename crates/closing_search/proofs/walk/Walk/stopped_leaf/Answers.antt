@@ -10,7 +10,7 @@ use Rattle.hub_spec.specs.Trees.{Closes, leaf_bound}
 use Rattle.search_spec.specs.States.{denominator}
 use Rattle.closing_search.specs.SingleCuts.{weights_on}
 use Rattle.closing_search.specs.Progressing.{cuts_of, IsDone}
-use Rattle.closing_search.proofs.Choices.{leaf_sound, leaf_in_range, stop_closes, number_in}
+use Rattle.closing_search.proofs.Choices.{leaf_sound, leaf_in_range, leaf_is_first, stop_closes, number_in}
 use Rattle.closing_search.proofs.Steps.{stop_going, stop_done}
 use Rattle.closing_search.proofs.walk.Walk.stopped_leaf.Goals as goal
 
@@ -33,7 +33,7 @@ end_with-requires-clause-sound c =
     let closes = subst (λ (low : ℕ). Closes denominator (lesser s.cost (Some low)) (leaf_bound p cuts denominator (weights_on choice.number) b))
     (sym c.lesser.ensures) (stop_closes p cuts b choice s.cost c.rounded_up.result s.stop is up) in
     leaf_sound p s.cuts.cuts (lesser s.cost (Some c.lesser.result)) b choice.number (tree_line_of c.in_ok-line.line)
-    c.requires.going.problem (number_in p cuts b choice is) c.in_ok-line.ensures closes
+    c.requires.going.unlimited (number_in p cuts b choice is) c.in_ok-line.ensures closes
 
 pub end_with-requires-clause-in_range : goal.end_with-requires-clause-in_range
 end_with-requires-clause-in_range c =
@@ -43,6 +43,10 @@ end_with-requires-clause-in_range c =
     leaf_in_range p.size (cuts_of p s) choice.number (tree_line_of c.in_ok-line.line)
     (omega (arith, length-map s.cuts.cuts (kept_cut p), c.requires.going.few_cuts))
     (number_in p (cuts_of p s) c.args.branch.now choice c.best_choice-choice.ensures.choice) c.in_ok-line.ensures
+
+pub end_with-requires-clause-first : goal.end_with-requires-clause-first
+end_with-requires-clause-first c =
+    leaf_is_first c.best_choice-choice.result.number (tree_line_of c.in_ok-line.line) c.in_ok-line.ensures
 
 pub returns-clause-done : goal.returns-clause-done
 returns-clause-done c =

@@ -53,7 +53,8 @@ returns c cut are above =
     let t = c.args.self.now.task.now in
     let bound = c.bound.ensures.value
     ∙ cut_bound_is t.instance.now cut c.cut_weighting-weighting.result c.args.branch.now
-    c.requires.going.problem c.requires.branch (on_cut (goal.at.returns c).After-cut_weighting-weighting cut are) in
+    c.requires.going.problem c.requires.going.unlimited.any_number c.requires.branch
+    (on_cut (goal.at.returns c).After-cut_weighting-weighting cut are) in
     let fits : FitsSigned w128 c.bound.result = search rules in
     let same = to_z-of_z w128 c.bound.result fits in
     let target = c.target.ensures in
