@@ -3,7 +3,7 @@ use Rattle.std.proofs.Common.{◌≡◌, ℕ, ◌+◌, ◌≤◌, List, [], ◌�
 use Rattle.std.proofs.lemmas.List.{length-map, length_push}
 use Rattle.hub_spec.specs.Problem.{Problem}
 use Rattle.hub_spec.specs.Plans.{IsHubSet}
-use Rattle.hub_spec.specs.Trees.{Branching, IsBranch, Tree, TreeLine, preorder}
+use Rattle.hub_spec.specs.Trees.{Branching, IsBranch, HasRoom, Tree, TreeLine, preorder}
 use Rattle.plan_model.specs.declared.tree_lines.TreeLine as model
 use Rattle.plan_model.specs.Lines.{tree_line_of}
 use Rattle.search_spec.specs.States.{State, Grown}
@@ -84,6 +84,10 @@ going_as t u s same going = subst (λ (x : Task). IsGoing x s) (sym same) going
 
 pub branch_as : (t u : Task) (b : Branching) → u ≡ t → IsBranch t.instance.now b → IsBranch u.instance.now b
 branch_as t u b same is = subst (λ (x : Task). IsBranch x.instance.now b) (sym same) is
+
+-- so it is with the room that a branch has
+pub room_as : (t u : Task) (b : Branching) → u ≡ t → HasRoom t.instance.now.wanted b → HasRoom u.instance.now.wanted b
+room_as t u b same room = subst (λ (x : Task). HasRoom x.instance.now.wanted b) (sym same) room
 
 -- the stop may have been another before
 pub line_after_stop : (before after : Progress) (line : TreeLine) (made : ℕ) (other stop : Option ℕ) → HasLine (record before { stop = other }) after line made stop

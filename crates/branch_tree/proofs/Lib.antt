@@ -1,3 +1,4 @@
+pub mod FirstLines
 pub mod FoundCertificates
 pub mod KeptPools
 pub mod SetNumbers

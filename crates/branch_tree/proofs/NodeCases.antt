@@ -1,27 +1,26 @@
 -- What the rule does at a branch, by the tests that the code makes.
-use Rattle.std.proofs.Common.{◌≡◌, ℕ, zero, suc, ◌+◌, ◌-◌, ◌≤◌, true, false, List, [], ◌∷◌, length, Option, Some, None, is_some, Vec, Global, refl, ap, ap₂, sym, ◌∙◌, arith}
+use Rattle.std.proofs.Common.{◌≡◌, ℕ, zero, suc, ◌+◌, ◌-◌, ◌≤◌, true, false, List, [], ◌∷◌, length, Contains, Option, Some, None, is_some, Vec, Global, refl, ap, ap₂, sym, ◌∙◌, arith}
 use Rattle.std.specs.Prelude.{option_map}
 use Rattle.std.proofs.lemmas.Option.{same_Some, none-some}
 use Rattle.hub_spec.specs.Problem.{Problem, IsProblem}
 use Rattle.hub_spec.specs.Plans.{IsHubSet}
-use Rattle.hub_spec.specs.Trees.{Branching, root, open_child, closed_child, IsBranch, Tree, branch, TreeLine, preorder}
+use Rattle.hub_spec.specs.Trees.{Branching, root, open_child, closed_child, IsBranch, HasRoom, Tree, branch, TreeLine, preorder}
 use Rattle.hub_spec.proofs.SumLemmas.{by_test}
 use Rattle.plan_model.specs.declared.tree_lines.TreeLine as model
 use Rattle.plan_model.specs.Lines.{tree_line_of}
 use Rattle.search_spec.specs.States.{State, Advice, Parts, Handling, is_stopped}
 use Rattle.search_spec.specs.Steps as steps
-use Rattle.search_spec.specs.Steps.{bound_at, closes_at, may_split, two_more, child_on, with_leaf, stopped_leaf, full_on, ended, halved, fixed, parted, handled, round, rounds, after_rounds, node, searched, begun}
+use Rattle.search_spec.specs.Steps.{bound_at, closes_at, may_split, two_more, child_on, with_leaf, stopped_leaf, full_on, ended, halved, fixed, parted, handled, round, rounds, after_rounds, node, searched, stays_open, stays_closed}
 use Rattle.search_spec.specs.Laws.{GoesOn}
-use Rattle.search_spec.specs.Choices.{rule_parts, rule, nearest_half}
-use Rattle.search_spec.proofs.Bounds.{any_room}
-use Rattle.search_spec.proofs.StepCases.{rounds_over, rounds_more, node_is, handled_barren, handled_stopped, handled_full, handled_on, explored_is, parted_only, parted_full, parted_split, halved_is, fixed_none, fixed_only, fixed_full, fixed_one}
+use Rattle.search_spec.specs.Choices.{rule_parts, rule, begun_for, nearest_half}
+use Rattle.search_spec.proofs.StepCases.{rounds_over, rounds_more, node_is, handled_barren, handled_stopped, handled_blocked, handled_full, handled_on, explored_is, parted_only, parted_full, parted_split, halved_is, fixed_none, fixed_only, fixed_full, fixed_one}
 use Rattle.search_steps.specs.Pools.{InEachStateAt}
 use Rattle.search_core.specs.declared.tasks.Task.{Task}
 use Rattle.branch_tree.specs.declared.progress.Progress.{Progress}
 use Rattle.branch_tree.specs.Findings.{found_by}
 use Rattle.search_steps.specs.Advising.{parts_of}
+use Rattle.search_steps.proofs.RuleChoices.{parts_sound, room_when}
 use Rattle.branch_tree.specs.Progressing.{handling, state_of}
-use Rattle.branch_tree.proofs.FoundCertificates.{parts_sound}
 
 -- ---- the ends of branches
 
@@ -58,22 +57,24 @@ pub told_none_alone : (only : Option (List ℕ)) (told : Option (Vec ℕ Global)
     → option_map (λ (v : Vec ℕ Global). v.items) told ≡ only → told ≡ None → only ≡ None
 told_none_alone only told is known = sym is ∙ ap (option_map (λ (v : Vec ℕ Global). v.items)) known
 
-blocked_none : (p : Problem) (b : Branching) → (parts_of p).blocked b ≡ None
-unfolding rule_parts
-blocked_none p b = refl
+pub goes_on : (p : Problem) (b : Branching) → (parts_of p).barren b ≡ None → (parts_of p).blocked b ≡ None → (parts_of p).only b ≡ None
+    → GoesOn (parts_of p) b
+goes_on p b barren blocked only = record { barren = barren; blocked = blocked; only = only }
 
-pub goes_on : (p : Problem) (b : Branching) → (parts_of p).barren b ≡ None → (parts_of p).only b ≡ None → GoesOn (parts_of p) b
-goes_on p b barren only = record { barren = barren; blocked = blocked_none p b; only = only }
+-- a node is free where no set is left alone, and both children on it have room
+pub some_free : (p : Problem) (b : Branching) → IsProblem p → IsBranch p b → HasRoom p.wanted b → (parts_of p).only b ≡ None → 1 ≤ length b.free
+some_free p b ok is_branch room only = (parts_sound p ok).some_free b is_branch room only
 
--- a node is free where no set is left alone
-pub some_free : (p : Problem) (b : Branching) → IsProblem p → IsBranch p b → (parts_of p).only b ≡ None → 1 ≤ length b.free
-some_free p b ok is_branch only = (parts_sound p ok).some_free b is_branch (any_room p b ok.any_number) only
+pub child_room : (p : Problem) (side : steps.Side) (b : Branching) (k : ℕ) → IsProblem p → IsBranch p b → HasRoom p.wanted b → (parts_of p).only b ≡ None
+    → Contains b.free k → HasRoom p.wanted (child_on side b k)
+child_room p stays_open b k ok is_branch room only free = ((parts_sound p ok).rooms b k is_branch room only free).0
+child_room p stays_closed b k ok is_branch room only free = ((parts_sound p ok).rooms b k is_branch room only free).1
 
 -- the set that is left alone, in a branch with no end
-pub alone_is_set : (p : Problem) (b : Branching) (set : List ℕ) → IsProblem p → IsBranch p b → (parts_of p).barren b ≡ None → (parts_of p).only b ≡ Some set
-    → IsHubSet p set
-alone_is_set p b set ok is_branch barren only =
-    ((parts_sound p ok).only b set is_branch (any_room p b ok.any_number) barren (blocked_none p b) only).is_set
+pub alone_is_set : (p : Problem) (b : Branching) (set : List ℕ) → IsProblem p → IsBranch p b → (parts_of p).barren b ≡ None → (parts_of p).blocked b ≡ None
+    → (parts_of p).only b ≡ Some set → IsHubSet p set
+alone_is_set p b set ok is_branch barren blocked only =
+    ((parts_sound p ok).only b set is_branch (room_when p b barren) barren blocked only).is_set
 
 -- ---- a branch whose children are handled
 
@@ -96,12 +97,19 @@ node_stopped t depth b w s some barren stopped =
     let p = t.instance.now in
     sym (handled_stopped p (parts_of p) t.nodes (handling t (depth - 1)) b w s barren stopped) ∙ node_at t depth b w s some
 
-pub node_full : (t : Task) (depth : ℕ) (b : Branching) (w : List (ℕ × ℕ)) (s : State) (set : List ℕ) → 1 ≤ depth
-    → (parts_of t.instance.now).barren b ≡ None → is_stopped s ≡ false → (parts_of t.instance.now).only b ≡ Some set
-    → full_on (parts_of t.instance.now) set s ≡ handling t depth b w s
-node_full t depth b w s set some barren going only =
+pub node_blocked : (t : Task) (depth : ℕ) (b : Branching) (w : List (ℕ × ℕ)) (s : State) (tree : Tree) → 1 ≤ depth
+    → (parts_of t.instance.now).barren b ≡ None → is_stopped s ≡ false → (parts_of t.instance.now).blocked b ≡ Some tree
+    → record { state = s; tree = tree } ≡ handling t depth b w s
+node_blocked t depth b w s tree some barren going blocked =
     let p = t.instance.now in
-    sym (handled_full p (parts_of p) t.nodes (handling t (depth - 1)) b w s set barren going (blocked_none p b) only)
+    sym (handled_blocked p (parts_of p) t.nodes (handling t (depth - 1)) b w s tree barren going blocked) ∙ node_at t depth b w s some
+
+pub node_full : (t : Task) (depth : ℕ) (b : Branching) (w : List (ℕ × ℕ)) (s : State) (set : List ℕ) → 1 ≤ depth
+    → (parts_of t.instance.now).barren b ≡ None → is_stopped s ≡ false → (parts_of t.instance.now).blocked b ≡ None
+    → (parts_of t.instance.now).only b ≡ Some set → full_on (parts_of t.instance.now) set s ≡ handling t depth b w s
+node_full t depth b w s set some barren going blocked only =
+    let p = t.instance.now in
+    sym (handled_full p (parts_of p) t.nodes (handling t (depth - 1)) b w s set barren going blocked only)
     ∙ node_at t depth b w s some
 
 -- and what is left after its rounds is searched
@@ -123,10 +131,15 @@ pub ended_line : (p : Problem) (b : Branching) (s : State) (set : List ℕ) (tre
 unfolding ended
 ended_line p b s set tree barren = rw barren refl
 
-pub ended_full : (p : Problem) (b : Branching) (s : State) (set : List ℕ) → (parts_of p).barren b ≡ None
+pub ended_blocked : (p : Problem) (b : Branching) (s : State) (set : List ℕ) (tree : Tree) → (parts_of p).barren b ≡ None
+    → (parts_of p).blocked b ≡ Some tree → record { state = s; tree = tree } ≡ ended (parts_of p) b s set
+unfolding ended
+ended_blocked p b s set tree barren blocked = rw (barren, blocked) refl
+
+pub ended_full : (p : Problem) (b : Branching) (s : State) (set : List ℕ) → (parts_of p).barren b ≡ None → (parts_of p).blocked b ≡ None
     → full_on (parts_of p) set s ≡ ended (parts_of p) b s set
 unfolding ended
-ended_full p b s set barren = let blocked = blocked_none p b in rw (barren, blocked) refl
+ended_full p b s set barren blocked = rw (barren, blocked) refl
 
 -- ---- fixings and children
 
@@ -215,6 +228,6 @@ two_rounds p parts b r = by_test r.again
 
 -- the handling of the root from there
 pub handled_root : (p : Problem) (n : Option ℕ) (depth : ℕ) (b : Branching) (s : State) → depth ≡ length p.candidates + 1
-    → b ≡ root p → s ≡ begun p (parts_of p) → node depth p (parts_of p) n b [] s ≡ found_by p n
+    → b ≡ root p → s ≡ begun_for p (parts_of p) p.wanted → node depth p (parts_of p) n b [] s ≡ found_by p n
 unfolding rule searched
 handled_root p n depth b s deep is start = λ i. node (deep i) p (parts_of p) n (is i) [] (start i)

@@ -3,13 +3,14 @@ use Rattle.std.specs.Prelude.{◌≡◌, ℕ, ◌≤◌, length, map, All, Optio
 use Rattle.std.specs.List.{AllZip}
 use Rattle.hub_spec.specs.Limits.{most_cuts, most_tree_lines}
 use Rattle.hub_spec.specs.Problem.{Problem, IsProblem, commodities}
-use Rattle.hub_spec.specs.Plans.{IsLeastRoute}
+use Rattle.hub_spec.specs.Plans.{IsHubSet, IsLeastRoute}
+use Rattle.hub_spec.specs.Ranges.{IsFirstLine}
 use Rattle.hub_spec.specs.Trees.{preorder, line_count}
 use Rattle.search_spec.specs.States.{Grown, answer}
 use Rattle.search_spec.specs.Choices.{rule}
 use Rattle.search_steps.specs.Advising.{master_advising}
 use Rattle.kept_cuts.specs.Kept.{IsOfSet, kept_hubs, kept_cuts, AreKeptFor}
-use Rattle.kept_cuts.specs.Findings.{lines_of, IsProved}
+use Rattle.kept_cuts.specs.Findings.{lines_of, IsUnlimited, IsProved}
 use Rattle.kept_cuts.specs.declared.found.Found.{Found}
 
 -- what the rule finds with the master's advice, where this is the most nodes
@@ -30,6 +31,11 @@ pub record IsFound (p : Problem) (g : Grown) (found : Found) : Type 0 where
   pub few_cuts : length g.state.cuts ≤ most_cuts
   pub few_lines : line_count g.tree ≤ most_tree_lines
 
--- what the rule finds is proved by its certificate
+-- what the rule finds is proved by its certificate, where all candidates together lack no commodity
 abbrev pub SearchIsProved : Type 0
-SearchIsProved = (p : Problem) (n : Option ℕ) (found : Found) → IsProblem p → IsFound p (found_by p n) found → IsProved p found
+SearchIsProved = (p : Problem) (n : Option ℕ) (found : Found) → IsProblem p → IsHubSet p p.candidates → IsFound p (found_by p n) found
+    → IsProved p found
+
+-- its tree has only lines that the first version spells, where the problem is unlimited
+abbrev pub UnlimitedIsFirst : Type 0
+UnlimitedIsFirst = (p : Problem) (n : Option ℕ) → IsProblem p → IsUnlimited p → All IsFirstLine (preorder (found_by p n).tree)

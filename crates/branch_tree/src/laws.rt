@@ -1,8 +1,15 @@
 //! What holds of what a search finds.
 
-ghost use Rattle.branch_tree.specs.Findings.{SearchIsProved};
+ghost use Rattle.branch_tree.specs.Findings.{SearchIsProved, UnlimitedIsFirst};
 
-/// What the rule finds is proved by its certificate, which is within the ranges of a certificate's text.
+/// What the rule finds is proved by its certificate, which is within the ranges of a certificate's text, where all
+/// candidates together lack no commodity.
 pub fn search_is_proved()
     ensures { SearchIsProved }
+{}
+
+/// Where no length of routes is limited and any number of hubs will do, the tree has only lines that the first version of
+/// a certificate spells.
+pub fn unlimited_is_first()
+    ensures { UnlimitedIsFirst }
 {}

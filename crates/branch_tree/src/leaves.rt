@@ -2,7 +2,7 @@
 
 ghost use Rattle.std.specs.Prelude.{◌≡◌, Some, length, All, OnOk};
 ghost use Rattle.hub_spec.specs.Plans.{IsHubSet};
-ghost use Rattle.hub_spec.specs.Trees.{IsBranch, leaf};
+ghost use Rattle.hub_spec.specs.Trees.{IsBranch, HasRoom, leaf};
 ghost use Rattle.hub_model.specs.Amounts.{IsNatural};
 ghost use Rattle.search_spec.specs.States.{denominator};
 ghost use Rattle.search_spec.specs.Steps.{full_on, stopped_leaf, ended};
@@ -36,7 +36,7 @@ impl<R: Rule> Walk<'_, R> {
         add_line(&mut self.progress, line)
     }
 
-    /// Adds the leaf that a stop makes of the branch, with these weights.
+    /// Adds the leaf that a stop makes of the branch, which has room for the wanted hubs, with these weights.
     pub(crate) fn stopped_leaf(
         &mut self,
         branch: &Branch,
@@ -45,6 +45,7 @@ impl<R: Rule> Walk<'_, R> {
         requires serves { R.serves self.old.rule.now self.old.task.now.instance.now }
         requires going { IsGoing self.old.task.now self.old.progress }
         requires branch { IsBranch self.old.task.now.instance.now branch.now }
+        requires room { HasRoom self.old.task.now.instance.now.wanted branch.now }
         requires weights { AreNodeWeights (length self.old.progress.pool.entries) weights.now }
         ensures same { self.new.task.now ≡ self.old.task.now }
         ensures serves { R.serves self.new.rule.now self.new.task.now.instance.now }
@@ -92,7 +93,7 @@ impl<R: Rule> Walk<'_, R> {
         add_line(&mut self.progress, line)
     }
 
-    /// Ends a branch in which the set of these hubs is left alone: with the line of its end, or the leaf of the set.
+    /// Ends a branch in which the set of these hubs is left alone: with the line of an end, or the leaf of the set.
     pub(crate) fn end_branch<S: Separator>(
         &mut self,
         separator: &mut S,
@@ -112,6 +113,10 @@ impl<R: Rule> Walk<'_, R> {
             (ended (parts_of p) branch.now (state_of p self.old.progress) hubs.now)) }
     {
         if let Some(line) = self.rule.end(branch) {
+            return add_line(&mut self.progress, line);
+        }
+        let instance = self.task.instance;
+        if let Some(line) = self.rule.blocked(self.alloc, instance, branch)? {
             return add_line(&mut self.progress, line);
         }
         self.full_leaf(separator, hubs)

@@ -21,5 +21,5 @@ mod walk;
 mod walking;
 mod weighing;
 
-pub use laws::search_is_proved;
+pub use laws::{search_is_proved, unlimited_is_first};
 pub use searching::search;

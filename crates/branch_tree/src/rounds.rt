@@ -13,7 +13,7 @@ use crate::separating::number_of;
 use crate::walk::Walk;
 use frac_master::Advice;
 use pareto_cuts::order_of;
-use plan_model::{Branch, HubSet};
+use plan_model::Branch;
 use search_steps::{Rule, node_advice};
 use separators::Separator;
 use std::alloc::AllocError;
@@ -116,10 +116,9 @@ impl<R: Rule> Walk<'_, R> {
                 again: false,
             });
         }
-        let picked = self
+        let set = self
             .rule
             .pick(self.alloc, self.task.instance, &advice, branch)?;
-        let set = HubSet::of(self.alloc, &picked)?;
         if number_of(&self.progress, &set).is_some() {
             return Ok(RoundEnd {
                 weights,

@@ -1,21 +1,25 @@
 //! The whole search.
 
-ghost use Rattle.std.specs.Prelude.{◌≡◌, ℕ, ◌≤◌, ◌<◌, ◌+◌, ◌^◌, [], length, IfOk};
-ghost use Rattle.hub_spec.specs.Plans.{plan_cost, NoPlanBelow};
+ghost use Rattle.std.specs.Prelude.{◌≡◌, ℕ, ◌≤◌, ◌<◌, ◌+◌, ◌^◌, [], length, Some, IfOk, OnOk};
+ghost use Rattle.hub_spec.specs.Plans.{IsHubSet, plan_cost, NoPlanBelow};
 ghost use Rattle.hub_spec.specs.Trees.{preorder};
 ghost use Rattle.search_spec.specs.States.{Grown, answer};
 ghost use Rattle.search_spec.specs.Steps.{begun};
+ghost use Rattle.search_spec.specs.Choices.{begun_for};
 ghost use Rattle.search_spec.specs.Findings.{certificate_of, AreWithin, IsSpent, IsEnough};
 ghost use Rattle.kept_cuts.specs.Findings.{lines_of, proof_of, IsProved};
 ghost use Rattle.branch_tree.specs.Progressing.{state_of, IsGoing};
 ghost use Rattle.branch_tree.specs.Findings.{found_by, IsFound};
 ghost use Rattle.search_steps.specs.Advising.{parts_of};
+ghost use Rattle.search_steps.specs.Starts.{first_set};
 
 use crate::progress::Progress;
+use crate::separating::add_cut;
 use crate::walk::Walk;
 use assign_sub::assign;
 use cut_pool::Pool;
-use hub_model::{Instance, unsigned};
+use hub_model::Instance;
+use hub_plain::outside;
 use kept_cuts::Found;
 use plan_model::{Branch, HubSet, Plan};
 use search_core::{Task, lesser};
@@ -23,8 +27,9 @@ use search_steps::Rule;
 use separators::Separator;
 use std::alloc::{AllocError, Global};
 
-/// What the rule of the search, which serves the instance, finds: a plan with its cost, a bound that no plan costs less than, and the cuts and the
-/// tree that show it. `nodes` is the most nodes of the tree, the root among them; with `None` they are not limited.
+/// What the rule of the search, which serves the instance, finds: a wanted plan with its cost, a bound that no wanted
+/// plan costs less than, and the cuts and the tree that show it. `nodes` is the most nodes of the tree, the root among
+/// them; with `None` they are not limited. All candidates together lack no commodity.
 ///
 /// Only where two nodes more are not allowed the search stops, and then the bound is below the cost. Else both are equal
 /// and the plan is optimal. The finding is the same whatever the separator is.
@@ -39,6 +44,7 @@ pub fn search<R: Rule, S: Separator>(
     separator: &mut S,
 ) -> Result<Found, AllocError>
     requires serves { R.serves rule.now instance.now }
+    requires lacks_none { IsHubSet instance.now instance.now.candidates }
     requires ready { S.ready separator.old }
     ensures ready { S.ready separator.new }
     ensures found { IfOk result (IsFound instance.now (found_by instance.now nodes)) }
@@ -54,7 +60,7 @@ pub fn search<R: Rule, S: Separator>(
     ensures enough { IsEnough (2 ^ (length instance.now.candidates + 1)) nodes → IfOk result (λ found. found.bound ≡ found.cost) }
 {
     let task = Task { instance, nodes };
-    let progress = begin(alloc, &task, separator)?;
+    let progress = begin(alloc, rule, &task, separator)?;
     let mut walk = Walk {
         alloc,
         task: &task,
@@ -67,12 +73,37 @@ pub fn search<R: Rule, S: Separator>(
     finish(alloc, &task, walk.progress)
 }
 
-// The cut of the set of all candidates, which is the first incumbent.
-fn begin<S: Separator>(
+// The cut of the set of all candidates, and that of the rule's first set, if it has one, which is then the first
+// incumbent.
+fn begin<R: Rule, S: Separator>(
+    alloc: Global,
+    rule: &R,
+    task: &Task,
+    separator: &mut S,
+) -> Result<Progress, AllocError>
+    requires serves { R.serves rule.now task.now.instance.now }
+    requires lacks_none { IsHubSet task.now.instance.now task.now.instance.now.candidates }
+    requires ready { S.ready separator.old }
+    ensures ready { S.ready separator.new }
+    ensures begun { let p = task.now.instance.now in
+        IfOk result (λ s. state_of p s ≡ begun_for p (parts_of p) p.wanted) }
+    ensures no_line { IfOk result (λ s. lines_of s.lines.items ≡ []) }
+    ensures going { IfOk result (IsGoing task.now) }
+{
+    let mut progress = begin_with_all(alloc, task, separator)?;
+    if let Some(hubs) = rule.first_set(alloc, task.instance)? {
+        take_first(alloc, task, &mut progress, separator, &hubs)?;
+    }
+    Ok(progress)
+}
+
+// The cut of the set of all candidates, which is the incumbent.
+fn begin_with_all<S: Separator>(
     alloc: Global,
     task: &Task,
     separator: &mut S,
 ) -> Result<Progress, AllocError>
+    requires lacks_none { IsHubSet task.now.instance.now task.now.instance.now.candidates }
     requires ready { S.ready separator.old }
     ensures ready { S.ready separator.new }
     ensures begun { let p = task.now.instance.now in IfOk result (λ s. state_of p s ≡ begun p (parts_of p)) }
@@ -83,12 +114,8 @@ fn begin<S: Separator>(
     let hubs = HubSet::of(alloc, candidates)?;
     let set = hubs.copy(alloc)?;
     let order = Vec::new(alloc);
-    let sums = separator.separate(alloc, task.instance, set, &order)?;
-    let cost = unsigned(sums.total()) + task.instance.opening_cost(candidates);
     let mut pool = Pool::new(alloc)?;
-    pool.reserve(1)?;
-    // It succeeds, since there is room.
-    let _ = pool.add(sums, order);
+    let cost = add_cut(alloc, task.instance, &mut pool, separator, set, order)?;
     Ok(Progress {
         pool,
         lines: Vec::new(alloc),
@@ -97,6 +124,41 @@ fn begin<S: Separator>(
         made: 1,
         stop: None,
     })
+}
+
+// Adds the cut of the rule's first set, which becomes the incumbent whatever it costs, since that of all candidates is
+// not wanted.
+fn take_first<S: Separator>(
+    alloc: Global,
+    task: &Task,
+    progress: &mut Progress,
+    separator: &mut S,
+    hubs: &[u32],
+) -> Result<(), AllocError>
+    requires lacks_none { IsHubSet task.now.instance.now task.now.instance.now.candidates }
+    requires ready { S.ready separator.old }
+    requires begun { let p = task.now.instance.now in state_of p progress.old ≡ begun p (parts_of p) }
+    requires going { IsGoing task.now progress.old }
+    requires first { Some hubs.now ≡ first_set task.now.instance.now }
+    ensures ready { S.ready separator.new }
+    ensures begun { let p = task.now.instance.now in
+        OnOk result (state_of p progress.new ≡ begun_for p (parts_of p) p.wanted) }
+    ensures lines { progress.new.lines ≡ progress.old.lines }
+    ensures going { OnOk result (IsGoing task.now progress.new) }
+{
+    let hubs = HubSet::of(alloc, hubs)?;
+    let set = hubs.copy(alloc)?;
+    let order = outside(alloc, task.instance, &set)?;
+    progress.cost = add_cut(
+        alloc,
+        task.instance,
+        &mut progress.pool,
+        separator,
+        set,
+        order,
+    )?;
+    progress.hubs = hubs;
+    Ok(())
 }
 
 // The incumbent with its least routes, and what no plan costs less than.

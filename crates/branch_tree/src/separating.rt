@@ -1,7 +1,7 @@
 //! The separation of a hub set, whose cut becomes the next of the pool.
 
-ghost use Rattle.std.specs.Prelude.{◌≡◌, ◌≤◌, false, is_some, IfSome, OnOk};
-ghost use Rattle.hub_spec.specs.Problem.{Problem};
+ghost use Rattle.std.specs.Prelude.{◌≡◌, ◌≤◌, false, is_some, IfSome, IfOk, OnOk};
+ghost use Rattle.hub_spec.specs.Problem.{Problem, IsProblem};
 ghost use Rattle.hub_spec.specs.Plans.{IsHubSet};
 ghost use Rattle.hub_spec.specs.Separation.{IsOrder};
 ghost use Rattle.cut_pool.specs.Entries.{Lacks};
@@ -9,14 +9,16 @@ ghost use Rattle.search_spec.specs.States.{number_in_pool};
 ghost use Rattle.search_spec.specs.Steps.{separated};
 ghost use Rattle.search_steps.specs.Advising.{parts_of};
 ghost use Rattle.branch_tree.specs.Progressing.{state_of, IsGoing, IsAt};
+ghost use Rattle.branch_tree.specs.Separating.{HasCut};
 
 use crate::progress::Progress;
 use crate::walk::Walk;
-use hub_model::{MOST_CUTS, unsigned};
+use cut_pool::Pool;
+use hub_model::{Instance, MOST_CUTS, unsigned};
 use plan_model::HubSet;
 use search_steps::Rule;
 use separators::Separator;
-use std::alloc::AllocError;
+use std::alloc::{AllocError, Global};
 
 /// The number of the set's cut in the pool, counted from 1, if it has been separated.
 pub(crate) fn number_of(progress: &Progress, set: &HubSet) -> Option<u64>
@@ -25,6 +27,33 @@ pub(crate) fn number_of(progress: &Progress, set: &HubSet) -> Option<u64>
     ensures none { is_some result ≡ false → Lacks progress.now.pool.entries set.now }
 {
     progress.pool.find(set)
+}
+
+/// Works out the cut of the set over this order of the other candidates, which becomes the next of the pool, and gives
+/// what the set costs, in 10^-12.
+pub(crate) fn add_cut<S: Separator>(
+    alloc: Global,
+    instance: &Instance,
+    pool: &mut Pool,
+    separator: &mut S,
+    set: HubSet,
+    order: Vec<u32>,
+) -> Result<u128, AllocError>
+    requires ready { S.ready separator.old }
+    requires problem { IsProblem instance.now }
+    requires set { IsHubSet instance.now set }
+    requires order { IsOrder instance.now set order.items }
+    requires first_time { Lacks pool.old.entries set }
+    ensures ready { S.ready separator.new }
+    ensures cut { IfOk result (HasCut instance.now pool.old.entries pool.new.entries set order.items) }
+{
+    pool.reserve(1)?;
+    let opening = instance.opening_cost(set.members());
+    let sums = separator.separate(alloc, instance, set, &order)?;
+    let cost = unsigned(sums.total()) + opening;
+    // It succeeds, since there is room.
+    let _ = pool.add(sums, order);
+    Ok(cost)
 }
 
 impl<R: Rule> Walk<'_, R> {
@@ -54,12 +83,16 @@ impl<R: Rule> Walk<'_, R> {
         if progress.pool.len() >= MOST_CUTS as u64 {
             return Err(AllocError);
         }
-        progress.pool.reserve(1)?;
         let hubs = set.copy(self.alloc)?;
-        let sums = separator.separate(self.alloc, self.task.instance, set, &order)?;
-        let cost = unsigned(sums.total()) + self.task.instance.opening_cost(hubs.members());
-        // It succeeds, since there is room.
-        let _ = progress.pool.add(sums, order);
+        let instance = self.task.instance;
+        let cost = add_cut(
+            self.alloc,
+            instance,
+            &mut progress.pool,
+            separator,
+            set,
+            order,
+        )?;
         if cost < progress.cost {
             progress.hubs = hubs;
             progress.cost = cost;

@@ -1,7 +1,7 @@
 //! The walk over the tree, the open child of a branch first.
 
 ghost use Rattle.std.specs.Prelude.{◌≡◌, ◌≤◌, ◌<◌, length, map, pos, slice_index_or, OnOk};
-ghost use Rattle.hub_spec.specs.Trees.{IsBranch};
+ghost use Rattle.hub_spec.specs.Trees.{IsBranch, HasRoom};
 ghost use Rattle.frac_master.specs.Advice.{advice_of_code};
 ghost use Rattle.search_spec.specs.Choices.{nearest_half};
 ghost use Rattle.search_spec.specs.Steps.{fixed, halved};
@@ -47,7 +47,11 @@ impl<R: Rule> Walk<'_, R> {
         if self.progress.stop.is_some() {
             return self.stopped_leaf(branch, weights);
         }
-        if let Some(hubs) = self.rule.alone(self.alloc, branch)? {
+        let instance = self.task.instance;
+        if let Some(line) = self.rule.blocked(self.alloc, instance, branch)? {
+            return add_line(&mut self.progress, line);
+        }
+        if let Some(hubs) = self.rule.alone(self.alloc, instance, branch)? {
             return self.full_leaf(separator, &hubs);
         }
         let round = self.rounds(separator, branch, weights)?;
@@ -59,7 +63,7 @@ impl<R: Rule> Walk<'_, R> {
     }
 
     /// Makes the fixings one by one, each with a leaf as the other child, until a set is left alone, and else parts the
-    /// branch that is left.
+    /// branch that is left. The branch has room for the wanted hubs.
     #[cycle(walk)]
     fn fixed<S: Separator>(
         &mut self,
@@ -73,6 +77,7 @@ impl<R: Rule> Walk<'_, R> {
         requires serves { R.serves self.old.rule.now self.old.task.now.instance.now }
         requires going { IsGoing self.old.task.now self.old.progress }
         requires branch { IsBranch self.old.task.now.instance.now branch.now }
+        requires room { HasRoom self.old.task.now.instance.now.wanted branch.now }
         requires weights { AreNodeWeights (length self.old.progress.pool.entries) round.now.weights.items }
         requires free { AreOnFree branch.now (sides_as fixings.now) }
         requires deep { length branch.now.free ≤ depth }
@@ -84,7 +89,8 @@ impl<R: Rule> Walk<'_, R> {
             (fixed p (parts_of p) t.nodes (handling t depth) (told_by (advice_of_code round.now.advice))
             (sides_as fixings.now) branch.now (pairs_of round.now.weights.items) (state_of p self.old.progress))) }
     {
-        if let Some(hubs) = self.rule.alone(self.alloc, branch)? {
+        let instance = self.task.instance;
+        if let Some(hubs) = self.rule.alone(self.alloc, instance, branch)? {
             return self.end_branch(separator, branch, &hubs);
         }
         if !may_split(self.task, &self.progress) {

@@ -1,7 +1,7 @@
 //! What weights say of a branch.
 
 ghost use Rattle.std.specs.Prelude.{◌≡◌, false, length, IfOk};
-ghost use Rattle.hub_spec.specs.Trees.{IsBranch};
+ghost use Rattle.hub_spec.specs.Trees.{IsBranch, HasRoom};
 ghost use Rattle.search_spec.specs.Laws.{GoesOn};
 ghost use Rattle.search_spec.specs.Steps.{better, closes_at, fixings};
 ghost use Rattle.search_steps.specs.Advising.{parts_of};
@@ -25,6 +25,7 @@ impl<R: Rule> Walk<'_, R> {
         requires serves { R.serves self.now.rule.now self.now.task.now.instance.now }
         requires going { IsGoing self.now.task.now self.now.progress }
         requires branch { IsBranch self.now.task.now.instance.now branch.now }
+        requires room { HasRoom self.now.task.now.instance.now.wanted branch.now }
         requires present { AreNodeWeights (length self.now.progress.pool.entries) present.now }
         requires advised { AreNodeWeights (length self.now.progress.pool.entries) advised.now }
         ensures better { let p = self.now.task.now.instance.now in
@@ -49,6 +50,7 @@ impl<R: Rule> Walk<'_, R> {
         requires serves { R.serves self.now.rule.now self.now.task.now.instance.now }
         requires going { IsGoing self.now.task.now self.now.progress }
         requires branch { IsBranch self.now.task.now.instance.now branch.now }
+        requires room { HasRoom self.now.task.now.instance.now.wanted branch.now }
         requires weights { AreNodeWeights (length self.now.progress.pool.entries) weights.now }
         ensures { let p = self.now.task.now.instance.now in
             result ≡ closes_at p (state_of p self.now.progress) branch.now (pairs_of weights.now) }

@@ -49,17 +49,18 @@ returns g c =
     let same = handled_root p n (length c.free.result.now + 1) c.in_ok-root.root (state_of p before) deep c.in_ok-root.ensures c.in_ok-progress.ensures.begun in
     let lines : lines_of c.node.new.self.progress.lines.items ≡ preorder (found_by p n).tree =
     done.lines ∙ ap (λ (ls : List TreeLine). ls ++ preorder grown.tree) c.in_ok-progress.ensures.no_line ∙ ap (λ (x : Grown). preorder x.tree) same in
+    let all : found.IsSearchable p = record { problem = ok; lacks_none = c.requires.lacks_none } in
     let is = c.finish.ensures (found_by p n) (done.state ∙ ap (λ (x : Grown). x.state) same) lines in
     record {
       ready = c.in_ok-node.ensures.ready;
       found = is;
-      certificate = IfOk-weaker c.finish.result _ _ (λ f is. found.found_certificate_is p n f ok is) is;
-      proved = IfOk-weaker c.finish.result _ _ (λ f is. found.found_is_proved p n f ok is) is;
-      paid = IfOk-weaker c.finish.result _ _ (λ f is. found.found_paid p n f ok is) is;
-      below = IfOk-weaker c.finish.result _ _ (λ f is. found.found_below p n f ok is) is;
-      within = IfOk-weaker c.finish.result _ _ (λ f is. found.found_within p n f ok is) is;
-      most = IfOk-weaker c.finish.result _ _ (λ f is. found.found_most p n f ok is) is;
-      allowed = IfOk-weaker c.finish.result _ _ (λ f is. found.found_allowed p n f ok is) is;
-      spent = IfOk-weaker c.finish.result _ _ (λ f is. found.found_spent p n f ok is) is;
-      enough = λ enough. IfOk-weaker c.finish.result _ _ (λ f is. found.found_enough_is p n f ok is enough) is;
+      certificate = IfOk-weaker c.finish.result _ _ (λ f is. found.found_certificate_is p n f all is) is;
+      proved = IfOk-weaker c.finish.result _ _ (λ f is. found.found_is_proved p n f all is) is;
+      paid = IfOk-weaker c.finish.result _ _ (λ f is. found.found_paid p n f all is) is;
+      below = IfOk-weaker c.finish.result _ _ (λ f is. found.found_below p n f all is) is;
+      within = IfOk-weaker c.finish.result _ _ (λ f is. found.found_within p n f all is) is;
+      most = IfOk-weaker c.finish.result _ _ (λ f is. found.found_most p n f all is) is;
+      allowed = IfOk-weaker c.finish.result _ _ (λ f is. found.found_allowed p n f all is) is;
+      spent = IfOk-weaker c.finish.result _ _ (λ f is. found.found_spent p n f all is) is;
+      enough = λ enough. IfOk-weaker c.finish.result _ _ (λ f is. found.found_enough_is p n f all is enough) is;
     }

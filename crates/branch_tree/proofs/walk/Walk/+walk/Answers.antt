@@ -1,6 +1,6 @@
 use Rattle.std.proofs.Common.{◌≡◌, ◌+◌, ◌-◌, ℕ, ℤ, List, ◌∷◌, length, Some, ap, sym, subst, ◌∙◌, rules, arith}
 use Rattle.std.proofs.lemmas.Result.{on_ok_weaker}
-use Rattle.hub_spec.specs.Trees.{Branching, IsBranch, branch_on, leaf}
+use Rattle.hub_spec.specs.Trees.{Branching, IsBranch, HasRoom, branch_on, leaf}
 use Rattle.hub_spec.proofs.ChildLists.{open_branch, closed_branch}
 use Rattle.plan_model.specs.Lines.{tree_line_of}
 use Rattle.hub_fixing.specs.declared.sides.Side as code
@@ -13,13 +13,14 @@ use Rattle.search_spec.proofs.StepCases.{after_closed, after_open}
 use Rattle.search_spec.proofs.Parting.{length-without}
 use Rattle.search_steps.specs.Advising.{told_by, parts_of}
 use Rattle.search_steps.specs.Weights.{pairs_of, side_as, sides_as, AreNodeWeights}
+use Rattle.search_steps.proofs.RuleChoices.{room_when}
 use Rattle.search_core.specs.declared.tasks.Task.{Task}
 use Rattle.branch_tree.specs.Progressing.{handling, state_of}
 use Rattle.branch_tree.specs.Rounding.{round_as}
 use Rattle.branch_tree.specs.Walking.{AreOnFree}
-use Rattle.branch_tree.proofs.AddedLines.{line_done, line_going, line_kept, done_as, done_by, going_as, branch_as}
+use Rattle.branch_tree.proofs.AddedLines.{line_done, line_going, line_kept, done_as, done_by, going_as, branch_as, room_as}
 use Rattle.branch_tree.proofs.RoundSteps.{weights_kept}
-use Rattle.branch_tree.proofs.NodeCases.{told_end, told_no_end, told_alone, told_none_alone, goes_on, some_free, alone_is_set, node_ended, node_stopped, node_full, node_explored, fixed_alone, fixed_stopped, fixed_halved, fixed_next, halved_both}
+use Rattle.branch_tree.proofs.NodeCases.{told_end, told_no_end, told_alone, told_none_alone, goes_on, some_free, child_room, alone_is_set, node_ended, node_stopped, node_blocked, node_full, node_explored, fixed_alone, fixed_stopped, fixed_halved, fixed_next, halved_both}
 use Rattle.branch_tree.proofs.WalkSteps.{begun_state, both_done, open_done, closed_done, later_done, first_of, others_of, sides_split, none_left, fixings_on_free, on_free_in_child}
 use Rattle.branch_tree.proofs.walk.Walk.+walk.Goals as goal
 
@@ -29,7 +30,7 @@ pub fixed-end_branch-requires-clause-alone : goal.fixed-end_branch-requires-clau
 fixed-end_branch-requires-clause-alone g t c =
     let p = c.args.self.now.task.now.instance.now in
     let b = c.args.branch.now in
-    told_alone ((parts_of p).only b) c.in_ok-hubs.field-0 c.in-Some.hubs (c.in_ok-hubs.ensures p c.requires.serves) c.in-Some.is
+    told_alone ((parts_of p).only b) c.in_ok-hubs.field-0 c.in-Some.hubs c.in_ok-hubs.ensures c.in-Some.is
     ∙ ap (λ (ks : List ℕ). Some ks) (sym c.deref.ensures.value)
 
 pub fixed-returns-in-Some-clause-done : goal.fixed-returns-in-Some-clause-done
@@ -38,7 +39,7 @@ fixed-returns-in-Some-clause-done g t c =
     let p = task.instance.now in
     let before = c.args.self.now.progress in
     let b = c.args.branch.now in
-    let alone = told_alone ((parts_of p).only b) c.in_ok-hubs.field-0 c.in-Some.hubs (c.in_ok-hubs.ensures p c.requires.serves) c.in-Some.is
+    let alone = told_alone ((parts_of p).only b) c.in_ok-hubs.field-0 c.in-Some.hubs c.in_ok-hubs.ensures c.in-Some.is
     ∙ ap (λ (ks : List ℕ). Some ks) (sym c.deref.ensures.value) in
     let is = fixed_alone task (handling task c.args.depth) (told_by (advice_of_code c.args.round.now.advice)) (sides_as c.args.fixings.now) b
     (pairs_of c.args.round.now.weights.items) (state_of p before) c.deref.result.now alone in
@@ -51,7 +52,7 @@ fixed-returns-then-not-may_split-clause-done g t c =
     let before = c.args.self.now.progress in
     let b = c.args.branch.now in
     let s = state_of p before in
-    let only = told_none_alone ((parts_of p).only b) c.in_ok-hubs.field-0 (c.in_ok-hubs.ensures p c.requires.serves) c.in_default.is in
+    let only = told_none_alone ((parts_of p).only b) c.in_ok-hubs.field-0 c.in_ok-hubs.ensures c.in_default.is in
     let is = ap (λ (ws : List ℤ). stopped_leaf p b (pairs_of ws) s) c.deref-then-not-may_split.ensures.value
     ∙ fixed_stopped task (handling task c.args.depth) (told_by (advice_of_code c.args.round.now.advice)) (sides_as c.args.fixings.now) b
     (pairs_of c.args.round.now.weights.items) s only (sym c.may_split.ensures ∙ c.if-not-may_split.true) in
@@ -61,7 +62,7 @@ pub fixed-halved-requires : goal.fixed-halved-requires
 fixed-halved-requires g t c κs within =
     let p = c.args.self.now.task.now.instance.now in
     let b = c.args.branch.now in
-    let only = told_none_alone ((parts_of p).only b) c.in_ok-hubs.field-0 (c.in_ok-hubs.ensures p c.requires.serves) c.in_default.is in (
+    let only = told_none_alone ((parts_of p).only b) c.in_ok-hubs.field-0 c.in_ok-hubs.ensures c.in_default.is in (
       search (rules, arith),
       (
         within.0,
@@ -76,7 +77,7 @@ fixed-halved-requires g t c κs within =
                 (
                   c.requires.branch,
                   (
-                    some_free p b c.requires.going.problem c.requires.branch only,
+                    some_free p b c.requires.going.problem c.requires.branch c.requires.room only,
                     (
                       c.requires.weights,
                       c.requires.deep,
@@ -96,7 +97,7 @@ fixed-returns-in-empty-clause-done g t c =
     let p = task.instance.now in
     let before = c.args.self.now.progress in
     let b = c.args.branch.now in
-    let only = told_none_alone ((parts_of p).only b) c.in_ok-hubs.field-0 (c.in_ok-hubs.ensures p c.requires.serves) c.in_default.is in
+    let only = told_none_alone ((parts_of p).only b) c.in_ok-hubs.field-0 c.in_ok-hubs.ensures c.in_default.is in
     let is = fixed_halved task (handling task c.args.depth) (told_by (advice_of_code c.args.round.now.advice)) (sides_as c.args.fixings.now) b
     (pairs_of c.args.round.now.weights.items) (state_of p before) only (sym c.may_split.ensures ∙ c.if-not-may_split.false)
     (none_left c.args.fixings.now c.in-empty.len_below) in
@@ -109,6 +110,7 @@ fixed-fixed-requires g t c κs within =
     let before = c.args.self.now.progress in
     let begun = c.split_on.new.progress in
     let b = c.args.branch.now in
+    let only = told_none_alone ((parts_of p).only b) c.in_ok-hubs.field-0 c.in_ok-hubs.ensures c.in_default.is in
     let first = first_of c.args.fixings.now in
     let k = first.0 in
     let all = sides_split c.args.fixings.now c.in-len1-up.len_at_least in
@@ -130,12 +132,16 @@ fixed-fixed-requires g t c κs within =
                 (
                   subst (IsBranch p) (sym child) (open_branch p b k c.requires.branch free.0),
                   (
-                    weights_kept (length before.pool.entries) (length begun.pool.entries) c.args.round.now.weights.items
-                        (line_kept before begun (branch_on k) (before.made + 2) before.stop c.in_ok-split_on.ensures) c.requires.weights,
+                    subst (λ (x : Branching). HasRoom p.wanted x) (sym child)
+                        (child_room p stays_open b k c.requires.going.problem c.requires.branch c.requires.room only free.0),
                     (
-                      subst (λ (x : Branching). AreOnFree x (sides_as (others_of c.args.fixings.now))) (sym child)
-                          (on_free_in_child stays_open b k (sides_as (others_of c.args.fixings.now)) free.1 free.2),
-                      omega (arith, fewer, c.requires.deep),
+                      weights_kept (length before.pool.entries) (length begun.pool.entries) c.args.round.now.weights.items
+                          (line_kept before begun (branch_on k) (before.made + 2) before.stop c.in_ok-split_on.ensures) c.requires.weights,
+                      (
+                        subst (λ (x : Branching). AreOnFree x (sides_as (others_of c.args.fixings.now))) (sym child)
+                            (on_free_in_child stays_open b k (sides_as (others_of c.args.fixings.now)) free.1 free.2),
+                        omega (arith, fewer, c.requires.deep),
+                      ),
                     ),
                   ),
                 ),
@@ -160,6 +166,7 @@ fixed-fixed-requires-in-Out g t c κs within =
     let begun = c.split_on.new.progress in
     let middle = c.add_leaf-in-Out.new.self.progress in
     let b = c.args.branch.now in
+    let only = told_none_alone ((parts_of p).only b) c.in_ok-hubs.field-0 c.in_ok-hubs.ensures c.in_default.is in
     let first = first_of c.args.fixings.now in
     let k = first.0 in
     let all = sides_split c.args.fixings.now c.in-len1-up.len_at_least in
@@ -185,12 +192,17 @@ fixed-fixed-requires-in-Out g t c κs within =
                   branch_as task c.add_leaf-in-Out.new.self.task.now c.in_ok-child-in-Out.child same
                       (subst (IsBranch p) (sym child) (closed_branch p b k c.requires.branch free.0)),
                   (
-                    weights_kept (length before.pool.entries) (length middle.pool.entries) c.args.round.now.weights.items
-                        (omega (arith, kept, leaf_added.kept)) c.requires.weights,
+                    room_as task c.add_leaf-in-Out.new.self.task.now c.in_ok-child-in-Out.child same
+                        (subst (λ (x : Branching). HasRoom p.wanted x) (sym child)
+                        (child_room p stays_closed b k c.requires.going.problem c.requires.branch c.requires.room only free.0)),
                     (
-                      subst (λ (x : Branching). AreOnFree x (sides_as (others_of c.args.fixings.now))) (sym child)
-                          (on_free_in_child stays_closed b k (sides_as (others_of c.args.fixings.now)) free.1 free.2),
-                      omega (arith, fewer, c.requires.deep),
+                      weights_kept (length before.pool.entries) (length middle.pool.entries) c.args.round.now.weights.items
+                          (omega (arith, kept, leaf_added.kept)) c.requires.weights,
+                      (
+                        subst (λ (x : Branching). AreOnFree x (sides_as (others_of c.args.fixings.now))) (sym child)
+                            (on_free_in_child stays_closed b k (sides_as (others_of c.args.fixings.now)) free.1 free.2),
+                        omega (arith, fewer, c.requires.deep),
+                      ),
                     ),
                   ),
                 ),
@@ -218,7 +230,7 @@ fixed-returns-in_ok-fixed-in-In-clause-done g t c =
     let rest = sides_as (others_of c.args.fixings.now) in
     let k = first.0 in
     let all = sides_split c.args.fixings.now c.in-len1-up.len_at_least in
-    let only = told_none_alone ((parts_of p).only b) c.in_ok-hubs.field-0 (c.in_ok-hubs.ensures p c.requires.serves) c.in_default.is in
+    let only = told_none_alone ((parts_of p).only b) c.in_ok-hubs.field-0 c.in_ok-hubs.ensures c.in_default.is in
     let on_side = all ∙ ap (λ (x : code.Side). (k, side_as x) ∷ rest) c.in-In.is in
     let kept = fixed p (parts_of p) task.nodes go a rest c.in_ok-child-in-In.child w (state_of p begun) in
     let next = begun_state p before begun k c.in_ok-split_on.ensures in
@@ -251,7 +263,7 @@ fixed-returns-in_ok-add_leaf-in-Out-clause-done g t c =
     let rest = sides_as (others_of c.args.fixings.now) in
     let k = first.0 in
     let all = sides_split c.args.fixings.now c.in-len1-up.len_at_least in
-    let only = told_none_alone ((parts_of p).only b) c.in_ok-hubs.field-0 (c.in_ok-hubs.ensures p c.requires.serves) c.in_default.is in
+    let only = told_none_alone ((parts_of p).only b) c.in_ok-hubs.field-0 c.in_ok-hubs.ensures c.in_default.is in
     let on_side = all ∙ ap (λ (x : code.Side). (k, side_as x) ∷ rest) c.in-Out.is in
     let kept = fixed p (parts_of p) task.nodes go a rest c.in_ok-child-in-Out.child w (state_of p middle) in
     let leaf_added = done_as task begun middle _ _
@@ -284,6 +296,12 @@ node-returns-in-Some-clause-done g t c =
     (line_done task before after end.tree (tree_line_of c.in-Some.line) before.made before.stop c.requires.going end.one (omega arith) has))
     c.add_line.ensures
 
+pub node-stopped_leaf-requires-clause-room : goal.node-stopped_leaf-requires-clause-room
+node-stopped_leaf-requires-clause-room g t c =
+    let p = c.args.self.now.task.now.instance.now in
+    let b = c.args.branch.now in
+    room_when p b (told_no_end ((parts_of p).barren b) c.end.result (c.end.ensures p c.requires.serves) c.in_default.is)
+
 pub node-returns-then-is_some-clause-done : goal.node-returns-then-is_some-clause-done
 node-returns-then-is_some-clause-done g t c =
     let task = c.args.self.now.task.now in
@@ -295,14 +313,10 @@ node-returns-then-is_some-clause-done g t c =
     (omega (arith, c.requires.deep)) barren (sym c.is_some.ensures ∙ c.if-is_some.true) in
     on_ok_weaker c.stopped_leaf.result (λ done. done_as task before c.stopped_leaf.new.self.progress _ _ is done) c.stopped_leaf.ensures.stopped
 
-pub node-full_leaf-requires-clause-set : goal.node-full_leaf-requires-clause-set
-node-full_leaf-requires-clause-set g t c =
+pub node-blocked-requires-clause-no_end : goal.node-blocked-requires-clause-no_end
+node-blocked-requires-clause-no_end g t c =
     let p = c.args.self.now.task.now.instance.now in
-    let b = c.args.branch.now in
-    let barren = told_no_end ((parts_of p).barren b) c.end.result (c.end.ensures p c.requires.serves) c.in_default.is in
-    let alone = told_alone ((parts_of p).only b) c.in_ok-hubs.field-0 c.in-Some-2.hubs (c.in_ok-hubs.ensures p c.requires.serves) c.in-Some-2.is
-    ∙ ap (λ (ks : List ℕ). Some ks) (sym c.deref.ensures.value) in
-    alone_is_set p b c.deref.result.now c.requires.going.problem c.requires.branch barren alone
+    told_no_end ((parts_of p).barren c.args.branch.now) c.end.result (c.end.ensures p c.requires.serves) c.in_default.is
 
 pub node-returns-in-Some-2-clause-done : goal.node-returns-in-Some-2-clause-done
 node-returns-in-Some-2-clause-done g t c =
@@ -310,11 +324,37 @@ node-returns-in-Some-2-clause-done g t c =
     let p = task.instance.now in
     let b = c.args.branch.now in
     let before = c.args.self.now.progress in
+    let after = c.add_line-in-Some-2.new.progress in
     let barren = told_no_end ((parts_of p).barren b) c.end.result (c.end.ensures p c.requires.serves) c.in_default.is in
-    let alone = told_alone ((parts_of p).only b) c.in_ok-hubs.field-0 c.in-Some-2.hubs (c.in_ok-hubs.ensures p c.requires.serves) c.in-Some-2.is
+    let end = told_end ((parts_of p).blocked b) c.in_ok-line.field-0 c.in-Some-2.line c.in_ok-line.ensures c.in-Some-2.is in
+    let is = node_blocked task c.args.depth b (pairs_of c.args.weights.now) (state_of p before) end.tree (omega (arith, c.requires.deep)) barren
+    (sym c.is_some.ensures ∙ c.if-is_some.false) end.is in
+    on_ok_weaker c.add_line-in-Some-2.result
+    (λ has. done_as task before after _ _ is
+    (line_done task before after end.tree (tree_line_of c.in-Some-2.line) before.made before.stop c.requires.going end.one (omega arith) has))
+    c.add_line-in-Some-2.ensures
+
+pub node-full_leaf-requires-clause-set : goal.node-full_leaf-requires-clause-set
+node-full_leaf-requires-clause-set g t c =
+    let p = c.args.self.now.task.now.instance.now in
+    let b = c.args.branch.now in
+    let barren = told_no_end ((parts_of p).barren b) c.end.result (c.end.ensures p c.requires.serves) c.in_default.is in
+    let alone = told_alone ((parts_of p).only b) c.in_ok-hubs.field-0 c.in-Some-3.hubs c.in_ok-hubs.ensures c.in-Some-3.is
+    ∙ ap (λ (ks : List ℕ). Some ks) (sym c.deref.ensures.value) in
+    alone_is_set p b c.deref.result.now c.requires.going.problem c.requires.branch barren
+    (told_no_end ((parts_of p).blocked b) c.in_ok-line.field-0 c.in_ok-line.ensures c.in_default-2.is) alone
+
+pub node-returns-in-Some-3-clause-done : goal.node-returns-in-Some-3-clause-done
+node-returns-in-Some-3-clause-done g t c =
+    let task = c.args.self.now.task.now in
+    let p = task.instance.now in
+    let b = c.args.branch.now in
+    let before = c.args.self.now.progress in
+    let barren = told_no_end ((parts_of p).barren b) c.end.result (c.end.ensures p c.requires.serves) c.in_default.is in
+    let alone = told_alone ((parts_of p).only b) c.in_ok-hubs.field-0 c.in-Some-3.hubs c.in_ok-hubs.ensures c.in-Some-3.is
     ∙ ap (λ (ks : List ℕ). Some ks) (sym c.deref.ensures.value) in
     let is = node_full task c.args.depth b (pairs_of c.args.weights.now) (state_of p before) c.deref.result.now (omega (arith, c.requires.deep)) barren
-    (sym c.is_some.ensures ∙ c.if-is_some.false) alone in
+    (sym c.is_some.ensures ∙ c.if-is_some.false) (told_no_end ((parts_of p).blocked b) c.in_ok-line.field-0 c.in_ok-line.ensures c.in_default-2.is) alone in
     on_ok_weaker c.full_leaf.result (λ done. done_as task before c.full_leaf.new.self.progress _ _ is done) c.full_leaf.ensures.full
 
 pub node-rounds-requires-clause-goes_on : goal.node-rounds-requires-clause-goes_on
@@ -322,7 +362,8 @@ node-rounds-requires-clause-goes_on g t c =
     let p = c.args.self.now.task.now.instance.now in
     let b = c.args.branch.now in
     goes_on p b (told_no_end ((parts_of p).barren b) c.end.result (c.end.ensures p c.requires.serves) c.in_default.is)
-    (told_none_alone ((parts_of p).only b) c.in_ok-hubs.field-0 (c.in_ok-hubs.ensures p c.requires.serves) c.in_default-2.is)
+    (told_no_end ((parts_of p).blocked b) c.in_ok-line.field-0 c.in_ok-line.ensures c.in_default-2.is)
+    (told_none_alone ((parts_of p).only b) c.in_ok-hubs.field-0 c.in_ok-hubs.ensures c.in_default-3.is)
 
 pub node-returns-then-closes_cost-clause-done : goal.node-returns-then-closes_cost-clause-done
 node-returns-then-closes_cost-clause-done g t c =
@@ -335,7 +376,8 @@ node-returns-then-closes_cost-clause-done g t c =
     let s = state_of p before in
     let go = handling task (c.args.depth - 1) in
     let on = goes_on p b (told_no_end ((parts_of p).barren b) c.end.result (c.end.ensures p c.requires.serves) c.in_default.is)
-    (told_none_alone ((parts_of p).only b) c.in_ok-hubs.field-0 (c.in_ok-hubs.ensures p c.requires.serves) c.in_default-2.is) in
+    (told_no_end ((parts_of p).blocked b) c.in_ok-line.field-0 c.in_ok-line.ensures c.in_default-2.is)
+    (told_none_alone ((parts_of p).only b) c.in_ok-hubs.field-0 c.in_ok-hubs.ensures c.in_default-3.is) in
     let left = c.in_ok-round.ensures.rounds in
     let r = round_as p middle c.in_ok-round.round in
     let same = c.in_ok-round.ensures.same in
@@ -352,17 +394,27 @@ node-returns-then-closes_cost-clause-done g t c =
     (λ x. record { state = state_of x.instance.now middle; tree = leaf denominator (pairs_of c.deref-then-closes_cost.result.now) }) same done)))
     c.add_leaf.ensures.added
 
+pub node-closes_cost-requires-clause-room : goal.node-closes_cost-requires-clause-room
+node-closes_cost-requires-clause-room g t c =
+    let p = c.args.self.now.task.now.instance.now in
+    let b = c.args.branch.now in
+    let barren = told_no_end ((parts_of p).barren b) c.end.result (c.end.ensures p c.requires.serves) c.in_default.is in
+    room_as c.args.self.now.task.now c.rounds.new.self.task.now b c.in_ok-round.ensures.same (room_when p b barren)
+
 pub node-fixings-requires-clause-goes_on : goal.node-fixings-requires-clause-goes_on
 node-fixings-requires-clause-goes_on g t c =
     let p = c.args.self.now.task.now.instance.now in
     let b = c.args.branch.now in
     let on = goes_on p b (told_no_end ((parts_of p).barren b) c.end.result (c.end.ensures p c.requires.serves) c.in_default.is)
-    (told_none_alone ((parts_of p).only b) c.in_ok-hubs.field-0 (c.in_ok-hubs.ensures p c.requires.serves) c.in_default-2.is) in
+    (told_no_end ((parts_of p).blocked b) c.in_ok-line.field-0 c.in_ok-line.ensures c.in_default-2.is)
+    (told_none_alone ((parts_of p).only b) c.in_ok-hubs.field-0 c.in_ok-hubs.ensures c.in_default-3.is) in
     subst (λ (x : Task). GoesOn (parts_of x.instance.now) b) (sym c.in_ok-round.ensures.same) on
 
 pub node-fixed-requires : goal.node-fixed-requires
 node-fixed-requires g t c κs within =
     let task = c.args.self.now.task.now in
+    let barren = told_no_end ((parts_of task.instance.now).barren c.args.branch.now) c.end.result (c.end.ensures task.instance.now c.requires.serves)
+    c.in_default.is in
     let p = c.rounds.new.self.task.now.instance.now in
     let b = c.args.branch.now in
     let middle = c.rounds.new.self.progress in
@@ -384,10 +436,13 @@ node-fixed-requires g t c κs within =
                 (
                   branch_as task c.rounds.new.self.task.now b c.in_ok-round.ensures.same c.requires.branch,
                   (
-                    left.weights,
+                    room_as task c.rounds.new.self.task.now b c.in_ok-round.ensures.same (room_when task.instance.now b barren),
                     (
-                      subst (AreOnFree b) (sym are) (fixings_on_free p (state_of p middle) b w c.requires.branch.free_ascends),
-                      omega (arith, c.requires.deep),
+                      left.weights,
+                      (
+                        subst (AreOnFree b) (sym are) (fixings_on_free p (state_of p middle) b w c.requires.branch.free_ascends),
+                        omega (arith, c.requires.deep),
+                      ),
                     ),
                   ),
                 ),
@@ -409,7 +464,8 @@ node-returns-clause-done g t c =
     let s = state_of p before in
     let go = handling task (c.args.depth - 1) in
     let on = goes_on p b (told_no_end ((parts_of p).barren b) c.end.result (c.end.ensures p c.requires.serves) c.in_default.is)
-    (told_none_alone ((parts_of p).only b) c.in_ok-hubs.field-0 (c.in_ok-hubs.ensures p c.requires.serves) c.in_default-2.is) in
+    (told_no_end ((parts_of p).blocked b) c.in_ok-line.field-0 c.in_ok-line.ensures c.in_default-2.is)
+    (told_none_alone ((parts_of p).only b) c.in_ok-hubs.field-0 c.in_ok-hubs.ensures c.in_default-3.is) in
     let left = c.in_ok-round.ensures.rounds in
     let r = round_as p middle c.in_ok-round.round in
     let same = c.in_ok-round.ensures.same in
