@@ -1,10 +1,12 @@
-use Rattle.std.proofs.Common.{◌≡◌, ℕ, List, length, slice_index, ap, ◌∙◌, arith}
+use Rattle.std.proofs.Common.{◌≡◌, ℕ, List, length, slice_index, ap, sym, subst, ◌∙◌, arith}
+use Rattle.std.specs.List.{AllZip, range_with_len}
 use Rattle.std.proofs.lemmas.Result.{IfOk-weaker}
 use Rattle.hub_spec.specs.Cuts.{Cut, total, load}
 use Rattle.pareto_cuts.specs.Separations.{SetSeparation}
 use Rattle.cut_pool.specs.Entries.{Sums, entry_of}
 use Rattle.search_steps.specs.Pools.{IsSumsOf}
 use Rattle.separators.proofs.WholeCuts.{total_fits, loads_fit, are_sums}
+use Rattle.par_separate.specs.Origins.{AreSumsFrom}
 use Rattle.par_separate.proofs.AddedOrigins.{separation_cut}
 use Rattle.par_separate.proofs.separating.separate_sums.Goals as goal
 
@@ -38,3 +40,10 @@ returns-clause-sums g c =
     (ap length read ∙ c.in_ok-total.ensures.long ∙ nodes)
     (λ k below. ap (λ (xs : List ℕ). slice_index xs k) read ∙ c.in_ok-total.ensures.loads k (omega (arith, below, nodes)) ∙ ap (λ (x : Cut). load x k) cut))
     c.kept_sums.ensures
+
+pub added-requires : goal.added-requires
+added-requires g c =
+    let s = c.new-separation.result in
+    let nodes : c.size.result ≡ s.problem.size = c.size.ensures.value ∙ sym (ap (λ (x : SetSeparation). x.problem.size) c.new-separation.ensures) in
+    let each = subst (λ (n : ℕ). AllZip (AreSumsFrom s) (range_with_len 0 n) c.in_ok-rows.rows.items) nodes c.in_ok-rows.ensures in
+    record { each = subst (AllZip (AreSumsFrom s) (range_with_len 0 s.problem.size)) (sym c.deref.ensures.value) each }
