@@ -1,5 +1,5 @@
 -- The lines of a finding, by what is put: those of its certificate, cut by cut.
-use Rattle.std.proofs.Common.{◌≡◌, ℕ, ◌+◌, ◌-◌, ◌<◌, List, [], ◌++◌, length, flat_map, get_or, ◌≤◌, inl, refl, sym, ap, ◌∙◌, arith}
+use Rattle.std.proofs.Common.{◌≡◌, ℕ, ◌+◌, ◌-◌, ◌<◌, List, [], ◌++◌, length, flat_map, get_or, ◌≤◌, inr, refl, sym, ap, ◌∙◌, arith}
 use Rattle.std.specs.List.{enumerate_from}
 use Rattle.std.proofs.lemmas.List.{length-map, get_or-map}
 use Rattle.std.proofs.lemmas.List.FromFn.{length-enumerate_from}
@@ -27,9 +27,9 @@ use Rattle.proof_text.specs.Texts.{kept_dual_items, found_top_items, found_items
 
 -- ---- the top
 
--- a finding is within the ranges of a certificate
-pub found_in_range : (p : Problem) (found : Found) (h : IsProved p found) → IsInRange (proof_of 1 p found h.tree)
-found_in_range p found h = h.in_range 1 (inl refl)
+-- a finding is within the ranges of a certificate of the second version
+pub found_in_range : (p : Problem) (found : Found) (h : IsProved p found) → IsInRange (proof_of 2 p found h.tree)
+found_in_range p found h = h.in_range 2 (inr refl)
 
 pub top_text : (v : ℕ) (p : Problem) (found : Found) (heading : Heading) {cuts : ℕ} {plan : Plan}
     → IsHeadingOf heading (proof_of v p found empty) → plan ≡ found.plan → cuts ≡ length found.cuts.cuts

@@ -1,5 +1,6 @@
 //! The first lines of the text of what a search found.
 
+ghost use Rattle.hub_spec.specs.Problem.{IsProblem};
 ghost use Rattle.hub_spec.specs.Trees.{Tree};
 ghost use Rattle.cert_scan.specs.Versions.{version_number};
 ghost use Rattle.cert_format.specs.Parts.{IsHeadingOf};
@@ -12,7 +13,9 @@ use kept_cuts::Found;
 /// What the first lines of the certificate say, in this version.
 pub(crate) fn heading_of(instance: &Instance, found: &Found, version: Version) -> Heading
     requires { IsProved instance.now found.now }
-    ensures { (tree : Tree) → IsHeadingOf result (proof_of (version_number version) instance.now found.now tree) }
+    ensures problem { IsProblem instance.now }
+    ensures heading { (tree : Tree) →
+        IsHeadingOf result (proof_of (version_number version) instance.now found.now tree) }
 {
     Heading {
         version,

@@ -20,8 +20,8 @@ signed-requires-2 c =
     let range = found_in_range c.args.instance.now c.args.found.now c.requires in
     omega (arith, range.bound)
 
-pub returns : goal.returns
-returns c = λ tree. record {
+pub returns-clause-heading : goal.returns-clause-heading
+returns-clause-heading c = λ tree. record {
   version = refl;
   size = c.size.ensures.value;
   candidates = ap length c.candidates.ensures.value;

@@ -8,27 +8,29 @@ use Rattle.proof_text.proofs.written.put_found_top.Goals as goal
 
 pub put_top-requires-clause-some : goal.put_top-requires-clause-some
 put_top-requires-clause-some g c =
-    let is = c.heading_of-heading.ensures empty in
+    let is = c.heading_of-heading.ensures.heading empty in
     omega (arith, is.size, (found_in_range c.args.instance.now c.args.found.now c.requires).some_node)
 
 pub put_top-requires-clause-few : goal.put_top-requires-clause-few
 put_top-requires-clause-few g c =
-    let is = c.heading_of-heading.ensures empty in
+    let is = c.heading_of-heading.ensures.heading empty in
     omega (arith, is.size, (found_in_range c.args.instance.now c.args.found.now c.requires).size)
 
 pub put_top-requires-clause-whole : goal.put_top-requires-clause-whole
 put_top-requires-clause-whole g c =
     (found_in_range c.args.instance.now c.args.found.now c.requires).one_route_each
-    ∙ sym (ap (λ n. n * n) (c.heading_of-heading.ensures empty).size)
+    ∙ sym (ap (λ n. n * n) (c.heading_of-heading.ensures.heading empty).size)
 
 pub put_top-requires-clause-cost : goal.put_top-requires-clause-cost
-put_top-requires-clause-cost g c = least c.heading_of-heading.result.cost c.args.found.now.cost (c.heading_of-heading.ensures empty).cost
+put_top-requires-clause-cost g c =
+    least c.heading_of-heading.result.cost c.args.found.now.cost (c.heading_of-heading.ensures.heading empty).cost
 
 pub put_top-requires-clause-bound : goal.put_top-requires-clause-bound
-put_top-requires-clause-bound g c = least c.heading_of-heading.result.bound c.args.found.now.bound (c.heading_of-heading.ensures empty).bound
+put_top-requires-clause-bound g c =
+    least c.heading_of-heading.result.bound c.args.found.now.bound (c.heading_of-heading.ensures.heading empty).bound
 
 pub returns : goal.returns
 returns g c =
     as_text (top_text (version_number c.args.version) c.args.instance.now c.args.found.now c.heading_of-heading.result
-    (c.heading_of-heading.ensures empty) (λ _. c.args.found.now.plan) c.len-cuts.ensures)
+    (c.heading_of-heading.ensures.heading empty) (λ _. c.args.found.now.plan) c.len-cuts.ensures)
     c.put_top.ensures
