@@ -1,25 +1,23 @@
 -- A finding as a certificate of the parts that are made of it.
-use Rattle.std.proofs.Common.{◌≡◌, ℕ, ℤ, pos, List, map, All, inl, inr, ⊎_elim, refl, sym, subst, ap, ◌∙◌, arith}
-use Rattle.hub_spec.specs.Problem.{Problem, IsProblem}
+use Rattle.std.proofs.Common.{◌≡◌, ℕ, ℤ, pos, List, map, sym, subst, ap, ◌∙◌}
+use Rattle.hub_spec.specs.Problem.{Problem}
 use Rattle.hub_spec.specs.Plans.{Plan}
 use Rattle.hub_spec.specs.Cuts.{Cut}
 use Rattle.hub_spec.specs.Trees.{Tree, empty, preorder}
 use Rattle.hub_spec.specs.Certificates.{Proof}
-use Rattle.hub_spec.specs.Ranges.{IsFirstLine, IsInRange}
+use Rattle.hub_spec.specs.Ranges.{IsInRange}
 use Rattle.hub_model.specs.Amounts.{natural, IsNatural}
 use Rattle.plan_model.specs.Lines.{tree_line_of}
 use Rattle.plan_model.specs.declared.tree_lines.TreeLine.{TreeLine}
 use Rattle.kept_cuts.specs.Kept.{kept_cuts}
 use Rattle.kept_cuts.specs.declared.found.Found.{Found}
-use Rattle.kept_cuts.specs.Findings.{lines_of, IsProved, proof_of as found_proof}
-use Rattle.kept_cuts.proofs.Versions.{kept_are_first}
-use Rattle.cert_spec.specs.Grammar.{IsVersion}
+use Rattle.kept_cuts.specs.Findings.{lines_of, IsVersionFor, IsProved, proof_of as found_proof}
 use Rattle.cert_format.specs.Parts.{proof_of as text_proof, AreCertificateParts, IsHeadingOf}
 use Rattle.cert_format.specs.Growing.{tree_of}
 use Rattle.cert_format.specs.Codes.{tree_of-preorder}
 use Rattle.cert_format.specs.declared.headings.Heading.{Heading}
 use Rattle.cert_format.proofs.Amounts.{natural_pos}
-use Rattle.proof_text.specs.Certificates.{SaysLines, IsCertificateOf}
+use Rattle.proof_text.specs.Certificates.{IsCertificateOf}
 
 -- the parts that a certificate is made of are those of the finding
 pub record AreParts (v : ℕ) (p : Problem) (found : Found) (heading : Heading) (plan : Plan) (cuts : List Cut) (lines : List TreeLine) : Type 0 where
@@ -49,51 +47,11 @@ same_proof v p found heading plan cuts lines tree e is = λ t. record {
 pub least : (z : ℤ) (n : ℕ) → z ≡ pos n → IsNatural z
 least z n e = subst (λ (x : ℤ). IsNatural x) (sym e) (natural_pos n)
 
--- in the first version too, where it can say the tree's lines
-first_in_range : (v : ℕ) (p : Problem) (found : Found) → IsProblem p → (h : IsProved p found) → v ≡ 1
-    → All IsFirstLine (lines_of found.tree.items) → IsInRange (found_proof v p found h.tree)
-first_in_range v p found ok h first lines =
-    let r = h.in_range 2 (inr refl) in
-    record {
-      version = inl (
-        first,
-        record {
-          cuts = kept_are_first p found.cuts.cuts ok h.fit;
-          tree = subst (All IsFirstLine) h.lines lines;
-        },
-      );
-      some_node = r.some_node;
-      size = r.size;
-      some_candidate = r.some_candidate;
-      candidates = r.candidates;
-      cost = r.cost;
-      bound = r.bound;
-      some_hub = r.some_hub;
-      hubs_ascend = r.hubs_ascend;
-      hubs = r.hubs;
-      one_route_each = r.one_route_each;
-      routes = r.routes;
-      cut_count = r.cut_count;
-      cuts = r.cuts;
-      line_count = r.line_count;
-      tree = r.tree;
-    }
-
-said_in_range : (v : ℕ) (p : Problem) (found : Found) → IsProblem p → IsVersion v → (h : IsProved p found)
-    → SaysLines v found.tree.items → IsInRange (found_proof v p found h.tree)
-said_in_range v p found ok there h says =
-    ⊎_elim
-    (λ first. first_in_range v p found ok h first
-    (⊎_elim (λ (lines : All IsFirstLine (lines_of found.tree.items)). lines)
-    (λ second. absurd (omega (arith, first, second))) says))
-    (λ second. h.in_range v (inr second)) there
-
 pub certificate_parts : (v : ℕ) (p : Problem) (found : Found) (heading : Heading) (plan : Plan) (cuts : List Cut)
-    (lines : List TreeLine) → IsProblem p → IsVersion v → IsProved p found → SaysLines v found.tree.items
-    → AreParts v p found heading plan cuts lines → AreCertificateParts heading plan cuts lines
-certificate_parts v p found heading plan cuts lines ok there h says e = record {
-  in_range = subst (λ (k : Proof). IsInRange k) (sym (same_proof v p found heading plan cuts lines h.tree e h.lines))
-      (said_in_range v p found ok there h says);
+    (lines : List TreeLine) → IsVersionFor p v → IsProved p found → AreParts v p found heading plan cuts lines
+    → AreCertificateParts heading plan cuts lines
+certificate_parts v p found heading plan cuts lines there h e = record {
+  in_range = subst (λ (k : Proof). IsInRange k) (sym (same_proof v p found heading plan cuts lines h.tree e h.lines)) (h.in_range v there);
   one_tree = ap preorder (same_tree found h.tree lines e.lines_are h.lines) ∙ sym h.lines ∙ sym (ap (map tree_line_of) e.lines_are);
   cost_least = least heading.cost found.cost e.heading_is.cost;
   bound_least = least heading.bound found.bound e.heading_is.bound;

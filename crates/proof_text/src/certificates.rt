@@ -1,12 +1,10 @@
 //! The certificate of what a search found, with all of its duals.
 
-ghost use Rattle.std.specs.Prelude.{◌≡◌, IfOk, IsTrue, All};
-ghost use Rattle.hub_spec.specs.Ranges.{IsFirstLine};
-ghost use Rattle.plan_model.specs.Lines.{tree_line_of};
+ghost use Rattle.std.specs.Prelude.{◌≡◌, IfOk, All};
 ghost use Rattle.cert_scan.specs.Versions.{version_number};
 ghost use Rattle.kept_cuts.specs.Kept.{kept_of, kept_cut, kept_cuts, IsKeptFor};
-ghost use Rattle.kept_cuts.specs.Findings.{lines_of, IsProved};
-ghost use Rattle.proof_text.specs.Certificates.{SaysLines, IsCertificateOf};
+ghost use Rattle.kept_cuts.specs.Findings.{IsProved, IsVersionFor};
+ghost use Rattle.proof_text.specs.Certificates.{IsCertificateOf};
 ghost use Rattle.proof_text.specs.Lenders.{IsLenderFor, made_dual};
 
 use crate::DualLender;
@@ -17,57 +15,23 @@ use kept_cuts::{Found, KeptCut, KeptCuts};
 use plan_model::{Dual, Plan, TreeLine};
 use std::alloc::{AllocError, Global};
 
-/// The certificate of what a search of the instance found in this version, with the duals of each cut made anew.
-///
-/// The answer is `AllocError` where memory runs out, and in the first version also for a tree with a line that it
-/// cannot say: that a commodity is blocked, or that a number of hubs cannot be had.
+/// The certificate of what a search of the instance found in this version, with the duals of each cut made anew. The
+/// first version is for instances in which no length is limited and no number of hubs is wanted: it has no lines for them.
 pub fn certificate_of(
     alloc: Global,
     instance: &Instance,
     found: &Found,
     version: Version,
 ) -> Result<Certificate, AllocError>
+    requires version { IsVersionFor instance.now (version_number version) }
     requires proved { IsProved instance.now found.now }
     ensures { IfOk result (IsCertificateOf (version_number version) instance.now found.now) }
 {
-    if !says_lines(version, &found.tree) {
-        return Err(AllocError);
-    }
     let heading = heading_of(instance, found, version);
     let plan = plan_again(alloc, &found.plan)?;
     let cuts = stated_cuts(alloc, instance, &found.cuts)?;
     let tree = lines_again(alloc, &found.tree)?;
     Ok(Certificate::new(heading, plan, cuts, tree))
-}
-
-// Tells whether the version can say each of these lines.
-fn says_lines(version: Version, lines: &[TreeLine]) -> bool
-    ensures { IsTrue result → SaysLines (version_number version) lines.now }
-{
-    match version {
-        Version::First => are_first_lines(lines),
-        Version::Second => true,
-    }
-}
-
-fn are_first_lines(lines: &[TreeLine]) -> bool
-    ensures { IsTrue result → All IsFirstLine (lines_of lines.now) }
-{
-    for line in lines {
-        if !is_first_line(line) {
-            return false;
-        }
-    }
-    true
-}
-
-fn is_first_line(line: &TreeLine) -> bool
-    ensures { IsTrue result → IsFirstLine (tree_line_of line.now) }
-{
-    match line {
-        TreeLine::BranchOn(_) | TreeLine::Leaf(_) | TreeLine::Empty => true,
-        TreeLine::Block { .. } | TreeLine::Count => false,
-    }
 }
 
 // Each cut, with its duals.

@@ -7,6 +7,7 @@ use crate::instances::numbers;
 use crate::texts::tree_text;
 use branch_tree::search;
 use hub_model::Instance;
+use hub_plain::is_hub_set;
 use kept_cuts::Found;
 use search_steps::Plain;
 use separators::Solo;
@@ -16,6 +17,10 @@ use std::alloc::{AllocError, Global};
 pub(crate) fn found_of(alloc: Global, instance: &Instance, line: &str) -> Result<Found, AllocError>
     ensures { IfOk result (IsProved instance.now) }
 {
+    // The instances of the lines have a network, and want no number of hubs.
+    if instance.wanted().is_some() || !is_hub_set(instance, instance.candidates()) {
+        return Err(AllocError);
+    }
     let nodes = most_nodes(alloc, line)?;
     let mut separator = Solo::new(alloc, instance)?;
     search(alloc, &Plain, instance, nodes, &mut separator)

@@ -1,6 +1,9 @@
 //! Texts as a sink in memory takes them.
 
-ghost use Rattle.kept_cuts.specs.Findings.{IsProved};
+ghost use Rattle.std.specs.Prelude.{IsTrue};
+ghost use Rattle.cert_scan.specs.Versions.{version_number};
+ghost use Rattle.cert_scan.specs.declared.items.Version.TheVariants.{First};
+ghost use Rattle.kept_cuts.specs.Findings.{IsProved, IsVersionFor};
 
 use crate::instances::numbers;
 use crate::searches::found_of;
@@ -97,8 +100,18 @@ fn put_made(
     sink: &mut MemSink,
 ) -> Result<Result<(), Failed>, AllocError> {
     let found = found_of(alloc, instance, line)?;
+    if !is_unlimited(instance) {
+        return Err(AllocError);
+    }
     let certificate = certificate_of(alloc, instance, &found, Version::First)?;
     Ok(write_cert(&certificate, sink))
+}
+
+// Tells whether neither the length of routes is limited nor a number of hubs wanted, as the first version asks.
+fn is_unlimited(instance: &Instance) -> bool
+    ensures { IsTrue result → IsVersionFor instance.now (version_number First) }
+{
+    instance.length_limit().is_none() && instance.wanted().is_none()
 }
 
 // What the sink took, and that a put failed, if one did.

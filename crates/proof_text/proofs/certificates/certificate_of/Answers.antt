@@ -1,8 +1,6 @@
-use Rattle.std.proofs.Common.{subst, ◌∙◌}
+use Rattle.std.proofs.Common.{◌∙◌}
 use Rattle.hub_spec.specs.Trees.{empty}
 use Rattle.cert_scan.specs.Versions.{version_number}
-use Rattle.cert_scan.proofs.Versions.{each_is_version}
-use Rattle.proof_text.specs.Certificates.{SaysLines}
 use Rattle.proof_text.proofs.FoundCertificates.{AreParts, certificate_parts, found_certificate}
 use Rattle.proof_text.proofs.certificates.certificate_of.Goals as goal
 use Rattle.proof_text.proofs.certificates.certificate_of.Goals.{In_ok-tree}
@@ -13,16 +11,12 @@ parts c = record {
   heading_is = c.heading_of-heading.ensures.heading empty;
   plan_is = c.in_ok-plan.ensures;
   cuts_are = c.in_ok-cuts.ensures;
-  lines_are = c.in_ok-tree.ensures ∙ c.deref-2.ensures.value;
+  lines_are = c.in_ok-tree.ensures ∙ c.deref.ensures.value;
 }
 
 pub new-requires : goal.new-requires
 new-requires c =
-    certificate_parts (version_number c.args.version) c.args.instance.now c.args.found.now _ _ _ _
-    c.heading_of-heading.ensures.problem (each_is_version c.args.version) c.requires.proved
-    (subst (SaysLines (version_number c.args.version)) c.deref.ensures.value
-    (c.says_lines.ensures c.if-not-says_lines.false))
-    (parts c)
+    certificate_parts (version_number c.args.version) c.args.instance.now c.args.found.now _ _ _ _ c.requires.version c.requires.proved (parts c)
 
 pub returns : goal.returns
 returns c =
