@@ -1,19 +1,24 @@
 -- What an answer says of the instance and of its own status.
-use Rattle.std.proofs.Common.{◌≡◌, ℕ, ◌<◌, ◌≤◌, List, Option, Some, refl, sym, subst, ap, ◌∙◌, ◌⊎◌, inl, inr, ⊎_elim, arith, nat_eq}
+use Rattle.std.proofs.Common.{◌≡◌, ℕ, ◌<◌, ◌≤◌, List, Option, Some, None, cond, refl, sym, subst, ap, ◌∙◌, ◌⊎◌, inl, inr, ⊎_elim, arith, nat_eq}
+use Rattle.std.specs.Prelude.{is_some}
+use Rattle.std.proofs.lemmas.Option.{none-some}
 use Rattle.std.proofs.lemmas.Bool.{cond-true, cond-false, eq-eqb, ne_eqb, cases_lt}
 use Rattle.hub_io.specs.Outside.{Files}
 use Rattle.hub_spec.specs.Problem.{Problem}
+use Rattle.hub_spec.specs.Plans.{Plan, IsPlan}
+use Rattle.hub_spec.specs.Lacking.{lacking}
 use Rattle.hub_spec.specs.Certificates.{Proof}
 use Rattle.cert_spec.specs.Text.{Spells}
 use Rattle.cert_spec.specs.Verdicts.{Verdict, optimal, bounds, fails, misread, too_long, Why}
 use Rattle.hub_make.specs.Contents.{made_problem}
 use Rattle.hub_words.specs.Requests.{Source, Solving, Making, Search, Request, solve, optimize, check, report, make, demo, instance}
 use Rattle.hub_top.specs.declared.status.Status.{Status}
-use Rattle.hub_top.specs.declared.status.Status.TheVariants.{Done, Stopped, No, Usage, Instance, Memory, Read, Write}
-use Rattle.hub_top.specs.Commands.{HoldsInstance, Method, method_of, demo_method, IsEnoughFor, Solves, Stops, JudgesFile, ReportsFile}
-use Rattle.hub_top.specs.Answers.{Answers, Demonstrates, found_status, rule_status, verdict_status, report_status}
+use Rattle.hub_top.specs.declared.status.Status.TheVariants.{Done, Stopped, No, Usage, Instance, Memory, Read, Write, Lacking}
+use Rattle.hub_top.specs.Commands.{HoldsInstance, Method, method_of, demo_method, IsEnoughFor, Solves, Stops, LacksNetwork, JudgesFile, ReportsFile}
+use Rattle.hub_top.specs.Answers.{Answers, Demonstrates, found_status, rule_status, solve_status, verdict_status, report_status}
 use Rattle.hub_top.proofs.OneReading.{same_bytes, one_instance}
 use Rattle.hub_top.proofs.OneTexts.{only_verdict}
+use Rattle.hub_top.proofs.Networks.{plan_serves}
 
 -- ---- the instance
 
@@ -31,6 +36,7 @@ solve_instance files x Instance text h = absurd h
 solve_instance files x Memory text h = absurd h
 solve_instance files x Read text h = absurd h
 solve_instance files x Write text h = absurd h
+solve_instance files x Lacking text h = absurd h
 
 optimize_instance : (files : Files) (x : Solving) (status : Status) (text : List ℕ) → Answers (optimize x) status (Some files) text
     → HasInstance files x.source
@@ -42,6 +48,7 @@ optimize_instance files x Instance text h = absurd h
 optimize_instance files x Memory text h = absurd h
 optimize_instance files x Read text h = absurd h
 optimize_instance files x Write text h = absurd h
+optimize_instance files x Lacking text h = absurd h
 
 report_instance : (files : Files) (s : Source) (file : List ℕ) (status : Status) (text : List ℕ) → Answers (report s file) status (Some files) text
     → HasInstance files s
@@ -53,6 +60,7 @@ report_instance files s file Instance text h = absurd h
 report_instance files s file Memory text h = absurd h
 report_instance files s file Read text h = absurd h
 report_instance files s file Write text h = absurd h
+report_instance files s file Lacking text h = absurd h
 
 pub answered_instance : (files : Files) (request : Request) (s : Source) (status : Status) (text : List ℕ) → instance request ≡ Some s
     → Answers request status (Some files) text → HasInstance files s
@@ -83,18 +91,44 @@ pub stops_status : (p : Problem) (m : Method) (tells : Proof → Type 0) → Sto
 unfolding rule_status
 stops_status p m tells h = sym (ap found_status (sym h.by_rule) ∙ stopped_status h.certificate h.gap)
 
-pub solve_status : (files : Files) (x : Solving) (p : Problem) (status : Status) (text : List ℕ) → HoldsInstance files x.source p
-    → Answers (solve x) status (Some files) text → status ≡ rule_status p (method_of x)
-solve_status files x p Done text instance h =
-    solves_status h.problem (method_of x) (Spells text) h.solves ∙ ap (λ q. rule_status q (method_of x)) (one_instance files x.source h.problem p h.instance instance)
-solve_status files x p Stopped text instance h =
-    stops_status h.problem (method_of x) (Spells text) h.stops ∙ ap (λ q. rule_status q (method_of x)) (one_instance files x.source h.problem p h.instance instance)
-solve_status files x p No text instance h = absurd h
-solve_status files x p Usage text instance h = absurd h
-solve_status files x p Instance text instance h = absurd h
-solve_status files x p Memory text instance h = absurd h
-solve_status files x p Read text instance h = absurd h
-solve_status files x p Write text instance h = absurd h
+-- where there is a plan, `solve` has it
+served_status : (p : Problem) (m : Method) (plan : Plan) → IsPlan p plan → rule_status p m ≡ solve_status p m
+unfolding solve_status
+served_status p m plan is =
+    sym (ap (λ (o : Option (ℕ × ℕ)). cond (is_some o) Lacking (rule_status p m)) (plan_serves p plan is))
+
+pub solve_status_is : (files : Files) (x : Solving) (p : Problem) (status : Status) (text : List ℕ) → HoldsInstance files x.source p
+    → Answers (solve x) status (Some files) text → status ≡ solve_status p (method_of x)
+solve_status_is files x p Done text instance h =
+    let m = method_of x in
+    solves_status h.problem m (Spells text) h.solves ∙ served_status h.problem m h.solves.certificate.plan h.solves.finds.holds.plan
+    ∙ ap (λ q. solve_status q m) (one_instance files x.source h.problem p h.instance instance)
+solve_status_is files x p Stopped text instance h =
+    let m = method_of x in
+    stops_status h.problem m (Spells text) h.stops ∙ served_status h.problem m h.stops.certificate.plan h.stops.finds.holds.plan
+    ∙ ap (λ q. solve_status q m) (one_instance files x.source h.problem p h.instance instance)
+solve_status_is files x p No text instance h = absurd h
+solve_status_is files x p Usage text instance h = absurd h
+solve_status_is files x p Instance text instance h = absurd h
+solve_status_is files x p Memory text instance h = absurd h
+solve_status_is files x p Read text instance h = absurd h
+solve_status_is files x p Write text instance h = absurd h
+solve_status_is files x p Lacking text instance h = absurd h
+
+-- and so it is where all candidates together lack a commodity
+pub lacking_status : (files : Files) (x : Solving) (p : Problem) (commodity : ℕ × ℕ) → HoldsInstance files x.source p
+    → LacksNetwork (Some files) x.source commodity → Lacking ≡ solve_status p (method_of x)
+unfolding solve_status
+lacking_status files x p commodity instance h =
+    let m = method_of x in
+    sym (ap (λ (o : Option (ℕ × ℕ)). cond (is_some o) Lacking (rule_status h.problem m)) h.lacks)
+    ∙ ap (λ q. solve_status q m) (one_instance files x.source h.problem p h.instance instance)
+
+pub lacks_none : (files : Files) (x : Solving) (p : Problem) (commodity : ℕ × ℕ) → HoldsInstance files x.source p
+    → lacking p p.candidates ≡ None → LacksNetwork (Some files) x.source commodity → ⊥
+lacks_none files x p commodity instance none h =
+    let same : h.problem ≡ p = one_instance files x.source h.problem p h.instance instance in
+    none-some commodity (sym none ∙ subst (λ (q : Problem). lacking q q.candidates ≡ Some commodity) same h.lacks)
 
 pub solve_enough : (files : Files) (x : Solving) (p : Problem) (status : Status) (text : List ℕ) → HoldsInstance files x.source p
     → IsEnoughFor p x.search.nodes → Answers (solve x) status (Some files) text → status ≡ Done
@@ -108,6 +142,7 @@ solve_enough files x p Instance text instance enough h = absurd h
 solve_enough files x p Memory text instance enough h = absurd h
 solve_enough files x p Read text instance enough h = absurd h
 solve_enough files x p Write text instance enough h = absurd h
+solve_enough files x p Lacking text instance enough h = absurd h
 
 -- `optimize` has one of two statuses
 pub optimize_status : (held : Option Files) (x : Solving) (status : Status) (text : List ℕ) → Answers (optimize x) status held text
@@ -120,6 +155,7 @@ optimize_status held x Instance text h = absurd h
 optimize_status held x Memory text h = absurd h
 optimize_status held x Read text h = absurd h
 optimize_status held x Write text h = absurd h
+optimize_status held x Lacking text h = absurd h
 
 -- and one alone where as many nodes are allowed as a whole tree has
 pub optimize_enough : (files : Files) (x : Solving) (p : Problem) (status : Status) (text : List ℕ) → HoldsInstance files x.source p
@@ -134,6 +170,7 @@ optimize_enough files x p Instance text instance enough h = absurd h
 optimize_enough files x p Memory text instance enough h = absurd h
 optimize_enough files x p Read text instance enough h = absurd h
 optimize_enough files x p Write text instance enough h = absurd h
+optimize_enough files x p Lacking text instance enough h = absurd h
 
 pub demo_status : (held : Option Files) (m : Making) (search : Search) (status : Status) (text : List ℕ)
     → Answers (demo m search) status held text → status ≡ rule_status (made_problem m.seed m.size) (demo_method search)
@@ -145,6 +182,7 @@ demo_status held m search Instance text h = absurd h
 demo_status held m search Memory text h = absurd h
 demo_status held m search Read text h = absurd h
 demo_status held m search Write text h = absurd h
+demo_status held m search Lacking text h = absurd h
 
 pub demo_enough : (held : Option Files) (m : Making) (search : Search) (status : Status) (text : List ℕ)
     → IsEnoughFor (made_problem m.seed m.size) search.nodes → Answers (demo m search) status held text → status ≡ Done
@@ -156,6 +194,7 @@ demo_enough held m search Instance text enough h = absurd h
 demo_enough held m search Memory text enough h = absurd h
 demo_enough held m search Read text enough h = absurd h
 demo_enough held m search Write text enough h = absurd h
+demo_enough held m search Lacking text enough h = absurd h
 
 pub make_status : (held : Option Files) (m : Making) (status : Status) (text : List ℕ) → Answers (make m) status held text → status ≡ Done
 make_status held m Done text h = refl
@@ -166,6 +205,7 @@ make_status held m Instance text h = absurd h
 make_status held m Memory text h = absurd h
 make_status held m Read text h = absurd h
 make_status held m Write text h = absurd h
+make_status held m Lacking text h = absurd h
 
 -- ---- the status of a verdict
 
@@ -226,3 +266,4 @@ report_status_is files s file p bytes v Instance text h held why k = absurd k
 report_status_is files s file p bytes v Memory text h held why k = absurd k
 report_status_is files s file p bytes v Read text h held why k = absurd k
 report_status_is files s file p bytes v Write text h held why k = absurd k
+report_status_is files s file p bytes v Lacking text h held why k = absurd k

@@ -5,14 +5,14 @@ use Rattle.hub_spec.specs.Problem.{Problem}
 use Rattle.file_spec.specs.Faults.{Fault}
 use Rattle.hub_make.specs.Contents.{made_problem}
 use Rattle.hub_top.specs.declared.status.Status.{Status}
-use Rattle.hub_top.specs.declared.status.Status.TheVariants.{Done, Stopped, Usage, Instance}
-use Rattle.hub_words.specs.Requests.{Source, Request, solve, optimize, check, report, make, demo, instance}
-use Rattle.hub_top.specs.Commands.{WhereTold, Blame, HasBlame, HoldsInstance, method_of, demo_method}
-use Rattle.hub_top.specs.Answers.{Answers, verdict_status, report_status, rule_status}
-use Rattle.hub_top.specs.Outcomes.{Outcome, answered, usage, faulty, memory, read, status_of, ShelfFails, Quiet, MayComeTo, Written, whole, out_cut, err_cut}
+use Rattle.hub_top.specs.declared.status.Status.TheVariants.{Done, Stopped, Usage, Instance, Lacking}
+use Rattle.hub_words.specs.Requests.{Source, Solving, Request, solve, optimize, check, report, make, demo, instance}
+use Rattle.hub_top.specs.Commands.{WhereTold, Blame, HasBlame, HoldsInstance, LacksNetwork, method_of, demo_method}
+use Rattle.hub_top.specs.Answers.{Answers, verdict_status, report_status, rule_status, solve_status}
+use Rattle.hub_top.specs.Outcomes.{Outcome, answered, usage, faulty, no_network, memory, read, status_of, ShelfFails, Quiet, MayComeTo, Written, whole, out_cut, err_cut}
 use Rattle.hub_top.specs.Completeness.{Completeness, EndsAs, EndsWith}
 use Rattle.hub_top.proofs.OneReading.{no_blame}
-use Rattle.hub_top.proofs.Answered.{answered_instance, solve_status, solve_enough, optimize_status, optimize_enough, check_status, report_status_is, make_status, demo_status, demo_enough}
+use Rattle.hub_top.proofs.Answered.{answered_instance, solve_status_is, lacking_status, lacks_none, solve_enough, optimize_status, optimize_enough, check_status, report_status_is, make_status, demo_status, demo_enough}
 
 -- an ending that is written whole has its status, and a sink that fails counts it
 written_status : {O E : Type 0} (out_taken : O → Option (List ℕ)) (out_faults : O → ℕ) (err_taken : E → Option (List ℕ)) (err_faults : E → ℕ)
@@ -37,6 +37,7 @@ ends_usage : (held : Option Files) (fails : Request → Type 0) (e : Outcome) �
 ends_usage held fails (answered status text) may = (let is = may.1 in cc)
 ends_usage held fails usage may = inl refl
 ends_usage held fails (faulty blame fault) may = (let is = may.1 in cc)
+ends_usage held fails (no_network commodity) may = (let is = may.1 in cc)
 ends_usage held fails memory may = inr refl
 ends_usage held fails read may = (let is = may.1 in cc)
 
@@ -50,6 +51,11 @@ ends_faulty files request s blame fault named has fails quiet (answered status t
     absurd (no_blame files s there.problem there.instance blame fault has)
 ends_faulty files request s blame fault named has fails quiet usage may = cc
 ends_faulty files request s blame fault named has fails quiet (faulty other also) may = inl refl
+ends_faulty files request s blame fault named has fails quiet (no_network commodity) may =
+    let r : request ≡ solve may.0 = asked_request request (solve may.0) may.1 in
+    let own : may.0.source ≡ s = same_source request may.0.source s (ap instance r) named in
+    let h = may.2 in
+    absurd (no_blame files s h.problem (subst (λ (x : Source). HoldsInstance files x h.problem) own h.instance) blame fault has)
 ends_faulty files request s blame fault named has fails quiet memory may = inr refl
 ends_faulty files request s blame fault named has fails quiet read may = absurd (quiet may.0 may.2)
 
@@ -69,20 +75,27 @@ blameless_of files request s p named h blame fault t also has =
 blameless_without : (held : Option Files) (request : Request) → instance request ≡ None → IsBlameless held request
 blameless_without held request none blame fault t also has = cc
 
+-- a run may end so that is asked to solve and tells of a lacked commodity
+abbrev MayLack : Option Files → Request → (Status → Type 0) → Type 0
+MayLack held request wanted =
+    (s : Solving) (commodity : ℕ × ℕ) → request ≡ solve s → LacksNetwork held s.source commodity → wanted Lacking
+
 -- how a request ends without a fault, where its answers have such a status
-ends_by : (request : Request) (held : Option Files) (wanted : Status → Type 0) → IsBlameless held request
+ends_by : (request : Request) (held : Option Files) (wanted : Status → Type 0) → IsBlameless held request → MayLack held request wanted
     → ((status : Status) (text : List ℕ) → Answers request status held text → wanted status)
     → (fails : Request → Type 0) → ((other : Request) → fails other → ⊥)
     → (e : Outcome) → MayComeTo (Some request) held fails e → EndsAs wanted (status_of e)
-ends_by request held wanted blameless answers fails quiet (answered status text) may =
+ends_by request held wanted blameless lacks answers fails quiet (answered status text) may =
     let r : may.0 ≡ request = sym (asked_request request may.0 may.1) in
     inl (answers status text (subst (λ (x : Request). Answers x status held text) r may.2))
-ends_by request held wanted blameless answers fails quiet usage may = cc
-ends_by request held wanted blameless answers fails quiet (faulty blame fault) may =
+ends_by request held wanted blameless lacks answers fails quiet usage may = cc
+ends_by request held wanted blameless lacks answers fails quiet (faulty blame fault) may =
     let r : may.0 ≡ request = sym (asked_request request may.0 may.2) in
     absurd (blameless blame fault may.1 (ap instance (sym r) ∙ may.3) may.4)
-ends_by request held wanted blameless answers fails quiet memory may = inr refl
-ends_by request held wanted blameless answers fails quiet read may = absurd (quiet may.0 may.2)
+ends_by request held wanted blameless lacks answers fails quiet (no_network commodity) may =
+    inl (lacks may.0 commodity (asked_request request (solve may.0) may.1) may.2)
+ends_by request held wanted blameless lacks answers fails quiet memory may = inr refl
+ends_by request held wanted blameless lacks answers fails quiet read may = absurd (quiet may.0 may.2)
 
 -- the status that was ended with is that of the ending
 status_by : (status : Status) (e : Outcome) (wanted : Status → Type 0) → status ≡ status_of e → EndsAs wanted (status_of e) → EndsAs wanted status
@@ -91,19 +104,20 @@ status_by status e wanted is h = subst (λ (x : Status). EndsAs wanted x) (sym i
 module _ (asked : Option Request) (held : Option Files) (fails : Request → Type 0) (quiet : Type 0) (e : Outcome) (status : Status)
     (may : MayComeTo asked held fails e) (no_fault : quiet → (request : Request) → fails request → ⊥) (written : quiet → status ≡ status_of e) where
   -- what a command whose answers have such a status ends with
-  command_ends : (request : Request) (wanted : Status → Type 0) → asked ≡ Some request → IsBlameless held request
+  command_ends : (request : Request) (wanted : Status → Type 0) → asked ≡ Some request → IsBlameless held request → MayLack held request wanted
       → ((other : Status) (text : List ℕ) → Answers request other held text → wanted other) → quiet → EndsAs wanted status
-  command_ends request wanted is blameless answers calm =
+  command_ends request wanted is blameless lacks answers calm =
       let P : Option Request → Type 0 = λ x. MayComeTo x held fails e in
-      status_by status e wanted (written calm) (ends_by request held wanted blameless answers fails (no_fault calm) e (subst P is may))
+      status_by status e wanted (written calm) (ends_by request held wanted blameless lacks answers fails (no_fault calm) e (subst P is may))
 
   -- and where the files are told, and give the instance
   told_ends : (files : Files) (request : Request) (s : Source) (p : Problem) (wanted : Status → Type 0) → held ≡ Some files → asked ≡ Some request
-      → instance request ≡ Some s → HoldsInstance files s p
+      → instance request ≡ Some s → HoldsInstance files s p → MayLack (Some files) request wanted
       → ((other : Status) (text : List ℕ) → Answers request other (Some files) text → wanted other) → quiet → EndsAs wanted status
-  told_ends files request s p wanted told is named h answers calm =
+  told_ends files request s p wanted told is named h lacks answers calm =
       let back : Some files ≡ held = sym told in
       command_ends request wanted is (subst (λ (x : Option Files). IsBlameless x request) back (blameless_of files request s p named h))
+      (subst (λ (x : Option Files). MayLack x request wanted) back lacks)
       (subst (λ (x : Option Files). (other : Status) (text : List ℕ) → Answers request other x text → wanted other) back answers) calm
 
   -- the endings of a run in which no read failed
@@ -114,23 +128,31 @@ module _ (asked : Option Request) (held : Option Files) (fails : Request → Typ
         let P : Option Request → Type 0 = λ x. MayComeTo x held fails e in
         let Q : Option Files → Type 0 = λ x. MayComeTo (Some request) x fails e in
         status_by status e (λ (x : Status). x ≡ Instance) (written calm) (ends_faulty files request s blame fault named has fails (no_fault calm) e (subst Q told (subst P is may)));
-    solved = λ files s p told is h. told_ends files (solve s) s.source p (λ (x : Status). x ≡ rule_status p (method_of s)) told is refl h
-        (λ other text answers. solve_status files s p other text h answers);
-    enough = λ files s p told is h many. told_ends files (solve s) s.source p (λ (x : Status). x ≡ Done) told is refl h
+    solved = λ files s p told is h. told_ends files (solve s) s.source p (λ (x : Status). x ≡ solve_status p (method_of s)) told is refl h
+        (λ t commodity same k. (let own : t ≡ s = cc in
+        lacking_status files s p commodity h (subst (λ (x : Solving). LacksNetwork (Some files) x.source commodity) own k)))
+        (λ other text answers. solve_status_is files s p other text h answers);
+    enough = λ files s p told is h none many. told_ends files (solve s) s.source p (λ (x : Status). x ≡ Done) told is refl h
+        (λ t commodity same k. (let own : t ≡ s = cc in
+        absurd (lacks_none files s p commodity h none (subst (λ (x : Solving). LacksNetwork (Some files) x.source commodity) own k))))
         (λ other text answers. solve_enough files s p other text h many answers);
     optimized = λ files s p told is h many. told_ends files (optimize s) s.source p (λ (x : Status). x ≡ Done) told is refl h
+        (λ t commodity same k. cc)
         (λ other text answers. optimize_enough files s p other text h many answers);
     bounded = λ files s p told is h. told_ends files (optimize s) s.source p (λ (x : Status). (x ≡ Done) ⊎ (x ≡ Stopped)) told is refl h
+        (λ t commodity same k. cc)
         (λ other text answers. optimize_status (Some files) s other text answers);
     judged = λ files s certificate p bytes verdict told is h there why. told_ends files (check s certificate) s p (λ (x : Status). x ≡ verdict_status verdict) told is refl h
+        (λ t commodity same k. cc)
         (λ other text answers. check_status files s certificate p bytes verdict other text h there why answers);
     reported = λ files s certificate p bytes verdict told is h there why. told_ends files (report s certificate) s p (λ (x : Status). x ≡ report_status verdict) told is refl h
+        (λ t commodity same k. cc)
         (λ other text answers. report_status_is files s certificate p bytes verdict other text h there why answers);
-    made = λ m is. command_ends (make m) (λ (x : Status). x ≡ Done) is (blameless_without held (make m) refl) (λ other text answers. make_status held m other text answers);
+    made = λ m is. command_ends (make m) (λ (x : Status). x ≡ Done) is (blameless_without held (make m) refl) (λ t commodity same k. cc) (λ other text answers. make_status held m other text answers);
     shown = λ m search is. command_ends (demo m search) (λ (x : Status). x ≡ rule_status (made_problem m.seed m.size) (demo_method search)) is
-        (blameless_without held (demo m search) refl) (λ other text answers. demo_status held m search other text answers);
+        (blameless_without held (demo m search) refl) (λ t commodity same k. cc) (λ other text answers. demo_status held m search other text answers);
     shown_whole = λ m search is many. command_ends (demo m search) (λ (x : Status). x ≡ Done) is
-        (blameless_without held (demo m search) refl) (λ other text answers. demo_enough held m search other text many answers);
+        (blameless_without held (demo m search) refl) (λ t commodity same k. cc) (λ other text answers. demo_enough held m search other text many answers);
   }
 
 pub completeness : {S O E : Type 0} (held : S → Option Files) (faults : S → ℕ) (sound : S → Type 0) (old new : S)

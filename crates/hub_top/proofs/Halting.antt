@@ -7,7 +7,8 @@ use Rattle.file_spec.specs.Faults.{Fault}
 use Rattle.file_spec.specs.Contents.{Contents}
 use Rattle.file_spec.specs.Files.{HasContents}
 use Rattle.file_spec.specs.Instances as whole
-use Rattle.file_spec.specs.Instances.{made}
+use Rattle.file_spec.specs.Options.{HubNumber, Options}
+use Rattle.file_spec.specs.Instances.{made, wanted_hubs}
 use Rattle.hub_words.specs.Requests.{Source}
 use Rattle.hub_top.specs.declared.halts.Halt.{Halt}
 use Rattle.hub_top.specs.declared.halts.Halt.TheVariants as halts
@@ -15,7 +16,7 @@ use Rattle.hub_top.specs.Blames.{blame_of}
 use Rattle.hub_model.specs.Faults.{fault_of}
 use Rattle.hub_top.specs.Commands.{WhereTold, Blame, on_instance, on_costs, HoldsFault, alone, together, HoldsCosts, HoldsContents, HoldsCostFault, HoldsInstance, LacksSource, no_file, no_costs, LacksCertificate}
 use Rattle.hub_top.specs.Outcomes.{FailsFor, StaysShelf}
-use Rattle.hub_top.specs.Building.{IsBuilt}
+use Rattle.hub_top.specs.Building.{IsBuilt, KeepsLimits}
 use Rattle.hub_top.specs.Halts.{Halts, IsTooLong, IsOfToken, IsOfWhole, IsOfCosts, IsOfCostTokens, HasCostsFault, LacksCosts, IsOfSource}
 
 -- ---- what is told of the files
@@ -184,6 +185,14 @@ built_instance (Some files) s bytes contents costs p r given h =
       costs_held = subst P sized given;
       gives = record { not_too_long = r.short; contents = contents; has = r.has; legal = h.legal; is = h.is };
     }
+
+-- and it keeps the limits that the options say
+pub built_limits : (o : Options) (contents : Contents) (costs : Option (List ℕ)) (p : Problem) → IsBuilt o contents costs p → KeepsLimits o p
+unfolding made
+built_limits o contents costs p h = record {
+  longest = ap (λ (q : Problem). q.longest) h.is;
+  wanted = λ none. ap (λ (q : Problem). q.wanted) h.is ∙ ap (λ (hubs : Option HubNumber). wanted_hubs hubs contents.listed_p) none;
+}
 
 -- what was read of the file, by the bytes as they are handed on
 pub has_read : (held : Option Files) (s : Source) (read bytes : List ℕ) (contents : Contents) → bytes ≡ read → length read ≤ file_limit

@@ -3,6 +3,7 @@ pub mod Writing
 pub mod RuleCertificates
 pub mod OneTexts
 pub mod Versions
+pub mod Networks
 pub mod Searched
 pub mod Optimized
 pub mod Answered

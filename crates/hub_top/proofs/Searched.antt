@@ -1,18 +1,17 @@
 -- What the code of a search found is told as the commands ask: `solve` by its text, `demo` by five lines.
-use Rattle.std.proofs.Common.{◌≡◌, ℕ, ◌<◌, ◌≤◌, length, Option, inl, refl, sym, subst, ap, ◌∙◌, arith, nat_eq, cond}
+use Rattle.std.proofs.Common.{◌≡◌, ℕ, ◌<◌, ◌≤◌, length, All, Option, inl, inr, ⊎_elim, refl, sym, subst, ap, ◌∙◌, arith, nat_eq, cond}
 use Rattle.std.proofs.lemmas.List.{length-map}
 use Rattle.std.proofs.lemmas.Bool.{cond_both, eqb-true, eqb-false}
 use Rattle.hub_io.specs.Outside.{Files}
 use Rattle.hub_spec.specs.Problem.{Problem}
-use Rattle.hub_spec.specs.Trees.{line_count}
-use Rattle.hub_spec.specs.Ranges.{IsVersionOf}
+use Rattle.hub_spec.specs.Trees.{preorder, line_count}
+use Rattle.hub_spec.specs.Ranges.{IsFirstLine, IsSecond, IsVersionOf}
 use Rattle.hub_spec.proofs.Preorders.{length-preorder}
 use Rattle.plan_model.specs.Lines.{tree_line_of}
 use Rattle.search_spec.proofs.FoundProofs.{certificate_in_range_lem}
 use Rattle.cert_spec.specs.Text.{certificate_text, Spells}
-use Rattle.cert_spec.specs.Grammar.{IsVersion}
 use Rattle.kept_cuts.specs.declared.found.Found.{Found}
-use Rattle.kept_cuts.specs.Findings.{IsProved, proof_of}
+use Rattle.kept_cuts.specs.Findings.{IsUnlimited, IsVersionFor, IsProved, proof_of}
 use Rattle.kept_cuts.proofs.Versions.{has_text}
 use Rattle.branch_tree.specs.Findings.{found_by}
 use Rattle.proof_text.specs.Texts.{found_text}
@@ -32,7 +31,7 @@ use Rattle.hub_top.proofs.RuleCertificates.{rule_proof, rule_is_certificate, rul
 -- the status is that of the rule's certificate
 status_is : (p : Problem) (m : Method) (found : Found) → IsSearched p m.nodes found → finding_status found ≡ found_status (rule_certificate p m)
 status_is p m found h =
-    let is = rule_is_certificate p m h.problem in
+    let is = rule_is_certificate p m h.problem h.network in
     ap (λ (b : ℕ). cond (nat_eq b found.cost) Done Stopped) (h.finding.bound ∙ sym is.bound)
     ∙ ap (λ (c : ℕ). cond (nat_eq (rule_certificate p m).bound c) Done Stopped) (h.finding.cost ∙ sym is.cost)
 
@@ -43,29 +42,36 @@ by_status : (p : Problem) (m : Method) (found : Found) (P : Status → Type 0) �
     → P (finding_status found)
 by_status p m found P h closed gap =
     let k = rule_certificate p m in
-    let is = rule_is_certificate p m h.problem in
-    let within : k.bound ≤ k.cost = omega (arith, is.bound, is.cost, (rule_proof p m.nodes h.problem).within_cost) in
+    let is = rule_is_certificate p m h.problem h.network in
+    let within : k.bound ≤ k.cost = omega (arith, is.bound, is.cost, (rule_proof p m.nodes h.problem h.network).within_cost) in
     subst P (sym (status_is p m found h))
     (cond_both (nat_eq k.bound k.cost) Done Stopped P (λ e. closed (eqb-true k.bound k.cost e))
     (λ e. gap (let apart = eqb-false k.bound k.cost e in omega (arith, within, apart))))
 
--- its text is that of the rule's certificate, in a version that there is
-spells_rule : (p : Problem) (m : Method) (found : Found) → IsVersion m.version → IsSearched p m.nodes found
+-- its tree has only lines of the first version, where the instance is unlimited
+first_lines : (p : Problem) (n : Option ℕ) (found : Found) → IsSearched p n found → IsUnlimited p → All IsFirstLine (preorder (found_by p n).tree)
+first_lines p n found h unlimited =
+    let proved = h.proved in
+    ⊎_elim (λ first. subst (All IsFirstLine) (sym proved.lines ∙ h.finding.lines) first.1.tree)
+    (λ (second : IsSecond 1). absurd (omega (arith, second))) (proved.in_range 1 (inl (refl, unlimited))).version
+
+-- its text is that of the rule's certificate, in a version that there is for the instance
+spells_rule : (p : Problem) (m : Method) (found : Found) → IsVersionFor p m.version → IsSearched p m.nodes found
     → Spells (found_text m.version p found) (rule_certificate p m)
 spells_rule p m found version h =
     let g = found_by p m.nodes in
     let k = rule_certificate p m in
-    let is = rule_is_certificate p m h.problem in
+    let is = rule_is_certificate p m h.problem h.network in
     let same : proof_of m.version p found g.tree ≡ k = h.certificate m.version in
     record {
-      in_range = certificate_in_range_lem p m.version g k h.problem (rule_proof p m.nodes h.problem) is
-          (subst IsVersionOf same (has_text p found g.tree m.version h.problem h.proved.fit h.finding.lines version))
+      in_range = certificate_in_range_lem p m.version g k h.problem (rule_proof p m.nodes h.problem h.network) is
+          (subst IsVersionOf same (has_text p found g.tree m.version h.problem h.proved.fit (first_lines p m.nodes found h) version))
           (omega (arith, ap length is.cuts, h.finding.few_cuts)) (omega (arith, ap line_count is.tree, h.finding.few_lines));
       text = found_text_certificate m.version p found g.tree h.finding.lines ∙ ap certificate_text same;
     }
 
--- `solve` answers so, in a version that there is
-pub solve_answers : (held : Option Files) (s : Solving) (p : Problem) (found : Found) → IsVersion s.version
+-- `solve` answers so, in a version that there is for the instance
+pub solve_answers : (held : Option Files) (s : Solving) (p : Problem) (found : Found) → IsVersionFor p s.version
     → WhereTold held (λ files. HoldsInstance files s.source p) → IsSearched p s.search.nodes found
     → Answers (solve s) (finding_status found) held (found_text s.version p found)
 solve_answers held s p found version instance h =
@@ -73,8 +79,8 @@ solve_answers held s p found version instance h =
     let text = found_text s.version p found in
     let spelled = spells_rule p m found version h in
     by_status p m found (λ x. Answers (solve s) x held text) h
-    (λ closed. record { problem = p; instance = instance; solves = rule_solves p m (Spells text) h.problem spelled closed })
-    (λ gap. record { problem = p; instance = instance; stops = rule_stops p m (Spells text) h.problem spelled gap })
+    (λ closed. record { problem = p; instance = instance; solves = rule_solves p m (Spells text) h.problem h.network spelled closed })
+    (λ gap. record { problem = p; instance = instance; stops = rule_stops p m (Spells text) h.problem h.network spelled gap })
 
 -- a line of what was found for each of the rule's tree
 lines_long : (p : Problem) (n : Option ℕ) (found : Found) → IsSearched p n found → length found.tree.items ≡ line_count (found_by p n).tree
@@ -86,7 +92,7 @@ five_lines : (p : Problem) (m : Method) (found : Found) → IsSearched p m.nodes
     → lines.demo_text p.size found.cost found.bound found.plan.hubs (length found.tree.items) ≡ demo_text (rule_certificate p m)
 five_lines p m found h =
     let k = rule_certificate p m in
-    let is = rule_is_certificate p m h.problem in
+    let is = rule_is_certificate p m h.problem h.network in
     let tree = lines_long p m.nodes found h in
     rw (h.finding.cost, h.finding.bound, h.finding.hubs, tree, is.size, is.cost, is.bound, is.hubs, is.tree) refl
 
@@ -101,14 +107,14 @@ demo_answers held m search size found sized h =
     let told : Demonstrates text (rule_certificate p by) =
     ap (λ (x : ℕ). lines.demo_text x found.cost found.bound found.plan.hubs (length found.tree.items)) sized ∙ five_lines p by found h in
     by_status p by found (λ x. Answers (demo m search) x held text) h
-    (λ closed. rule_solves p by (Demonstrates text) h.problem told closed)
-    (λ gap. rule_stops p by (Demonstrates text) h.problem told gap)
+    (λ closed. rule_solves p by (Demonstrates text) h.problem h.network told closed)
+    (λ gap. rule_stops p by (Demonstrates text) h.problem h.network told gap)
 
 -- a made instance has the size that was asked for
 pub made_size : (m : Making) → m.size ≡ (made_problem m.seed m.size).size
 unfolding made made_contents
 made_size m = refl
 
--- the amounts of what is proved are those of its certificate of the first version
+-- the amounts of what is proved are those of its certificate of the second version
 pub found_amounts : (p : Problem) (found : Found) → IsProved p found → HasAmounts found
-found_amounts p found proved = let range = proved.in_range 1 (inl refl) in record { cost = range.cost; bound = range.bound }
+found_amounts p found proved = let range = proved.in_range 2 (inr refl) in record { cost = range.cost; bound = range.bound }

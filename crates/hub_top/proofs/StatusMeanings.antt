@@ -6,9 +6,9 @@ use Rattle.cert_spec.specs.Verdicts.{Verdict, optimal, bounds, misread, too_long
 use Rattle.cert_spec.specs.Verdicts as verdicts
 use Rattle.hub_words.specs.Requests.{Source, Solving, Making, Search, Request, solve, optimize, check, report, make, demo}
 use Rattle.hub_top.specs.declared.status.Status.{Status}
-use Rattle.hub_top.specs.declared.status.Status.TheVariants.{Done, Stopped, No, Usage, Instance, Memory, Read, Write}
+use Rattle.hub_top.specs.declared.status.Status.TheVariants.{Done, Stopped, No, Usage, Instance, Memory, Read, Write, Lacking}
 use Rattle.hub_top.specs.Answers.{Answers, verdict_status}
-use Rattle.hub_top.specs.Outcomes.{Outcome, answered, usage, faulty, memory, read, status_of, out_text, MayComeTo, Written, whole, out_cut, err_cut}
+use Rattle.hub_top.specs.Outcomes.{Outcome, answered, usage, faulty, no_network, memory, read, status_of, out_text, MayComeTo, Written, whole, out_cut, err_cut}
 use Rattle.hub_top.specs.Meanings.{Means}
 
 -- a status with which no command answers
@@ -21,6 +21,7 @@ HasNoAnswer Instance = Unit {0}
 HasNoAnswer Memory = Unit {0}
 HasNoAnswer Read = Unit {0}
 HasNoAnswer Write = Unit {0}
+HasNoAnswer Lacking = Unit {0}
 
 of_verdict : (v : Verdict) (status : Status) → HasNoAnswer status → verdict_status v ≡ status → ⊥
 of_verdict (optimal cost) status none e = subst HasNoAnswer (sym e) none
@@ -38,6 +39,7 @@ of_solve s Instance held text none h = h
 of_solve s Memory held text none h = h
 of_solve s Read held text none h = h
 of_solve s Write held text none h = h
+of_solve s Lacking held text none h = h
 
 of_optimize : (s : Solving) (status : Status) (held : Option Files) (text : List ℕ) → HasNoAnswer status → Answers (optimize s) status held text → ⊥
 of_optimize s Done held text none h = none
@@ -48,6 +50,7 @@ of_optimize s Instance held text none h = h
 of_optimize s Memory held text none h = h
 of_optimize s Read held text none h = h
 of_optimize s Write held text none h = h
+of_optimize s Lacking held text none h = h
 
 of_report : (s : Source) (file : List ℕ) (status : Status) (held : Option Files) (text : List ℕ) → HasNoAnswer status → Answers (report s file) status held text → ⊥
 of_report s file Done held text none h = none
@@ -58,6 +61,7 @@ of_report s file Instance held text none h = h
 of_report s file Memory held text none h = h
 of_report s file Read held text none h = h
 of_report s file Write held text none h = h
+of_report s file Lacking held text none h = h
 
 of_make : (m : Making) (status : Status) (held : Option Files) (text : List ℕ) → HasNoAnswer status → Answers (make m) status held text → ⊥
 of_make m Done held text none h = none
@@ -68,6 +72,7 @@ of_make m Instance held text none h = h
 of_make m Memory held text none h = h
 of_make m Read held text none h = h
 of_make m Write held text none h = h
+of_make m Lacking held text none h = h
 
 of_demo : (m : Making) (search : Search) (status : Status) (held : Option Files) (text : List ℕ) → HasNoAnswer status → Answers (demo m search) status held text → ⊥
 of_demo m search Done held text none h = none
@@ -78,6 +83,7 @@ of_demo m search Instance held text none h = h
 of_demo m search Memory held text none h = h
 of_demo m search Read held text none h = h
 of_demo m search Write held text none h = h
+of_demo m search Lacking held text none h = h
 
 no_answer : (request : Request) (status : Status) (held : Option Files) (text : List ℕ) → HasNoAnswer status → Answers request status held text → ⊥
 no_answer (solve s) status held text none h = of_solve s status held text none h
@@ -97,6 +103,7 @@ answer_row asked held failing old new rose Instance text may taken = absurd (no_
 answer_row asked held failing old new rose Memory text may taken = absurd (no_answer may.0 Memory held text tt may.2)
 answer_row asked held failing old new rose Read text may taken = absurd (no_answer may.0 Read held text tt may.2)
 answer_row asked held failing old new rose Write text may taken = absurd (no_answer may.0 Write held text tt may.2)
+answer_row asked held failing old new rose Lacking text may taken = absurd (no_answer may.0 Lacking held text tt may.2)
 
 row : (asked : Option Request) (held : Option Files) (fails : Request → Type 0) (old new : Option (List ℕ)) (rose : Type 0) (e : Outcome)
     → MayComeTo asked held fails e → Appends old new (out_text e) → Means asked held fails old new rose (status_of e)
@@ -104,6 +111,8 @@ row asked held failing old new rose (answered status text) may taken = answer_ro
 row asked held failing old new rose usage may taken = (may, taken)
 row asked held failing old new rose (faulty blame fault) may taken =
     record { request = may.0; is_asked = may.2; source = may.1; is_named = may.3; blame = blame; fault = fault; holds = may.4; taken = taken }
+row asked held failing old new rose (no_network commodity) may taken =
+    record { solving = may.0; is_asked = may.1; commodity = commodity; lacks = may.2; taken = taken }
 row asked held failing old new rose memory may taken = taken
 row asked held failing old new rose read may taken = record { request = may.0; is_asked = may.1; failed = may.2; taken = taken }
 

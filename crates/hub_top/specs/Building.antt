@@ -14,6 +14,11 @@ pub record AreBuildable (o : Options) (contents : Contents) (costs : Option (Vec
   pub one_source : IsOneSource (costs_of costs) contents.costs o.fixed
   pub listed : HasAsked o contents
 
+-- routes are limited as the options say, and no number of hubs is wanted where none is asked for
+pub record KeepsLimits (o : Options) (p : Problem) : Type 0 where
+  pub longest : p.longest ≡ o.longest
+  pub wanted : o.hubs ≡ None → p.wanted ≡ None
+
 -- the instance was made of them, and they have no fault together
 pub record IsBuilt (o : Options) (contents : Contents) (costs : Option (List ℕ)) (p : Problem) : Type 0 where
   pub is : p ≡ made o contents costs

@@ -8,7 +8,7 @@ ghost use Rattle.hub_words.specs.Requests.{AreSources, AsksListed};
 ghost use Rattle.hub_words.specs.Views.{layout_of, source_of};
 ghost use Rattle.hub_top.specs.Commands.{LacksSource};
 ghost use Rattle.hub_top.specs.Outcomes.{FailsFor, StaysShelf};
-ghost use Rattle.hub_top.specs.Building.{IsBuilt, AreBuildable};
+ghost use Rattle.hub_top.specs.Building.{IsBuilt, AreBuildable, KeepsLimits};
 ghost use Rattle.hub_top.specs.Halts.{Halts, IsOfToken, IsOfWhole, IsOfSource};
 ghost use Rattle.hub_top.specs.Told.{ToldInstance};
 
@@ -32,6 +32,7 @@ pub fn read_instance<S: Shelf>(
     requires sources { AreSources (source_of source.now) }
     requires listed { AsksListed (source_of source.now) }
     ensures given { IfOk result (ToldInstance (S.held shelf.old) (source_of source.now)) }
+    ensures limits { IfOk result (KeepsLimits source.now.terms) }
     ensures halted { IfErr result (Halts (IsOfSource (S.held shelf.old) (source_of source.now))
         (FailsFor S.held S.faults S.sound shelf.old shelf.new (λ files. LacksSource files (source_of source.now)))) }
     ensures stays { StaysShelf S.held S.faults S.sound shelf.old shelf.new }

@@ -2,7 +2,7 @@
 
 ghost use Rattle.std.specs.Prelude.{◌≡◌, ◌≤◌, IfOk, IfErr};
 ghost use denote.Param.Send.{IsSync};
-ghost use Rattle.hub_spec.specs.Plans.{IsHubSet};
+ghost use Rattle.hub_spec.specs.Plans.{IsCandidateSet, IsHubSet};
 ghost use Rattle.hub_spec.specs.Separation.{IsOrder};
 ghost use Rattle.cut_pool.specs.Entries.{entry_of};
 ghost use Rattle.search_steps.specs.Pools.{IsSumsOf};
@@ -69,7 +69,8 @@ pub fn solve<R: Threads + Sync, S: Shelf, G: Gate>(
 
 /// The set of all candidates.
 fn all_candidates(alloc: Global, instance: &Instance) -> Result<HubSet, AllocError>
-    ensures { IfOk result (λ set. set ≡ instance.now.candidates) }
+    ensures all { IfOk result (λ set. set ≡ instance.now.candidates) }
+    ensures candidates { IfOk result (IsCandidateSet instance.now) }
 {
     HubSet::of(alloc, instance.candidates())
 }
@@ -128,7 +129,12 @@ fn find<R: Threads + Sync, G: Gate>(
     ensures { IfOk result (IsSearched instance.now asked.nodes) }
 {
     match instance.wanted() {
-        Some(hubs) => find_by(rt, alloc, &Counted { hubs }, instance, asked, gate),
+        Some(hubs) => {
+            let rule = Counted { hubs };
+            let found = find_by(rt, alloc, &rule, instance, asked, gate);
+            let Counted { hubs: _ } = rule;
+            found
+        }
         None => find_by(rt, alloc, &Plain, instance, asked, gate),
     }
 }

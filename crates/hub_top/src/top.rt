@@ -34,9 +34,10 @@ use std::thread::Threads;
 ///   status; where a sink failed, a front of the text that it was to take, and nothing further.
 /// - `means`: what each status says of the words, the files, the faults and what `out` took.
 /// - `complete`: where no fault rose, words that are no command end with status 3, a fault of the instance with 4, `solve`
-///   with 8 where all candidates together lack a commodity, else `solve` and `demo` with 0 or 1 as the search rule says, and with 0 where enough nodes are allowed, `optimize` with 0 or 1, and
-///   with 0 where enough nodes are allowed, `check` with 0, 1 or 2 by the verdict on the certificate's bytes, `report` with
-///   0 or 2 by it, and `make` with 0; or it is want of memory.
+///   with 8 where all candidates together lack a commodity, else `solve` and `demo` with 0 or 1 as the search rule says, and
+///   with 0 where enough nodes are allowed, `optimize` with 0 or 1, and with 0 where enough nodes are allowed, `check` with
+///   0, 1 or 2 by the verdict on the certificate's bytes, `report` with 0 or 2 by it, and `make` with 0; or it is want of
+///   memory.
 /// - `headline`: the headline, whose three sentences stand with their meaning in `specs/Headline.antt`.
 pub fn run<R: Threads + Sync, S: Shelf, O: Sink, E: Sink, G: Gate>(
     rt: &R,

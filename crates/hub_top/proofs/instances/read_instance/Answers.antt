@@ -3,15 +3,16 @@ use Rattle.std.proofs.lemmas.Result.{err_from_is_err_and, IfOk-weaker, IfErr-wea
 use Rattle.hub_io.specs.Outside.{Files, Holds}
 use Rattle.hub_spec.specs.Problem.{Problem}
 use Rattle.file_spec.specs.Limits.{file_limit}
+use Rattle.file_spec.proofs.ListedHubs.{has_asked}
 use Rattle.hub_model.specs.Building.{costs_of}
 use Rattle.hub_words.specs.Views.{source_of}
 use Rattle.hub_top.specs.declared.halts.Halt.{Halt}
 use Rattle.hub_top.specs.Commands.{WhereTold, HoldsInstance, HoldsCosts, LacksSource}
 use Rattle.hub_top.specs.Outcomes.{FailsFor}
-use Rattle.hub_top.specs.Building.{IsBuilt}
+use Rattle.hub_top.specs.Building.{IsBuilt, KeepsLimits}
 use Rattle.hub_top.specs.Halts.{Halts, IsOfCosts, IsOfWhole, IsOfSource, LacksCosts}
 use Rattle.hub_top.proofs.Sources.{one_source}
-use Rattle.hub_top.proofs.Halting.{read_halts, token_halts, costs_halts, halts_after, whole_halts, has_read, built_instance}
+use Rattle.hub_top.proofs.Halting.{read_halts, token_halts, costs_halts, halts_after, whole_halts, has_read, built_instance, built_limits}
 use Rattle.hub_top.proofs.instances.read_instance.Goals as goal
 
 pub returns-in_err-bytes-clause-halted : goal.returns-in_err-bytes-clause-halted
@@ -46,9 +47,17 @@ build-requires g c =
     let s = source_of c.args.source.now in
     record {
       given = c.in_ok-costs.ensures.legal;
-      one_source = one_source s c.deref.result.now c.in_ok-parts.parts (costs_of c.in_ok-costs.costs) c.requires c.in_ok-parts.ensures.contents
+      one_source = one_source s c.deref.result.now c.in_ok-parts.parts (costs_of c.in_ok-costs.costs) c.requires.sources c.in_ok-parts.ensures.contents
           c.in_ok-costs.ensures.named;
+      listed = has_asked s.layout s.options c.deref.result.now c.in_ok-parts.parts c.requires.listed c.in_ok-parts.ensures.contents;
     }
+
+pub returns-clause-limits : goal.returns-clause-limits
+returns-clause-limits g c =
+    let s = source_of c.args.source.now in
+    let costs = costs_of c.in_ok-costs.costs in
+    IfOk-weaker c.build.result (IsBuilt s.options c.in_ok-parts.parts costs) (KeepsLimits s.options)
+    (λ p is. built_limits s.options c.in_ok-parts.parts costs p is) c.build.ensures.built
 
 pub returns-clause-given : goal.returns-clause-given
 returns-clause-given g c =

@@ -1,5 +1,5 @@
-use Rattle.std.proofs.Common.{refl}
-use Rattle.hub_top.specs.Outcomes.{answered, usage}
+use Rattle.std.proofs.Common.{ℕ, refl}
+use Rattle.hub_top.specs.Outcomes.{answered, usage, no_network}
 use Rattle.hub_top.specs.Views.{answer_status, answer_text, finding_status, halted}
 use Rattle.cert_scan.specs.Versions.{version_number}
 use Rattle.proof_text.specs.Texts.{found_text}
@@ -17,6 +17,11 @@ returns-in-Found g c =
     let found = c.in-Found.found.now in
     let text = found_text (version_number c.in-Found.version) p found in
     rw c.in-Found.is (written_out _ _ _ _ _ _ _ _ (answered (finding_status found) text) refl c.write_certificate.ensures)
+
+pub returns-in-NoNetwork : goal.returns-in-NoNetwork
+returns-in-NoNetwork g c =
+    let commodity : ℕ × ℕ = (c.in-NoNetwork.i, c.in-NoNetwork.j) in
+    rw c.in-NoNetwork.is (written_err _ _ _ _ _ _ _ _ (no_network commodity) refl c.write_no_network.ensures)
 
 pub returns-in-Usage : goal.returns-in-Usage
 returns-in-Usage g c = rw c.in-Usage.is (written_err _ _ _ _ _ _ _ _ usage refl c.write_usage.ensures)

@@ -25,3 +25,8 @@ pub returns-in-NoCandidate : goal.returns-in-NoCandidate
 returns-in-NoCandidate g c =
     let P : InstanceFault → Type 0 = λ f. Puts g.K.Sink.taken g.K.Sink.faults c.args.sink.now c.put_at-in-NoCandidate.new.sink c.put_at-in-NoCandidate.result (fault_text (blame_of c.args.file) (fault_of f)) in
     subst P (sym c.in-NoCandidate.is) c.put_at-in-NoCandidate.ensures
+
+pub returns-in-Hubs : goal.returns-in-Hubs
+returns-in-Hubs g c =
+    let P : InstanceFault → Type 0 = λ f. Puts g.K.Sink.taken g.K.Sink.faults c.args.sink.now c.put_at-in-Hubs.new.sink c.put_at-in-Hubs.result (fault_text (blame_of c.args.file) (fault_of f)) in
+    subst P (sym c.in-Hubs.is) c.put_at-in-Hubs.ensures

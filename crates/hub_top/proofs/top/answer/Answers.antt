@@ -1,20 +1,25 @@
 use Rattle.std.proofs.Common.{refl, subst}
 use Rattle.std.specs.Prelude.{IfSome}
-use Rattle.hub_words.specs.Requests.{IsVersion, solve, optimize, demo, version_of}
+use Rattle.hub_words.specs.Requests.{IsVersion, SaysLimits, solve, optimize, demo, solved, version_of}
 use Rattle.hub_words.specs.Views.{making_seen, request_of, search_seen, solving_of}
 use Rattle.hub_words.specs.declared.requests.Command.{Command}
-use Rattle.hub_top.proofs.Versions.{there_is}
+use Rattle.hub_top.specs.Solving.{ComesTo, IsSolution}
+use Rattle.hub_top.proofs.Versions.{either_version, said_version}
 use Rattle.hub_top.proofs.Searched.{demo_answers, found_amounts, made_size, solve_answers}
 use Rattle.hub_top.proofs.Optimized.{optimize_answers}
 use Rattle.hub_top.proofs.top.answer.Goals as goal
 
-pub returns-in_ok-instance-in-Solve-clause-may : goal.returns-in_ok-instance-in-Solve-clause-may
-returns-in_ok-instance-in-Solve-clause-may g c =
+pub returns-in-Found-clause-may : goal.returns-in-Found-clause-may
+returns-in-Found-clause-may g c =
     let s = solving_of c.in-Solve.solving in
-    let r = c.in_ok-instance-in-Solve in
-    let solved = c.in_ok-instance-in-Solve.ensures.solved in
-    let version = there_is s.version (subst (λ (x : Command). IfSome (version_of (request_of x)) IsVersion) c.in-Solve.is c.requires.versions) in
-    (solve s, rw c.in-Solve.is refl, solve_answers (g.S.Shelf.held c.args.shelf.now) s r.instance r.found version solved.instance solved.searched)
+    let p = c.in-Found.instance in
+    let held = g.S.Shelf.held c.args.shelf.now in
+    let solution : IsSolution held s.source s.search.nodes p c.in-Found.found =
+    subst (ComesTo held s.source s.search.nodes) c.in-Found.is c.in_ok-instance-in-Solve.ensures.solved in
+    let asked = subst (λ (x : Command). IfSome (version_of (request_of x)) IsVersion) c.in-Solve.is c.requires.versions in
+    let says = subst (λ (x : Command). IfSome (solved (request_of x)) SaysLimits) c.in-Solve.is c.requires.sayable in
+    let version = said_version s p solution.limits asked says in
+    (solve s, rw c.in-Solve.is refl, solve_answers held s p c.in-Found.found version solution.instance solution.searched)
 
 pub returns-in_ok-found-in-Demo-clause-may : goal.returns-in_ok-found-in-Demo-clause-may
 returns-in_ok-found-in-Demo-clause-may g c =
@@ -33,5 +38,6 @@ returns-in_ok-instance-in-Optimize-clause-may g c =
     let s = solving_of c.in-Optimize.solving in
     let r = c.in_ok-instance-in-Optimize in
     let optimized = c.in_ok-instance-in-Optimize.ensures.optimized in
-    let version = there_is s.version (subst (λ (x : Command). IfSome (version_of (request_of x)) IsVersion) c.in-Optimize.is c.requires.versions) in
+    let asked = subst (λ (x : Command). IfSome (version_of (request_of x)) IsVersion) c.in-Optimize.is c.requires.versions in
+    let version = either_version r.instance s.version optimized.unlimited asked in
     (optimize s, rw c.in-Optimize.is refl, optimize_answers (g.S.Shelf.held c.args.shelf.now) s r.instance r.found version optimized)
