@@ -1,5 +1,5 @@
 -- Where all candidates together lack no commodity, and where there is a plan.
-use Rattle.std.proofs.Common.{◌≡◌, ℕ, List, All, Contains, Option, Some, None, refl, sym, subst, ◌∙◌}
+use Rattle.std.proofs.Common.{◌≡◌, ℕ, List, All, Contains, Option, Some, None, refl, ap, sym, ◌∙◌}
 use Rattle.std.proofs.lemmas.Option.{none-some}
 use Rattle.std.proofs.lemmas.List.Elements.{All-contains, All-contains_itself, All-weaker}
 use Rattle.hub_spec.specs.Problem.{Problem, IsProblem, commodities}
@@ -16,6 +16,11 @@ all_are_candidates p ok = record {
   ascend = ok.candidates_ascend;
   are_candidates = All-contains_itself p.candidates;
 }
+
+-- what is told of a set that has all candidates
+pub told_of_all : (p : Problem) (set : List ℕ) (told : Option (ℕ × ℕ)) → set ≡ p.candidates → told ≡ lacking p set
+    → lacking p p.candidates ≡ told
+told_of_all p set told all is = ap (lacking p) (sym all) ∙ sym is
 
 -- all candidates are a hub set where they lack no commodity
 pub network_when : (p : Problem) → IsProblem p → lacking p p.candidates ≡ None → IsHubSet p p.candidates

@@ -1,19 +1,24 @@
 -- What the code of a search found is told as the commands ask: `solve` by its text, `demo` by five lines.
-use Rattle.std.proofs.Common.{◌≡◌, ℕ, ◌<◌, ◌≤◌, length, All, Option, inl, inr, ⊎_elim, refl, sym, subst, ap, ◌∙◌, arith, nat_eq, cond}
+use Rattle.std.proofs.Common.{◌≡◌, ℕ, ◌<◌, ◌≤◌, length, Option, Result, Ok, Err, inr, refl, sym, subst, ap, ◌∙◌, arith, nat_eq, cond}
+use Rattle.std.specs.Prelude.{IfOk}
 use Rattle.std.proofs.lemmas.List.{length-map}
 use Rattle.std.proofs.lemmas.Bool.{cond_both, eqb-true, eqb-false}
 use Rattle.hub_io.specs.Outside.{Files}
-use Rattle.hub_spec.specs.Problem.{Problem}
-use Rattle.hub_spec.specs.Trees.{preorder, line_count}
-use Rattle.hub_spec.specs.Ranges.{IsFirstLine, IsSecond, IsVersionOf}
+use Rattle.hub_spec.specs.Problem.{Problem, IsProblem}
+use Rattle.hub_spec.specs.Plans.{IsHubSet}
+use Rattle.hub_spec.specs.Trees.{line_count}
+use Rattle.hub_spec.specs.Ranges.{IsVersionOf}
 use Rattle.hub_spec.proofs.Preorders.{length-preorder}
 use Rattle.plan_model.specs.Lines.{tree_line_of}
+use Rattle.search_spec.specs.Findings.{certificate_of}
 use Rattle.search_spec.proofs.FoundProofs.{certificate_in_range_lem}
 use Rattle.cert_spec.specs.Text.{certificate_text, Spells}
 use Rattle.kept_cuts.specs.declared.found.Found.{Found}
-use Rattle.kept_cuts.specs.Findings.{IsUnlimited, IsVersionFor, IsProved, proof_of}
+use Rattle.kept_cuts.specs.Findings.{IsVersionFor, IsProved, proof_of}
 use Rattle.kept_cuts.proofs.Versions.{has_text}
-use Rattle.branch_tree.specs.Findings.{found_by}
+use Rattle.branch_tree.specs.Findings.{found_by, IsFound}
+use Rattle.branch_tree.proofs.FirstLines.{found_first}
+use Rattle.branch_tree.proofs.FoundCertificates.{IsSearchable, found_proof}
 use Rattle.proof_text.specs.Texts.{found_text}
 use Rattle.proof_text.proofs.FoundLines.{found_text_certificate}
 use Rattle.file_spec.specs.Instances.{made}
@@ -26,12 +31,24 @@ use Rattle.hub_top.specs.Commands.{WhereTold, HoldsInstance, Method, method_of, 
 use Rattle.hub_top.specs.Answers.{found_status, demo_text, Demonstrates, Answers}
 use Rattle.hub_top.specs.Views.{HasAmounts, finding_status}
 use Rattle.hub_top.specs.Solving.{IsSearched}
-use Rattle.hub_top.proofs.RuleCertificates.{rule_proof, rule_is_certificate, rule_solves, rule_stops}
+use Rattle.hub_top.proofs.RuleCertificates.{rule_is_certificate, rule_solves, rule_stops}
+
+-- what a search by the rule returned is told so
+pub searched_by : {E : Type 0} (p : Problem) (n : Option ℕ) (result : Result Found E) → IsProblem p → IsHubSet p p.candidates
+    → IfOk result (IsFound p (found_by p n)) → IfOk result (IsProved p)
+    → IfOk result (λ found. (v : ℕ) → proof_of v p found (found_by p n).tree ≡ certificate_of p v (found_by p n))
+    → IfOk result (IsSearched p n)
+searched_by p n (Ok found) ok lacks_none finding proved certificate =
+    record { problem = ok; lacks_none = lacks_none; finding = finding; proved = proved; certificate = certificate }
+searched_by p n (Err e) ok lacks_none finding proved certificate = tt
+
+searchable : {p : Problem} {n : Option ℕ} {found : Found} → IsSearched p n found → IsSearchable p
+searchable h = record { problem = h.problem; lacks_none = h.lacks_none }
 
 -- the status is that of the rule's certificate
 status_is : (p : Problem) (m : Method) (found : Found) → IsSearched p m.nodes found → finding_status found ≡ found_status (rule_certificate p m)
 status_is p m found h =
-    let is = rule_is_certificate p m h.problem h.network in
+    let is = rule_is_certificate p m (searchable h) in
     ap (λ (b : ℕ). cond (nat_eq b found.cost) Done Stopped) (h.finding.bound ∙ sym is.bound)
     ∙ ap (λ (c : ℕ). cond (nat_eq (rule_certificate p m).bound c) Done Stopped) (h.finding.cost ∙ sym is.cost)
 
@@ -42,18 +59,11 @@ by_status : (p : Problem) (m : Method) (found : Found) (P : Status → Type 0) �
     → P (finding_status found)
 by_status p m found P h closed gap =
     let k = rule_certificate p m in
-    let is = rule_is_certificate p m h.problem h.network in
-    let within : k.bound ≤ k.cost = omega (arith, is.bound, is.cost, (rule_proof p m.nodes h.problem h.network).within_cost) in
+    let is = rule_is_certificate p m (searchable h) in
+    let within : k.bound ≤ k.cost = omega (arith, is.bound, is.cost, (found_proof p m.nodes (searchable h)).within_cost) in
     subst P (sym (status_is p m found h))
     (cond_both (nat_eq k.bound k.cost) Done Stopped P (λ e. closed (eqb-true k.bound k.cost e))
     (λ e. gap (let apart = eqb-false k.bound k.cost e in omega (arith, within, apart))))
-
--- its tree has only lines of the first version, where the instance is unlimited
-first_lines : (p : Problem) (n : Option ℕ) (found : Found) → IsSearched p n found → IsUnlimited p → All IsFirstLine (preorder (found_by p n).tree)
-first_lines p n found h unlimited =
-    let proved = h.proved in
-    ⊎_elim (λ first. subst (All IsFirstLine) (sym proved.lines ∙ h.finding.lines) first.1.tree)
-    (λ (second : IsSecond 1). absurd (omega (arith, second))) (proved.in_range 1 (inl (refl, unlimited))).version
 
 -- its text is that of the rule's certificate, in a version that there is for the instance
 spells_rule : (p : Problem) (m : Method) (found : Found) → IsVersionFor p m.version → IsSearched p m.nodes found
@@ -61,11 +71,11 @@ spells_rule : (p : Problem) (m : Method) (found : Found) → IsVersionFor p m.ve
 spells_rule p m found version h =
     let g = found_by p m.nodes in
     let k = rule_certificate p m in
-    let is = rule_is_certificate p m h.problem h.network in
+    let is = rule_is_certificate p m (searchable h) in
     let same : proof_of m.version p found g.tree ≡ k = h.certificate m.version in
     record {
-      in_range = certificate_in_range_lem p m.version g k h.problem (rule_proof p m.nodes h.problem h.network) is
-          (subst IsVersionOf same (has_text p found g.tree m.version h.problem h.proved.fit (first_lines p m.nodes found h) version))
+      in_range = certificate_in_range_lem p m.version g k h.problem (found_proof p m.nodes (searchable h)) is
+          (subst IsVersionOf same (has_text p found g.tree m.version h.problem h.proved.fit (found_first p m.nodes h.problem) version))
           (omega (arith, ap length is.cuts, h.finding.few_cuts)) (omega (arith, ap line_count is.tree, h.finding.few_lines));
       text = found_text_certificate m.version p found g.tree h.finding.lines ∙ ap certificate_text same;
     }
@@ -79,8 +89,8 @@ solve_answers held s p found version instance h =
     let text = found_text s.version p found in
     let spelled = spells_rule p m found version h in
     by_status p m found (λ x. Answers (solve s) x held text) h
-    (λ closed. record { problem = p; instance = instance; solves = rule_solves p m (Spells text) h.problem h.network spelled closed })
-    (λ gap. record { problem = p; instance = instance; stops = rule_stops p m (Spells text) h.problem h.network spelled gap })
+    (λ closed. record { problem = p; instance = instance; solves = rule_solves p m (Spells text) (searchable h) spelled closed })
+    (λ gap. record { problem = p; instance = instance; stops = rule_stops p m (Spells text) (searchable h) spelled gap })
 
 -- a line of what was found for each of the rule's tree
 lines_long : (p : Problem) (n : Option ℕ) (found : Found) → IsSearched p n found → length found.tree.items ≡ line_count (found_by p n).tree
@@ -92,7 +102,7 @@ five_lines : (p : Problem) (m : Method) (found : Found) → IsSearched p m.nodes
     → lines.demo_text p.size found.cost found.bound found.plan.hubs (length found.tree.items) ≡ demo_text (rule_certificate p m)
 five_lines p m found h =
     let k = rule_certificate p m in
-    let is = rule_is_certificate p m h.problem h.network in
+    let is = rule_is_certificate p m (searchable h) in
     let tree = lines_long p m.nodes found h in
     rw (h.finding.cost, h.finding.bound, h.finding.hubs, tree, is.size, is.cost, is.bound, is.hubs, is.tree) refl
 
@@ -107,8 +117,8 @@ demo_answers held m search size found sized h =
     let told : Demonstrates text (rule_certificate p by) =
     ap (λ (x : ℕ). lines.demo_text x found.cost found.bound found.plan.hubs (length found.tree.items)) sized ∙ five_lines p by found h in
     by_status p by found (λ x. Answers (demo m search) x held text) h
-    (λ closed. rule_solves p by (Demonstrates text) h.problem h.network told closed)
-    (λ gap. rule_stops p by (Demonstrates text) h.problem h.network told gap)
+    (λ closed. rule_solves p by (Demonstrates text) (searchable h) told closed)
+    (λ gap. rule_stops p by (Demonstrates text) (searchable h) told gap)
 
 -- a made instance has the size that was asked for
 pub made_size : (m : Making) → m.size ≡ (made_problem m.seed m.size).size

@@ -18,7 +18,7 @@ use Rattle.hub_top.specs.Told.{ToldInstance}
 -- it is what the rule finds with so many nodes at most, in each version; all candidates together lack no commodity
 pub record IsSearched (p : Problem) (nodes : Option ℕ) (found : finding.Found) : Type 0 where
   pub problem : IsProblem p
-  pub network : IsHubSet p p.candidates
+  pub lacks_none : IsHubSet p p.candidates
   pub finding : IsFound p (found_by p nodes) found
   pub proved : IsProved p found
   pub certificate : (version : ℕ) → proof_of version p found (found_by p nodes).tree ≡ certificate_of p version (found_by p nodes)

@@ -125,7 +125,7 @@ fn find<R: Threads + Sync, G: Gate>(
     gate: &G,
 ) -> Result<Found, AllocError>
     requires asked { IsSearch (search_seen asked) }
-    requires network { IsHubSet instance.now instance.now.candidates }
+    requires lacks_none { IsHubSet instance.now instance.now.candidates }
     ensures { IfOk result (IsSearched instance.now asked.nodes) }
 {
     match instance.wanted() {
@@ -151,7 +151,7 @@ fn find_by<R: Threads + Sync, Q: Rule, G: Gate>(
 ) -> Result<Found, AllocError>
     requires serves { Q.serves rule.now instance.now }
     requires asked { IsSearch (search_seen asked) }
-    requires network { IsHubSet instance.now instance.now.candidates }
+    requires lacks_none { IsHubSet instance.now instance.now.candidates }
     ensures { IfOk result (IsSearched instance.now asked.nodes) }
 {
     let workers = workers_for(instance.size(), asked.workers);

@@ -97,6 +97,7 @@ fn numbers(alloc: Global) -> Result<String, AllocError> {
         Status::Memory.number(),
         Status::Read.number(),
         Status::Write.number(),
+        Status::Lacking.number(),
     ];
     format!(in alloc; "{numbers:?}\n")
 }
