@@ -6,7 +6,7 @@ use Rattle.hub_spec.specs.Problem.{Problem, commodities, commodity_at}
 use Rattle.hub_spec.specs.Plans.{IsRoute, HasRoute}
 use Rattle.hub_spec.specs.Cuts.{Prices, IsDual, Cut, IsCut}
 use Rattle.hub_spec.specs.Trees.{Branching, root, open_child, closed_child, Tree, branch, leaf, empty, block, count, TreeLine, branch_on, leaf_of, preorder, line_count, IsSound}
-use Rattle.hub_spec.specs.Certificates.{Proof, Holds}
+use Rattle.hub_spec.specs.Certificates.{Proof, Holds, HasCutsOf}
 use Rattle.hub_spec.specs.Ranges.{IsShort, IsInRange, IsLineInRange, IsCutInRange}
 use Rattle.hub_spec.proofs.Commodities.{length_commodities}
 use Rattle.hub_spec.proofs.CommodityIndex.{commodities_from, commodities_by_number}
@@ -17,7 +17,7 @@ use Rattle.cert_spec.proofs.RunLaws.{spread_runs}
 use Rattle.cert_spec.proofs.SamePrices.{prices_told}
 use Rattle.cert_spec.proofs.Leads.{length-spread, spread_singles}
 use Rattle.cert_spec.specs.Text.{is_first, same_prices, dual_runs}
-use Rattle.cert_spec.specs.PartConditions.{first_route_line, cut_lines, first_cut_line, first_dual_line, first_tree_line, route_claims, dual_claims, one_cut_claims, cut_claims, tree_claims, plan_claims, all_cut_claims, all_tree_claims, claims}
+use Rattle.cert_spec.specs.PartConditions.{first_route_line, cut_lines, first_cut_line, first_dual_line, first_tree_line, route_claims, dual_claims, one_cut_claims, cut_claims, tree_claims, plan_claims, all_cut_claims, all_tree_claims, claims, older_claims}
 use Rattle.cert_spec.specs.Conditions.{Claim, AllHold}
 
 pub AllHold-append : (xs ys : List Claim) → AllHold xs → AllHold ys → AllHold (xs ++ ys)
@@ -270,3 +270,18 @@ claims_from_holds p k h =
 
 pub holds_exactly_by_claims : (p : Problem) (k : Proof) → IsInRange k → AllHold (claims p k) ↔ Holds p k
 holds_exactly_by_claims p k r = (holds_from_claims p k r, claims_from_holds p k)
+
+-- ---- of an older certificate
+
+has_from_claims : (p : Problem) (k : Proof) → IsInRange k → AllHold (older_claims p k) → HasCutsOf p k
+has_from_claims p k r h = record {
+  size = h.0.0;
+  candidates = h.0.1;
+  cuts = cuts_hold p k.version (first_cut_line k.size) k.cuts (subst (λ (n : ℕ). All (IsCutInRange n) k.cuts) h.0.0 r.cuts) h.1;
+}
+
+claims_from_has : (p : Problem) (k : Proof) → HasCutsOf p k → AllHold (older_claims p k)
+claims_from_has p k h = ((h.size, h.candidates), cuts_claimed p k.version (first_cut_line k.size) k.cuts h.cuts)
+
+pub has_cuts_by_claims : (p : Problem) (k : Proof) → IsInRange k → AllHold (older_claims p k) ↔ HasCutsOf p k
+has_cuts_by_claims p k r = (has_from_claims p k r, claims_from_has p k)

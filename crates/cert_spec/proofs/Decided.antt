@@ -12,7 +12,7 @@ use Rattle.std.proofs.lemmas.Bool.{cases_lt}
 use Rattle.hub_spec.specs.Certificates.{Proof}
 use Rattle.hub_spec.proofs.Decisions.{Decided, decided_by, decided_and, decided_or, decided_le, decided_eq, decided_all, decided_contains}
 use Rattle.cert_spec.specs.Text.{dual_runs}
-use Rattle.cert_spec.specs.PartConditions.{first_route_line, cut_lines, first_cut_line, first_dual_line, first_tree_line, route_claims, dual_claims, one_cut_claims, cut_claims, tree_claims, plan_claims, all_cut_claims, all_tree_claims, claims}
+use Rattle.cert_spec.specs.PartConditions.{first_route_line, cut_lines, first_cut_line, first_dual_line, first_tree_line, route_claims, dual_claims, one_cut_claims, cut_claims, tree_claims, plan_claims, all_cut_claims, all_tree_claims, claims, older_claims}
 use Rattle.cert_spec.specs.Conditions.{Kind, Claim, AllHold, FailsFirst, IsDualOfRun}
 
 decided_true : (b : Bool) → Decided (b ≡ true)
@@ -252,3 +252,7 @@ one_failure (c ∷ cs) kind other line place f g = elim f [
     | inr further ↦ one_failure cs kind other line place later.1 further.1
   ]
 ]
+
+pub older_decided : (p : Problem) (k : Proof) → AllDecided (older_claims p k)
+older_decided p k =
+    (decided_and (decided_eq k.size p.size) (decided_eq k.candidates (length p.candidates)), cuts_decided p k.version (first_cut_line k.size) k.cuts)

@@ -16,3 +16,4 @@ pub mod ByParts
 pub mod ByLines
 pub mod VerdictLemmas
 pub mod Examples
+pub mod OlderTexts

@@ -95,10 +95,14 @@ tree_claims p cuts target line b empty = claim Empty line (IsClosed b) ∷ []
 tree_claims p cuts target line b (block commodity) = claim Block line (IsBlocked p b commodity) ∷ []
 tree_claims p cuts target line b count = claim Count line (LacksRoom p.wanted b) ∷ []
 
--- the numbers of nodes and candidates are the instance's, and the bound is not above the cost
+-- the numbers of nodes and candidates are the instance's
+abbrev pub size_claim : Problem → Proof → Claim
+size_claim p k = claim Size size_line ((k.size ≡ p.size) × (k.candidates ≡ length p.candidates))
+
+-- they are, and the bound is not above the cost
 abbrev pub size_claims : Problem → Proof → List Claim
 size_claims p k =
-    claim Size size_line ((k.size ≡ p.size) × (k.candidates ≡ length p.candidates))
+    size_claim p k
     ∷ claim BoundOverCost bound_line (k.bound ≤ k.cost)
     ∷ []
 
@@ -125,3 +129,7 @@ all_tree_claims p k = tree_claims p k.cuts k.bound (first_tree_line k.version k.
 -- the conditions in the order in which they are tried
 abbrev pub claims : Problem → Proof → List Claim
 claims p k = plan_claims p k ++ (all_cut_claims p k ++ all_tree_claims p k)
+
+-- those that are asked of an older certificate whose cuts are to be given: its size, and its cuts
+abbrev pub older_claims : Problem → Proof → List Claim
+older_claims p k = size_claim p k ∷ all_cut_claims p k
