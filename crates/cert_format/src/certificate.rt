@@ -5,9 +5,9 @@ ghost use Rattle.plan_model.specs.Lines.{tree_line_of};
 ghost use Rattle.cert_scan.specs.Versions.{version_number};
 ghost use Rattle.cert_format.specs.Parts.{proof_of, AreCertificateParts, IsHeadingOf};
 
-use crate::{Heading, StatedCut};
+use crate::Heading;
 use cert_scan::Version;
-use plan_model::{Plan, TreeLine};
+use plan_model::{Plan, StatedCut, TreeLine};
 use std::marker::Model;
 
 /// A certificate within the ranges of the grammar: a plan and its cost, and cuts with a tree that are to show that no
@@ -129,6 +129,15 @@ impl Certificate {
         ensures in_range { IsInRange self.now }
     {
         &self.cuts
+    }
+
+    /// The cuts, and the hubs of the plan, ascending, in place of the certificate: what a search may begin again with.
+    pub fn into_start(self) -> (Vec<StatedCut>, Vec<u32>)
+        ensures cuts { result.0.items ≡ self.cuts }
+        ensures hubs { result.1.items ≡ self.plan.hubs }
+        ensures in_range { IsInRange self }
+    {
+        (self.cuts, self.plan.into_hubs())
     }
 
     /// The lines of the tree.

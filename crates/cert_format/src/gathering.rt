@@ -5,10 +5,10 @@ ghost use Rattle.hub_spec.specs.Ranges.{IsInRange};
 ghost use Rattle.cert_format.specs.Gathered.{with_duals};
 
 use crate::begun::BegunLine;
-use crate::{Certificate, Heading, StatedCut};
+use crate::{Certificate, Heading};
 use cert_scan::{Item, Version};
 use hub_model::signed;
-use plan_model::{Dual, Mix, Plan, TreeLine};
+use plan_model::{Dual, Mix, Plan, StatedCut, TreeLine};
 use std::alloc::{AllocError, Global};
 use std::mem;
 

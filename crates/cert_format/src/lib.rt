@@ -1,8 +1,8 @@
 //! The certificate as a type, and its text written and read.
 //!
 //! - [`Certificate`] is a certificate within the ranges of the grammar, seen by contracts as the definitions' `Proof`:
-//!   what its first lines say ([`Heading`]), a plan, cuts ([`StatedCut`]) and the lines of a tree. Its text is of the
-//!   [`Version`] that its first line says.
+//!   what its first lines say ([`Heading`]), a plan, cuts (`StatedCut` of `plan_model`) and the lines of a tree. Its text
+//!   is of the [`Version`] that its first line says.
 //! - [`write_cert`] puts its text on a sink: just `certificate_text` of it. [`put_top`], [`put_cut`], [`put_dual`] and
 //!   [`put_tree`] put its parts, for a text whose duals are made while they are put.
 //! - [`read_cert`] reads bytes back: a certificate exactly where all of the bytes spell it, and otherwise the fault of
@@ -13,7 +13,6 @@
 #![tactic(auto)]
 
 mod certificate;
-mod cuts;
 mod headings;
 
 // Reading: a gathering of what the items of a text give.
@@ -29,7 +28,6 @@ mod writer;
 
 pub use cert_scan::Version;
 pub use certificate::Certificate;
-pub use cuts::StatedCut;
 pub use headings::Heading;
 pub use lines::{put_cut, put_dual};
 pub use reader::{CertFault, read_cert};

@@ -13,11 +13,11 @@ ghost use Rattle.cert_format.specs.Puts.{PutsLines};
 use crate::lines::{put_cut, put_hubs, put_route, put_tree_line};
 use crate::rows::put_duals;
 use crate::spaced::put_line;
-use crate::{Certificate, Heading, StatedCut};
+use crate::{Certificate, Heading};
 use cert_scan::Version;
 use hub_io::{Buffer, Failed, Sink};
 use hub_model::unsigned;
-use plan_model::{Plan, TreeLine};
+use plan_model::{Plan, StatedCut, TreeLine};
 
 /// Puts the text of a certificate, in puts of about 8192 bytes each. It takes no memory but for those bytes.
 pub fn write_cert<K: Sink>(certificate: &Certificate, sink: &mut K) -> Result<(), Failed>

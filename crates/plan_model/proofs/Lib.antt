@@ -1,2 +1,4 @@
 pub mod SignedPairs
 pub mod ListedValues
+pub mod DualEntries
+pub mod DualSums

@@ -2,3 +2,4 @@ pub mod Ascending
 pub mod Prices
 pub mod Mixtures
 pub mod Lines
+pub mod Totals

@@ -4,7 +4,7 @@ use Rattle.std.proofs.lemmas.List.{replicate_more}
 use Rattle.hub_spec.specs.Cuts.{Prices}
 use Rattle.hub_model.specs.Amounts.{natural}
 use Rattle.plan_model.specs.Prices.{natural_values}
-use Rattle.cert_format.proofs.cuts.push_run.Goals as goal
+use Rattle.plan_model.proofs.stated_cuts.push_run.Goals as goal
 
 values_same : (u w : List (ℕ × ℤ)) → AllZip (λ (x y : ℕ × ℤ). (y.0 ≡ x.0) × (y.1 ≡ x.1)) u w → natural_values w ≡ natural_values u
 values_same [] [] h = refl
