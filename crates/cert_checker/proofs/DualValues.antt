@@ -1,11 +1,12 @@
 -- The values of a dual listed by node, and the conditions on it by that list.
-use Rattle.std.proofs.Common.{◌≡◌, ℕ, zero, suc, ◌+◌, ◌*◌, ◌^◌, ◌<◌, ◌≤◌, List, [], ◌∷◌, get_or, take, replicate, nat_eq, Bool, IsTrue, ◌↔◌, All, Contains, inl, inr, refl, ⊎_elim, mul-le-mul_left, arith}
-use Rattle.std.proofs.lemmas.Bool.{cases_eq, cond_both}
-use Rattle.std.proofs.lemmas.List.Elements.{All-head, All-tail, All-contains, All-from_get_or}
+use Rattle.std.proofs.Common.{◌≡◌, ℕ, zero, suc, ◌+◌, ◌*◌, ◌^◌, ◌<◌, ◌≤◌, List, get_or, take, replicate, Bool, IsTrue, ◌↔◌, All, Contains, inl, inr, refl, ⊎_elim, mul-le-mul_left, arith}
+use Rattle.std.proofs.lemmas.Bool.{cases_eq}
+use Rattle.std.proofs.lemmas.List.Elements.{All-contains, All-from_get_or}
 use Rattle.hub_spec.specs.Problem.{Problem, flow, distance, route_cost}
 use Rattle.hub_spec.specs.Ranges.{IsAmount}
-use Rattle.hub_spec.specs.Cuts.{Prices, value_at, IsDual}
+use Rattle.hub_spec.specs.Cuts.{Prices, IsDual}
 use Rattle.hub_spec.proofs.Sets.{All-from_contains}
+use Rattle.plan_model.proofs.DualEntries.{value_at_short}
 use Rattle.cert_checker.specs.Duals.{AreValues, IsCovered, IsCoveredSingle, IsCoveredFrom, IsCoveredByAll}
 
 -- in room of which nothing is used yet each node has the value 0
@@ -14,12 +15,6 @@ no_values m zero k = refl
 no_values zero (suc n) k = refl
 no_values (suc m) (suc n) zero = refl
 no_values (suc m) (suc n) (suc k) = no_values m n k
-
-pub value_at_short : (m : ℕ) (u : List (ℕ × ℕ)) (k : ℕ) → 0 < m → All (λ (e : ℕ × ℕ). e.1 < m) u → value_at u k < m
-value_at_short m [] k some h = some
-value_at_short m (e ∷ u) k some h =
-    cond_both (nat_eq e.0 k) e.1 (value_at u k) (λ v. v < m) (λ is. All-head (λ (e : ℕ × ℕ). e.1 < m) e u h)
-    (λ is. value_at_short m u k some (All-tail (λ (e : ℕ × ℕ). e.1 < m) e u h))
 
 pub values_short : (u : List (ℕ × ℕ)) (values : List ℕ) → All (λ (e : ℕ × ℕ). e.1 < 10 ^ 33) u → AreValues u values
     → All IsAmount values

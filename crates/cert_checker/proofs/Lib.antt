@@ -5,11 +5,10 @@ mod RunClaims
 mod FirstFailing
 mod DualValues
 mod Blocked
-mod DualEntries
-mod DualSums
 mod Mixing
 mod GainSums
 mod TreeWalks
 mod WholeChecks
 mod CutLists
 mod Shown
+mod OlderChecks

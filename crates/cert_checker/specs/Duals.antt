@@ -1,7 +1,7 @@
 -- The conditions on a dual whose values are listed by node, and the sums of a cut.
-use Rattle.std.specs.Prelude.{◌≡◌, ℕ, true, ◌+◌, ◌*◌, ◌^◌, ◌<◌, ◌≤◌, List, length, slice_index, slice_index_or, Option, All, ◌⊎◌}
+use Rattle.std.specs.Prelude.{◌≡◌, ℕ, true, ◌+◌, ◌*◌, ◌<◌, ◌≤◌, List, length, slice_index, slice_index_or, Option, All, ◌⊎◌}
 use Rattle.std.specs.Option.{MatchOption}
-use Rattle.hub_spec.specs.Limits.{most_nodes, most_part}
+use Rattle.hub_spec.specs.Limits.{most_part}
 use Rattle.hub_spec.specs.Problem.{Problem, commodity_at, route_cost, is_allowed}
 use Rattle.hub_spec.specs.Cuts.{Prices, value_at, IsDual, Cut, total, load}
 use Rattle.hub_spec.specs.Ranges.{IsDualInRange}
@@ -13,14 +13,6 @@ use Rattle.cert_checker.specs.Runs.{no_dual}
 -- the conditions of the duals of a cut, run by run from this line on
 abbrev pub claims_of_duals : Problem → ℕ → ℕ → Cut → List Claim
 claims_of_duals p v line cut = dual_claims p cut.part line 0 (dual_runs v p.size cut.duals)
-
--- of the duals of a cut
-abbrev pub most_duals : ℕ
-most_duals = most_nodes * most_nodes
-
--- of what the prices of a cut's duals, or their values of a node, are together
-abbrev pub most_sum : ℕ
-most_sum = most_duals * 10 ^ 33
 
 -- each node's value is that of the dual
 abbrev pub AreValues : List (ℕ × ℕ) → List ℕ → Type 0

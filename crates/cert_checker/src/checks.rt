@@ -1,14 +1,14 @@
 //! The check of a certificate.
 
-ghost use Rattle.std.specs.Prelude.{◌≡◌, ◌↔◌, length, IsTrue, IfOk, IfErr, OnOk, All};
+ghost use Rattle.std.specs.Prelude.{◌≡◌, ◌↔◌, [], ◌∷◌, length, IsTrue, IfOk, IfErr, OnOk, All};
 ghost use Rattle.hub_spec.specs.Problem.{IsProblem};
 ghost use Rattle.hub_spec.specs.Cuts.{IsCut};
 ghost use Rattle.hub_spec.specs.Ranges.{IsInRange};
 ghost use Rattle.cert_spec.specs.Conditions.{AllHold};
-ghost use Rattle.cert_spec.specs.PartConditions.{size_claims, all_cut_claims, all_tree_claims, claims};
+ghost use Rattle.cert_spec.specs.PartConditions.{size_claim, size_claims, all_cut_claims, all_tree_claims, claims};
 ghost use Rattle.cert_checker.specs.Answers.{IsFailure, IsOfSize, hub_claims_of, IsVerdict, ShowsBound, ShowsOptimal};
 
-use crate::cuts::check_cuts;
+use crate::cuts::check_each_cut;
 use crate::failures::Failure;
 use crate::kinds::{Kind, Verdict};
 use crate::lines::{BOUND_LINE, SIZE_LINE, first_cut_line, first_tree_line};
@@ -82,16 +82,27 @@ fn check_sizes(instance: &Instance, certificate: &Certificate) -> Result<(), Fai
     ensures holds { OnOk result (AllHold (size_claims instance.now certificate.now)) }
     ensures fails { IfErr result (IsFailure (size_claims instance.now certificate.now)) }
 {
-    if !is_of_size(instance, certificate) {
-        return Err(Failure::Fails {
-            kind: Kind::Size,
-            line: SIZE_LINE,
-        });
-    }
+    check_size(instance, certificate)?;
     if certificate.bound() > certificate.cost() {
         return Err(Failure::Fails {
             kind: Kind::BoundOverCost,
             line: BOUND_LINE,
+        });
+    }
+    Ok(())
+}
+
+/// Tries whether the certificate's numbers of nodes and candidates are the instance's.
+pub(crate) fn check_size(instance: &Instance, certificate: &Certificate) -> Result<(), Failure>
+    ensures problem { IsProblem instance.now }
+    ensures in_range { IsInRange certificate.now }
+    ensures holds { OnOk result (IsOfSize instance.now certificate.now) }
+    ensures fails { IfErr result (IsFailure (size_claim instance.now certificate.now ∷ [])) }
+{
+    if !is_of_size(instance, certificate) {
+        return Err(Failure::Fails {
+            kind: Kind::Size,
+            line: SIZE_LINE,
         });
     }
     Ok(())
@@ -133,7 +144,7 @@ fn check_cuts_of<'a, R: Threads + Sync>(
 {
     let version = certificate.version();
     let first = first_cut_line(instance.size());
-    check_cuts(rt, alloc, instance, version, first, certificate.cuts())
+    check_each_cut(rt, alloc, instance, version, first, certificate.cuts())
 }
 
 fn check_tree_of(

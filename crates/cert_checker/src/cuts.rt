@@ -14,14 +14,15 @@ use crate::failures::Failure;
 use crate::kinds::Kind;
 use crate::lines::{cut_lines, last_dual_line};
 use crate::sums::SummedCut;
-use cert_format::{StatedCut, Version};
+use cert_format::Version;
 use hub_model::{Instance, MOST_COST};
+use plan_model::StatedCut;
 use std::alloc::Global;
 use std::thread::Threads;
 
 /// Tries the conditions of the cuts, the first of which stands at this line of a text in this version, and gives them
 /// with their sums.
-pub(crate) fn check_cuts<'a, R: Threads + Sync>(
+pub(crate) fn check_each_cut<'a, R: Threads + Sync>(
     rt: &R,
     alloc: Global,
     instance: &Instance,
@@ -45,6 +46,29 @@ pub(crate) fn check_cuts<'a, R: Threads + Sync>(
         at += cut_lines(version, n, stated);
     }
     Ok(summed)
+}
+
+/// Tries the same conditions, and keeps the sums of no cut.
+pub(crate) fn try_each_cut<R: Threads + Sync>(
+    rt: &R,
+    alloc: Global,
+    instance: &Instance,
+    version: Version,
+    line: u64,
+    cuts: &[StatedCut],
+) -> Result<(), Failure>
+    requires line { line + length cuts.now * (instance.now.size * instance.now.size + 1) < 2 ^ 59 }
+    requires cuts { All (IsCutInRange instance.now.size) cuts.now }
+    ensures holds { OnOk result (AllHold (cut_claims instance.now (version_number version) line cuts.now)) }
+    ensures fails { IfErr result (IsFailure (cut_claims instance.now (version_number version) line cuts.now)) }
+{
+    let n = instance.size();
+    let mut at = line;
+    for stated in cuts {
+        check_cut(rt, alloc, instance, version, at, stated)?;
+        at += cut_lines(version, n, stated);
+    }
+    Ok(())
 }
 
 /// Tries the conditions of the cut, which stands at this line, and gives it with its sums.

@@ -14,9 +14,9 @@ ghost use Rattle.cert_checker.specs.Duals.{claims_of_duals, AreValues, IsCovered
 use crate::failures::Failure;
 use crate::kinds::Kind;
 use crate::runs::run_place;
-use cert_format::{StatedCut, Version};
+use cert_format::Version;
 use hub_model::{Instance, MOST_NODES};
-use plan_model::{Dual, is_among};
+use plan_model::{Dual, StatedCut, is_among};
 use rayon::prelude::*;
 use std::thread::Threads;
 

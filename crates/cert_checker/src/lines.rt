@@ -6,7 +6,8 @@ ghost use Rattle.cert_spec.specs.PartConditions.{last_route_line, first_cut_line
 ghost use Rattle.cert_scan.specs.Versions.{version_number};
 
 use crate::runs::run_count;
-use cert_format::{StatedCut, Version};
+use cert_format::Version;
+use plan_model::StatedCut;
 
 /// The numbers of nodes and of candidates.
 pub(crate) const SIZE_LINE: u64 = 2;

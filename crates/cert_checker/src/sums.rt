@@ -1,12 +1,11 @@
 //! Cuts with their sums.
 
-ghost use Rattle.std.specs.Prelude.{◌≡◌, ℕ, ◌+◌, ◌≤◌, length, slice_index, sum_by, IfOk, All};
-ghost use Rattle.hub_spec.specs.Cuts.{value_at, total, load};
-ghost use Rattle.hub_spec.specs.Ranges.{IsAmount, IsDualInRange};
-ghost use Rattle.cert_checker.specs.Duals.{most_duals, most_sum};
+ghost use Rattle.std.specs.Prelude.{◌≡◌, ◌≤◌, length, IfOk, All};
+ghost use Rattle.hub_spec.specs.Cuts.{total, load};
+ghost use Rattle.hub_spec.specs.Ranges.{IsDualInRange};
+ghost use Rattle.plan_model.specs.Totals.{most_duals};
 
-use cert_format::StatedCut;
-use plan_model::Dual;
+use plan_model::StatedCut;
 use std::alloc::{AllocError, Global};
 use std::marker::Model;
 
@@ -40,8 +39,8 @@ impl<'a> SummedCut<'a> {
         requires duals { All (IsDualInRange n) stated.now.duals }
         ensures { IfOk result (λ cut. cut ≡ stated.now) }
     {
-        let total = total_of(stated.duals());
-        let loads = loads_of(alloc, n, stated.duals())?;
+        let total = stated.total();
+        let loads = stated.loads(alloc, n)?;
         Ok(SummedCut {
             stated,
             total,
@@ -71,42 +70,5 @@ impl<'a> SummedCut<'a> {
             Some(load) => *load,
             None => 0,
         }
-    }
-}
-
-fn total_of(duals: &[Dual]) -> u128
-    requires few { length duals.now ≤ most_duals }
-    requires short { All (λ d. IsAmount d.a) duals.now }
-    ensures { result ≡ sum_by (λ d. d.a) duals.now }
-{
-    let mut sum = 0;
-    for dual in duals {
-        sum += dual.price();
-    }
-    sum
-}
-
-/// The sums of the duals' values, by node.
-fn loads_of(alloc: Global, n: u32, duals: &[Dual]) -> Result<Vec<u128>, AllocError>
-    requires few { length duals.now ≤ most_duals }
-    requires duals { All (IsDualInRange n) duals.now }
-    ensures { IfOk result (λ loads. (k : ℕ) → slice_index loads.items k ≡ sum_by (λ d. value_at d.u k) duals.now) }
-{
-    let mut loads = vec![in alloc; 0; n as usize]?;
-    for dual in duals {
-        add(&mut loads, dual);
-    }
-    Ok(loads)
-}
-
-/// Adds the values that the dual lists to the loads of their nodes.
-fn add(loads: &mut [u128], dual: &Dual)
-    requires dual { IsDualInRange (length loads.old) dual.now }
-    requires most { All (λ x. x ≤ most_sum) loads.old }
-    ensures { (k : ℕ) → slice_index loads.new k ≡ slice_index loads.old k + value_at dual.now.u k }
-{
-    for e in 0..dual.count() {
-        let (k, value) = dual.value(e);
-        loads[k as usize] += value;
     }
 }

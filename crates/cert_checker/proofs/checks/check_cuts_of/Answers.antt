@@ -9,10 +9,10 @@ use Rattle.cert_scan.specs.Versions.{version_number}
 use Rattle.cert_checker.specs.Answers.{IsFailure}
 use Rattle.cert_checker.proofs.checks.check_cuts_of.Given.{Over}
 use Rattle.cert_checker.proofs.checks.check_cuts_of.Goals as goal
-use Rattle.cert_checker.proofs.checks.check_cuts_of.Goals.{After-check_cuts}
+use Rattle.cert_checker.proofs.checks.check_cuts_of.Goals.{After-check_each_cut}
 
-pub check_cuts-requires-clause-line : goal.check_cuts-requires-clause-line
-check_cuts-requires-clause-line g c =
+pub check_each_cut-requires-clause-line : goal.check_each_cut-requires-clause-line
+check_each_cut-requires-clause-line g c =
     let p = c.args.instance.now in
     let few = mul-le-mul c.size.ensures.problem.size_limit c.size.ensures.problem.size_limit in
     let long : length c.cuts.result.now ≡ length c.args.certificate.now.cuts = ap length c.cuts.ensures.value in
@@ -22,13 +22,13 @@ check_cuts-requires-clause-line g c =
     let first = c.first_cut_line-first.ensures ∙ ap first_cut_line c.size.ensures.value in
     omega (arith, lines, few, first)
 
-pub check_cuts-requires-clause-cuts : goal.check_cuts-requires-clause-cuts
-check_cuts-requires-clause-cuts g c κs within =
+pub check_each_cut-requires-clause-cuts : goal.check_each_cut-requires-clause-cuts
+check_each_cut-requires-clause-cuts g c κs within =
     subst (λ (cs : List Cut). All (IsCutInRange c.args.instance.now.size) cs) (sym c.cuts.ensures.value)
     (subst (λ (n : ℕ). All (IsCutInRange n) c.args.certificate.now.cuts) c.requires c.cuts.ensures.in_range.cuts)
 
 -- the conditions that were tried are those of the certificate
-tried : (g : Over) (c : After-check_cuts g)
+tried : (g : Over) (c : After-check_each_cut g)
     → cut_claims c.args.instance.now (version_number c.version-version.result) c.first_cut_line-first.result c.cuts.result.now
     ≡ all_cut_claims c.args.instance.now c.args.certificate.now
 tried g c =
@@ -40,14 +40,14 @@ tried g c =
 
 pub returns-clause-same : goal.returns-clause-same
 returns-clause-same g c =
-    subst (λ (cs : List Cut). IfOk c.check_cuts.result (λ summed. summed.items ≡ cs)) c.cuts.ensures.value c.check_cuts.ensures.same
+    subst (λ (cs : List Cut). IfOk c.check_each_cut.result (λ summed. summed.items ≡ cs)) c.cuts.ensures.value c.check_each_cut.ensures.same
 
 pub returns-clause-holds : goal.returns-clause-holds
 returns-clause-holds g c =
-    subst (λ (cs : List Claim). OnOk c.check_cuts.result (AllHold cs)) (tried g (goal.at.returns-clause-holds g c).After-check_cuts)
-    c.check_cuts.ensures.holds
+    subst (λ (cs : List Claim). OnOk c.check_each_cut.result (AllHold cs)) (tried g (goal.at.returns-clause-holds g c).After-check_each_cut)
+    c.check_each_cut.ensures.holds
 
 pub returns-clause-fails : goal.returns-clause-fails
 returns-clause-fails g c =
-    subst (λ (cs : List Claim). IfErr c.check_cuts.result (IsFailure cs)) (tried g (goal.at.returns-clause-fails g c).After-check_cuts)
-    c.check_cuts.ensures.fails
+    subst (λ (cs : List Claim). IfErr c.check_each_cut.result (IsFailure cs)) (tried g (goal.at.returns-clause-fails g c).After-check_each_cut)
+    c.check_each_cut.ensures.fails
