@@ -1,16 +1,16 @@
 -- The entries of a pool, and what is read of its cuts.
-use Rattle.std.proofs.Common.{⊎_elim, ◌≡◌, ◌≢◌, ℕ, ◌+◌, ◌-◌, ◌<◌, List, [], length, map, get_or, slice_index, sym, ap, ◌∙◌, pos, Vec, Global, arith}
+use Rattle.std.proofs.Common.{⊎_elim, ◌≡◌, ◌≢◌, ℕ, ◌+◌, ◌-◌, ◌<◌, List, [], Some, None, length, map, get_or, slice_index, sym, ap, ◌∙◌, pos, Vec, Global, arith}
 use Rattle.std.specs.Prelude.{ℤ}
 use Rattle.std.proofs.lemmas.List.{length-map, get_or-map}
 use Rattle.std.proofs.lemmas.Bool.{cases_lt}
-use Rattle.kept_cuts.specs.Kept.{kept_of, kept_hubs, kept_order, IsOfSet}
+use Rattle.kept_cuts.specs.Kept.{kept_of, kept_set}
 use Rattle.kept_cuts.specs.declared.kept.KeptCut.{KeptCut}
 use Rattle.cut_pool.specs.Entries.{entry_at, IsNumber, IsNumberOf, Lacks}
 use Rattle.cut_pool.specs.Kept.{sets_of}
 use Rattle.cut_pool.specs.Ordered.{IsSplitAt, set_at}
 use Rattle.cut_pool.specs.PoolParts.{state_of, IsPool}
 use Rattle.cut_pool.specs.declared.pool.Pool.TheInside.{Inside}
-use Rattle.cut_pool.proofs.Columns.{AreBeside, AreColumns, columns, column_at, length-column, lacks_from_sets, of_set_there, set_there, order_there}
+use Rattle.cut_pool.proofs.Columns.{AreBeside, AreColumns, columns, column_at, length-column, lacks_from_sets, kept_there, map-map}
 use Rattle.cut_pool.proofs.Indexes.{none_is}
 
 pub beside : (s : Inside) → IsPool s → AreBeside s.cuts.kept.cuts s.cuts.kept.totals s.cuts.kept.loads
@@ -25,7 +25,10 @@ length-entries s is = length-column (λ e. e.total) _ s.cuts.kept.totals (pool_c
 
 -- as many hub sets as cuts
 pub length-sets : (s : Inside) → length (sets_of s.cuts.kept.cuts) ≡ length s.cuts.kept.cuts
-length-sets s = length-map s.cuts.kept.cuts kept_hubs
+length-sets s = length-map s.cuts.kept.cuts kept_set
+
+pub sets_column : (s : Inside) → IsPool s → map (λ e. kept_set e.cut) (state_of s).entries ≡ sets_of s.cuts.kept.cuts
+sets_column s is = sym (map-map kept_set (λ e. e.cut) (state_of s).entries) ∙ ap (map kept_set) (pool_columns s is).cuts
 
 -- ---- the cut of a number
 
@@ -34,18 +37,10 @@ module _ (s : Inside) (is : IsPool s) (c : ℕ) (number : IsNumber (state_of s).
   place_within = omega (arith, length-entries s is, number.least, number.most)
 
   module _ (cuts : List KeptCut) (x : KeptCut) (same : map kept_of cuts ≡ s.cuts.kept.cuts) (read : x ≡ get_or cuts (c - 1) x) where
-    pub of_set_read : IsOfSet (kept_of x)
-    of_set_read = of_set_there cuts s.cuts.kept.cuts (c - 1) x same place_within read is.of_sets
-
-    pub set_read : kept_hubs (kept_of x) ≡ (entry_at (state_of s).entries c).hubs
-    set_read =
-        set_there cuts s.cuts.kept.cuts (c - 1) x same place_within read []
-        ∙ column_at (λ e. e.hubs) _ (sets_of s.cuts.kept.cuts) c [] (pool_columns s is).hubs number
-
-    pub order_read : kept_order (kept_of x) ≡ (entry_at (state_of s).entries c).order
-    order_read =
-        order_there cuts s.cuts.kept.cuts (c - 1) x same place_within read []
-        ∙ column_at (λ e. e.order) _ (map kept_order s.cuts.kept.cuts) c [] (pool_columns s is).orders number
+    pub cut_read : kept_of x ≡ (entry_at (state_of s).entries c).cut
+    cut_read =
+        kept_there cuts s.cuts.kept.cuts (c - 1) x same place_within read
+        ∙ column_at (λ e. e.cut) _ s.cuts.kept.cuts c (kept_of x) (pool_columns s is).cuts number
 
   pub total_read : (totals : List ℤ) (d : ℤ) → totals ≡ map pos s.cuts.kept.totals
       → get_or totals (c - 1) d ≡ pos (entry_at (state_of s).entries c).total
@@ -80,26 +75,26 @@ module _ (s : Inside) (is : IsPool s) (c : ℕ) (number : IsNumber (state_of s).
 pub number_of : (s : Inside) → IsPool s → (place : ℕ) → place < length s.cuts.kept.cuts → IsNumber (state_of s).entries (place + 1)
 number_of s is place below = record { least = omega arith; most = omega (arith, length-entries s is, below) }
 
-pub hubs_of : (s : Inside) → IsPool s → (place : ℕ) (d : List ℕ) → place < length s.cuts.kept.cuts
-    → (entry_at (state_of s).entries (place + 1)).hubs ≡ get_or (sets_of s.cuts.kept.cuts) place d
-hubs_of s is place d below =
+pub set_of_number : (s : Inside) → IsPool s → (place : ℕ) → place < length s.cuts.kept.cuts
+    → kept_set (entry_at (state_of s).entries (place + 1)).cut ≡ get_or (sets_of s.cuts.kept.cuts) place None
+set_of_number s is place below =
     let e : (place + 1) - 1 ≡ place = omega arith in
-    sym (column_at (λ e. e.hubs) _ (sets_of s.cuts.kept.cuts) (place + 1) d (pool_columns s is).hubs (number_of s is place below))
-    ∙ ap (λ (i : ℕ). get_or (sets_of s.cuts.kept.cuts) i d) e
+    sym (column_at (λ e. kept_set e.cut) _ (sets_of s.cuts.kept.cuts) (place + 1) None (sets_column s is) (number_of s is place below))
+    ∙ ap (λ (i : ℕ). get_or (sets_of s.cuts.kept.cuts) i None) e
 
 pub only_number : (s : Inside) → IsPool s → (hubs : List ℕ) (x c : ℕ) → IsNumberOf (state_of s).entries hubs x
     → IsNumberOf (state_of s).entries hubs c → x ≡ c
 only_number s is hubs x c h k =
     let sets = sets_of s.cuts.kept.cuts in
-    let at : (y : ℕ) → IsNumberOf (state_of s).entries hubs y → get_or sets (y - 1) [] ≡ hubs = λ y n.
-    column_at (λ e. e.hubs) _ sets y [] (pool_columns s is).hubs n.number ∙ n.has_hubs in
+    let at : (y : ℕ) → IsNumberOf (state_of s).entries hubs y → get_or sets (y - 1) None ≡ Some hubs = λ y n.
+    column_at (λ e. kept_set e.cut) _ sets y None (sets_column s is) n.number ∙ n.has_hubs in
     let apart : (y z : ℕ) → IsNumberOf (state_of s).entries hubs y → IsNumberOf (state_of s).entries hubs z → y < z → ⊥ = λ y z n m less.
-    is.distinct (y - 1) (z - 1) (omega (arith, n.number.least)) (omega (arith, place_within s is z m.number, length-sets s)) (at y n ∙ sym (at z m)) in
+    is.distinct (y - 1) (z - 1) hubs (omega (arith, n.number.least)) (at y n) (at z m) in
     ⊎_elim (λ less. absurd (apart x c h k less)) (λ rest. ⊎_elim (λ more. absurd (apart c x k h more)) (λ most. omega arith) (cases_lt c x))
     (cases_lt x c)
 
 pub lacks_entries : (s : Inside) → IsPool s → (hubs : List ℕ) (at : ℕ) → IsSplitAt (sets_of s.cuts.kept.cuts) s.by_set.items hubs at
     → (at < length s.by_set.items → set_at (sets_of s.cuts.kept.cuts) s.by_set.items at ≢ hubs) → Lacks (state_of s).entries hubs
 lacks_entries s is hubs at split none =
-    lacks_from_sets _ (sets_of s.cuts.kept.cuts) hubs (pool_columns s is).hubs
+    lacks_from_sets _ (sets_of s.cuts.kept.cuts) hubs (sets_column s is)
     (none_is (sets_of s.cuts.kept.cuts) s.by_set.items hubs at is.index split none)

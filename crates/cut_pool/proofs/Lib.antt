@@ -5,3 +5,5 @@ pub mod IndexedCuts
 pub mod Entered
 pub mod Grown
 pub mod ShortRows
+pub mod UnitSums
+pub mod GivenSums

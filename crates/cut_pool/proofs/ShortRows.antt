@@ -8,7 +8,7 @@ use Rattle.std.proofs.lemmas.List.{length-map, map-set, map_push, get_or-map, ge
 use Rattle.std.proofs.lemmas.Bool.Decides.{nat_tests}
 use Rattle.hub_model.specs.Amounts.{natural}
 use Rattle.cut_pool.specs.Entries.{Entry}
-use Rattle.cut_pool.specs.Shorts.{Shorts, AreShortLoads, AreShortIfKept, IsStarted, ArePushed, IsWith, IsWithCut}
+use Rattle.cut_pool.specs.Shorts.{Shorts, unit_row, AreShortLoads, AreShortIfKept, IsStarted, ArePushed, IsWith, IsWithCut}
 use Rattle.cut_pool.proofs.Columns.{map-map}
 
 -- ---- halvings
@@ -96,7 +96,7 @@ none_short s none = record { row = λ k low. absurd (omega (arith, ap length non
 
 row_before : (es : List Entry) (s t : Shorts) (is_first : Bool) → AreShortLoads es s → is_first ≡ (length es == 0)
     → (is_first ≡ false → length t.rows ≡ length s.rows) → (k : ℕ) → k < length t.rows
-    → get_or s.rows k [] ≡ map (λ (x : Entry). slice_index x.loads k / 2 ^ s.halvings) es
+    → get_or s.rows k [] ≡ map (λ (x : Entry). slice_index (unit_row x) k / 2 ^ s.halvings) es
 row_before [] s t is_first are first later k low =
     ⊎_elim (λ within. are.row k within) (λ past. get_or_past s.rows k [] past) (cases_lt k (length s.rows))
 row_before (e ∷ es) s t is_first are first later k low =
@@ -106,18 +106,18 @@ row_before (e ∷ es) s t is_first are first later k low =
 -- a cut added to the entries and to the rows
 pub entries_with : (es : List Entry) (e : Entry) (s t : Shorts) (is_first : Bool) → AreShortLoads es s → is_first ≡ (length es == 0)
     → (is_first ≡ false → length t.rows ≡ length s.rows) → s.halvings ≤ t.halvings
-    → ArePushed (t.halvings - s.halvings) t.halvings s.rows t.rows e.loads → AreShortLoads (es ++ e ∷ []) t
+    → ArePushed (t.halvings - s.halvings) t.halvings s.rows t.rows (unit_row e) → AreShortLoads (es ++ e ∷ []) t
 entries_with es e s t is_first are first later above pushed = record {
   row = λ k low.
-      let f = λ (x : Entry). slice_index x.loads k / 2 ^ s.halvings in
-      let g = λ (x : Entry). slice_index x.loads k / 2 ^ t.halvings in
+      let f = λ (x : Entry). slice_index (unit_row x) k / 2 ^ s.halvings in
+      let g = λ (x : Entry). slice_index (unit_row x) k / 2 ^ t.halvings in
       let more = t.halvings - s.halvings in
       let sum : s.halvings + more ≡ t.halvings = omega (arith, above) in
       let before : get_or s.rows k [] ≡ map f es =
       row_before es s t is_first are first later k low in
       let halved : map (λ x. x / 2 ^ more) (get_or s.rows k []) ≡ map g es =
       ap (map (λ x. x / 2 ^ more)) before ∙ map-map (λ x. x / 2 ^ more) f es
-      ∙ map-all (λ x. f x / 2 ^ more) g es (λ x. halved_again s.halvings more (slice_index x.loads k) ∙ ap (λ n. slice_index x.loads k / 2 ^ n) sum) in
+      ∙ map-all (λ x. f x / 2 ^ more) g es (λ x. halved_again s.halvings more (slice_index (unit_row x) k) ∙ ap (λ n. slice_index (unit_row x) k / 2 ^ n) sum) in
       pushed.row k low ∙ ap (λ xs. xs ++ g e ∷ []) halved ∙ sym (map_push g es e);
 }
 
@@ -137,7 +137,7 @@ cut_started kept is_first s u t loads was started with = record {
 }
 
 pub short_more : (es : List Entry) (e : Entry) (kept taken after : Option Shorts) (is_first : Bool) (loads : List ℕ) → AreShortIfKept es kept
-    → taken ≡ kept → IfSome after (λ t. IsWithCut taken is_first t loads) → is_first ≡ (length es == 0) → loads ≡ e.loads
+    → taken ≡ kept → IfSome after (λ t. IsWithCut taken is_first t loads) → is_first ≡ (length es == 0) → loads ≡ unit_row e
     → AreShortIfKept (es ++ e ∷ []) after
 short_more es e kept taken after is_first loads are same_kept with first same = λ t is.
     let w : IsWithCut taken is_first t loads = subst (λ (o : Option Shorts). IfSome o (λ t. IsWithCut taken is_first t loads)) is with in

@@ -3,3 +3,4 @@ pub mod Kept
 pub mod Ordered
 pub mod PoolParts
 pub mod Shorts
+pub mod Units

@@ -1,11 +1,11 @@
 -- The fields of a pool.
-use Rattle.std.specs.Prelude.{◌≡◌, ℕ, ◌-◌, ◌≤◌, min, length, All}
-use Rattle.kept_cuts.specs.Kept.{IsOfSet}
+use Rattle.std.specs.Prelude.{◌≡◌, ℕ, ◌-◌, ◌≤◌, min, length}
 use Rattle.kept_cuts.specs.StoreParts.{free}
-use Rattle.cut_pool.specs.Entries.{PoolState}
+use Rattle.cut_pool.specs.Entries.{PoolState, most_given}
 use Rattle.cut_pool.specs.Kept.{most_kept, sets_of, entries_of, AreDistinct}
 use Rattle.cut_pool.specs.Ordered.{IsIndex}
 use Rattle.cut_pool.specs.Shorts.{AreShortIfKept}
+use Rattle.cut_pool.specs.Units.{AreUnitsIfKept}
 use Rattle.cut_pool.specs.declared.pool.Pool.TheInside.{Inside}
 
 -- how many more cuts have a number, and a place in the store and in the index
@@ -19,13 +19,14 @@ state_of s = record {
   spare = spare_of s;
 }
 
--- each cut is of a hub set and has its sums, no set stands twice, the index has each, and the loads in 32 bits are those
--- of the entries
+-- each cut has its sums, no set stands twice, the index has each, the loads in 32 bits and the sums for one unit are those of
+-- the entries, and so is the greatest load of a given cut
 pub record IsPool (s : Inside) : Type 0 where
   pub most : length s.cuts.kept.cuts ≤ most_kept
-  pub of_sets : All IsOfSet s.cuts.kept.cuts
   pub totals : length s.cuts.kept.totals ≡ length s.cuts.kept.cuts
   pub loads : length s.cuts.kept.loads ≡ length s.cuts.kept.cuts
   pub distinct : AreDistinct (sets_of s.cuts.kept.cuts)
   pub index : IsIndex (sets_of s.cuts.kept.cuts) s.by_set.items
   pub short : AreShortIfKept (state_of s).entries s.short
+  pub units : AreUnitsIfKept (state_of s).entries s.units
+  pub greatest : s.most_load ≡ most_given (state_of s).entries

@@ -1,15 +1,19 @@
 -- The loads of cuts in 32 bits, node by node.
 use Rattle.std.specs.Prelude.{◌≡◌, ℕ, ◌-◌, ◌/◌, ◌^◌, ◌<◌, ◌≤◌, List, [], ◌∷◌, ◌++◌, Bool, false, Option, Some, length, map, slice_index, slice_index_or}
-use Rattle.cut_pool.specs.Entries.{Entry}
+use Rattle.cut_pool.specs.Entries.{Entry, entry_part}
 
 -- how often each load is halved, and for each node a row with the halved loads of the cuts
 pub record Shorts : Type 0 where
   pub halvings : ℕ
   pub rows : List (List ℕ)
 
--- each row has the entries' loads of its node, halved so often and rounded down
+-- the loads of an entry for one unit of its cut's part, rounded down
+abbrev pub unit_row : Entry → List ℕ
+unit_row e = map (λ u. u / entry_part e) e.loads
+
+-- each row has these loads of its node, halved so often and rounded down
 pub record AreShortLoads (entries : List Entry) (s : Shorts) : Type 0 where
-  pub row : (k : ℕ) → k < length s.rows → slice_index_or s.rows k [] ≡ map (λ e. slice_index e.loads k / 2 ^ s.halvings) entries
+  pub row : (k : ℕ) → k < length s.rows → slice_index_or s.rows k [] ≡ map (λ e. slice_index (unit_row e) k / 2 ^ s.halvings) entries
 
 -- the same of loads that may not be kept
 abbrev pub AreShortIfKept : List Entry → Option Shorts → Type 0

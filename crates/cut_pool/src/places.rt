@@ -1,7 +1,7 @@
 //! Hub sets in order.
 
-ghost use Rattle.std.specs.Prelude.{◌<◌, length, map, All};
-ghost use Rattle.kept_cuts.specs.Kept.{kept_of, IsOfSet};
+ghost use Rattle.std.specs.Prelude.{◌<◌, length, map};
+ghost use Rattle.kept_cuts.specs.Kept.{kept_of};
 ghost use Rattle.cut_pool.specs.Kept.{sets_of};
 ghost use Rattle.cut_pool.specs.Ordered.{IsIndex, IsSplitAt};
 
@@ -10,8 +10,7 @@ use kept_cuts::KeptCut;
 
 /// How many hub sets of the cuts, as the index has them, come before these hubs.
 pub(crate) fn place_of(cuts: &[KeptCut], by_set: &[u32], hubs: &[u32]) -> usize
-    requires of_sets { All IsOfSet (map kept_of cuts.now) }
-    requires index { IsIndex (sets_of (map kept_of cuts.now)) by_set.now }
+    requires { IsIndex (sets_of (map kept_of cuts.now)) by_set.now }
     ensures { IsSplitAt (sets_of (map kept_of cuts.now)) by_set.now hubs.now result }
 {
     let mut low = 0;

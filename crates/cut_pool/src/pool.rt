@@ -1,33 +1,42 @@
 //! Cuts under their numbers.
 
 ghost use Rattle.std.specs.Prelude.{◌≡◌, ℕ, ◌+◌, ◌<◌, ◌≤◌, [], ◌∷◌, ◌++◌, length, map, pos, slice_index, IfSome, IfNone, IsOk, IfOk, OnOk, OnErr, IfErr};
-ghost use Rattle.kept_cuts.specs.Kept.{by_set};
-ghost use Rattle.cut_pool.specs.Entries.{entry_of, entry_at, IsNumber, IsNumberOf, Lacks};
+ghost use Rattle.hub_spec.specs.Limits.{most_nodes};
+ghost use Rattle.hub_spec.specs.Ranges.{IsCutInRange};
+ghost use Rattle.kept_cuts.specs.Kept.{kept_of};
+ghost use Rattle.cut_pool.specs.Entries.{entry_of, given_entry, entry_at, entry_part, unit_totals, unit_loads, most_given, IsNumber, IsNumberOf, Lacks};
 ghost use Rattle.cut_pool.specs.Shorts.{AreShortLoads};
+ghost use Rattle.cut_pool.specs.Units.{AreWhole};
 
 use crate::places::place_of;
-use crate::set_cuts::{order_of, set_of};
+use crate::set_cuts::set_of;
 use crate::short_loads::{reserve_kept, with_cut};
+use crate::unit_columns::{UnitColumns, enter, most_per_unit, per_unit};
 use crate::{CutSums, ShortLoads};
-use kept_cuts::{CutStore, KeptCut, KeptCuts};
-use plan_model::HubSet;
+use hub_model::signed;
+use kept_cuts::{CutStore, KeptCut, KeptCuts, signed_row};
+use plan_model::{HubSet, StatedCut};
 use std::alloc::{AllocError, Global};
 use std::marker::Model;
 
 // The most cuts of a pool: their numbers are below 2^32.
 const MOST_KEPT: u64 = 4_294_967_295;
 
-/// The cuts of a search, numbered from 1 in the order in which they were added, no two of one hub set.
+/// The cuts of a search, numbered from 1 in the order in which they were added: separated cuts, no two of one hub set, and
+/// cuts that were given with their duals, which are of no hub set.
 ///
 /// A pool is seen as its entries, with how many more can be added for certain.
 #[derive(Drop)]
 pub struct Pool {
-    // Each is one of a hub set.
     cuts: CutStore,
-    // The places of the cuts, from 0, in the order of the members of their hub sets.
+    // The places of the separated cuts, from 0, in the order of the members of their hub sets.
     by_set: Vec<u32>,
     // The loads in 32 bits, until they are given up.
     short: Option<ShortLoads>,
+    // Totals and loads for one unit of each cut's part, once a part is above 1.
+    units: Option<UnitColumns>,
+    // The greatest load of a given cut for one unit of its part.
+    most_load: u128,
 }
 
 impl Model for Pool {
@@ -61,6 +70,8 @@ impl Pool {
             cuts: CutStore::new(alloc),
             by_set: Vec::new(alloc),
             short: Some(ShortLoads::new(alloc)),
+            units: None,
+            most_load: 0,
         })
     }
 
@@ -121,18 +132,24 @@ impl Pool {
     /// and gives its number, the next one.
     ///
     /// Cut and order come back where memory is wanting, or where the pool has all the cuts that it can number. With room
-    /// for one more it is sure to succeed: the short loads may still ask for memory, and are given up where it is wanting.
+    /// for one more it is sure to succeed while each cut's part is 1: the short loads may still ask for memory, and are
+    /// given up where it is wanting. Once a part is above 1 the loads are kept twice, and the copy asks for memory too.
     pub fn add(&mut self, cut: CutSums, order: Vec<u32>) -> Result<u64, Refused>
         requires { Lacks self.old.entries cut.hubs }
         ensures number { IfOk result (λ c. c ≡ length self.old.entries + 1) }
         ensures added { OnOk result (self.new.entries ≡ self.old.entries ++ entry_of cut order.items ∷ []) }
         ensures spare { OnOk result (self.old.spare ≤ self.new.spare + 1) }
-        ensures succeeds { 1 ≤ self.old.spare → IsOk result }
+        ensures succeeds { 1 ≤ self.old.spare → AreWhole self.old.entries → IsOk result }
         ensures refused { OnErr result (self.new.entries ≡ self.old.entries) }
         ensures given_back { IfErr result (λ r. r.cut ≡ cut) }
         ensures order_given_back { IfErr result (λ r. r.order.items ≡ order.items) }
     {
         if self.reserve(1).is_err() {
+            return Err(Refused { cut, order });
+        }
+        let alloc = *order.allocator();
+        let (total, loads) = (cut.total(), cut.loads());
+        if enter(alloc, &mut self.units, &self.cuts, 1, total, loads).is_err() {
             return Err(Refused { cut, order });
         }
         let place = self.cuts.len() as u32;
@@ -143,6 +160,34 @@ impl Pool {
         self.short = with_cut(self.short.take(), place == 0, &loads);
         self.cuts.put(KeptCut::Set(set, order), total, loads);
         Ok(u64::from(place) + 1)
+    }
+
+    /// Adds a cut that was given with its duals, between `size` nodes, and gives its number, the next one. No hub set finds
+    /// it.
+    ///
+    /// The answer is `AllocError` where memory runs out, or where the pool has all the cuts that it can number. Its cuts stay
+    /// as they were then, and the given one is dropped.
+    pub fn add_given(&mut self, alloc: Global, size: u32, cut: StatedCut) -> Result<u64, AllocError>
+        requires size { size ≤ most_nodes }
+        requires duals { IsCutInRange size cut }
+        ensures number { IfOk result (λ c. c ≡ length self.old.entries + 1) }
+        ensures added { OnOk result (self.new.entries ≡ self.old.entries ++ given_entry size cut ∷ []) }
+        ensures spare { OnOk result (self.old.spare ≤ self.new.spare + 1) }
+        ensures refused { OnErr result (self.new.entries ≡ self.old.entries) }
+    {
+        let part = cut.part();
+        let total = cut.total();
+        let loads = cut.loads(alloc, size)?;
+        let row = signed_row(alloc, &loads)?;
+        let units = per_unit(alloc, part, &loads)?;
+        self.reserve(1)?;
+        let unit_total = signed(total / u128::from(part));
+        enter(alloc, &mut self.units, &self.cuts, part, unit_total, &units)?;
+        let place = self.cuts.len();
+        self.short = with_cut(self.short.take(), place == 0, &units);
+        self.most_load = self.most_load.max(most_per_unit(part, &loads));
+        self.cuts.put(KeptCut::Given(cut), signed(total), row);
+        Ok(place as u64 + 1)
     }
 
     /// How many cuts there are.
@@ -169,25 +214,17 @@ impl Pool {
         self.cuts.loads()[(c - 1) as usize][k as usize]
     }
 
-    /// The hub set of cut `c`.
-    pub fn set(&self, c: u64) -> &HubSet
+    /// What the duals of cut `c` can be made from.
+    pub fn cut(&self, c: u64) -> &KeptCut
         requires { IsNumber self.now.entries c }
-        ensures { result.now ≡ (entry_at self.now.entries c).hubs }
+        ensures { kept_of result.now ≡ (entry_at self.now.entries c).cut }
     {
-        set_of(&self.cuts.cuts()[(c - 1) as usize])
+        &self.cuts.cuts()[(c - 1) as usize]
     }
 
-    /// The order of the candidates outside the hub set that cut `c` was worked out over.
-    pub fn order(&self, c: u64) -> &[u32]
-        requires { IsNumber self.now.entries c }
-        ensures { result.now ≡ (entry_at self.now.entries c).order }
-    {
-        order_of(&self.cuts.cuts()[(c - 1) as usize])
-    }
-
-    /// The part of each cut, in the order of their numbers: 1, since each is of a hub set.
+    /// The part of each cut, in the order of their numbers: 1 but for given cuts.
     pub fn parts(&self) -> &[u32]
-        ensures { result.now ≡ map (λ e. 1) self.now.entries }
+        ensures { result.now ≡ map entry_part self.now.entries }
     {
         self.cuts.parts()
     }
@@ -206,7 +243,35 @@ impl Pool {
         self.cuts.loads()
     }
 
-    /// The loads in 32 bits, if they are kept: a row for each node, with one number for each cut.
+    /// The total of each cut for one unit of its part, in 10^-12, rounded down, in the order of their numbers.
+    pub fn unit_totals(&self) -> &[i128]
+        ensures { result.now ≡ map pos (unit_totals self.now.entries) }
+    {
+        match &self.units {
+            Some(units) => units.totals(),
+            None => self.cuts.totals(),
+        }
+    }
+
+    /// The loads of each cut for one unit of its part, in 10^-12, rounded down, in the order of their numbers.
+    pub fn unit_loads(&self) -> &[Vec<i128>]
+        ensures { map (λ v. v.items) result.now ≡ map (map pos) (unit_loads self.now.entries) }
+    {
+        match &self.units {
+            Some(units) => units.loads(),
+            None => self.cuts.loads(),
+        }
+    }
+
+    /// The greatest load of a given cut for one unit of its part, in 10^-12, rounded down: 0 if none was given.
+    pub fn most_given(&self) -> u128
+        ensures { result ≡ most_given self.now.entries }
+    {
+        self.most_load
+    }
+
+    /// The loads for one unit of each cut's part in 32 bits, if they are kept: a row for each node, with one number for each
+    /// cut.
     ///
     /// They are given up for good where a cut has loads of more or fewer nodes than those before, and where memory for
     /// them is wanting as a cut is added.
@@ -218,7 +283,7 @@ impl Pool {
 
     /// The cuts, as a finding has them. It takes no memory.
     pub fn into_cuts(self) -> KeptCuts
-        ensures cuts { result.cuts ≡ map (λ e. by_set e.hubs e.order) self.entries }
+        ensures cuts { result.cuts ≡ map (λ e. e.cut) self.entries }
         ensures totals { result.totals ≡ map (λ e. e.total) self.entries }
         ensures loads { result.loads ≡ map (λ e. e.loads) self.entries }
     {

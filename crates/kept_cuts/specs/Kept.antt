@@ -1,42 +1,47 @@
 -- The cuts that a search keeps, by what their duals are made from.
-use Rattle.std.specs.Prelude.{◌≡◌, ℕ, ◌-◌, List, [], map, All}
+use Rattle.std.specs.Prelude.{◌≡◌, ℕ, ◌-◌, List, [], map, All, Option, Some, None}
 use Rattle.std.specs.List.{range_with_len, slice_index_or}
 use Rattle.hub_spec.specs.Problem.{Problem}
 use Rattle.hub_spec.specs.Plans.{IsHubSet}
-use Rattle.hub_spec.specs.Cuts.{Cut, total, load}
+use Rattle.hub_spec.specs.Cuts.{Cut, total, load, IsCut}
+use Rattle.hub_spec.specs.Ranges.{IsCutInRange}
 use Rattle.hub_spec.specs.Separation.{IsOrder, set_cut}
 use Rattle.value_cuts.specs.Values.{ValueRows, AreValuesFor, value_cut}
 use Rattle.kept_cuts.specs.declared.kept.KeptCut.{KeptCut}
-use Rattle.kept_cuts.specs.declared.kept.KeptCut.TheVariants.{Values, Set}
+use Rattle.kept_cuts.specs.declared.kept.KeptCut.TheVariants.{Values, Set, Given}
 
--- values of the candidates, or a hub set and an order of the other candidates
+-- values of the candidates, or a hub set and an order of the other candidates, or a cut that was given with its duals
 pub data Kept : Type 0 where
   by_values : ValueRows → Kept
   by_set : (hubs order : List ℕ) → Kept
+  given : Cut → Kept
 
 -- what the code keeps stands for
 abbrev pub kept_of : KeptCut → Kept
 kept_of (Values rows) = by_values rows
 kept_of (Set hubs order) = by_set hubs order.items
+kept_of (Given cut) = given cut
 
--- the hub set that a kept cut is of; no hubs where it is of none
-abbrev pub kept_hubs : Kept → List ℕ
-kept_hubs (by_set hubs order) = hubs
-kept_hubs _ = []
+-- the hub set that a kept cut is of, if it is of one
+abbrev pub kept_set : Kept → Option (List ℕ)
+kept_set (by_set hubs order) = Some hubs
+kept_set _ = None
 
--- the order of the other candidates that it is over; none where it is of no hub set
-abbrev pub kept_order : Kept → List ℕ
-kept_order (by_set hubs order) = order
-kept_order _ = []
+-- it is a search's own: it was not given
+abbrev pub IsOwn : Kept → Type 0
+IsOwn (given cut) = ⊥
+IsOwn _ = Unit {0}
 
--- it is of a hub set
-abbrev pub IsOfSet : Kept → Type 0
-IsOfSet kept = kept ≡ by_set (kept_hubs kept) (kept_order kept)
+-- it was separated for a hub set, or given
+abbrev pub IsPooled : Kept → Type 0
+IsPooled (by_values rows) = ⊥
+IsPooled _ = Unit {0}
 
 -- the cut of it
 abbrev pub kept_cut : Problem → Kept → Cut
 kept_cut p (by_values rows) = value_cut p rows
 kept_cut p (by_set hubs order) = set_cut p hubs order
+kept_cut p (given cut) = cut
 
 abbrev pub kept_cuts : Problem → List Kept → List Cut
 kept_cuts p kept = map (kept_cut p) kept
@@ -45,11 +50,13 @@ kept_cuts p kept = map (kept_cut p) kept
 abbrev pub kept_part : Kept → ℕ
 kept_part (by_values rows) = 1
 kept_part (by_set hubs order) = 1
+kept_part (given cut) = cut.part
 
 -- it fits the problem
 abbrev pub IsKeptFor : Problem → Kept → Type 0
 IsKeptFor p (by_values rows) = AreValuesFor p rows
 IsKeptFor p (by_set hubs order) = IsHubSet p hubs × IsOrder p hubs order
+IsKeptFor p (given cut) = IsCut p cut × IsCutInRange p.size cut
 
 -- kept cuts, the total of each, and its load of each node
 pub record KeptList : Type 0 where

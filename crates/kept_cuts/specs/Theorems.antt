@@ -3,7 +3,7 @@ use Rattle.std.specs.Prelude.{◌≡◌}
 use Rattle.hub_spec.specs.Problem.{Problem, IsProblem}
 use Rattle.hub_spec.specs.Cuts.{IsCut}
 use Rattle.hub_spec.specs.Ranges.{IsCutInRange, IsFirstCut}
-use Rattle.kept_cuts.specs.Kept.{Kept, kept_cut, kept_part, IsKeptFor}
+use Rattle.kept_cuts.specs.Kept.{Kept, kept_cut, kept_part, IsOwn, IsKeptFor}
 
 -- a kept cut is a cut of the problem
 abbrev pub KeptCutIsCut : Type 0
@@ -13,9 +13,9 @@ KeptCutIsCut = (p : Problem) (kept : Kept) → IsProblem p → IsKeptFor p kept 
 abbrev pub KeptCutIsInRange : Type 0
 KeptCutIsInRange = (p : Problem) (kept : Kept) → IsProblem p → IsKeptFor p kept → IsCutInRange p.size (kept_cut p kept)
 
--- .. of the first version too
+-- .. of the first version too, where it was not given
 abbrev pub KeptCutIsFirst : Type 0
-KeptCutIsFirst = (p : Problem) (kept : Kept) → IsProblem p → IsKeptFor p kept → IsFirstCut (kept_cut p kept)
+KeptCutIsFirst = (p : Problem) (kept : Kept) → IsProblem p → IsKeptFor p kept → IsOwn kept → IsFirstCut (kept_cut p kept)
 
 -- its part is known without the problem
 abbrev pub KeptPartIsPart : Type 0

@@ -1,22 +1,24 @@
 //! Cuts under their numbers.
 
-ghost use Rattle.std.specs.Prelude.{◌≡◌, ◌+◌, ◌-◌, ◌<◌, ◌≤◌, [], ◌∷◌, ◌++◌, length, map, pos, slice_index, All, IfOk, OnOk, OnErr};
+ghost use Rattle.std.specs.Prelude.{◌≡◌, ◌+◌, ◌-◌, ◌^◌, ◌<◌, ◌≤◌, [], ◌∷◌, ◌++◌, length, map, pos, slice_index, All, IfOk, OnOk, OnErr};
 ghost use Rattle.hub_spec.specs.Limits.{most_cost};
 ghost use Rattle.kept_cuts.specs.Kept.{kept_of, kept_at, kept_part};
 
 use crate::{CutStore, PackedValues};
 use hub_model::signed;
-use plan_model::HubSet;
+use plan_model::{HubSet, StatedCut};
 use std::alloc::{AllocError, Global};
 use std::marker::Model;
 
-/// What the duals of a cut can be made from anew.
+/// What the duals of a cut can be made from anew, or these themselves.
 #[derive(Drop)]
 pub enum KeptCut {
     /// Values of the candidates for each commodity.
     Values(PackedValues),
     /// A hub set and an order of the other candidates.
     Set(HubSet, Vec<u32>),
+    /// A cut that was given with its duals.
+    Given(StatedCut),
 }
 
 impl KeptCut {
@@ -27,6 +29,7 @@ impl KeptCut {
         match self {
             KeptCut::Values(_) => 1,
             KeptCut::Set(_, _) => 1,
+            KeptCut::Given(cut) => cut.part(),
         }
     }
 }
@@ -130,7 +133,7 @@ impl KeptCuts {
 
 /// The same amounts, signed: loads as a store has them.
 pub fn signed_row(alloc: Global, amounts: &[u128]) -> Result<Vec<i128>, AllocError>
-    requires { All (λ l. l ≤ most_cost) amounts.now }
+    requires { All (λ l. l < 2 ^ 127) amounts.now }
     ensures { IfOk result (λ row. row.items ≡ map pos amounts.now) }
 {
     let mut row = Vec::with_capacity(alloc, amounts.len())?;

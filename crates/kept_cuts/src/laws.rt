@@ -12,7 +12,7 @@ pub fn kept_cut_is_in_range()
     ensures { KeptCutIsInRange }
 {}
 
-/// A certificate of the first version may list it too.
+/// A certificate of the first version may list it too, where it was not given.
 pub fn kept_cut_is_first()
     ensures { KeptCutIsFirst }
 {}

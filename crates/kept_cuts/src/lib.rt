@@ -1,7 +1,7 @@
 //! The cuts that a search keeps, and what it found with them.
 //!
 //! A [`KeptCut`] is what the duals of a cut can be made from anew: values of the candidates, or a hub set with an order of
-//! the others. A [`CutStore`] has them side by side with the part, the total and the loads of each, and says how many more
+//! the others; or a cut that was given with its duals. A [`CutStore`] has them side by side with the part, the total and the loads of each, and says how many more
 //! it has room for. [`KeptCuts`] numbers them from 1, and leaves the room out of sight. [`PackedValues`] are values of
 //! which those above 0 alone take memory. A [`Found`] is a plan with the cuts and the tree that bound what any plan costs.
 //! Costs are in 10^-12; nodes are `u32`, counted from 0.

@@ -1,6 +1,6 @@
 //! Masters of branches, and what they advise.
 
-ghost use Rattle.std.specs.Prelude.{◌≡◌, ◌<◌, ◌≤◌, length, map, All, IsTrue};
+ghost use Rattle.std.specs.Prelude.{◌≡◌, ◌<◌, ◌≤◌, length, map, max, All, IsTrue};
 ghost use Rattle.hub_model.specs.Amounts.{natural, IsNatural};
 ghost use Rattle.frac_master.specs.Masters.{AreMasterNumbers, AreWithinTotals, candidates_of};
 
@@ -61,7 +61,15 @@ fn advised_by_totals(
     if !is_master(lent, branch) || !are_within(&lent.totals, &lent.loads) {
         return Ok(None);
     }
-    let found = advise_by_totals(alloc, &lent.totals, &lent.loads, None, &lent.fixed, branch)?;
+    let found = advise_by_totals(
+        alloc,
+        &lent.totals,
+        &lent.loads,
+        None,
+        0,
+        &lent.fixed,
+        branch,
+    )?;
     Ok(Some(read(alloc, &found)?))
 }
 
@@ -108,7 +116,7 @@ fn are_rows(rows: &[Vec<i128>], nodes: usize) -> bool
 
 // Whether no load is above its cut's total.
 fn are_within(totals: &[i128], loads: &[Vec<i128>]) -> bool
-    ensures { IsTrue result → AreWithinTotals totals.now (map (λ v. v.items) loads.now) }
+    ensures { IsTrue result → AreWithinTotals 0 totals.now (map (λ v. v.items) loads.now) }
 {
     if totals.len() != loads.len() {
         return false;
@@ -122,13 +130,13 @@ fn are_within(totals: &[i128], loads: &[Vec<i128>]) -> bool
 }
 
 fn are_up_to(loads: &[i128], total: i128) -> bool
-    ensures { IsTrue result → All (λ x. natural x ≤ natural total) loads.now }
+    ensures { IsTrue result → All (λ x. natural x ≤ max (natural total) 0) loads.now }
 {
     loads.iter().all(|x| is_up_to(*x, total))
 }
 
 fn is_up_to(x: i128, total: i128) -> bool
-    ensures { IsTrue result → natural x ≤ natural total }
+    ensures { IsTrue result → natural x ≤ max (natural total) 0 }
 {
     0 <= x && 0 <= total && unsigned(x) <= unsigned(total)
 }

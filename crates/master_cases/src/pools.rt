@@ -4,6 +4,7 @@ use crate::fields::{numbers, parted};
 use crate::limits::are_low;
 use cut_pool::{CutSums, Pool};
 use hub_model::is_node_list;
+use kept_cuts::KeptCut;
 use plan_model::HubSet;
 use std::alloc::{AllocError, Global};
 
@@ -100,10 +101,14 @@ fn tell_short(told: &mut String, pool: &Pool) -> Result<(), AllocError> {
 
 fn tell_cuts(told: &mut String, pool: &Pool) -> Result<(), AllocError> {
     for c in 1..=pool.len() {
-        let set = pool.set(c).members();
-        let order = pool.order(c);
         let total = pool.total(c);
-        writeln!(told, "cut {c} of {set:?}, order {order:?}, total {total}")?;
+        match pool.cut(c) {
+            KeptCut::Set(set, order) => {
+                let set = set.members();
+                writeln!(told, "cut {c} of {set:?}, order {order:?}, total {total}")?;
+            }
+            _ => writeln!(told, "cut {c} of no hub set, total {total}")?,
+        }
     }
     let loads = pool.loads();
     writeln!(told, "loads {loads:?}")

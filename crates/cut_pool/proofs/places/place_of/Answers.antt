@@ -2,7 +2,7 @@ use Rattle.std.proofs.Common.{◌≡◌, ◌+◌, ◌-◌, ◌/◌, ◌<◌, len
 use Rattle.std.specs.Ordering.{nat_cmp, is_lt}
 use Rattle.std.specs.Cmp.Lexicographic.{slice_cmp}
 use Rattle.std.proofs.lemmas.List.{get_or_default}
-use Rattle.kept_cuts.specs.Kept.{kept_of, kept_hubs}
+use Rattle.kept_cuts.specs.Kept.{kept_of}
 use Rattle.cut_pool.specs.Kept.{sets_of}
 use Rattle.cut_pool.specs.Ordered.{set_at}
 use Rattle.cut_pool.proofs.IndexedCuts.{of_set_indexed, set_indexed}
@@ -16,7 +16,7 @@ set_of-requires c =
     let middle = c.loop-low.low + (c.loop-low.high - c.loop-low.low) / 2 in
     let within : middle < length index = omega (arith, c.loop-low.invariant.most) in
     of_set_indexed c.args.cuts.now (map kept_of c.args.cuts.now) index middle (get_or index middle 0) c.index-cuts-by_set.result refl
-    c.requires.index within (get_or_default index middle 0 (get_or index middle 0) within) c.index-cuts-by_set.is c.requires.of_sets
+    c.requires within (get_or_default index middle 0 (get_or index middle 0) within) c.index-cuts-by_set.is
 
 -- what the comparison says of the set that the index has in the middle
 told : (c : After-is_lt)
@@ -32,20 +32,19 @@ told c =
     let middle = c.loop-low.low + (c.loop-low.high - c.loop-low.low) / 2 in
     let within : middle < length index = omega (arith, c.loop-low.invariant.most) in
     let there =
-    set_indexed c.args.cuts.now ks index middle (get_or index middle 0) x refl c.requires.index within
-    (get_or_default index middle 0 (get_or index middle 0) within) c.index-cuts-by_set.is (kept_hubs (kept_of x)) in
+    set_indexed c.args.cuts.now ks index middle (get_or index middle 0) x refl c.requires within
+    (get_or_default index middle 0 (get_or index middle 0) within) c.index-cuts-by_set.is _ c.set_of.ensures in
     c.is_lt.ensures ∙ ap is_lt c.cmp.ensures
-    ∙ tested (sets_of ks) index c.args.hubs.now middle (kept_hubs (kept_of x)) _ c.requires.index within there
-    (c.members-members.ensures.value ∙ c.set_of.ensures)
+    ∙ tested (sets_of ks) index c.args.hubs.now middle _ _ there c.members-members.ensures.value
 
 pub loop-low-preserved-then-is_lt : goal.loop-low-preserved-then-is_lt
 loop-low-preserved-then-is_lt c =
     let middle = c.loop-low.low + (c.loop-low.high - c.loop-low.low) / 2 in
-    search_above _ _ _ _ _ middle c.requires.index c.loop-low.invariant (omega arith)
+    search_above _ _ _ _ _ middle c.requires c.loop-low.invariant (omega arith)
     (sym (told (goal.at.loop-low-preserved-then-is_lt c).After-is_lt) ∙ c.if-is_lt.true)
 
 pub loop-low-preserved : goal.loop-low-preserved
 loop-low-preserved c =
     let middle = c.loop-low.low + (c.loop-low.high - c.loop-low.low) / 2 in
-    search_below _ _ _ _ _ middle c.requires.index c.loop-low.invariant (omega arith) (omega arith)
+    search_below _ _ _ _ _ middle c.requires c.loop-low.invariant (omega arith) (omega arith)
     (sym (told (goal.at.loop-low-preserved c).After-is_lt) ∙ c.if-is_lt.false)

@@ -1,4 +1,4 @@
-use Rattle.std.proofs.Common.{◌≤◌, ◌+◌, [], ◌∷◌, ◌++◌, List, ℤ, Vec, Global, map, take, get_or, pos, All, FitsSigned, subst, sym, ◌∙◌, ap, arith, rules}
+use Rattle.std.proofs.Common.{◌≤◌, ◌+◌, [], ◌∷◌, ◌++◌, List, ℤ, Vec, Global, map, take, get_or, max, pos, All, FitsSigned, subst, sym, ◌∙◌, ap, arith, rules}
 use Rattle.std.specs.List.{AllZip}
 use Rattle.std.specs.Int.{w128}
 use Rattle.std.proofs.lemmas.Int.{to_z-of_z}
@@ -8,7 +8,7 @@ use Rattle.hub_model.specs.Amounts.{natural}
 use Rattle.master_cases.proofs.masters.are_within.Goals as goal
 
 abbrev R : ℤ → List ℤ → Type 0
-R total row = All (λ x. natural x ≤ natural total) row
+R total row = All (λ x. natural x ≤ max (natural total) 0) row
 
 abbrev items : Vec ℤ Global → List ℤ
 items v = v.items

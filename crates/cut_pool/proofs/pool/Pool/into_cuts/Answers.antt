@@ -1,16 +1,13 @@
 use Rattle.std.proofs.Common.{map, sym, ap, ◌∙◌}
-use Rattle.kept_cuts.specs.Kept.{KeptList, by_set}
+use Rattle.kept_cuts.specs.Kept.{KeptList}
 use Rattle.cut_pool.specs.Entries.{PoolState}
-use Rattle.cut_pool.proofs.Columns.{cuts_of_entries}
-use Rattle.cut_pool.proofs.Entered.{beside, pool_columns}
+use Rattle.cut_pool.proofs.Entered.{pool_columns}
 use Rattle.cut_pool.proofs.pool.Pool.into_cuts.Goals as goal
 
 pub returns-clause-cuts : goal.returns-clause-cuts
 returns-clause-cuts c =
-    let k = c.self.inside.cuts.kept in
-    ap (λ (k : KeptList). k.cuts) c.of.ensures
-    ∙ cuts_of_entries k.cuts k.totals k.loads (beside c.self.inside c.self.invariant) c.self.invariant.of_sets
-    ∙ ap (λ (p : PoolState). map (λ e. by_set e.hubs e.order) p.entries) c.self.view_is
+    ap (λ (k : KeptList). k.cuts) c.of.ensures ∙ sym (pool_columns c.self.inside c.self.invariant).cuts
+    ∙ ap (λ (p : PoolState). map (λ e. e.cut) p.entries) c.self.view_is
 
 pub returns-clause-totals : goal.returns-clause-totals
 returns-clause-totals c =

@@ -1,7 +1,7 @@
-use Rattle.std.proofs.Common.{sym, ap, subst, ◌∙◌, arith}
+use Rattle.std.proofs.Common.{ap, sym, subst, ◌∙◌, arith}
 use Rattle.cut_pool.specs.Entries.{PoolState, entry_at, IsNumber}
-use Rattle.cut_pool.proofs.Entered.{place_within, of_set_read, order_read}
-use Rattle.cut_pool.proofs.pool.Pool.order.Goals as goal
+use Rattle.cut_pool.proofs.Entered.{place_within, cut_read}
+use Rattle.cut_pool.proofs.pool.Pool.cut.Goals as goal
 
 pub offset_bounds-cuts-c : goal.offset_bounds-cuts-c
 offset_bounds-cuts-c c =
@@ -13,14 +13,8 @@ bounds-cuts-c c =
     let number = subst (λ (p : PoolState). IsNumber p.entries c.args.c) (sym c.self.view_is) c.requires in
     omega (arith, place_within c.self.inside c.self.invariant c.args.c number, c.cuts.ensures.long)
 
-pub order_of-requires : goal.order_of-requires
-order_of-requires c =
-    let number = subst (λ (p : PoolState). IsNumber p.entries c.args.c) (sym c.self.view_is) c.requires in
-    of_set_read c.self.inside c.self.invariant c.args.c number c.cuts.result.now c.index-cuts-c.result c.cuts.ensures.value c.index-cuts-c.is
-
 pub returns : goal.returns
 returns c =
     let number = subst (λ (p : PoolState). IsNumber p.entries c.args.c) (sym c.self.view_is) c.requires in
-    c.order_of.ensures
-    ∙ order_read c.self.inside c.self.invariant c.args.c number c.cuts.result.now c.index-cuts-c.result c.cuts.ensures.value c.index-cuts-c.is
-    ∙ ap (λ (p : PoolState). (entry_at p.entries c.args.c).order) c.self.view_is
+    cut_read c.self.inside c.self.invariant c.args.c number c.cuts.result.now c.index-cuts-c.result c.cuts.ensures.value c.index-cuts-c.is
+    ∙ ap (λ (p : PoolState). (entry_at p.entries c.args.c).cut) c.self.view_is

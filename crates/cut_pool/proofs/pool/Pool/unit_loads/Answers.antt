@@ -1,0 +1,14 @@
+use Rattle.std.proofs.Common.{map, pos, ap, sym, ◌∙◌}
+use Rattle.cut_pool.specs.Entries.{PoolState, unit_loads}
+use Rattle.cut_pool.specs.PoolParts.{state_of}
+use Rattle.cut_pool.proofs.Entered.{pool_columns}
+use Rattle.cut_pool.proofs.UnitSums.{whole_loads}
+use Rattle.cut_pool.proofs.pool.Pool.unit_loads.Goals as goal
+
+pub returns-in-None : goal.returns-in-None
+returns-in-None c =
+    let s = c.self.inside in
+    let whole = c.self.invariant.units.none c.in-None.is in
+    c.loads-in-None.ensures.value
+    ∙ ap (map (map pos)) (sym (pool_columns s c.self.invariant).loads ∙ sym (whole_loads (state_of s).entries whole))
+    ∙ ap (λ (p : PoolState). map (map pos) (unit_loads p.entries)) c.self.view_is
