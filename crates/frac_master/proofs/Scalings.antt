@@ -34,6 +34,17 @@ all_below : (m : MasterNumbers) (b : Branching)
 unfolding greatest_number greatest
 all_below m b = (fold_max 0 (m.totals ++ (flat_map (at_nodes (candidates_of b)) m.loads ++ at_nodes (candidates_of b) m.fixed))).1
 
+-- no load of a node of the branch is above it
+pub loads_below : (m : MasterNumbers) (b : Branching) → All (λ row. All (λ k. slice_index row k ≤ greatest_number m b) (candidates_of b)) m.loads
+loads_below m b =
+    let nodes = candidates_of b in
+    let of_loads = flat_map (at_nodes nodes) m.loads in
+    let of_fixed = at_nodes nodes m.fixed in
+    let g = greatest_number m b in
+    let low : All (λ x. x ≤ g) of_loads = all_left (λ x. x ≤ g) of_loads of_fixed (all_right (λ x. x ≤ g) m.totals (of_loads ++ of_fixed) (all_below m b)) in
+    All-weaker (λ row. All (λ x. x ≤ g) (at_nodes nodes row)) (λ row. All (λ k. slice_index row k ≤ g) nodes)
+    (λ row all. all_mapped (λ x. x ≤ g) (slice_index row) nodes all) m.loads (all_parts (λ x. x ≤ g) (at_nodes nodes) m.loads low)
+
 -- node by node, as the code goes
 pub fold_candidates : (most : ℕ) (b : Branching) (row : List ℕ)
     → fold max most (at_nodes (candidates_of b) row)
@@ -64,7 +75,7 @@ greatest_by totals fixed loads b most result most_is result_is =
     (most_is ∙ ap (λ ys. fold max 0 (m.totals ++ ys)) (sym (parts_of_rows (at_nodes nodes) loads)) ∙ fold-append max 0 m.totals of_loads)
     ∙ sym (fold-append max (fold max 0 m.totals) of_loads of_fixed) ∙ sym (fold-append max 0 m.totals (of_loads ++ of_fixed))
 
--- ---- the greatest where no load is above its cut's total
+-- ---- the greatest where no load is above both its cut's total and a number
 
 fold_within : (a : ℕ) (xs : List ℕ) → All (λ x. x ≤ a) xs → fold max a xs ≡ a
 fold_within a [] within = refl
@@ -88,31 +99,44 @@ mapped_within a (x ∷ xs) within =
     All-cons (λ y. y ≤ a) (natural x) (map natural xs) (All-head (λ y. natural y ≤ a) x xs within)
     (mapped_within a xs (All-tail (λ y. natural y ≤ a) x xs within))
 
-rows_within : (a : ℕ) (nodes : List ℕ) (totals : List ℤ) (loads : List (Vec ℤ Global))
-    → AreWithinTotals totals (map (λ (v : Vec ℤ Global). v.items) loads) → All (λ x. x ≤ a) (map natural totals)
+rows_within : (a c : ℕ) (nodes : List ℕ) (totals : List ℤ) (loads : List (Vec ℤ Global))
+    → AreWithinTotals c totals (map (λ (v : Vec ℤ Global). v.items) loads) → c ≤ a → All (λ x. x ≤ a) (map natural totals)
     → All (λ x. x ≤ a) (flat_map (λ (v : Vec ℤ Global). at_nodes nodes (map natural v.items)) loads)
-rows_within a nodes [] [] within low = All-nil (λ x. x ≤ a)
-rows_within a nodes [] (v ∷ loads) within low = absurd within
-rows_within a nodes (t ∷ totals) [] within low = absurd within
-rows_within a nodes (t ∷ totals) (v ∷ loads) within low =
+rows_within a c nodes [] [] within top low = All-nil (λ x. x ≤ a)
+rows_within a c nodes [] (v ∷ loads) within top low = absurd within
+rows_within a c nodes (t ∷ totals) [] within top low = absurd within
+rows_within a c nodes (t ∷ totals) (v ∷ loads) within top low =
     let total = All-head (λ x. x ≤ a) (natural t) (map natural totals) low in
     let row : All (λ x. natural x ≤ a) v.items =
-    All-weaker (λ x. natural x ≤ natural t) (λ x. natural x ≤ a) (λ x le. omega (arith, le, total)) v.items within.0 in
+    All-weaker (λ x. natural x ≤ max (natural t) c) (λ x. natural x ≤ a) (λ x le. omega (arith, le, total, top)) v.items within.0 in
     All-append (λ x. x ≤ a) (at_nodes nodes (map natural v.items)) (flat_map (λ (v : Vec ℤ Global). at_nodes nodes (map natural v.items)) loads)
     (row_within a nodes (map natural v.items) (mapped_within a v.items row))
-    (rows_within a nodes totals loads within.1 (All-tail (λ x. x ≤ a) (natural t) (map natural totals) low))
+    (rows_within a c nodes totals loads within.1 top (All-tail (λ x. x ≤ a) (natural t) (map natural totals) low))
 
-pub greatest_within : (totals : List ℤ) (fixed : List ℕ) (loads : List (Vec ℤ Global)) (b : Branching) (most result : ℕ)
-    → AreWithinTotals totals (map (λ (v : Vec ℤ Global). v.items) loads)
+-- folds of max, with more at the start
+fold_from : (a c : ℕ) (xs : List ℕ) → fold max (max a c) xs ≡ max (fold max a xs) c
+fold_from a c [] = refl
+fold_from a c (x ∷ xs) = let same : max (max a c) x ≡ max (max a x) c = omega arith in ap (λ n. fold max n xs) same ∙ fold_from (max a x) c xs
+
+pub greatest_within : (totals : List ℤ) (fixed : List ℕ) (loads : List (Vec ℤ Global)) (b : Branching) (c most result : ℕ)
+    → AreWithinTotals c totals (map (λ (v : Vec ℤ Global). v.items) loads)
+    → c ≤ greatest_number (master_of totals (map (λ (v : Vec ℤ Global). v.items) loads) fixed) b
     → most ≡ fold max 0 (map natural totals) → result ≡ fold max most (at_nodes (candidates_of b) fixed)
-    → result ≡ greatest_number (master_of totals (map (λ (v : Vec ℤ Global). v.items) loads) fixed) b
-greatest_within totals fixed loads b most result within most_is result_is =
+    → max result c ≡ greatest_number (master_of totals (map (λ (v : Vec ℤ Global). v.items) loads) fixed) b
+greatest_within totals fixed loads b c most result within reached most_is result_is =
     let of_totals = map natural totals in
+    let of_fixed = at_nodes (candidates_of b) fixed in
     let of_loads = flat_map (λ (v : Vec ℤ Global). at_nodes (candidates_of b) (map natural v.items)) loads in
     let top = fold max 0 of_totals in
-    let below = rows_within top (candidates_of b) totals loads within (fold_max 0 of_totals).1 in
-    greatest_by totals fixed loads b most result
-    (most_is ∙ sym (fold_within top of_loads below) ∙ sym (fold-append max 0 of_totals of_loads)) result_is
+    let high = max top c in
+    let lows : All (λ x. x ≤ high) of_totals = All-weaker (λ x. x ≤ top) (λ x. x ≤ high) (λ x le. omega (arith, le)) of_totals (fold_max 0 of_totals).1 in
+    let below = rows_within high c (candidates_of b) totals loads within (omega arith) lows in
+    let whole = greatest_by totals fixed loads b (fold max top of_loads) (fold max (fold max top of_loads) of_fixed) (sym (fold-append max 0 of_totals of_loads)) refl in
+    let with_loads : max (fold max top of_loads) c ≡ high = sym (fold_from top c of_loads) ∙ fold_within high of_loads below in
+    let same : max result c ≡ max (fold max (fold max top of_loads) of_fixed) c =
+    ap (λ n. max n c) (result_is ∙ ap (λ n. fold max n of_fixed) most_is)
+    ∙ sym (fold_from top c of_fixed) ∙ ap (λ n. fold max n of_fixed) (sym with_loads) ∙ fold_from (fold max top of_loads) c of_fixed in
+    omega (arith, same, whole, reached)
 
 halved_le : (h x y : ℕ) → x ≤ y → halved h x ≤ halved h y
 halved_le h x y le =

@@ -1,5 +1,5 @@
 -- The master problem of a branch, scaled to small whole numbers, as the first table of a linear program.
-use Rattle.std.specs.Prelude.{◌≡◌, ℕ, ◌+◌, ◌/◌, ◌^◌, ◌==◌, ◌<◌, ◌≤◌, nat_le, if◌then◌else◌, List, [], ◌∷◌, ◌++◌, map, length, slice_index, slice_index_or, sum_by, All, ℤ, pos, ◌-ℤ◌, neg_ℤ}
+use Rattle.std.specs.Prelude.{◌≡◌, ℕ, ◌+◌, ◌/◌, ◌^◌, ◌==◌, ◌<◌, ◌≤◌, nat_le, if◌then◌else◌, List, [], ◌∷◌, ◌++◌, map, length, slice_index, slice_index_or, sum_by, max, All, ℤ, pos, ◌-ℤ◌, neg_ℤ}
 use Rattle.std.specs.List.{range_with_len, flat_map, position_or_len, AllZip}
 use Rattle.hub_spec.specs.Problem.{greatest}
 use Rattle.hub_spec.specs.Trees.{Branching}
@@ -31,9 +31,9 @@ pub record AreMasterNumbers (totals : List ℤ) (loads : List (List ℤ)) (fixed
 abbrev pub halved : ℕ → ℕ → ℕ
 halved h x = x / 2 ^ h
 
--- no load is above its cut's total
-abbrev pub AreWithinTotals : List ℤ → List (List ℤ) → Type 0
-AreWithinTotals totals loads = AllZip (λ total row. All (λ x. natural x ≤ natural total) row) totals loads
+-- no load is above both its cut's total and this number
+abbrev pub AreWithinTotals : ℕ → List ℤ → List (List ℤ) → Type 0
+AreWithinTotals most totals loads = AllZip (λ total row. All (λ x. natural x ≤ max (natural total) most) row) totals loads
 
 -- the row of each node has the cuts' loads of it, halved h times
 pub record AreShortRows (h : ℕ) (rows : List (List ℕ)) (loads : List (List ℤ)) : Type 0 where

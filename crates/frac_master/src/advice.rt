@@ -1,6 +1,6 @@
 //! What a master advises.
 
-ghost use Rattle.std.specs.Prelude.{◌≡◌, ◌<◌, length, map, All, IfOk, IfSome};
+ghost use Rattle.std.specs.Prelude.{◌≡◌, ◌<◌, ◌≤◌, length, map, All, IfOk, IfSome};
 ghost use Rattle.frac_master.specs.Masters.{AreMasterNumbers, AreShortRows, AreWithinTotals, master_of, candidates_of, greatest_number};
 ghost use Rattle.frac_master.specs.Advice.{advice, advice_of_code, AreMixWeights};
 
@@ -47,7 +47,8 @@ pub fn advise(
     advise_under(alloc, totals, loads, None, fixed, branch, greatest)
 }
 
-/// The same for cuts of which none has a load above its total. No load is looked at for the greatest number.
+/// The same for cuts of which none has a load above both its total and `most_load`, a number that is not above the
+/// greatest of the master. No load is looked at for the greatest number.
 ///
 /// Where there are short rows, with a row for each node, whose loads are halved no more often than the master's numbers,
 /// the master is made from them, and else from `loads`: the advice is the same.
@@ -56,18 +57,20 @@ pub fn advise_by_totals(
     totals: &[i128],
     loads: &[Vec<i128>],
     short: Option<ShortRows<'_>>,
+    most_load: u128,
     fixed: &[u128],
     branch: &Branch,
 ) -> Result<Advice, AllocError>
     requires numbers { AreMasterNumbers totals.now (map (λ v. v.items) loads.now) fixed.now }
     requires nodes { All (λ k. k < length fixed.now) (candidates_of branch.now) }
     requires short { IfSome short (λ s. AreShortRows s.halvings (map (λ v. v.items) s.rows.now) (map (λ v. v.items) loads.now)) }
-    requires within { AreWithinTotals totals.now (map (λ v. v.items) loads.now) }
+    requires within { AreWithinTotals most_load totals.now (map (λ v. v.items) loads.now) }
+    requires reached { most_load ≤ greatest_number (master_of totals.now (map (λ v. v.items) loads.now) fixed.now) branch.now }
     ensures advice { IfOk result
         (λ a. advice_of_code a ≡ advice (master_of totals.now (map (λ v. v.items) loads.now) fixed.now) branch.now) }
     ensures weights { IfOk result (λ a. AreMixWeights (length totals.now) a.weights.items) }
 {
-    let greatest = greatest_by_totals(totals, loads, fixed, branch);
+    let greatest = greatest_by_totals(totals, loads, most_load, fixed, branch);
     advise_under(alloc, totals, loads, short, fixed, branch, greatest)
 }
 

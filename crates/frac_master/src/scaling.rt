@@ -31,23 +31,25 @@ pub(crate) fn greatest_number(
     greatest_cost(most, fixed, branch)
 }
 
-/// The same where no load is above its cut's total, so that the loads are not looked at.
+/// The same where no load is above both its cut's total and this number, so that the loads are not looked at.
 pub(crate) fn greatest_by_totals(
     totals: &[i128],
     loads: &[Vec<i128>],
+    most_load: u128,
     fixed: &[u128],
     branch: &Branch,
 ) -> u128
     requires numbers { AreMasterNumbers totals.now (map (λ v. v.items) loads.now) fixed.now }
     requires nodes { All (λ k. k < length fixed.now) (candidates_of branch.now) }
-    requires within { AreWithinTotals totals.now (map (λ v. v.items) loads.now) }
+    requires within { AreWithinTotals most_load totals.now (map (λ v. v.items) loads.now) }
+    requires reached { most_load ≤ greatest_number (master_of totals.now (map (λ v. v.items) loads.now) fixed.now) branch.now }
     ensures { result ≡ greatest_number (master_of totals.now (map (λ v. v.items) loads.now) fixed.now) branch.now }
 {
     let mut most = 0;
     for total in totals {
         most = unsigned(*total).max(most);
     }
-    greatest_cost(most, fixed, branch)
+    greatest_cost(most, fixed, branch).max(most_load)
 }
 
 // The greatest of this number and the candidates' fixed costs.

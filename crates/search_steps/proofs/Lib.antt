@@ -1,3 +1,5 @@
+pub mod GivenPools
+pub mod PoolLoads
 pub mod PoolNumbers
 pub mod Weighed
 pub mod MasterNumbers

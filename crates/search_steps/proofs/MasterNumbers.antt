@@ -1,30 +1,36 @@
 -- The master of a pool's cuts, and what it advises a search.
-use Rattle.std.proofs.Common.{◌≡◌, ℕ, ◌*◌, ◌/◌, ◌<◌, ◌≤◌, ℤ, pos, List, [], ◌∷◌, ◌++◌, length, map, sum, All, refl, sym, ap, ap₂, subst, ◌∙◌, Option, div-mul-le_self, arith, ◌+◌, Some, None}
-use Rattle.std.proofs.Math.Nat.{div-one, mul-div_cancel}
-use Rattle.std.proofs.lemmas.Int.{ints}
-use Rattle.std.proofs.lemmas.List.{length-map}
+use Rattle.std.proofs.Common.{◌≡◌, ℕ, zero, suc, ◌*◌, ◌/◌, ◌<◌, ◌≤◌, ℤ, pos, List, [], ◌∷◌, ◌++◌, length, map, get_or, sum, All, Contains, inl, inr, refl, sym, ap, ap₂, subst, ◌∙◌, Option, div-mul-le_self, arith, ◌+◌, Some, None}
+use Rattle.std.specs.Prelude.{slice_index}
+use Rattle.std.proofs.Math.Nat.{mul-div_cancel}
+use Rattle.std.proofs.lemmas.List.{length-map, get_or-map}
+use Rattle.std.proofs.lemmas.Grind.{same_number_lists}
 use Rattle.std.proofs.lemmas.List.FromFn.{length-map-range_with_len}
-use Rattle.std.proofs.lemmas.List.Elements.{All-head, All-tail, All-append, All-map, All-weaker}
+use Rattle.std.proofs.lemmas.List.Elements.{All-head, All-tail, All-append, All-map, All-weaker, All-contains, Contains-append_left, Contains-append_right}
 use Rattle.std.proofs.lemmas.List.Sums.{sum_by-cons}
+use Rattle.hub_spec.specs.Limits.{most_part}
 use Rattle.hub_spec.specs.Problem.{Problem, IsProblem}
-use Rattle.hub_spec.specs.Cuts.{Cut, total, IsCut}
+use Rattle.hub_spec.proofs.Sets.{All-from_contains}
+use Rattle.hub_spec.specs.Cuts.{Cut, IsCut}
 use Rattle.hub_spec.specs.Trees.{Branching, IsBranch}
-use Rattle.hub_model.specs.Amounts.{IsNatural}
+use Rattle.hub_model.specs.Amounts.{natural, IsNatural}
 use Rattle.leaf_bound.specs.Bounds.{AreMultiples}
 use Rattle.leaf_bound.specs.Numbers.{naturals}
 use Rattle.leaf_bound.proofs.LeafWeights.{pairs_mix}
-use Rattle.frac_master.specs.Masters.{MasterNumbers, AreMasterNumbers, AreWithinTotals, master_of, candidates_of}
+use Rattle.frac_master.specs.Masters.{MasterNumbers, AreMasterNumbers, AreWithinTotals, master_of, candidates_of, greatest_number}
 use Rattle.frac_master.specs.Advice.{Advised, advice, AreMixWeights}
 use Rattle.frac_master.specs.Theorems.{IsMaster, IsMixed}
+use Rattle.frac_master.proofs.Scalings.{loads_below as loads_under}
 use Rattle.frac_master.proofs.MasterTables.{weights_are_a_mix}
 use Rattle.search_spec.specs.States.{denominator}
-use Rattle.cut_pool.specs.Entries.{Entry}
+use Rattle.cut_pool.specs.Entries.{Entry, entry_part, unit_totals, unit_loads, most_given}
+use Rattle.cut_pool.specs.Shorts.{unit_row}
 use Rattle.search_core.proofs.Weightings.{below_size}
-use Rattle.search_steps.specs.Pools.{entry_cut, IsSumsOf, IsPoolOf, pool_cuts, state_by}
-use Rattle.search_steps.specs.Advising.{with_share, advised_costs, master_numbers, told_by, in_parts, advised_on, master_advising}
+use Rattle.search_steps.specs.Pools.{IsPoolOf, pool_cuts, state_by}
+use Rattle.search_steps.specs.Advising.{with_share, advised_costs, unit_total, master_numbers, told_by, in_parts, advised_on, master_advising}
 use Rattle.search_steps.specs.Weights.{AreNodeWeights}
 use Rattle.search_steps.specs.Theorems.{AdvisingIsSound}
-use Rattle.search_steps.proofs.PoolNumbers.{lent_totals, lent_loads, lent_parts, parts_are, naturals_totals, naturals_loads, loads_least, loads_below, loads_long}
+use Rattle.search_steps.proofs.PoolNumbers.{lent_parts, lent_unit_totals, lent_unit_loads, parts_are, parts_least, naturals_rows, naturals_unit_totals, naturals_unit_loads, loads_least, totals_least, loads_below, loads_long}
+use Rattle.search_steps.proofs.PoolLoads.{AreAtMost, most_reached}
 
 -- ---- the fixed costs that the master is asked with
 
@@ -38,31 +44,32 @@ costs_long p cost fixed ok costs = ap length costs ∙ share_long p.wanted cost 
 
 -- ---- the numbers
 
--- the numbers are those that the pool lends, with the fixed costs for an incumbent of this cost
+-- the numbers are those that the pool lends for one unit of its cuts' parts, with the fixed costs for an incumbent of this cost
 pub record AreMasters (p : Problem) (entries : List Entry) (cost : ℕ) (totals : List ℤ) (loads : List (List ℤ)) (fixed : List ℕ) : Type 0 where
   pub problem : IsProblem p
   pub pool : IsPoolOf p entries
   pub costs : fixed ≡ advised_costs p cost
-  pub are_totals : totals ≡ lent_totals entries
-  pub are_loads : loads ≡ lent_loads entries
+  pub are_totals : totals ≡ lent_unit_totals entries
+  pub are_loads : loads ≡ lent_unit_loads entries
 
 pub many_totals : (p : Problem) (entries : List Entry) (cost : ℕ) (totals : List ℤ) (loads : List (List ℤ)) (fixed : List ℕ)
     → AreMasters p entries cost totals loads fixed → length totals ≡ length entries
-many_totals p entries cost totals loads fixed are = ap length are.are_totals ∙ length-map entries (λ (e : Entry). pos e.total)
+many_totals p entries cost totals loads fixed are =
+    ap length are.are_totals ∙ length-map (unit_totals entries) pos ∙ length-map entries (λ (e : Entry). e.total / entry_part e)
 
 pub numbers_serve : (p : Problem) (entries : List Entry) (cost : ℕ) (totals : List ℤ) (loads : List (List ℤ)) (fixed : List ℕ)
     → AreMasters p entries cost totals loads fixed → AreMasterNumbers totals loads fixed
 numbers_serve p entries cost totals loads fixed are = record {
-  one_each = ap length are.are_loads ∙ length-map entries (λ (e : Entry). map pos e.loads) ∙ sym (many_totals p entries cost totals loads fixed are);
+  one_each = ap length are.are_loads ∙ length-map (unit_loads entries) (map pos) ∙ length-map entries unit_row
+      ∙ sym (many_totals p entries cost totals loads fixed are);
   as_long = subst (All (λ (row : List ℤ). length row ≡ length fixed)) (sym are.are_loads)
       (loads_long p entries (length fixed) are.pool (costs_long p cost fixed are.problem are.costs));
-  totals_low = subst (All IsNatural) (sym are.are_totals) (All-map IsNatural (λ (e : Entry). pos e.total) entries
-      (All-weaker (IsSumsOf p) (λ (e : Entry). IsNatural (pos e.total)) (λ e is. omega (arith, ints)) entries are.pool));
+  totals_low = subst (All IsNatural) (sym are.are_totals) (totals_least entries);
   loads_low = subst (All (λ (row : List ℤ). All IsNatural row)) (sym are.are_loads) (loads_least entries);
 }
 
 pub within_totals : (p : Problem) (entries : List Entry) (cost : ℕ) (totals : List ℤ) (loads : List (List ℤ)) (fixed : List ℕ)
-    → AreMasters p entries cost totals loads fixed → AreWithinTotals totals loads
+    → AreMasters p entries cost totals loads fixed → AreWithinTotals (most_given entries) totals loads
 within_totals p entries cost totals loads fixed are =
     rw (are.are_totals, are.are_loads) (loads_below p entries are.problem are.pool)
 
@@ -88,49 +95,42 @@ masters_same : (p : Problem) (entries : List Entry) (cost : ℕ) (totals : List 
     → AreMasters p entries cost totals loads fixed → master_of totals loads fixed ≡ master_numbers p (pool_cuts p entries) cost
 masters_same p entries cost totals loads fixed are =
     let of : List ℕ → List (List ℕ) → MasterNumbers = λ t l. record { totals = t; loads = l; fixed = fixed } in
-    ap₂ of (ap naturals are.are_totals ∙ naturals_totals p entries are.pool) (ap (map naturals) are.are_loads ∙ naturals_loads p entries are.pool)
+    ap₂ of (ap naturals are.are_totals ∙ naturals_unit_totals p entries are.pool) (ap (map naturals) are.are_loads ∙ naturals_unit_loads p entries are.pool)
     ∙ ap (λ (f : List ℕ). record (master_numbers p (pool_cuts p entries) cost) { fixed = f }) are.costs
 
--- with the part 1 each weight stays as it is
-in_ones : (ws : List ℕ) (entries : List Entry) → length ws ≡ length entries → in_parts ws (lent_parts entries) ≡ ws
-in_ones [] entries long = refl
-in_ones (w ∷ ws) [] long = absurd (omega (arith, long))
-in_ones (w ∷ ws) (e ∷ entries) long =
-    ap₂ (λ (x : ℕ) (xs : List ℕ). x ∷ xs) (ap (λ (n : ℕ). n * 1) (div-one w) ∙ omega arith) (in_ones ws entries (omega (arith, long)))
+-- the greatest load of the given cuts is not above the greatest number of the master
+candidate_there : (p : Problem) (b : Branching) (k : ℕ) → IsBranch p b → Contains p.candidates k → Contains (candidates_of b) k
+candidate_there p b k is c = elim (is.all k c) [
+  | inl inside ↦ Contains-append_left b.inside (b.outside ++ b.free) k inside
+  | inr other ↦ Contains-append_right b.inside (b.outside ++ b.free) k (elim other [
+    | inl outside ↦ Contains-append_left b.outside b.free k outside
+    | inr free ↦ Contains-append_right b.outside b.free k free
+  ])
+]
 
-advised_same : (p : Problem) (entries : List Entry) (a : Advised) → length a.weights ≡ length entries
-    → advised_on (pool_cuts p entries) a ≡ a
-advised_same p entries a long =
-    ap (λ (ws : List ℕ). record a { weights = ws })
-    (ap (in_parts a.weights) (sym (parts_are p entries)) ∙ in_ones a.weights entries long)
+at_candidates : (p : Problem) (b : Branching) (m : ℕ) (rows : List (List ℕ)) → IsBranch p b
+    → All (λ row. All (λ k. slice_index row k ≤ m) (candidates_of b)) rows → AreAtMost p m rows
+at_candidates p b m rows is low =
+    All-weaker (λ (row : List ℕ). All (λ k. slice_index row k ≤ m) (candidates_of b)) (λ (row : List ℕ). All (λ k. slice_index row k ≤ m) p.candidates)
+    (λ row all. All-from_contains (λ k. slice_index row k ≤ m) p.candidates
+    (λ k c. All-contains (λ k. slice_index row k ≤ m) (candidates_of b) k all (candidate_there p b k is c))) rows low
 
-pub advice_is : (p : Problem) (entries : List Entry) (cost : ℕ) (totals : List ℤ) (loads : List (List ℤ)) (fixed : List ℕ) (b : Branching) (a : Advised)
-    → AreMasters p entries cost totals loads fixed → IsBranch p b → a ≡ advice (master_of totals loads fixed) b
-    → (hubs : List ℕ) (made : ℕ) (stop : Option ℕ) → told_by a ≡ master_advising p (state_by p entries hubs cost made stop) b
-unfolding master_advising
-advice_is p entries cost totals loads fixed b a are is_branch is hubs made stop =
-    let m = master_numbers p (pool_cuts p entries) cost in
-    let mixed = weights_are_a_mix m b (is_master p (pool_cuts p entries) cost b are.problem is_branch) in
-    let long : length (advice m b).weights ≡ length entries =
-    mixed.one_each ∙ length-map (pool_cuts p entries) total ∙ length-map entries (entry_cut p) in
-    ap told_by (is ∙ ap (λ (n : MasterNumbers). advice n b) (masters_same p entries cost totals loads fixed are)
-    ∙ sym (advised_same p entries (advice m b) long))
+pub most_serves : (p : Problem) (entries : List Entry) (cost : ℕ) (totals : List ℤ) (loads : List (List ℤ)) (fixed : List ℕ) (b : Branching)
+    → AreMasters p entries cost totals loads fixed → IsBranch p b → most_given entries ≤ greatest_number (master_of totals loads fixed) b
+most_serves p entries cost totals loads fixed b are is =
+    let m = master_of totals loads fixed in
+    let g = greatest_number m b in
+    let same : m.loads ≡ unit_loads entries = ap (map naturals) are.are_loads ∙ naturals_rows (unit_loads entries) in
+    most_reached p entries g are.pool (subst (AreAtMost p g) same (at_candidates p b g m.loads is (loads_under m b)))
 
-pub point_long : (p : Problem) (entries : List Entry) (cost : ℕ) (totals : List ℤ) (loads : List (List ℤ)) (fixed : List ℕ) (b : Branching) (a : Advised)
-    → AreMasters p entries cost totals loads fixed → a ≡ advice (master_of totals loads fixed) b → length a.point ≡ p.size
-unfolding advice
-point_long p entries cost totals loads fixed b a are is =
-    ap (λ (x : Advised). length x.point) is ∙ length-map-range_with_len _ 0 (length fixed) ∙ costs_long p cost fixed are.problem are.costs
+-- ---- weights lowered to multiples of the parts
 
-pub node_weights : (p : Problem) (entries : List Entry) (cost : ℕ) (totals : List ℤ) (loads : List (List ℤ)) (fixed : List ℕ) (weights : List ℤ)
-    → AreMasters p entries cost totals loads fixed → AreMixWeights (length totals) weights → AreNodeWeights (length entries) weights
-node_weights p entries cost totals loads fixed weights are mix = record {
-  few = omega (arith, mix.one_each, many_totals p entries cost totals loads fixed are);
-  low = mix.low;
-  most = mix.most;
-}
-
--- ---- the advice is sound
+in_parts_at : (ws parts : List ℕ) (k : ℕ) → k < length ws → length ws ≤ length parts
+    → get_or (in_parts ws parts) k 0 ≡ get_or ws k 0 / get_or parts k 0 * get_or parts k 0
+in_parts_at [] parts k low few = absurd (omega (arith, low))
+in_parts_at (w ∷ ws) [] k low few = absurd (omega (arith, few))
+in_parts_at (w ∷ ws) (e ∷ parts) zero low few = refl
+in_parts_at (w ∷ ws) (e ∷ parts) (suc k) low few = in_parts_at ws parts k (omega (arith, low)) (omega (arith, few))
 
 -- rounded down to multiples they are multiples
 parts_multiple : (ws parts : List ℕ) → length ws ≤ length parts → All (λ (e : ℕ). 1 ≤ e) parts → AreMultiples (in_parts ws parts) parts
@@ -153,6 +153,55 @@ parts_below (w ∷ ws) [] = omega arith
 parts_below (w ∷ ws) (e ∷ parts) =
     omega (arith, div-mul-le_self w e, parts_below ws parts, sum_by-cons (λ (n : ℕ). n) w ws, sum_by-cons (λ (n : ℕ). n) (w / e * e) (in_parts ws parts))
 
+-- weights that were lowered one by one
+pub lowered_each : (old new : List ℤ) (parts : List ℕ) → length new ≡ length old → length old ≤ length parts
+    → ((k : ℕ) → k < length old → get_or new k (pos 0) ≡ pos (natural (get_or old k (pos 0)) / get_or parts k 0 * get_or parts k 0))
+    → naturals new ≡ in_parts (naturals old) parts
+lowered_each old new parts same few each =
+    let long : length (naturals old) ≡ length old = length-map old natural in
+    same_number_lists (naturals new) (in_parts (naturals old) parts)
+    (length-map new natural ∙ same ∙ sym (parts_long (naturals old) parts (omega (arith, long, few)) ∙ long))
+    (λ k low. let here : k < length old = omega (arith, low, length-map new natural, same) in
+    get_or-map natural new k (pos 0) 0 (omega (arith, here, same)) ∙ ap natural (each k here)
+    ∙ ap (λ (w : ℕ). w / get_or parts k 0 * get_or parts k 0) (sym (get_or-map natural old k (pos 0) 0 here))
+    ∙ sym (in_parts_at (naturals old) parts k (omega (arith, here, long)) (omega (arith, long, few))))
+
+-- ---- what is advised
+
+pub advice_is : (p : Problem) (entries : List Entry) (cost : ℕ) (totals : List ℤ) (loads : List (List ℤ)) (fixed : List ℕ) (b : Branching) (a : Advised) (ws : List ℕ)
+    → AreMasters p entries cost totals loads fixed → a ≡ advice (master_of totals loads fixed) b → ws ≡ in_parts a.weights (lent_parts entries)
+    → (hubs : List ℕ) (made : ℕ) (stop : Option ℕ) → told_by (record a { weights = ws }) ≡ master_advising p (state_by p entries hubs cost made stop) b
+unfolding master_advising
+advice_is p entries cost totals loads fixed b a ws are is lowered hubs made stop =
+    let cuts = pool_cuts p entries in
+    ap (λ (xs : List ℕ). told_by (record a { weights = xs })) (lowered ∙ ap (in_parts a.weights) (parts_are p entries are.pool))
+    ∙ ap (λ (x : Advised). told_by (advised_on cuts x)) (is ∙ ap (λ (n : MasterNumbers). advice n b) (masters_same p entries cost totals loads fixed are))
+
+pub point_long : (p : Problem) (entries : List Entry) (cost : ℕ) (totals : List ℤ) (loads : List (List ℤ)) (fixed : List ℕ) (b : Branching) (a : Advised)
+    → AreMasters p entries cost totals loads fixed → a ≡ advice (master_of totals loads fixed) b → length a.point ≡ p.size
+unfolding advice
+point_long p entries cost totals loads fixed b a are is =
+    ap (λ (x : Advised). length x.point) is ∙ length-map-range_with_len _ 0 (length fixed) ∙ costs_long p cost fixed are.problem are.costs
+
+pub node_weights : (p : Problem) (entries : List Entry) (cost : ℕ) (totals : List ℤ) (loads : List (List ℤ)) (fixed : List ℕ) (weights lowered : List ℤ)
+    → AreMasters p entries cost totals loads fixed → AreMixWeights (length totals) weights → All IsNatural lowered
+    → naturals lowered ≡ in_parts (naturals weights) (lent_parts entries) → AreNodeWeights entries lowered
+node_weights p entries cost totals loads fixed weights lowered are mix low is =
+    let parts = lent_parts entries in
+    let long : length (naturals weights) ≡ length weights = length-map weights natural in
+    let few : length (naturals weights) ≤ length parts =
+    omega (arith, long, mix.one_each, many_totals p entries cost totals loads fixed are, length-map entries entry_part) in
+    let least = All-weaker (λ (part : ℕ). (1 ≤ part) × (part ≤ most_part)) (λ (part : ℕ). 1 ≤ part) (λ part limits. limits.0) parts
+    (parts_least p entries are.problem are.pool) in
+    record {
+      few = omega (arith, length-map lowered natural, ap length is, parts_long (naturals weights) parts few, few, length-map entries entry_part);
+      low = low;
+      multiples = subst (λ (ws : List ℕ). AreMultiples ws parts) (sym is) (parts_multiple (naturals weights) parts few least);
+      most = omega (arith, ap sum is, parts_below (naturals weights) parts, mix.most);
+    }
+
+-- ---- the advice is sound
+
 pub advising_sound : AdvisingIsSound
 unfolding master_advising
 advising_sound p ok s b is_state is_branch some =
@@ -161,11 +210,11 @@ advising_sound p ok s b is_state is_branch some =
     let parts = map (λ (cut : Cut). cut.part) s.cuts in
     let given = (advice m b).weights in
     let weights = in_parts given parts in
-    let few : length given ≤ length parts = omega (arith, mixed.one_each, length-map s.cuts total, length-map s.cuts (λ (cut : Cut). cut.part)) in
+    let few : length given ≤ length parts = omega (arith, mixed.one_each, length-map s.cuts unit_total, length-map s.cuts (λ (cut : Cut). cut.part)) in
     let least = All-map (λ (e : ℕ). 1 ≤ e) (λ (cut : Cut). cut.part) s.cuts
     (All-weaker (IsCut p) (λ (cut : Cut). 1 ≤ cut.part) (λ cut is. is.part_least) s.cuts is_state.cuts) in
     let mix = pairs_mix s.cuts denominator weights (parts_multiple given parts few least)
-    (omega (arith, parts_long given parts few, mixed.one_each, length-map s.cuts total)) (omega arith) (omega arith)
+    (omega (arith, parts_long given parts few, mixed.one_each, length-map s.cuts unit_total)) (omega arith) (omega arith)
     (omega (arith, mixed.most, parts_below given parts)) in
     record {
       mix = mix.mix;

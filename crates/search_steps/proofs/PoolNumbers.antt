@@ -1,30 +1,24 @@
 -- The numbers that a pool lends are those of its entries' cuts.
-use Rattle.std.proofs.Common.{◌≡◌, ℕ, ◌*◌, ◌/◌, ◌^◌, ◌<◌, ◌≤◌, slice_index, ℤ, pos, List, [], ◌∷◌, length, map, get_or, All, refl, sym, ap, ap₂, ◌∙◌, arith}
+use Rattle.std.proofs.Common.{◌≡◌, ℕ, ◌*◌, ◌/◌, ◌^◌, ◌<◌, ◌≤◌, max, slice_index, ℤ, pos, List, [], ◌∷◌, length, map, get_or, All, refl, sym, ap, ap₂, ◌∙◌, arith}
 use Rattle.std.specs.List.{AllZip}
-use Rattle.std.proofs.Math.Nat.{div-one}
-use Rattle.std.proofs.lemmas.List.{length-map}
+use Rattle.std.proofs.lemmas.Int.{ints}
+use Rattle.std.proofs.lemmas.List.{length-map, get_or-map}
 use Rattle.std.proofs.lemmas.Grind.{same_number_lists}
 use Rattle.std.proofs.lemmas.List.FromFn.{get_or-map-range_with_len, length-map-range_with_len}
 use Rattle.std.proofs.lemmas.List.Elements.{All-nil, All-cons, All-head, All-tail, All-weaker, All-map, All-from_get_or}
 use Rattle.hub_spec.specs.Limits.{most_part, most_cost}
-use Rattle.hub_spec.specs.Problem.{Problem, IsProblem, commodities}
-use Rattle.hub_spec.specs.Plans.{IsHubSet}
+use Rattle.hub_spec.specs.Problem.{Problem, IsProblem}
 use Rattle.hub_spec.specs.Cuts.{Cut, total, load}
-use Rattle.hub_spec.specs.Separation.{IsOrder, IsSetCut, set_cut}
-use Rattle.hub_spec.proofs.SetCutFunction.{set_cut_is_one_lem}
-use Rattle.hub_spec.proofs.SetCuts as sets
-use Rattle.hub_spec.proofs.SetCuts.{loads_within}
 use Rattle.hub_model.specs.Amounts.{natural, IsNatural}
 use Rattle.hub_model.proofs.Signs.{natural-pos, pos_least}
-use Rattle.leaf_bound.specs.Bounds.{AreMultiples}
 use Rattle.leaf_bound.specs.Numbers.{naturals, IsSumOf, AreSumsOf}
 use Rattle.leaf_bound.specs.Theorems.{AreLoadsOf}
 use Rattle.frac_master.specs.Masters.{AreShortRows, AreWithinTotals, halved}
-use Rattle.cut_pool.specs.Entries.{Entry}
-use Rattle.cut_pool.specs.Shorts.{Shorts, AreShortLoads}
-use Rattle.search_core.proofs.Weightings.{is_sum}
+use Rattle.cut_pool.specs.Entries.{Entry, entry_part, unit_totals, unit_loads, most_given}
+use Rattle.cut_pool.specs.Shorts.{Shorts, AreShortLoads, unit_row}
 use Rattle.search_steps.specs.Pools.{entry_cut, IsSumsOf, IsPoolOf, pool_cuts}
-use Rattle.search_steps.specs.Advising.{node_loads}
+use Rattle.search_steps.specs.Advising.{unit_total, unit_node_loads}
+use Rattle.search_steps.proofs.PoolLoads.{IsWithinUnits, part_is, part_limits, entry_total, entry_load, loads_within_units}
 
 -- the totals, the loads and the parts as a pool lends them
 abbrev pub lent_totals : List Entry → List ℤ
@@ -34,77 +28,66 @@ abbrev pub lent_loads : List Entry → List (List ℤ)
 lent_loads entries = map (λ (e : Entry). map pos e.loads) entries
 
 abbrev pub lent_parts : List Entry → List ℕ
-lent_parts entries = map (λ (e : Entry). 1) entries
+lent_parts entries = map entry_part entries
+
+-- the totals and the loads for one unit of the parts as it lends them
+abbrev pub lent_unit_totals : List Entry → List ℤ
+lent_unit_totals entries = map pos (unit_totals entries)
+
+abbrev pub lent_unit_loads : List Entry → List (List ℤ)
+lent_unit_loads entries = map (map pos) (unit_loads entries)
+
+-- ---- short rows
 
 rows_lent : (h k : ℕ) (entries : List Entry)
-    → map (λ (e : Entry). slice_index e.loads k / 2 ^ h) entries ≡ map (λ load. halved h (slice_index (map natural load) k)) (lent_loads entries)
+    → map (λ (e : Entry). slice_index (unit_row e) k / 2 ^ h) entries ≡ map (λ load. halved h (slice_index (map natural load) k)) (lent_unit_loads entries)
 rows_lent h k [] = refl
 rows_lent h k (e ∷ entries) =
-    ap₂ (λ x xs. x ∷ xs) (ap (λ (loads : List ℕ). slice_index loads k / 2 ^ h) (sym (natural-pos e.loads))) (rows_lent h k entries)
+    ap₂ (λ (x : ℕ) (xs : List ℕ). x ∷ xs) (ap (λ (loads : List ℕ). slice_index loads k / 2 ^ h) (sym (natural-pos (unit_row e)))) (rows_lent h k entries)
 
--- the short loads that a pool lends are short rows of the loads that it lends
+-- the short loads that a pool lends are short rows of the loads that it lends for one unit of the parts
 pub short_lent : (entries : List Entry) (s : Shorts) (h : ℕ) (rows : List (List ℕ)) → AreShortLoads entries s → rows ≡ s.rows → h ≡ s.halvings
-    → AreShortRows h rows (lent_loads entries)
+    → AreShortRows h rows (lent_unit_loads entries)
 short_lent entries s h rows are same_rows same = record {
   row = λ k low.
       ap (λ (r : List (List ℕ)). get_or r k []) same_rows ∙ are.row k (omega (arith, low, ap length same_rows))
-      ∙ ap (λ (n : ℕ). map (λ (e : Entry). slice_index e.loads k / 2 ^ n) entries) (sym same) ∙ rows_lent h k entries;
+      ∙ ap (λ (n : ℕ). map (λ (e : Entry). slice_index (unit_row e) k / 2 ^ n) entries) (sym same) ∙ rows_lent h k entries;
 }
 
 -- ---- limits
 
-is_minimal : (p : Problem) (set order : List ℕ) → IsProblem p → IsHubSet p set → IsOrder p set order → IsSetCut p set order (set_cut p set order)
-is_minimal p set order ok is_set is_order = (set_cut_is_one_lem p set order (set_cut p set order) ok is_set is_order).1 refl
-
-pub total_limit : (p : Problem) (set order : List ℕ) → IsProblem p → IsHubSet p set → IsOrder p set order
-    → total (set_cut p set order) ≤ most_cost
-total_limit p set order ok is_set is_order =
-    sets.total_limit p set order (set_cut p set order) ok is_set (is_minimal p set order ok is_set is_order)
-
-pub load_limit : (p : Problem) (set order : List ℕ) (k : ℕ) → IsProblem p → IsHubSet p set → IsOrder p set order
-    → load (set_cut p set order) k ≤ most_cost
-load_limit p set order k ok is_set is_order =
-    let cut = set_cut p set order in
-    let within : load cut k ≤ total cut = loads_within p set order (commodities p.size) cut.duals k (is_minimal p set order ok is_set is_order).duals in
-    omega (arith, within, total_limit p set order ok is_set is_order)
-
-entry_total : (p : Problem) (e : Entry) → IsProblem p → IsSumsOf p e → e.total ≤ most_cost
-entry_total p e ok is = omega (arith, is.is_total, total_limit p e.hubs e.order ok is.set is.order)
-
-entry_load : (p : Problem) (e : Entry) (k : ℕ) → IsProblem p → IsSumsOf p e → k < p.size → get_or e.loads k 0 ≤ most_cost
-entry_load p e k ok is node = omega (arith, is.are_loads k node, load_limit p e.hubs e.order k ok is.set is.order)
-
--- no load is above the total
-load_below : (p : Problem) (e : Entry) (k : ℕ) → IsProblem p → IsSumsOf p e → k < p.size → get_or e.loads k 0 ≤ e.total
-load_below p e k ok is node =
-    let cut = entry_cut p e in
-    let within : load cut k ≤ total cut =
-    loads_within p e.hubs e.order (commodities p.size) cut.duals k (is_minimal p e.hubs e.order ok is.set is.order).duals in
-    omega (arith, is.is_total, is.are_loads k node, within)
-
-pub loads_below : (p : Problem) (entries : List Entry) → IsProblem p → IsPoolOf p entries
-    → AreWithinTotals (lent_totals entries) (lent_loads entries)
-loads_below p [] ok are = tt
-loads_below p (e ∷ entries) ok are =
-    let is = All-head (IsSumsOf p) e entries are in (
-      All-map (λ (x : ℤ). natural x ≤ e.total) pos e.loads (All-from_get_or (λ (x : ℕ). x ≤ e.total) e.loads 0
-          (λ k low. load_below p e k ok is (omega (arith, low, is.one_load_each)))),
-      loads_below p entries ok (All-tail (IsSumsOf p) e entries are),
+within_each : (most : ℕ) (entries : List Entry) → All (IsWithinUnits most) entries
+    → AreWithinTotals most (lent_unit_totals entries) (lent_unit_loads entries)
+within_each most [] are = tt
+within_each most (e ∷ entries) are =
+    let part = entry_part e in
+    let limit = max (e.total / part) most in (
+      All-map (λ (x : ℤ). natural x ≤ limit) pos (unit_row e)
+          (All-map (λ (u : ℕ). u ≤ limit) (λ (u : ℕ). u / part) e.loads (All-head (IsWithinUnits most) e entries are)),
+      within_each most entries (All-tail (IsWithinUnits most) e entries are),
     )
+
+-- no load is above both its cut's total and the greatest load of the given cuts
+pub loads_below : (p : Problem) (entries : List Entry) → IsProblem p → IsPoolOf p entries
+    → AreWithinTotals (most_given entries) (lent_unit_totals entries) (lent_unit_loads entries)
+loads_below p entries ok are = within_each (most_given entries) entries (loads_within_units p entries ok are)
+
+is_sum : (part n : ℕ) → n ≤ part * most_cost → IsSumOf part (pos n)
+is_sum part n low = (omega (arith, ints), omega (arith, ints, low))
 
 pub totals_sums : (p : Problem) (entries : List Entry) → IsProblem p → IsPoolOf p entries
     → AllZip IsSumOf (lent_parts entries) (lent_totals entries)
 totals_sums p [] ok are = tt
 totals_sums p (e ∷ entries) ok are = (
-  is_sum e.total (entry_total p e ok (All-head (IsSumsOf p) e entries are)),
+  is_sum (entry_part e) e.total (entry_total p e ok (All-head (IsSumsOf p) e entries are)),
   totals_sums p entries ok (All-tail (IsSumsOf p) e entries are),
 )
 
-row_sums : (p : Problem) (e : Entry) (n : ℕ) → IsProblem p → IsSumsOf p e → n ≡ p.size → AreSumsOf n 1 (map pos e.loads)
+row_sums : (p : Problem) (e : Entry) (n : ℕ) → IsProblem p → IsSumsOf p e → n ≡ p.size → AreSumsOf n (entry_part e) (map pos e.loads)
 row_sums p e n ok is size = (
   length-map e.loads pos ∙ is.one_load_each ∙ sym size,
-  All-map (IsSumOf 1) pos e.loads (All-from_get_or (λ (x : ℕ). IsSumOf 1 (pos x)) e.loads 0
-      (λ k low. is_sum (get_or e.loads k 0) (entry_load p e k ok is (omega (arith, low, is.one_load_each))))),
+  All-map (IsSumOf (entry_part e)) pos e.loads (All-from_get_or (λ (x : ℕ). IsSumOf (entry_part e) (pos x)) e.loads 0
+      (λ k low. is_sum (entry_part e) (get_or e.loads k 0) (entry_load p e k ok is (omega (arith, low, is.one_load_each))))),
 )
 
 pub loads_sums : (p : Problem) (entries : List Entry) (n : ℕ) → IsProblem p → IsPoolOf p entries → n ≡ p.size
@@ -116,28 +99,27 @@ loads_sums p (e ∷ entries) n ok are size = (
 )
 
 pub loads_long : (p : Problem) (entries : List Entry) (n : ℕ) → IsPoolOf p entries → n ≡ p.size
-    → All (λ (row : List ℤ). length row ≡ n) (lent_loads entries)
-loads_long p entries n are size =
-    All-map (λ (row : List ℤ). length row ≡ n) (λ (e : Entry). map pos e.loads) entries
-    (All-weaker (IsSumsOf p) (λ (e : Entry). length (map pos e.loads) ≡ n)
-    (λ e is. length-map e.loads pos ∙ is.one_load_each ∙ sym size) entries are)
+    → All (λ (row : List ℤ). length row ≡ n) (lent_unit_loads entries)
+loads_long p [] n are size = All-nil (λ (row : List ℤ). length row ≡ n)
+loads_long p (e ∷ entries) n are size =
+    let is = All-head (IsSumsOf p) e entries are in
+    All-cons (λ (row : List ℤ). length row ≡ n) (map pos (unit_row e)) (lent_unit_loads entries)
+    (length-map (unit_row e) pos ∙ length-map e.loads (λ (u : ℕ). u / entry_part e) ∙ is.one_load_each ∙ sym size)
+    (loads_long p entries n (All-tail (IsSumsOf p) e entries are) size)
 
-pub parts_least : (entries : List Entry) → All (λ (part : ℕ). (1 ≤ part) × (part ≤ most_part)) (lent_parts entries)
-parts_least [] = All-nil (λ (part : ℕ). (1 ≤ part) × (part ≤ most_part))
-parts_least (e ∷ entries) = All-cons (λ (part : ℕ). (1 ≤ part) × (part ≤ most_part)) 1 (lent_parts entries) (omega arith, omega arith) (parts_least entries)
-
--- each number has the part 1 as often as it says
-pub multiples_of_one : (entries : List Entry) (ws : List ℕ) → length ws ≤ length entries → AreMultiples ws (lent_parts entries)
-multiples_of_one entries [] few = tt
-multiples_of_one [] (w ∷ ws) few = absurd (omega (arith, few))
-multiples_of_one (e ∷ entries) (w ∷ ws) few = (ap (λ (n : ℕ). n * 1) (div-one w) ∙ omega arith, multiples_of_one entries ws (omega (arith, few)))
+pub parts_least : (p : Problem) (entries : List Entry) → IsProblem p → IsPoolOf p entries
+    → All (λ (part : ℕ). (1 ≤ part) × (part ≤ most_part)) (lent_parts entries)
+parts_least p entries ok are =
+    All-map (λ (part : ℕ). (1 ≤ part) × (part ≤ most_part)) entry_part entries
+    (All-weaker (IsSumsOf p) (λ (e : Entry). (1 ≤ entry_part e) × (entry_part e ≤ most_part)) (λ e is. part_limits p e ok is) entries are)
 
 -- ---- what they are
 
-pub parts_are : (p : Problem) (entries : List Entry) → lent_parts entries ≡ map (λ (cut : Cut). cut.part) (pool_cuts p entries)
-unfolding set_cut
-parts_are p [] = refl
-parts_are p (e ∷ entries) = ap (λ (parts : List ℕ). 1 ∷ parts) (parts_are p entries)
+pub parts_are : (p : Problem) (entries : List Entry) → IsPoolOf p entries → lent_parts entries ≡ map (λ (cut : Cut). cut.part) (pool_cuts p entries)
+parts_are p [] are = refl
+parts_are p (e ∷ entries) are =
+    ap₂ (λ (part : ℕ) (parts : List ℕ). part ∷ parts) (part_is p e (All-head (IsSumsOf p) e entries are))
+    (parts_are p entries (All-tail (IsSumsOf p) e entries are))
 
 pub naturals_totals : (p : Problem) (entries : List Entry) → IsPoolOf p entries → naturals (lent_totals entries) ≡ map total (pool_cuts p entries)
 naturals_totals p [] are = refl
@@ -152,22 +134,51 @@ loads_zip p (e ∷ entries) are = (
   loads_zip p entries (All-tail (IsSumsOf p) e entries are),
 )
 
-entry_loads : (p : Problem) (e : Entry) → IsSumsOf p e → e.loads ≡ node_loads p (entry_cut p e)
+-- ---- for one unit of the parts
+
+told_totals : (p : Problem) (entries : List Entry) → IsPoolOf p entries → unit_totals entries ≡ map unit_total (pool_cuts p entries)
+told_totals p [] are = refl
+told_totals p (e ∷ entries) are =
+    let is = All-head (IsSumsOf p) e entries are in
+    ap₂ (λ (x : ℕ) (xs : List ℕ). x ∷ xs) (ap₂ (λ (t part : ℕ). t / part) is.is_total (part_is p e is))
+    (told_totals p entries (All-tail (IsSumsOf p) e entries are))
+
+entry_loads : (p : Problem) (e : Entry) → IsSumsOf p e → unit_row e ≡ unit_node_loads p (entry_cut p e)
 entry_loads p e is =
-    let f = load (entry_cut p e) in
-    same_number_lists e.loads (node_loads p (entry_cut p e)) (is.one_load_each ∙ sym (length-map-range_with_len f 0 p.size))
-    (λ k low. let node : k < p.size = omega (arith, low, is.one_load_each) in
-    is.are_loads k node ∙ sym (get_or-map-range_with_len f 0 p.size k k 0 node (omega arith)))
+    let cut = entry_cut p e in
+    let f : ℕ → ℕ = λ k. load cut k / cut.part in
+    let part = entry_part e in
+    let long : length (unit_row e) ≡ p.size = length-map e.loads (λ (u : ℕ). u / part) ∙ is.one_load_each in
+    same_number_lists (unit_row e) (unit_node_loads p cut) (long ∙ sym (length-map-range_with_len f 0 p.size))
+    (λ k low. let node : k < p.size = omega (arith, low, long) in
+    get_or-map (λ (u : ℕ). u / part) e.loads k 0 0 (omega (arith, node, is.one_load_each))
+    ∙ ap₂ (λ (u e : ℕ). u / e) (is.are_loads k node) (part_is p e is)
+    ∙ sym (get_or-map-range_with_len f 0 p.size k k 0 node (omega arith)))
 
-pub naturals_loads : (p : Problem) (entries : List Entry) → IsPoolOf p entries
-    → map naturals (lent_loads entries) ≡ map (node_loads p) (pool_cuts p entries)
-naturals_loads p [] are = refl
-naturals_loads p (e ∷ entries) are =
-    ap₂ (λ (x : List ℕ) (xs : List (List ℕ)). x ∷ xs) (natural-pos e.loads ∙ entry_loads p e (All-head (IsSumsOf p) e entries are))
-    (naturals_loads p entries (All-tail (IsSumsOf p) e entries are))
+told_loads : (p : Problem) (entries : List Entry) → IsPoolOf p entries → unit_loads entries ≡ map (unit_node_loads p) (pool_cuts p entries)
+told_loads p [] are = refl
+told_loads p (e ∷ entries) are =
+    ap₂ (λ (x : List ℕ) (xs : List (List ℕ)). x ∷ xs) (entry_loads p e (All-head (IsSumsOf p) e entries are))
+    (told_loads p entries (All-tail (IsSumsOf p) e entries are))
 
-pub loads_least : (entries : List Entry) → All (λ (row : List ℤ). All IsNatural row) (lent_loads entries)
-loads_least entries =
-    All-map (λ (row : List ℤ). All IsNatural row) (λ (e : Entry). map pos e.loads) entries
-    (All-from_get_or (λ (e : Entry). All IsNatural (map pos e.loads)) entries (record { hubs = []; order = []; total = 0; loads = [] })
-    (λ i low. pos_least (get_or entries i (record { hubs = []; order = []; total = 0; loads = [] })).loads))
+pub naturals_unit_totals : (p : Problem) (entries : List Entry) → IsPoolOf p entries
+    → naturals (lent_unit_totals entries) ≡ map unit_total (pool_cuts p entries)
+naturals_unit_totals p entries are = natural-pos (unit_totals entries) ∙ told_totals p entries are
+
+pub naturals_rows : (rows : List (List ℕ)) → map naturals (map (map pos) rows) ≡ rows
+naturals_rows [] = refl
+naturals_rows (row ∷ rows) = ap₂ (λ (x : List ℕ) (xs : List (List ℕ)). x ∷ xs) (natural-pos row) (naturals_rows rows)
+
+pub naturals_unit_loads : (p : Problem) (entries : List Entry) → IsPoolOf p entries
+    → map naturals (lent_unit_loads entries) ≡ map (unit_node_loads p) (pool_cuts p entries)
+naturals_unit_loads p entries are = naturals_rows (unit_loads entries) ∙ told_loads p entries are
+
+rows_least : (rows : List (List ℕ)) → All (λ (row : List ℤ). All IsNatural row) (map (map pos) rows)
+rows_least [] = All-nil (λ (row : List ℤ). All IsNatural row)
+rows_least (row ∷ rows) = All-cons (λ (row : List ℤ). All IsNatural row) (map pos row) (map (map pos) rows) (pos_least row) (rows_least rows)
+
+pub loads_least : (entries : List Entry) → All (λ (row : List ℤ). All IsNatural row) (lent_unit_loads entries)
+loads_least entries = rows_least (unit_loads entries)
+
+pub totals_least : (entries : List Entry) → All IsNatural (lent_unit_totals entries)
+totals_least entries = pos_least (unit_totals entries)

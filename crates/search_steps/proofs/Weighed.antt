@@ -8,7 +8,7 @@ use Rattle.hub_spec.specs.Problem.{Problem, IsProblem, fixed_cost}
 use Rattle.hub_spec.specs.Trees.{Branching, leaf_bound, IsBranch}
 use Rattle.hub_model.specs.Amounts.{natural, IsNatural}
 use Rattle.leaf_bound.specs.declared.weightings.Weighting as lent
-use Rattle.leaf_bound.specs.Bounds.{AreMultiples, bound_of}
+use Rattle.leaf_bound.specs.Bounds.{bound_of}
 use Rattle.leaf_bound.specs.Numbers.{naturals, AreWeightingNumbers, IsBranchBelow, weighting_of}
 use Rattle.leaf_bound.specs.Theorems.{weight_pairs, AreLoadsOf, IsWeightingOf}
 use Rattle.leaf_bound.proofs.LeafWeights.{leaf_has_bound}
@@ -20,13 +20,13 @@ use Rattle.cut_pool.specs.Entries.{Entry}
 use Rattle.search_core.proofs.Weightings.{below_size, branch_below}
 use Rattle.search_steps.specs.Pools.{entry_cut, IsPoolOf, pool_cuts, state_by}
 use Rattle.search_steps.specs.Weights.{AreNodeWeights, IsNodeWeighting, pairs_of}
-use Rattle.search_steps.proofs.PoolNumbers.{totals_sums, loads_sums, parts_least, multiples_of_one, parts_are, naturals_totals, loads_zip}
+use Rattle.search_steps.proofs.PoolNumbers.{totals_sums, loads_sums, parts_least, parts_are, naturals_totals, loads_zip}
 
 -- the weighting has the pool's numbers and the problem's fixed costs, and the weights are a node's
 pub record AreLent (p : Problem) (entries : List Entry) (weights : List ℤ) (m : lent.Weighting) : Type 0 where
   pub problem : IsProblem p
   pub pool : IsPoolOf p entries
-  pub are_weights : AreNodeWeights (length entries) weights
+  pub are_weights : AreNodeWeights entries weights
   pub is : IsNodeWeighting p entries weights m
 
 pub weighting_numbers : (p : Problem) (entries : List Entry) (weights : List ℤ) (m : lent.Weighting)
@@ -40,13 +40,12 @@ weighting_numbers p entries weights m lent =
     record {
       some_nodes = omega (arith, size, ok.size_limit);
       few_weights = omega (arith, many, few);
-      are_parts = subst (All (λ (part : ℕ). (1 ≤ part) × (part ≤ most_part))) (sym lent.is.are_parts) (parts_least entries);
+      are_parts = subst (All (λ (part : ℕ). (1 ≤ part) × (part ≤ most_part))) (sym lent.is.are_parts) (parts_least p entries ok lent.pool);
       are_totals = rw (lent.is.are_parts, lent.is.are_totals) (totals_sums p entries ok lent.pool);
       are_loads = rw (lent.is.are_parts, lent.is.are_loads) (loads_sums p entries n ok lent.pool size);
       are_fixed_costs = subst (All (λ (cost : ℕ). cost ≤ most_fixed_cost)) (sym lent.is.are_fixed) ok.cost_limit;
       are_weights = subst (All IsNatural) (sym lent.is.are_weights) lent.are_weights.low;
-      are_multiples = subst (AreMultiples (naturals m.weights.now)) (sym lent.is.are_parts)
-          (multiples_of_one entries (naturals m.weights.now) (omega (arith, few, length-map m.weights.now natural)));
+      are_multiples = rw (lent.is.are_weights, lent.is.are_parts) lent.are_weights.multiples;
       weights_limit = rw (lent.is.are_weights, lent.is.is_denom) lent.are_weights.most;
       denom_least = rw lent.is.is_denom (omega (arith, ints));
       denom_most = rw lent.is.is_denom (omega (arith, ints));
@@ -64,7 +63,7 @@ weighting_is p entries weights m lent = record {
   totals = ap naturals lent.is.are_totals ∙ naturals_totals p entries lent.pool;
   loads = subst (λ (rows : List (List ℤ)). AllZip (AreLoadsOf p) (pool_cuts p entries) (map naturals rows)) (sym lent.is.are_loads) (loads_zip p entries lent.pool);
   fixed = λ k node. ap (λ (costs : List ℕ). get_or costs k 0) lent.is.are_fixed;
-  parts = lent.is.are_parts ∙ parts_are p entries;
+  parts = lent.is.are_parts ∙ parts_are p entries lent.pool;
   few_weights = omega (arith, length-map m.weights.now natural, ap length lent.is.are_weights, length-map entries (entry_cut p), lent.are_weights.few);
 }
 

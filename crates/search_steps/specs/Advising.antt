@@ -9,9 +9,13 @@ use Rattle.leaf_bound.specs.Theorems.{weight_pairs}
 use Rattle.frac_master.specs.Masters.{MasterNumbers}
 use Rattle.frac_master.specs.Advice.{Advised, advice}
 
--- the loads of the cut, by node
-abbrev pub node_loads : Problem → Cut → List ℕ
-node_loads p cut = map (load cut) (range_with_len 0 p.size)
+-- what a master is told of a cut: its total for each unit of its part, rounded down
+abbrev pub unit_total : Cut → ℕ
+unit_total cut = total cut / cut.part
+
+-- and so its loads, by node
+abbrev pub unit_node_loads : Problem → Cut → List ℕ
+unit_node_loads p cut = map (λ k. load cut k / cut.part) (range_with_len 0 p.size)
 
 -- these fixed costs; where just so many hubs are wanted, each with what the incumbent costs by hub besides
 abbrev pub with_share : Option ℕ → ℕ → List ℕ → List ℕ
@@ -22,9 +26,9 @@ with_share (Some n) cost fixed = map (λ f. f + cost / n) fixed
 abbrev pub advised_costs : Problem → ℕ → List ℕ
 advised_costs p cost = with_share p.wanted cost p.fixed_costs
 
--- the numbers of a master of these cuts
+-- the numbers of a master of these cuts, for one unit of their parts
 abbrev pub master_numbers : Problem → List Cut → ℕ → MasterNumbers
-master_numbers p cuts cost = record { totals = map total cuts; loads = map (node_loads p) cuts; fixed = advised_costs p cost }
+master_numbers p cuts cost = record { totals = map unit_total cuts; loads = map (unit_node_loads p) cuts; fixed = advised_costs p cost }
 
 -- what a search is told by a master: the weights above 0 by cut number, and a point that is 0 beyond the nodes
 abbrev pub told_by : Advised → Advice

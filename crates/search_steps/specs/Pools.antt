@@ -1,20 +1,19 @@
--- The pool as a search's state has it: each entry has the sums of the cut of its hub set over its order.
-use Rattle.std.specs.Prelude.{◌≡◌, ℕ, ◌<◌, List, map, length, slice_index, All, Option}
+-- The pool as a search's state has it: each entry has the sums of its cut, which was separated for a hub set or given.
+use Rattle.std.specs.Prelude.{◌≡◌, ℕ, ◌<◌, List, ◌++◌, map, length, slice_index, All, Option}
 use Rattle.hub_spec.specs.Problem.{Problem}
-use Rattle.hub_spec.specs.Plans.{IsHubSet}
 use Rattle.hub_spec.specs.Cuts.{Cut, total, load}
-use Rattle.hub_spec.specs.Separation.{IsOrder, set_cut}
 use Rattle.search_spec.specs.States.{State}
+use Rattle.kept_cuts.specs.Kept.{kept_set, kept_cut, IsKeptFor, IsPooled}
 use Rattle.cut_pool.specs.Entries.{Entry}
 
--- the cut of the entry's hub set over its order
+-- the cut of the entry
 abbrev pub entry_cut : Problem → Entry → Cut
-entry_cut p e = set_cut p e.hubs e.order
+entry_cut p e = kept_cut p e.cut
 
--- the entry has a hub set, an order of the other candidates, and the sums of the cut that these make
+-- the entry's cut fits the problem, it was separated or given, and the entry has its sums
 pub record IsSumsOf (p : Problem) (e : Entry) : Type 0 where
-  pub set : IsHubSet p e.hubs
-  pub order : IsOrder p e.hubs e.order
+  pub pooled : IsPooled e.cut
+  pub fits : IsKeptFor p e.cut
   pub is_total : e.total ≡ total (entry_cut p e)
   pub one_load_each : length e.loads ≡ p.size
   pub are_loads : (k : ℕ) → k < p.size → slice_index e.loads k ≡ load (entry_cut p e) k
@@ -23,9 +22,14 @@ pub record IsSumsOf (p : Problem) (e : Entry) : Type 0 where
 abbrev pub IsPoolOf : Problem → List Entry → Type 0
 IsPoolOf p entries = All (IsSumsOf p) entries
 
--- the sets that were separated
-abbrev pub pool_sets : List Entry → List (List ℕ)
-pool_sets entries = map (λ e. e.hubs) entries
+-- the entries have become more: those that were there, and further ones after them
+pub record HasGrown (before after : List Entry) : Type 0 where
+  pub more : List Entry
+  pub is : after ≡ before ++ more
+
+-- the hub set that each was separated for, or none where it was given
+abbrev pub pool_sets : List Entry → List (Option (List ℕ))
+pool_sets entries = map (λ e. kept_set e.cut) entries
 
 -- their cuts
 abbrev pub pool_cuts : Problem → List Entry → List Cut

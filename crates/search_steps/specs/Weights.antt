@@ -3,36 +3,38 @@ use Rattle.std.specs.Prelude.{◌≡◌, ℕ, ◌≤◌, ℤ, pos, List, map, le
 use Rattle.hub_spec.specs.Problem.{Problem}
 use Rattle.hub_model.specs.Amounts.{IsNatural}
 use Rattle.leaf_bound.specs.declared.weightings.Weighting.{Weighting}
+use Rattle.leaf_bound.specs.Bounds.{AreMultiples}
 use Rattle.leaf_bound.specs.Numbers.{naturals, rows_of}
 use Rattle.leaf_bound.specs.Theorems.{weight_pairs}
 use Rattle.search_spec.specs.States.{denominator}
 use Rattle.search_spec.specs.Steps as steps
-use Rattle.cut_pool.specs.Entries.{Entry}
+use Rattle.cut_pool.specs.Entries.{Entry, entry_part}
 use Rattle.search_steps.specs.Pools.{IsPoolOf}
 use Rattle.search_steps.specs.declared.weightings.NodeWeights.{NodeWeights}
 use Rattle.hub_fixing.specs.declared.sides.Side.{Side}
 use Rattle.hub_fixing.specs.declared.sides.Side.TheVariants.{In, Out}
 
--- weights on the first of n cuts: none is below 0, and together they are at most 10^6
-pub record AreNodeWeights (n : ℕ) (weights : List ℤ) : Type 0 where
-  pub few : length weights ≤ n
+-- weights on the first of the entries: none is below 0, each is a multiple of its cut's part, and together they are at most 10^6
+pub record AreNodeWeights (entries : List Entry) (weights : List ℤ) : Type 0 where
+  pub few : length weights ≤ length entries
   pub low : All IsNatural weights
+  pub multiples : AreMultiples (naturals weights) (map entry_part entries)
   pub most : sum (naturals weights) ≤ denominator
 
 -- the pool is one of the instance's cuts, and the weights are a node's
 pub record AreWeighed (n : NodeWeights) : Type 0 where
   pub pool : IsPoolOf n.instance.now n.pool.now.entries
-  pub weights : AreNodeWeights (length n.pool.now.entries) n.weights.now
+  pub weights : AreNodeWeights n.pool.now.entries n.weights.now
 
 -- the weights above 0, by cut number, as a search has them
 abbrev pub pairs_of : List ℤ → List (ℕ × ℕ)
 pairs_of weights = weight_pairs (naturals weights)
 
--- the weighting has the sums of the pool's entries, each with the part 1, the problem's fixed costs and these weights
+-- the weighting has the sums and the parts of the pool's entries, the problem's fixed costs and these weights
 pub record IsNodeWeighting (p : Problem) (entries : List Entry) (weights : List ℤ) (m : Weighting) : Type 0 where
   pub are_totals : m.totals.now ≡ map (λ e. pos e.total) entries
   pub are_loads : rows_of m ≡ map (λ e. map pos e.loads) entries
-  pub are_parts : m.parts.now ≡ map (λ e. 1) entries
+  pub are_parts : m.parts.now ≡ map entry_part entries
   pub are_fixed : m.fixed.now ≡ p.fixed_costs
   pub are_weights : m.weights.now ≡ weights
   pub is_denom : m.denom ≡ pos denominator

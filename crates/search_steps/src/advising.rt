@@ -1,23 +1,27 @@
 //! What the master of a node's branch advises.
 
-ghost use Rattle.std.specs.Prelude.{◌≡◌, ◌≤◌, length, map, pos, IfOk, IfSome};
+ghost use Rattle.std.specs.Prelude.{◌≡◌, ◌*◌, ◌/◌, ◌≤◌, length, map, pos, All, IfOk, IfSome};
 ghost use Rattle.hub_spec.specs.Limits.{most_cost};
 ghost use Rattle.hub_spec.specs.Trees.{IsBranch};
+ghost use Rattle.hub_model.specs.Amounts.{natural, IsNatural};
+ghost use Rattle.leaf_bound.specs.Numbers.{naturals};
 ghost use Rattle.frac_master.specs.Advice.{advice_of_code};
 ghost use Rattle.frac_master.specs.Masters.{AreShortRows};
+ghost use Rattle.cut_pool.specs.Entries.{unit_loads};
 ghost use Rattle.search_steps.specs.Pools.{IsPoolOf, InEachStateAt};
-ghost use Rattle.search_steps.specs.Advising.{told_by, master_advising};
+ghost use Rattle.search_steps.specs.Advising.{told_by, in_parts, master_advising};
 ghost use Rattle.search_steps.specs.Weights.{AreNodeWeights};
 
 use crate::Rule;
 use cut_pool::Pool;
 use frac_master::{Advice, ShortRows, advise_by_totals};
-use hub_model::Instance;
+use hub_model::{Instance, signed, unsigned};
 use plan_model::Branch;
 use std::alloc::{AllocError, Global};
 
 /// What the master of the branch advises, by the cuts of the pool, asked with the fixed costs that the rule has for an
-/// incumbent of this cost. No load of a cut is above its total.
+/// incumbent of this cost: the master is told the totals and loads for one unit of each cut's part, and each weight is
+/// lowered to a multiple of its cut's part.
 ///
 /// The answer is `AllocError` where memory runs out, and where the master is beyond what its rows can hold.
 pub fn node_advice<R: Rule>(
@@ -34,24 +38,53 @@ pub fn node_advice<R: Rule>(
     requires cost { cost ≤ most_cost }
     ensures advice { let p = instance.now in IfOk result (λ a. InEachStateAt p pool.now.entries cost
         (λ s. told_by (advice_of_code a) ≡ master_advising p s branch.now)) }
-    ensures weights { IfOk result (λ a. AreNodeWeights (length pool.now.entries) a.weights.items) }
+    ensures weights { IfOk result (λ a. AreNodeWeights pool.now.entries a.weights.items) }
     ensures point { IfOk result (λ a. length a.point.items ≡ instance.now.size) }
 {
     let mut room = Vec::new(alloc);
     let fixed = rule.advised_costs(instance, cost, &mut room)?;
-    advise_by_totals(
+    let mut advice = advise_by_totals(
         alloc,
-        pool.totals(),
-        pool.loads(),
+        pool.unit_totals(),
+        pool.unit_loads(),
         short_rows(pool),
+        pool.most_given(),
         fixed,
         branch,
-    )
+    )?;
+    lower(&mut advice.weights, pool.parts());
+    Ok(advice)
 }
 
-// The short loads of the pool, if it keeps them.
+// Lowers each weight to a multiple of its cut's part.
+fn lower(weights: &mut [i128], parts: &[u32])
+    requires long { length weights.old ≤ length parts.now }
+    requires low { All IsNatural weights.old }
+    requires least { All (λ part. 1 ≤ part) parts.now }
+    ensures low { All IsNatural weights.new }
+    ensures lowered { naturals weights.new ≡ in_parts (naturals weights.old) parts.now }
+{
+    for c in 0..weights.len() {
+        weights[c] = lowered(weights[c], parts[c]);
+    }
+}
+
+// The weight, lowered to a multiple of the part, with no division where that is 1.
+fn lowered(weight: i128, part: u32) -> i128
+    requires weight { IsNatural weight }
+    requires part { 1 ≤ part }
+    ensures { result ≡ pos (natural weight / part * part) }
+{
+    if part == 1 {
+        return weight;
+    }
+    let whole = unsigned(weight);
+    signed(whole - whole % u128::from(part))
+}
+
+// The short loads of the pool, if it keeps them, for one unit of each cut's part.
 fn short_rows(pool: &Pool) -> Option<ShortRows<'_>>
-    ensures { IfSome result (λ s. AreShortRows s.halvings (map (λ v. v.items) s.rows.now) (map (λ e. map pos e.loads) pool.now.entries)) }
+    ensures { IfSome result (λ s. AreShortRows s.halvings (map (λ v. v.items) s.rows.now) (map (map pos) (unit_loads pool.now.entries))) }
 {
     let short = pool.short_loads()?;
     Some(ShortRows {

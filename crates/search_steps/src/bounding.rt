@@ -25,7 +25,7 @@ pub fn is_better<R: Rule>(
     requires present { AreWeighed present.now }
     requires branch { IsBranch present.now.instance.now branch.now }
     requires room { HasRoom present.now.instance.now.wanted branch.now }
-    requires advised { AreNodeWeights (length present.now.pool.now.entries) advised.now }
+    requires advised { AreNodeWeights present.now.pool.now.entries advised.now }
     ensures above { let p = present.now.instance.now in InEachState p present.now.pool.now.entries (λ s. IsTrue result
         ↔ (bound_at p s branch.now (pairs_of present.now.weights.now) <ℤ bound_at p s branch.now (pairs_of advised.now))) }
     ensures better { let p = present.now.instance.now in InEachState p present.now.pool.now.entries

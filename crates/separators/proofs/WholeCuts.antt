@@ -9,7 +9,7 @@ use Rattle.hub_spec.specs.Separation.{IsOrder, set_cut}
 use Rattle.pareto_cuts.proofs.SetSums.{value_of, load_within, load_by_commodities, whole_sum}
 use Rattle.cut_pool.specs.Entries.{Sums, entry_of}
 use Rattle.search_steps.specs.Pools.{IsSumsOf}
-use Rattle.search_steps.proofs.PoolNumbers.{total_limit}
+use Rattle.search_steps.proofs.PoolLoads.{total_limit}
 
 pub total_fits : (p : Problem) (hubs order : List ℕ) → IsProblem p → IsHubSet p hubs → IsOrder p hubs order → total (set_cut p hubs order) < 2 ^ 127
 total_fits p hubs order ok set is = omega (arith, total_limit p hubs order ok set is)
@@ -34,4 +34,4 @@ pub are_sums : (p : Problem) (hubs order loads : List ℕ) (t : ℕ) → IsHubSe
     → IsSumsOf p (entry_of s order)
 are_sums p hubs order loads t set is sum long each s same =
     subst (λ (x : Sums). IsSumsOf p (entry_of x order)) (sym same)
-    record { set = set; order = is; is_total = sum; one_load_each = long; are_loads = each }
+    record { pooled = tt; fits = (set, is); is_total = sum; one_load_each = long; are_loads = each }

@@ -7,7 +7,8 @@ use Rattle.frac_master.proofs.scaling.greatest_by_totals.Goals as goal
 
 pub returns : goal.returns
 returns c =
-    greatest_within c.args.totals.now c.args.fixed.now c.args.loads.now c.args.branch.now c.loop-total.most c.greatest_cost.result
-    c.requires.within
+    c.max.ensures
+    ∙ greatest_within c.args.totals.now c.args.fixed.now c.args.loads.now c.args.branch.now c.args.most_load c.loop-total.most c.greatest_cost.result
+    c.requires.within c.requires.reached
     (c.loop-total.invariant ∙ ap (λ xs. fold max 0 (map natural xs)) (take_all c.loop-total.total-index c.args.totals.now c.loop-total-test.false))
     c.greatest_cost.ensures

@@ -1,30 +1,34 @@
-use Rattle.std.proofs.Common.{◌≡◌, length, map, ℤ, Vec, Global}
-use Rattle.std.proofs.lemmas.Result.{IfOk-weaker}
-use Rattle.frac_master.specs.declared.advice.Advice.{Advice}
-use Rattle.frac_master.specs.Masters.{master_of}
-use Rattle.frac_master.specs.Advice.{advice, advice_of_code, AreMixWeights}
-use Rattle.search_steps.specs.Pools.{InEachStateAt}
-use Rattle.search_steps.specs.Advising.{told_by, master_advising}
+use Rattle.std.proofs.Common.{◌≡◌, ◌≤◌, ℕ, ℤ, map, All, Vec, Global, ap, ap₂, subst, sym, ◌∙◌, arith}
+use Rattle.std.specs.Vec.{with_items}
+use Rattle.std.proofs.lemmas.List.{with_items_is}
+use Rattle.std.proofs.lemmas.List.Elements.{All-weaker}
+use Rattle.hub_spec.specs.Limits.{most_part}
+use Rattle.leaf_bound.specs.Numbers.{naturals}
+use Rattle.frac_master.specs.Masters.{master_of, greatest_number}
+use Rattle.frac_master.specs.Advice.{advice_of_code}
+use Rattle.cut_pool.specs.Entries.{entry_part}
+use Rattle.search_steps.specs.Advising.{in_parts}
 use Rattle.search_steps.specs.Weights.{AreNodeWeights}
-use Rattle.search_steps.proofs.MasterNumbers.{AreMasters, numbers_serve, nodes_serve, within_totals, advice_is, point_long, node_weights}
+use Rattle.search_steps.proofs.PoolNumbers.{parts_least}
+use Rattle.search_steps.proofs.MasterNumbers.{AreMasters, numbers_serve, nodes_serve, within_totals, most_serves, advice_is, point_long, node_weights}
 use Rattle.search_steps.proofs.advising.node_advice.Goals as goal
 use Rattle.search_steps.proofs.advising.node_advice.Given.{Over}
-use Rattle.search_steps.proofs.advising.node_advice.Goals.{After-short_rows}
+use Rattle.search_steps.proofs.advising.node_advice.Goals.{After-short_rows, After-lower}
 
 -- what the pool and the instance lend
-lent : (g : Over) (c : After-short_rows g) → AreMasters c.args.instance.now c.args.pool.now.entries c.args.cost c.totals.result.now
-    (map (λ (v : Vec ℤ Global). v.items) c.loads.result.now) c.in_ok-fixed.fixed.now
+lent : (g : Over) (c : After-short_rows g) → AreMasters c.args.instance.now c.args.pool.now.entries c.args.cost c.unit_totals.result.now
+    (map (λ (v : Vec ℤ Global). v.items) c.unit_loads.result.now) c.in_ok-fixed.fixed.now
 lent g c = record {
   problem = c.advised_costs.ensures.problem;
   pool = c.requires.pool;
   costs = c.in_ok-fixed.ensures.costs;
-  are_totals = c.totals.ensures;
-  are_loads = c.loads.ensures;
+  are_totals = c.unit_totals.ensures;
+  are_loads = c.unit_loads.ensures;
 }
 
 pub advise_by_totals-requires-clause-numbers : goal.advise_by_totals-requires-clause-numbers
 advise_by_totals-requires-clause-numbers g c =
-    numbers_serve c.args.instance.now c.args.pool.now.entries c.args.cost c.totals.result.now (map (λ (v : Vec ℤ Global). v.items) c.loads.result.now)
+    numbers_serve c.args.instance.now c.args.pool.now.entries c.args.cost c.unit_totals.result.now (map (λ (v : Vec ℤ Global). v.items) c.unit_loads.result.now)
     c.in_ok-fixed.fixed.now (lent g (goal.at.advise_by_totals-requires-clause-numbers g c).After-short_rows)
 
 pub advise_by_totals-requires-clause-nodes : goal.advise_by_totals-requires-clause-nodes
@@ -33,36 +37,54 @@ advise_by_totals-requires-clause-nodes g c =
 
 pub advise_by_totals-requires-clause-within : goal.advise_by_totals-requires-clause-within
 advise_by_totals-requires-clause-within g c =
-    within_totals c.args.instance.now c.args.pool.now.entries c.args.cost c.totals.result.now (map (λ (v : Vec ℤ Global). v.items) c.loads.result.now)
-    c.in_ok-fixed.fixed.now (lent g (goal.at.advise_by_totals-requires-clause-within g c).After-short_rows)
+    rw c.most_given.ensures
+    (within_totals c.args.instance.now c.args.pool.now.entries c.args.cost c.unit_totals.result.now (map (λ (v : Vec ℤ Global). v.items) c.unit_loads.result.now)
+    c.in_ok-fixed.fixed.now (lent g (goal.at.advise_by_totals-requires-clause-within g c).After-short_rows))
+
+pub advise_by_totals-requires-clause-reached : goal.advise_by_totals-requires-clause-reached
+advise_by_totals-requires-clause-reached g c =
+    let loads = map (λ (v : Vec ℤ Global). v.items) c.unit_loads.result.now in
+    subst (λ (m : ℕ). m ≤ greatest_number (master_of c.unit_totals.result.now loads c.in_ok-fixed.fixed.now) c.args.branch.now) (sym c.most_given.ensures)
+    (most_serves c.args.instance.now c.args.pool.now.entries c.args.cost c.unit_totals.result.now loads
+    c.in_ok-fixed.fixed.now c.args.branch.now (lent g (goal.at.advise_by_totals-requires-clause-reached g c).After-short_rows) c.requires.branch)
 
 pub advise_by_totals-requires-clause-short : goal.advise_by_totals-requires-clause-short
-advise_by_totals-requires-clause-short g c = rw c.loads.ensures c.short_rows.ensures
+advise_by_totals-requires-clause-short g c = rw c.unit_loads.ensures c.short_rows.ensures
+
+pub lower-requires-clause-least : goal.lower-requires-clause-least
+lower-requires-clause-least g c =
+    let entries = c.args.pool.now.entries in
+    subst (All (λ (part : ℕ). 1 ≤ part)) (sym c.parts.ensures)
+    (All-weaker (λ (part : ℕ). (1 ≤ part) × (part ≤ most_part)) (λ (part : ℕ). 1 ≤ part) (λ part limits. limits.0) (map entry_part entries)
+    (parts_least c.args.instance.now entries c.advised_costs.ensures.problem c.requires.pool))
+
+-- the weights that are written back are the lowered ones
+written : (g : Over) (c : After-lower g) → (with_items c.in_ok-advice.advice.weights c.lower.new.weights).items ≡ c.lower.new.weights
+written g c = with_items_is c.in_ok-advice.advice.weights c.lower.new.weights (omega (arith, c.lower.auto.weights, c.deref_mut.ensures.len))
+
+-- and they are the master's, lowered by the pool's parts
+lowered : (g : Over) (c : After-lower g)
+    → naturals c.lower.new.weights ≡ in_parts (naturals c.in_ok-advice.advice.weights.items) (map entry_part c.args.pool.now.entries)
+lowered g c = c.lower.ensures.lowered ∙ ap₂ (λ ws parts. in_parts (naturals ws) parts) c.deref_mut.ensures.value c.parts.ensures
 
 pub returns-clause-advice : goal.returns-clause-advice
 returns-clause-advice g c =
-    let p = c.args.instance.now in
-    let loads = map (λ (v : Vec ℤ Global). v.items) c.loads.result.now in
-    let numbers = master_of c.totals.result.now loads c.in_ok-fixed.fixed.now in
-    IfOk-weaker c.advise_by_totals.result (λ (a : Advice). advice_of_code a ≡ advice numbers c.args.branch.now)
-    (λ (a : Advice). InEachStateAt p c.args.pool.now.entries c.args.cost (λ s. told_by (advice_of_code a) ≡ master_advising p s c.args.branch.now))
-    (λ a is. advice_is p c.args.pool.now.entries c.args.cost c.totals.result.now loads c.in_ok-fixed.fixed.now c.args.branch.now (advice_of_code a)
-    (lent g (goal.at.returns-clause-advice g c).After-short_rows) c.requires.branch is) c.advise_by_totals.ensures.advice
+    let at = goal.at.returns-clause-advice g c in
+    advice_is c.args.instance.now c.args.pool.now.entries c.args.cost c.unit_totals.result.now (map (λ (v : Vec ℤ Global). v.items) c.unit_loads.result.now)
+    c.in_ok-fixed.fixed.now c.args.branch.now (advice_of_code c.in_ok-advice.advice)
+    (naturals (with_items c.in_ok-advice.advice.weights c.lower.new.weights).items) (lent g at.After-short_rows) c.in_ok-advice.ensures.advice
+    (ap naturals (written g at.After-lower) ∙ lowered g at.After-lower)
 
 pub returns-clause-weights : goal.returns-clause-weights
 returns-clause-weights g c =
-    let loads = map (λ (v : Vec ℤ Global). v.items) c.loads.result.now in
-    IfOk-weaker c.advise_by_totals.result (λ (a : Advice). AreMixWeights (length c.totals.result.now) a.weights.items)
-    (λ (a : Advice). AreNodeWeights (length c.args.pool.now.entries) a.weights.items)
-    (λ a is. node_weights c.args.instance.now c.args.pool.now.entries c.args.cost c.totals.result.now loads c.in_ok-fixed.fixed.now a.weights.items
-    (lent g (goal.at.returns-clause-weights g c).After-short_rows) is) c.advise_by_totals.ensures.weights
+    let at = goal.at.returns-clause-weights g c in
+    subst (AreNodeWeights c.args.pool.now.entries) (sym (written g at.After-lower))
+    (node_weights c.args.instance.now c.args.pool.now.entries c.args.cost c.unit_totals.result.now (map (λ (v : Vec ℤ Global). v.items) c.unit_loads.result.now)
+    c.in_ok-fixed.fixed.now c.in_ok-advice.advice.weights.items c.lower.new.weights (lent g at.After-short_rows) c.in_ok-advice.ensures.weights
+    c.lower.ensures.low (lowered g at.After-lower))
 
 pub returns-clause-point : goal.returns-clause-point
 returns-clause-point g c =
-    let p = c.args.instance.now in
-    let loads = map (λ (v : Vec ℤ Global). v.items) c.loads.result.now in
-    let numbers = master_of c.totals.result.now loads c.in_ok-fixed.fixed.now in
-    IfOk-weaker c.advise_by_totals.result (λ (a : Advice). advice_of_code a ≡ advice numbers c.args.branch.now)
-    (λ (a : Advice). length a.point.items ≡ p.size)
-    (λ a is. point_long p c.args.pool.now.entries c.args.cost c.totals.result.now loads c.in_ok-fixed.fixed.now c.args.branch.now (advice_of_code a)
-    (lent g (goal.at.returns-clause-point g c).After-short_rows) is) c.advise_by_totals.ensures.advice
+    point_long c.args.instance.now c.args.pool.now.entries c.args.cost c.unit_totals.result.now (map (λ (v : Vec ℤ Global). v.items) c.unit_loads.result.now)
+    c.in_ok-fixed.fixed.now c.args.branch.now (advice_of_code c.in_ok-advice.advice)
+    (lent g (goal.at.returns-clause-point g c).After-short_rows) c.in_ok-advice.ensures.advice
