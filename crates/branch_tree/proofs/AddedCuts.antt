@@ -1,5 +1,5 @@
 -- One more cut: the definition's state once the set is separated.
-use Rattle.std.proofs.Common.{◌≡◌, ℕ, ℤ, pos, ◌+◌, ◌<◌, ◌≤◌, List, [], ◌∷◌, ◌++◌, length, Option, Result, Ok, Err, IsOk, OnOk, true≢false, Vec, Global, refl, ap, ap₂, sym, subst, ◌∙◌, arith}
+use Rattle.std.proofs.Common.{◌≡◌, ℕ, ℤ, pos, ◌+◌, ◌<◌, ◌≤◌, List, [], ◌∷◌, ◌++◌, length, Option, Some, Result, Ok, Err, IsOk, OnOk, true≢false, Vec, Global, refl, ap, ap₂, sym, subst, ◌∙◌, arith}
 use Rattle.std.proofs.lemmas.List.{map-append, length_push}
 use Rattle.std.proofs.lemmas.List.Elements.{All-push}
 use Rattle.hub_spec.specs.Limits.{most_cost, most_cuts}
@@ -9,6 +9,7 @@ use Rattle.hub_spec.specs.Cuts.{Cut}
 use Rattle.hub_spec.specs.Separation.{set_cut}
 use Rattle.hub_model.specs.Amounts.{natural}
 use Rattle.plan_model.specs.declared.tree_lines.TreeLine.{TreeLine}
+use Rattle.kept_cuts.specs.Kept.{Kept, by_set, kept_set, kept_cut}
 use Rattle.cut_pool.specs.Entries.{Sums, Entry, entry_of}
 use Rattle.cut_pool.specs.declared.pool.Refused.{Refused}
 use Rattle.search_spec.specs.Steps.{separated}
@@ -36,22 +37,23 @@ parts_cost p set = refl
 sums_cost : (p : Problem) (sums : Sums) (set order : List ℕ) (total_cost opening : ℕ) → IsProblem p → sums.hubs ≡ set → IsSumsOf p (entry_of sums order)
     → total_cost ≡ sums.total → opening ≡ opening_cost p set → total_cost + opening ≡ (parts_of p).cost set
 sums_cost p sums set order total_cost opening ok hubs is same opens =
-    let by_sums = (set_cost_by_sums p sums.hubs order ok is.set is.order).by_sums in
+    let by_sums = (set_cost_by_sums p sums.hubs order ok is.fits.0 is.fits.1).by_sums in
     let cost : total_cost + opening ≡ set_cost p sums.hubs =
     omega (arith, same, opens, is.is_total, by_sums, ap (opening_cost p) hubs) in
     cost ∙ ap (set_cost p) hubs ∙ sym (parts_cost p set)
 
 -- the entries with the new one
 pub more_sets : (p : Problem) (kept more : List Entry) (set order : List ℕ) (price : ℕ) → HasCut p kept more set order price
-    → pool_sets more ≡ pool_sets kept ++ set ∷ []
+    → pool_sets more ≡ pool_sets kept ++ Some set ∷ []
 more_sets p kept more set order price cut =
-    ap pool_sets cut.entries ∙ map-append (λ (e : Entry). e.hubs) kept (cut.entry ∷ []) ∙ ap (λ (x : List ℕ). pool_sets kept ++ x ∷ []) cut.of_set
+    ap pool_sets cut.entries ∙ map-append (λ (e : Entry). kept_set e.cut) kept (cut.entry ∷ [])
+    ∙ ap (λ (k : Kept). pool_sets kept ++ kept_set k ∷ []) cut.of_set
 
 pub more_cuts : (p : Problem) (kept more : List Entry) (set order : List ℕ) (price : ℕ) → HasCut p kept more set order price
     → pool_cuts p more ≡ pool_cuts p kept ++ (parts_of p).cut set order ∷ []
 more_cuts p kept more set order price cut =
     ap (pool_cuts p) cut.entries ∙ map-append (entry_cut p) kept (cut.entry ∷ [])
-    ∙ ap₂ (λ (x y : List ℕ). pool_cuts p kept ++ set_cut p x y ∷ []) cut.of_set cut.over
+    ∙ ap (λ (k : Kept). pool_cuts p kept ++ kept_cut p k ∷ []) cut.of_set
     ∙ ap (λ (c : Cut). pool_cuts p kept ++ c ∷ []) (sym (parts_cut p set order))
 
 cheaper_added : (p : Problem) (kept more : List Entry) (set order old best : List ℕ) (cost least made : ℕ) (stop : Option ℕ)
@@ -62,7 +64,7 @@ cheaper_added p kept more set order old best cost least made stop cut less same 
     let cuts = more_cuts p kept more set order cost cut in
     let costs = cut.cost in
     let both : state_by p more best cost made stop
-    ≡ record (state_by p kept old least made stop) { sets = pool_sets kept ++ set ∷ []; cuts = pool_cuts p kept ++ (parts_of p).cut set order ∷ []; hubs = set; cost = (parts_of p).cost set }
+    ≡ record (state_by p kept old least made stop) { sets = pool_sets kept ++ Some set ∷ []; cuts = pool_cuts p kept ++ (parts_of p).cut set order ∷ []; hubs = set; cost = (parts_of p).cost set }
     = λ i. record { sets = sets i; cuts = cuts i; hubs = same i; cost = costs i; made = made; stop = stop } in
     both ∙ sym (separated_cheaper (parts_of p) set order (state_by p kept old least made stop) (omega (arith, costs, less)))
 
@@ -73,7 +75,7 @@ dearer_added p kept more set order old cost least made stop cut above =
     let sets = more_sets p kept more set order cost cut in
     let cuts = more_cuts p kept more set order cost cut in
     let both : state_by p more old least made stop
-    ≡ record (state_by p kept old least made stop) { sets = pool_sets kept ++ set ∷ []; cuts = pool_cuts p kept ++ (parts_of p).cut set order ∷ [] }
+    ≡ record (state_by p kept old least made stop) { sets = pool_sets kept ++ Some set ∷ []; cuts = pool_cuts p kept ++ (parts_of p).cut set order ∷ [] }
     = λ i. record { sets = sets i; cuts = cuts i; hubs = old; cost = least; made = made; stop = stop } in
     both ∙ sym (separated_dearer (parts_of p) set order (state_by p kept old least made stop) (omega (arith, cut.cost, above)))
 
@@ -102,8 +104,7 @@ added_cut p kept reserved more r sums set order signed_total least opening ok sa
   entry = entry_of sums order;
   entries = ok_gives r succeeds added ∙ ap (λ (es : List Entry). es ++ entry_of sums order ∷ []) same;
   is = is;
-  of_set = has_hubs;
-  over = refl;
+  of_set = ap (λ (hs : List ℕ). by_set hs order) has_hubs;
   cost = sums_cost p sums set order least opening ok has_hubs is (total_is ∙ ap natural signed_is) opening_is;
 }
 
@@ -139,7 +140,7 @@ cheaper_at t before after set order going few cut same is_set best less =
           cut less best;
       lines = ap (λ (v : Vec TreeLine Global). lines_of v.items) same.lines;
       going = cut_going t before after set order after.cost going few cut same (subst (IsHubSet p) (sym best) is_set) (omega (arith, less, going.cost));
-      kept = omega (arith, more_long p before.pool.entries after.pool.entries set order after.cost cut);
+      kept = record { more = cut.entry ∷ []; is = cut.entries };
     }
 
 pub dearer_at : (t : Task) (before after : Progress) (set order : List ℕ) (price : ℕ) → IsGoing t before → length before.pool.entries < most_cuts
@@ -155,5 +156,5 @@ dearer_at t before after set order price going few cut same hubs cost above =
       state = as_now ∙ dearer_added p before.pool.entries after.pool.entries set order before.hubs price before.cost before.made before.stop cut above;
       lines = ap (λ (v : Vec TreeLine Global). lines_of v.items) same.lines;
       going = cut_going t before after set order price going few cut same (subst (IsHubSet p) (sym hubs) going.hubs) (omega (arith, cost, going.cost));
-      kept = omega (arith, more_long p before.pool.entries after.pool.entries set order price cut);
+      kept = record { more = cut.entry ∷ []; is = cut.entries };
     }

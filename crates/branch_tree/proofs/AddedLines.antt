@@ -7,7 +7,8 @@ use Rattle.hub_spec.specs.Trees.{Branching, IsBranch, HasRoom, Tree, TreeLine, p
 use Rattle.plan_model.specs.declared.tree_lines.TreeLine as model
 use Rattle.plan_model.specs.Lines.{tree_line_of}
 use Rattle.search_spec.specs.States.{State, Grown}
-use Rattle.search_steps.specs.Pools.{IsPoolOf, state_by}
+use Rattle.search_steps.specs.Pools.{IsPoolOf, HasGrown, state_by}
+use Rattle.search_steps.proofs.GivenPools.{grown_same, grown_twice}
 use Rattle.search_core.specs.declared.tasks.Task.{Task}
 use Rattle.branch_tree.specs.declared.progress.Progress.{Progress}
 use Rattle.kept_cuts.specs.Findings.{lines_of}
@@ -44,8 +45,8 @@ line_going t before after line made stop going has few =
     }
 
 pub line_kept : (before after : Progress) (line : TreeLine) (made : ℕ) (stop : Option ℕ) → HasLine before after line made stop
-    → length before.pool.entries ≤ length after.pool.entries
-line_kept before after line made stop has = omega (arith, ap length has.entries)
+    → HasGrown before.pool.entries after.pool.entries
+line_kept before after line made stop has = subst (HasGrown before.pool.entries) (sym has.entries) (grown_same before.pool.entries)
 
 -- the line is all of a tree
 pub line_done : (t : Task) (before after : Progress) (tree : Tree) (line : TreeLine) (made : ℕ) (stop : Option ℕ) → IsGoing t before
@@ -67,7 +68,7 @@ line_at t before middle after s tree line at is has = record {
   lines = has.lines ∙ ap (λ (ls : List TreeLine). ls ++ line ∷ []) at.lines
       ∙ ap (λ (ls : List TreeLine). lines_of before.lines.items ++ ls) (sym is);
   going = line_going t middle after line middle.made middle.stop at.going has (omega arith);
-  kept = omega (arith, at.kept, line_kept middle after line middle.made middle.stop has);
+  kept = grown_twice before.pool.entries middle.pool.entries after.pool.entries at.kept (line_kept middle after line middle.made middle.stop has);
 }
 
 -- what was done, by another name

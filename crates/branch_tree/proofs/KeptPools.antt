@@ -1,40 +1,43 @@
 -- The cuts of a pool as a finding keeps them.
-use Rattle.std.proofs.Common.{◌≡◌, ℕ, List, [], ◌∷◌, map, All, refl, sym, ap, ap₂, subst, ◌∙◌}
+use Rattle.std.proofs.Common.{◌≡◌, ℕ, List, [], ◌∷◌, map, All, Option, IsSome, true≢false, refl, sym, ap, ap₂, subst, ◌∙◌}
 use Rattle.std.proofs.lemmas.List.Elements.{All-nil, All-cons, All-head, All-tail}
 use Rattle.hub_spec.specs.Problem.{Problem}
 use Rattle.hub_spec.specs.Cuts.{Cut, total}
 use Rattle.cut_pool.specs.Entries.{Entry}
-use Rattle.kept_cuts.specs.Kept.{Kept, by_set, IsOfSet, kept_hubs, kept_cuts, KeptList, IsKeptFor, node_loads, AreKeptFor}
+use Rattle.kept_cuts.specs.Kept.{Kept, by_values, by_set, given, kept_set, kept_cuts, IsOwn, KeptList, IsKeptFor, node_loads, AreKeptFor}
 use Rattle.kept_cuts.proofs.NodeLoads.{loads_are}
 use Rattle.search_steps.specs.Pools.{entry_cut, IsSumsOf, IsPoolOf, pool_sets, pool_cuts}
 
--- the entry as a kept cut
-abbrev pub kept_entry : Entry → Kept
-kept_entry e = by_set e.hubs e.order
-
 -- the columns are those of the entries
 pub record AreColumnsOf (entries : List Entry) (k : KeptList) : Type 0 where
-  pub cuts : k.cuts ≡ map kept_entry entries
+  pub cuts : k.cuts ≡ map (λ e. e.cut) entries
   pub totals : k.totals ≡ map (λ e. e.total) entries
   pub loads : k.loads ≡ map (λ e. e.loads) entries
 
-pub kept_pool_sets : (entries : List Entry) → map kept_hubs (map kept_entry entries) ≡ pool_sets entries
+pub kept_pool_sets : (entries : List Entry) → map kept_set (map (λ e. e.cut) entries) ≡ pool_sets entries
 kept_pool_sets [] = refl
-kept_pool_sets (e ∷ es) = ap (λ (xs : List (List ℕ)). e.hubs ∷ xs) (kept_pool_sets es)
+kept_pool_sets (e ∷ es) = ap (λ (xs : List (Option (List ℕ))). kept_set e.cut ∷ xs) (kept_pool_sets es)
 
-pub kept_pool_of_sets : (entries : List Entry) → All IsOfSet (map kept_entry entries)
-kept_pool_of_sets [] = All-nil IsOfSet
-kept_pool_of_sets (e ∷ es) = All-cons IsOfSet (kept_entry e) (map kept_entry es) refl (kept_pool_of_sets es)
-
-pub kept_pool_cuts : (p : Problem) (entries : List Entry) → kept_cuts p (map kept_entry entries) ≡ pool_cuts p entries
+pub kept_pool_cuts : (p : Problem) (entries : List Entry) → kept_cuts p (map (λ e. e.cut) entries) ≡ pool_cuts p entries
 kept_pool_cuts p [] = refl
 kept_pool_cuts p (e ∷ es) = ap (λ (xs : List Cut). entry_cut p e ∷ xs) (kept_pool_cuts p es)
 
-fit : (p : Problem) (entries : List Entry) → IsPoolOf p entries → All (IsKeptFor p) (map kept_entry entries)
+fit : (p : Problem) (entries : List Entry) → IsPoolOf p entries → All (IsKeptFor p) (map (λ e. e.cut) entries)
 fit p [] are = All-nil (IsKeptFor p)
 fit p (e ∷ es) are =
-    let is = All-head (IsSumsOf p) e es are in
-    All-cons (IsKeptFor p) (kept_entry e) (map kept_entry es) (is.set, is.order) (fit p es (All-tail (IsSumsOf p) e es are))
+    All-cons (IsKeptFor p) e.cut (map (λ x. x.cut) es) (All-head (IsSumsOf p) e es are).fits (fit p es (All-tail (IsSumsOf p) e es are))
+
+-- a cut that has a set was not given
+pub own_by_sets : (kept : List Kept) → All (λ (set : Option (List ℕ)). IsSome set) (map kept_set kept) → All IsOwn kept
+own_by_sets [] are = All-nil IsOwn
+own_by_sets (k ∷ ks) are =
+    All-cons IsOwn k ks (own k (All-head (λ (set : Option (List ℕ)). IsSome set) (kept_set k) (map kept_set ks) are))
+    (own_by_sets ks (All-tail (λ (set : Option (List ℕ)). IsSome set) (kept_set k) (map kept_set ks) are))
+  where
+    own : (k : Kept) → IsSome (kept_set k) → IsOwn k
+    own (by_values rows) some = tt
+    own (by_set hubs order) some = tt
+    own (given cut) some = absurd (true≢false (sym some))
 
 totals : (p : Problem) (entries : List Entry) → IsPoolOf p entries → map (λ e. e.total) entries ≡ map total (pool_cuts p entries)
 totals p [] are = refl

@@ -1,7 +1,6 @@
 pub mod FirstLines
 pub mod FoundCertificates
 pub mod KeptPools
-pub mod SetNumbers
 pub mod AddedLines
 pub mod AddedCuts
 pub mod LeafSteps
@@ -9,3 +8,4 @@ pub mod RoundSteps
 pub mod NodeCases
 pub mod WalkSteps
 pub mod WholeSearch
+pub mod Beginning

@@ -12,12 +12,11 @@ use Rattle.search_spec.specs.States.{State, Advice, Parts, Handling, is_stopped}
 use Rattle.search_spec.specs.Steps as steps
 use Rattle.search_spec.specs.Steps.{bound_at, closes_at, may_split, two_more, child_on, with_leaf, stopped_leaf, full_on, ended, halved, fixed, parted, handled, round, rounds, after_rounds, node, searched, stays_open, stays_closed}
 use Rattle.search_spec.specs.Laws.{GoesOn}
-use Rattle.search_spec.specs.Choices.{rule_parts, rule, begun_for, nearest_half}
+use Rattle.search_spec.specs.Choices.{rule_parts, nearest_half}
 use Rattle.search_spec.proofs.StepCases.{rounds_over, rounds_more, node_is, handled_barren, handled_stopped, handled_blocked, handled_full, handled_on, explored_is, parted_only, parted_full, parted_split, halved_is, fixed_none, fixed_only, fixed_full, fixed_one}
 use Rattle.search_steps.specs.Pools.{InEachStateAt}
 use Rattle.search_core.specs.declared.tasks.Task.{Task}
 use Rattle.branch_tree.specs.declared.progress.Progress.{Progress}
-use Rattle.branch_tree.specs.Findings.{found_by}
 use Rattle.search_steps.specs.Advising.{parts_of}
 use Rattle.search_steps.proofs.RuleChoices.{parts_sound, room_when}
 use Rattle.branch_tree.specs.Progressing.{handling, state_of}
@@ -228,6 +227,6 @@ two_rounds p parts b r = by_test r.again
 
 -- the handling of the root from there
 pub handled_root : (p : Problem) (n : Option ℕ) (depth : ℕ) (b : Branching) (s : State) → depth ≡ length p.candidates + 1
-    → b ≡ root p → s ≡ begun_for p (parts_of p) p.wanted → node depth p (parts_of p) n b [] s ≡ found_by p n
-unfolding rule searched
-handled_root p n depth b s deep is start = λ i. node (deep i) p (parts_of p) n (is i) [] (start i)
+    → b ≡ root p → node depth p (parts_of p) n b [] s ≡ searched p (parts_of p) n s
+unfolding searched
+handled_root p n depth b s deep is = λ i. node (deep i) p (parts_of p) n (is i) [] s

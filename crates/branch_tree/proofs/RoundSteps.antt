@@ -1,5 +1,5 @@
 -- A round of the code is a round of the rule.
-use Rattle.std.proofs.Common.{◌≡◌, ◌≤◌, ℕ, ℤ, Bool, true, false, ◌||◌, List, is_some, ◌⊎◌, inl, inr, refl, ap, ap₂, sym, subst, ◌∙◌, arith}
+use Rattle.std.proofs.Common.{◌≡◌, ℕ, Bool, true, false, ◌||◌, List, is_some, ◌⊎◌, inl, inr, refl, ap, ap₂, sym, subst, ◌∙◌}
 use Rattle.hub_spec.specs.Problem.{Problem}
 use Rattle.hub_spec.specs.Trees.{Branching}
 use Rattle.search_spec.specs.States.{State, Advice, number_in_pool}
@@ -7,7 +7,6 @@ use Rattle.search_spec.specs.Steps.{better, closes_at, separated, round, rounds}
 use Rattle.search_spec.specs.Choices.{rule_parts, order_by_point, by_falling, others}
 use Rattle.search_spec.proofs.StepCases.{round_over, round_new}
 use Rattle.search_steps.specs.Advising.{master_advising, parts_of}
-use Rattle.search_steps.specs.Weights.{AreNodeWeights}
 use Rattle.search_core.specs.declared.tasks.Task.{Task}
 use Rattle.branch_tree.specs.declared.progress.Progress.{Progress}
 use Rattle.branch_tree.specs.declared.rounds.RoundEnd.{RoundEnd}
@@ -91,9 +90,3 @@ pub next_by : (t u : Task) (before after : Progress) (b : Branching) (last r : R
     → IsRound t before after r (rounds 1 t.instance.now (parts_of t.instance.now) b (round_as t.instance.now before last))
 next_by t u before after b last r same is =
     subst (λ (x : Task). IsRound x before after r (rounds 1 x.instance.now (parts_of x.instance.now) b (round_as x.instance.now before last))) same is
-
--- ---- weights
-
--- weights serve still where there are more cuts
-pub weights_kept : (n m : ℕ) (weights : List ℤ) → n ≤ m → AreNodeWeights n weights → AreNodeWeights m weights
-weights_kept n m weights more are = record { few = omega (arith, more, are.few); low = are.low; most = are.most }

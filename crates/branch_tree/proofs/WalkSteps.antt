@@ -12,7 +12,9 @@ use Rattle.hub_spec.proofs.Ascending.{without_keeps}
 use Rattle.search_spec.specs.States.{denominator, State, Grown}
 use Rattle.search_spec.specs.Steps.{two_more, Side, stays_open, stays_closed, child_on, fixings, with_leaf}
 use Rattle.search_spec.proofs.Fixings.{AreFixings, fixings_are}
+use Rattle.search_steps.specs.Pools.{HasGrown}
 use Rattle.search_steps.specs.Weights.{side_as, sides_as}
+use Rattle.search_steps.proofs.GivenPools.{grown_twice}
 use Rattle.search_core.specs.declared.tasks.Task.{Task}
 use Rattle.branch_tree.specs.declared.progress.Progress.{Progress}
 use Rattle.kept_cuts.specs.Findings.{lines_of}
@@ -37,7 +39,8 @@ both_done t before begun middle after k made stop opened closed has first second
       ∙ ap (λ (ls : List TreeLine). (ls ++ preorder opened.tree) ++ preorder closed.tree) has.lines
       ∙ three_parts (lines_of before.lines.items) (preorder opened.tree) (preorder closed.tree) (branch_on k);
   going = second.going;
-  kept = omega (arith, line_kept before begun (branch_on k) made stop has, first.kept, second.kept);
+  kept = grown_twice before.pool.entries begun.pool.entries after.pool.entries (line_kept before begun (branch_on k) made stop has)
+      (grown_twice begun.pool.entries middle.pool.entries after.pool.entries first.kept second.kept);
 }
 
 -- the line of a branch makes two nodes more
@@ -65,12 +68,12 @@ closed_done t before begun middle after k made stop w kept has first second =
 
 -- what came of the rest, after a step with no line
 pub later_done : (t : Task) (before middle after : Progress) (g : Grown) → lines_of middle.lines.items ≡ lines_of before.lines.items
-    → length before.pool.entries ≤ length middle.pool.entries → IsDone t middle after g → IsDone t before after g
+    → HasGrown before.pool.entries middle.pool.entries → IsDone t middle after g → IsDone t before after g
 later_done t before middle after g lines kept done = record {
   state = done.state;
   lines = done.lines ∙ ap (λ (ls : List TreeLine). ls ++ preorder g.tree) lines;
   going = done.going;
-  kept = omega (arith, kept, done.kept);
+  kept = grown_twice before.pool.entries middle.pool.entries after.pool.entries kept done.kept;
 }
 
 -- ---- fixings

@@ -19,23 +19,24 @@ use Rattle.plan_model.specs.declared.tree_lines.TreeLine as model
 use Rattle.plan_model.specs.Lines.{tree_line_of}
 use Rattle.cut_pool.specs.Entries.{Entry, Lacks}
 use Rattle.search_spec.specs.States.{State, Grown, lesser, answer}
-use Rattle.search_spec.specs.Steps.{begun}
-use Rattle.search_spec.specs.Choices.{others, has_node, begun_for}
+use Rattle.search_spec.specs.Steps.{begun, searched}
+use Rattle.search_spec.specs.Choices.{others, has_node, begun_for, rule}
+use Rattle.search_spec.specs.Again.{Start, begun_again, rule_again}
 use Rattle.search_spec.proofs.RuleParts.{has_when}
 use Rattle.search_steps.specs.Pools.{entry_cut, IsSumsOf, pool_sets, pool_cuts, state_by}
 use Rattle.search_core.specs.declared.tasks.Task.{Task}
 use Rattle.branch_tree.specs.declared.progress.Progress.{Progress}
-use Rattle.kept_cuts.specs.Kept.{IsOfSet, kept_hubs, kept_cuts}
+use Rattle.kept_cuts.specs.Kept.{kept_set, kept_cuts}
 use Rattle.kept_cuts.specs.Findings.{lines_of}
 use Rattle.kept_cuts.specs.declared.found.Found.{Found}
-use Rattle.branch_tree.specs.Findings.{IsFound}
+use Rattle.branch_tree.specs.Findings.{found_by, found_again, IsFound}
 use Rattle.search_steps.specs.Advising.{parts_of}
 use Rattle.branch_tree.specs.Progressing.{state_of, IsGoing}
 use Rattle.branch_tree.specs.Separating.{HasCut}
 use Rattle.search_steps.specs.Starts.{least_wanted, first_set}
 use Rattle.search_steps.proofs.RuleChoices.{parts_sound}
 use Rattle.branch_tree.proofs.FoundCertificates.{IsSearchable, start_is, few_lines_of}
-use Rattle.branch_tree.proofs.KeptPools.{AreColumnsOf, kept_pool_sets, kept_pool_of_sets, kept_pool_cuts, kept_pool}
+use Rattle.branch_tree.proofs.KeptPools.{AreColumnsOf, kept_pool_sets, kept_pool_cuts, kept_pool}
 use Rattle.branch_tree.proofs.LeafSteps.{parts_ascending}
 use Rattle.branch_tree.proofs.AddedCuts.{more_sets, more_cuts, more_pool, more_long, HasSameTree, cut_going}
 
@@ -63,7 +64,7 @@ pub first_state : (p : Problem) (more : List Entry) (hubs set order : List ℕ) 
     → hubs ≡ p.candidates → set ≡ p.candidates → order ≡ [] → state_by p more hubs price 1 None ≡ begun p (parts_of p)
 unfolding begun
 first_state p more hubs set order price cut same all none =
-    let sets = more_sets p [] more set order price cut ∙ ap (λ (x : List ℕ). x ∷ []) all in
+    let sets = more_sets p [] more set order price cut ∙ ap (λ (x : List ℕ). Some x ∷ []) all in
     let ascending : order ≡ (parts_of p).ascending p.candidates = none ∙ sym (parts_ascending p p.candidates ∙ none_outside p) in
     let cuts = more_cuts p [] more set order price cut ∙ ap₂ (λ (x y : List ℕ). (parts_of p).cut x y ∷ []) all ascending in
     let costs = cut.cost ∙ ap (parts_of p).cost all in
@@ -108,7 +109,7 @@ least_is p set told = by p.wanted refl told
 
 -- the state that a search begins with, where there is one
 start_least : (p : Problem) (set : List ℕ) (least : IsLeast p set) → begun_for p (parts_of p) p.wanted ≡ record (begun p (parts_of p)) {
-  sets = p.candidates ∷ take least.n p.candidates ∷ [];
+  sets = Some p.candidates ∷ Some (take least.n p.candidates) ∷ [];
   cuts = (parts_of p).cut p.candidates ((parts_of p).ascending p.candidates)
       ∷ (parts_of p).cut (take least.n p.candidates) ((parts_of p).ascending (take least.n p.candidates)) ∷ [];
   hubs = take least.n p.candidates;
@@ -147,8 +148,9 @@ second_state p kept more set order hubs old price cost made stop start cut told 
     let parts = parts_of p in
     let least = least_is p set told in
     let first = take least.n p.candidates in
-    let sets : pool_sets more ≡ p.candidates ∷ first ∷ [] =
-    more_sets p kept more set order price cut ∙ ap (λ (s : State). s.sets ++ set ∷ []) start ∙ ap (λ (x : List ℕ). p.candidates ∷ x ∷ []) least.is in
+    let sets : pool_sets more ≡ Some p.candidates ∷ Some first ∷ [] =
+    more_sets p kept more set order price cut ∙ ap (λ (s : State). s.sets ++ Some set ∷ []) start
+    ∙ ap (λ (x : List ℕ). Some p.candidates ∷ Some x ∷ []) least.is in
     let ascending : order ≡ parts.ascending first = outside ∙ sym (parts_ascending p set) ∙ ap parts.ascending least.is in
     let cuts : pool_cuts p more ≡ parts.cut p.candidates (parts.ascending p.candidates) ∷ parts.cut first (parts.ascending first) ∷ [] =
     more_cuts p kept more set order price cut ∙ ap (λ (s : State). s.cuts ++ parts.cut set order ∷ []) start
@@ -158,18 +160,19 @@ second_state p kept more set order hubs old price cost made stop start cut told 
     let one = ap (λ (s : State). s.made) start in
     let going = ap (λ (s : State). s.stop) start in
     let now : state_by p more hubs price made stop ≡ record (begun p parts) {
-      sets = p.candidates ∷ first ∷ [];
+      sets = Some p.candidates ∷ Some first ∷ [];
       cuts = parts.cut p.candidates (parts.ascending p.candidates) ∷ parts.cut first (parts.ascending first) ∷ [];
       hubs = first;
       cost = parts.cost first;
     } = λ i. record { sets = sets i; cuts = cuts i; hubs = best i; cost = costs i; made = one i; stop = going i } in
     now ∙ sym (start_least p set least)
 
-lacks_by : (entries : List Entry) (set : List ℕ) → All (λ (s : List ℕ). s ≢ set) (pool_sets entries) → Lacks entries set
-lacks_by [] set apart = All-nil (λ (e : Entry). e.hubs ≢ set)
+lacks_by : (entries : List Entry) (set : List ℕ) → All (λ (s : Option (List ℕ)). s ≢ Some set) (pool_sets entries) → Lacks entries set
+lacks_by [] set apart = All-nil (λ (e : Entry). kept_set e.cut ≢ Some set)
 lacks_by (e ∷ es) set apart =
-    All-cons (λ (e : Entry). e.hubs ≢ set) e es (All-head (λ (s : List ℕ). s ≢ set) e.hubs (pool_sets es) apart)
-    (lacks_by es set (All-tail (λ (s : List ℕ). s ≢ set) e.hubs (pool_sets es) apart))
+    All-cons (λ (e : Entry). kept_set e.cut ≢ Some set) e es
+    (All-head (λ (s : Option (List ℕ)). s ≢ Some set) (kept_set e.cut) (pool_sets es) apart)
+    (lacks_by es set (All-tail (λ (s : Option (List ℕ)). s ≢ Some set) (kept_set e.cut) (pool_sets es) apart))
 
 -- it has no cut yet
 pub first_is_new : (p : Problem) (entries : List Entry) (set old : List ℕ) (cost made : ℕ) (stop : Option ℕ) → IsProblem p → Some set ≡ first_set p
@@ -179,10 +182,11 @@ first_is_new p entries set old cost made stop ok told start =
     let least = least_is p set told in
     let limit = subst (λ (o : Option ℕ). IfSome o (λ n. (1 ≤ n) × (n ≤ length p.candidates))) least.wanted ok.wanted_limit in
     let many = length-take-le least.n p.candidates limit.1 in
-    lacks_by entries set (subst (All (λ (s : List ℕ). s ≢ set)) (sym (ap (λ (s : State). s.sets) start))
-    (All-cons (λ (s : List ℕ). s ≢ set) p.candidates []
-    (λ same. eqb-false least.n (length p.candidates) least.part (sym many ∙ sym (ap length (same ∙ least.is))))
-    (All-nil (λ (s : List ℕ). s ≢ set))))
+    lacks_by entries set (subst (All (λ (s : Option (List ℕ)). s ≢ Some set)) (sym (ap (λ (s : State). s.sets) start))
+    (All-cons (λ (s : Option (List ℕ)). s ≢ Some set) (Some p.candidates) []
+    (λ same. eqb-false least.n (length p.candidates) least.part
+    (sym many ∙ sym (ap length (same_Some p.candidates set same ∙ least.is))))
+    (All-nil (λ (s : Option (List ℕ)). s ≢ Some set))))
 
 pub second_going : (t : Task) (before after : Progress) (set order : List ℕ) → IsGoing t before → state_of t.instance.now before ≡ begun t.instance.now (parts_of t.instance.now)
     → HasCut t.instance.now before.pool.entries after.pool.entries set order after.cost → HasSameTree before after → IsHubSet t.instance.now set
@@ -190,9 +194,20 @@ pub second_going : (t : Task) (before after : Progress) (set order : List ℕ) �
 unfolding begun
 second_going t before after set order going start cut same is_set best =
     let p = t.instance.now in
-    let one : length before.pool.entries ≡ 1 = sym (length-map before.pool.entries (λ (e : Entry). e.hubs)) ∙ ap (λ (s : State). length s.sets) start in
+    let one : length before.pool.entries ≡ 1 = sym (length-map before.pool.entries (λ (e : Entry). kept_set e.cut)) ∙ ap (λ (s : State). length s.sets) start in
     cut_going t before after set order after.cost going (omega (arith, one)) cut same (subst (IsHubSet p) (sym best) is_set)
     (omega (arith, cut.cost, cost_limit p set going.problem is_set))
+
+-- what the search finds from the state with which the rule begins, and from that with which it begins again
+pub found_from : (p : Problem) (n : Option ℕ) (s : State) → s ≡ begun_for p (parts_of p) p.wanted
+    → searched p (parts_of p) n s ≡ found_by p n
+unfolding rule
+found_from p n s begun = ap (searched p (parts_of p) n) begun
+
+pub again_from : (p : Problem) (n : Option ℕ) (start : Start) (s : State) → s ≡ begun_again p (parts_of p) start
+    → searched p (parts_of p) n s ≡ found_again p n start
+unfolding rule_again
+again_from p n start s begun = ap (searched p (parts_of p) n) begun
 
 -- ---- the end
 
@@ -216,8 +231,7 @@ end_found t s routes found g going end state lines =
       hubs = ap (λ (x : Plan). x.hubs) end.plan ∙ ap (λ (x : State). x.hubs) state;
       routes = subst (λ (x : Plan). AllZip (IsLeastRoute p x.hubs) (commodities p.size) x.routes) (sym end.plan) end.least;
       kept = kept_pool p s.pool.entries found.cuts going.pool end.cuts;
-      of_sets = subst (All IsOfSet) (sym end.cuts.cuts) (kept_pool_of_sets s.pool.entries);
-      sets = ap (map kept_hubs) end.cuts.cuts ∙ kept_pool_sets s.pool.entries ∙ ap (λ (x : State). x.sets) state;
+      sets = ap (map kept_set) end.cuts.cuts ∙ kept_pool_sets s.pool.entries ∙ ap (λ (x : State). x.sets) state;
       cuts = ap (kept_cuts p) end.cuts.cuts ∙ kept_pool_cuts p s.pool.entries ∙ cuts;
       lines = ap (λ (v : Vec model.TreeLine Global). lines_of v.items) end.tree ∙ lines;
       few_cuts = omega (arith, going.few_cuts, length-map s.pool.entries (entry_cut p), ap (λ (cs : List Cut). length cs) cuts);

@@ -8,8 +8,9 @@ use Rattle.hub_spec.specs.Ranges.{IsFirstLine}
 use Rattle.hub_spec.specs.Trees.{preorder, line_count}
 use Rattle.search_spec.specs.States.{Grown, answer}
 use Rattle.search_spec.specs.Choices.{rule}
+use Rattle.search_spec.specs.Again.{Start, IsStartOf, rule_again}
 use Rattle.search_steps.specs.Advising.{master_advising}
-use Rattle.kept_cuts.specs.Kept.{IsOfSet, kept_hubs, kept_cuts, AreKeptFor}
+use Rattle.kept_cuts.specs.Kept.{kept_set, kept_cuts, AreKeptFor}
 use Rattle.kept_cuts.specs.Findings.{lines_of, IsUnlimited, IsProved}
 use Rattle.kept_cuts.specs.declared.found.Found.{Found}
 
@@ -17,15 +18,19 @@ use Rattle.kept_cuts.specs.declared.found.Found.{Found}
 abbrev pub found_by : Problem → Option ℕ → Grown
 found_by p n = rule p (master_advising p) n
 
--- the code's finding is this one: what is kept of its cuts are the hub sets that were separated, with orders and sums
+-- what it finds that begins again, from this start
+abbrev pub found_again : Problem → Option ℕ → Start → Grown
+found_again p n start = rule_again p (master_advising p) n start
+
+-- the code's finding is this one: what is kept of its cuts are the hub sets that were separated, with their orders, and the cuts
+-- that were given
 pub record IsFound (p : Problem) (g : Grown) (found : Found) : Type 0 where
   pub cost : found.cost ≡ g.state.cost
   pub bound : found.bound ≡ answer g.state
   pub hubs : found.plan.hubs ≡ g.state.hubs
   pub routes : AllZip (IsLeastRoute p found.plan.hubs) (commodities p.size) found.plan.routes
   pub kept : AreKeptFor p found.cuts
-  pub of_sets : All IsOfSet found.cuts.cuts
-  pub sets : map kept_hubs found.cuts.cuts ≡ g.state.sets
+  pub sets : map kept_set found.cuts.cuts ≡ g.state.sets
   pub cuts : kept_cuts p found.cuts.cuts ≡ g.state.cuts
   pub lines : lines_of found.tree.items ≡ preorder g.tree
   pub few_cuts : length g.state.cuts ≤ most_cuts
@@ -36,6 +41,11 @@ abbrev pub SearchIsProved : Type 0
 SearchIsProved = (p : Problem) (n : Option ℕ) (found : Found) → IsProblem p → IsHubSet p p.candidates → IsFound p (found_by p n) found
     → IsProved p found
 
--- its tree has only lines that the first version spells, where the problem is unlimited
+-- and so is what it finds that begins again
+abbrev pub AgainIsProved : Type 0
+AgainIsProved = (p : Problem) (n : Option ℕ) (start : Start) (found : Found) → IsProblem p → IsHubSet p p.candidates → IsStartOf p start
+    → IsFound p (found_again p n start) found → IsProved p found
+
+-- the tree of what the rule finds has only lines that the first version spells, where the problem is unlimited
 abbrev pub UnlimitedIsFirst : Type 0
 UnlimitedIsFirst = (p : Problem) (n : Option ℕ) → IsProblem p → IsUnlimited p → All IsFirstLine (preorder (found_by p n).tree)

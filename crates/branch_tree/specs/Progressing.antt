@@ -6,7 +6,7 @@ use Rattle.hub_spec.specs.Plans.{IsHubSet}
 use Rattle.hub_spec.specs.Trees.{TreeLine, preorder}
 use Rattle.search_spec.specs.States.{State, Grown, Handling}
 use Rattle.search_spec.specs.Steps.{node}
-use Rattle.search_steps.specs.Pools.{IsPoolOf, state_by}
+use Rattle.search_steps.specs.Pools.{IsPoolOf, HasGrown, state_by}
 use Rattle.search_core.specs.declared.tasks.Task.{Task}
 use Rattle.branch_tree.specs.declared.progress.Progress.{Progress}
 use Rattle.kept_cuts.specs.Findings.{lines_of}
@@ -45,11 +45,11 @@ pub record IsAt (t : Task) (before after : Progress) (s : State) : Type 0 where
   pub state : state_of t.instance.now after ≡ s
   pub lines : lines_of after.lines.items ≡ lines_of before.lines.items
   pub going : IsGoing t after
-  pub kept : length before.pool.entries ≤ length after.pool.entries
+  pub kept : HasGrown before.pool.entries after.pool.entries
 
 -- the search goes on from this state, with all its cuts and the lines of this tree
 pub record IsDone (t : Task) (before after : Progress) (g : Grown) : Type 0 where
   pub state : state_of t.instance.now after ≡ g.state
   pub lines : lines_of after.lines.items ≡ lines_of before.lines.items ++ preorder g.tree
   pub going : IsGoing t after
-  pub kept : length before.pool.entries ≤ length after.pool.entries
+  pub kept : HasGrown before.pool.entries after.pool.entries

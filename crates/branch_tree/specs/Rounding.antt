@@ -1,9 +1,10 @@
 -- What the code of a round leaves, in the words of its definition.
-use Rattle.std.specs.Prelude.{◌≡◌, ◌≤◌, length}
+use Rattle.std.specs.Prelude.{◌≡◌}
 use Rattle.hub_spec.specs.Problem.{Problem}
 use Rattle.search_spec.specs.Steps as steps
 use Rattle.frac_master.specs.Advice.{advice_of_code}
 use Rattle.search_steps.specs.Advising.{told_by}
+use Rattle.search_steps.specs.Pools.{HasGrown}
 use Rattle.search_steps.specs.Weights.{AreNodeWeights, pairs_of}
 use Rattle.search_core.specs.declared.tasks.Task.{Task}
 use Rattle.branch_tree.specs.declared.progress.Progress.{Progress}
@@ -25,5 +26,5 @@ pub record IsRound (t : Task) (before after : Progress) (r : RoundEnd) (left : s
   pub is : round_as t.instance.now after r ≡ left
   pub lines : lines_of after.lines.items ≡ lines_of before.lines.items
   pub going : IsGoing t after
-  pub kept : length before.pool.entries ≤ length after.pool.entries
-  pub weights : AreNodeWeights (length after.pool.entries) r.weights.items
+  pub kept : HasGrown before.pool.entries after.pool.entries
+  pub weights : AreNodeWeights after.pool.entries r.weights.items

@@ -46,7 +46,7 @@ impl<R: Rule> Walk<'_, R> {
         requires going { IsGoing self.old.task.now self.old.progress }
         requires branch { IsBranch self.old.task.now.instance.now branch.now }
         requires room { HasRoom self.old.task.now.instance.now.wanted branch.now }
-        requires weights { AreNodeWeights (length self.old.progress.pool.entries) weights.now }
+        requires weights { AreNodeWeights self.old.progress.pool.entries weights.now }
         ensures same { self.new.task.now ≡ self.old.task.now }
         ensures serves { R.serves self.new.rule.now self.new.task.now.instance.now }
         ensures stopped { let p = self.old.task.now.instance.now in

@@ -40,7 +40,7 @@ impl<R: Rule> Walk<'_, R> {
         requires going { IsGoing self.old.task.now self.old.progress }
         requires branch { IsBranch self.old.task.now.instance.now branch.now }
         requires goes_on { GoesOn (parts_of self.old.task.now.instance.now) branch.now }
-        requires weights { AreNodeWeights (length self.old.progress.pool.entries) weights.now }
+        requires weights { AreNodeWeights self.old.progress.pool.entries weights.now }
         ensures ready { S.ready separator.new }
         ensures same { self.new.task.now ≡ self.old.task.now }
         ensures serves { R.serves self.new.rule.now self.new.task.now.instance.now }
@@ -65,7 +65,7 @@ impl<R: Rule> Walk<'_, R> {
         requires going { IsGoing self.old.task.now self.old.progress }
         requires branch { IsBranch self.old.task.now.instance.now branch.now }
         requires goes_on { GoesOn (parts_of self.old.task.now.instance.now) branch.now }
-        requires weights { AreNodeWeights (length self.old.progress.pool.entries) last.weights.items }
+        requires weights { AreNodeWeights self.old.progress.pool.entries last.weights.items }
         ensures ready { S.ready separator.new }
         ensures same { self.new.task.now ≡ self.old.task.now }
         ensures serves { R.serves self.new.rule.now self.new.task.now.instance.now }
@@ -92,7 +92,7 @@ impl<R: Rule> Walk<'_, R> {
         requires going { IsGoing self.old.task.now self.old.progress }
         requires branch { IsBranch self.old.task.now.instance.now branch.now }
         requires goes_on { GoesOn (parts_of self.old.task.now.instance.now) branch.now }
-        requires weights { AreNodeWeights (length self.old.progress.pool.entries) weights.now }
+        requires weights { AreNodeWeights self.old.progress.pool.entries weights.now }
         ensures ready { S.ready separator.new }
         ensures same { self.new.task.now ≡ self.old.task.now }
         ensures serves { R.serves self.new.rule.now self.new.task.now.instance.now }

@@ -1,27 +1,23 @@
 //! The whole search.
 
-ghost use Rattle.std.specs.Prelude.{◌≡◌, ℕ, ◌≤◌, ◌<◌, ◌+◌, ◌^◌, [], length, Some, IfOk, OnOk};
+ghost use Rattle.std.specs.Prelude.{◌≡◌, ℕ, ◌≤◌, ◌<◌, ◌+◌, ◌^◌, [], length, IfOk};
 ghost use Rattle.hub_spec.specs.Plans.{IsHubSet, plan_cost, NoPlanBelow};
 ghost use Rattle.hub_spec.specs.Trees.{preorder};
-ghost use Rattle.search_spec.specs.States.{Grown, answer};
-ghost use Rattle.search_spec.specs.Steps.{begun};
-ghost use Rattle.search_spec.specs.Choices.{begun_for};
+ghost use Rattle.search_spec.specs.States.{Grown};
+ghost use Rattle.search_spec.specs.Steps.{searched};
 ghost use Rattle.search_spec.specs.Findings.{certificate_of, AreWithin, IsSpent, IsEnough};
-ghost use Rattle.kept_cuts.specs.Findings.{lines_of, proof_of, IsProved};
+ghost use Rattle.kept_cuts.specs.Findings.{lines_of, proof_of, AreOwn, IsProved};
 ghost use Rattle.branch_tree.specs.Progressing.{state_of, IsGoing};
 ghost use Rattle.branch_tree.specs.Findings.{found_by, IsFound};
 ghost use Rattle.search_steps.specs.Advising.{parts_of};
-ghost use Rattle.search_steps.specs.Starts.{first_set};
 
 use crate::progress::Progress;
-use crate::separating::add_cut;
+use crate::starting::begin;
 use crate::walk::Walk;
 use assign_sub::assign;
-use cut_pool::Pool;
 use hub_model::Instance;
-use hub_plain::outside;
 use kept_cuts::Found;
-use plan_model::{Branch, HubSet, Plan};
+use plan_model::{Branch, Plan};
 use search_core::{Task, lesser};
 use search_steps::Rule;
 use separators::Separator;
@@ -51,6 +47,7 @@ pub fn search<R: Rule, S: Separator>(
     ensures certificate { let g = found_by instance.now nodes in
         IfOk result (λ found. (v : ℕ) → proof_of v instance.now found g.tree ≡ certificate_of instance.now v g) }
     ensures proved { IfOk result (IsProved instance.now) }
+    ensures own { IfOk result AreOwn }
     ensures paid { IfOk result (λ found. found.cost ≡ plan_cost instance.now found.plan) }
     ensures below { IfOk result (λ found. NoPlanBelow instance.now found.bound) }
     ensures within { IfOk result (λ found. found.bound ≤ found.cost) }
@@ -61,104 +58,35 @@ pub fn search<R: Rule, S: Separator>(
 {
     let task = Task { instance, nodes };
     let progress = begin(alloc, rule, &task, separator)?;
-    let mut walk = Walk {
-        alloc,
-        task: &task,
-        rule,
-        progress,
-    };
-    let root = Branch::root(alloc, instance)?;
-    let depth = root.free().len() as u32 + 1;
-    walk.node(depth, separator, &root, &[])?;
-    finish(alloc, &task, walk.progress)
+    search_on(alloc, rule, &task, separator, progress)
 }
 
-// The cut of the set of all candidates, and that of the rule's first set, if it has one, which is then the first
-// incumbent.
-fn begin<R: Rule, S: Separator>(
+/// What the search finds that goes on from here, with the root still to be handled.
+pub(crate) fn search_on<R: Rule, S: Separator>(
     alloc: Global,
     rule: &R,
     task: &Task,
     separator: &mut S,
-) -> Result<Progress, AllocError>
+    progress: Progress,
+) -> Result<Found, AllocError>
     requires serves { R.serves rule.now task.now.instance.now }
-    requires lacks_none { IsHubSet task.now.instance.now task.now.instance.now.candidates }
     requires ready { S.ready separator.old }
+    requires going { IsGoing task.now progress }
+    requires no_line { lines_of progress.lines.items ≡ [] }
     ensures ready { S.ready separator.new }
-    ensures begun { let p = task.now.instance.now in
-        IfOk result (λ s. state_of p s ≡ begun_for p (parts_of p) p.wanted) }
-    ensures no_line { IfOk result (λ s. lines_of s.lines.items ≡ []) }
-    ensures going { IfOk result (IsGoing task.now) }
+    ensures found { let p = task.now.instance.now in
+        IfOk result (IsFound p (searched p (parts_of p) task.now.nodes (state_of p progress))) }
 {
-    let mut progress = begin_with_all(alloc, task, separator)?;
-    if let Some(hubs) = rule.first_set(alloc, task.instance)? {
-        take_first(alloc, task, &mut progress, separator, &hubs)?;
-    }
-    Ok(progress)
-}
-
-// The cut of the set of all candidates, which is the incumbent.
-fn begin_with_all<S: Separator>(
-    alloc: Global,
-    task: &Task,
-    separator: &mut S,
-) -> Result<Progress, AllocError>
-    requires lacks_none { IsHubSet task.now.instance.now task.now.instance.now.candidates }
-    requires ready { S.ready separator.old }
-    ensures ready { S.ready separator.new }
-    ensures begun { let p = task.now.instance.now in IfOk result (λ s. state_of p s ≡ begun p (parts_of p)) }
-    ensures no_line { IfOk result (λ s. lines_of s.lines.items ≡ []) }
-    ensures going { IfOk result (IsGoing task.now) }
-{
-    let candidates = task.instance.candidates();
-    let hubs = HubSet::of(alloc, candidates)?;
-    let set = hubs.copy(alloc)?;
-    let order = Vec::new(alloc);
-    let mut pool = Pool::new(alloc)?;
-    let cost = add_cut(alloc, task.instance, &mut pool, separator, set, order)?;
-    Ok(Progress {
-        pool,
-        lines: Vec::new(alloc),
-        hubs,
-        cost,
-        made: 1,
-        stop: None,
-    })
-}
-
-// Adds the cut of the rule's first set, which becomes the incumbent whatever it costs, since that of all candidates is
-// not wanted.
-fn take_first<S: Separator>(
-    alloc: Global,
-    task: &Task,
-    progress: &mut Progress,
-    separator: &mut S,
-    hubs: &[u32],
-) -> Result<(), AllocError>
-    requires lacks_none { IsHubSet task.now.instance.now task.now.instance.now.candidates }
-    requires ready { S.ready separator.old }
-    requires begun { let p = task.now.instance.now in state_of p progress.old ≡ begun p (parts_of p) }
-    requires going { IsGoing task.now progress.old }
-    requires first { Some hubs.now ≡ first_set task.now.instance.now }
-    ensures ready { S.ready separator.new }
-    ensures begun { let p = task.now.instance.now in
-        OnOk result (state_of p progress.new ≡ begun_for p (parts_of p) p.wanted) }
-    ensures lines { progress.new.lines ≡ progress.old.lines }
-    ensures going { OnOk result (IsGoing task.now progress.new) }
-{
-    let hubs = HubSet::of(alloc, hubs)?;
-    let set = hubs.copy(alloc)?;
-    let order = outside(alloc, task.instance, &set)?;
-    progress.cost = add_cut(
+    let mut walk = Walk {
         alloc,
-        task.instance,
-        &mut progress.pool,
-        separator,
-        set,
-        order,
-    )?;
-    progress.hubs = hubs;
-    Ok(())
+        task,
+        rule,
+        progress,
+    };
+    let root = Branch::root(alloc, task.instance)?;
+    let depth = root.free().len() as u32 + 1;
+    walk.node(depth, separator, &root, &[])?;
+    finish(alloc, task, walk.progress)
 }
 
 // The incumbent with its least routes, and what no plan costs less than.

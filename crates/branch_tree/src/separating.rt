@@ -16,6 +16,7 @@ use crate::walk::Walk;
 use cut_pool::Pool;
 use hub_model::{Instance, MOST_CUTS, unsigned};
 use plan_model::HubSet;
+use search_core::Task;
 use search_steps::Rule;
 use separators::Separator;
 use std::alloc::{AllocError, Global};
@@ -51,9 +52,50 @@ pub(crate) fn add_cut<S: Separator>(
     let opening = instance.opening_cost(set.members());
     let sums = separator.separate(alloc, instance, set, &order)?;
     let cost = unsigned(sums.total()) + opening;
-    // It succeeds, since there is room.
-    let _ = pool.add(sums, order);
+    if pool.add(sums, order).is_err() {
+        return Err(AllocError);
+    }
     Ok(cost)
+}
+
+/// Separates the set over this order of the other candidates. It becomes the incumbent if it costs less.
+///
+/// The answer is `AllocError` also where there are as many cuts as a certificate can have.
+pub(crate) fn separate<S: Separator>(
+    alloc: Global,
+    task: &Task,
+    progress: &mut Progress,
+    separator: &mut S,
+    set: HubSet,
+    order: Vec<u32>,
+) -> Result<(), AllocError>
+    requires ready { S.ready separator.old }
+    requires going { IsGoing task.now progress.old }
+    requires set { IsHubSet task.now.instance.now set }
+    requires order { IsOrder task.now.instance.now set order.items }
+    requires first_time { Lacks progress.old.pool.entries set }
+    ensures ready { S.ready separator.new }
+    ensures at { let p = task.now.instance.now in
+        OnOk result (IsAt task.now progress.old progress.new
+        (separated (parts_of p) set order.items (state_of p progress.old))) }
+{
+    if progress.pool.len() >= MOST_CUTS as u64 {
+        return Err(AllocError);
+    }
+    let hubs = set.copy(alloc)?;
+    let cost = add_cut(
+        alloc,
+        task.instance,
+        &mut progress.pool,
+        separator,
+        set,
+        order,
+    )?;
+    if cost < progress.cost {
+        progress.hubs = hubs;
+        progress.cost = cost;
+    }
+    Ok(())
 }
 
 impl<R: Rule> Walk<'_, R> {
@@ -79,24 +121,13 @@ impl<R: Rule> Walk<'_, R> {
             OnOk result (IsAt self.old.task.now self.old.progress self.new.progress
             (separated (parts_of p) set order.items (state_of p self.old.progress))) }
     {
-        let progress = &mut self.progress;
-        if progress.pool.len() >= MOST_CUTS as u64 {
-            return Err(AllocError);
-        }
-        let hubs = set.copy(self.alloc)?;
-        let instance = self.task.instance;
-        let cost = add_cut(
+        separate(
             self.alloc,
-            instance,
-            &mut progress.pool,
+            self.task,
+            &mut self.progress,
             separator,
             set,
             order,
-        )?;
-        if cost < progress.cost {
-            progress.hubs = hubs;
-            progress.cost = cost;
-        }
-        Ok(())
+        )
     }
 }

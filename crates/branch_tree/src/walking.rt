@@ -33,7 +33,7 @@ impl<R: Rule> Walk<'_, R> {
         requires serves { R.serves self.old.rule.now self.old.task.now.instance.now }
         requires going { IsGoing self.old.task.now self.old.progress }
         requires branch { IsBranch self.old.task.now.instance.now branch.now }
-        requires weights { AreNodeWeights (length self.old.progress.pool.entries) weights.now }
+        requires weights { AreNodeWeights self.old.progress.pool.entries weights.now }
         requires deep { length branch.now.free < depth }
         ensures ready { S.ready separator.new }
         ensures same { self.new.task.now ≡ self.old.task.now }
@@ -78,7 +78,7 @@ impl<R: Rule> Walk<'_, R> {
         requires going { IsGoing self.old.task.now self.old.progress }
         requires branch { IsBranch self.old.task.now.instance.now branch.now }
         requires room { HasRoom self.old.task.now.instance.now.wanted branch.now }
-        requires weights { AreNodeWeights (length self.old.progress.pool.entries) round.now.weights.items }
+        requires weights { AreNodeWeights self.old.progress.pool.entries round.now.weights.items }
         requires free { AreOnFree branch.now (sides_as fixings.now) }
         requires deep { length branch.now.free ≤ depth }
         ensures ready { S.ready separator.new }
@@ -129,7 +129,7 @@ impl<R: Rule> Walk<'_, R> {
         requires going { IsGoing self.old.task.now self.old.progress }
         requires branch { IsBranch self.old.task.now.instance.now branch.now }
         requires some_free { 1 ≤ length branch.now.free }
-        requires weights { AreNodeWeights (length self.old.progress.pool.entries) round.now.weights.items }
+        requires weights { AreNodeWeights self.old.progress.pool.entries round.now.weights.items }
         requires deep { length branch.now.free ≤ depth }
         ensures ready { S.ready separator.new }
         ensures same { self.new.task.now ≡ self.old.task.now }

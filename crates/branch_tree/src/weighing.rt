@@ -26,12 +26,12 @@ impl<R: Rule> Walk<'_, R> {
         requires going { IsGoing self.now.task.now self.now.progress }
         requires branch { IsBranch self.now.task.now.instance.now branch.now }
         requires room { HasRoom self.now.task.now.instance.now.wanted branch.now }
-        requires present { AreNodeWeights (length self.now.progress.pool.entries) present.now }
-        requires advised { AreNodeWeights (length self.now.progress.pool.entries) advised.now }
+        requires present { AreNodeWeights self.now.progress.pool.entries present.now }
+        requires advised { AreNodeWeights self.now.progress.pool.entries advised.now }
         ensures better { let p = self.now.task.now.instance.now in
             IfOk result (λ w. pairs_of w.items
             ≡ better p (state_of p self.now.progress) branch.now (pairs_of present.now) (pairs_of advised.now)) }
-        ensures weights { IfOk result (λ w. AreNodeWeights (length self.now.progress.pool.entries) w.items) }
+        ensures weights { IfOk result (λ w. AreNodeWeights self.now.progress.pool.entries w.items) }
     {
         let weighed = NodeWeights {
             instance: self.task.instance,
@@ -51,7 +51,7 @@ impl<R: Rule> Walk<'_, R> {
         requires going { IsGoing self.now.task.now self.now.progress }
         requires branch { IsBranch self.now.task.now.instance.now branch.now }
         requires room { HasRoom self.now.task.now.instance.now.wanted branch.now }
-        requires weights { AreNodeWeights (length self.now.progress.pool.entries) weights.now }
+        requires weights { AreNodeWeights self.now.progress.pool.entries weights.now }
         ensures { let p = self.now.task.now.instance.now in
             result ≡ closes_at p (state_of p self.now.progress) branch.now (pairs_of weights.now) }
     {
@@ -74,7 +74,7 @@ impl<R: Rule> Walk<'_, R> {
         requires going { IsGoing self.now.task.now self.now.progress }
         requires branch { IsBranch self.now.task.now.instance.now branch.now }
         requires goes_on { GoesOn (parts_of self.now.task.now.instance.now) branch.now }
-        requires weights { AreNodeWeights (length self.now.progress.pool.entries) weights.now }
+        requires weights { AreNodeWeights self.now.progress.pool.entries weights.now }
         requires not_closed { let p = self.now.task.now.instance.now in
             closes_at p (state_of p self.now.progress) branch.now (pairs_of weights.now) ≡ false }
         ensures { let p = self.now.task.now.instance.now in IfOk result (λ sides. sides_as sides.items

@@ -1,5 +1,5 @@
 -- The choice of a kept cut for a leaf, and the leaves that come of it.
-use Rattle.std.proofs.Common.{◌≡◌, ℕ, ◌^◌, ◌<◌, ◌≤◌, ℤ, pos, ◌≤ℤ◌, List, [], length, Option, None, Some, IfSome, ◌⊎◌, inl, inr, refl, sym, subst, arith}
+use Rattle.std.proofs.Common.{◌≡◌, ℕ, ◌^◌, ◌<◌, ◌≤◌, ℤ, pos, ◌≤ℤ◌, List, [], length, All, Option, None, Some, IfSome, ◌⊎◌, inl, inr, refl, sym, subst, arith}
 use Rattle.std.proofs.lemmas.Int.{ints}
 use Rattle.std.proofs.lemmas.List.{length-map}
 use Rattle.std.proofs.lemmas.List.Elements.{All-nil, All-cons}
@@ -14,7 +14,7 @@ use Rattle.search_spec.specs.States.{denominator, whole_on, lesser, rounded_up}
 use Rattle.search_spec.proofs.Bounds.{rounded_closes}
 use Rattle.search_spec.proofs.Keeping.{closes_less}
 use Rattle.tree_walks.specs.Walks.{IsSoundLine}
-use Rattle.kept_cuts.specs.Kept.{Kept, kept_cut, kept_cuts}
+use Rattle.kept_cuts.specs.Kept.{Kept, kept_cut, kept_cuts, IsOwn}
 use Rattle.kept_cuts.specs.Findings.{IsUnlimited}
 use Rattle.closing_search.specs.declared.leaves.Choice.{Choice}
 use Rattle.closing_search.specs.SingleCuts.{cut_bound, weights_on, IsChoice}
@@ -96,11 +96,11 @@ weights_in_range cuts (Some c) few is = record {
 }
 
 pub leaf_sound : (p : Problem) (kept : List Kept) (target : ℕ) (b : Branching) (number : Option ℕ) (line : TreeLine)
-    → IsUnlimited p → IsNumber (kept_cuts p kept) number → line ≡ leaf_of denominator (weights_on number)
+    → IsUnlimited p → All IsOwn kept → IsNumber (kept_cuts p kept) number → line ≡ leaf_of denominator (weights_on number)
     → Closes denominator target (leaf_bound p (kept_cuts p kept) denominator (weights_on number) b)
     → IsSoundLine p (kept_cuts p kept) target b line
-leaf_sound p kept target b number line any is same closes =
-    rw same (any_room p b any, mix_on (kept_cuts p kept) number (kept_are_whole p kept) is, closes)
+leaf_sound p kept target b number line any own is same closes =
+    rw same (any_room p b any, mix_on (kept_cuts p kept) number (kept_are_whole p kept own) is, closes)
 
 pub leaf_in_range : (n : ℕ) (cuts : List Cut) (number : Option ℕ) (line : TreeLine) → length cuts ≤ most_cuts → IsNumber cuts number
     → line ≡ leaf_of denominator (weights_on number) → IsLineInRange n line

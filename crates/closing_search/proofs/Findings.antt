@@ -22,9 +22,9 @@ use Rattle.search_spec.specs.Findings.{AreWithin, IsSpent, IsEnough}
 use Rattle.search_spec.proofs.Invariants.{lesser_least}
 use Rattle.tree_walks.specs.Walks.{Walks}
 use Rattle.tree_walks.proofs.Walking.{is_tree}
-use Rattle.kept_cuts.specs.Kept.{Kept, kept_cut, kept_cuts, IsKeptFor}
+use Rattle.kept_cuts.specs.Kept.{Kept, kept_cut, kept_cuts, IsOwn, IsKeptFor}
 use Rattle.kept_cuts.specs.declared.found.Found.{Found}
-use Rattle.kept_cuts.specs.Findings.{lines_of, proof_of, IsUnlimited, IsVersionFor, IsProved}
+use Rattle.kept_cuts.specs.Findings.{lines_of, proof_of, IsUnlimited, AreOwn, IsVersionFor, IsProved}
 use Rattle.kept_cuts.proofs.KeptCutLaws.{kept_is_cut, kept_in_range}
 use Rattle.kept_cuts.proofs.Versions.{has_text}
 use Rattle.search_core.specs.declared.tasks.Task.{Task}
@@ -72,6 +72,9 @@ module _ (t : Task) (s : Progress) (found : Found) (over : IsOver t s) (is : IsF
   found_kept : All (IsKeptFor t.instance.now) found.cuts.cuts
   found_kept = rw is.cuts over.going.kept.fit
 
+  pub found_own : AreOwn found
+  found_own = rw is.cuts over.going.own
+
   pub found_within : found.bound ≤ found.cost
   found_within = omega (arith, is.bound, is.cost, lesser_least s.cost s.stop)
 
@@ -92,7 +95,7 @@ module _ (t : Task) (s : Progress) (found : Found) (over : IsOver t s) (is : IsF
         tree = h.sound;
       }
 
-  found_in_range : (h : HasTree t.instance.now found) (version : ℕ) → IsVersionFor t.instance.now version
+  found_in_range : (h : HasTree t.instance.now found) (version : ℕ) → IsVersionFor t.instance.now found.cuts.cuts version
       → IsInRange (proof_of version t.instance.now found h.tree)
   found_in_range h version there =
       let p = t.instance.now in
@@ -207,6 +210,7 @@ begun_going t s ok any cuts lines hubs is_cost made stop =
       problem = ok;
       unlimited = any;
       kept = rw cuts (record { fit = All-nil (IsKeptFor p); are_totals = refl; are_loads = refl });
+      own = rw cuts (All-nil IsOwn);
       few_cuts = rw cuts (omega arith);
       few_lines = rw lines (omega arith);
       in_range = rw lines (All-nil (IsLineInRange p.size));

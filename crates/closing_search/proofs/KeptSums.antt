@@ -1,14 +1,14 @@
 -- The sums of kept cuts.
-use Rattle.std.proofs.Common.{◌≡◌, ℕ, ◌+◌, ◌-◌, ◌<◌, ◌≤◌, ℤ, pos, List, [], ◌∷◌, ◌++◌, length, map, get_or, take, drop, slice_range, refl, sym, ap, ap₂, subst, ◌∙◌, arith}
+use Rattle.std.proofs.Common.{◌≡◌, ℕ, ◌+◌, ◌-◌, ◌<◌, ◌≤◌, ℤ, pos, List, [], ◌∷◌, ◌++◌, length, map, get_or, All, take, drop, slice_range, refl, sym, ap, ap₂, subst, ◌∙◌, arith}
 use Rattle.std.proofs.Math.Seq.{drop-cons}
 use Rattle.std.proofs.lemmas.List.{length-map, get_or-map, map_push, take-map, drop-map}
-use Rattle.std.proofs.lemmas.List.Elements.{All-push, All-map, All-get_or}
+use Rattle.std.proofs.lemmas.List.Elements.{All-nil, All-cons, All-head, All-tail, All-push, All-get_or}
 use Rattle.std.proofs.lemmas.List.FromFn.{length-map-range_with_len, get_or-map-range_with_len}
 use Rattle.hub_spec.specs.Problem.{Problem, IsProblem}
 use Rattle.hub_spec.specs.Cuts.{Cut, cut_by, total, load, IsCut}
 use Rattle.hub_spec.specs.Trees.{cut_at}
 use Rattle.hub_spec.proofs.Mixes.{AreWhole}
-use Rattle.kept_cuts.specs.Kept.{Kept, by_values, by_set, kept_cut, kept_cuts, kept_part, IsKeptFor, KeptList, node_loads, AreKeptFor}
+use Rattle.kept_cuts.specs.Kept.{Kept, by_values, by_set, given, kept_cut, kept_cuts, kept_part, IsOwn, IsKeptFor, KeptList, node_loads, AreKeptFor}
 use Rattle.kept_cuts.proofs.KeptCutLaws.{kept_is_cut, kept_part_is}
 use Rattle.kept_cuts.proofs.NodeLoads.{loads_are}
 use Rattle.closing_search.specs.SingleCuts.{AreLoads, AreLentOf}
@@ -21,26 +21,29 @@ one_item xs i d low =
     let one : i + 1 - i ≡ 1 = omega arith in
     ap (λ (n : ℕ). take n (drop i xs)) one ∙ ap (take 1) (drop-cons xs i d low)
 
--- ---- the part of a kept cut
+-- ---- the part of a cut that was not given
 
-part_is_one : (k : Kept) → kept_part k ≡ 1
-part_is_one (by_values rows) = refl
-part_is_one (by_set hubs order) = refl
+part_is_one : (k : Kept) → IsOwn k → kept_part k ≡ 1
+part_is_one (by_values rows) own = refl
+part_is_one (by_set hubs order) own = refl
+part_is_one (given cut) own = absurd own
 
-pub kept_whole : (p : Problem) (k : Kept) → (kept_cut p k).part ≡ 1
-kept_whole p k = kept_part_is p k ∙ part_is_one k
+pub kept_whole : (p : Problem) (k : Kept) → IsOwn k → (kept_cut p k).part ≡ 1
+kept_whole p k own = kept_part_is p k ∙ part_is_one k own
 
-pub kept_are_whole : (p : Problem) (kept : List Kept) → AreWhole (kept_cuts p kept)
-kept_are_whole p kept =
-    All-map (λ (cut : Cut). cut.part ≡ 1) (kept_cut p) kept (λ i d low. kept_whole p (get_or kept i d))
+pub kept_are_whole : (p : Problem) (kept : List Kept) → All IsOwn kept → AreWhole (kept_cuts p kept)
+kept_are_whole p [] own = All-nil (λ (cut : Cut). cut.part ≡ 1)
+kept_are_whole p (k ∷ ks) own =
+    All-cons (λ (cut : Cut). cut.part ≡ 1) (kept_cut p k) (kept_cuts p ks) (kept_whole p k (All-head IsOwn k ks own))
+    (kept_are_whole p ks (All-tail IsOwn k ks own))
 
 -- ---- the numbers of a kept cut
 
-pub kept_at_number : (p : Problem) (k : KeptList) (c : ℕ) → IsProblem p → AreKeptFor p k → 1 ≤ c → c ≤ length k.cuts
+pub kept_at_number : (p : Problem) (k : KeptList) (c : ℕ) → IsProblem p → AreKeptFor p k → All IsOwn k.cuts → 1 ≤ c → c ≤ length k.cuts
     → AreLentOf p (cut_at (kept_cuts p k.cuts) c) (slice_range (map pos k.totals) (c - 1) (c - 1 + 1))
     (slice_range (map (λ xs. map pos xs) k.loads) (c - 1) (c - 1 + 1))
     (slice_range (map kept_part k.cuts) (c - 1) (c - 1 + 1))
-kept_at_number p k c ok are least most =
+kept_at_number p k c ok are own least most =
     let i = c - 1 in
     let here : i < length k.cuts = omega (arith, least, most) in
     let cuts = kept_cuts p k.cuts in
@@ -58,7 +61,7 @@ kept_at_number p k c ok are least most =
       are = record {
         is_cut = subst (IsCut p) (sym (get_or-map (kept_cut p) k.cuts i (by_set [] []) (cut_by []) here))
             (kept_is_cut p (get_or k.cuts i (by_set [] [])) ok (All-get_or (IsKeptFor p) k.cuts i (by_set [] []) here are.fit));
-        whole = All-get_or (λ (x : Cut). x.part ≡ 1) cuts i (cut_by []) long (kept_are_whole p k.cuts);
+        whole = All-get_or (λ (x : Cut). x.part ≡ 1) cuts i (cut_by []) long (kept_are_whole p k.cuts own);
         is_total = sum_is;
         long = ap length row_is ∙ length-map-range_with_len (load cut) 0 p.size;
         are_loads = λ n node. ap (λ (xs : List ℕ). get_or xs n 0) row_is ∙ get_or-map-range_with_len (load cut) 0 p.size n n 0 node (omega arith);
@@ -69,7 +72,7 @@ kept_at_number p k c ok are least most =
           ∙ ap (λ (zs : List ℤ). zs ∷ []) (get_or-map (λ xs. map pos xs) k.loads i [] [] rows_long);
       parts_are = one_item (map kept_part k.cuts) i 0 (omega (arith, length-map k.cuts kept_part, here))
           ∙ ap (λ (e : ℕ). e ∷ [])
-          (get_or-map kept_part k.cuts i (by_set [] []) 0 here ∙ part_is_one (get_or k.cuts i (by_set [] [])));
+          (get_or-map kept_part k.cuts i (by_set [] []) 0 here ∙ part_is_one (get_or k.cuts i (by_set [] [])) (All-get_or IsOwn k.cuts i (by_set [] []) here own));
     }
 
 -- ---- one cut more

@@ -57,7 +57,7 @@ set_closes p b hubs order cost target ok any set is_order same none is_cost less
     } in
     subst (λ (ks : List ℕ). ClosesBy p cut target (record b { free = ks })) (sym none)
     (subst (λ (ks : List ℕ). ClosesBy p cut target (record { inside = ks; outside = b.outside; free = [] })) same
-    (reached_closes p cut hubs b.outside target any (kept_whole p (by_set hubs order)) lower))
+    (reached_closes p cut hubs b.outside target any (kept_whole p (by_set hubs order) tt) lower))
 
 -- the set costs the total of its cut, and what its hubs cost
 cost_by_sums : (p : Problem) (hubs order : List ℕ) (sum : ℕ) → IsProblem p → IsHubSet p hubs → IsOrder p hubs order
@@ -95,7 +95,7 @@ pub set_loads : (p q : Problem) (hubs order loads : List ℕ) (sum : ℕ) → q 
     → ((k : ℕ) → k < q.size → slice_index loads k ≡ load (set_cut q hubs order) k) → AreLoads p (set_cut p hubs order) sum loads
 set_loads p q hubs order loads sum same ok set is_order is_total long are = record {
   is_cut = (set_cut_serves p hubs order ok set is_order).is_cut;
-  whole = kept_whole p (by_set hubs order);
+  whole = kept_whole p (by_set hubs order) tt;
   is_total = subst (λ (x : Problem). sum ≡ total (set_cut x hubs order)) same is_total;
   long = long ∙ ap (λ (x : Problem). x.size) same;
   are_loads = subst (λ (x : Problem). (k : ℕ) → k < x.size → slice_index loads k ≡ load (set_cut x hubs order) k) same are;
@@ -105,5 +105,5 @@ pub value_loads : (p : Problem) (w : ValueRows) (loads : List ℕ) (sum : ℕ) �
     → sum ≡ total (value_cut p w) → length loads ≡ p.size
     → ((k : ℕ) → k < p.size → slice_index loads k ≡ load (value_cut p w) k) → AreLoads p (value_cut p w) sum loads
 value_loads p w loads sum ok is_total long are =
-    let whole = kept_whole p (by_values w) in
+    let whole = kept_whole p (by_values w) tt in
     record { is_cut = cut_is p w ok; whole = whole; is_total = is_total; long = long; are_loads = are }

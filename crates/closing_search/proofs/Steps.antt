@@ -1,5 +1,5 @@
 -- How the steps of a search follow one another.
-use Rattle.std.proofs.Common.{◌≡◌, ℕ, zero, suc, ◌+◌, ◌-◌, ◌^◌, ◌<◌, ◌≤◌, List, [], ◌∷◌, ◌++◌, length, Bool, true, false, Option, None, Some, IsSome, IsNone, refl, sym, ap, subst, ◌∙◌, append-nil, pow_pos, arith}
+use Rattle.std.proofs.Common.{◌≡◌, ℕ, zero, suc, ◌+◌, ◌-◌, ◌^◌, ◌<◌, ◌≤◌, List, [], ◌∷◌, ◌++◌, length, All, Bool, true, false, Option, None, Some, IsSome, IsNone, refl, sym, ap, subst, ◌∙◌, append-nil, pow_pos, arith}
 use Rattle.std.proofs.lemmas.List.{length_push, map_push}
 use Rattle.std.proofs.lemmas.List.Elements.{All-push}
 use Rattle.hub_spec.specs.Limits.{most_cuts, most_tree_lines}
@@ -17,7 +17,7 @@ use Rattle.search_spec.proofs.Leaves.{double}
 use Rattle.search_spec.proofs.Parting.{length-without}
 use Rattle.tree_walks.specs.Walks.{IsSoundLine, filled, Walks}
 use Rattle.tree_walks.proofs.Walking.{goes_on, stays}
-use Rattle.kept_cuts.specs.Kept.{Kept, kept_cut, IsKeptFor, AreKeptFor}
+use Rattle.kept_cuts.specs.Kept.{Kept, kept_cut, IsOwn, IsKeptFor, AreKeptFor}
 use Rattle.kept_cuts.specs.Findings.{lines_of}
 use Rattle.search_core.specs.declared.tasks.Task.{Task}
 use Rattle.closing_search.specs.declared.progress.Progress.{Progress}
@@ -63,6 +63,7 @@ line_going t before after line count going has few in_range first more less with
   problem = going.problem;
   unlimited = going.unlimited;
   kept = subst (AreKeptFor t.instance.now) (sym has.cuts) going.kept;
+  own = rw has.cuts going.own;
   few_cuts = rw has.cuts going.few_cuts;
   few_lines = few;
   in_range = rw (has.lines, map_push tree_line_of before.lines.items line)
@@ -169,6 +170,7 @@ offer_at t before after going has set is_cost =
         problem = going.problem;
         unlimited = going.unlimited;
         kept = subst (AreKeptFor p) (sym has.cuts) going.kept;
+        own = rw has.cuts going.own;
         few_cuts = rw has.cuts going.few_cuts;
         few_lines = rw has.lines going.few_lines;
         in_range = rw has.lines going.in_range;
@@ -201,15 +203,16 @@ pub record HasCut (before after : Progress) (cut : Kept) (sum : ℕ) (loads : Li
   pub stop : after.stop ≡ before.stop
 
 pub cut_at_step : (t : Task) (before after : Progress) (cut : Kept) (sum : ℕ) (loads : List ℕ) → IsGoing t before → HasCut before after cut sum loads
-    → IsKeptFor t.instance.now cut → AreLoads t.instance.now (kept_cut t.instance.now cut) sum loads → length before.cuts.cuts < most_cuts
+    → IsOwn cut → IsKeptFor t.instance.now cut → AreLoads t.instance.now (kept_cut t.instance.now cut) sum loads → length before.cuts.cuts < most_cuts
     → IsAt t before after
-cut_at_step t before after cut sum loads going has fits sums few =
+cut_at_step t before after cut sum loads going has own fits sums few =
     let p = t.instance.now in
     record {
       going = record {
         problem = going.problem;
         unlimited = going.unlimited;
         kept = kept_more p before.cuts after.cuts cut sum loads going.kept fits sums has.cuts;
+        own = rw has.cuts (All-push IsOwn before.cuts.cuts cut going.own own);
         few_cuts = rw has.cuts (omega (arith, length_push before.cuts.cuts cut, few));
         few_lines = rw has.lines going.few_lines;
         in_range = rw has.lines going.in_range;
@@ -238,6 +241,7 @@ stop_going t before low going spent = record {
   problem = going.problem;
   unlimited = going.unlimited;
   kept = going.kept;
+  own = going.own;
   few_cuts = going.few_cuts;
   few_lines = going.few_lines;
   in_range = going.in_range;

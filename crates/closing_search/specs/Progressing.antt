@@ -9,7 +9,7 @@ use Rattle.hub_spec.specs.Ranges.{IsFirstLine, IsLineInRange}
 use Rattle.search_spec.specs.States.{lesser}
 use Rattle.search_spec.specs.Findings.{AreWithin, IsSpent, IsEnough}
 use Rattle.tree_walks.specs.Walks.{filled, Walks}
-use Rattle.kept_cuts.specs.Kept.{kept_cuts, AreKeptFor}
+use Rattle.kept_cuts.specs.Kept.{kept_cuts, IsOwn, AreKeptFor}
 use Rattle.kept_cuts.specs.Findings.{lines_of, IsUnlimited}
 use Rattle.search_core.specs.declared.tasks.Task.{Task}
 use Rattle.closing_search.specs.declared.progress.Progress.{Progress}
@@ -26,12 +26,13 @@ target_of s = lesser s.cost s.stop
 abbrev pub WalksTo : Problem → Progress → List Branching → List Branching → Type 0
 WalksTo p s first last = Walks p (cuts_of p s) (target_of s) first (lines_of s.lines.items) last
 
--- what holds at each step: of the task, of the cuts, the lines, which each version spells, and the incumbent, which
--- costs at most what all candidates cost, and of the nodes
+-- what holds at each step: of the task, of the cuts, none of which was given, the lines, which each version spells, and the
+-- incumbent, which costs at most what all candidates cost, and of the nodes
 pub record IsGoing (t : Task) (s : Progress) : Type 0 where
   pub problem : IsProblem t.instance.now
   pub unlimited : IsUnlimited t.instance.now
   pub kept : AreKeptFor t.instance.now s.cuts
+  pub own : All IsOwn s.cuts.cuts
   pub few_cuts : length s.cuts.cuts ≤ most_cuts
   pub few_lines : length s.lines.items ≤ most_tree_lines
   pub in_range : All (IsLineInRange t.instance.now.size) (lines_of s.lines.items)

@@ -6,7 +6,7 @@ ghost use Rattle.hub_spec.specs.Problem.{commodities};
 ghost use Rattle.hub_spec.specs.Plans.{IsSetCost, IsLeastRoute, NoPlanBelow};
 ghost use Rattle.hub_spec.specs.Trees.{root};
 ghost use Rattle.search_spec.specs.Findings.{AreWithin, IsSpent, IsEnough};
-ghost use Rattle.kept_cuts.specs.Findings.{IsUnlimited, IsProved};
+ghost use Rattle.kept_cuts.specs.Findings.{IsUnlimited, AreOwn, IsProved};
 ghost use Rattle.closing_search.specs.Progressing.{IsGoing, IsDone, IsOver};
 
 use crate::progress::{Progress, target};
@@ -43,6 +43,7 @@ pub fn optimize<R: Threads + Sync, A: Advice + Drop>(
     requires any_length { instance.now.longest ≡ None }
     requires any_number { instance.now.wanted ≡ None }
     ensures proved { IfOk result (IsProved instance.now) }
+    ensures own { IfOk result AreOwn }
     ensures routes { IfOk result (λ found. AllZip (IsLeastRoute instance.now found.plan.hubs) (commodities instance.now.size) found.plan.routes) }
     ensures at_most { IfOk result (λ found. (cost : ℕ) → IsSetCost instance.now instance.now.candidates cost → found.cost ≤ cost) }
     ensures within { IfOk result (λ found. found.bound ≤ found.cost) }
@@ -101,6 +102,7 @@ fn begin(alloc: Global, task: &Task) -> Result<Progress, AllocError>
 fn finish(alloc: Global, task: &Task, progress: Progress) -> Result<Found, AllocError>
     requires { IsOver task.now progress }
     ensures proved { IfOk result (IsProved task.now.instance.now) }
+    ensures own { IfOk result AreOwn }
     ensures routes { let p = task.now.instance.now in
         IfOk result (λ found. AllZip (IsLeastRoute p found.plan.hubs) (commodities p.size) found.plan.routes) }
     ensures at_most { let p = task.now.instance.now in IfOk result (λ found. (cost : ℕ) → IsSetCost p p.candidates cost → found.cost ≤ cost) }

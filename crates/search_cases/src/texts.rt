@@ -1,9 +1,7 @@
 //! Texts as a sink in memory takes them.
 
 ghost use Rattle.std.specs.Prelude.{IsTrue};
-ghost use Rattle.cert_scan.specs.Versions.{version_number};
-ghost use Rattle.cert_scan.specs.declared.items.Version.TheVariants.{First};
-ghost use Rattle.kept_cuts.specs.Findings.{IsProved, IsVersionFor};
+ghost use Rattle.kept_cuts.specs.Findings.{IsUnlimited, IsProved};
 
 use crate::instances::numbers;
 use crate::searches::found_of;
@@ -109,7 +107,7 @@ fn put_made(
 
 // Tells whether neither the length of routes is limited nor a number of hubs wanted, as the first version asks.
 fn is_unlimited(instance: &Instance) -> bool
-    ensures { IsTrue result → IsVersionFor instance.now (version_number First) }
+    ensures { IsTrue result → IsUnlimited instance.now }
 {
     instance.length_limit().is_none() && instance.wanted().is_none()
 }

@@ -1,5 +1,6 @@
-use Rattle.branch_tree.proofs.FoundCertificates.{found_is_proved}
+use Rattle.branch_tree.specs.Findings.{found_by}
+use Rattle.branch_tree.proofs.FoundCertificates.{told_of, rule_searched}
 use Rattle.branch_tree.proofs.laws.search_is_proved.Goals as goal
 
 pub returns : goal.returns
-returns c = λ p n found ok all is. found_is_proved p n found (record { problem = ok; lacks_none = all }) is
+returns c = λ p n found ok all is. (told_of p n (found_by p n) found (rule_searched p n (record { problem = ok; lacks_none = all })) is).proved

@@ -16,7 +16,7 @@ returns-clause-cut g c =
     let fits : FitsSigned w128 c.total.result = search rules in
     added_cut p c.args.pool.now.entries c.reserve.new.self.entries c.add.new.self.entries c.add.result sums c.args.set c.args.order.items
     c.total.result c.unsigned.result c.opening_cost-opening.result c.requires.problem c.in_ok-reserve.ensures.entries
-    (c.add.ensures.succeeds c.in_ok-reserve.ensures.spare) c.add.ensures.added c.in_ok-sums.ensures.hubs
+    (search rules) c.add.ensures.added c.in_ok-sums.ensures.hubs
     (subst (λ (os : List ℕ). IsSumsOf p (entry_of sums os)) orders c.in_ok-sums.ensures.sums) c.total.ensures
     (c.unsigned.ensures.value ∙ ap natural (to_z-of_z w128 c.total.result fits))
     (c.opening_cost-opening.ensures.value ∙ ap (opening_cost p) c.members.ensures.value)

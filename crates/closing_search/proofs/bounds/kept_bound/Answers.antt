@@ -1,10 +1,10 @@
-use Rattle.std.proofs.Common.{◌≡◌, ℕ, ◌-◌, ◌+◌, ◌≤◌, List, length, map, slice_range, pos, ◌∙◌, FitsSigned, Vec, Global, rules}
+use Rattle.std.proofs.Common.{◌≡◌, ℕ, ◌-◌, ◌+◌, ◌≤◌, List, length, map, slice_range, All, pos, ◌∙◌, FitsSigned, Vec, Global, rules}
 use Rattle.std.specs.Prelude.{ℤ}
 use Rattle.std.specs.Int.{w128}
 use Rattle.std.proofs.lemmas.Int.{to_z-of_z}
 use Rattle.hub_spec.specs.Problem.{Problem, IsProblem}
 use Rattle.hub_spec.specs.Trees.{cut_at}
-use Rattle.kept_cuts.specs.Kept.{KeptList, kept_cuts, kept_part, AreKeptFor}
+use Rattle.kept_cuts.specs.Kept.{KeptList, kept_cuts, kept_part, IsOwn, AreKeptFor}
 use Rattle.search_core.proofs.Weightings.{branch_below}
 use Rattle.closing_search.specs.Progressing.{cuts_of}
 use Rattle.closing_search.specs.SingleCuts.{AreLentOf, IsOnCut}
@@ -14,13 +14,13 @@ use Rattle.closing_search.proofs.bounds.kept_bound.Goals as goal
 use Rattle.closing_search.proofs.bounds.kept_bound.Goals.{After-cut_weighting}
 
 numbers : (p : Problem) (k : KeptList) (n : ℕ) (totals : List ℤ) (loads : List (Vec ℤ Global)) (parts : List ℕ)
-    → IsProblem p → AreKeptFor p k → 1 ≤ n → n ≤ length k.cuts → totals ≡ map pos k.totals
+    → IsProblem p → AreKeptFor p k → All IsOwn k.cuts → 1 ≤ n → n ≤ length k.cuts → totals ≡ map pos k.totals
     → map (λ v. v.items) loads ≡ map (λ xs. map pos xs) k.loads → parts ≡ map kept_part k.cuts
     → AreLentOf p (cut_at (kept_cuts p k.cuts) n) (slice_range totals (n - 1) (n - 1 + 1))
     (map (λ v. v.items) (slice_range loads (n - 1) (n - 1 + 1))) (slice_range parts (n - 1) (n - 1 + 1))
-numbers p k n totals loads parts ok are least most is_totals is_loads is_parts =
+numbers p k n totals loads parts ok are own least most is_totals is_loads is_parts =
     rw (is_totals, map-slice_range (λ (v : Vec ℤ Global). v.items) loads (n - 1) (n - 1 + 1), is_loads, is_parts)
-    (kept_at_number p k n ok are least most)
+    (kept_at_number p k n ok are own least most)
 
 -- the numbers of the kept cut
 on_cut : (c : After-cut_weighting) → let p = c.args.task.now.instance.now in
@@ -29,7 +29,7 @@ on_cut c =
     let going = c.requires.going in
     c.cut_weighting.ensures _
     (numbers c.args.task.now.instance.now c.args.progress.now.cuts c.args.number c.totals.result.now c.loads.result.now
-    c.parts.result.now going.problem going.kept c.requires.least c.requires.most c.totals.ensures.value
+    c.parts.result.now going.problem going.kept going.own c.requires.least c.requires.most c.totals.ensures.value
     c.loads.ensures.value c.parts.ensures.value)
 
 pub bound-requires-clause-numbers : goal.bound-requires-clause-numbers

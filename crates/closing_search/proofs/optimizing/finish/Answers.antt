@@ -2,7 +2,7 @@ use Rattle.std.proofs.Common.{◌≡◌, List, refl, ap, ◌∙◌, rules}
 use Rattle.std.specs.Prelude.{ℕ}
 use Rattle.hub_spec.specs.Plans.{Plan}
 use Rattle.kept_cuts.specs.declared.found.Found.{Found}
-use Rattle.closing_search.proofs.Findings.{IsFoundOf, found_of, found_proved, found_at_most, found_within, found_below, found_most, found_allowed, found_spent, found_enough, found_whole}
+use Rattle.closing_search.proofs.Findings.{IsFoundOf, found_of, found_proved, found_own, found_at_most, found_within, found_below, found_most, found_allowed, found_spent, found_enough, found_whole}
 use Rattle.closing_search.proofs.optimizing.finish.Goals as goal
 use Rattle.closing_search.proofs.optimizing.finish.Goals.{After-drop-progress-2}
 
@@ -26,6 +26,9 @@ is_found c =
 
 pub returns-clause-proved : goal.returns-clause-proved
 returns-clause-proved c = found_proved c.args.task.now c.args.progress (finding c) c.requires (is_found c)
+
+pub returns-clause-own : goal.returns-clause-own
+returns-clause-own c = found_own c.args.task.now c.args.progress (finding c) c.requires (is_found c)
 
 pub returns-clause-routes : goal.returns-clause-routes
 returns-clause-routes c = (is_found c).routes

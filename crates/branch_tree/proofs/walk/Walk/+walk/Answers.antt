@@ -13,13 +13,13 @@ use Rattle.search_spec.proofs.StepCases.{after_closed, after_open}
 use Rattle.search_spec.proofs.Parting.{length-without}
 use Rattle.search_steps.specs.Advising.{told_by, parts_of}
 use Rattle.search_steps.specs.Weights.{pairs_of, side_as, sides_as, AreNodeWeights}
+use Rattle.search_steps.proofs.GivenPools.{weights_stay, grown_twice}
 use Rattle.search_steps.proofs.RuleChoices.{room_when}
 use Rattle.search_core.specs.declared.tasks.Task.{Task}
 use Rattle.branch_tree.specs.Progressing.{handling, state_of}
 use Rattle.branch_tree.specs.Rounding.{round_as}
 use Rattle.branch_tree.specs.Walking.{AreOnFree}
 use Rattle.branch_tree.proofs.AddedLines.{line_done, line_going, line_kept, done_as, done_by, going_as, branch_as, room_as}
-use Rattle.branch_tree.proofs.RoundSteps.{weights_kept}
 use Rattle.branch_tree.proofs.NodeCases.{told_end, told_no_end, told_alone, told_none_alone, goes_on, some_free, child_room, alone_is_set, node_ended, node_stopped, node_blocked, node_full, node_explored, fixed_alone, fixed_stopped, fixed_halved, fixed_next, halved_both}
 use Rattle.branch_tree.proofs.WalkSteps.{begun_state, both_done, open_done, closed_done, later_done, first_of, others_of, sides_split, none_left, fixings_on_free, on_free_in_child}
 use Rattle.branch_tree.proofs.walk.Walk.+walk.Goals as goal
@@ -135,7 +135,7 @@ fixed-fixed-requires g t c κs within =
                     subst (λ (x : Branching). HasRoom p.wanted x) (sym child)
                         (child_room p stays_open b k c.requires.going.problem c.requires.branch c.requires.room only free.0),
                     (
-                      weights_kept (length before.pool.entries) (length begun.pool.entries) c.args.round.now.weights.items
+                      weights_stay before.pool.entries begun.pool.entries c.args.round.now.weights.items
                           (line_kept before begun (branch_on k) (before.made + 2) before.stop c.in_ok-split_on.ensures) c.requires.weights,
                       (
                         subst (λ (x : Branching). AreOnFree x (sides_as (others_of c.args.fixings.now))) (sym child)
@@ -196,8 +196,8 @@ fixed-fixed-requires-in-Out g t c κs within =
                         (subst (λ (x : Branching). HasRoom p.wanted x) (sym child)
                         (child_room p stays_closed b k c.requires.going.problem c.requires.branch c.requires.room only free.0)),
                     (
-                      weights_kept (length before.pool.entries) (length middle.pool.entries) c.args.round.now.weights.items
-                          (omega (arith, kept, leaf_added.kept)) c.requires.weights,
+                      weights_stay before.pool.entries middle.pool.entries c.args.round.now.weights.items
+                          (grown_twice before.pool.entries begun.pool.entries middle.pool.entries kept leaf_added.kept) c.requires.weights,
                       (
                         subst (λ (x : Branching). AreOnFree x (sides_as (others_of c.args.fixings.now))) (sym child)
                             (on_free_in_child stays_closed b k (sides_as (others_of c.args.fixings.now)) free.1 free.2),
@@ -514,8 +514,8 @@ halved-node-requires g t c κs within =
                 (
                   subst (IsBranch p) (sym child) (open_branch p b k c.requires.branch free),
                   (
-                    subst (AreNodeWeights (length begun.pool.entries)) (sym c.deref.ensures.value)
-                        (weights_kept (length before.pool.entries) (length begun.pool.entries) c.args.round.now.weights.items
+                    subst (AreNodeWeights begun.pool.entries) (sym c.deref.ensures.value)
+                        (weights_stay before.pool.entries begun.pool.entries c.args.round.now.weights.items
                         (line_kept before begun (branch_on k) (before.made + 2) before.stop c.in_ok-split_on.ensures) c.requires.weights),
                     omega (arith, fewer, c.requires.deep),
                   ),
@@ -558,9 +558,9 @@ halved-node-requires-2 g t c κs within =
                   branch_as task c.node.new.self.task.now c.in_ok-closed.closed same
                       (subst (IsBranch p) (sym child) (closed_branch p b k c.requires.branch free)),
                   (
-                    subst (AreNodeWeights (length middle.pool.entries)) (sym c.deref-2.ensures.value)
-                        (weights_kept (length before.pool.entries) (length middle.pool.entries) c.args.round.now.weights.items
-                        (omega (arith, kept, opened.kept)) c.requires.weights),
+                    subst (AreNodeWeights middle.pool.entries) (sym c.deref-2.ensures.value)
+                        (weights_stay before.pool.entries middle.pool.entries c.args.round.now.weights.items
+                        (grown_twice before.pool.entries begun.pool.entries middle.pool.entries kept opened.kept) c.requires.weights),
                     omega (arith, fewer, c.requires.deep),
                   ),
                 ),

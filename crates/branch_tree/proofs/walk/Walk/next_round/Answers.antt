@@ -1,9 +1,10 @@
-use Rattle.std.proofs.Common.{ℤ, List, refl, sym, ap, ◌∙◌, arith}
+use Rattle.std.proofs.Common.{ℤ, List, refl, sym, ap, ◌∙◌}
 use Rattle.std.proofs.lemmas.Result.{IfOk-weaker}
 use Rattle.search_spec.specs.Steps.{round}
 use Rattle.search_spec.proofs.StepCases.{rounds_over}
 use Rattle.search_steps.specs.Weights.{pairs_of}
 use Rattle.search_steps.specs.Advising.{parts_of}
+use Rattle.search_steps.proofs.GivenPools.{grown_same}
 use Rattle.branch_tree.specs.Progressing.{state_of}
 use Rattle.branch_tree.specs.Rounding.{round_as}
 use Rattle.branch_tree.proofs.NodeCases.{one_round}
@@ -17,7 +18,7 @@ returns-then-not-last-clause-round g c =
       is = sym (rounds_over 0 p (parts_of p) c.args.branch.now (round_as p before c.args.last) c.if-not-last.true);
       lines = refl;
       going = c.requires.going;
-      kept = omega arith;
+      kept = grown_same before.pool.entries;
       weights = c.requires.weights;
     }
 

@@ -1,13 +1,14 @@
-use Rattle.std.proofs.Common.{◌≡◌, ℕ, ℤ, pos, true, false, is_some, Option, List, length, get_or, inl, inr, refl, ap, sym, ◌∙◌, arith}
+use Rattle.std.proofs.Common.{◌≡◌, ℕ, ℤ, pos, true, false, is_some, Option, List, get_or, inl, inr, refl, ap, sym, ◌∙◌}
 use Rattle.search_spec.specs.States.{number_in_pool}
 use Rattle.search_spec.specs.Steps.{better, closes_at}
 use Rattle.search_spec.specs.Choices.{others, by_falling}
 use Rattle.frac_master.specs.Advice.{advice_of_code}
 use Rattle.search_steps.specs.Advising.{told_by}
 use Rattle.search_steps.specs.Weights.{pairs_of}
+use Rattle.search_steps.proofs.GivenPools.{weights_stay, grown_same}
 use Rattle.search_steps.proofs.RuleChoices.{room_when}
 use Rattle.branch_tree.specs.Progressing.{state_of}
-use Rattle.branch_tree.proofs.RoundSteps.{IsTaken, round_ends, round_goes, weights_kept}
+use Rattle.branch_tree.proofs.RoundSteps.{IsTaken, round_ends, round_goes}
 use Rattle.branch_tree.proofs.walk.Walk.round.Goals as goal
 
 pub better_weights-requires-clause-room : goal.better_weights-requires-clause-room
@@ -34,7 +35,7 @@ returns-then-closes_cost-clause-round g c =
       is = round_ends p b w s a best taken (inl (sym closes ∙ c.if-closes_cost.true));
       lines = refl;
       going = c.requires.going;
-      kept = omega arith;
+      kept = grown_same before.pool.entries;
       weights = c.in_ok-weights.ensures.weights;
     }
 
@@ -59,7 +60,7 @@ returns-then-is_some-clause-round g c =
       is = round_ends p b w s a best taken (inr (ap (λ (x : List ℕ). is_some (number_in_pool s x)) (sym set) ∙ known));
       lines = refl;
       going = c.requires.going;
-      kept = omega arith;
+      kept = grown_same before.pool.entries;
       weights = c.in_ok-weights.ensures.weights;
     }
 
@@ -89,5 +90,5 @@ returns-clause-round g c =
       lines = at.lines;
       going = at.going;
       kept = at.kept;
-      weights = weights_kept (length before.pool.entries) (length c.separate.new.self.progress.pool.entries) c.in_ok-weights.weights.items at.kept c.in_ok-weights.ensures.weights;
+      weights = weights_stay before.pool.entries c.separate.new.self.progress.pool.entries c.in_ok-weights.weights.items at.kept c.in_ok-weights.ensures.weights;
     }

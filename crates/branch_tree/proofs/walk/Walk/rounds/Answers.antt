@@ -1,8 +1,9 @@
-use Rattle.std.proofs.Common.{ap, ◌∙◌, arith}
+use Rattle.std.proofs.Common.{ap, ◌∙◌}
 use Rattle.std.proofs.lemmas.Result.{IfOk-weaker}
 use Rattle.search_spec.specs.Steps.{rounds, round}
 use Rattle.search_steps.specs.Weights.{pairs_of}
 use Rattle.search_steps.specs.Advising.{parts_of}
+use Rattle.search_steps.proofs.GivenPools.{grown_twice}
 use Rattle.branch_tree.specs.Progressing.{state_of}
 use Rattle.branch_tree.proofs.NodeCases.{two_rounds}
 use Rattle.branch_tree.proofs.RoundSteps.{next_by}
@@ -25,6 +26,6 @@ returns-clause-rounds g c =
       is = third.is ∙ ap (rounds 1 p parts b) (second.is ∙ ap (rounds 1 p parts b) first.is) ∙ two_rounds p parts b begun;
       lines = third.lines ∙ second.lines ∙ first.lines;
       going = third.going;
-      kept = omega (arith, first.kept, second.kept, third.kept);
+      kept = grown_twice _ _ _ (grown_twice _ _ _ first.kept second.kept) third.kept;
       weights = third.weights;
     }) c.next_round-2.ensures.round

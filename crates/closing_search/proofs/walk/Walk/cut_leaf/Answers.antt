@@ -14,7 +14,7 @@ end_with-requires-clause-sound c =
     let p = c.args.self.now.task.now.instance.now in
     let s = c.args.self.now.progress in
     leaf_sound p s.cuts.cuts (target_of s) c.args.branch.now (Some c.args.number) (tree_line_of c.in_ok-line.line)
-    c.requires.going.unlimited (number_of p s.cuts.cuts c.args.number c.requires.least c.requires.most)
+    c.requires.going.unlimited c.requires.going.own (number_of p s.cuts.cuts c.args.number c.requires.least c.requires.most)
     c.in_ok-line.ensures c.requires.closes
 
 pub end_with-requires-clause-in_range : goal.end_with-requires-clause-in_range

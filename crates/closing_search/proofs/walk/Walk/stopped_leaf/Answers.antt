@@ -33,7 +33,7 @@ end_with-requires-clause-sound c =
     let closes = subst (λ (low : ℕ). Closes denominator (lesser s.cost (Some low)) (leaf_bound p cuts denominator (weights_on choice.number) b))
     (sym c.lesser.ensures) (stop_closes p cuts b choice s.cost c.rounded_up.result s.stop is up) in
     leaf_sound p s.cuts.cuts (lesser s.cost (Some c.lesser.result)) b choice.number (tree_line_of c.in_ok-line.line)
-    c.requires.going.unlimited (number_in p cuts b choice is) c.in_ok-line.ensures closes
+    c.requires.going.unlimited c.requires.going.own (number_in p cuts b choice is) c.in_ok-line.ensures closes
 
 pub end_with-requires-clause-in_range : goal.end_with-requires-clause-in_range
 end_with-requires-clause-in_range c =

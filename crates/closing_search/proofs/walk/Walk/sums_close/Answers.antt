@@ -1,6 +1,8 @@
-use Rattle.std.proofs.Common.{◌≡◌, ℤ, pos, [], ◌∷◌, map, refl, ap, ◌∙◌, to_z, of_z, FitsSigned, Vec, Global, rules, arith}
+use Rattle.std.proofs.Common.{◌≡◌, ◌≤◌, ◌<◌, ◌^◌, ℕ, ℤ, pos, [], ◌∷◌, map, refl, ap, ◌∙◌, to_z, of_z, FitsSigned, Vec, Global, rules, arith}
 use Rattle.std.specs.Int.{w128}
 use Rattle.std.proofs.lemmas.Int.{to_z-of_z}
+use Rattle.std.proofs.lemmas.List.Elements.{All-weaker}
+use Rattle.hub_spec.specs.Limits.{most_cost}
 use Rattle.hub_spec.specs.Cuts.{Cut}
 use Rattle.search_core.proofs.Weightings.{branch_below}
 use Rattle.closing_search.specs.SingleCuts.{AreLoads, IsOnCut}
@@ -11,7 +13,10 @@ use Rattle.closing_search.proofs.walk.Walk.sums_close.Goals.{After-cut_weighting
 pub signed_row-requires : goal.signed_row-requires
 signed_row-requires c =
     let sums = c.requires.sums in
-    rw c.loads.ensures (loads_within c.args.self.now.task.now.instance.now sums.0 c.args.total c.args.self.now.bench.loads sums.1)
+    let loads = c.args.self.now.bench.loads in
+    rw c.loads.ensures
+    (All-weaker (λ (l : ℕ). l ≤ most_cost) (λ (l : ℕ). l < 2 ^ 127) (λ l low. omega (arith, low)) loads
+    (loads_within c.args.self.now.task.now.instance.now sums.0 c.args.total loads sums.1))
 
 pub signed-requires : goal.signed-requires
 signed-requires c =

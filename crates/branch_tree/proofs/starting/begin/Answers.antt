@@ -4,8 +4,8 @@ use Rattle.branch_tree.specs.Progressing.{state_of}
 use Rattle.search_steps.specs.Starts.{first_set}
 use Rattle.branch_tree.proofs.NodeCases.{told_none_alone}
 use Rattle.branch_tree.proofs.WholeSearch.{begun_alone}
-use Rattle.branch_tree.proofs.searching.begin.Goals as goal
-use Rattle.branch_tree.proofs.searching.begin.Goals.{in-Some+in_ok-take_first, in_default}
+use Rattle.branch_tree.proofs.starting.begin.Goals as goal
+use Rattle.branch_tree.proofs.starting.begin.Goals.{in-Some+in_ok-take_first, in_default}
 
 pub returns-clause-begun : goal.returns-clause-begun
 returns-clause-begun g c =

@@ -4,7 +4,7 @@ use Rattle.hub_spec.specs.Plans.{IsHubSet}
 use Rattle.search_steps.specs.Starts.{first_set}
 use Rattle.branch_tree.proofs.LeafSteps.{outside_is}
 use Rattle.branch_tree.proofs.WholeSearch.{first_is_set, first_is_new, second_state, second_going}
-use Rattle.branch_tree.proofs.searching.take_first.Goals as goal
+use Rattle.branch_tree.proofs.starting.take_first.Goals as goal
 
 -- the first set by another name
 told_as : (p : Problem) (hubs set : List ℕ) → set ≡ hubs → Some hubs ≡ first_set p → Some set ≡ first_set p

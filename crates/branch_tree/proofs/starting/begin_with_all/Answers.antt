@@ -1,11 +1,12 @@
-use Rattle.std.proofs.Common.{List, [], ◌≢◌, refl, sym, subst, ◌∙◌}
+use Rattle.std.proofs.Common.{List, [], ◌≢◌, Some, refl, sym, subst, ◌∙◌}
 use Rattle.std.proofs.lemmas.List.Elements.{All-nil}
+use Rattle.kept_cuts.specs.Kept.{kept_set}
 use Rattle.cut_pool.specs.Entries.{Entry, Lacks}
 use Rattle.branch_tree.specs.Separating.{HasCut}
 use Rattle.branch_tree.proofs.WholeSearch.{all_order, all_candidates, first_state, first_going}
-use Rattle.branch_tree.proofs.searching.begin_with_all.Goals as goal
-use Rattle.branch_tree.proofs.searching.begin_with_all.Given.{Over}
-use Rattle.branch_tree.proofs.searching.begin_with_all.Goals.{After-new-2}
+use Rattle.branch_tree.proofs.starting.begin_with_all.Goals as goal
+use Rattle.branch_tree.proofs.starting.begin_with_all.Given.{Over}
+use Rattle.branch_tree.proofs.starting.begin_with_all.Goals.{After-new-2}
 
 pub add_cut-requires-clause-set : goal.add_cut-requires-clause-set
 add_cut-requires-clause-set g c =
@@ -21,7 +22,7 @@ add_cut-requires-clause-order g c =
 
 pub add_cut-requires-clause-first_time : goal.add_cut-requires-clause-first_time
 add_cut-requires-clause-first_time g c =
-    subst (λ (es : List Entry). Lacks es c.in_ok-set.set) (sym c.in_ok-pool.ensures.empty) (All-nil (λ (e : Entry). e.hubs ≢ c.in_ok-set.set))
+    subst (λ (es : List Entry). Lacks es c.in_ok-set.set) (sym c.in_ok-pool.ensures.empty) (All-nil (λ (e : Entry). kept_set e.cut ≢ Some c.in_ok-set.set))
 
 -- the first cut
 first_cut : (g : Over) (c : After-new-2 g) → HasCut c.args.task.now.instance.now [] c.add_cut.new.pool.entries c.in_ok-set.set c.new-order.result.items c.in_ok-cost.cost

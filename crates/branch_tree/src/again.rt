@@ -1,0 +1,188 @@
+//! The search that begins again, with cuts that are given and hubs that are tried.
+
+ghost use Rattle.std.specs.Prelude.{◌≡◌, ℕ, ◌≤◌, ◌<◌, ◌+◌, ◌^◌, [], ◌∷◌, length, All, IsTrue, IfOk, OnOk};
+ghost use Rattle.std.specs.List.Sorted.{IsStrictlyIncreasing};
+ghost use Rattle.hub_spec.specs.Plans.{IsHubSet, plan_cost, NoPlanBelow};
+ghost use Rattle.hub_spec.specs.Cuts.{IsCut};
+ghost use Rattle.hub_spec.specs.Ranges.{IsCutInRange};
+ghost use Rattle.search_spec.specs.Again.{IsStartOf, with_given, has_wanted, is_tried, tried, begun_again};
+ghost use Rattle.search_spec.specs.Findings.{certificate_of, AreWithin, IsSpent, IsEnough};
+ghost use Rattle.search_core.specs.Starts.{start_seen};
+ghost use Rattle.cut_pool.specs.Entries.{Lacks};
+ghost use Rattle.search_steps.specs.Advising.{parts_of};
+ghost use Rattle.kept_cuts.specs.Findings.{lines_of, proof_of, IsProved};
+ghost use Rattle.branch_tree.specs.Progressing.{state_of, IsGoing, IsAt};
+ghost use Rattle.branch_tree.specs.Findings.{found_again, IsFound};
+
+use crate::progress::Progress;
+use crate::searching::search_on;
+use crate::separating::{number_of, separate};
+use crate::starting::begin;
+use assign_sub::lacking;
+use hub_model::{Instance, MOST_CUTS};
+use hub_plain::outside;
+use kept_cuts::Found;
+use plan_model::{HubSet, StatedCut, are_among};
+use search_core::{Start, Task};
+use search_steps::Rule;
+use separators::Separator;
+use std::alloc::{AllocError, Global};
+
+/// What the rule of the search, which serves the instance, finds that begins with these cuts beside its own, and tries
+/// these hubs first: a wanted plan with its cost, a bound that no wanted plan costs less than, and the cuts and the tree
+/// that show it. The given cuts have the numbers after those with which the rule begins, in their order, and keep them.
+/// The hubs are separated then, if they may be hubs of a wanted plan and have no cut yet; they are the first
+/// incumbent where they cost less than that of the rule.
+///
+/// `nodes` is the most nodes of the tree, the root among them; with `None` they are not limited. All candidates together
+/// lack no commodity.
+///
+/// Only where two nodes more are not allowed the search stops, and then the bound is below the cost. Else both are equal
+/// and the plan is optimal. The finding is the same whatever the separator is.
+///
+/// The answer is `AllocError` where memory runs out, and for a search that would have more cuts or tree lines than a
+/// certificate's text can have, 67,108,864 and 268,435,456.
+pub fn search_from<R: Rule, S: Separator>(
+    alloc: Global,
+    rule: &R,
+    instance: &Instance,
+    nodes: Option<u64>,
+    separator: &mut S,
+    start: Start,
+) -> Result<Found, AllocError>
+    requires serves { R.serves rule.now instance.now }
+    requires lacks_none { IsHubSet instance.now instance.now.candidates }
+    requires ready { S.ready separator.old }
+    requires start { IsStartOf instance.now (start_seen start) }
+    ensures ready { S.ready separator.new }
+    ensures found { IfOk result (IsFound instance.now (found_again instance.now nodes (start_seen start))) }
+    ensures certificate { let g = found_again instance.now nodes (start_seen start) in
+        IfOk result (λ found. (v : ℕ) → proof_of v instance.now found g.tree ≡ certificate_of instance.now v g) }
+    ensures proved { IfOk result (IsProved instance.now) }
+    ensures paid { IfOk result (λ found. found.cost ≡ plan_cost instance.now found.plan) }
+    ensures below { IfOk result (λ found. NoPlanBelow instance.now found.bound) }
+    ensures within { IfOk result (λ found. found.bound ≤ found.cost) }
+    ensures most { IfOk result (λ found. length found.tree.items + 1 ≤ 2 ^ (length instance.now.candidates + 1)) }
+    ensures allowed { IfOk result (λ found. AreWithin nodes (length found.tree.items)) }
+    ensures spent { IfOk result (λ found. found.bound < found.cost → IsSpent nodes (length found.tree.items)) }
+    ensures enough { IsEnough (2 ^ (length instance.now.candidates + 1)) nodes → IfOk result (λ found. found.bound ≡ found.cost) }
+{
+    let task = Task { instance, nodes };
+    let progress = begin_from(alloc, rule, &task, separator, start)?;
+    search_on(alloc, rule, &task, separator, progress)
+}
+
+// As the rule begins, then the given cuts, then the hubs.
+fn begin_from<R: Rule, S: Separator>(
+    alloc: Global,
+    rule: &R,
+    task: &Task,
+    separator: &mut S,
+    start: Start,
+) -> Result<Progress, AllocError>
+    requires serves { R.serves rule.now task.now.instance.now }
+    requires lacks_none { IsHubSet task.now.instance.now task.now.instance.now.candidates }
+    requires ready { S.ready separator.old }
+    requires start { IsStartOf task.now.instance.now (start_seen start) }
+    ensures ready { S.ready separator.new }
+    ensures begun { let p = task.now.instance.now in
+        IfOk result (λ s. state_of p s ≡ begun_again p (parts_of p) (start_seen start)) }
+    ensures no_line { IfOk result (λ s. lines_of s.lines.items ≡ []) }
+    ensures going { IfOk result (IsGoing task.now) }
+{
+    let Start { cuts, hubs } = start;
+    let mut progress = begin(alloc, rule, task, separator)?;
+    give(alloc, task, &mut progress, cuts)?;
+    try_hubs(alloc, task, &mut progress, separator, &hubs)?;
+    Ok(progress)
+}
+
+// Adds the given cuts, one by one.
+fn give(
+    alloc: Global,
+    task: &Task,
+    progress: &mut Progress,
+    cuts: Vec<StatedCut>,
+) -> Result<(), AllocError>
+    requires going { IsGoing task.now progress.old }
+    requires cuts { All (IsCut task.now.instance.now) cuts.items }
+    requires in_range { All (IsCutInRange task.now.instance.now.size) cuts.items }
+    ensures at { let p = task.now.instance.now in
+        OnOk result (IsAt task.now progress.old progress.new (with_given cuts.items (state_of p progress.old))) }
+{
+    for cut in cuts {
+        give_one(alloc, task, progress, cut)?;
+    }
+    Ok(())
+}
+
+// Adds a given cut, unless there are as many cuts as a certificate can have.
+fn give_one(
+    alloc: Global,
+    task: &Task,
+    progress: &mut Progress,
+    cut: StatedCut,
+) -> Result<(), AllocError>
+    requires going { IsGoing task.now progress.old }
+    requires cut { IsCut task.now.instance.now cut }
+    requires in_range { IsCutInRange task.now.instance.now.size cut }
+    ensures at { let p = task.now.instance.now in
+        OnOk result (IsAt task.now progress.old progress.new (with_given (cut ∷ []) (state_of p progress.old))) }
+{
+    if progress.pool.len() >= MOST_CUTS as u64 {
+        return Err(AllocError);
+    }
+    progress.pool.add_given(alloc, task.instance.size(), cut)?;
+    Ok(())
+}
+
+// Separates the hubs over the ascending order of the other candidates, if they are to be tried. They become the incumbent
+// if they cost less.
+fn try_hubs<S: Separator>(
+    alloc: Global,
+    task: &Task,
+    progress: &mut Progress,
+    separator: &mut S,
+    hubs: &[u32],
+) -> Result<(), AllocError>
+    requires ready { S.ready separator.old }
+    requires going { IsGoing task.now progress.old }
+    requires some_hub { 1 ≤ length hubs.now }
+    requires ascend { IsStrictlyIncreasing hubs.now }
+    ensures ready { S.ready separator.new }
+    ensures at { let p = task.now.instance.now in
+        OnOk result (IsAt task.now progress.old progress.new (tried p (parts_of p) hubs.now (state_of p progress.old))) }
+{
+    let set = HubSet::of(alloc, hubs)?;
+    if !is_tried(task, progress, &set) {
+        return Ok(());
+    }
+    let order = outside(alloc, task.instance, &set)?;
+    separate(alloc, task, progress, separator, set, order)
+}
+
+// Tells whether the set is to be tried: its hubs are candidates, lack no commodity and are as many as are wanted, and it
+// has no cut yet.
+fn is_tried(task: &Task, progress: &Progress, set: &HubSet) -> bool
+    ensures is { let p = task.now.instance.now in result ≡ is_tried p (state_of p progress.now) set.now }
+    ensures first_time { IsTrue result → Lacks progress.now.pool.entries set.now }
+{
+    let instance = task.instance;
+    if !are_among(instance.candidates(), set.members()) {
+        return false;
+    }
+    if lacking(instance, set).is_some() {
+        return false;
+    }
+    has_wanted(instance, set) && number_of(progress, set).is_none()
+}
+
+// Tells whether the set has as many hubs as are wanted, if a number is.
+fn has_wanted(instance: &Instance, set: &HubSet) -> bool
+    ensures { result ≡ has_wanted instance.now.wanted set.now }
+{
+    match instance.wanted() {
+        None => true,
+        Some(wanted) => set.members().len() == wanted as usize,
+    }
+}
