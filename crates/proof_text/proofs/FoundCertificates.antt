@@ -48,7 +48,7 @@ pub least : (z : ℤ) (n : ℕ) → z ≡ pos n → IsNatural z
 least z n e = subst (λ (x : ℤ). IsNatural x) (sym e) (natural_pos n)
 
 pub certificate_parts : (v : ℕ) (p : Problem) (found : Found) (heading : Heading) (plan : Plan) (cuts : List Cut)
-    (lines : List TreeLine) → IsVersionFor p v → IsProved p found → AreParts v p found heading plan cuts lines
+    (lines : List TreeLine) → IsVersionFor p found.cuts.cuts v → IsProved p found → AreParts v p found heading plan cuts lines
     → AreCertificateParts heading plan cuts lines
 certificate_parts v p found heading plan cuts lines there h e = record {
   in_range = subst (λ (k : Proof). IsInRange k) (sym (same_proof v p found heading plan cuts lines h.tree e h.lines)) (h.in_range v there);

@@ -18,7 +18,7 @@ use Rattle.cert_format.specs.Parts.{IsHeadingOf}
 use Rattle.cert_format.specs.declared.headings.Heading.{Heading}
 use Rattle.cert_format.proofs.Joined.{three_texts}
 use Rattle.cert_format.proofs.CutLines.{cut_text, cut_at, cut_text_by}
-use Rattle.kept_cuts.specs.Kept.{Kept, by_set, KeptList, kept_cut, kept_cuts, kept_part, kept_at}
+use Rattle.kept_cuts.specs.Kept.{Kept, by_set, KeptList, kept_cut, kept_cuts, kept_part, kept_at, IsKeptFor}
 use Rattle.kept_cuts.specs.Findings.{lines_of, proof_of, IsProved}
 use Rattle.kept_cuts.specs.declared.found.Found.{Found}
 use Rattle.proof_text.specs.Lenders.{kept_dual}
@@ -42,12 +42,12 @@ top_text v p found heading is same count =
 -- ---- a cut
 
 -- the line of the cut and those of its duals are the cut's
-pub kept_cut_text : (v : ℕ) (p : Problem) (c part : ℕ) (kept : Kept) → 1 ≤ p.size → part ≡ kept_part kept
+pub kept_cut_text : (v : ℕ) (p : Problem) (c part : ℕ) (kept : Kept) → 1 ≤ p.size → IsKeptFor p kept → part ≡ kept_part kept
     → line_bytes (says_cut c (part_said v part)) ++ flat_map line_bytes (kept_dual_items v p kept)
     ≡ flat_map line_bytes (cut_items v p.size (c, kept_cut p kept))
-kept_cut_text v p c part kept some is =
+kept_cut_text v p c part kept some fits is =
     ap (λ e. line_bytes (says_cut c (part_said v e)) ++ flat_map line_bytes (kept_dual_items v p kept)) is
-    ∙ cut_text_by v p.size c (kept_part kept) (kept_dual p kept) (kept_cut p kept) some (kept_cut_is p kept)
+    ∙ cut_text_by v p.size c (kept_part kept) (kept_dual p kept) (kept_cut p kept) some (kept_cut_is p kept fits)
 
 -- ---- the cuts
 

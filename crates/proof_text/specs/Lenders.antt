@@ -1,22 +1,31 @@
 -- What duals of kept cuts are made in, and which they are.
-use Rattle.std.specs.Prelude.{◌≡◌, ℕ, List}
+use Rattle.std.specs.Prelude.{◌≡◌, ℕ, ◌+◌, ◌*◌, List, [], slice_index_or}
 use Rattle.hub_spec.specs.Problem.{Problem}
-use Rattle.hub_spec.specs.Cuts.{Prices}
+use Rattle.hub_spec.specs.Cuts.{Prices, Cut}
 use Rattle.hub_spec.specs.Separation.{minimal_dual}
 use Rattle.value_cuts.specs.Values.{ValueRows, row_for, value_dual}
 use Rattle.value_cuts.specs.Prices.{ArePricesFrom}
 use Rattle.pareto_cuts.specs.Scratches.{ScratchParts, IsReadyFor, HasDualsFrom}
-use Rattle.kept_cuts.specs.Kept.{Kept, by_values, by_set}
+use Rattle.kept_cuts.specs.Kept.{Kept, by_values, by_set, given}
 use Rattle.kept_cuts.specs.Packed.{AreRowsFrom}
 
 -- the dual of the commodity by its row of the values
 abbrev pub commodity_dual : Problem → ValueRows → ℕ × ℕ → Prices
 commodity_dual p w c = value_dual p w.unit (row_for w c) c
 
+-- a dual of price 0 without values
+abbrev pub no_dual : Prices
+no_dual = record { a = 0; u = [] }
+
+-- the dual that a cut states for the commodity of this number, counted from 0
+abbrev pub stated_dual : Cut → ℕ → Prices
+stated_dual cut t = slice_index_or cut.duals t no_dual
+
 -- the dual of the commodity in a kept cut
 abbrev pub kept_dual : Problem → Kept → ℕ × ℕ → Prices
 kept_dual p (by_values rows) c = commodity_dual p rows c
 kept_dual p (by_set hubs order) c = minimal_dual p hubs order c
+kept_dual p (given cut) c = stated_dual cut (c.0 * p.size + c.1)
 
 -- ---- duals by values
 
@@ -35,10 +44,12 @@ pub record HasPricesFrom (p : Problem) (w : ValueRows) (i : ℕ) (s : RoomState)
 
 -- ---- duals of any kept cut
 
--- room for duals by values, and for those of a hub set, and the dual that is held beside the one that was made last
+-- room for duals by values, and for those of a hub set, the number of the commodity whose dual was lent last of a given
+-- cut, and the dual that is held beside the one that was made last
 pub record LenderState : Type 0 where
   pub values : RoomState
   pub sets : ScratchParts
+  pub place : ℕ
   pub held : Prices
 
 -- the lender is for this problem
@@ -49,6 +60,7 @@ IsLenderFor p s = s.values.problem ≡ p
 abbrev pub HasLegsOf : Problem → Kept → LenderState → Type 0
 HasLegsOf p (by_values rows) s = Unit {0}
 HasLegsOf p (by_set hubs order) s = IsReadyFor p hubs order s.sets
+HasLegsOf p (given cut) s = Unit {0}
 
 -- the lender is for the problem, and ready for the cut
 pub record IsReady (p : Problem) (kept : Kept) (s : LenderState) : Type 0 where
@@ -59,6 +71,7 @@ pub record IsReady (p : Problem) (kept : Kept) (s : LenderState) : Type 0 where
 abbrev pub HasRowOf : Problem → Kept → ℕ → LenderState → Type 0
 HasRowOf p (by_values rows) i s = HasPricesFrom p rows i s.values
 HasRowOf p (by_set hubs order) i s = HasDualsFrom p hubs order i s.sets
+HasRowOf p (given cut) i s = Unit {0}
 
 -- the lender is for the problem, and ready for the duals of the cut from i
 pub record HasDuals (p : Problem) (kept : Kept) (i : ℕ) (s : LenderState) : Type 0 where
@@ -69,3 +82,4 @@ pub record HasDuals (p : Problem) (kept : Kept) (i : ℕ) (s : LenderState) : Ty
 abbrev pub made_dual : Kept → LenderState → Prices
 made_dual (by_values rows) s = s.values.dual
 made_dual (by_set hubs order) s = s.sets.dual
+made_dual (given cut) s = stated_dual cut s.place

@@ -9,21 +9,22 @@ ghost use Rattle.proof_text.specs.Lenders.{IsLenderFor, made_dual};
 
 use crate::DualLender;
 use crate::headings::heading_of;
-use cert_format::{Certificate, StatedCut, Version};
+use cert_format::{Certificate, Version};
 use hub_model::Instance;
 use kept_cuts::{Found, KeptCut, KeptCuts};
-use plan_model::{Dual, Plan, TreeLine};
+use plan_model::{Dual, Plan, StatedCut, TreeLine};
 use std::alloc::{AllocError, Global};
 
-/// The certificate of what a search of the instance found in this version, with the duals of each cut made anew. The
-/// first version is for instances in which no length is limited and no number of hubs is wanted: it has no lines for them.
+/// The certificate of what a search of the instance found in this version, with the duals of each cut made anew, and
+/// those of a cut that was given copied. The first version is for instances in which no length is limited and no number
+/// of hubs is wanted, and for findings with no given cut: it has no lines for these.
 pub fn certificate_of(
     alloc: Global,
     instance: &Instance,
     found: &Found,
     version: Version,
 ) -> Result<Certificate, AllocError>
-    requires version { IsVersionFor instance.now (version_number version) }
+    requires version { IsVersionFor instance.now found.now.cuts.cuts (version_number version) }
     requires proved { IsProved instance.now found.now }
     ensures { IfOk result (IsCertificateOf (version_number version) instance.now found.now) }
 {

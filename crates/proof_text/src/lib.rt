@@ -1,7 +1,7 @@
 //! What a search found, as a certificate: written as its text, or made as a value.
 //!
 //! A search keeps of each cut what its duals can be made from anew: a hub set with an order, or values of the
-//! candidates. A [`DualLender`] is room that is taken once, before anything is written; it lends one dual of a kept cut
+//! candidates. Of a cut that it was given it keeps the duals themselves. A [`DualLender`] is room that is taken once, before anything is written; it lends one dual of a kept cut
 //! at a time, and can hold a second one beside it. [`write_found`] puts the text through it, and takes no memory;
 //! [`certificate_of`] makes the whole certificate with all duals, for those that read it again. Both are for each
 //! version of the text: in the second equal neighbours of one origin are one line. [`found_text_is_certificate`] says

@@ -38,4 +38,4 @@ returns-clause-duals c =
     let square : c.loop-i.i * p.size ≡ p.size * p.size = ap (λ (m : ℕ). m * p.size) (omega arith) in
     let whole = subst (λ (cs : List (ℕ × ℕ)). AreDualsOf (kept_dual p kept) cs c.loop-i.duals.items)
     (take_all (c.loop-i.i * p.size) (commodities p.size) (omega (arith, square, length_commodities p.size))) c.loop-i.invariant.duals in
-    duals_are (kept_dual p kept) (commodities p.size) c.loop-i.duals.items whole ∙ sym (ap (λ (cut : Cut). cut.duals) (kept_cut_is p kept))
+    duals_are (kept_dual p kept) (commodities p.size) c.loop-i.duals.items whole ∙ sym (ap (λ (cut : Cut). cut.duals) (kept_cut_is p kept c.requires.fits))
