@@ -9,13 +9,17 @@ use Rattle.hub_spec.specs.Plans.{Plan, IsPlan}
 use Rattle.hub_spec.specs.Lacking.{lacking}
 use Rattle.hub_spec.specs.Certificates.{Proof}
 use Rattle.cert_spec.specs.Text.{Spells}
-use Rattle.cert_spec.specs.Verdicts.{Verdict, optimal, bounds, fails, misread, too_long, Why}
+use Rattle.cert_spec.specs.Verdicts.{Verdict, optimal, bounds, fails, misread, too_long, Why, Older, serves, serves_not, unread, over_limit, IsOlder}
+use Rattle.cert_spec.proofs.OlderTexts.{one_older_from}
+use Rattle.cert_spec.proofs.OneText.{one_certificate_lem}
+use Rattle.cert_spec.proofs.TextOrFault.{each_is_text_or_fault_lem}
 use Rattle.hub_make.specs.Contents.{made_problem}
-use Rattle.hub_words.specs.Requests.{Source, Solving, Making, Search, Request, solve, optimize, check, report, make, demo, instance}
+use Rattle.hub_words.specs.Requests.{Source, Solving, Resolving, Making, Search, Request, solve, optimize, resolve, check, report, make, demo, instance}
 use Rattle.hub_top.specs.declared.status.Status.{Status}
 use Rattle.hub_top.specs.declared.status.Status.TheVariants.{Done, Stopped, No, Usage, Instance, Memory, Read, Write, Lacking}
-use Rattle.hub_top.specs.Commands.{HoldsInstance, Method, method_of, demo_method, IsEnoughFor, Solves, Stops, LacksNetwork, JudgesFile, ReportsFile}
-use Rattle.hub_top.specs.Answers.{Answers, Demonstrates, found_status, rule_status, solve_status, verdict_status, report_status}
+use Rattle.hub_top.specs.Commands.{HoldsInstance, Method, method_of, demo_method, again_method, IsEnoughFor, Solves, Stops, LacksNetwork, HoldsOlder, JudgesFile, ReportsFile}
+use Rattle.hub_top.specs.Answers.{Answers, Demonstrates, found_status, rule_status, solve_status, older_status, verdict_status, report_status}
+use Rattle.hub_top.specs.Texts.{older_line}
 use Rattle.hub_top.proofs.OneReading.{same_bytes, one_instance}
 use Rattle.hub_top.proofs.OneTexts.{only_verdict}
 use Rattle.hub_top.proofs.Networks.{plan_serves}
@@ -50,6 +54,18 @@ optimize_instance files x Read text h = absurd h
 optimize_instance files x Write text h = absurd h
 optimize_instance files x Lacking text h = absurd h
 
+resolve_instance : (files : Files) (x : Resolving) (status : Status) (text : List ℕ) → Answers (resolve x) status (Some files) text
+    → HasInstance files x.source
+resolve_instance files x Done text h = record { problem = h.problem; instance = h.instance }
+resolve_instance files x Stopped text h = record { problem = h.problem; instance = h.instance }
+resolve_instance files x No text h = record { problem = h.refuses.problem; instance = h.refuses.instance }
+resolve_instance files x Usage text h = absurd h
+resolve_instance files x Instance text h = absurd h
+resolve_instance files x Memory text h = absurd h
+resolve_instance files x Read text h = absurd h
+resolve_instance files x Write text h = absurd h
+resolve_instance files x Lacking text h = absurd h
+
 report_instance : (files : Files) (s : Source) (file : List ℕ) (status : Status) (text : List ℕ) → Answers (report s file) status (Some files) text
     → HasInstance files s
 report_instance files s file Done text h = record { problem = h.problem; instance = h.instance }
@@ -68,6 +84,8 @@ answered_instance files (solve x) s status text named h =
     let e : x.source ≡ s = cc in subst (HasInstance files) e (solve_instance files x status text h)
 answered_instance files (optimize x) s status text named h =
     let e : x.source ≡ s = cc in subst (HasInstance files) e (optimize_instance files x status text h)
+answered_instance files (resolve x) s status text named h =
+    let e : x.source ≡ s = cc in subst (HasInstance files) e (resolve_instance files x status text h)
 answered_instance files (check t file) s status text named h =
     let e : t ≡ s = cc in subst (HasInstance files) e (record { problem = h.judges.problem; instance = h.judges.instance })
 answered_instance files (report t file) s status text named h =
@@ -124,10 +142,11 @@ lacking_status files x p commodity instance h =
     sym (ap (λ (o : Option (ℕ × ℕ)). cond (is_some o) Lacking (rule_status h.problem m)) h.lacks)
     ∙ ap (λ q. solve_status q m) (one_instance files x.source h.problem p h.instance instance)
 
-pub lacks_none : (files : Files) (x : Solving) (p : Problem) (commodity : ℕ × ℕ) → HoldsInstance files x.source p
-    → lacking p p.candidates ≡ None → LacksNetwork (Some files) x.source commodity → ⊥
-lacks_none files x p commodity instance none h =
-    let same : h.problem ≡ p = one_instance files x.source h.problem p h.instance instance in
+-- an instance whose candidates together lack no commodity is not told to lack a network
+pub lacks_none : (files : Files) (s : Source) (p : Problem) (commodity : ℕ × ℕ) → HoldsInstance files s p
+    → lacking p p.candidates ≡ None → LacksNetwork (Some files) s commodity → ⊥
+lacks_none files s p commodity instance none h =
+    let same : h.problem ≡ p = one_instance files s h.problem p h.instance instance in
     none-some commodity (sym none ∙ subst (λ (q : Problem). lacking q q.candidates ≡ Some commodity) same h.lacks)
 
 pub solve_enough : (files : Files) (x : Solving) (p : Problem) (status : Status) (text : List ℕ) → HoldsInstance files x.source p
@@ -143,6 +162,117 @@ solve_enough files x p Memory text instance enough h = absurd h
 solve_enough files x p Read text instance enough h = absurd h
 solve_enough files x p Write text instance enough h = absurd h
 solve_enough files x p Lacking text instance enough h = absurd h
+
+-- ---- `resolve`
+
+-- the older certificate of the answer is the one that is said of the bytes
+older_is : (files : Files) (x : Resolving) (p q : Problem) (bytes : List ℕ) (said other : Older) → q ≡ p → files x.older ≡ Some bytes
+    → IsOlder p bytes said → HoldsOlder (Some files) q x.older other → other ≡ said
+older_is files x p q bytes said other same held is k =
+    let there : k.bytes ≡ bytes = same_bytes files x.older k.bytes bytes k.bytes_held held in
+    let one = one_older_from one_certificate_lem each_is_text_or_fault_lem p bytes in
+    let moved : IsOlder p bytes other = subst (λ (b : List ℕ). IsOlder p b other) there (subst (λ (r : Problem). IsOlder r k.bytes other) same k.is) in
+    one.2 other moved ∙ sym (one.2 said is)
+
+-- the status of one that does not serve
+refused_older : (p : Problem) (search : Search) (said : Older) (text : List ℕ) → older_line said ≡ Some text → No ≡ older_status p search said
+unfolding older_status
+refused_older p search (serves older) text e = absurd (none-some text e)
+refused_older p search (serves_not kind line) text e = refl
+refused_older p search (unread fault) text e = refl
+refused_older p search over_limit text e = refl
+
+served_older : (p : Problem) (search : Search) (older : Proof) (said : Older) (status : Status) → serves older ≡ said
+    → status ≡ rule_status p (again_method search older) → status ≡ older_status p search said
+unfolding older_status
+served_older p search older said status same is = subst (λ (o : Older). status ≡ older_status p search o) same is
+
+pub resolve_status_is : (files : Files) (x : Resolving) (p : Problem) (bytes : List ℕ) (said : Older) (status : Status) (text : List ℕ)
+    → HoldsInstance files x.source p → files x.older ≡ Some bytes → IsOlder p bytes said → Answers (resolve x) status (Some files) text
+    → status ≡ older_status p x.search said
+resolve_status_is files x p bytes said Done text instance held is h =
+    let same : h.problem ≡ p = one_instance files x.source h.problem p h.instance instance in
+    served_older p x.search h.older said Done (older_is files x p h.problem bytes said (serves h.older) same held is h.older_held)
+    (subst (λ (q : Problem). Done ≡ rule_status q (again_method x.search h.older)) same
+    (solves_status h.problem (again_method x.search h.older) (Spells text) h.solves))
+resolve_status_is files x p bytes said Stopped text instance held is h =
+    let same : h.problem ≡ p = one_instance files x.source h.problem p h.instance instance in
+    served_older p x.search h.older said Stopped (older_is files x p h.problem bytes said (serves h.older) same held is h.older_held)
+    (subst (λ (q : Problem). Stopped ≡ rule_status q (again_method x.search h.older)) same
+    (stops_status h.problem (again_method x.search h.older) (Spells text) h.stops))
+resolve_status_is files x p bytes said No text instance held is h =
+    let k = h.refuses in
+    let same : k.problem ≡ p = one_instance files x.source k.problem p k.instance instance in
+    let one = older_is files x p k.problem bytes said h.said same held is k.older_held in
+    refused_older p x.search said text (subst (λ (o : Older). older_line o ≡ Some text) one h.of_text)
+resolve_status_is files x p bytes said Usage text instance held is h = absurd h
+resolve_status_is files x p bytes said Instance text instance held is h = absurd h
+resolve_status_is files x p bytes said Memory text instance held is h = absurd h
+resolve_status_is files x p bytes said Read text instance held is h = absurd h
+resolve_status_is files x p bytes said Write text instance held is h = absurd h
+resolve_status_is files x p bytes said Lacking text instance held is h = absurd h
+
+-- where the older certificate serves, it has one of two statuses
+pub resolve_served : (files : Files) (x : Resolving) (p : Problem) (bytes : List ℕ) (older : Proof) (status : Status) (text : List ℕ)
+    → HoldsInstance files x.source p → files x.older ≡ Some bytes → IsOlder p bytes (serves older) → Answers (resolve x) status (Some files) text
+    → (status ≡ Done) ⊎ (status ≡ Stopped)
+resolve_served files x p bytes older Done text instance held is h = inl refl
+resolve_served files x p bytes older Stopped text instance held is h = inr refl
+resolve_served files x p bytes older No text instance held is h =
+    let k = h.refuses in
+    let same : k.problem ≡ p = one_instance files x.source k.problem p k.instance instance in
+    let one = older_is files x p k.problem bytes (serves older) h.said same held is k.older_held in
+    absurd (none-some text (subst (λ (o : Older). older_line o ≡ Some text) one h.of_text))
+resolve_served files x p bytes older Usage text instance held is h = absurd h
+resolve_served files x p bytes older Instance text instance held is h = absurd h
+resolve_served files x p bytes older Memory text instance held is h = absurd h
+resolve_served files x p bytes older Read text instance held is h = absurd h
+resolve_served files x p bytes older Write text instance held is h = absurd h
+resolve_served files x p bytes older Lacking text instance held is h = absurd h
+
+-- and one alone where as many nodes are allowed as a whole tree has
+pub resolve_enough : (files : Files) (x : Resolving) (p : Problem) (bytes : List ℕ) (older : Proof) (status : Status) (text : List ℕ)
+    → HoldsInstance files x.source p → files x.older ≡ Some bytes → IsOlder p bytes (serves older) → IsEnoughFor p x.search.nodes
+    → Answers (resolve x) status (Some files) text → status ≡ Done
+resolve_enough files x p bytes older Done text instance held is enough h = refl
+resolve_enough files x p bytes older Stopped text instance held is enough h =
+    let same : p ≡ h.problem = one_instance files x.source p h.problem instance h.instance in
+    absurd (h.stops.not_enough (subst (λ (q : Problem). IsEnoughFor q x.search.nodes) same enough))
+resolve_enough files x p bytes older No text instance held is enough h =
+    let k = h.refuses in
+    let same : k.problem ≡ p = one_instance files x.source k.problem p k.instance instance in
+    let one = older_is files x p k.problem bytes (serves older) h.said same held is k.older_held in
+    absurd (none-some text (subst (λ (o : Older). older_line o ≡ Some text) one h.of_text))
+resolve_enough files x p bytes older Usage text instance held is enough h = absurd h
+resolve_enough files x p bytes older Instance text instance held is enough h = absurd h
+resolve_enough files x p bytes older Memory text instance held is enough h = absurd h
+resolve_enough files x p bytes older Read text instance held is enough h = absurd h
+resolve_enough files x p bytes older Write text instance held is enough h = absurd h
+resolve_enough files x p bytes older Lacking text instance held is enough h = absurd h
+
+-- where all candidates together lack a commodity it has no answer
+pub resolve_lacks : (files : Files) (x : Resolving) (p : Problem) (commodity : ℕ × ℕ) (status : Status) (text : List ℕ)
+    → HoldsInstance files x.source p → lacking p p.candidates ≡ Some commodity → Answers (resolve x) status (Some files) text → ⊥
+resolve_lacks files x p commodity Done text instance lacks h =
+    let same : h.problem ≡ p = one_instance files x.source h.problem p h.instance instance in
+    none-some commodity (sym (subst (λ (q : Problem). lacking q q.candidates ≡ None) same
+    (plan_serves h.problem h.solves.certificate.plan h.solves.finds.holds.plan)) ∙ lacks)
+resolve_lacks files x p commodity Stopped text instance lacks h =
+    let same : h.problem ≡ p = one_instance files x.source h.problem p h.instance instance in
+    none-some commodity (sym (subst (λ (q : Problem). lacking q q.candidates ≡ None) same
+    (plan_serves h.problem h.stops.certificate.plan h.stops.finds.holds.plan)) ∙ lacks)
+resolve_lacks files x p commodity No text instance lacks h =
+    let k = h.refuses in
+    let same : k.problem ≡ p = one_instance files x.source k.problem p k.instance instance in
+    none-some commodity (sym (subst (λ (q : Problem). lacking q q.candidates ≡ None) same k.lacks_none) ∙ lacks)
+resolve_lacks files x p commodity Usage text instance lacks h = h
+resolve_lacks files x p commodity Instance text instance lacks h = h
+resolve_lacks files x p commodity Memory text instance lacks h = h
+resolve_lacks files x p commodity Read text instance lacks h = h
+resolve_lacks files x p commodity Write text instance lacks h = h
+resolve_lacks files x p commodity Lacking text instance lacks h = h
+
+-- ---- `optimize`
 
 -- `optimize` has one of two statuses
 pub optimize_status : (held : Option Files) (x : Solving) (status : Status) (text : List ℕ) → Answers (optimize x) status held text

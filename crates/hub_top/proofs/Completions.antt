@@ -2,17 +2,19 @@
 use Rattle.std.proofs.Common.{◌≡◌, ℕ, List, Option, Some, None, ◌⊎◌, inl, inr, refl, sym, subst, ap, ◌∙◌}
 use Rattle.hub_io.specs.Outside.{Files, Rose}
 use Rattle.hub_spec.specs.Problem.{Problem}
+use Rattle.hub_spec.specs.Lacking.{lacking}
+use Rattle.cert_spec.proofs.OlderTexts.{certified_serves_lem}
 use Rattle.file_spec.specs.Faults.{Fault}
 use Rattle.hub_make.specs.Contents.{made_problem}
 use Rattle.hub_top.specs.declared.status.Status.{Status}
 use Rattle.hub_top.specs.declared.status.Status.TheVariants.{Done, Stopped, Usage, Instance, Lacking}
-use Rattle.hub_words.specs.Requests.{Source, Solving, Request, solve, optimize, check, report, make, demo, instance}
+use Rattle.hub_words.specs.Requests.{Source, Resolving, Request, solve, optimize, resolve, check, report, make, demo, instance}
 use Rattle.hub_top.specs.Commands.{WhereTold, Blame, HasBlame, HoldsInstance, LacksNetwork, method_of, demo_method}
-use Rattle.hub_top.specs.Answers.{Answers, verdict_status, report_status, rule_status, solve_status}
-use Rattle.hub_top.specs.Outcomes.{Outcome, answered, usage, faulty, no_network, memory, read, status_of, ShelfFails, Quiet, MayComeTo, Written, whole, out_cut, err_cut}
+use Rattle.hub_top.specs.Answers.{Answers, verdict_status, report_status, rule_status, solve_status, older_status}
+use Rattle.hub_top.specs.Outcomes.{Outcome, answered, usage, faulty, no_network, memory, read, status_of, ruled, ShelfFails, Quiet, MayComeTo, Written, whole, out_cut, err_cut}
 use Rattle.hub_top.specs.Completeness.{Completeness, EndsAs, EndsWith}
 use Rattle.hub_top.proofs.OneReading.{no_blame}
-use Rattle.hub_top.proofs.Answered.{answered_instance, solve_status_is, lacking_status, lacks_none, solve_enough, optimize_status, optimize_enough, check_status, report_status_is, make_status, demo_status, demo_enough}
+use Rattle.hub_top.proofs.Answered.{answered_instance, solve_status_is, lacking_status, lacks_none, solve_enough, resolve_status_is, resolve_served, resolve_enough, resolve_lacks, optimize_status, optimize_enough, check_status, report_status_is, make_status, demo_status, demo_enough}
 
 -- an ending that is written whole has its status, and a sink that fails counts it
 written_status : {O E : Type 0} (out_taken : O → Option (List ℕ)) (out_faults : O → ℕ) (err_taken : E → Option (List ℕ)) (err_faults : E → ℕ)
@@ -29,6 +31,16 @@ written_status out_taken out_faults err_taken err_faults out_old out_new err_old
 same_source : (request : Request) (s t : Source) → instance request ≡ Some s → instance request ≡ Some t → s ≡ t
 same_source request s t e f = cc
 
+-- an instance that a request asks the rule to solve is the one that it names
+ruled_instance : (request : Request) (s : Source) → ruled request ≡ Some s → instance request ≡ Some s
+ruled_instance (solve x) s e = e
+ruled_instance (optimize x) s e = cc
+ruled_instance (resolve x) s e = e
+ruled_instance (check t file) s e = cc
+ruled_instance (report t file) s e = cc
+ruled_instance (make m) s e = cc
+ruled_instance (demo m search) s e = cc
+
 asked_request : (request other : Request) → Some request ≡ Some other → request ≡ other
 asked_request request other e = cc
 
@@ -37,7 +49,7 @@ ends_usage : (held : Option Files) (fails : Request → Type 0) (e : Outcome) �
 ends_usage held fails (answered status text) may = (let is = may.1 in cc)
 ends_usage held fails usage may = inl refl
 ends_usage held fails (faulty blame fault) may = (let is = may.1 in cc)
-ends_usage held fails (no_network commodity) may = (let is = may.1 in cc)
+ends_usage held fails (no_network commodity) may = (let is = may.2 in cc)
 ends_usage held fails memory may = inr refl
 ends_usage held fails read may = (let is = may.1 in cc)
 
@@ -52,9 +64,9 @@ ends_faulty files request s blame fault named has fails quiet (answered status t
 ends_faulty files request s blame fault named has fails quiet usage may = cc
 ends_faulty files request s blame fault named has fails quiet (faulty other also) may = inl refl
 ends_faulty files request s blame fault named has fails quiet (no_network commodity) may =
-    let r : request ≡ solve may.0 = asked_request request (solve may.0) may.1 in
-    let own : may.0.source ≡ s = same_source request may.0.source s (ap instance r) named in
-    let h = may.2 in
+    let r : may.0 ≡ request = sym (asked_request request may.0 may.2) in
+    let own : may.1 ≡ s = same_source request may.1 s (ap instance (sym r) ∙ ruled_instance may.0 may.1 may.3) named in
+    let h = may.4 in
     absurd (no_blame files s h.problem (subst (λ (x : Source). HoldsInstance files x h.problem) own h.instance) blame fault has)
 ends_faulty files request s blame fault named has fails quiet memory may = inr refl
 ends_faulty files request s blame fault named has fails quiet read may = absurd (quiet may.0 may.2)
@@ -75,10 +87,17 @@ blameless_of files request s p named h blame fault t also has =
 blameless_without : (held : Option Files) (request : Request) → instance request ≡ None → IsBlameless held request
 blameless_without held request none blame fault t also has = cc
 
--- a run may end so that is asked to solve and tells of a lacked commodity
+-- a run may end so that is asked to solve by the rule and tells of a lacked commodity
 abbrev MayLack : Option Files → Request → (Status → Type 0) → Type 0
 MayLack held request wanted =
-    (s : Solving) (commodity : ℕ × ℕ) → request ≡ solve s → LacksNetwork held s.source commodity → wanted Lacking
+    (s : Source) (commodity : ℕ × ℕ) → ruled request ≡ Some s → LacksNetwork held s commodity → wanted Lacking
+
+-- no run tells so of an instance whose candidates together lack none
+no_lack : (files : Files) (r : Resolving) (p : Problem) (wanted : Status → Type 0) → HoldsInstance files r.source p → lacking p p.candidates ≡ None
+    → MayLack (Some files) (resolve r) wanted
+no_lack files r p wanted h none t commodity same k =
+    let own : t ≡ r.source = cc in
+    absurd (lacks_none files r.source p commodity h none (subst (λ (x : Source). LacksNetwork (Some files) x commodity) own k))
 
 -- how a request ends without a fault, where its answers have such a status
 ends_by : (request : Request) (held : Option Files) (wanted : Status → Type 0) → IsBlameless held request → MayLack held request wanted
@@ -93,7 +112,8 @@ ends_by request held wanted blameless lacks answers fails quiet (faulty blame fa
     let r : may.0 ≡ request = sym (asked_request request may.0 may.2) in
     absurd (blameless blame fault may.1 (ap instance (sym r) ∙ may.3) may.4)
 ends_by request held wanted blameless lacks answers fails quiet (no_network commodity) may =
-    inl (lacks may.0 commodity (asked_request request (solve may.0) may.1) may.2)
+    let r : may.0 ≡ request = sym (asked_request request may.0 may.2) in
+    inl (lacks may.1 commodity (ap ruled (sym r) ∙ may.3) may.4)
 ends_by request held wanted blameless lacks answers fails quiet memory may = inr refl
 ends_by request held wanted blameless lacks answers fails quiet read may = absurd (quiet may.0 may.2)
 
@@ -129,13 +149,26 @@ module _ (asked : Option Request) (held : Option Files) (fails : Request → Typ
         let Q : Option Files → Type 0 = λ x. MayComeTo (Some request) x fails e in
         status_by status e (λ (x : Status). x ≡ Instance) (written calm) (ends_faulty files request s blame fault named has fails (no_fault calm) e (subst Q told (subst P is may)));
     solved = λ files s p told is h. told_ends files (solve s) s.source p (λ (x : Status). x ≡ solve_status p (method_of s)) told is refl h
-        (λ t commodity same k. (let own : t ≡ s = cc in
-        lacking_status files s p commodity h (subst (λ (x : Solving). LacksNetwork (Some files) x.source commodity) own k)))
+        (λ t commodity same k. (let own : t ≡ s.source = cc in
+        lacking_status files s p commodity h (subst (λ (x : Source). LacksNetwork (Some files) x commodity) own k)))
         (λ other text answers. solve_status_is files s p other text h answers);
     enough = λ files s p told is h none many. told_ends files (solve s) s.source p (λ (x : Status). x ≡ Done) told is refl h
-        (λ t commodity same k. (let own : t ≡ s = cc in
-        absurd (lacks_none files s p commodity h none (subst (λ (x : Solving). LacksNetwork (Some files) x.source commodity) own k))))
+        (λ t commodity same k. (let own : t ≡ s.source = cc in
+        absurd (lacks_none files s.source p commodity h none (subst (λ (x : Source). LacksNetwork (Some files) x commodity) own k))))
         (λ other text answers. solve_enough files s p other text h many answers);
+    networkless = λ files r p commodity told is h lacks. told_ends files (resolve r) r.source p (λ (x : Status). x ≡ Lacking) told is refl h
+        (λ t other same k. refl)
+        (λ other text answers. absurd (resolve_lacks files r p commodity other text h lacks answers));
+    resolved = λ files r p bytes said told is h none there older. told_ends files (resolve r) r.source p (λ (x : Status). x ≡ older_status p r.search said) told is refl h
+        (no_lack files r p (λ (x : Status). x ≡ older_status p r.search said) h none)
+        (λ other text answers. resolve_status_is files r p bytes said other text h there older answers);
+    resolved_whole = λ files r p bytes older told is h none there serving many. told_ends files (resolve r) r.source p (λ (x : Status). x ≡ Done) told is refl h
+        (no_lack files r p (λ (x : Status). x ≡ Done) h none)
+        (λ other text answers. resolve_enough files r p bytes older other text h there serving many answers);
+    served = λ files r p before bytes bound cost told is h none there same certifies. (let serving = certified_serves_lem before p bytes bound cost same certifies in
+        told_ends files (resolve r) r.source p (λ (x : Status). (x ≡ Done) ⊎ (x ≡ Stopped)) told is refl h
+        (no_lack files r p (λ (x : Status). (x ≡ Done) ⊎ (x ≡ Stopped)) h none)
+        (λ other text answers. resolve_served files r p bytes serving.0 other text h there serving.1 answers));
     optimized = λ files s p told is h many. told_ends files (optimize s) s.source p (λ (x : Status). x ≡ Done) told is refl h
         (λ t commodity same k. cc)
         (λ other text answers. optimize_enough files s p other text h many answers);

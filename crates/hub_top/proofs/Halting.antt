@@ -9,12 +9,12 @@ use Rattle.file_spec.specs.Files.{HasContents}
 use Rattle.file_spec.specs.Instances as whole
 use Rattle.file_spec.specs.Options.{HubNumber, Options}
 use Rattle.file_spec.specs.Instances.{made, wanted_hubs}
-use Rattle.hub_words.specs.Requests.{Source}
+use Rattle.hub_words.specs.Requests.{Source, Resolving}
 use Rattle.hub_top.specs.declared.halts.Halt.{Halt}
 use Rattle.hub_top.specs.declared.halts.Halt.TheVariants as halts
 use Rattle.hub_top.specs.Blames.{blame_of}
 use Rattle.hub_model.specs.Faults.{fault_of}
-use Rattle.hub_top.specs.Commands.{WhereTold, Blame, on_instance, on_costs, HoldsFault, alone, together, HoldsCosts, HoldsContents, HoldsCostFault, HoldsInstance, LacksSource, no_file, no_costs, LacksCertificate}
+use Rattle.hub_top.specs.Commands.{WhereTold, Blame, on_instance, on_costs, HoldsFault, alone, together, HoldsCosts, HoldsContents, HoldsCostFault, HoldsInstance, LacksSource, no_file, no_costs, LacksCertificate, LacksOlder}
 use Rattle.hub_top.specs.Outcomes.{FailsFor, StaysShelf}
 use Rattle.hub_top.specs.Building.{IsBuilt, KeepsLimits}
 use Rattle.hub_top.specs.Halts.{Halts, IsTooLong, IsOfToken, IsOfWhole, IsOfCosts, IsOfCostTokens, HasCostsFault, LacksCosts, IsOfSource}
@@ -210,3 +210,14 @@ check_halts held faults sound old new s certificate h k =
     (FailsFor held faults sound old new (λ files. LacksSource files s ⊎ LacksCertificate files s certificate)) h
     (λ b f is. is)
     (λ u. fails_for {P = λ files. LacksSource files s} {Q = λ files. LacksSource files s ⊎ LacksCertificate files s certificate} (λ files told lacks. inl lacks) u) k
+
+-- what a search from an older certificate has for a halt, where there is no instance
+pub resolve_halts : {S : Type 0} (held : S → Option Files) (faults : S → ℕ) (sound : S → Type 0) (old new : S) (r : Resolving) (h : Halt)
+    → Halts (IsOfSource (held old) r.source) (FailsFor held faults sound old new (λ files. LacksSource files r.source)) h
+    → Halts (IsOfSource (held old) r.source) (FailsFor held faults sound old new (λ files. LacksSource files r.source ⊎ LacksOlder files r)) h
+resolve_halts held faults sound old new r h k =
+    weaker (IsOfSource (held old) r.source) (IsOfSource (held old) r.source)
+    (FailsFor held faults sound old new (λ files. LacksSource files r.source))
+    (FailsFor held faults sound old new (λ files. LacksSource files r.source ⊎ LacksOlder files r)) h
+    (λ b f is. is)
+    (λ u. fails_for {P = λ files. LacksSource files r.source} {Q = λ files. LacksSource files r.source ⊎ LacksOlder files r} (λ files told lacks. inl lacks) u) k

@@ -7,9 +7,9 @@ use Rattle.cert_spec.specs.Verdicts.{Verdict, optimal, bounds, misread, too_long
 use Rattle.cert_spec.specs.Verdicts as verdicts
 use Rattle.hub_top.specs.declared.status.Status.{Status}
 use Rattle.hub_top.specs.declared.status.Status.TheVariants.{Done, Memory}
-use Rattle.hub_words.specs.Requests.{Source, Solving, Request, solve, optimize, check}
+use Rattle.hub_words.specs.Requests.{Source, Solving, Resolving, Request, solve, optimize, resolve, check}
 use Rattle.hub_top.specs.Texts.{optimal_line, verdict_text}
-use Rattle.hub_top.specs.Commands.{HoldsInstance, method_of, SolvesInstance, OptimizesInstance, JudgesFile}
+use Rattle.hub_top.specs.Commands.{HoldsInstance, method_of, again_method, SolvesInstance, ResolvesInstance, OptimizesInstance, JudgesFile}
 use Rattle.cert_checker.specs.Shows.{ProvesOptimal}
 use Rattle.hub_top.specs.Answers.{verdict_status, Answers}
 use Rattle.hub_top.specs.Meanings.{Answered, Means}
@@ -30,6 +30,11 @@ solved_of : (asked : Option Request) (held : Option Files) (old new : Option (Li
     → (files : Files) (s : Solving) → held ≡ Some files → asked ≡ Some (solve s)
     → (text : List ℕ) × Appends old new text × SolvesInstance (Some files) s text
 solved_of asked held old new h files s told is = (h.text, h.taken, answers_to asked held old new h files (solve s) told is)
+
+resolved_of : (asked : Option Request) (held : Option Files) (old new : Option (List ℕ)) → Answered asked held old new Done
+    → (files : Files) (r : Resolving) → held ≡ Some files → asked ≡ Some (resolve r)
+    → (text : List ℕ) × Appends old new text × ResolvesInstance (Some files) r text
+resolved_of asked held old new h files r told is = (h.text, h.taken, answers_to asked held old new h files (resolve r) told is)
 
 optimized_of : (asked : Option Request) (held : Option Files) (old new : Option (List ℕ)) → Answered asked held old new Done
     → (files : Files) (s : Solving) → held ≡ Some files → asked ≡ Some (optimize s)
@@ -70,6 +75,17 @@ checked_of asked held quiet status complete before files s t certificate text to
     (held_again before files s.source t h.problem h.instance same) there
     (solved_verdict h.problem (method_of s) text h.solves short).0 calm
 
+-- a check of a text that solves the same instance again
+resolved_checked_of : (asked : Option Request) (held : Option Files) (quiet : Type 0) (status : Status) → Completeness asked held quiet status
+    → (before files : Files) (r : Resolving) (t : Source) (certificate text : List ℕ) → held ≡ Some files → asked ≡ Some (check t certificate)
+    → ResolvesInstance (Some before) r text → length text ≤ certificate_limit
+    → IsSameInstance before r.source files t → files certificate ≡ Some text → quiet
+    → (status ≡ Done) ⊎ (status ≡ Memory)
+resolved_checked_of asked held quiet status complete before files r t certificate text told asks h short same there calm =
+    complete.judged files t certificate h.problem text (optimal h.solves.certificate.cost) told asks
+    (held_again before files r.source t h.problem h.instance same) there
+    (solved_verdict h.problem (again_method r.search h.older) text h.solves short).0 calm
+
 -- a check of a text that optimizes the same instance
 optimum_checked : (asked : Option Request) (held : Option Files) (quiet : Type 0) (status : Status) → Completeness asked held quiet status
     → (before files : Files) (s : Solving) (t : Source) (certificate text : List ℕ) → held ≡ Some files → asked ≡ Some (check t certificate)
@@ -90,6 +106,9 @@ headline asked held fails old new rose quiet status means complete =
       solved = λ files s told is done. solved_of asked held old new (subst P done means) files s told is;
       checked = λ before files s t certificate text told is h short same there calm.
           checked_of asked held quiet status complete before files s t certificate text told is h short same there calm;
+      resolved = λ files r told is done. resolved_of asked held old new (subst P done means) files r told is;
+      resolved_checked = λ before files r t certificate text told is h short same there calm.
+          resolved_checked_of asked held quiet status complete before files r t certificate text told is h short same there calm;
       optimized = λ files s told is done. optimized_of asked held old new (subst P done means) files s told is;
       optimized_checked = λ before files s t certificate text told is h short same there calm.
           optimum_checked asked held quiet status complete before files s t certificate text told is h short same there calm;

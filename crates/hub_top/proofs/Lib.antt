@@ -1,5 +1,7 @@
 pub mod TooLong
+pub mod Resolved
 pub mod Writing
+pub mod FoundFrom
 pub mod RuleCertificates
 pub mod OneTexts
 pub mod Versions

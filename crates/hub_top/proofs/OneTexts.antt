@@ -1,7 +1,8 @@
 -- The verdict on a text that a search made, and that it has one.
 use Rattle.std.proofs.Common.{◌≡◌, ℕ, ◌<◌, ◌≤◌, List, length, sym, ap, ◌∙◌, inl, inr, refl}
-use Rattle.hub_spec.specs.Problem.{Problem}
+use Rattle.hub_spec.specs.Problem.{Problem, IsProblem}
 use Rattle.hub_spec.specs.Certificates.{Proof}
+use Rattle.hub_spec.proofs.SameNetworks.{one_closed_cost}
 use Rattle.cert_spec.specs.Text.{Spells, certificate_text}
 use Rattle.cert_spec.specs.Verdicts.{Verdict, optimal, bounds, Why, certificate_limit}
 use Rattle.cert_spec.proofs.OneText.{one_certificate_lem}
@@ -61,3 +62,9 @@ rule_text p m text (inr h) = h.finds.told.text ∙ ap certificate_text h.by_rule
 
 pub one_text_of : (p : Problem) (m : Method) (text other : List ℕ) → Ends p m text → Ends p m other → other ≡ text
 one_text_of p m text other h k = rule_text p m other k ∙ sym (rule_text p m text h)
+
+-- two texts that solve one instance have one cost
+pub one_cost_of : (p : Problem) (m other : Method) (text too : List ℕ) (solved : Solves p m (Spells text)) (again : Solves p other (Spells too))
+    → IsProblem p → again.certificate.cost ≡ solved.certificate.cost
+one_cost_of p m other text too solved again ok =
+    one_closed_cost p again.certificate solved.certificate ok again.finds.holds solved.finds.holds again.no_gap solved.no_gap

@@ -28,7 +28,7 @@ lines_long : (found : Found) (tree : Tree) → lines_of found.tree.items ≡ pre
 lines_long found tree lines =
     sym (length-map found.tree.items tree_line_of) ∙ ap length lines ∙ length-preorder tree
 
-optimum_finds : (held : Option Files) (s : Source) (m : Method) (p : Problem) (found : Found) (h : IsOptimum held s m.nodes p found) → IsVersionFor p m.version
+optimum_finds : (held : Option Files) (s : Source) (m : Method) (p : Problem) (found : Found) (h : IsOptimum held s m.nodes p found) → IsVersionFor p found.cuts.cuts m.version
     → Finds p m (Spells (found_text m.version p found)) (proof_of m.version p found h.proved.tree)
 optimum_finds held s m p found h version =
     let proved = h.proved in
@@ -45,7 +45,7 @@ optimum_finds held s m p found h version =
       most = subst (λ (made : ℕ). made + 1 ≤ 2 ^ (length p.candidates + 1)) (lines_long found proved.tree proved.lines) h.most;
     }
 
-closes : (held : Option Files) (s : Source) (m : Method) (p : Problem) (found : Found) → IsOptimum held s m.nodes p found → IsVersionFor p m.version
+closes : (held : Option Files) (s : Source) (m : Method) (p : Problem) (found : Found) → IsOptimum held s m.nodes p found → IsVersionFor p found.cuts.cuts m.version
     → found.bound ≡ found.cost → Optimizes p m (found_text m.version p found)
 closes held s m p found h version closed =
     let finds = optimum_finds held s m p found h version in
@@ -57,7 +57,7 @@ closes held s m p found h version closed =
       optimal = record { is_plan = holds.plan; wanted = holds.wanted; least = subst (NoPlanBelow p) (closed ∙ holds.cost) finds.below };
     }
 
-leaves : (held : Option Files) (s : Source) (m : Method) (p : Problem) (found : Found) → IsOptimum held s m.nodes p found → IsVersionFor p m.version
+leaves : (held : Option Files) (s : Source) (m : Method) (p : Problem) (found : Found) → IsOptimum held s m.nodes p found → IsVersionFor p found.cuts.cuts m.version
     → found.bound < found.cost → Bounds p m (found_text m.version p found)
 leaves held s m p found h version gap = record {
   certificate = proof_of m.version p found h.proved.tree;
@@ -69,7 +69,7 @@ leaves held s m p found h version gap = record {
 }
 
 -- `optimize` answers so, in a version that there is for the instance
-pub optimize_answers : (held : Option Files) (s : Solving) (p : Problem) (found : Found) → IsVersionFor p s.version
+pub optimize_answers : (held : Option Files) (s : Solving) (p : Problem) (found : Found) → IsVersionFor p found.cuts.cuts s.version
     → IsOptimum held s.source s.search.nodes p found
     → Answers (optimize s) (finding_status found) held (found_text s.version p found)
 optimize_answers held s p found version h =

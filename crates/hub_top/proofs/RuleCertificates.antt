@@ -6,43 +6,34 @@ use Rattle.hub_spec.specs.Plans.{NoPlanBelow}
 use Rattle.hub_spec.specs.Trees.{line_count}
 use Rattle.hub_spec.specs.Certificates.{Proof, Holds}
 use Rattle.hub_spec.proofs.WeakDuality.{no_plan_below_bound}
-use Rattle.search_spec.specs.Choices.{rule}
 use Rattle.search_spec.specs.Findings.{AreWithin, IsSpent, IsCertificateOf}
-use Rattle.search_spec.proofs.WholeSearches.{enough_nodes}
 use Rattle.search_spec.proofs.LeastRoutes.{certificate_is_one_lem}
 use Rattle.search_spec.proofs.FoundProofs.{certificate_holds_lem}
-use Rattle.search_steps.specs.Advising.{parts_of}
-use Rattle.search_steps.proofs.RuleChoices.{parts_sound}
-use Rattle.branch_tree.specs.Findings.{found_by}
-use Rattle.branch_tree.proofs.FoundCertificates.{IsSearchable, start_of, start_is, found_proof, found_counted, found_stopped}
-use Rattle.hub_top.specs.Commands.{Method, rule_certificate, Finds, Solves, Stops, IsEnoughFor}
-
-rule_enough : (p : Problem) (n : Option ℕ) → IsSearchable p → IsEnoughFor p n → IsNone (found_by p n).state.stop
-unfolding rule
-rule_enough p n ok enough = enough_nodes p (parts_of p) n (start_of p) ok.problem (parts_sound p ok.problem) (start_is p ok) enough
+use Rattle.hub_top.specs.Commands.{Method, found_from, rule_certificate, Finds, Solves, Stops}
+use Rattle.hub_top.proofs.FoundFrom.{IsSearchable, from_proof, from_counted, from_stopped, from_enough}
 
 -- ---- its certificate
 
-pub rule_is_certificate : (p : Problem) (m : Method) → IsSearchable p
-    → IsCertificateOf p m.version (found_by p m.nodes) (rule_certificate p m)
+pub rule_is_certificate : (p : Problem) (m : Method) → IsSearchable p m.start
+    → IsCertificateOf p m.version (found_from p m.nodes m.start) (rule_certificate p m)
 rule_is_certificate p m ok =
-    (certificate_is_one_lem p m.version (found_by p m.nodes) (rule_certificate p m) (found_proof p m.nodes ok)).1 refl
+    (certificate_is_one_lem p m.version (found_from p m.nodes m.start) (rule_certificate p m) (from_proof p m.nodes m.start ok)).1 refl
 
-rule_holds : (p : Problem) (m : Method) → IsSearchable p → Holds p (rule_certificate p m)
+rule_holds : (p : Problem) (m : Method) → IsSearchable p m.start → Holds p (rule_certificate p m)
 rule_holds p m ok =
-    certificate_holds_lem p m.version (found_by p m.nodes) (rule_certificate p m) ok.problem (found_proof p m.nodes ok)
+    certificate_holds_lem p m.version (found_from p m.nodes m.start) (rule_certificate p m) ok.problem (from_proof p m.nodes m.start ok)
     (rule_is_certificate p m ok)
 
 -- its tree has a line for each node
-rule_lines : (p : Problem) (m : Method) → IsSearchable p
-    → line_count (rule_certificate p m).tree ≡ (found_by p m.nodes).state.made
-rule_lines p m ok = ap line_count (rule_is_certificate p m ok).tree ∙ (found_counted p m.nodes ok).lines
+rule_lines : (p : Problem) (m : Method) → IsSearchable p m.start
+    → line_count (rule_certificate p m).tree ≡ (found_from p m.nodes m.start).state.made
+rule_lines p m ok = ap line_count (rule_is_certificate p m ok).tree ∙ (from_counted p m.nodes m.start ok).lines
 
-rule_finds : (p : Problem) (m : Method) (tells : Proof → Type 0) → IsSearchable p → tells (rule_certificate p m)
+rule_finds : (p : Problem) (m : Method) (tells : Proof → Type 0) → IsSearchable p m.start → tells (rule_certificate p m)
     → Finds p m tells (rule_certificate p m)
 rule_finds p m tells ok told =
     let holds = rule_holds p m ok in
-    let counted = found_counted p m.nodes ok in
+    let counted = from_counted p m.nodes m.start ok in
     let lines = sym (rule_lines p m ok) in
     record {
       told = told;
@@ -55,7 +46,7 @@ rule_finds p m tells ok told =
       most = subst (λ (made : ℕ). made + 1 ≤ 2 ^ (length p.candidates + 1)) lines counted.most;
     }
 
-pub rule_solves : (p : Problem) (m : Method) (tells : Proof → Type 0) → IsSearchable p → tells (rule_certificate p m)
+pub rule_solves : (p : Problem) (m : Method) (tells : Proof → Type 0) → IsSearchable p m.start → tells (rule_certificate p m)
     → (rule_certificate p m).bound ≡ (rule_certificate p m).cost → Solves p m tells
 rule_solves p m tells ok told closed =
     let k = rule_certificate p m in
@@ -73,13 +64,13 @@ none_or_some : (stop : Option ℕ) → (IsNone stop → ⊥) → IsSome stop
 none_or_some None h = absurd (h refl)
 none_or_some (Some x) h = refl
 
-pub rule_stops : (p : Problem) (m : Method) (tells : Proof → Type 0) → IsSearchable p → tells (rule_certificate p m)
+pub rule_stops : (p : Problem) (m : Method) (tells : Proof → Type 0) → IsSearchable p m.start → tells (rule_certificate p m)
     → (rule_certificate p m).bound < (rule_certificate p m).cost → Stops p m tells
 rule_stops p m tells ok told gap =
-    let g = found_by p m.nodes in
+    let g = found_from p m.nodes m.start in
     let k = rule_certificate p m in
     let is = rule_is_certificate p m ok in
-    let stops = found_stopped p m.nodes ok in
+    let stops = from_stopped p m.nodes m.start ok in
     let closed : IsNone g.state.stop → ⊥ = λ none. absurd (omega (arith, gap, is.bound, is.cost, stops.whole none)) in
     record {
       certificate = k;
@@ -87,5 +78,5 @@ rule_stops p m tells ok told gap =
       finds = rule_finds p m tells ok told;
       gap = gap;
       spent = subst (IsSpent m.nodes) (sym (rule_lines p m ok)) (stops.spent (none_or_some g.state.stop closed));
-      not_enough = λ enough. closed (rule_enough p m.nodes ok enough);
+      not_enough = λ enough. closed (from_enough p m.nodes m.start ok enough);
     }

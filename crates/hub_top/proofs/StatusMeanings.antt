@@ -4,7 +4,7 @@ use Rattle.std.specs.Io.KnownBytes.{Appends}
 use Rattle.hub_io.specs.Outside.{Files, Rose}
 use Rattle.cert_spec.specs.Verdicts.{Verdict, optimal, bounds, misread, too_long}
 use Rattle.cert_spec.specs.Verdicts as verdicts
-use Rattle.hub_words.specs.Requests.{Source, Solving, Making, Search, Request, solve, optimize, check, report, make, demo}
+use Rattle.hub_words.specs.Requests.{Source, Solving, Resolving, Making, Search, Request, solve, optimize, resolve, check, report, make, demo}
 use Rattle.hub_top.specs.declared.status.Status.{Status}
 use Rattle.hub_top.specs.declared.status.Status.TheVariants.{Done, Stopped, No, Usage, Instance, Memory, Read, Write, Lacking}
 use Rattle.hub_top.specs.Answers.{Answers, verdict_status}
@@ -52,6 +52,17 @@ of_optimize s Read held text none h = h
 of_optimize s Write held text none h = h
 of_optimize s Lacking held text none h = h
 
+of_resolve : (r : Resolving) (status : Status) (held : Option Files) (text : List ℕ) → HasNoAnswer status → Answers (resolve r) status held text → ⊥
+of_resolve r Done held text none h = none
+of_resolve r Stopped held text none h = none
+of_resolve r No held text none h = none
+of_resolve r Usage held text none h = h
+of_resolve r Instance held text none h = h
+of_resolve r Memory held text none h = h
+of_resolve r Read held text none h = h
+of_resolve r Write held text none h = h
+of_resolve r Lacking held text none h = h
+
 of_report : (s : Source) (file : List ℕ) (status : Status) (held : Option Files) (text : List ℕ) → HasNoAnswer status → Answers (report s file) status held text → ⊥
 of_report s file Done held text none h = none
 of_report s file Stopped held text none h = none
@@ -88,6 +99,7 @@ of_demo m search Lacking held text none h = h
 no_answer : (request : Request) (status : Status) (held : Option Files) (text : List ℕ) → HasNoAnswer status → Answers request status held text → ⊥
 no_answer (solve s) status held text none h = of_solve s status held text none h
 no_answer (optimize s) status held text none h = of_optimize s status held text none h
+no_answer (resolve r) status held text none h = of_resolve r status held text none h
 no_answer (check s file) status held text none h = of_verdict h.verdict status none h.of_status
 no_answer (report s file) status held text none h = of_report s file status held text none h
 no_answer (make m) status held text none h = of_make m status held text none h
@@ -112,7 +124,7 @@ row asked held failing old new rose usage may taken = (may, taken)
 row asked held failing old new rose (faulty blame fault) may taken =
     record { request = may.0; is_asked = may.2; source = may.1; is_named = may.3; blame = blame; fault = fault; holds = may.4; taken = taken }
 row asked held failing old new rose (no_network commodity) may taken =
-    record { solving = may.0; is_asked = may.1; commodity = commodity; lacks = may.2; taken = taken }
+    record { request = may.0; is_asked = may.2; source = may.1; is_named = may.3; commodity = commodity; lacks = may.4; taken = taken }
 row asked held failing old new rose memory may taken = taken
 row asked held failing old new rose read may taken = record { request = may.0; is_asked = may.1; failed = may.2; taken = taken }
 

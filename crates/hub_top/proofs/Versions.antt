@@ -1,11 +1,12 @@
 -- The versions that words can ask for have a text for what is found.
-use Rattle.std.proofs.Common.{◌≡◌, ℕ, false, ◌⊎◌, inl, inr, ⊎_elim, ◌∙◌, arith}
+use Rattle.std.proofs.Common.{◌≡◌, ℕ, false, List, All, ◌⊎◌, inl, inr, ⊎_elim, ◌∙◌, arith}
 use Rattle.std.specs.Prelude.{is_some}
 use Rattle.std.proofs.lemmas.Bool.{cases_lt, or_parts}
 use Rattle.hub_spec.specs.Problem.{Problem}
 use Rattle.hub_spec.proofs.SumLemmas.{by_test}
 use Rattle.search_spec.proofs.Nodes.{none_there}
 use Rattle.file_spec.specs.Options.{Options}
+use Rattle.kept_cuts.specs.Kept.{Kept, IsOwn}
 use Rattle.kept_cuts.specs.Findings.{IsUnlimited, IsVersionFor}
 use Rattle.hub_words.specs.Requests as words
 use Rattle.hub_words.specs.Requests.{Solving, SaysLimits}
@@ -22,13 +23,13 @@ first_or_second v asked = elim (cases_lt v 2) [
   | inr above ↦ inr (omega (arith, above, asked.1))
 ]
 
--- each, where the instance is unlimited
-pub either_version : (p : Problem) (v : ℕ) → IsUnlimited p → words.IsVersion v → IsVersionFor p v
-either_version p v unlimited asked = ⊎_elim (λ one. inl (one, unlimited)) (λ two. inr two) (first_or_second v asked)
+-- each, where the instance is unlimited and no cut was given
+pub either_version : (p : Problem) (cuts : List Kept) (v : ℕ) → IsUnlimited p → All IsOwn cuts → words.IsVersion v → IsVersionFor p cuts v
+either_version p cuts v unlimited own asked = ⊎_elim (λ one. inl (one, unlimited, own)) (λ two. inr two) (first_or_second v asked)
 
 -- and any that may be asked for, since limits are said in the second alone
-pub said_version : (s : Solving) (p : Problem) → KeepsLimits s.source.options p → words.IsVersion s.version → SaysLimits s
-    → IsVersionFor p s.version
-said_version s p keeps asked says =
+pub said_version : (s : Solving) (p : Problem) (cuts : List Kept) → KeepsLimits s.source.options p → All IsOwn cuts → words.IsVersion s.version
+    → SaysLimits s → IsVersionFor p cuts s.version
+said_version s p cuts keeps own asked says =
     by_test (words.is_limited s.source.options) (λ limited. inr (says limited))
-    (λ not. either_version p s.version (unlimited_when s.source.options p keeps not) asked)
+    (λ not. either_version p cuts s.version (unlimited_when s.source.options p keeps not) own asked)

@@ -1,19 +1,19 @@
 -- What each command says with each status.
-use Rattle.std.specs.Prelude.{◌≡◌, ℕ, List, Option, is_some, nat_eq, if◌then◌else◌}
+use Rattle.std.specs.Prelude.{◌≡◌, ℕ, List, Option, Some, is_some, nat_eq, if◌then◌else◌}
 use Rattle.hub_io.specs.Outside.{Files}
 use Rattle.hub_spec.specs.Problem.{Problem}
 use Rattle.hub_spec.specs.Lacking.{lacking}
 use Rattle.hub_spec.specs.Trees.{line_count}
 use Rattle.hub_spec.specs.Certificates.{Proof}
-use Rattle.cert_spec.specs.Verdicts.{Verdict, optimal, bounds}
+use Rattle.cert_spec.specs.Verdicts.{Verdict, optimal, bounds, Older, serves}
 use Rattle.hub_make.specs.Texts.{made_text}
 use Rattle.hub_make.specs.Contents.{made_problem}
 use Rattle.hub_demo.specs.Texts as lines
-use Rattle.hub_words.specs.Requests.{Source, Request, solve, optimize, check, report, make, demo}
+use Rattle.hub_words.specs.Requests.{Source, Search, Resolving, Request, solve, optimize, resolve, check, report, make, demo}
 use Rattle.hub_top.specs.declared.status.Status.{Status}
 use Rattle.hub_top.specs.declared.status.Status.TheVariants.{Done, Stopped, No, Lacking}
-use Rattle.hub_top.specs.Texts.{verdict_text}
-use Rattle.hub_top.specs.Commands.{Method, demo_method, rule_certificate, Solves, Stops, SolvesInstance, StopsInstance, OptimizesInstance, BoundsInstance, JudgesFile, ReportsFile}
+use Rattle.hub_top.specs.Texts.{verdict_text, older_line}
+use Rattle.hub_top.specs.Commands.{Method, demo_method, again_method, rule_certificate, Solves, Stops, SolvesInstance, StopsInstance, ResolvesInstance, StopsAgain, RefusesOlder, OptimizesInstance, BoundsInstance, JudgesFile, ReportsFile}
 
 -- ---- statuses
 
@@ -41,7 +41,18 @@ rule_status p m = found_status (rule_certificate p m)
 unfoldable pub solve_status : Problem → Method → Status
 solve_status p m = if is_some (lacking p p.candidates) then Lacking else rule_status p m
 
+-- of `resolve`, where all candidates together lack no commodity: 2 where the older certificate does not serve
+unfoldable pub older_status : Problem → Search → Older → Status
+older_status p search (serves older) = rule_status p (again_method search older)
+older_status p search said = No
+
 -- ---- answers
+
+-- the text is the line that tells why the older certificate does not serve
+pub record TellsOlder (held : Option Files) (r : Resolving) (text : List ℕ) : Type 0 where
+  pub said : Older
+  pub of_text : older_line said ≡ Some text
+  pub refuses : RefusesOlder held r said
 
 -- the text is the line of a verdict with this status, which is the verdict on the certificate
 pub record Judges (held : Option Files) (s : Source) (certificate : List ℕ) (status : Status) (text : List ℕ) : Type 0 where
@@ -66,6 +77,10 @@ Answers (solve s) status held text = ⊥
 Answers (optimize s) Done held text = OptimizesInstance held s text
 Answers (optimize s) Stopped held text = BoundsInstance held s text
 Answers (optimize s) status held text = ⊥
+Answers (resolve r) Done held text = ResolvesInstance held r text
+Answers (resolve r) Stopped held text = StopsAgain held r text
+Answers (resolve r) No held text = TellsOlder held r text
+Answers (resolve r) status held text = ⊥
 Answers (check s certificate) status held text = Judges held s certificate status text
 Answers (report s certificate) Done held text = ReportsFile held s certificate text
 Answers (report s certificate) No held text = Judges held s certificate No text

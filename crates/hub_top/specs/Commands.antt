@@ -7,17 +7,19 @@ use Rattle.hub_spec.specs.Plans.{Plan, IsPlan, IsOptimal, IsSetCost, IsLeastRout
 use Rattle.hub_spec.specs.Lacking.{lacking}
 use Rattle.hub_spec.specs.Trees.{line_count}
 use Rattle.hub_spec.specs.Certificates.{Proof, Holds}
+use Rattle.search_spec.specs.States.{Grown}
 use Rattle.search_spec.specs.Findings.{AreWithin, IsSpent, IsEnough, certificate_of}
+use Rattle.search_spec.specs.Again.{Start, start_of}
 use Rattle.cert_spec.specs.Text.{Spells}
-use Rattle.cert_spec.specs.Verdicts.{Verdict, Why, certificate_limit}
+use Rattle.cert_spec.specs.Verdicts.{Verdict, Why, Older, serves, IsOlder, certificate_limit}
 use Rattle.file_spec.specs.Limits.{file_limit}
 use Rattle.file_spec.specs.Faults.{Fault}
 use Rattle.file_spec.specs.Contents.{Contents}
 use Rattle.file_spec.specs.Files.{HasContents}
 use Rattle.file_spec.specs.Instances.{build_fault, GivesInstance, GivesFileFault, GivesCosts, GivesCostFault}
-use Rattle.branch_tree.specs.Findings.{found_by}
+use Rattle.branch_tree.specs.Findings.{found_by, found_again}
 use Rattle.network_report.specs.Texts.{report_text}
-use Rattle.hub_words.specs.Requests.{Source, Search, Solving, Request, solve, optimize, check, report, make, demo}
+use Rattle.hub_words.specs.Requests.{Source, Search, Solving, Resolving, Request, solve, optimize, resolve, check, report, make, demo}
 use Rattle.cert_checker.specs.Shows.{Proves}
 
 -- a fact about the files, where they are told
@@ -77,18 +79,24 @@ HasBlame files s on_costs fault = HoldsCostFault files s fault
 
 -- ---- what a search comes to
 
--- how a search is asked for, as far as its certificate depends on it: the version of the text, and the most nodes
+-- how a search is asked for, as far as its certificate depends on it: the version of the text, the most nodes, and what it
+-- begins with beside its own cuts, if it begins again
 pub record Method : Type 0 where
   pub version : ℕ
   pub nodes : Option ℕ
+  pub start : Option Start
 
 -- of `solve` and `optimize`
 abbrev pub method_of : Solving → Method
-method_of s = record { version = s.version; nodes = s.search.nodes }
+method_of s = record { version = s.version; nodes = s.search.nodes; start = None }
 
 -- of `demo`, which tells of a certificate of the first version
 abbrev pub demo_method : Search → Method
-demo_method search = record { version = 1; nodes = search.nodes }
+demo_method search = record { version = 1; nodes = search.nodes; start = None }
+
+-- of `resolve` with this older certificate, which writes the second version
+abbrev pub again_method : Search → Proof → Method
+again_method search older = record { version = 2; nodes = search.nodes; start = Some (start_of older) }
 
 -- what is told is a certificate of the version that holds for the instance: its hubs and routes are a plan that costs exactly its cost,
 -- with as many hubs as are wanted, if a number is; each route is allowed, and a least one through its hubs, and no
@@ -104,12 +112,17 @@ pub record Finds (p : Problem) (m : Method) (tells : Proof → Type 0) (k : Proo
   pub allowed : AreWithin m.nodes (line_count k.tree)
   pub most : line_count k.tree + 1 ≤ 2 ^ (length p.candidates + 1)
 
--- ---- what `solve` and `demo` come to
+-- ---- what `solve`, `resolve` and `demo` come to
 
--- the certificate that the search rule defines for the instance and the most nodes, in the version; it reads no number of
--- workers
+-- what the search rule finds, from its beginning or from a start
+abbrev pub found_from : Problem → Option ℕ → Option Start → Grown
+found_from p nodes None = found_by p nodes
+found_from p nodes (Some start) = found_again p nodes start
+
+-- the certificate that the search rule defines for the instance, the most nodes and the start, in the version; it reads no
+-- number of workers
 abbrev pub rule_certificate : Problem → Method → Proof
-rule_certificate p m = certificate_of p m.version (found_by p m.nodes)
+rule_certificate p m = certificate_of p m.version (found_from p m.nodes m.start)
 
 -- it is the rule's
 abbrev pub IsByRule : Problem → Method → Proof → Type 0
@@ -154,6 +167,38 @@ pub record LacksNetwork (held : Option Files) (s : Source) (commodity : ℕ × �
   pub instance : WhereTold held (λ files. HoldsInstance files s problem)
   pub lacks : lacking problem problem.candidates ≡ Some commodity
   pub no_plan : (plan : Plan) → IsPlan problem plan → ⊥
+
+-- ---- the older certificate of `resolve`
+
+-- the file holds bytes of which this is said as an older certificate
+pub record HoldsOlder (held : Option Files) (p : Problem) (older : List ℕ) (said : Older) : Type 0 where
+  pub bytes : List ℕ
+  pub bytes_held : WhereTold held (λ files. files older ≡ Some bytes)
+  pub is : IsOlder p bytes said
+
+-- the files give an instance and an older certificate whose cuts are cuts of it, and the text solves the instance from these
+pub record ResolvesInstance (held : Option Files) (r : Resolving) (text : List ℕ) : Type 0 where
+  pub problem : Problem
+  pub instance : WhereTold held (λ files. HoldsInstance files r.source problem)
+  pub older : Proof
+  pub older_held : HoldsOlder held problem r.older (serves older)
+  pub solves : Solves problem (again_method r.search older) (Spells text)
+
+-- they do, and the text stops
+pub record StopsAgain (held : Option Files) (r : Resolving) (text : List ℕ) : Type 0 where
+  pub problem : Problem
+  pub instance : WhereTold held (λ files. HoldsInstance files r.source problem)
+  pub older : Proof
+  pub older_held : HoldsOlder held problem r.older (serves older)
+  pub stops : Stops problem (again_method r.search older) (Spells text)
+
+-- the files give an instance whose candidates together lack no commodity, and bytes that do not serve as an older certificate,
+-- for this reason
+pub record RefusesOlder (held : Option Files) (r : Resolving) (said : Older) : Type 0 where
+  pub problem : Problem
+  pub instance : WhereTold held (λ files. HoldsInstance files r.source problem)
+  pub lacks_none : lacking problem problem.candidates ≡ None
+  pub older_held : HoldsOlder held problem r.older said
 
 -- ---- what `optimize` comes to
 
@@ -229,10 +274,18 @@ pub record LacksCertificate (files : Files) (s : Source) (certificate : List ℕ
   pub instance : HoldsInstance files s problem
   pub lacks : files certificate ≡ None
 
+-- the file of the older certificate is not held, where there is an instance whose candidates together lack no commodity
+pub record LacksOlder (files : Files) (r : Resolving) : Type 0 where
+  pub problem : Problem
+  pub instance : HoldsInstance files r.source problem
+  pub lacks_none : lacking problem problem.candidates ≡ None
+  pub lacks : files r.older ≡ None
+
 -- a file that the request names is not held, when its turn comes
 abbrev pub Lacks : Files → Request → Type 0
 Lacks files (solve solving) = LacksSource files solving.source
 Lacks files (optimize solving) = LacksSource files solving.source
+Lacks files (resolve resolving) = LacksSource files resolving.source ⊎ LacksOlder files resolving
 Lacks files (check s certificate) = LacksSource files s ⊎ LacksCertificate files s certificate
 Lacks files (report s certificate) = LacksSource files s ⊎ LacksCertificate files s certificate
 Lacks files (make making) = ⊥

@@ -1,16 +1,17 @@
 -- What a run comes to in which nothing fails.
 use Rattle.std.specs.Prelude.{◌≡◌, ℕ, List, Option, Some, None, ◌⊎◌}
 use Rattle.hub_io.specs.Outside.{Files}
-use Rattle.hub_spec.specs.Problem.{Problem}
+use Rattle.hub_spec.specs.Problem.{Problem, IsSameNetwork}
+use Rattle.hub_spec.specs.Certificates.{Proof}
 use Rattle.hub_spec.specs.Lacking.{lacking}
-use Rattle.cert_spec.specs.Verdicts.{Verdict, Why}
+use Rattle.cert_spec.specs.Verdicts.{Verdict, Why, Certifies, Older, serves, IsOlder}
 use Rattle.file_spec.specs.Faults.{Fault}
 use Rattle.hub_make.specs.Contents.{made_problem}
 use Rattle.hub_top.specs.declared.status.Status.{Status}
-use Rattle.hub_top.specs.declared.status.Status.TheVariants.{Done, Stopped, Usage, Instance, Memory}
-use Rattle.hub_words.specs.Requests.{Source, Solving, Making, Search, Request, solve, optimize, check, report, make, demo, instance}
+use Rattle.hub_top.specs.declared.status.Status.TheVariants.{Done, Stopped, Usage, Instance, Memory, Lacking}
+use Rattle.hub_words.specs.Requests.{Source, Solving, Resolving, Making, Search, Request, solve, optimize, resolve, check, report, make, demo, instance}
 use Rattle.hub_top.specs.Commands.{Blame, HasBlame, HoldsInstance, method_of, demo_method, IsEnoughFor}
-use Rattle.hub_top.specs.Answers.{verdict_status, report_status, rule_status, solve_status}
+use Rattle.hub_top.specs.Answers.{verdict_status, report_status, rule_status, solve_status, older_status}
 
 -- the run ended with a status of which this holds, or for want of memory
 abbrev pub EndsAs : (Status → Type 0) → Status → Type 0
@@ -33,6 +34,22 @@ pub record Completeness (asked : Option Request) (held : Option Files) (quiet : 
   -- and where they lack none, with as many nodes as a whole tree has it is solved
   pub enough : (files : Files) (s : Solving) (p : Problem) → held ≡ Some files → asked ≡ Some (solve s)
       → HoldsInstance files s.source p → lacking p p.candidates ≡ None → IsEnoughFor p s.search.nodes → quiet → EndsWith Done status
+  -- `resolve` with an instance: 8 where all candidates together lack a commodity, whatever is held of the older certificate
+  pub networkless : (files : Files) (r : Resolving) (p : Problem) (commodity : ℕ × ℕ) → held ≡ Some files → asked ≡ Some (resolve r)
+      → HoldsInstance files r.source p → lacking p p.candidates ≡ Some commodity → quiet → EndsWith Lacking status
+  -- and where they lack none, with an older certificate: 2 where this does not serve, else the status of what the search rule finds
+  -- from its start
+  pub resolved : (files : Files) (r : Resolving) (p : Problem) (bytes : List ℕ) (said : Older) → held ≡ Some files → asked ≡ Some (resolve r)
+      → HoldsInstance files r.source p → lacking p p.candidates ≡ None → files r.older ≡ Some bytes → IsOlder p bytes said → quiet
+      → EndsWith (older_status p r.search said) status
+  -- and with one that serves and as many nodes as a whole tree has it is solved
+  pub resolved_whole : (files : Files) (r : Resolving) (p : Problem) (bytes : List ℕ) (older : Proof) → held ≡ Some files
+      → asked ≡ Some (resolve r) → HoldsInstance files r.source p → lacking p p.candidates ≡ None → files r.older ≡ Some bytes
+      → IsOlder p bytes (serves older) → IsEnoughFor p r.search.nodes → quiet → EndsWith Done status
+  -- one that certifies for an instance that differs in fixed costs and numbers of hubs alone serves
+  pub served : (files : Files) (r : Resolving) (p before : Problem) (bytes : List ℕ) (bound cost : ℕ) → held ≡ Some files
+      → asked ≡ Some (resolve r) → HoldsInstance files r.source p → lacking p p.candidates ≡ None → files r.older ≡ Some bytes
+      → IsSameNetwork before p → Certifies before bytes bound cost → quiet → EndsAs (λ x. (x ≡ Done) ⊎ (x ≡ Stopped)) status
   -- `optimize` with an instance and as many nodes as a whole tree has, or any number
   pub optimized : (files : Files) (s : Solving) (p : Problem) → held ≡ Some files → asked ≡ Some (optimize s)
       → HoldsInstance files s.source p → IsEnoughFor p s.search.nodes → quiet → EndsWith Done status

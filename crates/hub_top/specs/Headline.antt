@@ -6,9 +6,9 @@ use Rattle.hub_spec.specs.Problem.{Problem}
 use Rattle.cert_spec.specs.Verdicts.{certificate_limit}
 use Rattle.hub_top.specs.declared.status.Status.{Status}
 use Rattle.hub_top.specs.declared.status.Status.TheVariants.{Done, Memory}
-use Rattle.hub_words.specs.Requests.{Source, Solving, Request, solve, optimize, check}
+use Rattle.hub_words.specs.Requests.{Source, Solving, Resolving, Request, solve, optimize, resolve, check}
 use Rattle.hub_top.specs.Texts.{optimal_line}
-use Rattle.hub_top.specs.Commands.{HoldsInstance, SolvesInstance, OptimizesInstance}
+use Rattle.hub_top.specs.Commands.{HoldsInstance, SolvesInstance, ResolvesInstance, OptimizesInstance}
 use Rattle.cert_checker.specs.Shows.{ProvesOptimal}
 
 -- the costs files named hold the same bytes, or none is named
@@ -37,7 +37,14 @@ pub record Headline (asked : Option Request) (held : Option Files) (old new : Op
       → SolvesInstance (Some before) s text → length text ≤ certificate_limit
       → IsSameInstance before s.source files t → files certificate ≡ Some text → quiet
       → (status ≡ Done) ⊎ (status ≡ Memory)
-  -- both hold with `optimize` for `solve`
+  -- both hold with `resolve` for `solve`
+  pub resolved : (files : Files) (r : Resolving) → held ≡ Some files → asked ≡ Some (resolve r) → status ≡ Done
+      → (text : List ℕ) × Appends old new text × ResolvesInstance (Some files) r text
+  pub resolved_checked : (before files : Files) (r : Resolving) (t : Source) (certificate text : List ℕ) → held ≡ Some files
+      → asked ≡ Some (check t certificate) → ResolvesInstance (Some before) r text → length text ≤ certificate_limit
+      → IsSameInstance before r.source files t → files certificate ≡ Some text → quiet
+      → (status ≡ Done) ⊎ (status ≡ Memory)
+  -- and with `optimize`
   pub optimized : (files : Files) (s : Solving) → held ≡ Some files → asked ≡ Some (optimize s) → status ≡ Done
       → (text : List ℕ) × Appends old new text × OptimizesInstance (Some files) s text
   pub optimized_checked : (before files : Files) (s : Solving) (t : Source) (certificate text : List ℕ) → held ≡ Some files → asked ≡ Some (check t certificate)

@@ -5,9 +5,10 @@ use Rattle.hub_io.specs.Outside.{Files}
 use Rattle.file_spec.specs.Faults.{Fault}
 use Rattle.hub_top.specs.declared.status.Status.{Status}
 use Rattle.hub_top.specs.declared.status.Status.TheVariants.{Done, Stopped, No, Usage, Instance, Memory, Read, Write, Lacking}
-use Rattle.hub_words.specs.Requests.{Source, Solving, Request, solve, instance}
+use Rattle.hub_words.specs.Requests.{Source, Request, instance}
 use Rattle.hub_top.specs.Commands.{Blame, HasBlame, WhereTold, LacksNetwork}
 use Rattle.hub_top.specs.Answers.{Answers}
+use Rattle.hub_top.specs.Outcomes.{ruled}
 
 -- the words are a command, and out took the text of its answer with this status
 pub record Answered (asked : Option Request) (held : Option Files) (old new : Option (List ℕ)) (status : Status) : Type 0 where
@@ -35,12 +36,15 @@ pub record Unread (asked : Option Request) (fails : Request → Type 0) (old new
   pub failed : fails request
   pub taken : Appends old new []
 
--- the words ask to solve an instance whose candidates lack a commodity, all of them together, and out took nothing
+-- the words ask to solve an instance, or to solve it again, whose candidates lack a commodity, all of them together, and out took
+-- nothing
 pub record Networkless (asked : Option Request) (held : Option Files) (old new : Option (List ℕ)) : Type 0 where
-  pub solving : Solving
-  pub is_asked : asked ≡ Some (solve solving)
+  pub request : Request
+  pub is_asked : asked ≡ Some request
+  pub source : Source
+  pub is_named : ruled request ≡ Some source
   pub commodity : ℕ × ℕ
-  pub lacks : LacksNetwork held solving.source commodity
+  pub lacks : LacksNetwork held source commodity
   pub taken : Appends old new []
 
 abbrev pub Means : Option Request → Option Files → (Request → Type 0) → Option (List ℕ) → Option (List ℕ) → Type 0 → Status → Type 0

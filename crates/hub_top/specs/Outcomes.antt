@@ -5,10 +5,16 @@ use Rattle.hub_io.specs.declared.Failed.{Failed}
 use Rattle.file_spec.specs.Faults.{Fault}
 use Rattle.hub_top.specs.declared.status.Status.{Status}
 use Rattle.hub_top.specs.declared.status.Status.TheVariants.{Usage, Instance, Memory, Read, Write, Lacking}
-use Rattle.hub_words.specs.Requests.{Source, Solving, Request, solve, instance}
+use Rattle.hub_words.specs.Requests.{Source, Request, solve, resolve, instance}
 use Rattle.hub_top.specs.Texts.{usage_text, fault_text, no_network_text, memory_text, read_text}
 use Rattle.hub_top.specs.Commands.{Blame, HasBlame, WhereTold, Lacks, LacksNetwork}
 use Rattle.hub_top.specs.Answers.{Answers}
+
+-- the instance that a request asks the search rule to solve, if it names one
+abbrev pub ruled : Request → Option Source
+ruled (solve solving) = Some solving.source
+ruled (resolve resolving) = Some resolving.source
+ruled request = None
 
 -- what a run came to, before it was written
 pub data Outcome : Type 0 where
@@ -73,7 +79,7 @@ MayComeTo asked held fails (faulty blame fault) =
     (request : Request) × (s : Source) × (asked ≡ Some request) × (instance request ≡ Some s)
     × WhereTold held (λ files. HasBlame files s blame fault)
 MayComeTo asked held fails (no_network commodity) =
-    (solving : Solving) × (asked ≡ Some (solve solving)) × LacksNetwork held solving.source commodity
+    (request : Request) × (s : Source) × (asked ≡ Some request) × (ruled request ≡ Some s) × LacksNetwork held s commodity
 MayComeTo asked held fails memory = Unit {0}
 MayComeTo asked held fails read = (request : Request) × (asked ≡ Some request) × fails request
 

@@ -1,10 +1,10 @@
 -- The texts that the product prints, each line ended by a line feed. Nodes, tokens and lines count from 1 here.
-use Rattle.std.specs.Prelude.{ℕ, ◌+◌, List, [], ◌∷◌, ◌++◌, codes, decimal}
+use Rattle.std.specs.Prelude.{ℕ, ◌+◌, List, [], ◌∷◌, ◌++◌, codes, decimal, Option, Some, None}
 use Rattle.std.specs.List.{concat}
 use Rattle.std.specs.Fmt.{signed_decimal}
 use Rattle.text_spec.specs.Fixed.{fixed_text}
 use Rattle.cert_spec.specs.Grammar.{bad_line, ended}
-use Rattle.cert_spec.specs.Verdicts.{Verdict, optimal, bounds, fails, misread, too_long}
+use Rattle.cert_spec.specs.Verdicts.{Verdict, optimal, bounds, fails, misread, too_long, Older, serves, serves_not, unread, over_limit}
 use Rattle.file_spec.specs.Faults.{Fault, bad_number, missing_token, missing_pair, extra, bad_size, negative, too_big, bad_index, repeated, no_candidate, too_costly, bad_hubs}
 use Rattle.file_spec.specs.Faults as faults
 use Rattle.cert_checker.specs.Answers.{kind_name}
@@ -25,6 +25,7 @@ usage_text = concat (
     ∷ codes "         --format 1|2\n"
     ∷ codes "         --max-length R\n"
     ∷ codes "         --hubs P|file\n"
+    ∷ codes "       hub resolve LAYOUT FILE OLD [options] [--nodes N] [--workers W]\n"
     ∷ [])
 
 unfoldable pub memory_text : List ℕ
@@ -94,3 +95,10 @@ verdict_text (fails kind line) = no_line (kind_name kind) line
 verdict_text (misread (bad_line line)) = no_line (codes "BadLine") line
 verdict_text (misread (ended line)) = no_line (codes "Ended") line
 verdict_text too_long = too_long_line
+
+-- the line that tells why bytes do not serve as an older certificate, if they do not
+abbrev pub older_line : Older → Option (List ℕ)
+older_line (serves older) = None
+older_line (serves_not kind line) = Some (verdict_text (fails kind line))
+older_line (unread fault) = Some (verdict_text (misread fault))
+older_line over_limit = Some (verdict_text too_long)

@@ -1,6 +1,6 @@
 -- What a text that solves an instance is to a check, that a search has one text, and that files have one fault.
 use Rattle.std.specs.Prelude.{◌≡◌, ℕ, ◌≤◌, List, length, ◌⊎◌}
-use Rattle.hub_spec.specs.Problem.{Problem}
+use Rattle.hub_spec.specs.Problem.{Problem, IsProblem}
 use Rattle.cert_spec.specs.Text.{Spells}
 use Rattle.cert_spec.specs.Verdicts.{Verdict, optimal, bounds, Why, certificate_limit}
 use Rattle.file_spec.specs.Faults.{Fault}
@@ -35,9 +35,14 @@ BoundedIsBounds = (p : Problem) (m : Method) (text : List ℕ) (bounded : Bounds
 abbrev pub Ends : Problem → Method → List ℕ → Type 0
 Ends p m text = Solves p m (Spells text) ⊎ Stops p m (Spells text)
 
--- an instance, a version and a number of nodes have one text, whatever the workers
+-- an instance, a version, a number of nodes and a start have one text, whatever the workers
 abbrev pub OneText : Type 0
 OneText = (p : Problem) (m : Method) (text other : List ℕ) → Ends p m text → Ends p m other → other ≡ text
+
+-- two texts that solve one instance print one cost, from whatever they begin
+abbrev pub OneCost : Type 0
+OneCost = (p : Problem) (m other : Method) (text too : List ℕ) (solved : Solves p m (Spells text)) (again : Solves p other (Spells too))
+    → IsProblem p → again.certificate.cost ≡ solved.certificate.cost
 
 -- two faults that the same files have are one, told of one file
 abbrev pub OneBlame : Type 0

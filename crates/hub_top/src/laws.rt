@@ -3,6 +3,7 @@
 ghost use Rattle.hub_top.specs.Theorems.{
   BoundedIsBounds,
   OneBlame,
+  OneCost,
   OneText,
   OptimizedIsOptimal,
   SolvedIsOptimal,
@@ -31,9 +32,14 @@ pub fn bounded_is_bounds()
     ensures { BoundedIsBounds }
 {}
 
-/// An instance, a version and a number of nodes have one text, whatever the workers.
+/// An instance, a version, a number of nodes and a start have one text, whatever the workers.
 pub fn one_text()
     ensures { OneText }
+{}
+
+/// Two texts that solve one instance print one cost: `solve` and `resolve` come to the same.
+pub fn one_cost()
+    ensures { OneCost }
 {}
 
 /// Two faults that the same files have are one, told of one file.

@@ -16,6 +16,7 @@ mod instances;
 mod laws;
 mod outcomes;
 mod reporting;
+mod resolving;
 mod solving;
 mod status;
 mod texts;
@@ -23,7 +24,7 @@ mod top;
 mod verdict_lines;
 
 pub use laws::{
-    bounded_is_bounds, one_blame, one_text, optimized_is_optimal, solved_is_optimal,
+    bounded_is_bounds, one_blame, one_cost, one_text, optimized_is_optimal, solved_is_optimal,
     stopped_is_bounds,
 };
 pub use status::Status;

@@ -27,9 +27,9 @@ use std::alloc::Global;
 pub enum Settled {
     /// The answer of a command.
     Answered(Answer),
-    /// What `solve` or `optimize` found for the instance, whose certificate is wanted in this version.
+    /// What `solve`, `resolve` or `optimize` found for the instance, whose certificate is wanted in this version.
     Found(Instance, Found, Version),
-    /// `solve`: all candidates together lack the commodity from `i` to `j`.
+    /// `solve`, `resolve`: all candidates together lack the commodity from `i` to `j`.
     NoNetwork { i: u32, j: u32 },
     /// The words are no command.
     Usage,

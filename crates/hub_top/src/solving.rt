@@ -1,10 +1,12 @@
 //! The commands `solve`, `demo` and `optimize`: an instance to what a search finds for it.
 
-ghost use Rattle.std.specs.Prelude.{◌≡◌, ◌≤◌, IfOk, IfErr};
+ghost use Rattle.std.specs.Prelude.{◌≡◌, ◌≤◌, None, IfOk, IfErr, option_map};
 ghost use denote.Param.Send.{IsSync};
+ghost use Rattle.hub_spec.specs.Problem.{IsProblem};
 ghost use Rattle.hub_spec.specs.Plans.{IsCandidateSet, IsHubSet};
 ghost use Rattle.hub_spec.specs.Separation.{IsOrder};
 ghost use Rattle.cut_pool.specs.Entries.{entry_of};
+ghost use Rattle.search_core.specs.Starts.{start_seen};
 ghost use Rattle.search_steps.specs.Pools.{IsSumsOf};
 ghost use Rattle.hub_make.specs.Contents.{made_problem};
 ghost use Rattle.hub_words.specs.Requests.{AreSources, AsksListed, IsMaking, IsSearch, IsUnlimited};
@@ -12,12 +14,12 @@ ghost use Rattle.hub_words.specs.Views.{making_seen, search_seen, source_of};
 ghost use Rattle.hub_top.specs.Commands.{LacksSource};
 ghost use Rattle.hub_top.specs.Outcomes.{FailsFor, StaysShelf};
 ghost use Rattle.hub_top.specs.Halts.{Halts, IsOfSource};
-ghost use Rattle.hub_top.specs.Solving.{ComesTo, IsSearched, IsOptimum};
+ghost use Rattle.hub_top.specs.Solving.{ComesTo, IsSearched, IsOptimum, MayStart};
 
 use crate::halts::Halt;
 use crate::instances::read_instance;
 use assign_sub::lacking;
-use branch_tree::search;
+use branch_tree::{search, search_from};
 use cut_pool::CutSums;
 use hub_demo::made_instance;
 use hub_io::{Gate, Shelf};
@@ -27,8 +29,9 @@ use kept_cuts::Found;
 use par_separate::{Crew, separate_sums, workers_for};
 use plan_model::HubSet;
 use price_passes::Adviser;
+use search_core::Start;
 use search_steps::{Counted, Plain, Rule};
-use separators::Solo;
+use separators::{Separator, Solo};
 use std::alloc::{AllocError, Global};
 use std::thread::Threads;
 
@@ -63,12 +66,12 @@ pub fn solve<R: Threads + Sync, S: Shelf, G: Gate>(
     if let Some((i, j)) = lacking(&instance, &all_candidates(alloc, &instance)?) {
         return Ok(Solved::NoNetwork { i, j });
     }
-    let found = find(rt, alloc, &instance, asked, gate)?;
+    let found = find(rt, alloc, &instance, asked, None, gate)?;
     Ok(Solved::Found(instance, found))
 }
 
 /// The set of all candidates.
-fn all_candidates(alloc: Global, instance: &Instance) -> Result<HubSet, AllocError>
+pub fn all_candidates(alloc: Global, instance: &Instance) -> Result<HubSet, AllocError>
     ensures all { IfOk result (λ set. set ≡ instance.now.candidates) }
     ensures candidates { IfOk result (IsCandidateSet instance.now) }
 {
@@ -109,33 +112,35 @@ pub fn demonstrate<R: Threads + Sync, G: Gate>(
 ) -> Result<Found, AllocError>
     requires making { IsMaking (making_seen making) }
     requires asked { IsSearch (search_seen asked) }
-    ensures { IfOk result (IsSearched (made_problem making.seed making.size) asked.nodes) }
+    ensures { IfOk result (IsSearched (made_problem making.seed making.size) asked.nodes None) }
 {
     let instance = made_instance(alloc, making.seed, making.size)?;
-    find(rt, alloc, &instance, asked, gate)
+    find(rt, alloc, &instance, asked, None, gate)
 }
 
-/// What the search rule finds, where all candidates together lack no commodity: with just as many hubs as are wanted, if a
-/// number is.
-fn find<R: Threads + Sync, G: Gate>(
+/// What the search rule finds, from its beginning or from a start, where all candidates together lack no commodity: with just
+/// as many hubs as are wanted, if a number is.
+pub fn find<R: Threads + Sync, G: Gate>(
     rt: &R,
     alloc: Global,
     instance: &Instance,
     asked: Search,
+    start: Option<Start>,
     gate: &G,
 ) -> Result<Found, AllocError>
     requires asked { IsSearch (search_seen asked) }
     requires lacks_none { IsHubSet instance.now instance.now.candidates }
-    ensures { IfOk result (IsSearched instance.now asked.nodes) }
+    requires may_start { MayStart instance.now (option_map start_seen start) }
+    ensures { IfOk result (IsSearched instance.now asked.nodes (option_map start_seen start)) }
 {
     match instance.wanted() {
         Some(hubs) => {
             let rule = Counted { hubs };
-            let found = find_by(rt, alloc, &rule, instance, asked, gate);
+            let found = find_by(rt, alloc, &rule, instance, asked, start, gate);
             let Counted { hubs: _ } = rule;
             found
         }
-        None => find_by(rt, alloc, &Plain, instance, asked, gate),
+        None => find_by(rt, alloc, &Plain, instance, asked, start, gate),
     }
 }
 
@@ -147,17 +152,19 @@ fn find_by<R: Threads + Sync, Q: Rule, G: Gate>(
     rule: &Q,
     instance: &Instance,
     asked: Search,
+    start: Option<Start>,
     gate: &G,
 ) -> Result<Found, AllocError>
     requires serves { Q.serves rule.now instance.now }
     requires asked { IsSearch (search_seen asked) }
     requires lacks_none { IsHubSet instance.now instance.now.candidates }
-    ensures { IfOk result (IsSearched instance.now asked.nodes) }
+    requires may_start { MayStart instance.now (option_map start_seen start) }
+    ensures { IfOk result (IsSearched instance.now asked.nodes (option_map start_seen start)) }
 {
     let workers = workers_for(instance.size(), asked.workers);
     if workers == 1 {
         let mut solo = Solo::new(alloc, instance)?;
-        return search(alloc, rule, instance, asked.nodes, &mut solo);
+        return find_with(alloc, rule, instance, asked.nodes, start, &mut solo);
     }
     let cut = |alloc: Global, i: &Instance, set: HubSet, order: &[u32]| -> Result<
         CutSums,
@@ -166,5 +173,27 @@ fn find_by<R: Threads + Sync, Q: Rule, G: Gate>(
         requires { IsSync R.row × IsSync G.row × IsHubSet i.now set × IsOrder i.now set order.now × (1 ≤ workers) × (workers ≤ 64) }
         ensures { IfOk result (λ c. (c.hubs ≡ set) × IsSumsOf i.entry.now (entry_of c order.entry.now)) }
     { separate_sums(rt, alloc, i, set, order, workers, gate) };
-    search(alloc, rule, instance, asked.nodes, &mut Crew { cut })
+    find_with(alloc, rule, instance, asked.nodes, start, &mut Crew { cut })
+}
+
+/// What the rule of the search finds, asking this separator.
+fn find_with<Q: Rule, S: Separator>(
+    alloc: Global,
+    rule: &Q,
+    instance: &Instance,
+    nodes: Option<u64>,
+    start: Option<Start>,
+    separator: &mut S,
+) -> Result<Found, AllocError>
+    requires serves { Q.serves rule.now instance.now }
+    requires problem { IsProblem instance.now }
+    requires lacks_none { IsHubSet instance.now instance.now.candidates }
+    requires may_start { MayStart instance.now (option_map start_seen start) }
+    requires ready { S.ready separator.old }
+    ensures { IfOk result (IsSearched instance.now nodes (option_map start_seen start)) }
+{
+    match start {
+        None => search(alloc, rule, instance, nodes, separator),
+        Some(start) => search_from(alloc, rule, instance, nodes, separator, start),
+    }
 }

@@ -6,13 +6,13 @@ ghost use Rattle.hub_top.specs.Statuses.{number_of};
 /// How a run ended; the program ends with its number.
 #[derive(Clone, Copy, Debug, PartialEq, Eq)]
 pub enum Status {
-    /// `solve`, `optimize`, `demo`: the bound is the cost. `check`: the bytes certify an optimal plan. `report`: they
+    /// `solve`, `resolve`, `optimize`, `demo`: the bound is the cost. `check`: the bytes certify an optimal plan. `report`: they
     /// certify. `make`: the text was written.
     Done,
-    /// `solve`, `optimize`, `demo`: two nodes more were not allowed, and the bound is below the cost. `check`: the bytes
+    /// `solve`, `resolve`, `optimize`, `demo`: two nodes more were not allowed, and the bound is below the cost. `check`: the bytes
     /// certify a plan, with a bound below its cost.
     Stopped,
-    /// `check`, `report`: the bytes do not certify.
+    /// `check`, `report`: the bytes do not certify. `resolve`: those of the older certificate do not serve.
     No,
     /// The words are no command.
     Usage,
@@ -24,7 +24,7 @@ pub enum Status {
     Read,
     /// A sink failed.
     Write,
-    /// `solve`: all candidates together lack a commodity, so there is no network.
+    /// `solve`, `resolve`: all candidates together lack a commodity, so there is no network.
     Lacking,
 }
 

@@ -17,7 +17,9 @@ use crate::checking::check;
 use crate::halts::Halt;
 use crate::outcomes::{Settled, intend, write};
 use crate::reporting::report;
+use crate::resolving::{Resolved, resolve};
 use crate::solving::{Solved, demonstrate, optimize, solve};
+use cert_format::Version;
 use hub_io::{Gate, Shelf, Sink};
 use hub_make::instance_text;
 use hub_words::{Command, asked};
@@ -34,8 +36,9 @@ use std::thread::Threads;
 ///   status; where a sink failed, a front of the text that it was to take, and nothing further.
 /// - `means`: what each status says of the words, the files, the faults and what `out` took.
 /// - `complete`: where no fault rose, words that are no command end with status 3, a fault of the instance with 4, `solve`
-///   with 8 where all candidates together lack a commodity, else `solve` and `demo` with 0 or 1 as the search rule says, and
-///   with 0 where enough nodes are allowed, `optimize` with 0 or 1, and with 0 where enough nodes are allowed, `check` with
+///   and `resolve` with 8 where all candidates together lack a commodity, else `solve` and `demo` with 0 or 1 as the search
+///   rule says, and with 0 where enough nodes are allowed, `resolve` so too where the older certificate serves, which one that
+///   certifies for other fixed costs or numbers of hubs does, and else with 2, `optimize` with 0 or 1, and with 0 where enough nodes are allowed, `check` with
 ///   0, 1 or 2 by the verdict on the certificate's bytes, `report` with 0 or 2 by it, and `make` with 0; or it is want of
 ///   memory.
 /// - `headline`: the headline, whose three sentences stand with their meaning in `specs/Headline.antt`.
@@ -123,6 +126,13 @@ fn answer<R: Threads + Sync, S: Shelf, G: Gate>(
             let (instance, found) = optimize(rt, alloc, &solving.source, solving.search, shelf)?;
             Ok(Settled::Found(instance, found, solving.version))
         }
+        Command::Resolve(resolving) => match resolve(rt, alloc, resolving, shelf, gate)? {
+            Resolved::Found(instance, found) => {
+                Ok(Settled::Found(instance, found, Version::Second))
+            }
+            Resolved::NoNetwork { i, j } => Ok(Settled::NoNetwork { i, j }),
+            Resolved::Refused(ending) => Ok(Settled::Answered(Answer::Judged(ending))),
+        },
         Command::Check(source, certificate) => {
             let ending = check(alloc, source, certificate, shelf)?;
             Ok(Settled::Answered(Answer::Judged(ending)))

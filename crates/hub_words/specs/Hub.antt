@@ -65,6 +65,10 @@ solve_app = with_format (with_search (with_instance (new_app (codes "solve"))))
 abbrev pub optimize_app : App
 optimize_app = with_format (with_search (with_instance (new_app (codes "optimize"))))
 
+-- `resolve LAYOUT FILE OLD`, with the instance options and those of a search
+abbrev pub resolve_app : App
+resolve_app = with_search (with_word (with_instance (new_app (codes "resolve"))) (codes "older"))
+
 -- a subcommand `NAME LAYOUT FILE CERT`, with the instance options
 abbrev pub certificate_app : Text → App
 certificate_app name = with_word (with_instance (new_app name)) (codes "certificate")
@@ -91,8 +95,8 @@ bare s = record s { disable_help_flag = true; disable_help_subcommand = true; di
 
 -- the subcommands of `hub`
 abbrev pub subcommand_apps : List App
-subcommand_apps = solve_app ∷ optimize_app ∷ check_app ∷ report_app ∷ make_app ∷ demo_app ∷ []
+subcommand_apps = solve_app ∷ optimize_app ∷ resolve_app ∷ check_app ∷ report_app ∷ make_app ∷ demo_app ∷ []
 
--- `hub` with its six subcommands
+-- `hub` with its seven subcommands
 unfoldable pub hub : App
 hub = fold (λ app part. with_subcommand app part.top) (on_top bare (new_app (codes "hub"))) subcommand_apps

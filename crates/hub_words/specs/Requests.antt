@@ -22,16 +22,23 @@ pub record Solving : Type 0 where
   pub search : Search
   pub version : ℕ
 
+-- what is to be solved again: the instance, the name of the older certificate's file, and the search
+pub record Resolving : Type 0 where
+  pub source : Source
+  pub older : List ℕ
+  pub search : Search
+
 -- a made instance: its seed and its number of nodes
 pub record Making : Type 0 where
   pub seed : ℕ
   pub size : ℕ
 
--- a command: solve an instance by the rule or by a search that follows none, check a certificate against it, report on
--- a certificate, make an instance, or make one and solve it
+-- a command: solve an instance by the rule or by a search that follows none, solve it again from an older certificate, check
+-- a certificate against it, report on a certificate, make an instance, or make one and solve it
 pub data Request : Type 0 where
   solve : Solving → Request
   optimize : Solving → Request
+  resolve : Resolving → Request
   check : Source → (certificate : List ℕ) → Request
   report : Source → (certificate : List ℕ) → Request
   make : Making → Request
@@ -41,6 +48,7 @@ pub data Request : Type 0 where
 abbrev pub instance : Request → Option Source
 instance (solve solving) = Some solving.source
 instance (optimize solving) = Some solving.source
+instance (resolve resolving) = Some resolving.source
 instance (check source certificate) = Some source
 instance (report source certificate) = Some source
 instance (make making) = None
@@ -50,6 +58,7 @@ instance (demo making search) = None
 abbrev pub search_of : Request → Option Search
 search_of (solve solving) = Some solving.search
 search_of (optimize solving) = Some solving.search
+search_of (resolve resolving) = Some resolving.search
 search_of (check source certificate) = None
 search_of (report source certificate) = None
 search_of (make making) = None
@@ -59,6 +68,7 @@ search_of (demo making search) = Some search
 abbrev pub making_of : Request → Option Making
 making_of (solve solving) = None
 making_of (optimize solving) = None
+making_of (resolve resolving) = None
 making_of (check source certificate) = None
 making_of (report source certificate) = None
 making_of (make making) = Some making
@@ -68,6 +78,7 @@ making_of (demo making search) = Some making
 abbrev pub version_of : Request → Option ℕ
 version_of (solve solving) = Some solving.version
 version_of (optimize solving) = Some solving.version
+version_of (resolve resolving) = None
 version_of (check source certificate) = None
 version_of (report source certificate) = None
 version_of (make making) = None
@@ -77,6 +88,7 @@ version_of (demo making search) = None
 abbrev pub optimized : Request → Option Source
 optimized (solve solving) = None
 optimized (optimize solving) = Some solving.source
+optimized (resolve resolving) = None
 optimized (check source certificate) = None
 optimized (report source certificate) = None
 optimized (make making) = None
@@ -86,6 +98,7 @@ optimized (demo making search) = None
 abbrev pub solved : Request → Option Solving
 solved (solve solving) = Some solving
 solved (optimize solving) = Some solving
+solved (resolve resolving) = None
 solved (check source certificate) = None
 solved (report source certificate) = None
 solved (make making) = None

@@ -11,10 +11,11 @@ use Rattle.hub_words.specs.declared.requests.Layout.{Layout}
 use Rattle.hub_words.specs.declared.requests.Layout.TheVariants.{CabMatrix, CabRows, AustraliaPost}
 use Rattle.hub_words.specs.declared.requests.Source.{Source}
 use Rattle.hub_words.specs.declared.requests.Solving.{Solving}
+use Rattle.hub_words.specs.declared.requests.Resolving.{Resolving}
 use Rattle.hub_words.specs.declared.requests.Search.{Search}
 use Rattle.hub_words.specs.declared.requests.Making.{Making}
 use Rattle.hub_words.specs.declared.requests.Command.{Command}
-use Rattle.hub_words.specs.declared.requests.Command.TheVariants.{Solve, Optimize, Check, Report, Make, Demo}
+use Rattle.hub_words.specs.declared.requests.Command.TheVariants.{Solve, Optimize, Resolve, Check, Report, Make, Demo}
 
 -- the bytes of the words
 abbrev pub texts : List (String Global) → List (List ℕ)
@@ -42,6 +43,10 @@ making_seen m = record { seed = m.seed; size = m.size }
 abbrev pub solving_of : Solving → request.Solving
 solving_of s = record { source = source_of s.source; search = search_seen s.search; version = version_number s.version }
 
+-- what is to be solved again
+abbrev pub resolving_of : Resolving → request.Resolving
+resolving_of r = record { source = source_of r.source; older = r.older.now; search = search_seen r.search }
+
 -- the values that a command was given, in rows
 abbrev pub rows_found : ArgMatches → List Row
 rows_found found = rows_of (found_of found)
@@ -50,6 +55,7 @@ rows_found found = rows_of (found_of found)
 abbrev pub request_of : Command → request.Request
 request_of (Solve solving) = request.solve (solving_of solving)
 request_of (Optimize solving) = request.optimize (solving_of solving)
+request_of (Resolve resolving) = request.resolve (resolving_of resolving)
 request_of (Check source certificate) = request.check (source_of source) certificate.now
 request_of (Report source certificate) = request.report (source_of source) certificate.now
 request_of (Make making) = request.make (making_seen making)

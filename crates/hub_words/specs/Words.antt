@@ -2,7 +2,7 @@
 use Rattle.std.specs.Prelude.{ℕ, Bool, ◌&&◌, ◌||◌, not, List, codes, bytes_eq, Option, Some, None, option_map, option_and_then, is_some, if◌then◌else◌}
 use Rattle.clap.specs.Words.{Row, Text, first_of}
 use Rattle.file_spec.specs.Options.{Layout, Order, Tail, tail_ignored, tail_costs, HubNumber, Options}
-use Rattle.hub_words.specs.Requests.{Source, Search, Solving, Making, Request, solve, optimize, check, report, make, demo, is_limited}
+use Rattle.hub_words.specs.Requests.{Source, Search, Solving, Resolving, Making, Request, solve, optimize, resolve, check, report, make, demo, is_limited}
 use Rattle.hub_words.specs.Values.{layout_named, order_asked, tail_asked, divide_asked, factor_asked, fixed_asked, longest_asked, hubs_asked, candidates_asked, is_set, nodes_asked, workers_asked, version_asked, seed_asked, size_asked}
 use Rattle.hub_words.specs.Parses.{parsed}
 
@@ -134,6 +134,19 @@ abbrev pub optimize_asked : List Row → Option Request
 optimize_asked rows =
     option_and_then (λ solving. if is_limited solving.source.options then None else Some (optimize solving)) (solving_asked rows)
 
+-- an instance, an older certificate and a search, where each is given within its form
+abbrev pub resolving_from : Option Text → Option Source → Option Search → Option Resolving
+resolving_from (Some older) (Some source) (Some run) = Some (record { source = source; older = older; search = run })
+resolving_from older source run = None
+
+-- what is to be solved again
+abbrev pub resolving_asked : List Row → Option Resolving
+resolving_asked rows = resolving_from (given rows (codes "older")) (source_asked rows) (search_asked rows)
+
+-- a call to solve the instance again from an older certificate
+abbrev pub resolve_asked : List Row → Option Request
+resolve_asked rows = option_map resolve (resolving_asked rows)
+
 -- an instance and a certificate, where both are given
 abbrev pub certificate_from : Option Text → Option Source → Option (Source × Text)
 certificate_from (Some certificate) (Some source) = Some (source, certificate)
@@ -169,6 +182,7 @@ abbrev pub request_asked : Text → List Row → Option Request
 request_asked name rows =
     if bytes_eq name (codes "solve") then solve_asked rows
     else if bytes_eq name (codes "optimize") then optimize_asked rows
+    else if bytes_eq name (codes "resolve") then resolve_asked rows
     else if bytes_eq name (codes "check") then check_asked rows
     else if bytes_eq name (codes "report") then report_asked rows
     else if bytes_eq name (codes "make") then make_asked rows

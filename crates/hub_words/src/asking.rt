@@ -5,11 +5,11 @@ ghost use Rattle.hub_words.specs.Requests.{AreSources, AsksListed, HasOptions, I
 ghost use Rattle.hub_words.specs.Requests as law;
 ghost use Rattle.cert_scan.specs.Versions.{version_number};
 ghost use Rattle.hub_words.specs.Words as spec;
-ghost use Rattle.hub_words.specs.Views.{request_of, requested, rows_found, search_seen, solving_of, source_of, texts};
+ghost use Rattle.hub_words.specs.Views.{request_of, requested, resolving_of, rows_found, search_seen, solving_of, source_of, texts};
 
 use crate::makings::read_making;
 use crate::parsing::parse;
-use crate::requests::{Command, Solving, Source};
+use crate::requests::{Command, Resolving, Solving, Source};
 use crate::searches::read_search;
 use crate::settings::given;
 use crate::sources::source;
@@ -52,6 +52,8 @@ fn request<'a>(
         solve(alloc, found)
     } else if name == "optimize" {
         optimize(alloc, found)
+    } else if name == "resolve" {
+        resolve(alloc, found)
     } else if name == "check" {
         check(alloc, found)
     } else if name == "report" {
@@ -108,6 +110,43 @@ fn solving<'a>(alloc: Global, found: &ArgMatches<'a>) -> Result<Option<Solving<'
         source,
         search,
         version,
+    }))
+}
+
+fn resolve<'a>(alloc: Global, found: &ArgMatches<'a>) -> Result<Option<Command<'a>>, AllocError>
+    ensures command { IfOk result (λ command. requested command ≡ spec.resolve_asked (rows_found found.now)) }
+    ensures lawful { IfOk result (λ command. IfSome command (λ c. IsLawful (request_of c))) }
+{
+    match resolving(alloc, found)? {
+        Some(resolving) => Ok(Some(Command::Resolve(resolving))),
+        None => Ok(None),
+    }
+}
+
+/// The instance that the words name, with the older certificate and the search that they ask for.
+fn resolving<'a>(
+    alloc: Global,
+    found: &ArgMatches<'a>,
+) -> Result<Option<Resolving<'a>>, AllocError>
+    ensures named { IfOk result (λ resolving. option_map resolving_of resolving ≡ spec.resolving_asked (rows_found found.now)) }
+    ensures limits { IfOk result (λ resolving. IfSome resolving (λ r. HasOptions (source_of r.source))) }
+    ensures sources { IfOk result (λ resolving. IfSome resolving (λ r. AreSources (source_of r.source))) }
+    ensures listed { IfOk result (λ resolving. IfSome resolving (λ r. AsksListed (source_of r.source))) }
+    ensures search { IfOk result (λ resolving. IfSome resolving (λ r. IsSearch (search_seen r.search))) }
+{
+    let Some(search) = read_search(found) else {
+        return Ok(None);
+    };
+    let Some(older) = given(found, "older") else {
+        return Ok(None);
+    };
+    let Some(source) = source(alloc, found)? else {
+        return Ok(None);
+    };
+    Ok(Some(Resolving {
+        source,
+        older,
+        search,
     }))
 }
 

@@ -22,4 +22,4 @@ mod sources;
 mod values;
 
 pub use asking::asked;
-pub use requests::{Command, Layout, Making, Search, Solving, Source};
+pub use requests::{Command, Layout, Making, Resolving, Search, Solving, Source};

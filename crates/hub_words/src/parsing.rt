@@ -2,7 +2,7 @@
 
 ghost use Rattle.std.specs.Prelude.{◌≡◌, codes, false, fold, IfOk, option_and_then};
 ghost use Rattle.clap.specs.Words.{app_of, new_app, rule_of, subcommand_rows_of};
-ghost use Rattle.hub_words.specs.Hub.{bare, certificate_app, demo_app, flag_rule, hub, instance_words, make_app, optimize_app, option_rule, solve_app, with_instance, with_making, with_format, with_option, with_search, with_word, word_rule};
+ghost use Rattle.hub_words.specs.Hub.{bare, certificate_app, demo_app, flag_rule, hub, instance_words, make_app, optimize_app, option_rule, resolve_app, solve_app, with_instance, with_making, with_format, with_option, with_search, with_word, word_rule};
 ghost use Rattle.hub_words.specs.Parses.{Spells, parsed};
 ghost use Rattle.hub_words.specs.Views.{texts};
 ghost use Rattle.clap.specs.Simple.{on_top};
@@ -140,6 +140,13 @@ fn optimize_command<'a>(alloc: Global) -> Result<Command<'a>, AllocError>
     format_command(alloc, search_command(alloc, command)?)
 }
 
+fn resolve_command<'a>(alloc: Global) -> Result<Command<'a>, AllocError>
+    ensures { IfOk result (Spells resolve_app) }
+{
+    let command = instance_command(alloc, plain(alloc, "resolve"))?;
+    search_command(alloc, command.arg(word(alloc, "older"))?)
+}
+
 /// The subcommand of this name, which takes an instance and a certificate.
 fn certificate_command<'a>(alloc: Global, name: &'a str) -> Result<Command<'a>, AllocError>
     ensures { IfOk result (Spells (certificate_app name.entry.now)) }
@@ -173,7 +180,8 @@ fn hub_command<'a>(alloc: Global) -> Result<Command<'a>, AllocError>
 {
     let with_solve = bare_command(alloc).subcommand(solve_command(alloc)?)?;
     let with_optimize = with_solve.subcommand(optimize_command(alloc)?)?;
-    let with_check = with_optimize.subcommand(certificate_command(alloc, "check")?)?;
+    let with_resolve = with_optimize.subcommand(resolve_command(alloc)?)?;
+    let with_check = with_resolve.subcommand(certificate_command(alloc, "check")?)?;
     let with_report = with_check.subcommand(certificate_command(alloc, "report")?)?;
     let with_make = with_report.subcommand(make_command(alloc)?)?;
     with_make.subcommand(demo_command(alloc)?)

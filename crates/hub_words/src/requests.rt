@@ -39,6 +39,15 @@ pub struct Solving<'a> {
     pub version: Version,
 }
 
+/// What is to be solved again, from which older certificate, and by which search.
+#[derive(Drop)]
+pub struct Resolving<'a> {
+    pub source: Source<'a>,
+    /// The name of the older certificate's file.
+    pub older: &'a str,
+    pub search: Search,
+}
+
 /// An instance to be made.
 #[derive(Clone, Copy, Debug, PartialEq, Eq)]
 pub struct Making {
@@ -55,6 +64,8 @@ pub enum Command<'a> {
     Solve(Solving<'a>),
     /// Solve the instance by a search that follows no rule.
     Optimize(Solving<'a>),
+    /// Solve the instance again by the rule of the search, which begins with the cuts of an older certificate.
+    Resolve(Resolving<'a>),
     /// Check the certificate in the file of this name against the instance.
     Check(Source<'a>, &'a str),
     /// Report on the certificate in the file of this name, which is one of the instance.

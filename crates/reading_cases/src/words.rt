@@ -2,7 +2,7 @@
 
 use crate::cases::Wrong;
 use hub_model::Terms;
-use hub_words::{Command, Making, Search, Solving, Source, asked};
+use hub_words::{Command, Making, Resolving, Search, Solving, Source, asked};
 use std::alloc::{AllocError, Global};
 
 /// The command that the words of a text are, which single spaces separate.
@@ -29,6 +29,7 @@ fn command_told(alloc: Global, command: &Command) -> Result<String, AllocError> 
     match command {
         Command::Solve(solving) => solving_told(alloc, "solve", solving),
         Command::Optimize(solving) => solving_told(alloc, "optimize", solving),
+        Command::Resolve(resolving) => resolving_told(alloc, resolving),
         Command::Check(source, certificate) => judging_told(alloc, "check", source, certificate),
         Command::Report(source, certificate) => judging_told(alloc, "report", source, certificate),
         Command::Make(making) => making_told(alloc, making),
@@ -41,6 +42,13 @@ fn solving_told(alloc: Global, name: &str, solving: &Solving) -> Result<String, 
     let source = source_told(alloc, &solving.source)?;
     let version = solving.version;
     format!(in alloc; "{name} {source}, nodes {nodes:?}, workers {workers}, {version:?} version")
+}
+
+fn resolving_told(alloc: Global, resolving: &Resolving) -> Result<String, AllocError> {
+    let Search { nodes, workers } = resolving.search;
+    let source = source_told(alloc, &resolving.source)?;
+    let older = resolving.older;
+    format!(in alloc; "resolve {source}, older {older:?}, nodes {nodes:?}, workers {workers}")
 }
 
 fn judging_told(

@@ -1,11 +1,11 @@
 use Rattle.std.proofs.Common.{refl, subst}
 use Rattle.std.specs.Prelude.{IfSome}
-use Rattle.hub_words.specs.Requests.{IsVersion, SaysLimits, solve, optimize, demo, solved, version_of}
-use Rattle.hub_words.specs.Views.{making_seen, request_of, search_seen, solving_of}
+use Rattle.hub_words.specs.Requests.{IsVersion, SaysLimits, solve, optimize, resolve, demo, solved, version_of}
+use Rattle.hub_words.specs.Views.{making_seen, request_of, resolving_of, search_seen, solving_of}
 use Rattle.hub_words.specs.declared.requests.Command.{Command}
-use Rattle.hub_top.specs.Solving.{ComesTo, IsSolution}
+use Rattle.hub_top.specs.Solving.{ComesTo, ComesAgainTo, IsSolution, IsResolution}
 use Rattle.hub_top.proofs.Versions.{either_version, said_version}
-use Rattle.hub_top.proofs.Searched.{demo_answers, found_amounts, made_size, solve_answers}
+use Rattle.hub_top.proofs.Searched.{demo_answers, found_amounts, made_size, resolve_answers, solve_answers}
 use Rattle.hub_top.proofs.Optimized.{optimize_answers}
 use Rattle.hub_top.proofs.top.answer.Goals as goal
 
@@ -18,7 +18,7 @@ returns-in-Found-clause-may g c =
     subst (ComesTo held s.source s.search.nodes) c.in-Found.is c.in_ok-instance-in-Solve.ensures.solved in
     let asked = subst (λ (x : Command). IfSome (version_of (request_of x)) IsVersion) c.in-Solve.is c.requires.versions in
     let says = subst (λ (x : Command). IfSome (solved (request_of x)) SaysLimits) c.in-Solve.is c.requires.sayable in
-    let version = said_version s p solution.limits asked says in
+    let version = said_version s p c.in-Found.found.cuts.cuts solution.limits (solution.searched.own refl) asked says in
     (solve s, rw c.in-Solve.is refl, solve_answers held s p c.in-Found.found version solution.instance solution.searched)
 
 pub returns-in_ok-found-in-Demo-clause-may : goal.returns-in_ok-found-in-Demo-clause-may
@@ -39,5 +39,13 @@ returns-in_ok-instance-in-Optimize-clause-may g c =
     let r = c.in_ok-instance-in-Optimize in
     let optimized = c.in_ok-instance-in-Optimize.ensures.optimized in
     let asked = subst (λ (x : Command). IfSome (version_of (request_of x)) IsVersion) c.in-Optimize.is c.requires.versions in
-    let version = either_version r.instance s.version optimized.unlimited asked in
+    let version = either_version r.instance r.found.cuts.cuts s.version optimized.unlimited optimized.own asked in
     (optimize s, rw c.in-Optimize.is refl, optimize_answers (g.S.Shelf.held c.args.shelf.now) s r.instance r.found version optimized)
+
+pub returns-in-Found-2-clause-may : goal.returns-in-Found-2-clause-may
+returns-in-Found-2-clause-may g c =
+    let r = resolving_of c.in-Resolve.resolving in
+    let held = g.S.Shelf.held c.args.shelf.now in
+    let resolution : IsResolution held r c.in-Found-2.instance c.in-Found-2.found =
+    subst (ComesAgainTo held r) c.in-Found-2.is c.in_ok-instance-in-Resolve.ensures.resolved in
+    (resolve r, rw c.in-Resolve.is refl, resolve_answers held r c.in-Found-2.instance c.in-Found-2.found resolution)
