@@ -301,6 +301,19 @@ def line_for(problem: Problem, text: bytes) -> tuple[int, str]:
     return 1, f"bounds {printed(found.bound)} {printed(found.cost)}"
 
 
+def older_line(problem: Problem, text: bytes) -> str | None:
+    """The line with which `hub resolve` is to refuse the text as an older certificate, if it is."""
+    try:
+        found = spelled(text)
+        fail_unless(found.size == (len(problem.flows), len(problem.candidates)), "Size", 2)
+        for cut in found.cuts:
+            sums_of(problem, cut)
+    except (Bad, Fails) as no:
+        kind, line = no.args
+        return f"no {kind} {line}"
+    return None
+
+
 def printed(cost: int) -> str:
     """A cost with 12 decimals."""
     return f"{cost // 10**12}.{cost % 10**12:012}"
