@@ -124,10 +124,7 @@ fn resolve<'a>(alloc: Global, found: &ArgMatches<'a>) -> Result<Option<Command<'
 }
 
 /// The instance that the words name, with the older certificate and the search that they ask for.
-fn resolving<'a>(
-    alloc: Global,
-    found: &ArgMatches<'a>,
-) -> Result<Option<Resolving<'a>>, AllocError>
+fn resolving<'a>(alloc: Global, found: &ArgMatches<'a>) -> Result<Option<Resolving<'a>>, AllocError>
     ensures named { IfOk result (λ resolving. option_map resolving_of resolving ≡ spec.resolving_asked (rows_found found.now)) }
     ensures limits { IfOk result (λ resolving. IfSome resolving (λ r. HasOptions (source_of r.source))) }
     ensures sources { IfOk result (λ resolving. IfSome resolving (λ r. AreSources (source_of r.source))) }
