@@ -1,6 +1,7 @@
 -- One more line: the search goes on, and the line is that of a tree.
 use Rattle.std.proofs.Common.{◌≡◌, ℕ, ◌+◌, ◌≤◌, List, [], ◌∷◌, ◌++◌, length, Option, ap, sym, subst, ◌∙◌, arith}
 use Rattle.std.proofs.lemmas.List.{length-map, length_push}
+use Rattle.hub_spec.specs.Limits.{most_tree_lines}
 use Rattle.hub_spec.specs.Problem.{Problem}
 use Rattle.hub_spec.specs.Plans.{IsHubSet}
 use Rattle.hub_spec.specs.Trees.{Branching, IsBranch, HasRoom, Tree, TreeLine, preorder}
@@ -10,12 +11,10 @@ use Rattle.search_spec.specs.States.{State, Grown}
 use Rattle.search_steps.specs.Pools.{IsPoolOf, HasGrown, state_by}
 use Rattle.search_steps.proofs.GivenPools.{grown_same, grown_twice}
 use Rattle.search_core.specs.declared.tasks.Task.{Task}
-use Rattle.branch_tree.specs.declared.progress.Progress.{Progress}
+use Rattle.search_progress.specs.declared.progress.Progress.{Progress}
 use Rattle.kept_cuts.specs.Findings.{lines_of}
-use Rattle.branch_tree.specs.Progressing.{state_of, IsGoing, HasLine, IsAt, IsDone}
-
-lines_long : (lines : List model.TreeLine) → length (lines_of lines) ≡ length lines
-lines_long lines = length-map lines tree_line_of
+use Rattle.search_progress.specs.Progressing.{state_of, IsGoing, IsAt}
+use Rattle.branch_tree.specs.Lines.{HasLine, IsDone}
 
 -- the state after the line
 pub line_state : (p : Problem) (before after : Progress) (line : TreeLine) (made : ℕ) (stop : Option ℕ) → HasLine before after line made stop
@@ -29,11 +28,8 @@ line_state p before after line made stop has =
     λ i. state_by p (entries i) (hubs i) (cost i) (is_made i) (is_stop i)
 
 pub line_going : (t : Task) (before after : Progress) (line : TreeLine) (made : ℕ) (stop : Option ℕ) → IsGoing t before
-    → HasLine before after line made stop → made ≤ before.made + 2 → IsGoing t after
+    → HasLine before after line made stop → made ≤ most_tree_lines → IsGoing t after
 line_going t before after line made stop going has few =
-    let more : length after.lines.items ≡ length before.lines.items + 1 =
-    sym (lines_long after.lines.items) ∙ ap length has.lines ∙ length_push (lines_of before.lines.items) line
-    ∙ ap (λ (n : ℕ). n + 1) (lines_long before.lines.items) in
     record {
       problem = going.problem;
       pool = subst (IsPoolOf t.instance.now) (sym has.entries) going.pool;
@@ -41,7 +37,7 @@ line_going t before after line made stop going has few =
       few_lines = has.few;
       hubs = subst (IsHubSet t.instance.now) (sym has.hubs) going.hubs;
       cost = omega (arith, has.cost, going.cost);
-      made = omega (arith, has.made, few, going.made, more);
+      made = omega (arith, has.made, few);
     }
 
 pub line_kept : (before after : Progress) (line : TreeLine) (made : ℕ) (stop : Option ℕ) → HasLine before after line made stop
@@ -50,7 +46,7 @@ line_kept before after line made stop has = subst (HasGrown before.pool.entries)
 
 -- the line is all of a tree
 pub line_done : (t : Task) (before after : Progress) (tree : Tree) (line : TreeLine) (made : ℕ) (stop : Option ℕ) → IsGoing t before
-    → preorder tree ≡ line ∷ [] → made ≤ before.made + 2 → HasLine before after line made stop
+    → preorder tree ≡ line ∷ [] → made ≤ most_tree_lines → HasLine before after line made stop
     → IsDone t before after (record { state = record (state_of t.instance.now before) { made = made; stop = stop }; tree = tree })
 line_done t before after tree line made stop going is few has = record {
   state = line_state t.instance.now before after line made stop has;
@@ -67,7 +63,7 @@ line_at t before middle after s tree line at is has = record {
   state = line_state t.instance.now middle after line middle.made middle.stop has ∙ at.state;
   lines = has.lines ∙ ap (λ (ls : List TreeLine). ls ++ line ∷ []) at.lines
       ∙ ap (λ (ls : List TreeLine). lines_of before.lines.items ++ ls) (sym is);
-  going = line_going t middle after line middle.made middle.stop at.going has (omega arith);
+  going = line_going t middle after line middle.made middle.stop at.going has at.going.made;
   kept = grown_twice before.pool.entries middle.pool.entries after.pool.entries at.kept (line_kept middle after line middle.made middle.stop has);
 }
 
@@ -89,16 +85,3 @@ branch_as t u b same is = subst (λ (x : Task). IsBranch x.instance.now b) (sym 
 -- so it is with the room that a branch has
 pub room_as : (t u : Task) (b : Branching) → u ≡ t → HasRoom t.instance.now.wanted b → HasRoom u.instance.now.wanted b
 room_as t u b same room = subst (λ (x : Task). HasRoom x.instance.now.wanted b) (sym same) room
-
--- the stop may have been another before
-pub line_after_stop : (before after : Progress) (line : TreeLine) (made : ℕ) (other stop : Option ℕ) → HasLine (record before { stop = other }) after line made stop
-    → HasLine before after line made stop
-line_after_stop before after line made other stop has = record {
-  entries = has.entries;
-  hubs = has.hubs;
-  cost = has.cost;
-  made = has.made;
-  stop = has.stop;
-  lines = has.lines;
-  few = has.few;
-}

@@ -26,9 +26,9 @@ use Rattle.search_steps.specs.Pools.{IsSumsOf, IsPoolOf, state_by}
 use Rattle.search_steps.proofs.GivenPools.{grown_same, grown_twice, added_is_given}
 use Rattle.search_core.specs.declared.tasks.Task.{Task}
 use Rattle.kept_cuts.specs.Findings.{lines_of}
-use Rattle.branch_tree.specs.declared.progress.Progress.{Progress}
-use Rattle.branch_tree.specs.Progressing.{state_of, IsGoing, IsAt}
-use Rattle.branch_tree.proofs.LeafSteps.{parts_ascending}
+use Rattle.search_progress.specs.declared.progress.Progress.{Progress}
+use Rattle.search_progress.specs.Progressing.{state_of, IsGoing, IsAt}
+use Rattle.search_progress.proofs.Orders.{parts_ascending}
 
 -- ---- given cuts
 

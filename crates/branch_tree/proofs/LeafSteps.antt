@@ -1,4 +1,4 @@
--- The leaves of the rule, and the order that a full leaf's set is separated over.
+-- The leaf of the one set of a branch.
 use Rattle.std.proofs.Common.{◌≡◌, ℕ, ◌+◌, ℤ, not, refl, List, length, Contains, Some, None, ⊎_elim, ap, sym, ◌∙◌, true≢false}
 use Rattle.std.specs.List.Sorted.{IsStrictlyIncreasing}
 use Rattle.std.proofs.lemmas.List.{length-map, length_push}
@@ -15,37 +15,10 @@ use Rattle.search_spec.proofs.RuleParts.{has_when, in_when}
 use Rattle.search_spec.proofs.StepCases.{full_found, full_new}
 use Rattle.search_steps.specs.Pools.{entry_cut, pool_cuts}
 use Rattle.search_core.specs.declared.tasks.Task.{Task}
-use Rattle.branch_tree.specs.declared.progress.Progress.{Progress}
+use Rattle.search_progress.specs.declared.progress.Progress.{Progress}
 use Rattle.search_steps.specs.Advising.{parts_of}
-use Rattle.branch_tree.specs.Progressing.{state_of, IsAt}
-
--- ---- a stop
-
-pub stopped_is : (p : Problem) (b : Branching) (w : List (ℕ × ℕ)) (s : State) (z : ℤ) (low : ℕ) → z ≡ bound_at p s b w → low ≡ lesser (rounded_up z) s.stop
-    → record { state = record s { stop = Some low }; tree = leaf denominator w } ≡ stopped_leaf p b w s
-unfolding stopped_leaf
-stopped_is p b w s z low bound is =
-    let least = is ∙ ap (λ (x : ℤ). lesser (rounded_up x) s.stop) bound in
-    λ i. record { state = record s { stop = Some (least i) }; tree = leaf denominator w }
-
--- ---- the ascending order
-
-pub parts_ascending : (p : Problem) (set : List ℕ) → (parts_of p).ascending set ≡ others p set
-unfolding rule_parts
-parts_ascending p set = refl
-
-in_order : (p : Problem) (set order : List ℕ) (k : ℕ) → IsOrder p set order → Contains p.candidates k → is_in order k ≡ not (has_node set k)
-in_order p set order k is candidate =
-    by_test (has_node set k)
-    (λ inside. is_in-no order k (λ found. All-contains (λ m. Contains set m → ⊥) order k is.outside found (in_when set k inside)) ∙ sym (ap not inside))
-    (λ outside. ⊎_elim (λ there. absurd (true≢false (sym (has_when set k there) ∙ outside))) (λ there. is_in-yes order k there) (is.all k candidate)
-    ∙ sym (ap not outside))
-
-pub outside_is : (p : Problem) (set order : List ℕ) → IsProblem p → IsOrder p set order → IsStrictlyIncreasing order → order ≡ others p set
-unfolding others
-outside_is p set order ok is up =
-    sym (part_is_filter p.candidates order ok.candidates_ascend up is.are_candidates)
-    ∙ filter_same (is_in order) (λ k. not (has_node set k)) p.candidates (λ k c. in_order p set order k is c)
+use Rattle.search_progress.specs.Progressing.{state_of, IsAt}
+use Rattle.search_progress.proofs.Orders.{parts_ascending, outside_is}
 
 -- ---- the one set of a branch
 

@@ -1,8 +1,6 @@
 pub mod FirstLines
-pub mod FoundCertificates
-pub mod KeptPools
+pub mod RuleFindings
 pub mod AddedLines
-pub mod AddedCuts
 pub mod LeafSteps
 pub mod RoundSteps
 pub mod NodeCases

@@ -16,49 +16,13 @@ use Rattle.search_spec.specs.Choices.{rule_parts, nearest_half}
 use Rattle.search_spec.proofs.StepCases.{rounds_over, rounds_more, node_is, handled_barren, handled_stopped, handled_blocked, handled_full, handled_on, explored_is, parted_only, parted_full, parted_split, halved_is, fixed_none, fixed_only, fixed_full, fixed_one}
 use Rattle.search_steps.specs.Pools.{InEachStateAt}
 use Rattle.search_core.specs.declared.tasks.Task.{Task}
-use Rattle.branch_tree.specs.declared.progress.Progress.{Progress}
+use Rattle.search_progress.specs.declared.progress.Progress.{Progress}
 use Rattle.search_steps.specs.Advising.{parts_of}
 use Rattle.search_steps.proofs.RuleChoices.{parts_sound, room_when}
-use Rattle.branch_tree.specs.Progressing.{handling, state_of}
+use Rattle.branch_tree.specs.Lines.{handling}
+use Rattle.search_progress.specs.Progressing.{state_of}
 
--- ---- the ends of branches
-
--- the tree with which a branch ends has this line alone
-pub record HasEnd (end : Option Tree) (line : TreeLine) : Type 0 where
-  pub tree : Tree
-  pub is : end ≡ Some tree
-  pub one : preorder tree ≡ line ∷ []
-
--- so it is where this line is told of the end
-pub told_end : (end : Option Tree) (told : Option model.TreeLine) (line : model.TreeLine)
-    → option_map (λ (l : model.TreeLine). tree_line_of l ∷ []) told ≡ option_map preorder end → told ≡ Some line → HasEnd end (tree_line_of line)
-told_end None told line is known =
-    absurd (none-some (tree_line_of line ∷ []) (sym is ∙ ap (option_map (λ (l : model.TreeLine). tree_line_of l ∷ [])) known))
-told_end (Some tree) told line is known = record {
-  tree = tree;
-  is = refl;
-  one = same_Some (preorder tree) (tree_line_of line ∷ []) (sym is ∙ ap (option_map (λ (l : model.TreeLine). tree_line_of l ∷ [])) known);
-}
-
--- and there is none where none is told
-pub told_no_end : (end : Option Tree) (told : Option model.TreeLine)
-    → option_map (λ (l : model.TreeLine). tree_line_of l ∷ []) told ≡ option_map preorder end → told ≡ None → end ≡ None
-told_no_end None told is known = refl
-told_no_end (Some tree) told is known =
-    absurd (none-some (preorder tree) (sym (ap (option_map (λ (l : model.TreeLine). tree_line_of l ∷ [])) known) ∙ is))
-
--- the set that is told to be left alone, and none where none is told
-pub told_alone : (only : Option (List ℕ)) (told : Option (Vec ℕ Global)) (set : Vec ℕ Global)
-    → option_map (λ (v : Vec ℕ Global). v.items) told ≡ only → told ≡ Some set → only ≡ Some set.items
-told_alone only told set is known = sym is ∙ ap (option_map (λ (v : Vec ℕ Global). v.items)) known
-
-pub told_none_alone : (only : Option (List ℕ)) (told : Option (Vec ℕ Global))
-    → option_map (λ (v : Vec ℕ Global). v.items) told ≡ only → told ≡ None → only ≡ None
-told_none_alone only told is known = sym is ∙ ap (option_map (λ (v : Vec ℕ Global). v.items)) known
-
-pub goes_on : (p : Problem) (b : Branching) → (parts_of p).barren b ≡ None → (parts_of p).blocked b ≡ None → (parts_of p).only b ≡ None
-    → GoesOn (parts_of p) b
-goes_on p b barren blocked only = record { barren = barren; blocked = blocked; only = only }
+-- ---- a branch that goes on
 
 -- a node is free where no set is left alone, and both children on it have room
 pub some_free : (p : Problem) (b : Branching) → IsProblem p → IsBranch p b → HasRoom p.wanted b → (parts_of p).only b ≡ None → 1 ≤ length b.free
@@ -68,12 +32,6 @@ pub child_room : (p : Problem) (side : steps.Side) (b : Branching) (k : ℕ) →
     → Contains b.free k → HasRoom p.wanted (child_on side b k)
 child_room p stays_open b k ok is_branch room only free = ((parts_sound p ok).rooms b k is_branch room only free).0
 child_room p stays_closed b k ok is_branch room only free = ((parts_sound p ok).rooms b k is_branch room only free).1
-
--- the set that is left alone, in a branch with no end
-pub alone_is_set : (p : Problem) (b : Branching) (set : List ℕ) → IsProblem p → IsBranch p b → (parts_of p).barren b ≡ None → (parts_of p).blocked b ≡ None
-    → (parts_of p).only b ≡ Some set → IsHubSet p set
-alone_is_set p b set ok is_branch barren blocked only =
-    ((parts_sound p ok).only b set is_branch (room_when p b barren) barren blocked only).is_set
 
 -- ---- a branch whose children are handled
 

@@ -8,7 +8,7 @@ use Rattle.search_spec.specs.Choices.{rule_parts, order_by_point, by_falling, ot
 use Rattle.search_spec.proofs.StepCases.{round_over, round_new}
 use Rattle.search_steps.specs.Advising.{master_advising, parts_of}
 use Rattle.search_core.specs.declared.tasks.Task.{Task}
-use Rattle.branch_tree.specs.declared.progress.Progress.{Progress}
+use Rattle.search_progress.specs.declared.progress.Progress.{Progress}
 use Rattle.branch_tree.specs.declared.rounds.RoundEnd.{RoundEnd}
 use Rattle.branch_tree.specs.Rounding.{round_as, IsRound}
 

@@ -1,5 +1,3 @@
 pub mod Findings
-pub mod Progressing
+pub mod Lines
 pub mod Rounding
-pub mod Separating
-pub mod Walking

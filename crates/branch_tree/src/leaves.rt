@@ -8,15 +8,16 @@ ghost use Rattle.search_spec.specs.States.{denominator};
 ghost use Rattle.search_spec.specs.Steps.{full_on, stopped_leaf, ended};
 ghost use Rattle.search_steps.specs.Weights.{AreNodeWeights, pairs_of};
 ghost use Rattle.search_steps.specs.Advising.{parts_of};
-ghost use Rattle.branch_tree.specs.Progressing.{state_of, IsGoing, IsDone};
+ghost use Rattle.search_progress.specs.Progressing.{state_of, IsGoing};
+ghost use Rattle.branch_tree.specs.Lines.{IsDone};
 
-use crate::progress::add_line;
-use crate::separating::number_of;
+use crate::lines::add_line;
 use crate::walk::Walk;
 use hub_plain::outside;
 use plan_model::{Branch, HubSet};
-use search_core::{lesser, rounded_up, whole_leaf};
-use search_steps::{NodeWeights, Rule, leaf_line};
+use search_core::whole_leaf;
+use search_progress::{number_of, stopped_leaf};
+use search_steps::{Rule, leaf_line};
 use separators::Separator;
 use std::alloc::AllocError;
 
@@ -53,14 +54,14 @@ impl<R: Rule> Walk<'_, R> {
             OnOk result (IsDone self.old.task.now self.old.progress self.new.progress
             (stopped_leaf p branch.now (pairs_of weights.now) (state_of p self.old.progress))) }
     {
-        let weighed = NodeWeights {
-            instance: self.task.instance,
-            pool: &self.progress.pool,
+        let line = stopped_leaf(
+            self.alloc,
+            self.rule,
+            self.task,
+            &mut self.progress,
+            branch,
             weights,
-        };
-        let bound = self.rule.bound(&weighed, branch);
-        self.progress.stop = Some(lesser(rounded_up(bound), self.progress.stop));
-        let line = leaf_line(self.alloc, weights)?;
+        )?;
         add_line(&mut self.progress, line)
     }
 

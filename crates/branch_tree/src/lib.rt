@@ -17,11 +17,10 @@
 mod again;
 mod laws;
 mod leaves;
-mod progress;
+mod lines;
 mod rounds;
 mod searching;
 mod separating;
-mod starting;
 mod walk;
 mod walking;
 mod weighing;

@@ -6,14 +6,14 @@ ghost use Rattle.search_spec.specs.Laws.{GoesOn};
 ghost use Rattle.search_spec.specs.Steps.{round, rounds};
 ghost use Rattle.search_steps.specs.Weights.{AreNodeWeights, pairs_of};
 ghost use Rattle.search_steps.specs.Advising.{parts_of};
-ghost use Rattle.branch_tree.specs.Progressing.{state_of, IsGoing};
+ghost use Rattle.search_progress.specs.Progressing.{state_of, IsGoing};
 ghost use Rattle.branch_tree.specs.Rounding.{round_as, IsRound};
 
-use crate::separating::number_of;
 use crate::walk::Walk;
 use frac_master::Advice;
 use pareto_cuts::order_of;
 use plan_model::Branch;
+use search_progress::number_of;
 use search_steps::{Rule, node_advice};
 use separators::Separator;
 use std::alloc::AllocError;

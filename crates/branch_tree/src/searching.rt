@@ -7,18 +7,17 @@ ghost use Rattle.search_spec.specs.States.{Grown};
 ghost use Rattle.search_spec.specs.Steps.{searched};
 ghost use Rattle.search_spec.specs.Findings.{certificate_of, AreWithin, IsSpent, IsEnough};
 ghost use Rattle.kept_cuts.specs.Findings.{lines_of, proof_of, AreOwn, IsProved};
-ghost use Rattle.branch_tree.specs.Progressing.{state_of, IsGoing};
-ghost use Rattle.branch_tree.specs.Findings.{found_by, IsFound};
+ghost use Rattle.search_progress.specs.Progressing.{state_of, IsGoing};
+ghost use Rattle.branch_tree.specs.Findings.{found_by};
+ghost use Rattle.search_progress.specs.Findings.{IsFound};
 ghost use Rattle.search_steps.specs.Advising.{parts_of};
 
-use crate::progress::Progress;
-use crate::starting::begin;
 use crate::walk::Walk;
-use assign_sub::assign;
 use hub_model::Instance;
 use kept_cuts::Found;
-use plan_model::{Branch, Plan};
-use search_core::{Task, lesser};
+use plan_model::Branch;
+use search_core::Task;
+use search_progress::{Progress, begin, finish};
 use search_steps::Rule;
 use separators::Separator;
 use std::alloc::{AllocError, Global};
@@ -87,21 +86,4 @@ pub(crate) fn search_on<R: Rule, S: Separator>(
     let depth = root.free().len() as u32 + 1;
     walk.node(depth, separator, &root, &[])?;
     finish(alloc, task, walk.progress)
-}
-
-// The incumbent with its least routes, and what no plan costs less than.
-fn finish(alloc: Global, task: &Task, progress: Progress) -> Result<Found, AllocError>
-    requires going { IsGoing task.now progress }
-    ensures { let p = task.now.instance.now in (g : Grown) → state_of p progress ≡ g.state → lines_of progress.lines.items ≡ preorder g.tree
-        → IfOk result (IsFound p g) }
-{
-    let assignment = assign(alloc, task.instance, &progress.hubs)?;
-    let hubs = progress.hubs.members().to_vec(alloc)?;
-    Ok(Found {
-        cost: progress.cost,
-        bound: lesser(progress.cost, progress.stop),
-        plan: Plan::new(hubs, assignment.routes),
-        cuts: progress.pool.into_cuts(),
-        tree: progress.lines,
-    })
 }

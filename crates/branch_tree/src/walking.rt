@@ -7,14 +7,16 @@ ghost use Rattle.search_spec.specs.Choices.{nearest_half};
 ghost use Rattle.search_spec.specs.Steps.{fixed, halved};
 ghost use Rattle.search_steps.specs.Advising.{told_by, parts_of};
 ghost use Rattle.search_steps.specs.Weights.{AreNodeWeights, pairs_of, sides_as};
-ghost use Rattle.branch_tree.specs.Progressing.{handling, state_of, IsGoing, IsDone};
-ghost use Rattle.branch_tree.specs.Walking.{AreOnFree};
+ghost use Rattle.branch_tree.specs.Lines.{handling, IsDone};
+ghost use Rattle.search_progress.specs.Progressing.{state_of, IsGoing};
+ghost use Rattle.search_progress.specs.FixingsLeft.{AreOnFree};
 
-use crate::progress::{add_line, may_split, split_on};
+use crate::lines::{add_line, split_on};
 use crate::rounds::RoundEnd;
 use crate::walk::Walk;
 use hub_fixing::Side;
 use plan_model::Branch;
+use search_progress::may_split;
 use search_steps::{Rule, nearest};
 use separators::Separator;
 use std::alloc::AllocError;
@@ -100,7 +102,7 @@ impl<R: Rule> Walk<'_, R> {
             [] => return self.halved(depth, separator, round, branch),
             [(k, side), rest @ ..] => (*k, *side, rest),
         };
-        split_on(self.task, &mut self.progress, k)?;
+        split_on(&mut self.progress, k)?;
         match side {
             Side::In => {
                 let child = branch.open_child(self.alloc, k)?;
@@ -140,7 +142,7 @@ impl<R: Rule> Walk<'_, R> {
             (halved (handling t depth) k branch.now (pairs_of round.now.weights.items) (state_of p self.old.progress))) }
     {
         let k = nearest(&round.advice, branch);
-        split_on(self.task, &mut self.progress, k)?;
+        split_on(&mut self.progress, k)?;
         let opened = branch.open_child(self.alloc, k)?;
         self.node(depth, separator, &opened, &round.weights)?;
         let closed = branch.closed_child(self.alloc, k)?;

@@ -17,7 +17,8 @@ use Rattle.cert_spec.specs.Text.{certificate_text, Spells}
 use Rattle.kept_cuts.specs.declared.found.Found.{Found}
 use Rattle.kept_cuts.specs.Findings.{IsVersionFor, IsProved, AreOwn, proof_of}
 use Rattle.kept_cuts.proofs.Versions.{has_text}
-use Rattle.branch_tree.specs.Findings.{found_by, IsFound}
+use Rattle.branch_tree.specs.Findings.{found_by}
+use Rattle.search_progress.specs.Findings.{IsFound}
 use Rattle.branch_tree.proofs.FirstLines.{found_first}
 use Rattle.proof_text.specs.Texts.{found_text}
 use Rattle.proof_text.proofs.FoundLines.{found_text_certificate}

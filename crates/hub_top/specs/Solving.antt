@@ -11,7 +11,7 @@ use Rattle.cert_spec.specs.Verdicts.{Older, serves}
 use Rattle.cert_checker.specs.Shows.{verdict_of}
 use Rattle.kept_cuts.specs.Findings.{IsUnlimited, IsProved, AreOwn, proof_of}
 use Rattle.kept_cuts.specs.declared.found.Found as finding
-use Rattle.branch_tree.specs.Findings.{IsFound}
+use Rattle.search_progress.specs.Findings.{IsFound}
 use Rattle.hub_words.specs.Requests.{Source, Resolving}
 use Rattle.hub_top.specs.declared.solving.Solved.{Solved}
 use Rattle.hub_top.specs.declared.solving.Solved.TheVariants.{Found, NoNetwork}

@@ -2,8 +2,10 @@ use Rattle.std.proofs.Common.{subst}
 use Rattle.std.proofs.lemmas.Result.{IfOk-weaker}
 use Rattle.search_spec.specs.States.{Grown}
 use Rattle.search_core.specs.Starts.{start_seen}
-use Rattle.branch_tree.specs.Findings.{found_again, IsFound}
-use Rattle.branch_tree.proofs.FoundCertificates.{IsSearchable, IsToldOf, told_of, again_searched}
+use Rattle.branch_tree.specs.Findings.{found_again}
+use Rattle.search_progress.specs.Findings.{IsFound}
+use Rattle.search_progress.proofs.FoundCertificates.{IsSearchable, IsToldOf, told_of}
+use Rattle.branch_tree.proofs.RuleFindings.{again_searched}
 use Rattle.branch_tree.proofs.WholeSearch.{again_from}
 use Rattle.branch_tree.proofs.again.search_from.Goals as goal
 

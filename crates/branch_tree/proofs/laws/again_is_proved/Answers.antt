@@ -1,5 +1,6 @@
 use Rattle.branch_tree.specs.Findings.{found_again}
-use Rattle.branch_tree.proofs.FoundCertificates.{told_of, again_searched}
+use Rattle.search_progress.proofs.FoundCertificates.{told_of}
+use Rattle.branch_tree.proofs.RuleFindings.{again_searched}
 use Rattle.branch_tree.proofs.laws.again_is_proved.Goals as goal
 
 pub returns : goal.returns

@@ -1,5 +1,6 @@
 use Rattle.branch_tree.specs.Findings.{found_by}
-use Rattle.branch_tree.proofs.FoundCertificates.{told_of, rule_searched}
+use Rattle.search_progress.proofs.FoundCertificates.{told_of}
+use Rattle.branch_tree.proofs.RuleFindings.{rule_searched}
 use Rattle.branch_tree.proofs.laws.search_is_proved.Goals as goal
 
 pub returns : goal.returns

@@ -1,8 +1,10 @@
 use Rattle.std.proofs.Common.{subst}
 use Rattle.std.proofs.lemmas.Result.{IfOk-weaker}
 use Rattle.search_spec.specs.States.{Grown}
-use Rattle.branch_tree.specs.Findings.{found_by, IsFound}
-use Rattle.branch_tree.proofs.FoundCertificates.{IsSearchable, IsToldOf, told_of, rule_searched, found_own}
+use Rattle.branch_tree.specs.Findings.{found_by}
+use Rattle.search_progress.specs.Findings.{IsFound}
+use Rattle.search_progress.proofs.FoundCertificates.{IsSearchable, IsToldOf, told_of}
+use Rattle.branch_tree.proofs.RuleFindings.{rule_searched, found_own}
 use Rattle.branch_tree.proofs.WholeSearch.{found_from}
 use Rattle.branch_tree.proofs.searching.search.Goals as goal
 

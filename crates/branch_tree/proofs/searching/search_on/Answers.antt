@@ -6,7 +6,7 @@ use Rattle.search_spec.specs.States.{Grown}
 use Rattle.search_spec.specs.Steps.{node, searched}
 use Rattle.kept_cuts.specs.Findings.{lines_of}
 use Rattle.search_steps.specs.Advising.{parts_of}
-use Rattle.branch_tree.specs.Progressing.{state_of}
+use Rattle.search_progress.specs.Progressing.{state_of}
 use Rattle.branch_tree.proofs.NodeCases.{handled_root}
 use Rattle.branch_tree.proofs.searching.search_on.Goals as goal
 

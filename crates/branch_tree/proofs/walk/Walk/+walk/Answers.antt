@@ -16,12 +16,16 @@ use Rattle.search_steps.specs.Weights.{pairs_of, side_as, sides_as, AreNodeWeigh
 use Rattle.search_steps.proofs.GivenPools.{weights_stay, grown_twice}
 use Rattle.search_steps.proofs.RuleChoices.{room_when}
 use Rattle.search_core.specs.declared.tasks.Task.{Task}
-use Rattle.branch_tree.specs.Progressing.{handling, state_of}
+use Rattle.branch_tree.specs.Lines.{handling}
+use Rattle.search_progress.specs.Progressing.{state_of}
 use Rattle.branch_tree.specs.Rounding.{round_as}
-use Rattle.branch_tree.specs.Walking.{AreOnFree}
+use Rattle.search_progress.specs.FixingsLeft.{AreOnFree}
 use Rattle.branch_tree.proofs.AddedLines.{line_done, line_going, line_kept, done_as, done_by, going_as, branch_as, room_as}
-use Rattle.branch_tree.proofs.NodeCases.{told_end, told_no_end, told_alone, told_none_alone, goes_on, some_free, child_room, alone_is_set, node_ended, node_stopped, node_blocked, node_full, node_explored, fixed_alone, fixed_stopped, fixed_halved, fixed_next, halved_both}
-use Rattle.branch_tree.proofs.WalkSteps.{begun_state, both_done, open_done, closed_done, later_done, first_of, others_of, sides_split, none_left, fixings_on_free, on_free_in_child}
+use Rattle.search_progress.proofs.ToldChoices.{told_end, told_no_end, told_alone, told_none_alone}
+use Rattle.search_progress.proofs.ToldChoices.{goes_on, alone_is_set}
+use Rattle.branch_tree.proofs.NodeCases.{some_free, child_room, node_ended, node_stopped, node_blocked, node_full, node_explored, fixed_alone, fixed_stopped, fixed_halved, fixed_next, halved_both}
+use Rattle.branch_tree.proofs.WalkSteps.{begun_state, both_done, open_done, closed_done, later_done}
+use Rattle.search_progress.proofs.LeftFixings.{first_of, others_of, sides_split, none_left, fixings_on_free, on_free_in_child}
 use Rattle.branch_tree.proofs.walk.Walk.+walk.Goals as goal
 
 -- ---- fixed
@@ -128,7 +132,7 @@ fixed-fixed-requires g t c κs within =
             (
               c.requires.serves,
               (
-                line_going task before begun (branch_on k) (before.made + 2) before.stop c.requires.going c.in_ok-split_on.ensures (omega arith),
+                line_going task before begun (branch_on k) (before.made + 2) before.stop c.requires.going c.in_ok-split_on.ensures.line c.in_ok-split_on.ensures.few,
                 (
                   subst (IsBranch p) (sym child) (open_branch p b k c.requires.branch free.0),
                   (
@@ -136,7 +140,7 @@ fixed-fixed-requires g t c κs within =
                         (child_room p stays_open b k c.requires.going.problem c.requires.branch c.requires.room only free.0),
                     (
                       weights_stay before.pool.entries begun.pool.entries c.args.round.now.weights.items
-                          (line_kept before begun (branch_on k) (before.made + 2) before.stop c.in_ok-split_on.ensures) c.requires.weights,
+                          (line_kept before begun (branch_on k) (before.made + 2) before.stop c.in_ok-split_on.ensures.line) c.requires.weights,
                       (
                         subst (λ (x : Branching). AreOnFree x (sides_as (others_of c.args.fixings.now))) (sym child)
                             (on_free_in_child stays_open b k (sides_as (others_of c.args.fixings.now)) free.1 free.2),
@@ -156,7 +160,7 @@ pub fixed-add_leaf-requires-in-Out-clause-going : goal.fixed-add_leaf-requires-i
 fixed-add_leaf-requires-in-Out-clause-going g t c =
     let before = c.args.self.now.progress in
     let k = (first_of c.args.fixings.now).0 in
-    line_going c.args.self.now.task.now before c.split_on.new.progress (branch_on k) (before.made + 2) before.stop c.requires.going c.in_ok-split_on.ensures (omega arith)
+    line_going c.args.self.now.task.now before c.split_on.new.progress (branch_on k) (before.made + 2) before.stop c.requires.going c.in_ok-split_on.ensures.line c.in_ok-split_on.ensures.few
 
 pub fixed-fixed-requires-in-Out : goal.fixed-fixed-requires-in-Out
 fixed-fixed-requires-in-Out g t c κs within =
@@ -176,7 +180,7 @@ fixed-fixed-requires-in-Out g t c κs within =
     let same = c.in_ok-add_leaf-in-Out.ensures.same in
     let fewer : length c.in_ok-child-in-Out.child.free + 1 ≡ length b.free =
     ap (λ (x : Branching). length x.free + 1) child ∙ length-without k b.free free.0 in
-    let kept = line_kept before begun (branch_on k) (before.made + 2) before.stop c.in_ok-split_on.ensures in (
+    let kept = line_kept before begun (branch_on k) (before.made + 2) before.stop c.in_ok-split_on.ensures.line in (
       search (rules, arith),
       (
         within.0,
@@ -233,12 +237,12 @@ fixed-returns-in_ok-fixed-in-In-clause-done g t c =
     let only = told_none_alone ((parts_of p).only b) c.in_ok-hubs.field-0 c.in_ok-hubs.ensures c.in_default.is in
     let on_side = all ∙ ap (λ (x : code.Side). (k, side_as x) ∷ rest) c.in-In.is in
     let kept = fixed p (parts_of p) task.nodes go a rest c.in_ok-child-in-In.child w (state_of p begun) in
-    let next = begun_state p before begun k c.in_ok-split_on.ensures in
+    let next = begun_state p before begun k c.in_ok-split_on.ensures.line in
     let is = fixed_next task go a (k, stays_open) rest (sides_as c.args.fixings.now) b c.in_ok-child-in-In.child w s (state_of p begun)
     only on_side (sym c.may_split.ensures ∙ c.if-not-may_split.false) c.in_ok-child-in-In.ensures next in
     on_ok_weaker c.add_leaf.result
     (λ done. done_as task before after _ _ is
-    (open_done task before begun middle after k (before.made + 2) before.stop w kept c.in_ok-split_on.ensures c.in_ok-fixed-in-In.ensures.done
+    (open_done task before begun middle after k (before.made + 2) before.stop w kept c.in_ok-split_on.ensures.line c.in_ok-fixed-in-In.ensures.done
     (done_as task middle after _ _
     (ap (λ (ws : List ℤ). record { state = state_of p middle; tree = leaf denominator (pairs_of ws) }) c.deref-in-In.ensures.value)
     (done_by task c.fixed.new.self.task.now middle after
@@ -269,12 +273,12 @@ fixed-returns-in_ok-add_leaf-in-Out-clause-done g t c =
     let leaf_added = done_as task begun middle _ _
     (ap (λ (ws : List ℤ). record { state = state_of p begun; tree = leaf denominator (pairs_of ws) }) c.deref-in-Out.ensures.value)
     c.in_ok-add_leaf-in-Out.ensures.added in
-    let next = leaf_added.state ∙ begun_state p before begun k c.in_ok-split_on.ensures in
+    let next = leaf_added.state ∙ begun_state p before begun k c.in_ok-split_on.ensures.line in
     let is = fixed_next task go a (k, stays_closed) rest (sides_as c.args.fixings.now) b c.in_ok-child-in-Out.child w s (state_of p middle)
     only on_side (sym c.may_split.ensures ∙ c.if-not-may_split.false) c.in_ok-child-in-Out.ensures next in
     on_ok_weaker c.fixed-in-Out.result
     (λ done. done_as task before after _ _ is
-    (closed_done task before begun middle after k (before.made + 2) before.stop w kept c.in_ok-split_on.ensures leaf_added
+    (closed_done task before begun middle after k (before.made + 2) before.stop w kept c.in_ok-split_on.ensures.line leaf_added
     (done_by task c.add_leaf-in-Out.new.self.task.now middle after
     (λ x. fixed x.instance.now (parts_of x.instance.now) x.nodes (handling x c.args.depth) a rest c.in_ok-child-in-Out.child w (state_of x.instance.now middle))
     c.in_ok-add_leaf-in-Out.ensures.same done)))
@@ -293,7 +297,7 @@ node-returns-in-Some-clause-done g t c =
     let is = node_ended task c.args.depth b (pairs_of c.args.weights.now) (state_of p before) end.tree (omega (arith, c.requires.deep)) end.is in
     on_ok_weaker c.add_line.result
     (λ has. done_as task before after _ _ is
-    (line_done task before after end.tree (tree_line_of c.in-Some.line) before.made before.stop c.requires.going end.one (omega arith) has))
+    (line_done task before after end.tree (tree_line_of c.in-Some.line) before.made before.stop c.requires.going end.one c.requires.going.made has))
     c.add_line.ensures
 
 pub node-stopped_leaf-requires-clause-room : goal.node-stopped_leaf-requires-clause-room
@@ -331,7 +335,7 @@ node-returns-in-Some-2-clause-done g t c =
     (sym c.is_some.ensures ∙ c.if-is_some.false) end.is in
     on_ok_weaker c.add_line-in-Some-2.result
     (λ has. done_as task before after _ _ is
-    (line_done task before after end.tree (tree_line_of c.in-Some-2.line) before.made before.stop c.requires.going end.one (omega arith) has))
+    (line_done task before after end.tree (tree_line_of c.in-Some-2.line) before.made before.stop c.requires.going end.one c.requires.going.made has))
     c.add_line-in-Some-2.ensures
 
 pub node-full_leaf-requires-clause-set : goal.node-full_leaf-requires-clause-set
@@ -510,13 +514,13 @@ halved-node-requires g t c κs within =
             (
               c.requires.serves,
               (
-                line_going task before begun (branch_on k) (before.made + 2) before.stop c.requires.going c.in_ok-split_on.ensures (omega arith),
+                line_going task before begun (branch_on k) (before.made + 2) before.stop c.requires.going c.in_ok-split_on.ensures.line c.in_ok-split_on.ensures.few,
                 (
                   subst (IsBranch p) (sym child) (open_branch p b k c.requires.branch free),
                   (
                     subst (AreNodeWeights begun.pool.entries) (sym c.deref.ensures.value)
                         (weights_stay before.pool.entries begun.pool.entries c.args.round.now.weights.items
-                        (line_kept before begun (branch_on k) (before.made + 2) before.stop c.in_ok-split_on.ensures) c.requires.weights),
+                        (line_kept before begun (branch_on k) (before.made + 2) before.stop c.in_ok-split_on.ensures.line) c.requires.weights),
                     omega (arith, fewer, c.requires.deep),
                   ),
                 ),
@@ -540,7 +544,7 @@ halved-node-requires-2 g t c κs within =
     let child = c.in_ok-closed.ensures in
     let opened = c.in_ok-node.ensures.done in
     let same = c.in_ok-node.ensures.same in
-    let kept = line_kept before begun (branch_on k) (before.made + 2) before.stop c.in_ok-split_on.ensures in
+    let kept = line_kept before begun (branch_on k) (before.made + 2) before.stop c.in_ok-split_on.ensures.line in
     let fewer : length c.in_ok-closed.closed.free + 1 ≡ length b.free =
     ap (λ (x : Branching). length x.free + 1) child ∙ length-without k b.free free in (
       search (rules, arith),
@@ -586,14 +590,14 @@ halved-returns-clause-done g t c =
     let second = c.in_ok-closed.closed in
     let s = state_of p before in
     let k = c.nearest-k.result in
-    let next = begun_state p before begun k c.in_ok-split_on.ensures in
+    let next = begun_state p before begun k c.in_ok-split_on.ensures.line in
     let is = halved_both go b first second w s (state_of p begun) k _ c.nearest-k.ensures.nearest c.in_ok-opened.ensures c.in_ok-closed.ensures next in
     let opened = done_as task begun middle _ (go first w (state_of p begun))
     (ap (λ (ws : List ℤ). go first (pairs_of ws) (state_of p begun)) c.deref.ensures.value) c.in_ok-node.ensures.done in
     on_ok_weaker c.node-2.result
     (λ done. done_as task before after _ _ is
     (both_done task before begun middle after k (before.made + 2) before.stop (go first w (state_of p begun)) (go second w (go first w (state_of p begun)).state)
-    c.in_ok-split_on.ensures opened
+    c.in_ok-split_on.ensures.line opened
     (done_as task middle after _ _
     (ap (λ (ws : List ℤ). go second (pairs_of ws) (state_of p middle)) c.deref-2.ensures.value ∙ ap (λ (x : State). go second w x) opened.state)
     (done_by task c.node.new.self.task.now middle after

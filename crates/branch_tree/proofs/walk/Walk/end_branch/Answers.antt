@@ -2,9 +2,11 @@ use Rattle.std.proofs.Common.{arith}
 use Rattle.std.proofs.lemmas.Result.{on_ok_weaker}
 use Rattle.plan_model.specs.Lines.{tree_line_of}
 use Rattle.search_steps.specs.Advising.{parts_of}
-use Rattle.branch_tree.specs.Progressing.{state_of}
+use Rattle.search_progress.specs.Progressing.{state_of}
 use Rattle.branch_tree.proofs.AddedLines.{line_done, done_as}
-use Rattle.branch_tree.proofs.NodeCases.{told_end, told_no_end, alone_is_set, ended_line, ended_blocked, ended_full}
+use Rattle.search_progress.proofs.ToldChoices.{told_end, told_no_end}
+use Rattle.search_progress.proofs.ToldChoices.{alone_is_set}
+use Rattle.branch_tree.proofs.NodeCases.{ended_line, ended_blocked, ended_full}
 use Rattle.branch_tree.proofs.walk.Walk.end_branch.Goals as goal
 
 pub returns-in-Some-clause-ended : goal.returns-in-Some-clause-ended
@@ -16,7 +18,7 @@ returns-in-Some-clause-ended g c =
     let end = told_end ((parts_of p).barren b) c.end.result c.in-Some.line (c.end.ensures p c.requires.serves) c.in-Some.is in
     on_ok_weaker c.add_line.result
     (λ has. done_as t before c.add_line.new.progress _ _ (ended_line p b (state_of p before) c.args.hubs.now end.tree end.is)
-    (line_done t before c.add_line.new.progress end.tree (tree_line_of c.in-Some.line) before.made before.stop c.requires.going end.one (omega arith) has))
+    (line_done t before c.add_line.new.progress end.tree (tree_line_of c.in-Some.line) before.made before.stop c.requires.going end.one c.requires.going.made has))
     c.add_line.ensures
 
 pub blocked-requires-clause-no_end : goal.blocked-requires-clause-no_end
@@ -34,7 +36,7 @@ returns-in-Some-2-clause-ended g c =
     let end = told_end ((parts_of p).blocked b) c.in_ok-line.field-0 c.in-Some-2.line c.in_ok-line.ensures c.in-Some-2.is in
     on_ok_weaker c.add_line-in-Some-2.result
     (λ has. done_as t before c.add_line-in-Some-2.new.progress _ _ (ended_blocked p b (state_of p before) c.args.hubs.now end.tree barren end.is)
-    (line_done t before c.add_line-in-Some-2.new.progress end.tree (tree_line_of c.in-Some-2.line) before.made before.stop c.requires.going end.one (omega arith) has))
+    (line_done t before c.add_line-in-Some-2.new.progress end.tree (tree_line_of c.in-Some-2.line) before.made before.stop c.requires.going end.one c.requires.going.made has))
     c.add_line-in-Some-2.ensures
 
 pub full_leaf-requires-clause-set : goal.full_leaf-requires-clause-set

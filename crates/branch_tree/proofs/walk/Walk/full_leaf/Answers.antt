@@ -5,7 +5,7 @@ use Rattle.plan_model.specs.Lines.{tree_line_of}
 use Rattle.search_spec.specs.States.{denominator, whole_on}
 use Rattle.search_spec.specs.Steps.{separated}
 use Rattle.search_steps.specs.Advising.{parts_of}
-use Rattle.branch_tree.specs.Progressing.{state_of}
+use Rattle.search_progress.specs.Progressing.{state_of}
 use Rattle.branch_tree.proofs.AddedLines.{line_done, line_at, done_as}
 use Rattle.branch_tree.proofs.LeafSteps.{found_leaf, new_leaf, one_more}
 use Rattle.branch_tree.proofs.walk.Walk.full_leaf.Goals as goal
@@ -25,7 +25,7 @@ returns-in-Some-clause-full g c =
     on_ok_weaker c.add_line.result
     (λ has. done_as t before c.add_line.new.progress _ _ is
     (line_done t before c.add_line.new.progress (leaf denominator (whole_on c.in-Some.number)) (tree_line_of c.in_ok-line.line) before.made before.stop
-    c.requires.going (ap (λ (l : TreeLine). l ∷ []) (sym c.in_ok-line.ensures)) (omega arith) has))
+    c.requires.going (ap (λ (l : TreeLine). l ∷ []) (sym c.in_ok-line.ensures)) c.requires.going.made has))
     c.add_line.ensures
 
 pub returns-clause-full : goal.returns-clause-full

@@ -5,7 +5,7 @@ use Rattle.search_spec.proofs.StepCases.{rounds_over}
 use Rattle.search_steps.specs.Weights.{pairs_of}
 use Rattle.search_steps.specs.Advising.{parts_of}
 use Rattle.search_steps.proofs.GivenPools.{grown_same}
-use Rattle.branch_tree.specs.Progressing.{state_of}
+use Rattle.search_progress.specs.Progressing.{state_of}
 use Rattle.branch_tree.specs.Rounding.{round_as}
 use Rattle.branch_tree.proofs.NodeCases.{one_round}
 use Rattle.branch_tree.proofs.walk.Walk.next_round.Goals as goal

@@ -4,7 +4,7 @@ use Rattle.search_spec.specs.Steps.{rounds, round}
 use Rattle.search_steps.specs.Weights.{pairs_of}
 use Rattle.search_steps.specs.Advising.{parts_of}
 use Rattle.search_steps.proofs.GivenPools.{grown_twice}
-use Rattle.branch_tree.specs.Progressing.{state_of}
+use Rattle.search_progress.specs.Progressing.{state_of}
 use Rattle.branch_tree.proofs.NodeCases.{two_rounds}
 use Rattle.branch_tree.proofs.RoundSteps.{next_by}
 use Rattle.branch_tree.proofs.walk.Walk.rounds.Goals as goal

@@ -1,0 +1,9 @@
+pub mod ToldChoices
+pub mod Orders
+pub mod Stops
+pub mod AddedCuts
+pub mod KeptPools
+pub mod FoundCertificates
+pub mod Starts
+pub mod Ends
+pub mod LeftFixings

@@ -1,0 +1,4 @@
+pub mod Progressing
+pub mod Separating
+pub mod FixingsLeft
+pub mod Findings

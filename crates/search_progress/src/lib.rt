@@ -1,0 +1,23 @@
+//! What a search has so far, whatever its rule and the order of its nodes: how it begins, what a separation and a stop
+//! make of it, and what is found at its end.
+//!
+//! [`Progress`] is the state of a search's definition (`search_spec`), with the lines of the tree that are finished.
+//! [`begin`] separates the sets with which a rule begins, [`separate`] a set, whose cut becomes the next of the pool,
+//! and [`stopped_leaf`] makes a leaf of a branch at a stop; each leaves the state that the step of its name leaves. What
+//! [`finish`] gives is what is found where the state is that of the definition at its end and the lines are those of its
+//! tree in preorder.
+//!
+//! Costs are in 10^-12 and weights in 10^-6; nodes are `u32`, counted from 0, and cuts are counted from 1.
+#![tactic(auto)]
+
+mod finishing;
+mod progress;
+mod separating;
+mod starting;
+mod stopping;
+
+pub use finishing::finish;
+pub use progress::{Progress, may_split, two_more};
+pub use separating::{number_of, separate};
+pub use starting::begin;
+pub use stopping::stopped_leaf;
