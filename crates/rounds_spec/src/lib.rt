@@ -1,10 +1,10 @@
-//! The rule of a search by rounds, eight nodes side by side, and what is proved of it. No command uses it yet.
+//! The rule of a search by rounds, eight nodes side by side, and what is proved of it. `node_rounds` is its code.
 //!
 //! The definitions stand in `specs/`, in the order of reading: `Places` (what a search by rounds has of its tree), `Turns`
 //! (the rule: a node's turn, what is taken of its outcome, a round, the end), `Outcomes` (a round by the list of its
 //! outcomes), `Lasting` (how long it lasts, and the whole search), `Theorems`. States, parts and single steps are those of
 //! `search_spec`. There is no code: each function is empty, and its contract is a theorem. `proofs/StepCases` has each step
-//! by its cases, for the code that is to do what the rule says.
+//! by its cases, for the code that does what the rule says.
 #![tactic(auto)]
 
 ghost use Rattle.rounds_spec.specs.Theorems.{SearchIsSound, SearchIsCounted, StopIsForNodes, EnoughNodesSuffice, EachRoundFalls, RoundsAreOver, RoundIsByOutcomes};

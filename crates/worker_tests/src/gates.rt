@@ -1,4 +1,4 @@
-//! A gate at which two workers wait for one another.
+//! Gates at which two workers wait for one another.
 
 use hub_io::Gate;
 use std::sync::atomic::AtomicU64;
@@ -53,6 +53,45 @@ impl Gate for Watch {
         self.blocks[block as usize].fetch_add(1, SeqCst);
         let is_first = self.drawn[mine].fetch_add(1, SeqCst) == 0;
         if is_first && came(&self.drawn[1 - mine], self.awaited[mine]) {
+            self.in_time.fetch_add(1, SeqCst);
+        }
+    }
+}
+
+/// A gate that so many pass at once; behind them each of two workers waits until the other has come too.
+#[derive(Drop)]
+pub struct Meeting {
+    at_once: u64,
+    passed: AtomicU64,
+    came: [AtomicU64; 2],
+    in_time: AtomicU64,
+}
+
+impl Meeting {
+    pub(crate) fn after(at_once: u64) -> Meeting {
+        Meeting {
+            at_once,
+            passed: AtomicU64::new(0),
+            came: [AtomicU64::new(0), AtomicU64::new(0)],
+            in_time: AtomicU64::new(0),
+        }
+    }
+
+    /// Whether so many passed, and of these each of the two workers that waited met the other.
+    pub(crate) fn both_came(&self, passed: u64) -> bool {
+        self.passed.load(SeqCst) == passed && self.in_time.load(SeqCst) == 2
+    }
+}
+
+impl Gate for Meeting {
+    fn at(&self, worker: u32, _block: u32) {
+        let before = self.passed.fetch_add(1, SeqCst);
+        if before < self.at_once || worker > 1 {
+            return;
+        }
+        let mine = worker as usize;
+        self.came[mine].fetch_add(1, SeqCst);
+        if came(&self.came[1 - mine], 1) {
             self.in_time.fetch_add(1, SeqCst);
         }
     }

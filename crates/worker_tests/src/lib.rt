@@ -1,9 +1,10 @@
-//! Tests of what holds threads: workers on a board, in a crew, and at a separation.
+//! Tests of what holds threads: workers on a board, in a crew, at a separation, and in a search by rounds.
 //!
 //! - `boards`: of `claim_board`
 //! - `crews`: of `crew`
 //! - `separations`: of `par_separate`
-//! - `gates`: a gate at which two workers wait for one another
+//! - `rounds`: of `node_rounds`
+//! - `gates`: gates at which two workers wait for one another
 //! - `instances`: what is separated
 #![tactic(auto)]
 
@@ -15,5 +16,7 @@ mod crews;
 mod gates;
 #[cfg(test)]
 mod instances;
+#[cfg(test)]
+mod rounds;
 #[cfg(test)]
 mod separations;

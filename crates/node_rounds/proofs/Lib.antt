@@ -1,0 +1,11 @@
+pub mod TurnCases
+pub mod InOrder
+pub mod Added
+pub mod Lefts
+pub mod Settling
+pub mod Closed
+pub mod Turned
+pub mod Searched
+pub mod OfSets
+pub mod FirstPlaces
+pub mod RoundFindings

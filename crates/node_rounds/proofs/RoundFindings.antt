@@ -1,0 +1,48 @@
+-- What the rule by rounds finds.
+use Rattle.std.proofs.Common.{◌≡◌, ℕ, ◌^◌, List, All, Option, IsSome, refl, ap, sym, subst}
+use Rattle.hub_spec.specs.Problem.{Problem, IsProblem}
+use Rattle.search_spec.specs.States.{State}
+use Rattle.search_spec.specs.Laws.{IsStart}
+use Rattle.search_spec.specs.Choices.{begun_for}
+use Rattle.search_steps.specs.Advising.{parts_of}
+use Rattle.search_steps.proofs.RuleChoices.{parts_sound}
+use Rattle.kept_cuts.specs.Findings.{AreOwn}
+use Rattle.kept_cuts.specs.declared.found.Found.{Found}
+use Rattle.search_progress.specs.Findings.{IsFound}
+use Rattle.search_progress.proofs.KeptPools.{own_by_sets}
+use Rattle.search_progress.proofs.FoundCertificates.{start_of, IsSearchable, start_is, IsSearched}
+use Rattle.rounds_spec.specs.Lasting.{searched_by_rounds, rule_by_rounds}
+use Rattle.rounds_spec.proofs.WholeRounds.{search_proof, search_counted, search_stopped, enough_nodes}
+use Rattle.node_rounds.specs.Findings.{found_by_rounds}
+use Rattle.node_rounds.proofs.OfSets.{rule_rounds_of_sets}
+use Rattle.node_rounds.proofs.FirstPlaces.{rounds_first}
+
+-- so it is from any start
+rounds_from : (p : Problem) (n : Option ℕ) (s : State) → IsProblem p → IsStart p s → IsSearched p n (searched_by_rounds p (parts_of p) n s)
+rounds_from p n s ok start =
+    let sound = parts_sound p ok in
+    let stopped = search_stopped p (parts_of p) n s ok sound start in
+    record {
+      problem = ok;
+      proof = search_proof p (parts_of p) n s ok sound start;
+      counted = search_counted p (parts_of p) n s ok sound start;
+      spent = stopped.spent;
+      whole = stopped.whole;
+      enough = enough_nodes p (parts_of p) n s ok sound start;
+      first = rounds_first p n s ok start;
+    }
+
+pub rounds_searched : (p : Problem) (n : Option ℕ) → IsSearchable p → IsSearched p n (found_by_rounds p n)
+unfolding rule_by_rounds
+rounds_searched p n ok = rounds_from p n (start_of p) ok.problem (start_is p ok)
+
+-- each cut that is found is of a set
+pub rounds_own : (p : Problem) (n : Option ℕ) (found : Found) → IsSearchable p → IsFound p (found_by_rounds p n) found → AreOwn found
+rounds_own p n found ok is =
+    own_by_sets found.cuts.cuts
+    (subst (All (λ (set : Option (List ℕ)). IsSome set)) (sym is.sets) (rule_rounds_of_sets p n ok.problem ok.lacks_none))
+
+-- what is found from the state with which the rule begins
+pub found_from : (p : Problem) (n : Option ℕ) (s : State) → s ≡ begun_for p (parts_of p) p.wanted → searched_by_rounds p (parts_of p) n s ≡ found_by_rounds p n
+unfolding rule_by_rounds
+found_from p n s begun = ap (searched_by_rounds p (parts_of p) n) begun

@@ -1,0 +1,5 @@
+pub mod Outcomes
+pub mod Rounds
+pub mod Fronts
+pub mod Left
+pub mod Findings

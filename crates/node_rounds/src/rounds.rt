@@ -1,0 +1,87 @@
+//! The turns of a round, by workers side by side.
+
+ghost use Rattle.std.specs.Prelude.{◌≡◌, ◌<◌, ◌≤◌, None, length, All, IfOk};
+ghost use Rattle.std.specs.List.{AllZip};
+ghost use denote.Param.Send.{IsSync};
+ghost use Rattle.hub_spec.specs.Limits.{most_cost};
+ghost use Rattle.hub_spec.specs.Problem.{IsProblem};
+ghost use Rattle.rounds_spec.specs.Turns.{most_turns};
+ghost use Rattle.search_steps.specs.Pools.{IsPoolOf};
+ghost use Rattle.node_rounds.specs.Outcomes.{IsPendingOf, IsTurnOf, IsOutcomeOf};
+ghost use Rattle.node_rounds.specs.Rounds.{IsRound, IsTurnAt};
+
+use crate::outcomes::{Outcome, Pending};
+use crate::turning::turn;
+use crew::{Job, answers};
+use cut_pool::Pool;
+use hub_io::Gate;
+use hub_model::Instance;
+use std::alloc::{AllocError, Global};
+use std::thread::Threads;
+
+/// The turns of some nodes as a crew's work: block i is the turn of node i. All read the same pool and cost.
+#[derive(Drop)]
+pub(crate) struct Round<'a> {
+    pub(crate) instance: &'a Instance,
+    pub(crate) nodes: &'a [Pending],
+    pub(crate) pool: &'a Pool,
+    pub(crate) cost: u128,
+}
+
+impl<'a> Job<Outcome> for Round<'a> {
+    type Scratch = u32;
+
+    ghost answer = { IsTurnAt };
+
+    ghost accepts = { λ job i. (i < length job.nodes.now) × IsRound job };
+
+    ghost serves = { λ job scratch. Unit {0} };
+
+    fn new_scratch(&self, _alloc: Global) -> Result<u32, AllocError> {
+        Ok(0)
+    }
+
+    fn at(&self, alloc: Global, _scratch: &mut u32, block: u32) -> Result<Outcome, AllocError> {
+        turn(
+            alloc,
+            self.instance,
+            &self.nodes[block as usize],
+            self.pool,
+            self.cost,
+        )
+    }
+}
+
+/// The turns of at most eight nodes in their order, by the pool and the cost of the incumbent, which is in 10^-12, worked
+/// out by so many workers, 1 to 64, each in a thread of its own where one can be made.
+///
+/// A worker passes the gate once for each node that it draws, before the node's turn. The turns are the same for every
+/// number of workers, every schedule and every gate.
+pub fn turns<R: Threads + Sync, G: Gate>(
+    rt: &R,
+    alloc: Global,
+    instance: &Instance,
+    nodes: &[Pending],
+    pool: &Pool,
+    cost: u128,
+    workers: u32,
+    gate: &G,
+) -> Result<Vec<Outcome>, AllocError>
+    requires problem { IsProblem instance.now }
+    requires plain { instance.now.wanted ≡ None }
+    requires pool { IsPoolOf instance.now pool.now.entries }
+    requires nodes { All (IsPendingOf instance.now pool.now.entries) nodes.now }
+    requires few { length nodes.now ≤ most_turns }
+    requires cost { cost ≤ most_cost }
+    requires workers { (1 ≤ workers) × (workers ≤ 64) }
+    ensures turns { IfOk result (λ v. AllZip (IsTurnOf instance.now pool.now.entries cost) nodes.now v.items) }
+    ensures sound { IfOk result (λ v. AllZip (IsOutcomeOf instance.now pool.now.entries) nodes.now v.items) }
+{
+    let round = Round {
+        instance,
+        nodes,
+        pool,
+        cost,
+    };
+    answers(rt, alloc, &round, nodes.len() as u32, workers, gate)
+}

@@ -1,0 +1,229 @@
+//! Rounds, and the whole search.
+
+ghost use Rattle.std.specs.Prelude.{◌≡◌, ℕ, ◌+◌, ◌<◌, ◌≤◌, ◌^◌, None, [], ◌∷◌, ◌++◌, min, length, All, IfOk, OnOk};
+ghost use denote.Param.Send.{IsSync};
+ghost use Rattle.hub_spec.specs.Problem.{IsProblem};
+ghost use Rattle.hub_spec.specs.Plans.{IsHubSet, plan_cost, NoPlanBelow};
+ghost use Rattle.hub_spec.specs.Trees.{root, preorder};
+ghost use Rattle.search_spec.specs.Laws.{IsStart};
+ghost use Rattle.search_spec.specs.Findings.{certificate_of, AreWithin, IsSpent, IsEnough};
+ghost use Rattle.search_steps.specs.Advising.{parts_of};
+ghost use Rattle.kept_cuts.specs.Findings.{lines_of, proof_of, AreOwn, IsProved};
+ghost use Rattle.search_progress.specs.Progressing.{state_of, IsGoing};
+ghost use Rattle.search_progress.specs.Findings.{IsFound};
+ghost use Rattle.rounds_spec.specs.Places.{open_at};
+ghost use Rattle.rounds_spec.specs.Turns.{fresh, next_round, most_turns};
+ghost use Rattle.rounds_spec.specs.Lasting.{searched_by_rounds};
+ghost use Rattle.node_rounds.specs.Outcomes.{IsPendingOf};
+ghost use Rattle.node_rounds.specs.Fronts.{places_of, IsFront};
+ghost use Rattle.node_rounds.specs.Left.{left_of, AreMatched, lines_first, standing_of, IsLeft, AreTurns};
+ghost use Rattle.node_rounds.specs.Findings.{found_by_rounds};
+
+use crate::closing::close_up;
+use crate::fronts::{Front, add_line};
+use crate::left::{Left, Mark, put_back, settle};
+use crate::outcomes::{Outcome, Pending};
+use crate::rounds::turns;
+use crate::taking::take;
+use hub_io::Gate;
+use hub_model::Instance;
+use kept_cuts::Found;
+use plan_model::Branch;
+use search_core::Task;
+use search_progress::{Progress, begin, finish};
+use search_steps::Plain;
+use separators::Separator;
+use std::alloc::{AllocError, Global};
+use std::thread::Threads;
+
+// How many nodes have their turn in a round.
+const MOST_TURNS: usize = 8;
+
+/// The workers of a round, and the gate that each of them passes once for each node that it draws.
+#[derive(Clone, Copy)]
+pub(crate) struct Workers<'a, R, G> {
+    pub(crate) rt: &'a R,
+    pub(crate) count: u32,
+    pub(crate) gate: &'a G,
+}
+
+/// What the search by rounds finds, where any number of hubs will do: a plan with its cost, a bound that no plan costs
+/// less than, and the cuts and the tree that show it. `nodes` is the most nodes of the tree, the root among them; with
+/// `None` they are not limited. All candidates together lack no commodity. The turns of each round are worked out by so
+/// many workers, 1 to 64, each in a thread of its own where one can be made, and a worker passes the gate once for each
+/// node that it draws, before the node's turn.
+///
+/// Only where two nodes more are not allowed the search stops. Else cost and bound are equal and the plan is optimal. The
+/// finding is the same whatever the separator, the number of workers, their schedule and the gate are.
+///
+/// The answer is `AllocError` where memory runs out, and for a search that would have more cuts or tree lines than a
+/// certificate's text can have, 67,108,864 and 268,435,456.
+pub fn search_rounds<R: Threads + Sync, S: Separator, G: Gate>(
+    rt: &R,
+    alloc: Global,
+    instance: &Instance,
+    nodes: Option<u64>,
+    separator: &mut S,
+    workers: u32,
+    gate: &G,
+) -> Result<Found, AllocError>
+    requires plain { instance.now.wanted ≡ None }
+    requires lacks_none { IsHubSet instance.now instance.now.candidates }
+    requires ready { S.ready separator.old }
+    requires workers { (1 ≤ workers) × (workers ≤ 64) }
+    ensures ready { S.ready separator.new }
+    ensures found { IfOk result (IsFound instance.now (found_by_rounds instance.now nodes)) }
+    ensures certificate { let g = found_by_rounds instance.now nodes in
+        IfOk result (λ found. (v : ℕ) → proof_of v instance.now found g.tree ≡ certificate_of instance.now v g) }
+    ensures proved { IfOk result (IsProved instance.now) }
+    ensures own { IfOk result AreOwn }
+    ensures paid { IfOk result (λ found. found.cost ≡ plan_cost instance.now found.plan) }
+    ensures below { IfOk result (λ found. NoPlanBelow instance.now found.bound) }
+    ensures within { IfOk result (λ found. found.bound ≤ found.cost) }
+    ensures most { IfOk result (λ found. length found.tree.items + 1 ≤ 2 ^ (length instance.now.candidates + 1)) }
+    ensures allowed { IfOk result (λ found. AreWithin nodes (length found.tree.items)) }
+    ensures spent { IfOk result (λ found. found.bound < found.cost → IsSpent nodes (length found.tree.items)) }
+    ensures enough { IsEnough (2 ^ (length instance.now.candidates + 1)) nodes → IfOk result (λ found. found.bound ≡ found.cost) }
+{
+    let task = Task { instance, nodes };
+    let progress = begin(alloc, &Plain, &task, separator)?;
+    let workers = Workers {
+        rt,
+        count: workers,
+        gate,
+    };
+    let progress = all_rounds(&workers, alloc, &task, separator, progress)?;
+    finish(alloc, &task, progress)
+}
+
+// All rounds of the search that goes on from here, with the root still to be handled, and the lines of its tree.
+fn all_rounds<R: Threads + Sync, S: Separator, G: Gate>(
+    workers: &Workers<R, G>,
+    alloc: Global,
+    task: &Task,
+    separator: &mut S,
+    progress: Progress,
+) -> Result<Progress, AllocError>
+    requires workers { (1 ≤ workers.now.count) × (workers.now.count ≤ 64) }
+    requires plain { task.now.instance.now.wanted ≡ None }
+    requires lacks_none { IsHubSet task.now.instance.now task.now.instance.now.candidates }
+    requires ready { S.ready separator.old }
+    requires going { IsGoing task.now progress }
+    requires start { IsStart task.now.instance.now (state_of task.now.instance.now progress) }
+    requires no_line { lines_of progress.lines.items ≡ [] }
+    ensures ready { S.ready separator.new }
+    ensures state { let p = task.now.instance.now in
+        let g = searched_by_rounds p (parts_of p) task.now.nodes (state_of p progress) in IfOk result (λ s. state_of p s ≡ g.state) }
+    ensures lines { let p = task.now.instance.now in
+        let g = searched_by_rounds p (parts_of p) task.now.nodes (state_of p progress) in
+        IfOk result (λ s. lines_of s.lines.items ≡ preorder g.tree) }
+    ensures going { IfOk result (IsGoing task.now) }
+{
+    let mut left = at_root(alloc, task.instance)?;
+    let mut front = Front {
+        progress,
+        places: Vec::new(alloc),
+    };
+    while !left.nodes.is_empty() && front.progress.stop.is_none() {
+        one_round(workers, alloc, task, separator, &mut left, &mut front)?;
+    }
+    let Front {
+        mut progress,
+        places: _,
+    } = front;
+    close_up(alloc, task, left, &mut progress)?;
+    Ok(progress)
+}
+
+// The root alone is left, with no weights.
+fn at_root(alloc: Global, instance: &Instance) -> Result<Left, AllocError>
+    requires problem { IsProblem instance.now }
+    ensures root { IfOk result (λ left. left_of left ≡ open_at (fresh (root instance.now) []) ∷ []) }
+    ensures nodes { IfOk result (λ left. All (IsPendingOf instance.now []) left.nodes.items) }
+    ensures matched { IfOk result (λ left. AreMatched left.marks.items left.nodes.items) }
+{
+    let node = Pending {
+        branch: Branch::root(alloc, instance)?,
+        weights: Vec::new(alloc),
+        waits: 0,
+    };
+    let mut marks = Vec::new(alloc);
+    marks.push(Mark::Node)?;
+    let mut nodes = Vec::new(alloc);
+    nodes.push(node)?;
+    Ok(Left { marks, nodes })
+}
+
+// One round: the first nodes have their turns, and what comes of each is put in its place.
+fn one_round<R: Threads + Sync, S: Separator, G: Gate>(
+    workers: &Workers<R, G>,
+    alloc: Global,
+    task: &Task,
+    separator: &mut S,
+    left: &mut Left,
+    front: &mut Front,
+) -> Result<(), AllocError>
+    requires workers { (1 ≤ workers.now.count) × (workers.now.count ≤ 64) }
+    requires plain { task.now.instance.now.wanted ≡ None }
+    requires ready { S.ready separator.old }
+    requires left { IsLeft task.now front.old.progress left.old }
+    requires no_place { front.old.places.items ≡ [] }
+    ensures ready { S.ready separator.new }
+    ensures round { let p = task.now.instance.now in OnOk result (standing_of p front.new.progress left.new
+        ≡ next_round p (parts_of p) task.now.nodes (standing_of p front.old.progress left.old)) }
+    ensures left { OnOk result (IsLeft task.now front.new.progress left.new) }
+    ensures no_place { OnOk result (front.new.places.items ≡ []) }
+{
+    let first = left.nodes.len() - left.nodes.len().min(MOST_TURNS);
+    let outcomes = turns(
+        workers.rt,
+        alloc,
+        task.instance,
+        &left.nodes[first..],
+        &front.progress.pool,
+        front.progress.cost,
+        workers.count,
+        workers.gate,
+    )?;
+    take_all(alloc, task, separator, left, front, outcomes)?;
+    put_back(left, &mut front.places)?;
+    settle(left, &mut front.progress.lines)
+}
+
+// Takes the outcomes of the first nodes, the last outcome first, as long as the search is not stopped.
+fn take_all<S: Separator>(
+    alloc: Global,
+    task: &Task,
+    separator: &mut S,
+    left: &mut Left,
+    front: &mut Front,
+    mut outcomes: Vec<Outcome>,
+) -> Result<(), AllocError>
+    requires plain { task.now.instance.now.wanted ≡ None }
+    requires ready { S.ready separator.old }
+    requires left { IsLeft task.now front.old.progress left.old }
+    requires no_place { front.old.places.items ≡ [] }
+    requires turns { AreTurns task.now.instance.now front.old.progress left.old.nodes.items outcomes.items }
+    requires first { length outcomes.items ≡ min (length left.old.nodes.items) most_turns }
+    ensures ready { S.ready separator.new }
+    ensures round { let p = task.now.instance.now in OnOk result (record {
+      state = state_of p front.new.progress;
+      places = lines_first front.new.progress.lines.items (places_of front.new.places.items ++ left_of left.new);
+    } ≡ next_round p (parts_of p) task.now.nodes (standing_of p front.old.progress left.old)) }
+    ensures left { OnOk result (IsLeft task.now front.new.progress left.new) }
+    ensures front { OnOk result (IsFront task.now front.new) }
+{
+    while !outcomes.is_empty() && front.progress.stop.is_none() {
+        match left.marks.pop() {
+            Some(Mark::Line(line)) => add_line(task, front, line)?,
+            Some(Mark::Node) => match (left.nodes.pop(), outcomes.pop()) {
+                (Some(node), Some(outcome)) => {
+                    take(alloc, task, separator, front, node, outcome)?
+                }
+                _ => unreachable!(),
+            },
+            None => unreachable!(),
+        }
+    }
+    Ok(())
+}

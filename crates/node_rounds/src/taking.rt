@@ -1,0 +1,98 @@
+//! What is taken of an outcome.
+
+ghost use Rattle.std.specs.Prelude.{◌≡◌, None, OnOk};
+ghost use Rattle.hub_spec.specs.Plans.{IsHubSet};
+ghost use Rattle.hub_spec.specs.Separation.{IsOrder};
+ghost use Rattle.hub_spec.specs.Trees.{IsBranch};
+ghost use Rattle.search_steps.specs.Advising.{parts_of};
+ghost use Rattle.search_progress.specs.Progressing.{state_of, IsGoing, IsAt};
+ghost use Rattle.rounds_spec.specs.Turns.{with_set, taken};
+ghost use Rattle.node_rounds.specs.Outcomes.{pending_of, outcome_of, IsOutcomeOf};
+ghost use Rattle.node_rounds.specs.Fronts.{IsFront, IsTaken};
+
+use crate::fronts::{Front, add_line, add_node};
+use crate::outcomes::{Outcome, Pending};
+use crate::splitting::split_up;
+use plan_model::HubSet;
+use search_core::Task;
+use search_progress::{Progress, number_of, separate};
+use separators::Separator;
+use std::alloc::{AllocError, Global};
+
+/// Takes the outcome of a node: what comes in the node's place is added to the front.
+pub(crate) fn take<S: Separator>(
+    alloc: Global,
+    task: &Task,
+    separator: &mut S,
+    front: &mut Front,
+    node: Pending,
+    outcome: Outcome,
+) -> Result<(), AllocError>
+    requires plain { task.now.instance.now.wanted ≡ None }
+    requires ready { S.ready separator.old }
+    requires front { IsFront task.now front.old }
+    requires branch { IsBranch task.now.instance.now node.branch }
+    requires outcome { IsOutcomeOf task.now.instance.now front.old.progress.pool.entries node outcome }
+    ensures ready { S.ready separator.new }
+    ensures taken { let p = task.now.instance.now in OnOk result (IsTaken task.now front.old front.new
+        (taken p (parts_of p) task.now.nodes (pending_of node) (outcome_of outcome) (state_of p front.old.progress))) }
+{
+    let Pending {
+        branch,
+        weights: _,
+        waits,
+    } = node;
+    match outcome {
+        Outcome::Ends(line) => add_line(task, front, line),
+        Outcome::Ask {
+            set,
+            order,
+            weights,
+            waited,
+        } => {
+            with_set(alloc, task, separator, &mut front.progress, set, order)?;
+            let waits = if waited { waits + 1 } else { waits };
+            let asking = Pending {
+                branch,
+                weights,
+                waits,
+            };
+            add_node(task, front, asking)
+        }
+        Outcome::Split {
+            weights,
+            fixings,
+            advice,
+        } => {
+            let split = Pending {
+                branch,
+                weights,
+                waits,
+            };
+            split_up(alloc, task, front, &fixings, &advice, split)
+        }
+    }
+}
+
+// Separates the set over the order, unless it is known by now.
+fn with_set<S: Separator>(
+    alloc: Global,
+    task: &Task,
+    separator: &mut S,
+    progress: &mut Progress,
+    set: HubSet,
+    order: Vec<u32>,
+) -> Result<(), AllocError>
+    requires ready { S.ready separator.old }
+    requires going { IsGoing task.now progress.old }
+    requires set { IsHubSet task.now.instance.now set }
+    requires order { IsOrder task.now.instance.now set order.items }
+    ensures ready { S.ready separator.new }
+    ensures at { let p = task.now.instance.now in OnOk result (IsAt task.now progress.old progress.new
+        (with_set (parts_of p) set order.items (state_of p progress.old))) }
+{
+    if number_of(progress, &set).is_some() {
+        return Ok(());
+    }
+    separate(alloc, task, progress, separator, set, order)
+}
