@@ -14,10 +14,11 @@ use Rattle.cert_spec.proofs.OlderTexts.{one_older_from}
 use Rattle.cert_spec.proofs.OneText.{one_certificate_lem}
 use Rattle.cert_spec.proofs.TextOrFault.{each_is_text_or_fault_lem}
 use Rattle.hub_make.specs.Contents.{made_problem}
-use Rattle.hub_words.specs.Requests.{Source, Solving, Resolving, Making, Search, Request, solve, optimize, resolve, check, report, make, demo, instance}
+use Rattle.hub_words.specs.Requests.{Source, Solving, SearchRule, Resolving, Making, Search, Request, instance}
+use Rattle.hub_words.specs.Requests.{solve, optimize, resolve, check, report, make, demo}
 use Rattle.hub_top.specs.declared.status.Status.{Status}
 use Rattle.hub_top.specs.declared.status.Status.TheVariants.{Done, Stopped, No, Usage, Instance, Memory, Read, Write, Lacking}
-use Rattle.hub_top.specs.Commands.{HoldsInstance, Method, method_of, demo_method, again_method, IsEnoughFor, Solves, Stops, LacksNetwork, HoldsOlder, JudgesFile, ReportsFile}
+use Rattle.hub_top.specs.Commands.{HoldsInstance, Method, method_by, demo_method, again_method, IsEnoughFor, Solves, Stops, LacksNetwork, HoldsOlder, JudgesFile, ReportsFile}
 use Rattle.hub_top.specs.Answers.{Answers, Demonstrates, found_status, rule_status, solve_status, older_status, verdict_status, report_status}
 use Rattle.hub_top.specs.Texts.{older_line}
 use Rattle.hub_top.proofs.OneReading.{same_bytes, one_instance}
@@ -31,16 +32,17 @@ pub record HasInstance (files : Files) (s : Source) : Type 0 where
   pub problem : Problem
   pub instance : HoldsInstance files s problem
 
-solve_instance : (files : Files) (x : Solving) (status : Status) (text : List ℕ) → Answers (solve x) status (Some files) text → HasInstance files x.source
-solve_instance files x Done text h = record { problem = h.problem; instance = h.instance }
-solve_instance files x Stopped text h = record { problem = h.problem; instance = h.instance }
-solve_instance files x No text h = absurd h
-solve_instance files x Usage text h = absurd h
-solve_instance files x Instance text h = absurd h
-solve_instance files x Memory text h = absurd h
-solve_instance files x Read text h = absurd h
-solve_instance files x Write text h = absurd h
-solve_instance files x Lacking text h = absurd h
+solve_instance : (files : Files) (x : Solving) (rule : SearchRule) (status : Status) (text : List ℕ) → Answers (solve x rule) status (Some files) text
+    → HasInstance files x.source
+solve_instance files x rule Done text h = record { problem = h.problem; instance = h.instance }
+solve_instance files x rule Stopped text h = record { problem = h.problem; instance = h.instance }
+solve_instance files x rule No text h = absurd h
+solve_instance files x rule Usage text h = absurd h
+solve_instance files x rule Instance text h = absurd h
+solve_instance files x rule Memory text h = absurd h
+solve_instance files x rule Read text h = absurd h
+solve_instance files x rule Write text h = absurd h
+solve_instance files x rule Lacking text h = absurd h
 
 optimize_instance : (files : Files) (x : Solving) (status : Status) (text : List ℕ) → Answers (optimize x) status (Some files) text
     → HasInstance files x.source
@@ -80,8 +82,8 @@ report_instance files s file Lacking text h = absurd h
 
 pub answered_instance : (files : Files) (request : Request) (s : Source) (status : Status) (text : List ℕ) → instance request ≡ Some s
     → Answers request status (Some files) text → HasInstance files s
-answered_instance files (solve x) s status text named h =
-    let e : x.source ≡ s = cc in subst (HasInstance files) e (solve_instance files x status text h)
+answered_instance files (solve x rule) s status text named h =
+    let e : x.source ≡ s = cc in subst (HasInstance files) e (solve_instance files x rule status text h)
 answered_instance files (optimize x) s status text named h =
     let e : x.source ≡ s = cc in subst (HasInstance files) e (optimize_instance files x status text h)
 answered_instance files (resolve x) s status text named h =
@@ -115,30 +117,30 @@ unfolding solve_status
 served_status p m plan is =
     sym (ap (λ (o : Option (ℕ × ℕ)). cond (is_some o) Lacking (rule_status p m)) (plan_serves p plan is))
 
-pub solve_status_is : (files : Files) (x : Solving) (p : Problem) (status : Status) (text : List ℕ) → HoldsInstance files x.source p
-    → Answers (solve x) status (Some files) text → status ≡ solve_status p (method_of x)
-solve_status_is files x p Done text instance h =
-    let m = method_of x in
+pub solve_status_is : (files : Files) (x : Solving) (rule : SearchRule) (p : Problem) (status : Status) (text : List ℕ) → HoldsInstance files x.source p
+    → Answers (solve x rule) status (Some files) text → status ≡ solve_status p (method_by x rule)
+solve_status_is files x rule p Done text instance h =
+    let m = method_by x rule in
     solves_status h.problem m (Spells text) h.solves ∙ served_status h.problem m h.solves.certificate.plan h.solves.finds.holds.plan
     ∙ ap (λ q. solve_status q m) (one_instance files x.source h.problem p h.instance instance)
-solve_status_is files x p Stopped text instance h =
-    let m = method_of x in
+solve_status_is files x rule p Stopped text instance h =
+    let m = method_by x rule in
     stops_status h.problem m (Spells text) h.stops ∙ served_status h.problem m h.stops.certificate.plan h.stops.finds.holds.plan
     ∙ ap (λ q. solve_status q m) (one_instance files x.source h.problem p h.instance instance)
-solve_status_is files x p No text instance h = absurd h
-solve_status_is files x p Usage text instance h = absurd h
-solve_status_is files x p Instance text instance h = absurd h
-solve_status_is files x p Memory text instance h = absurd h
-solve_status_is files x p Read text instance h = absurd h
-solve_status_is files x p Write text instance h = absurd h
-solve_status_is files x p Lacking text instance h = absurd h
+solve_status_is files x rule p No text instance h = absurd h
+solve_status_is files x rule p Usage text instance h = absurd h
+solve_status_is files x rule p Instance text instance h = absurd h
+solve_status_is files x rule p Memory text instance h = absurd h
+solve_status_is files x rule p Read text instance h = absurd h
+solve_status_is files x rule p Write text instance h = absurd h
+solve_status_is files x rule p Lacking text instance h = absurd h
 
 -- and so it is where all candidates together lack a commodity
-pub lacking_status : (files : Files) (x : Solving) (p : Problem) (commodity : ℕ × ℕ) → HoldsInstance files x.source p
-    → LacksNetwork (Some files) x.source commodity → Lacking ≡ solve_status p (method_of x)
+pub lacking_status : (files : Files) (x : Solving) (rule : SearchRule) (p : Problem) (commodity : ℕ × ℕ) → HoldsInstance files x.source p
+    → LacksNetwork (Some files) x.source commodity → Lacking ≡ solve_status p (method_by x rule)
 unfolding solve_status
-lacking_status files x p commodity instance h =
-    let m = method_of x in
+lacking_status files x rule p commodity instance h =
+    let m = method_by x rule in
     sym (ap (λ (o : Option (ℕ × ℕ)). cond (is_some o) Lacking (rule_status h.problem m)) h.lacks)
     ∙ ap (λ q. solve_status q m) (one_instance files x.source h.problem p h.instance instance)
 
@@ -149,19 +151,19 @@ lacks_none files s p commodity instance none h =
     let same : h.problem ≡ p = one_instance files s h.problem p h.instance instance in
     none-some commodity (sym none ∙ subst (λ (q : Problem). lacking q q.candidates ≡ Some commodity) same h.lacks)
 
-pub solve_enough : (files : Files) (x : Solving) (p : Problem) (status : Status) (text : List ℕ) → HoldsInstance files x.source p
-    → IsEnoughFor p x.search.nodes → Answers (solve x) status (Some files) text → status ≡ Done
-solve_enough files x p Done text instance enough h = refl
-solve_enough files x p Stopped text instance enough h =
+pub solve_enough : (files : Files) (x : Solving) (rule : SearchRule) (p : Problem) (status : Status) (text : List ℕ) → HoldsInstance files x.source p
+    → IsEnoughFor p x.search.nodes → Answers (solve x rule) status (Some files) text → status ≡ Done
+solve_enough files x rule p Done text instance enough h = refl
+solve_enough files x rule p Stopped text instance enough h =
     let same : p ≡ h.problem = one_instance files x.source p h.problem instance h.instance in
     absurd (h.stops.not_enough (subst (λ (q : Problem). IsEnoughFor q x.search.nodes) same enough))
-solve_enough files x p No text instance enough h = absurd h
-solve_enough files x p Usage text instance enough h = absurd h
-solve_enough files x p Instance text instance enough h = absurd h
-solve_enough files x p Memory text instance enough h = absurd h
-solve_enough files x p Read text instance enough h = absurd h
-solve_enough files x p Write text instance enough h = absurd h
-solve_enough files x p Lacking text instance enough h = absurd h
+solve_enough files x rule p No text instance enough h = absurd h
+solve_enough files x rule p Usage text instance enough h = absurd h
+solve_enough files x rule p Instance text instance enough h = absurd h
+solve_enough files x rule p Memory text instance enough h = absurd h
+solve_enough files x rule p Read text instance enough h = absurd h
+solve_enough files x rule p Write text instance enough h = absurd h
+solve_enough files x rule p Lacking text instance enough h = absurd h
 
 -- ---- `resolve`
 

@@ -9,7 +9,7 @@ use Rattle.hub_make.specs.Contents.{made_problem}
 use Rattle.hub_top.specs.declared.status.Status.{Status}
 use Rattle.hub_top.specs.declared.status.Status.TheVariants.{Done, Stopped, Usage, Instance, Lacking}
 use Rattle.hub_words.specs.Requests.{Source, Resolving, Request, solve, optimize, resolve, check, report, make, demo, instance}
-use Rattle.hub_top.specs.Commands.{WhereTold, Blame, HasBlame, HoldsInstance, LacksNetwork, method_of, demo_method}
+use Rattle.hub_top.specs.Commands.{WhereTold, Blame, HasBlame, HoldsInstance, LacksNetwork, method_by, demo_method}
 use Rattle.hub_top.specs.Answers.{Answers, verdict_status, report_status, rule_status, solve_status, older_status}
 use Rattle.hub_top.specs.Outcomes.{Outcome, answered, usage, faulty, no_network, memory, read, status_of, ruled, ShelfFails, Quiet, MayComeTo, Written, whole, out_cut, err_cut}
 use Rattle.hub_top.specs.Completeness.{Completeness, EndsAs, EndsWith}
@@ -33,7 +33,7 @@ same_source request s t e f = cc
 
 -- an instance that a request asks the rule to solve is the one that it names
 ruled_instance : (request : Request) (s : Source) → ruled request ≡ Some s → instance request ≡ Some s
-ruled_instance (solve x) s e = e
+ruled_instance (solve x rule) s e = e
 ruled_instance (optimize x) s e = cc
 ruled_instance (resolve x) s e = e
 ruled_instance (check t file) s e = cc
@@ -148,14 +148,14 @@ module _ (asked : Option Request) (held : Option Files) (fails : Request → Typ
         let P : Option Request → Type 0 = λ x. MayComeTo x held fails e in
         let Q : Option Files → Type 0 = λ x. MayComeTo (Some request) x fails e in
         status_by status e (λ (x : Status). x ≡ Instance) (written calm) (ends_faulty files request s blame fault named has fails (no_fault calm) e (subst Q told (subst P is may)));
-    solved = λ files s p told is h. told_ends files (solve s) s.source p (λ (x : Status). x ≡ solve_status p (method_of s)) told is refl h
+    solved = λ files s rule p told is h. told_ends files (solve s rule) s.source p (λ (x : Status). x ≡ solve_status p (method_by s rule)) told is refl h
         (λ t commodity same k. (let own : t ≡ s.source = cc in
-        lacking_status files s p commodity h (subst (λ (x : Source). LacksNetwork (Some files) x commodity) own k)))
-        (λ other text answers. solve_status_is files s p other text h answers);
-    enough = λ files s p told is h none many. told_ends files (solve s) s.source p (λ (x : Status). x ≡ Done) told is refl h
+        lacking_status files s rule p commodity h (subst (λ (x : Source). LacksNetwork (Some files) x commodity) own k)))
+        (λ other text answers. solve_status_is files s rule p other text h answers);
+    enough = λ files s rule p told is h none many. told_ends files (solve s rule) s.source p (λ (x : Status). x ≡ Done) told is refl h
         (λ t commodity same k. (let own : t ≡ s.source = cc in
         absurd (lacks_none files s.source p commodity h none (subst (λ (x : Source). LacksNetwork (Some files) x commodity) own k))))
-        (λ other text answers. solve_enough files s p other text h many answers);
+        (λ other text answers. solve_enough files s rule p other text h many answers);
     networkless = λ files r p commodity told is h lacks. told_ends files (resolve r) r.source p (λ (x : Status). x ≡ Lacking) told is refl h
         (λ t other same k. refl)
         (λ other text answers. absurd (resolve_lacks files r p commodity other text h lacks answers));

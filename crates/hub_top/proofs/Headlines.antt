@@ -7,9 +7,9 @@ use Rattle.cert_spec.specs.Verdicts.{Verdict, optimal, bounds, misread, too_long
 use Rattle.cert_spec.specs.Verdicts as verdicts
 use Rattle.hub_top.specs.declared.status.Status.{Status}
 use Rattle.hub_top.specs.declared.status.Status.TheVariants.{Done, Memory}
-use Rattle.hub_words.specs.Requests.{Source, Solving, Resolving, Request, solve, optimize, resolve, check}
+use Rattle.hub_words.specs.Requests.{Source, Solving, SearchRule, Resolving, Request, solve, optimize, resolve, check}
 use Rattle.hub_top.specs.Texts.{optimal_line, verdict_text}
-use Rattle.hub_top.specs.Commands.{HoldsInstance, method_of, again_method, SolvesInstance, ResolvesInstance, OptimizesInstance, JudgesFile}
+use Rattle.hub_top.specs.Commands.{HoldsInstance, method_of, method_by, again_method, SolvesInstance, ResolvesInstance, OptimizesInstance, JudgesFile}
 use Rattle.cert_checker.specs.Shows.{ProvesOptimal}
 use Rattle.hub_top.specs.Answers.{verdict_status, Answers}
 use Rattle.hub_top.specs.Meanings.{Answered, Means}
@@ -27,9 +27,9 @@ answers_to asked held old new h files request told is =
     subst (λ (x : Request). Answers x Done (Some files) h.text) r (subst (λ (x : Option Files). Answers h.request Done x h.text) told h.answers)
 
 solved_of : (asked : Option Request) (held : Option Files) (old new : Option (List ℕ)) → Answered asked held old new Done
-    → (files : Files) (s : Solving) → held ≡ Some files → asked ≡ Some (solve s)
-    → (text : List ℕ) × Appends old new text × SolvesInstance (Some files) s text
-solved_of asked held old new h files s told is = (h.text, h.taken, answers_to asked held old new h files (solve s) told is)
+    → (files : Files) (s : Solving) (rule : SearchRule) → held ≡ Some files → asked ≡ Some (solve s rule)
+    → (text : List ℕ) × Appends old new text × SolvesInstance (Some files) s rule text
+solved_of asked held old new h files s rule told is = (h.text, h.taken, answers_to asked held old new h files (solve s rule) told is)
 
 resolved_of : (asked : Option Request) (held : Option Files) (old new : Option (List ℕ)) → Answered asked held old new Done
     → (files : Files) (r : Resolving) → held ≡ Some files → asked ≡ Some (resolve r)
@@ -66,14 +66,14 @@ certified_of asked held old new h files s certificate told is =
 
 -- a check of a text that solves the same instance
 checked_of : (asked : Option Request) (held : Option Files) (quiet : Type 0) (status : Status) → Completeness asked held quiet status
-    → (before files : Files) (s : Solving) (t : Source) (certificate text : List ℕ) → held ≡ Some files → asked ≡ Some (check t certificate)
-    → SolvesInstance (Some before) s text → length text ≤ certificate_limit
+    → (before files : Files) (s : Solving) (rule : SearchRule) (t : Source) (certificate text : List ℕ) → held ≡ Some files
+    → asked ≡ Some (check t certificate) → SolvesInstance (Some before) s rule text → length text ≤ certificate_limit
     → IsSameInstance before s.source files t → files certificate ≡ Some text → quiet
     → (status ≡ Done) ⊎ (status ≡ Memory)
-checked_of asked held quiet status complete before files s t certificate text told asks h short same there calm =
+checked_of asked held quiet status complete before files s rule t certificate text told asks h short same there calm =
     complete.judged files t certificate h.problem text (optimal h.solves.certificate.cost) told asks
     (held_again before files s.source t h.problem h.instance same) there
-    (solved_verdict h.problem (method_of s) text h.solves short).0 calm
+    (solved_verdict h.problem (method_by s rule) text h.solves short).0 calm
 
 -- a check of a text that solves the same instance again
 resolved_checked_of : (asked : Option Request) (held : Option Files) (quiet : Type 0) (status : Status) → Completeness asked held quiet status
@@ -103,9 +103,9 @@ pub headline : (asked : Option Request) (held : Option Files) (fails : Request �
 headline asked held fails old new rose quiet status means complete =
     let P : Status → Type 0 = λ x. Means asked held fails old new rose x in
     record {
-      solved = λ files s told is done. solved_of asked held old new (subst P done means) files s told is;
-      checked = λ before files s t certificate text told is h short same there calm.
-          checked_of asked held quiet status complete before files s t certificate text told is h short same there calm;
+      solved = λ files s rule told is done. solved_of asked held old new (subst P done means) files s rule told is;
+      checked = λ before files s rule t certificate text told is h short same there calm.
+          checked_of asked held quiet status complete before files s rule t certificate text told is h short same there calm;
       resolved = λ files r told is done. resolved_of asked held old new (subst P done means) files r told is;
       resolved_checked = λ before files r t certificate text told is h short same there calm.
           resolved_checked_of asked held quiet status complete before files r t certificate text told is h short same there calm;

@@ -1,6 +1,6 @@
 -- What the code of a search found is told as the commands ask: `solve` by its text, `demo` by five lines.
-use Rattle.std.proofs.Common.{◌≡◌, ℕ, ◌<◌, ◌≤◌, length, Option, None, IsNone, Result, Ok, Err, inr, refl, sym, subst, ap, ◌∙◌, arith, nat_eq, cond}
-use Rattle.std.specs.Prelude.{IfOk}
+use Rattle.std.proofs.Common.{◌≡◌, ℕ, ◌<◌, ◌≤◌, length, Option, Result, Ok, Err, inr, refl, sym, subst, ap, ◌∙◌, arith, nat_eq, cond}
+use Rattle.std.specs.Prelude.{IfOk, IfSome}
 use Rattle.std.proofs.lemmas.List.{length-map}
 use Rattle.std.proofs.lemmas.Bool.{cond_both, eqb-true, eqb-false}
 use Rattle.hub_io.specs.Outside.{Files}
@@ -11,94 +11,96 @@ use Rattle.hub_spec.specs.Ranges.{IsVersionOf}
 use Rattle.hub_spec.proofs.Preorders.{length-preorder}
 use Rattle.plan_model.specs.Lines.{tree_line_of}
 use Rattle.search_spec.specs.Findings.{certificate_of}
-use Rattle.search_spec.specs.Again.{Start}
 use Rattle.search_spec.proofs.FoundProofs.{certificate_in_range_lem}
 use Rattle.cert_spec.specs.Text.{certificate_text, Spells}
 use Rattle.kept_cuts.specs.declared.found.Found.{Found}
 use Rattle.kept_cuts.specs.Findings.{IsVersionFor, IsProved, AreOwn, proof_of}
 use Rattle.kept_cuts.proofs.Versions.{has_text}
-use Rattle.branch_tree.specs.Findings.{found_by}
 use Rattle.search_progress.specs.Findings.{IsFound}
-use Rattle.branch_tree.proofs.FirstLines.{found_first}
 use Rattle.proof_text.specs.Texts.{found_text}
 use Rattle.proof_text.proofs.FoundLines.{found_text_certificate}
 use Rattle.file_spec.specs.Instances.{made}
 use Rattle.hub_make.specs.Contents.{made_contents, made_problem}
-use Rattle.hub_words.specs.Requests.{Solving, Resolving, Making, Search, solve, resolve, demo}
+use Rattle.hub_words.specs.Requests as words
+use Rattle.hub_words.specs.Requests.{Source, Solving, SearchRule, Resolving, Making, Search, solve, resolve, demo}
+use Rattle.hub_words.specs.Requests.{AsksAnyNumber, solved_by_rounds}
 use Rattle.hub_demo.specs.Texts as lines
 use Rattle.hub_top.specs.declared.status.Status.{Status}
 use Rattle.hub_top.specs.declared.status.Status.TheVariants.{Done, Stopped}
-use Rattle.hub_top.specs.Commands.{WhereTold, HoldsInstance, Method, method_of, demo_method, again_method, found_from, rule_certificate}
+use Rattle.hub_top.specs.Commands.{WhereTold, HoldsInstance, Course, node_by_node, course_of, Method, method_by, demo_method, again_method}
+use Rattle.hub_top.specs.Commands.{found_from, rule_certificate}
 use Rattle.hub_top.specs.Answers.{found_status, demo_text, Demonstrates, Answers}
 use Rattle.hub_top.specs.Views.{HasAmounts, finding_status}
-use Rattle.hub_top.specs.Solving.{MayStart, IsSearched, IsResolution}
-use Rattle.hub_top.proofs.FoundFrom.{IsSearchable, from_proof}
+use Rattle.hub_top.specs.Building.{KeepsLimits}
+use Rattle.hub_top.specs.Solving.{MayGo, MayFollow, IsOwnCourse, IsSearched, IsResolution}
+use Rattle.hub_top.proofs.FoundFrom.{IsSearchable, found_searched}
 use Rattle.hub_top.proofs.RuleCertificates.{rule_is_certificate, rule_solves, rule_stops}
 
 -- what a search by the rule returned is told so
-pub searched_by : {E : Type 0} (p : Problem) (n : Option ℕ) (start : Option Start) (result : Result Found E) → IsProblem p → IsHubSet p p.candidates
-    → MayStart p start → IfOk result (IsFound p (found_from p n start)) → IfOk result (IsProved p) → (IsNone start → IfOk result AreOwn)
-    → IfOk result (λ found. (v : ℕ) → proof_of v p found (found_from p n start).tree ≡ certificate_of p v (found_from p n start))
-    → IfOk result (IsSearched p n start)
-searched_by p n start (Ok found) ok lacks_none may finding proved own certificate = record {
+pub searched_by : {E : Type 0} (p : Problem) (n : Option ℕ) (course : Course) (result : Result Found E) → IsProblem p → IsHubSet p p.candidates
+    → MayGo p course → IfOk result (IsFound p (found_from p n course)) → IfOk result (IsProved p) → (IsOwnCourse course → IfOk result AreOwn)
+    → IfOk result (λ found. (v : ℕ) → proof_of v p found (found_from p n course).tree ≡ certificate_of p v (found_from p n course))
+    → IfOk result (IsSearched p n course)
+searched_by p n course (Ok found) ok lacks_none may finding proved own certificate = record {
   problem = ok;
   lacks_none = lacks_none;
-  may_start = may;
+  may_go = may;
   finding = finding;
   proved = proved;
   own = own;
   certificate = certificate;
 }
-searched_by p n start (Err e) ok lacks_none may finding proved own certificate = tt
+searched_by p n course (Err e) ok lacks_none may finding proved own certificate = tt
 
-searchable : {p : Problem} {n : Option ℕ} {start : Option Start} {found : Found} → IsSearched p n start found → IsSearchable p start
-searchable h = record { problem = h.problem; lacks_none = h.lacks_none; may_start = h.may_start }
+searchable : {p : Problem} {n : Option ℕ} {course : Course} {found : Found} → IsSearched p n course found → IsSearchable p course
+searchable h = record { problem = h.problem; lacks_none = h.lacks_none; may_go = h.may_go }
 
 -- the status is that of the rule's certificate
-status_is : (p : Problem) (m : Method) (found : Found) → IsSearched p m.nodes m.start found → finding_status found ≡ found_status (rule_certificate p m)
+status_is : (p : Problem) (m : Method) (found : Found) → IsSearched p m.nodes m.course found → finding_status found ≡ found_status (rule_certificate p m)
 status_is p m found h =
     let is = rule_is_certificate p m (searchable h) in
     ap (λ (b : ℕ). cond (nat_eq b found.cost) Done Stopped) (h.finding.bound ∙ sym is.bound)
     ∙ ap (λ (c : ℕ). cond (nat_eq (rule_certificate p m).bound c) Done Stopped) (h.finding.cost ∙ sym is.cost)
 
 -- what holds with the status of the rule's certificate, by whether its bound is its cost
-by_status : (p : Problem) (m : Method) (found : Found) (P : Status → Type 0) → IsSearched p m.nodes m.start found
+by_status : (p : Problem) (m : Method) (found : Found) (P : Status → Type 0) → IsSearched p m.nodes m.course found
     → ((rule_certificate p m).bound ≡ (rule_certificate p m).cost → P Done)
     → ((rule_certificate p m).bound < (rule_certificate p m).cost → P Stopped)
     → P (finding_status found)
 by_status p m found P h closed gap =
     let k = rule_certificate p m in
     let is = rule_is_certificate p m (searchable h) in
-    let within : k.bound ≤ k.cost = omega (arith, is.bound, is.cost, (from_proof p m.nodes m.start (searchable h)).within_cost) in
+    let within : k.bound ≤ k.cost = omega (arith, is.bound, is.cost, (found_searched p m.nodes m.course (searchable h)).proof.within_cost) in
     subst P (sym (status_is p m found h))
     (cond_both (nat_eq k.bound k.cost) Done Stopped P (λ e. closed (eqb-true k.bound k.cost e))
     (λ e. gap (let apart = eqb-false k.bound k.cost e in omega (arith, within, apart))))
 
 -- its text is that of the rule's certificate, in a version that can say it
-pub spells_rule : (p : Problem) (m : Method) (found : Found) → IsVersionOf (proof_of m.version p found (found_from p m.nodes m.start).tree)
-    → IsSearched p m.nodes m.start found → Spells (found_text m.version p found) (rule_certificate p m)
+pub spells_rule : (p : Problem) (m : Method) (found : Found) → IsVersionOf (proof_of m.version p found (found_from p m.nodes m.course).tree)
+    → IsSearched p m.nodes m.course found → Spells (found_text m.version p found) (rule_certificate p m)
 spells_rule p m found version h =
-    let g = found_from p m.nodes m.start in
+    let g = found_from p m.nodes m.course in
     let k = rule_certificate p m in
     let is = rule_is_certificate p m (searchable h) in
     let same : proof_of m.version p found g.tree ≡ k = h.certificate m.version in
     record {
-      in_range = certificate_in_range_lem p m.version g k h.problem (from_proof p m.nodes m.start (searchable h)) is
+      in_range = certificate_in_range_lem p m.version g k h.problem (found_searched p m.nodes m.course (searchable h)).proof is
           (subst IsVersionOf same version)
           (omega (arith, ap length is.cuts, h.finding.few_cuts)) (omega (arith, ap line_count is.tree, h.finding.few_lines));
       text = found_text_certificate m.version p found g.tree h.finding.lines ∙ ap certificate_text same;
     }
 
 -- `solve` answers so, in a version that there is for the instance
-pub solve_answers : (held : Option Files) (s : Solving) (p : Problem) (found : Found) → IsVersionFor p found.cuts.cuts s.version
-    → WhereTold held (λ files. HoldsInstance files s.source p) → IsSearched p s.search.nodes None found
-    → Answers (solve s) (finding_status found) held (found_text s.version p found)
-solve_answers held s p found version instance h =
-    let m = method_of s in
+pub solve_answers : (held : Option Files) (s : Solving) (rule : SearchRule) (p : Problem) (found : Found) → IsVersionFor p found.cuts.cuts s.version
+    → WhereTold held (λ files. HoldsInstance files s.source p) → IsSearched p s.search.nodes (course_of rule) found
+    → Answers (solve s rule) (finding_status found) held (found_text s.version p found)
+solve_answers held s rule p found version instance h =
+    let m = method_by s rule in
     let text = found_text s.version p found in
+    let searched = found_searched p m.nodes m.course (searchable h) in
     let spelled = spells_rule p m found
-    (has_text p found (found_by p m.nodes).tree m.version h.problem h.proved.fit (found_first p m.nodes h.problem) version) h in
-    by_status p m found (λ x. Answers (solve s) x held text) h
+    (has_text p found (found_from p m.nodes m.course).tree m.version h.problem h.proved.fit searched.first version) h in
+    by_status p m found (λ x. Answers (solve s rule) x held text) h
     (λ closed. record { problem = p; instance = instance; solves = rule_solves p m (Spells text) (searchable h) spelled closed })
     (λ gap. record { problem = p; instance = instance; stops = rule_stops p m (Spells text) (searchable h) spelled gap })
 
@@ -126,22 +128,23 @@ resolve_answers held r p found h =
     })
 
 -- a line of what was found for each of the rule's tree
-lines_long : (p : Problem) (n : Option ℕ) (start : Option Start) (found : Found) → IsSearched p n start found → length found.tree.items ≡ line_count (found_from p n start).tree
-lines_long p n start found h =
-    sym (length-map found.tree.items tree_line_of) ∙ ap length h.finding.lines ∙ length-preorder (found_from p n start).tree
+lines_long : (p : Problem) (n : Option ℕ) (course : Course) (found : Found) → IsSearched p n course found
+    → length found.tree.items ≡ line_count (found_from p n course).tree
+lines_long p n course found h =
+    sym (length-map found.tree.items tree_line_of) ∙ ap length h.finding.lines ∙ length-preorder (found_from p n course).tree
 
 -- the five lines of what was found are those of the rule's certificate
-five_lines : (p : Problem) (m : Method) (found : Found) → IsSearched p m.nodes m.start found
+five_lines : (p : Problem) (m : Method) (found : Found) → IsSearched p m.nodes m.course found
     → lines.demo_text p.size found.cost found.bound found.plan.hubs (length found.tree.items) ≡ demo_text (rule_certificate p m)
 five_lines p m found h =
     let k = rule_certificate p m in
     let is = rule_is_certificate p m (searchable h) in
-    let tree = lines_long p m.nodes m.start found h in
+    let tree = lines_long p m.nodes m.course found h in
     rw (h.finding.cost, h.finding.bound, h.finding.hubs, tree, is.size, is.cost, is.bound, is.hubs, is.tree) refl
 
 -- `demo` answers so
 pub demo_answers : (held : Option Files) (m : Making) (search : Search) (size : ℕ) (found : Found) → size ≡ (made_problem m.seed m.size).size
-    → IsSearched (made_problem m.seed m.size) search.nodes None found
+    → IsSearched (made_problem m.seed m.size) search.nodes node_by_node found
     → Answers (demo m search) (finding_status found) held (lines.demo_text size found.cost found.bound found.plan.hubs (length found.tree.items))
 demo_answers held m search size found sized h =
     let p = made_problem m.seed m.size in
@@ -152,6 +155,21 @@ demo_answers held m search size found sized h =
     by_status p by found (λ x. Answers (demo m search) x held text) h
     (λ closed. rule_solves p by (Demonstrates text) (searchable h) told closed)
     (λ gap. rule_stops p by (Demonstrates text) (searchable h) told gap)
+
+-- no cuts are given to a search by a rule that is asked for
+pub own_by : (rule : SearchRule) → IsOwnCourse (course_of rule)
+own_by words.node_by_node = tt
+own_by words.by_rounds = tt
+
+-- where the search of a source may follow the rule, that of its instance may go so
+pub may_go_by : (rule : SearchRule) (s : Source) (p : Problem) → KeepsLimits s.options p → MayFollow rule s → MayGo p (course_of rule)
+may_go_by words.node_by_node s p keeps may = tt
+may_go_by words.by_rounds s p keeps may = keeps.wanted may
+
+-- the words ask for no number of hubs where they ask for a search by rounds
+pub may_follow_by : (s : Solving) (rule : SearchRule) → IfSome (solved_by_rounds (solve s rule)) AsksAnyNumber → MayFollow rule s.source
+may_follow_by s words.node_by_node any = tt
+may_follow_by s words.by_rounds any = any
 
 -- a made instance has the size that was asked for
 pub made_size : (m : Making) → m.size ≡ (made_problem m.seed m.size).size

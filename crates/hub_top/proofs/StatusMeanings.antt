@@ -4,7 +4,7 @@ use Rattle.std.specs.Io.KnownBytes.{Appends}
 use Rattle.hub_io.specs.Outside.{Files, Rose}
 use Rattle.cert_spec.specs.Verdicts.{Verdict, optimal, bounds, misread, too_long}
 use Rattle.cert_spec.specs.Verdicts as verdicts
-use Rattle.hub_words.specs.Requests.{Source, Solving, Resolving, Making, Search, Request, solve, optimize, resolve, check, report, make, demo}
+use Rattle.hub_words.specs.Requests.{Source, Solving, SearchRule, Resolving, Making, Search, Request, solve, optimize, resolve, check, report, make, demo}
 use Rattle.hub_top.specs.declared.status.Status.{Status}
 use Rattle.hub_top.specs.declared.status.Status.TheVariants.{Done, Stopped, No, Usage, Instance, Memory, Read, Write, Lacking}
 use Rattle.hub_top.specs.Answers.{Answers, verdict_status}
@@ -30,16 +30,17 @@ of_verdict (verdicts.fails kind line) status none e = subst HasNoAnswer (sym e) 
 of_verdict (misread fault) status none e = subst HasNoAnswer (sym e) none
 of_verdict too_long status none e = subst HasNoAnswer (sym e) none
 
-of_solve : (s : Solving) (status : Status) (held : Option Files) (text : List ℕ) → HasNoAnswer status → Answers (solve s) status held text → ⊥
-of_solve s Done held text none h = none
-of_solve s Stopped held text none h = none
-of_solve s No held text none h = none
-of_solve s Usage held text none h = h
-of_solve s Instance held text none h = h
-of_solve s Memory held text none h = h
-of_solve s Read held text none h = h
-of_solve s Write held text none h = h
-of_solve s Lacking held text none h = h
+of_solve : (s : Solving) (rule : SearchRule) (status : Status) (held : Option Files) (text : List ℕ) → HasNoAnswer status
+    → Answers (solve s rule) status held text → ⊥
+of_solve s rule Done held text none h = none
+of_solve s rule Stopped held text none h = none
+of_solve s rule No held text none h = none
+of_solve s rule Usage held text none h = h
+of_solve s rule Instance held text none h = h
+of_solve s rule Memory held text none h = h
+of_solve s rule Read held text none h = h
+of_solve s rule Write held text none h = h
+of_solve s rule Lacking held text none h = h
 
 of_optimize : (s : Solving) (status : Status) (held : Option Files) (text : List ℕ) → HasNoAnswer status → Answers (optimize s) status held text → ⊥
 of_optimize s Done held text none h = none
@@ -97,7 +98,7 @@ of_demo m search Write held text none h = h
 of_demo m search Lacking held text none h = h
 
 no_answer : (request : Request) (status : Status) (held : Option Files) (text : List ℕ) → HasNoAnswer status → Answers request status held text → ⊥
-no_answer (solve s) status held text none h = of_solve s status held text none h
+no_answer (solve s rule) status held text none h = of_solve s rule status held text none h
 no_answer (optimize s) status held text none h = of_optimize s status held text none h
 no_answer (resolve r) status held text none h = of_resolve r status held text none h
 no_answer (check s file) status held text none h = of_verdict h.verdict status none h.of_status

@@ -71,9 +71,9 @@ Demonstrates text k = text ≡ demo_text k
 
 -- what a command says that ends with this status and this text on out
 abbrev pub Answers : Request → Status → Option Files → List ℕ → Type 0
-Answers (solve s) Done held text = SolvesInstance held s text
-Answers (solve s) Stopped held text = StopsInstance held s text
-Answers (solve s) status held text = ⊥
+Answers (solve s rule) Done held text = SolvesInstance held s rule text
+Answers (solve s rule) Stopped held text = StopsInstance held s rule text
+Answers (solve s rule) status held text = ⊥
 Answers (optimize s) Done held text = OptimizesInstance held s text
 Answers (optimize s) Stopped held text = BoundsInstance held s text
 Answers (optimize s) status held text = ⊥

@@ -18,8 +18,10 @@ use Rattle.file_spec.specs.Contents.{Contents}
 use Rattle.file_spec.specs.Files.{HasContents}
 use Rattle.file_spec.specs.Instances.{build_fault, GivesInstance, GivesFileFault, GivesCosts, GivesCostFault}
 use Rattle.branch_tree.specs.Findings.{found_by, found_again}
+use Rattle.node_rounds.specs.Findings.{found_by_rounds}
 use Rattle.network_report.specs.Texts.{report_text}
-use Rattle.hub_words.specs.Requests.{Source, Search, Solving, Resolving, Request, solve, optimize, resolve, check, report, make, demo}
+use Rattle.hub_words.specs.Requests as words
+use Rattle.hub_words.specs.Requests.{Source, Search, Solving, SearchRule, Resolving, Request, solve, optimize, resolve, check, report, make, demo}
 use Rattle.cert_checker.specs.Shows.{Proves}
 
 -- a fact about the files, where they are told
@@ -79,24 +81,38 @@ HasBlame files s on_costs fault = HoldsCostFault files s fault
 
 -- ---- what a search comes to
 
--- how a search is asked for, as far as its certificate depends on it: the version of the text, the most nodes, and what it
--- begins with beside its own cuts, if it begins again
+-- how a search goes: node by node from its beginning, node by node from a start, or by rounds
+pub data Course : Type 0 where
+  node_by_node : Course
+  again : Start → Course
+  by_rounds : Course
+
+-- by the rule that is asked for
+abbrev pub course_of : SearchRule → Course
+course_of words.node_by_node = node_by_node
+course_of words.by_rounds = by_rounds
+
+-- how a search is asked for, as far as its certificate depends on it: the version of the text, the most nodes, and how it goes
 pub record Method : Type 0 where
   pub version : ℕ
   pub nodes : Option ℕ
-  pub start : Option Start
+  pub course : Course
 
--- of `solve` and `optimize`
+-- of `solve` by this rule
+abbrev pub method_by : Solving → SearchRule → Method
+method_by s rule = record { version = s.version; nodes = s.search.nodes; course = course_of rule }
+
+-- of `optimize`, whose answers read no course
 abbrev pub method_of : Solving → Method
-method_of s = record { version = s.version; nodes = s.search.nodes; start = None }
+method_of s = record { version = s.version; nodes = s.search.nodes; course = node_by_node }
 
 -- of `demo`, which tells of a certificate of the first version
 abbrev pub demo_method : Search → Method
-demo_method search = record { version = 1; nodes = search.nodes; start = None }
+demo_method search = record { version = 1; nodes = search.nodes; course = node_by_node }
 
 -- of `resolve` with this older certificate, which writes the second version
 abbrev pub again_method : Search → Proof → Method
-again_method search older = record { version = 2; nodes = search.nodes; start = Some (start_of older) }
+again_method search older = record { version = 2; nodes = search.nodes; course = again (start_of older) }
 
 -- what is told is a certificate of the version that holds for the instance: its hubs and routes are a plan that costs exactly its cost,
 -- with as many hubs as are wanted, if a number is; each route is allowed, and a least one through its hubs, and no
@@ -114,15 +130,16 @@ pub record Finds (p : Problem) (m : Method) (tells : Proof → Type 0) (k : Proo
 
 -- ---- what `solve`, `resolve` and `demo` come to
 
--- what the search rule finds, from its beginning or from a start
-abbrev pub found_from : Problem → Option ℕ → Option Start → Grown
-found_from p nodes None = found_by p nodes
-found_from p nodes (Some start) = found_again p nodes start
+-- what the search rule finds that goes so
+abbrev pub found_from : Problem → Option ℕ → Course → Grown
+found_from p nodes node_by_node = found_by p nodes
+found_from p nodes (again start) = found_again p nodes start
+found_from p nodes by_rounds = found_by_rounds p nodes
 
--- the certificate that the search rule defines for the instance, the most nodes and the start, in the version; it reads no
+-- the certificate that the search rule defines for the instance, the most nodes and the course, in the version; it reads no
 -- number of workers
 abbrev pub rule_certificate : Problem → Method → Proof
-rule_certificate p m = certificate_of p m.version (found_from p m.nodes m.start)
+rule_certificate p m = certificate_of p m.version (found_from p m.nodes m.course)
 
 -- it is the rule's
 abbrev pub IsByRule : Problem → Method → Proof → Type 0
@@ -149,17 +166,17 @@ pub record Stops (p : Problem) (m : Method) (tells : Proof → Type 0) : Type 0 
   pub spent : IsSpent m.nodes (line_count certificate.tree)
   pub not_enough : IsEnoughFor p m.nodes → ⊥
 
--- the files give an instance, which the text solves
-pub record SolvesInstance (held : Option Files) (s : Solving) (text : List ℕ) : Type 0 where
+-- the files give an instance, which the text solves by the rule
+pub record SolvesInstance (held : Option Files) (s : Solving) (rule : SearchRule) (text : List ℕ) : Type 0 where
   pub problem : Problem
   pub instance : WhereTold held (λ files. HoldsInstance files s.source problem)
-  pub solves : Solves problem (method_of s) (Spells text)
+  pub solves : Solves problem (method_by s rule) (Spells text)
 
--- the files give an instance, for which the text stops
-pub record StopsInstance (held : Option Files) (s : Solving) (text : List ℕ) : Type 0 where
+-- the files give an instance, for which the text stops by the rule
+pub record StopsInstance (held : Option Files) (s : Solving) (rule : SearchRule) (text : List ℕ) : Type 0 where
   pub problem : Problem
   pub instance : WhereTold held (λ files. HoldsInstance files s.source problem)
-  pub stops : Stops problem (method_of s) (Spells text)
+  pub stops : Stops problem (method_by s rule) (Spells text)
 
 -- the files give an instance whose candidates lack this commodity, all of them together, and none before it: there is no plan
 pub record LacksNetwork (held : Option Files) (s : Source) (commodity : ℕ × ℕ) : Type 0 where
@@ -283,7 +300,7 @@ pub record LacksOlder (files : Files) (r : Resolving) : Type 0 where
 
 -- a file that the request names is not held, when its turn comes
 abbrev pub Lacks : Files → Request → Type 0
-Lacks files (solve solving) = LacksSource files solving.source
+Lacks files (solve solving rule) = LacksSource files solving.source
 Lacks files (optimize solving) = LacksSource files solving.source
 Lacks files (resolve resolving) = LacksSource files resolving.source ⊎ LacksOlder files resolving
 Lacks files (check s certificate) = LacksSource files s ⊎ LacksCertificate files s certificate

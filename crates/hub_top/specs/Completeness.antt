@@ -9,8 +9,9 @@ use Rattle.file_spec.specs.Faults.{Fault}
 use Rattle.hub_make.specs.Contents.{made_problem}
 use Rattle.hub_top.specs.declared.status.Status.{Status}
 use Rattle.hub_top.specs.declared.status.Status.TheVariants.{Done, Stopped, Usage, Instance, Memory, Lacking}
-use Rattle.hub_words.specs.Requests.{Source, Solving, Resolving, Making, Search, Request, solve, optimize, resolve, check, report, make, demo, instance}
-use Rattle.hub_top.specs.Commands.{Blame, HasBlame, HoldsInstance, method_of, demo_method, IsEnoughFor}
+use Rattle.hub_words.specs.Requests.{Source, Solving, SearchRule, Resolving, Making, Search, Request, instance}
+use Rattle.hub_words.specs.Requests.{solve, optimize, resolve, check, report, make, demo}
+use Rattle.hub_top.specs.Commands.{Blame, HasBlame, HoldsInstance, method_by, demo_method, IsEnoughFor}
 use Rattle.hub_top.specs.Answers.{verdict_status, report_status, rule_status, solve_status, older_status}
 
 -- the run ended with a status of which this holds, or for want of memory
@@ -28,11 +29,12 @@ pub record Completeness (asked : Option Request) (held : Option Files) (quiet : 
   -- any command whose instance has a fault
   pub fault : (files : Files) (request : Request) (s : Source) (blame : Blame) (fault : Fault) → held ≡ Some files → asked ≡ Some request
       → instance request ≡ Some s → HasBlame files s blame fault → quiet → EndsWith Instance status
-  -- `solve` with an instance: 8 where all candidates together lack a commodity, else the status of what the search rule finds
-  pub solved : (files : Files) (s : Solving) (p : Problem) → held ≡ Some files → asked ≡ Some (solve s)
-      → HoldsInstance files s.source p → quiet → EndsWith (solve_status p (method_of s)) status
+  -- `solve` with an instance: 8 where all candidates together lack a commodity, else the status of what the rule that is asked for
+  -- finds
+  pub solved : (files : Files) (s : Solving) (rule : SearchRule) (p : Problem) → held ≡ Some files → asked ≡ Some (solve s rule)
+      → HoldsInstance files s.source p → quiet → EndsWith (solve_status p (method_by s rule)) status
   -- and where they lack none, with as many nodes as a whole tree has it is solved
-  pub enough : (files : Files) (s : Solving) (p : Problem) → held ≡ Some files → asked ≡ Some (solve s)
+  pub enough : (files : Files) (s : Solving) (rule : SearchRule) (p : Problem) → held ≡ Some files → asked ≡ Some (solve s rule)
       → HoldsInstance files s.source p → lacking p p.candidates ≡ None → IsEnoughFor p s.search.nodes → quiet → EndsWith Done status
   -- `resolve` with an instance: 8 where all candidates together lack a commodity, whatever is held of the older certificate
   pub networkless : (files : Files) (r : Resolving) (p : Problem) (commodity : ℕ × ℕ) → held ≡ Some files → asked ≡ Some (resolve r)

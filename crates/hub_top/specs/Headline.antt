@@ -6,7 +6,7 @@ use Rattle.hub_spec.specs.Problem.{Problem}
 use Rattle.cert_spec.specs.Verdicts.{certificate_limit}
 use Rattle.hub_top.specs.declared.status.Status.{Status}
 use Rattle.hub_top.specs.declared.status.Status.TheVariants.{Done, Memory}
-use Rattle.hub_words.specs.Requests.{Source, Solving, Resolving, Request, solve, optimize, resolve, check}
+use Rattle.hub_words.specs.Requests.{Source, Solving, SearchRule, Resolving, Request, solve, optimize, resolve, check}
 use Rattle.hub_top.specs.Texts.{optimal_line}
 use Rattle.hub_top.specs.Commands.{HoldsInstance, SolvesInstance, ResolvesInstance, OptimizesInstance}
 use Rattle.cert_checker.specs.Shows.{ProvesOptimal}
@@ -27,14 +27,14 @@ pub record IsSameInstance (before : Files) (s : Source) (now : Files) (t : Sourc
 
 -- the headline, for what the words ask for, the files held, what out took, whether no fault rose, and the status
 pub record Headline (asked : Option Request) (held : Option Files) (old new : Option (List ℕ)) (quiet : Type 0) (status : Status) : Type 0 where
-  -- where `solve` ends with status 0, the text it wrote names hubs and routes that cost exactly the printed cost, and
-  -- no nonempty set of candidate hubs with any routing costs less
-  pub solved : (files : Files) (s : Solving) → held ≡ Some files → asked ≡ Some (solve s) → status ≡ Done
-      → (text : List ℕ) × Appends old new text × SolvesInstance (Some files) s text
+  -- where `solve` by either rule ends with status 0, the text it wrote names hubs and routes that cost exactly the printed
+  -- cost, and no nonempty set of candidate hubs with any routing costs less
+  pub solved : (files : Files) (s : Solving) (rule : SearchRule) → held ≡ Some files → asked ≡ Some (solve s rule) → status ≡ Done
+      → (text : List ℕ) × Appends old new text × SolvesInstance (Some files) s rule text
   -- `check` on the same instance and that text ends with status 0, where no fault rises, memory is not wanting and the
   -- text has at most 2^30 bytes
-  pub checked : (before files : Files) (s : Solving) (t : Source) (certificate text : List ℕ) → held ≡ Some files → asked ≡ Some (check t certificate)
-      → SolvesInstance (Some before) s text → length text ≤ certificate_limit
+  pub checked : (before files : Files) (s : Solving) (rule : SearchRule) (t : Source) (certificate text : List ℕ) → held ≡ Some files
+      → asked ≡ Some (check t certificate) → SolvesInstance (Some before) s rule text → length text ≤ certificate_limit
       → IsSameInstance before s.source files t → files certificate ≡ Some text → quiet
       → (status ≡ Done) ⊎ (status ≡ Memory)
   -- both hold with `resolve` for `solve`

@@ -12,7 +12,7 @@ use Rattle.hub_top.specs.Answers.{Answers}
 
 -- the instance that a request asks the search rule to solve, if it names one
 abbrev pub ruled : Request → Option Source
-ruled (solve solving) = Some solving.source
+ruled (solve solving rule) = Some solving.source
 ruled (resolve resolving) = Some resolving.source
 ruled request = None
 

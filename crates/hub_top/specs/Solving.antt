@@ -1,58 +1,81 @@
 -- What a search of an instance found, as the top call has it.
-use Rattle.std.specs.Prelude.{◌≡◌, ℕ, ◌+◌, ◌^◌, ◌<◌, ◌≤◌, List, length, Option, Some, None, IfSome, IsNone}
+use Rattle.std.specs.Prelude.{◌≡◌, ℕ, ◌+◌, ◌^◌, ◌<◌, ◌≤◌, List, length, Option, Some, None}
 use Rattle.std.specs.List.{AllZip}
 use Rattle.hub_io.specs.Outside.{Files}
 use Rattle.hub_spec.specs.Problem.{Problem, IsProblem, commodities}
 use Rattle.hub_spec.specs.Plans.{IsHubSet, IsSetCost, IsLeastRoute}
 use Rattle.search_spec.specs.Findings.{AreWithin, IsSpent, certificate_of}
-use Rattle.search_spec.specs.Again.{Start, start_of, IsStartOf}
+use Rattle.search_spec.specs.Again.{start_of, IsStartOf}
 use Rattle.hub_spec.specs.Certificates.{Proof}
 use Rattle.cert_spec.specs.Verdicts.{Older, serves}
 use Rattle.cert_checker.specs.Shows.{verdict_of}
 use Rattle.kept_cuts.specs.Findings.{IsUnlimited, IsProved, AreOwn, proof_of}
 use Rattle.kept_cuts.specs.declared.found.Found as finding
 use Rattle.search_progress.specs.Findings.{IsFound}
-use Rattle.hub_words.specs.Requests.{Source, Resolving}
+use Rattle.search_core.specs.Starts.{start_seen}
+use Rattle.hub_words.specs.Requests as words
+use Rattle.hub_words.specs.Requests.{Source, SearchRule, Resolving, AsksAnyNumber}
+use Rattle.hub_top.specs.declared.solving.Course as code
+use Rattle.hub_top.specs.declared.solving.Course.TheVariants.{NodeByNode, Again, ByRounds}
 use Rattle.hub_top.specs.declared.solving.Solved.{Solved}
 use Rattle.hub_top.specs.declared.solving.Solved.TheVariants.{Found, NoNetwork}
 use Rattle.hub_top.specs.declared.resolving.Resolved.{Resolved}
-use Rattle.hub_top.specs.declared.resolving.Resolved.TheVariants as again
+use Rattle.hub_top.specs.declared.resolving.Resolved.TheVariants as resolved
 use Rattle.hub_top.specs.declared.resolving.Reading.{Reading}
 use Rattle.hub_top.specs.declared.resolving.Reading.TheVariants.{Serves, Refused}
 use Rattle.hub_top.specs.declared.status.Status.TheVariants.{No}
-use Rattle.hub_top.specs.Commands.{found_from, IsEnoughFor, HoldsOlder, RefusesOlder, LacksNetwork}
+use Rattle.hub_top.specs.Commands.{Course, node_by_node, again, by_rounds, course_of, found_from, IsEnoughFor, HoldsOlder, RefusesOlder, LacksNetwork}
 use Rattle.hub_top.specs.Texts.{verdict_text, older_line}
 use Rattle.hub_top.specs.Answers.{verdict_status}
 use Rattle.hub_top.specs.Building.{KeepsLimits}
 use Rattle.hub_top.specs.Told.{ToldInstance}
 
--- what a search begins with, if it begins again, is a start of the problem
-abbrev pub MayStart : Problem → Option Start → Type 0
-MayStart p start = IfSome start (IsStartOf p)
+-- how the code has a search go
+abbrev pub course_seen : code.Course → Course
+course_seen NodeByNode = node_by_node
+course_seen (Again start) = again (start_seen start)
+course_seen ByRounds = by_rounds
 
--- it is what the rule finds with so many nodes at most, from its beginning or from a start, in each version; all candidates
--- together lack no commodity; where it is from its beginning, none of its cuts was given
-pub record IsSearched (p : Problem) (nodes : Option ℕ) (start : Option Start) (found : finding.Found) : Type 0 where
+-- a search of the problem may go so: what it begins again with is a start of the problem, and by rounds any number of hubs will do
+abbrev pub MayGo : Problem → Course → Type 0
+MayGo p node_by_node = Unit {0}
+MayGo p (again start) = IsStartOf p start
+MayGo p by_rounds = p.wanted ≡ None
+
+-- the search of a source may follow the rule: by rounds no number of hubs is asked for
+abbrev pub MayFollow : SearchRule → Source → Type 0
+MayFollow words.node_by_node s = Unit {0}
+MayFollow words.by_rounds s = AsksAnyNumber s
+
+-- no cuts are given to a search that goes so
+abbrev pub IsOwnCourse : Course → Type 0
+IsOwnCourse node_by_node = Unit {0}
+IsOwnCourse (again start) = ⊥
+IsOwnCourse by_rounds = Unit {0}
+
+-- it is what the rule finds that goes so, with so many nodes at most, in each version; all candidates together lack no
+-- commodity; where no cuts are given, none of its cuts was given
+pub record IsSearched (p : Problem) (nodes : Option ℕ) (course : Course) (found : finding.Found) : Type 0 where
   pub problem : IsProblem p
   pub lacks_none : IsHubSet p p.candidates
-  pub may_start : MayStart p start
-  pub finding : IsFound p (found_from p nodes start) found
+  pub may_go : MayGo p course
+  pub finding : IsFound p (found_from p nodes course) found
   pub proved : IsProved p found
-  pub own : IsNone start → AreOwn found
-  pub certificate : (version : ℕ) → proof_of version p found (found_from p nodes start).tree ≡ certificate_of p version (found_from p nodes start)
+  pub own : IsOwnCourse course → AreOwn found
+  pub certificate : (version : ℕ) → proof_of version p found (found_from p nodes course).tree ≡ certificate_of p version (found_from p nodes course)
 
 -- it is what the rule finds for the instance of the source
-pub record IsSolution (held : Option Files) (s : Source) (nodes : Option ℕ) (p : Problem) (found : finding.Found) : Type 0 where
+pub record IsSolution (held : Option Files) (s : Source) (nodes : Option ℕ) (rule : SearchRule) (p : Problem) (found : finding.Found) : Type 0 where
   pub instance : ToldInstance held s p
   pub limits : KeepsLimits s.options p
-  pub searched : IsSearched p nodes None found
+  pub searched : IsSearched p nodes (course_of rule) found
 
 -- it is what the rule finds for the instance of the source from an older certificate, which serves
 pub record IsResolution (held : Option Files) (r : Resolving) (p : Problem) (found : finding.Found) : Type 0 where
   pub instance : ToldInstance held r.source p
   pub older : Proof
   pub older_held : HoldsOlder held p r.older (serves older)
-  pub searched : IsSearched p r.search.nodes (Some (start_of older)) found
+  pub searched : IsSearched p r.search.nodes (again (start_of older)) found
 
 -- it is a proved network of the instance of the source, which is unlimited, with least routes, that costs at most what all
 -- candidates do, with no more nodes than are allowed and than a whole tree has; its bound is below its cost only where two
@@ -72,16 +95,16 @@ pub record IsOptimum (held : Option Files) (s : Source) (nodes : Option ℕ) (p 
   pub enough : IsEnoughFor p nodes → found.bound ≡ found.cost
 
 -- it is what the rule finds for the instance of the source, or the commodity that all its candidates together lack
-abbrev pub ComesTo : Option Files → Source → Option ℕ → Solved → Type 0
-ComesTo held s nodes (Found instance found) = IsSolution held s nodes instance found
-ComesTo held s nodes (NoNetwork i j) = LacksNetwork held s (i, j)
+abbrev pub ComesTo : Option Files → Source → Option ℕ → SearchRule → Solved → Type 0
+ComesTo held s nodes rule (Found instance found) = IsSolution held s nodes rule instance found
+ComesTo held s nodes rule (NoNetwork i j) = LacksNetwork held s (i, j)
 
 -- it is what the rule finds for the instance of the source from the older certificate, or the commodity that all its candidates
 -- together lack, or the ending that tells why the older certificate does not serve
 abbrev pub ComesAgainTo : Option Files → Resolving → Resolved → Type 0
-ComesAgainTo held r (again.Found instance found) = IsResolution held r instance found
-ComesAgainTo held r (again.NoNetwork i j) = LacksNetwork held r.source (i, j)
-ComesAgainTo held r (again.Refused ending) =
+ComesAgainTo held r (resolved.Found instance found) = IsResolution held r instance found
+ComesAgainTo held r (resolved.NoNetwork i j) = LacksNetwork held r.source (i, j)
+ComesAgainTo held r (resolved.Refused ending) =
     (said : Older) × (older_line said ≡ Some (verdict_text (verdict_of ending))) × (verdict_status (verdict_of ending) ≡ No)
     × RefusesOlder held r said
 

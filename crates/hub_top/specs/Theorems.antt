@@ -35,11 +35,11 @@ BoundedIsBounds = (p : Problem) (m : Method) (text : List ℕ) (bounded : Bounds
 abbrev pub Ends : Problem → Method → List ℕ → Type 0
 Ends p m text = Solves p m (Spells text) ⊎ Stops p m (Spells text)
 
--- an instance, a version, a number of nodes and a start have one text, whatever the workers
+-- an instance, a version, a number of nodes and a course have one text, whatever the workers
 abbrev pub OneText : Type 0
 OneText = (p : Problem) (m : Method) (text other : List ℕ) → Ends p m text → Ends p m other → other ≡ text
 
--- two texts that solve one instance print one cost, from whatever they begin
+-- two texts that solve one instance print one cost, however the searches go
 abbrev pub OneCost : Type 0
 OneCost = (p : Problem) (m other : Method) (text too : List ℕ) (solved : Solves p m (Spells text)) (again : Solves p other (Spells too))
     → IsProblem p → again.certificate.cost ≡ solved.certificate.cost

@@ -32,12 +32,12 @@ pub fn bounded_is_bounds()
     ensures { BoundedIsBounds }
 {}
 
-/// An instance, a version, a number of nodes and a start have one text, whatever the workers.
+/// An instance, a version, a number of nodes and a course have one text, whatever the workers.
 pub fn one_text()
     ensures { OneText }
 {}
 
-/// Two texts that solve one instance print one cost: `solve` and `resolve` come to the same.
+/// Two texts that solve one instance print one cost: `solve` by either rule and `resolve` come to the same.
 pub fn one_cost()
     ensures { OneCost }
 {}

@@ -15,7 +15,7 @@ ghost use Rattle.hub_top.specs.Told.{LacksFile};
 
 use crate::halts::Halt;
 use crate::instances::read_instance;
-use crate::solving::{all_candidates, find};
+use crate::solving::{Course, all_candidates, find};
 use assign_sub::lacking;
 use cert_checker::{Ending, MOST_CERTIFICATE_BYTES, Older, read_older};
 use cert_format::Certificate;
@@ -65,8 +65,8 @@ pub fn resolve<R: Threads + Sync, S: Shelf, G: Gate>(
     }
     match read_file(rt, alloc, &instance, asked.older, shelf)? {
         Reading::Serves(older) => {
-            let start = start_of(older);
-            let found = find(rt, alloc, &instance, asked.search, Some(start), gate)?;
+            let course = Course::Again(start_of(older));
+            let found = find(rt, alloc, &instance, asked.search, course, gate)?;
             Ok(Resolved::Found(instance, found))
         }
         Reading::Refused(ending) => Ok(Resolved::Refused(ending)),

@@ -3,7 +3,7 @@
 ghost use Rattle.std.specs.Prelude.{◌≡◌, ◌⊎◌, IfOk, IfSome, None, Some};
 ghost use Rattle.hub_io.specs.Outside.{Rose};
 ghost use Rattle.hub_words.specs.Words as spec;
-ghost use Rattle.hub_words.specs.Requests.{AreSources, AsksListed, IsMaking, IsSearch, IsUnlimited, IsVersion, Request, SaysLimits, instance, making_of, optimized, search_of, solved, version_of};
+ghost use Rattle.hub_words.specs.Requests.{AreSources, AsksAnyNumber, AsksListed, IsMaking, IsSearch, IsUnlimited, IsVersion, Request, SaysLimits, instance, making_of, optimized, search_of, solved, solved_by_rounds, version_of};
 ghost use Rattle.hub_words.specs.Views.{request_of, texts};
 ghost use Rattle.hub_top.specs.Views.{CanBeWritten, came_to, ended};
 ghost use Rattle.hub_top.specs.Outcomes.{Outcome, MayComeTo, ShelfFails, Quiet, Written};
@@ -105,6 +105,7 @@ fn answer<R: Threads + Sync, S: Shelf, G: Gate>(
     requires versions { IfSome (version_of (request_of command.now)) IsVersion }
     requires listed { IfSome (instance (request_of command.now)) AsksListed }
     requires unlimited { IfSome (optimized (request_of command.now)) IsUnlimited }
+    requires any_number { IfSome (solved_by_rounds (request_of command.now)) AsksAnyNumber }
     requires sayable { IfSome (solved (request_of command.now)) SaysLimits }
     requires makings { IfSome (making_of (request_of command.now)) IsMaking }
     ensures may { MayComeTo (Some (request_of command.now)) (S.held shelf.old)
@@ -114,8 +115,16 @@ fn answer<R: Threads + Sync, S: Shelf, G: Gate>(
     ensures untouched { instance (request_of command.now) ≡ None → shelf.new ≡ shelf.old }
 {
     match command {
-        Command::Solve(solving) => {
-            match solve(rt, alloc, &solving.source, solving.search, shelf, gate)? {
+        Command::Solve(solving, rule) => {
+            match solve(
+                rt,
+                alloc,
+                &solving.source,
+                solving.search,
+                *rule,
+                shelf,
+                gate,
+            )? {
                 Solved::Found(instance, found) => {
                     Ok(Settled::Found(instance, found, solving.version))
                 }

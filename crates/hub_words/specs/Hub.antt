@@ -49,6 +49,10 @@ with_search a = fold with_option a search_names
 abbrev pub with_format : App → App
 with_format a = with_option a (codes "format")
 
+-- a command that takes the rule of the search
+abbrev pub with_choice : App → App
+with_choice a = with_option a (codes "rule")
+
 -- the words of a subcommand that say which instance is made
 abbrev pub making_words : List Text
 making_words = codes "seed" ∷ codes "size" ∷ []
@@ -57,9 +61,9 @@ making_words = codes "seed" ∷ codes "size" ∷ []
 abbrev pub with_making : App → App
 with_making a = fold with_word a making_words
 
--- `solve LAYOUT FILE`, with the instance options, those of a search and the version of the text
+-- `solve LAYOUT FILE`, with the instance options, those of a search, the version of the text and the rule of the search
 abbrev pub solve_app : App
-solve_app = with_format (with_search (with_instance (new_app (codes "solve"))))
+solve_app = with_choice (with_format (with_search (with_instance (new_app (codes "solve")))))
 
 -- `optimize LAYOUT FILE`, with the instance options, those of a search and the version of the text
 abbrev pub optimize_app : App

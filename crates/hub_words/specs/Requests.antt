@@ -33,10 +33,15 @@ pub record Making : Type 0 where
   pub seed : ℕ
   pub size : ℕ
 
--- a command: solve an instance by the rule or by a search that follows none, solve it again from an older certificate, check
+-- the rules of a search: node by node, or in rounds of nodes side by side
+pub data SearchRule : Type 0 where
+  node_by_node : SearchRule
+  by_rounds : SearchRule
+
+-- a command: solve an instance by a rule or by a search that follows none, solve it again from an older certificate, check
 -- a certificate against it, report on a certificate, make an instance, or make one and solve it
 pub data Request : Type 0 where
-  solve : Solving → Request
+  solve : Solving → (rule : SearchRule) → Request
   optimize : Solving → Request
   resolve : Resolving → Request
   check : Source → (certificate : List ℕ) → Request
@@ -46,7 +51,7 @@ pub data Request : Type 0 where
 
 -- the instance that a request names, if it names one
 abbrev pub instance : Request → Option Source
-instance (solve solving) = Some solving.source
+instance (solve solving rule) = Some solving.source
 instance (optimize solving) = Some solving.source
 instance (resolve resolving) = Some resolving.source
 instance (check source certificate) = Some source
@@ -56,7 +61,7 @@ instance (demo making search) = None
 
 -- the search that a request asks for, if it asks for one
 abbrev pub search_of : Request → Option Search
-search_of (solve solving) = Some solving.search
+search_of (solve solving rule) = Some solving.search
 search_of (optimize solving) = Some solving.search
 search_of (resolve resolving) = Some resolving.search
 search_of (check source certificate) = None
@@ -66,7 +71,7 @@ search_of (demo making search) = Some search
 
 -- the instance that a request asks to be made, if it asks for one
 abbrev pub making_of : Request → Option Making
-making_of (solve solving) = None
+making_of (solve solving rule) = None
 making_of (optimize solving) = None
 making_of (resolve resolving) = None
 making_of (check source certificate) = None
@@ -76,7 +81,7 @@ making_of (demo making search) = Some making
 
 -- the version in which a request asks for a certificate, if it asks for one by its version
 abbrev pub version_of : Request → Option ℕ
-version_of (solve solving) = Some solving.version
+version_of (solve solving rule) = Some solving.version
 version_of (optimize solving) = Some solving.version
 version_of (resolve resolving) = None
 version_of (check source certificate) = None
@@ -86,7 +91,7 @@ version_of (demo making search) = None
 
 -- the instance that a request asks to be solved by the search that follows no rule, if it does
 abbrev pub optimized : Request → Option Source
-optimized (solve solving) = None
+optimized (solve solving rule) = None
 optimized (optimize solving) = Some solving.source
 optimized (resolve resolving) = None
 optimized (check source certificate) = None
@@ -94,9 +99,20 @@ optimized (report source certificate) = None
 optimized (make making) = None
 optimized (demo making search) = None
 
+-- the instance that a request asks to be solved by rounds, if it does
+abbrev pub solved_by_rounds : Request → Option Source
+solved_by_rounds (solve solving by_rounds) = Some solving.source
+solved_by_rounds (solve solving node_by_node) = None
+solved_by_rounds (optimize solving) = None
+solved_by_rounds (resolve resolving) = None
+solved_by_rounds (check source certificate) = None
+solved_by_rounds (report source certificate) = None
+solved_by_rounds (make making) = None
+solved_by_rounds (demo making search) = None
+
 -- what is to be solved, if a request asks for it
 abbrev pub solved : Request → Option Solving
-solved (solve solving) = Some solving
+solved (solve solving rule) = Some solving
 solved (optimize solving) = Some solving
 solved (resolve resolving) = None
 solved (check source certificate) = None
@@ -131,6 +147,10 @@ pub record IsUnlimited (s : Source) : Type 0 where
 abbrev pub SaysLimits : Solving → Type 0
 SaysLimits s = is_limited s.source.options ≡ true → s.version ≡ 2
 
+-- any number of hubs will do
+abbrev pub AsksAnyNumber : Source → Type 0
+AsksAnyNumber s = s.options.hubs ≡ None
+
 -- a search within its limits
 pub record IsSearch (s : Search) : Type 0 where
   pub nodes : IfSome s.nodes (λ n. (1 ≤ n) × (n ≤ most_search_nodes))
@@ -152,6 +172,7 @@ pub record IsLawful (r : Request) : Type 0 where
   pub sources : IfSome (instance r) AreSources
   pub listed : IfSome (instance r) AsksListed
   pub unlimited : IfSome (optimized r) IsUnlimited
+  pub any_number : IfSome (solved_by_rounds r) AsksAnyNumber
   pub searches : IfSome (search_of r) IsSearch
   pub versions : IfSome (version_of r) IsVersion
   pub sayable : IfSome (solved r) SaysLimits

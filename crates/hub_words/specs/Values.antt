@@ -6,6 +6,7 @@ use Rattle.hub_spec.specs.Limits.{most_nodes, most_factor, most_length}
 use Rattle.file_spec.specs.Limits.{most_cost_read, most_divisor}
 use Rattle.file_spec.specs.Options.{Layout, cab_matrix, cab_rows, australia_post, Order, flow_first, distance_first, Tail, tail_ignored, tail_costs, HubNumber, said_number, listed_number}
 use Rattle.hub_words.specs.Limits.{most_search_nodes, most_workers, most_seed}
+use Rattle.hub_words.specs.Requests.{SearchRule, node_by_node, by_rounds}
 
 -- the layout of this name
 abbrev pub layout_named : List ℕ → Option Layout
@@ -117,6 +118,15 @@ nodes_asked = optional (count_value 1 most_search_nodes)
 abbrev pub workers_asked : Option (List ℕ) → Option ℕ
 workers_asked None = Some 1
 workers_asked (Some word) = count_value 1 most_workers word
+
+-- the rule of this name
+abbrev pub rule_named : List ℕ → Option SearchRule
+rule_named word = if bytes_eq word (codes "1") then Some node_by_node else if bytes_eq word (codes "2") then Some by_rounds else None
+
+-- the rule of a search, node by node where none is given
+abbrev pub rule_asked : Option (List ℕ) → Option SearchRule
+rule_asked None = Some node_by_node
+rule_asked (Some word) = rule_named word
 
 -- the version of this name
 abbrev pub version_named : List ℕ → Option ℕ

@@ -14,6 +14,8 @@ use Rattle.hub_words.specs.declared.requests.Solving.{Solving}
 use Rattle.hub_words.specs.declared.requests.Resolving.{Resolving}
 use Rattle.hub_words.specs.declared.requests.Search.{Search}
 use Rattle.hub_words.specs.declared.requests.Making.{Making}
+use Rattle.hub_words.specs.declared.requests.SearchRule.{SearchRule}
+use Rattle.hub_words.specs.declared.requests.SearchRule.TheVariants.{NodeByNode, ByRounds}
 use Rattle.hub_words.specs.declared.requests.Command.{Command}
 use Rattle.hub_words.specs.declared.requests.Command.TheVariants.{Solve, Optimize, Resolve, Check, Report, Make, Demo}
 
@@ -47,13 +49,18 @@ solving_of s = record { source = source_of s.source; search = search_seen s.sear
 abbrev pub resolving_of : Resolving → request.Resolving
 resolving_of r = record { source = source_of r.source; older = r.older.now; search = search_seen r.search }
 
+-- the rule of a search
+abbrev pub rule_seen : SearchRule → request.SearchRule
+rule_seen NodeByNode = request.node_by_node
+rule_seen ByRounds = request.by_rounds
+
 -- the values that a command was given, in rows
 abbrev pub rows_found : ArgMatches → List Row
 rows_found found = rows_of (found_of found)
 
 -- the request
 abbrev pub request_of : Command → request.Request
-request_of (Solve solving) = request.solve (solving_of solving)
+request_of (Solve solving rule) = request.solve (solving_of solving) (rule_seen rule)
 request_of (Optimize solving) = request.optimize (solving_of solving)
 request_of (Resolve resolving) = request.resolve (resolving_of resolving)
 request_of (Check source certificate) = request.check (source_of source) certificate.now

@@ -2,8 +2,8 @@
 use Rattle.std.specs.Prelude.{ℕ, Bool, ◌&&◌, ◌||◌, not, List, codes, bytes_eq, Option, Some, None, option_map, option_and_then, is_some, if◌then◌else◌}
 use Rattle.clap.specs.Words.{Row, Text, first_of}
 use Rattle.file_spec.specs.Options.{Layout, Order, Tail, tail_ignored, tail_costs, HubNumber, Options}
-use Rattle.hub_words.specs.Requests.{Source, Search, Solving, Resolving, Making, Request, solve, optimize, resolve, check, report, make, demo, is_limited}
-use Rattle.hub_words.specs.Values.{layout_named, order_asked, tail_asked, divide_asked, factor_asked, fixed_asked, longest_asked, hubs_asked, candidates_asked, is_set, nodes_asked, workers_asked, version_asked, seed_asked, size_asked}
+use Rattle.hub_words.specs.Requests.{Source, Search, Solving, Resolving, Making, SearchRule, node_by_node, by_rounds, Request, solve, optimize, resolve, check, report, make, demo, is_limited}
+use Rattle.hub_words.specs.Values.{layout_named, order_asked, tail_asked, divide_asked, factor_asked, fixed_asked, longest_asked, hubs_asked, candidates_asked, is_set, nodes_asked, workers_asked, rule_asked, version_asked, seed_asked, size_asked}
 use Rattle.hub_words.specs.Parses.{parsed}
 
 -- the value that the words give to the argument of this name
@@ -125,9 +125,19 @@ solving_from source run word = None
 abbrev pub solving_asked : List Row → Option Solving
 solving_asked rows = solving_from (source_asked rows) (search_asked rows) (given rows (codes "format"))
 
+-- a call to solve an instance by a rule; that by rounds knows no wanted number of hubs
+abbrev pub solve_by : Solving → SearchRule → Option Request
+solve_by solving node_by_node = Some (solve solving node_by_node)
+solve_by solving by_rounds = if is_some solving.source.options.hubs then None else Some (solve solving by_rounds)
+
+-- what is to be solved, and the rule, where each is within its form
+abbrev pub solve_from : Option Solving → Option SearchRule → Option Request
+solve_from (Some solving) (Some rule) = solve_by solving rule
+solve_from solving rule = None
+
 -- a call to solve the instance
 abbrev pub solve_asked : List Row → Option Request
-solve_asked rows = option_map solve (solving_asked rows)
+solve_asked rows = solve_from (solving_asked rows) (rule_asked (given rows (codes "rule")))
 
 -- a call to solve the instance by a search that follows no rule, which knows no limits of routes or hubs
 abbrev pub optimize_asked : List Row → Option Request

@@ -1,7 +1,7 @@
 //! The command that the words give.
 
 ghost use Rattle.std.specs.Prelude.{◌≡◌, IfOk, IfSome, codes, option_map};
-ghost use Rattle.hub_words.specs.Requests.{AreSources, AsksListed, HasOptions, IsLawful, IsMaking, IsSearch, IsUnlimited, IsVersion, SaysLimits, instance, making_of, optimized, search_of, solved, version_of};
+ghost use Rattle.hub_words.specs.Requests.{AreSources, AsksAnyNumber, AsksListed, HasOptions, IsLawful, IsMaking, IsSearch, IsUnlimited, IsVersion, SaysLimits, instance, making_of, optimized, search_of, solved, solved_by_rounds, version_of};
 ghost use Rattle.hub_words.specs.Requests as law;
 ghost use Rattle.cert_scan.specs.Versions.{version_number};
 ghost use Rattle.hub_words.specs.Words as spec;
@@ -9,11 +9,11 @@ ghost use Rattle.hub_words.specs.Views.{request_of, requested, resolving_of, row
 
 use crate::makings::read_making;
 use crate::parsing::parse;
-use crate::requests::{Command, Resolving, Solving, Source};
+use crate::requests::{Command, Resolving, SearchRule, Solving, Source};
 use crate::searches::read_search;
 use crate::settings::given;
 use crate::sources::source;
-use crate::values::version;
+use crate::values::{rule, version};
 use clap::ArgMatches;
 use hub_model::Terms;
 use std::alloc::{AllocError, Global};
@@ -25,6 +25,7 @@ pub fn asked<'a>(alloc: Global, words: &'a [String]) -> Result<Option<Command<'a
     ensures sources { IfOk result (λ command. IfSome command (λ c. IfSome (instance (request_of c)) AreSources)) }
     ensures listed { IfOk result (λ command. IfSome command (λ c. IfSome (instance (request_of c)) AsksListed)) }
     ensures unlimited { IfOk result (λ command. IfSome command (λ c. IfSome (optimized (request_of c)) IsUnlimited)) }
+    ensures any_number { IfOk result (λ command. IfSome command (λ c. IfSome (solved_by_rounds (request_of c)) AsksAnyNumber)) }
     ensures searches { IfOk result (λ command. IfSome command (λ c. IfSome (search_of (request_of c)) IsSearch)) }
     ensures versions { IfOk result (λ command. IfSome command (λ c. IfSome (version_of (request_of c)) IsVersion)) }
     ensures sayable { IfOk result (λ command. IfSome command (λ c. IfSome (solved (request_of c)) SaysLimits)) }
@@ -71,9 +72,15 @@ fn solve<'a>(alloc: Global, found: &ArgMatches<'a>) -> Result<Option<Command<'a>
     ensures command { IfOk result (λ command. requested command ≡ spec.solve_asked (rows_found found.now)) }
     ensures lawful { IfOk result (λ command. IfSome command (λ c. IsLawful (request_of c))) }
 {
-    match solving(alloc, found)? {
-        Some(solving) => Ok(Some(Command::Solve(solving))),
-        None => Ok(None),
+    let Some(rule) = rule(given(found, "rule")) else {
+        return Ok(None);
+    };
+    let Some(solving) = solving(alloc, found)? else {
+        return Ok(None);
+    };
+    match rule {
+        SearchRule::ByRounds if solving.source.terms.hubs.is_some() => Ok(None),
+        SearchRule::NodeByNode | SearchRule::ByRounds => Ok(Some(Command::Solve(solving, rule))),
     }
 }
 

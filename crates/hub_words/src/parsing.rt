@@ -2,7 +2,7 @@
 
 ghost use Rattle.std.specs.Prelude.{◌≡◌, codes, false, fold, IfOk, option_and_then};
 ghost use Rattle.clap.specs.Words.{app_of, new_app, rule_of, subcommand_rows_of};
-ghost use Rattle.hub_words.specs.Hub.{bare, certificate_app, demo_app, flag_rule, hub, instance_words, make_app, optimize_app, option_rule, resolve_app, solve_app, with_instance, with_making, with_format, with_option, with_search, with_word, word_rule};
+ghost use Rattle.hub_words.specs.Hub.{bare, certificate_app, demo_app, flag_rule, hub, instance_words, make_app, optimize_app, option_rule, resolve_app, solve_app, with_choice, with_instance, with_making, with_format, with_option, with_search, with_word, word_rule};
 ghost use Rattle.hub_words.specs.Parses.{Spells, parsed};
 ghost use Rattle.hub_words.specs.Views.{texts};
 ghost use Rattle.clap.specs.Simple.{on_top};
@@ -117,6 +117,14 @@ fn format_command<'a>(alloc: Global, command: Command<'a>) -> Result<Command<'a>
     command.arg(option(alloc, "format"))
 }
 
+/// The command that takes the rule of the search as well.
+fn choice_command<'a>(alloc: Global, command: Command<'a>) -> Result<Command<'a>, AllocError>
+    requires { (out-Command command).has_globals ≡ false }
+    ensures { IfOk result (Spells (with_choice (app_of command.entry))) }
+{
+    command.arg(option(alloc, "rule"))
+}
+
 /// The command that takes a seed and a number of nodes as well.
 fn making_command<'a>(alloc: Global, command: Command<'a>) -> Result<Command<'a>, AllocError>
     requires { (out-Command command).has_globals ≡ false }
@@ -130,7 +138,8 @@ fn solve_command<'a>(alloc: Global) -> Result<Command<'a>, AllocError>
     ensures { IfOk result (Spells solve_app) }
 {
     let command = instance_command(alloc, plain(alloc, "solve"))?;
-    format_command(alloc, search_command(alloc, command)?)
+    let with_format = format_command(alloc, search_command(alloc, command)?)?;
+    choice_command(alloc, with_format)
 }
 
 fn optimize_command<'a>(alloc: Global) -> Result<Command<'a>, AllocError>

@@ -57,14 +57,23 @@ pub struct Making {
     pub size: u32,
 }
 
+/// The rules of a search.
+#[derive(Clone, Copy, Debug, PartialEq, Eq)]
+pub enum SearchRule {
+    /// Node by node, the open child first.
+    NodeByNode,
+    /// In rounds of nodes side by side.
+    ByRounds,
+}
+
 /// A command that the words give.
 #[derive(Drop)]
 pub enum Command<'a> {
-    /// Solve the instance by the rule of the search.
-    Solve(Solving<'a>),
+    /// Solve the instance by this rule of the search.
+    Solve(Solving<'a>, SearchRule),
     /// Solve the instance by a search that follows no rule.
     Optimize(Solving<'a>),
-    /// Solve the instance again by the rule of the search, which begins with the cuts of an older certificate.
+    /// Solve the instance again node by node, beginning with the cuts of an older certificate.
     Resolve(Resolving<'a>),
     /// Check the certificate in the file of this name against the instance.
     Check(Source<'a>, &'a str),

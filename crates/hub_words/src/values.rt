@@ -10,10 +10,10 @@ ghost use Rattle.cert_scan.specs.Versions.{version_number};
 ghost use Rattle.hub_words.specs.Limits.{most_search_nodes, most_seed, most_workers};
 ghost use Rattle.hub_words.specs.Requests.{IsVersion};
 ghost use Rattle.hub_words.specs.Values as spec;
-ghost use Rattle.hub_words.specs.Views.{layout_of};
+ghost use Rattle.hub_words.specs.Views.{layout_of, rule_seen};
 
 use crate::limits::{MOST_SEARCH_NODES, MOST_SEED, MOST_WORKERS};
-use crate::requests::Layout;
+use crate::requests::{Layout, SearchRule};
 use cert_scan::Version;
 use dec_text::{read_count, read_decimal};
 use hub_model::{
@@ -114,6 +114,28 @@ pub(crate) fn workers(given: Option<&str>) -> Option<u32>
     match given {
         None => Some(1),
         Some(word) => small_count(word, 1, MOST_WORKERS),
+    }
+}
+
+/// The rule of a search, node by node where none is given.
+pub(crate) fn rule(given: Option<&str>) -> Option<SearchRule>
+    ensures { option_map rule_seen result ≡ spec.rule_asked (option_map (λ word. word.now) given.entry) }
+{
+    match given {
+        None => Some(SearchRule::NodeByNode),
+        Some(word) => rule_named(word),
+    }
+}
+
+fn rule_named(word: &str) -> Option<SearchRule>
+    ensures { option_map rule_seen result ≡ spec.rule_named word.now }
+{
+    if word == "1" {
+        Some(SearchRule::NodeByNode)
+    } else if word == "2" {
+        Some(SearchRule::ByRounds)
+    } else {
+        None
     }
 }
 

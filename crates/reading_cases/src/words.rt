@@ -2,7 +2,7 @@
 
 use crate::cases::Wrong;
 use hub_model::Terms;
-use hub_words::{Command, Making, Resolving, Search, Solving, Source, asked};
+use hub_words::{Command, Making, Resolving, Search, SearchRule, Solving, Source, asked};
 use std::alloc::{AllocError, Global};
 
 /// The command that the words of a text are, which single spaces separate.
@@ -27,13 +27,20 @@ fn words_of(alloc: Global, text: &str) -> Result<Vec<String>, AllocError> {
 
 fn command_told(alloc: Global, command: &Command) -> Result<String, AllocError> {
     match command {
-        Command::Solve(solving) => solving_told(alloc, "solve", solving),
+        Command::Solve(solving, rule) => solving_told(alloc, solve_named(*rule), solving),
         Command::Optimize(solving) => solving_told(alloc, "optimize", solving),
         Command::Resolve(resolving) => resolving_told(alloc, resolving),
         Command::Check(source, certificate) => judging_told(alloc, "check", source, certificate),
         Command::Report(source, certificate) => judging_told(alloc, "report", source, certificate),
         Command::Make(making) => making_told(alloc, making),
         Command::Demo(making, search) => demo_told(alloc, making, search),
+    }
+}
+
+fn solve_named(rule: SearchRule) -> &'static str {
+    match rule {
+        SearchRule::NodeByNode => "solve",
+        SearchRule::ByRounds => "solve by rounds",
     }
 }
 

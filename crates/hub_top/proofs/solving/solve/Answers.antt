@@ -1,5 +1,8 @@
-use Rattle.std.proofs.Common.{ℕ, Some, None, subst}
+use Rattle.std.proofs.Common.{ℕ, Some, None, sym, subst}
 use Rattle.hub_spec.specs.Problem.{IsProblem}
+use Rattle.hub_words.specs.Views.{rule_seen, source_of}
+use Rattle.hub_top.specs.Solving.{MayGo}
+use Rattle.hub_top.proofs.Searched.{may_go_by}
 use Rattle.hub_top.proofs.Networks.{told_of_all, network_when, no_plan_when}
 use Rattle.hub_top.proofs.solving.solve.Goals as goal
 
@@ -16,3 +19,9 @@ find-requires-clause-lacks_none g c κs within =
     let all = c.in_ok-all_candidates in
     let none = told_of_all p all.field-0 None all.ensures.all c.in_default.ensures in
     network_when p (subst IsProblem c.instance.view_is c.instance.invariant) none
+
+pub find-requires-clause-may_go : goal.find-requires-clause-may_go
+find-requires-clause-may_go g c κs within =
+    let p = c.in_ok-instance.instance in
+    subst (MayGo p) (sym c.course_by.ensures)
+    (may_go_by (rule_seen c.args.rule) (source_of c.args.source.now) p c.in_ok-instance.ensures.limits c.requires.may_follow)

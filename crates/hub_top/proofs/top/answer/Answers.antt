@@ -1,25 +1,31 @@
 use Rattle.std.proofs.Common.{refl, subst}
 use Rattle.std.specs.Prelude.{IfSome}
-use Rattle.hub_words.specs.Requests.{IsVersion, SaysLimits, solve, optimize, resolve, demo, solved, version_of}
-use Rattle.hub_words.specs.Views.{making_seen, request_of, resolving_of, search_seen, solving_of}
+use Rattle.hub_words.specs.Requests.{AsksAnyNumber, IsVersion, SaysLimits, solve, optimize, resolve, demo, solved, solved_by_rounds, version_of}
+use Rattle.hub_words.specs.Views.{making_seen, request_of, resolving_of, rule_seen, search_seen, solving_of}
 use Rattle.hub_words.specs.declared.requests.Command.{Command}
 use Rattle.hub_top.specs.Solving.{ComesTo, ComesAgainTo, IsSolution, IsResolution}
 use Rattle.hub_top.proofs.Versions.{either_version, said_version}
-use Rattle.hub_top.proofs.Searched.{demo_answers, found_amounts, made_size, resolve_answers, solve_answers}
+use Rattle.hub_top.proofs.Searched.{demo_answers, found_amounts, made_size, may_follow_by, own_by, resolve_answers, solve_answers}
 use Rattle.hub_top.proofs.Optimized.{optimize_answers}
 use Rattle.hub_top.proofs.top.answer.Goals as goal
 
 pub returns-in-Found-clause-may : goal.returns-in-Found-clause-may
 returns-in-Found-clause-may g c =
     let s = solving_of c.in-Solve.solving in
+    let rule = rule_seen c.in-Solve.rule in
     let p = c.in-Found.instance in
     let held = g.S.Shelf.held c.args.shelf.now in
-    let solution : IsSolution held s.source s.search.nodes p c.in-Found.found =
-    subst (ComesTo held s.source s.search.nodes) c.in-Found.is c.in_ok-instance-in-Solve.ensures.solved in
+    let solution : IsSolution held s.source s.search.nodes rule p c.in-Found.found =
+    subst (ComesTo held s.source s.search.nodes rule) c.in-Found.is c.in_ok-instance-in-Solve.ensures.solved in
     let asked = subst (λ (x : Command). IfSome (version_of (request_of x)) IsVersion) c.in-Solve.is c.requires.versions in
     let says = subst (λ (x : Command). IfSome (solved (request_of x)) SaysLimits) c.in-Solve.is c.requires.sayable in
-    let version = said_version s p c.in-Found.found.cuts.cuts solution.limits (solution.searched.own refl) asked says in
-    (solve s, rw c.in-Solve.is refl, solve_answers held s p c.in-Found.found version solution.instance solution.searched)
+    let version = said_version s p c.in-Found.found.cuts.cuts solution.limits (solution.searched.own (own_by rule)) asked says in
+    (solve s rule, rw c.in-Solve.is refl, solve_answers held s rule p c.in-Found.found version solution.instance solution.searched)
+
+pub solve-requires-clause-may_follow : goal.solve-requires-clause-may_follow
+solve-requires-clause-may_follow g c κs within =
+    may_follow_by (solving_of c.in-Solve.solving) (rule_seen c.in-Solve.rule)
+    (subst (λ (x : Command). IfSome (solved_by_rounds (request_of x)) AsksAnyNumber) c.in-Solve.is c.requires.any_number)
 
 pub returns-in_ok-found-in-Demo-clause-may : goal.returns-in_ok-found-in-Demo-clause-may
 returns-in_ok-found-in-Demo-clause-may g c =
