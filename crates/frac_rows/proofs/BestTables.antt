@@ -68,6 +68,13 @@ best_run : (n made : ℕ) (t : Table) → (run_on n made t).ended ≡ Best → e
 best_run zero made t best = rw (stopped made t) (best_by_end (entering t) (rw (stopped made t) at best))
 best_run (suc n) made t best = best_run_by n made t (step t) refl (λ u. best_run n (made + 1) u) best
 
+-- where a run ends with a best table, no number of its objective row before v is below 0
+pub best_low : (t : Table) (k : ℕ) → (run t).ended ≡ Best → k + 2 < length (objective (run t).table)
+    → pos 0 ≤ℤ number (objective (run t).table) k
+unfolding run
+best_low t k best within =
+    let fails = not_negative (objective (run t).table) k (best_run most_pivots 0 t best) within in omega (arith, ints, fails)
+
 -- ---- what a run keeps for its end
 
 record IsSolved (values : List ℤ) (denom width : ℕ) (t : Table) : Type 0 where

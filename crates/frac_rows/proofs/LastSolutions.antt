@@ -13,7 +13,8 @@ use Rattle.frac_rows.proofs.RunLaws.{run_keeps_rights, run_keeps_basis}
 use Rattle.frac_rows.proofs.BestTables.{objective_after, best_is_greatest}
 use Rattle.frac_rows.proofs.BasicSolutions.{IsPivotal, solved_by, values_low}
 
-objective_last : (t : Table) → IsTable t → IsOfObjective t → IsTable (run t).table × IsOfObjective (run t).table
+-- the last table is one, with an objective row
+pub objective_last : (t : Table) → IsTable t → IsOfObjective t → IsTable (run t).table × IsOfObjective (run t).table
 unfolding run
 objective_last t table old = run_keeps IsOfObjective (λ u r c of_u place first now. objective_after u r c of_u place now) most_pivots 0 t table old
 

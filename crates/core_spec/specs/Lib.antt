@@ -1,0 +1,3 @@
+pub mod Domination
+pub mod CoreCuts
+pub mod Theorems
