@@ -108,6 +108,13 @@ added_cut p kept reserved more r sums set order signed_total least opening ok sa
   cost = sums_cost p sums set order least opening ok has_hubs is (total_is ∙ ap natural signed_is) opening_is;
 }
 
+-- the same cut, by the entries that were there before room was made and the set that was asked for
+pub cut_as : (p : Problem) (kept reserved more : List Entry) (set other order : List ℕ) (price : ℕ) → reserved ≡ kept → other ≡ set
+    → HasCut p reserved more other order price → HasCut p kept more set order price
+cut_as p kept reserved more set other order price same is cut =
+    subst (λ (es : List Entry). HasCut p es more set order price) same
+    (subst (λ (ks : List ℕ). HasCut p reserved more ks order price) is cut)
+
 -- the tree and its counts are the same
 pub record HasSameTree (before after : Progress) : Type 0 where
   pub lines : after.lines ≡ before.lines
