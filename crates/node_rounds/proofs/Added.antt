@@ -43,8 +43,8 @@ pending_kept p before after x grown is = record { branch = is.branch; weights = 
 pub outcome_kept : (p : Problem) (before after : List Entry) (x : Pending) (o : Outcome) → HasGrown before after → IsOutcomeOf p before x o
     → IsOutcomeOf p after x o
 outcome_kept p before after x (Ends l) grown is = is
-outcome_kept p before after x (Ask set order weights waited) grown is =
-    (is.0, is.1, weights_stay before after weights.items grown is.2, is.3)
+outcome_kept p before after x (Ask set order weights waited sums) grown is =
+    (is.0, is.1, weights_stay before after weights.items grown is.2, is.3, is.4)
 outcome_kept p before after x (Split weights fixings advice) grown is = (weights_stay before after weights.items grown is.0, is.1)
 
 place_kept : (p : Problem) (before after : List Entry) (x : Place) → HasGrown before after → IsPlaceOf p before x → IsPlaceOf p after x

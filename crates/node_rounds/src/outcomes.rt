@@ -1,5 +1,6 @@
 //! A node that is still to be handled, and what its turn comes to.
 
+use cut_pool::CutSums;
 use frac_master::Advice;
 use hub_fixing::Side;
 use plan_model::{Branch, HubSet, TreeLine};
@@ -30,6 +31,8 @@ pub enum Outcome {
         weights: Vec<i128>,
         /// Whether this counts as a wait.
         waited: bool,
+        /// The sums of the cut, where it was worked out along with the turn.
+        sums: Option<CutSums>,
     },
     /// The node is split.
     Split {

@@ -11,11 +11,12 @@ ghost use Rattle.node_rounds.specs.Outcomes.{IsPendingOf, IsTurnOf, IsOutcomeOf}
 ghost use Rattle.node_rounds.specs.Rounds.{IsRound, IsTurnAt};
 
 use crate::outcomes::{Outcome, Pending};
-use crate::turning::turn;
+use crate::turning::{turn, turn_ahead};
 use crew::{Job, answers};
 use cut_pool::Pool;
 use hub_io::Gate;
 use hub_model::Instance;
+use separators::Solo;
 use std::alloc::{AllocError, Global};
 use std::thread::Threads;
 
@@ -26,10 +27,12 @@ pub(crate) struct Round<'a> {
     pub(crate) nodes: &'a [Pending],
     pub(crate) pool: &'a Pool,
     pub(crate) cost: u128,
+    // Whether the cuts that nodes ask for are worked out along with their turns.
+    pub(crate) ahead: bool,
 }
 
 impl<'a> Job<Outcome> for Round<'a> {
-    type Scratch = u32;
+    type Scratch = Option<Solo>;
 
     ghost answer = { IsTurnAt };
 
@@ -37,18 +40,24 @@ impl<'a> Job<Outcome> for Round<'a> {
 
     ghost serves = { λ job scratch. Unit {0} };
 
-    fn new_scratch(&self, _alloc: Global) -> Result<u32, AllocError> {
-        Ok(0)
+    fn new_scratch(&self, alloc: Global) -> Result<Option<Solo>, AllocError> {
+        if !self.ahead {
+            return Ok(None);
+        }
+        Ok(Some(Solo::new(alloc, self.instance)?))
     }
 
-    fn at(&self, alloc: Global, _scratch: &mut u32, block: u32) -> Result<Outcome, AllocError> {
-        turn(
-            alloc,
-            self.instance,
-            &self.nodes[block as usize],
-            self.pool,
-            self.cost,
-        )
+    fn at(
+        &self,
+        alloc: Global,
+        scratch: &mut Option<Solo>,
+        block: u32,
+    ) -> Result<Outcome, AllocError> {
+        let node = &self.nodes[block as usize];
+        match scratch {
+            Some(solo) => turn_ahead(alloc, self.instance, node, self.pool, self.cost, solo),
+            None => turn(alloc, self.instance, node, self.pool, self.cost),
+        }
     }
 }
 
@@ -82,6 +91,40 @@ pub fn turns<R: Threads + Sync, G: Gate>(
         nodes,
         pool,
         cost,
+        ahead: false,
+    };
+    answers(rt, alloc, &round, nodes.len() as u32, workers, gate)
+}
+
+/// The same, where each cut that a node asks for is worked out along with the node's turn, by the same worker.
+///
+/// It is for rounds in which no worker is without a node.
+pub(crate) fn turns_ahead<R: Threads + Sync, G: Gate>(
+    rt: &R,
+    alloc: Global,
+    instance: &Instance,
+    nodes: &[Pending],
+    pool: &Pool,
+    cost: u128,
+    workers: u32,
+    gate: &G,
+) -> Result<Vec<Outcome>, AllocError>
+    requires problem { IsProblem instance.now }
+    requires plain { instance.now.wanted ≡ None }
+    requires pool { IsPoolOf instance.now pool.now.entries }
+    requires nodes { All (IsPendingOf instance.now pool.now.entries) nodes.now }
+    requires few { length nodes.now ≤ most_turns }
+    requires cost { cost ≤ most_cost }
+    requires workers { (1 ≤ workers) × (workers ≤ 64) }
+    ensures turns { IfOk result (λ v. AllZip (IsTurnOf instance.now pool.now.entries cost) nodes.now v.items) }
+    ensures sound { IfOk result (λ v. AllZip (IsOutcomeOf instance.now pool.now.entries) nodes.now v.items) }
+{
+    let round = Round {
+        instance,
+        nodes,
+        pool,
+        cost,
+        ahead: true,
     };
     answers(rt, alloc, &round, nodes.len() as u32, workers, gate)
 }

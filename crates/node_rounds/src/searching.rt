@@ -1,6 +1,7 @@
 //! Rounds, and the whole search.
 
 ghost use Rattle.std.specs.Prelude.{◌≡◌, ℕ, ◌+◌, ◌<◌, ◌≤◌, ◌^◌, None, [], ◌∷◌, ◌++◌, min, length, All, IfOk, OnOk};
+ghost use Rattle.std.specs.List.{AllZip};
 ghost use denote.Param.Send.{IsSync};
 ghost use Rattle.hub_spec.specs.Problem.{IsProblem};
 ghost use Rattle.hub_spec.specs.Plans.{IsHubSet, plan_cost, NoPlanBelow};
@@ -14,7 +15,7 @@ ghost use Rattle.search_progress.specs.Findings.{IsFound};
 ghost use Rattle.rounds_spec.specs.Places.{open_at};
 ghost use Rattle.rounds_spec.specs.Turns.{fresh, next_round, most_turns};
 ghost use Rattle.rounds_spec.specs.Lasting.{searched_by_rounds};
-ghost use Rattle.node_rounds.specs.Outcomes.{IsPendingOf};
+ghost use Rattle.node_rounds.specs.Outcomes.{IsPendingOf, IsTurnOf, IsOutcomeOf};
 ghost use Rattle.node_rounds.specs.Fronts.{places_of, IsFront};
 ghost use Rattle.node_rounds.specs.Left.{left_of, AreMatched, lines_first, standing_of, IsLeft, AreTurns};
 ghost use Rattle.node_rounds.specs.Findings.{found_by_rounds};
@@ -23,7 +24,7 @@ use crate::closing::close_up;
 use crate::fronts::{Front, add_line};
 use crate::left::{Left, Mark, put_back, settle};
 use crate::outcomes::{Outcome, Pending};
-use crate::rounds::turns;
+use crate::rounds::{turns, turns_ahead};
 use crate::taking::take;
 use hub_io::Gate;
 use hub_model::Instance;
@@ -38,6 +39,9 @@ use std::thread::Threads;
 
 // How many nodes have their turn in a round.
 const MOST_TURNS: usize = 8;
+
+// How large a block is asked for before the first round, in bytes.
+const KEPT_BLOCK: usize = 16 << 20;
 
 /// The workers of a round, and the gate that each of them passes once for each node that it draws.
 #[derive(Clone, Copy)]
@@ -85,6 +89,7 @@ pub fn search_rounds<R: Threads + Sync, S: Separator, G: Gate>(
     ensures spent { IfOk result (λ found. found.bound < found.cost → IsSpent nodes (length found.tree.items)) }
     ensures enough { IsEnough (2 ^ (length instance.now.candidates + 1)) nodes → IfOk result (λ found. found.bound ≡ found.cost) }
 {
+    keep_blocks(alloc);
     let task = Task { instance, nodes };
     let progress = begin(alloc, &Plain, &task, separator)?;
     let workers = Workers {
@@ -94,6 +99,13 @@ pub fn search_rounds<R: Threads + Sync, S: Separator, G: Gate>(
     };
     let progress = all_rounds(&workers, alloc, &task, separator, progress)?;
     finish(alloc, &task, progress)
+}
+
+// Asks for a large block and gives it back at once. Each turn takes and gives back a few blocks of many kilobytes. The
+// system's allocator hands such blocks back to the system, which has to clear them anew each time, until it has seen a larger
+// one come back: from then on it keeps them.
+fn keep_blocks(alloc: Global) {
+    let _ = Vec::<u8>::with_capacity(alloc, KEPT_BLOCK);
 }
 
 // All rounds of the search that goes on from here, with the root still to be handled, and the lines of its tree.
@@ -175,19 +187,37 @@ fn one_round<R: Threads + Sync, S: Separator, G: Gate>(
     ensures no_place { OnOk result (front.new.places.items ≡ []) }
 {
     let first = left.nodes.len() - left.nodes.len().min(MOST_TURNS);
-    let outcomes = turns(
-        workers.rt,
-        alloc,
-        task.instance,
-        &left.nodes[first..],
-        &front.progress.pool,
-        front.progress.cost,
-        workers.count,
-        workers.gate,
-    )?;
+    let outcomes = round_turns(workers, alloc, task, &left.nodes[first..], &front.progress)?;
     take_all(alloc, task, separator, left, front, outcomes)?;
     put_back(left, &mut front.places)?;
     settle(left, &mut front.progress.lines)
+}
+
+// The turns of these nodes. Where each worker has a node, the cuts that nodes ask for are worked out along with the turns;
+// else the separator is asked as the outcomes are taken, since it may share a single cut among the workers.
+fn round_turns<R: Threads + Sync, G: Gate>(
+    workers: &Workers<R, G>,
+    alloc: Global,
+    task: &Task,
+    nodes: &[Pending],
+    progress: &Progress,
+) -> Result<Vec<Outcome>, AllocError>
+    requires workers { (1 ≤ workers.now.count) × (workers.now.count ≤ 64) }
+    requires plain { task.now.instance.now.wanted ≡ None }
+    requires going { IsGoing task.now progress.now }
+    requires nodes { All (IsPendingOf task.now.instance.now progress.now.pool.entries) nodes.now }
+    requires few { length nodes.now ≤ most_turns }
+    ensures turns { let s = progress.now in
+        IfOk result (λ v. AllZip (IsTurnOf task.now.instance.now s.pool.entries s.cost) nodes.now v.items) }
+    ensures sound { let s = progress.now in
+        IfOk result (λ v. AllZip (IsOutcomeOf task.now.instance.now s.pool.entries) nodes.now v.items) }
+{
+    let Workers { rt, count, gate } = *workers;
+    let (instance, pool, cost) = (task.instance, &progress.pool, progress.cost);
+    if nodes.len() < MOST_TURNS.min(count as usize) {
+        return turns(rt, alloc, instance, nodes, pool, cost, count, gate);
+    }
+    turns_ahead(rt, alloc, instance, nodes, pool, cost, count, gate)
 }
 
 // Takes the outcomes of the first nodes, the last outcome first, as long as the search is not stopped.

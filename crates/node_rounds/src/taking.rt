@@ -1,21 +1,22 @@
 //! What is taken of an outcome.
 
-ghost use Rattle.std.specs.Prelude.{◌≡◌, None, OnOk};
+ghost use Rattle.std.specs.Prelude.{◌≡◌, None, IfSome, OnOk};
 ghost use Rattle.hub_spec.specs.Plans.{IsHubSet};
 ghost use Rattle.hub_spec.specs.Separation.{IsOrder};
 ghost use Rattle.hub_spec.specs.Trees.{IsBranch};
 ghost use Rattle.search_steps.specs.Advising.{parts_of};
 ghost use Rattle.search_progress.specs.Progressing.{state_of, IsGoing, IsAt};
 ghost use Rattle.rounds_spec.specs.Turns.{with_set, taken};
-ghost use Rattle.node_rounds.specs.Outcomes.{pending_of, outcome_of, IsOutcomeOf};
+ghost use Rattle.node_rounds.specs.Outcomes.{pending_of, outcome_of, AreSumsOver, IsOutcomeOf};
 ghost use Rattle.node_rounds.specs.Fronts.{IsFront, IsTaken};
 
 use crate::fronts::{Front, add_line, add_node};
 use crate::outcomes::{Outcome, Pending};
 use crate::splitting::split_up;
+use cut_pool::CutSums;
 use plan_model::HubSet;
 use search_core::Task;
-use search_progress::{Progress, number_of, separate};
+use search_progress::{Progress, keep, number_of, separate};
 use separators::Separator;
 use std::alloc::{AllocError, Global};
 
@@ -49,8 +50,10 @@ pub(crate) fn take<S: Separator>(
             order,
             weights,
             waited,
+            sums,
         } => {
-            with_set(alloc, task, separator, &mut front.progress, set, order)?;
+            let progress = &mut front.progress;
+            with_set(alloc, task, separator, progress, set, order, sums)?;
             let waits = if waited { waits + 1 } else { waits };
             let asking = Pending {
                 branch,
@@ -74,7 +77,7 @@ pub(crate) fn take<S: Separator>(
     }
 }
 
-// Separates the set over the order, unless it is known by now.
+// Separates the set over the order, unless it is known by now. Where the sums of its cut are there already, they are kept.
 fn with_set<S: Separator>(
     alloc: Global,
     task: &Task,
@@ -82,11 +85,13 @@ fn with_set<S: Separator>(
     progress: &mut Progress,
     set: HubSet,
     order: Vec<u32>,
+    sums: Option<CutSums>,
 ) -> Result<(), AllocError>
     requires ready { S.ready separator.old }
     requires going { IsGoing task.now progress.old }
     requires set { IsHubSet task.now.instance.now set }
     requires order { IsOrder task.now.instance.now set order.items }
+    requires sums { IfSome sums (AreSumsOver task.now.instance.now set order.items) }
     ensures ready { S.ready separator.new }
     ensures at { let p = task.now.instance.now in OnOk result (IsAt task.now progress.old progress.new
         (with_set (parts_of p) set order.items (state_of p progress.old))) }
@@ -94,5 +99,8 @@ fn with_set<S: Separator>(
     if number_of(progress, &set).is_some() {
         return Ok(());
     }
-    separate(alloc, task, progress, separator, set, order)
+    match sums {
+        Some(sums) => keep(alloc, task, progress, sums, order),
+        None => separate(alloc, task, progress, separator, set, order),
+    }
 }

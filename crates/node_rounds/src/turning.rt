@@ -22,6 +22,7 @@ use pareto_cuts::order_of;
 use plan_model::{Branch, HubSet};
 use search_core::whole_leaf;
 use search_steps::{NodeWeights, Plain, Rule, closes, is_better, leaf_line, node_advice};
+use separators::{Separator, Solo};
 use std::alloc::{AllocError, Global};
 
 // How often a node may ask for a set by its advice.
@@ -58,6 +59,46 @@ pub fn turn(
     turn_advised(alloc, instance, node, pool, cost)
 }
 
+/// The same, with the sums of the cut that the node asks for, if it asks for one.
+pub(crate) fn turn_ahead(
+    alloc: Global,
+    instance: &Instance,
+    node: &Pending,
+    pool: &Pool,
+    cost: u128,
+    solo: &mut Solo,
+) -> Result<Outcome, AllocError>
+    requires problem { IsProblem instance.now }
+    requires plain { instance.now.wanted ≡ None }
+    requires pool { IsPoolOf instance.now pool.now.entries }
+    requires node { IsPendingOf instance.now pool.now.entries node.now }
+    requires cost { cost ≤ most_cost }
+    ensures turn { IfOk result (IsTurnOf instance.now pool.now.entries cost node.now) }
+    ensures sound { IfOk result (IsOutcomeOf instance.now pool.now.entries node.now) }
+{
+    let outcome = turn(alloc, instance, node, pool, cost)?;
+    match outcome {
+        Outcome::Ask {
+            set,
+            order,
+            weights,
+            waited,
+            sums: _,
+        } => {
+            let asked = set.copy(alloc)?;
+            let sums = solo.separate(alloc, instance, asked, &order)?;
+            Ok(Outcome::Ask {
+                set,
+                order,
+                weights,
+                waited,
+                sums: Some(sums),
+            })
+        }
+        other => Ok(other),
+    }
+}
+
 // The turn of a node in which the set of these hubs alone is left: the leaf of their cut, if it is in the pool.
 fn turn_alone(
     alloc: Global,
@@ -84,6 +125,7 @@ fn turn_alone(
         order,
         weights,
         waited: false,
+        sums: None,
     })
 }
 
@@ -129,6 +171,7 @@ fn turn_advised(
             order,
             weights,
             waited: true,
+            sums: None,
         });
     }
     let fixings = Plain.fixings(alloc, &weighed, branch, cost)?;

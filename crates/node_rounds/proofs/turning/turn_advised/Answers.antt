@@ -63,6 +63,7 @@ returns-then-may_ask-clause-sound c =
       c.in_ok-order.ensures.order,
       c.in_ok-weights.ensures.weights,
       λ e. few_waits _ c.args.node.now.waits (sym (c.may_ask.ensures p [] c.args.cost 0 None) ∙ c.if-may_ask.true),
+      tt,
     )
 
 pub returns-clause-turn : goal.returns-clause-turn
