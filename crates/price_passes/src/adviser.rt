@@ -14,6 +14,7 @@ use crate::progress::Progress;
 use crate::rows::{copy, fill};
 use crate::state::State;
 use crate::tightening::Tightening;
+use crate::waits::NO_GAIN;
 use hub_model::Instance;
 use search_advice::{Advice, Side};
 use std::alloc::{AllocError, Global};
@@ -77,6 +78,7 @@ impl Adviser {
         ensures { self.new ≡ self.old }
     {
         let passes = self.progress.passes();
+        self.node.little = self.progress.little(self.lengths.commodities());
         let early = passes < EARLY_PASSES;
         if early && self.node.is_root() {
             self.node.set_ramps(&self.lengths, Some(&self.guess.start));
@@ -96,7 +98,7 @@ impl Adviser {
         self.state
             .tighten(&self.lengths, &mut self.tightening, true);
         let bound = self.state.bound(&self.lengths, &self.node.sides);
-        self.progress.note(bound);
+        self.progress.note(bound, NO_GAIN);
     }
 
     /// Rounds the prices to a set, betters the guess from it, and makes the duals tight at the best set, where the
@@ -115,6 +117,14 @@ impl Adviser {
             return bound;
         }
         self.begin_tightening();
+        if !self.state.may_tighten(
+            &self.lengths,
+            &mut self.tightening,
+            &self.node.sides,
+            wanted,
+        ) {
+            return bound;
+        }
         self.state
             .tighten(&self.lengths, &mut self.tightening, false);
         let tight = self
@@ -164,12 +174,20 @@ impl Advice for Adviser {
     fn enter(&mut self, sides: &[Side], hubs: &[bool])
         ensures { self.new ≡ self.old }
     {
+        match self.node.turned_place(sides) {
+            None => self.state.end_waits(),
+            Some(k) => self.state.end_waits_near(&self.lengths, k),
+        }
         copy(sides, &mut self.node.sides);
         self.progress.begin(self.node.is_root());
         self.guess.clear();
         self.node.mark_start(hubs, &mut self.guess.start);
         self.node
             .mark_movable(&self.guess.start, &mut self.guess.movable);
+        if self.node.is_root() {
+            self.search
+                .drop_costly(&self.lengths, &mut self.guess.start);
+        }
         let cost = self
             .search
             .improve(&self.lengths, &self.guess.start, &self.guess.movable);
@@ -195,7 +213,7 @@ impl Advice for Adviser {
             return Ok(());
         }
         self.prepare();
-        self.state.pass(
+        let gain = self.state.pass(
             rt,
             alloc,
             self.workers,
@@ -206,7 +224,11 @@ impl Advice for Adviser {
         self.node.follow(self.state.loads());
         let bound = self.state.bound(&self.lengths, &self.node.sides);
         let bound = self.round(wanted, bound);
-        self.progress.note(bound);
+        self.progress.note(bound, gain);
+        let wanted = wanted.min(self.guess.cost);
+        if self.progress.is_idle(self.lengths.commodities(), wanted) {
+            self.state.break_off_waits();
+        }
         Ok(())
     }
 
@@ -246,7 +268,8 @@ impl Advice for Adviser {
     fn put_aside(&mut self, alloc: Global) -> Result<(), AllocError>
         ensures { self.new ≡ self.old }
     {
-        self.memories.put(alloc, &self.state, &self.node.prices)
+        self.memories
+            .put(alloc, &self.state, &self.node.sides, &self.node.prices)
     }
 
     fn go_back(&mut self)
@@ -255,6 +278,7 @@ impl Advice for Adviser {
         self.memories.step_back();
         if let Some(memory) = self.memories.next() {
             self.state.copy_from(&memory.state);
+            copy(&memory.sides, &mut self.node.sides);
             copy(&memory.prices, &mut self.node.prices);
         }
     }

@@ -2,16 +2,16 @@
 
 use crate::origins::{OriginScratch, Start};
 use crate::rows::row;
+use crate::waits::{Gain, Quote};
 use crew::Job;
 use std::alloc::{AllocError, Global};
 
-/// The new duals of an origin, its prices and values, and what they change: what the prices gain, weighed by the
-/// flows, and by place what is added to the load.
+/// The new duals of an origin, its prices and values, with what they bring, and by place what is added to the load.
 #[derive(Drop)]
 pub(crate) struct OriginDuals {
-    pub(crate) prices: Vec<u32>,
+    pub(crate) quotes: Vec<Quote>,
     pub(crate) values: Vec<u32>,
-    pub(crate) gained: i64,
+    pub(crate) gain: Gain,
     pub(crate) added: Vec<i64>,
 }
 
@@ -20,7 +20,7 @@ pub(crate) struct OriginDuals {
 pub(crate) struct Batch<'a> {
     pub(crate) start: Start<'a>,
     pub(crate) first: usize,
-    pub(crate) prices: &'a [u32],
+    pub(crate) quotes: &'a [Quote],
     pub(crate) values: &'a [u32],
 }
 
@@ -45,15 +45,15 @@ impl<'a> Job<OriginDuals> for Batch<'a> {
     ) -> Result<OriginDuals, AllocError> {
         let i = self.first.wrapping_add(block as usize);
         let lengths = self.start.lengths;
-        let mut prices = row(self.prices, i, lengths.size()).to_vec(alloc)?;
+        let mut quotes = row(self.quotes, i, lengths.size()).to_vec(alloc)?;
         let mut values = row(self.values, i, lengths.origin_values()).to_vec(alloc)?;
         let mut added = vec![in alloc; 0; lengths.places()]?;
-        let gained = scratch.better_origin(self.start, i, &mut prices, &mut values);
+        let gain = scratch.better_origin(self.start, i, &mut quotes, &mut values);
         scratch.add_changes(self.start, &mut added);
         Ok(OriginDuals {
-            prices,
+            quotes,
             values,
-            gained,
+            gain,
             added,
         })
     }

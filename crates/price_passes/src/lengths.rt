@@ -2,7 +2,7 @@
 
 ghost use Rattle.std.specs.Prelude.{◌≤◌};
 
-use crate::rows::{FAR, at, least_sum, put, row, row_mut};
+use crate::rows::{FAR, at, least_sum, put, row, row_mut, small};
 use crate::units::Units;
 use hub_model::Instance;
 use std::alloc::{AllocError, Global};
@@ -22,6 +22,8 @@ pub struct Lengths {
     deliver_near: Vec<u32>,
     trunk: Vec<u32>,
     trunk_back: Vec<u32>,
+    first_gaps: Vec<i32>,
+    last_gaps: Vec<i32>,
     flows: Vec<u32>,
     fixed: Vec<i64>,
     fixed_costs: Vec<i128>,
@@ -53,6 +55,8 @@ impl Lengths {
             collect,
             deliver_near: least_sums(alloc, &deliver, &trunk, width)?,
             deliver,
+            first_gaps: greatest_gaps(alloc, &trunk, width)?,
+            last_gaps: greatest_gaps(alloc, &trunk_back, width)?,
             trunk,
             trunk_back,
             flows: flows_in(alloc, instance, units.flow)?,
@@ -69,6 +73,11 @@ impl Lengths {
     /// The number of candidates.
     pub fn places(&self) -> usize {
         self.places
+    }
+
+    /// The number of commodities.
+    pub fn commodities(&self) -> usize {
+        self.size.wrapping_mul(self.size)
     }
 
     /// How many values the commodities of an origin have.
@@ -126,6 +135,16 @@ impl Lengths {
     /// The trunk legs to the place from each place.
     pub fn trunk_back(&self, k: usize) -> &[u32] {
         row(&self.trunk_back, k, self.width)
+    }
+
+    /// By how much, at most, the trunk legs from each place are longer than those from this place.
+    pub fn first_gaps(&self, k: usize) -> &[i32] {
+        row(&self.first_gaps, k, self.width)
+    }
+
+    /// By how much, at most, the trunk legs to each place are longer than those to this place.
+    pub fn last_gaps(&self, k: usize) -> &[i32] {
+        row(&self.last_gaps, k, self.width)
     }
 
     /// The flows from the origin to each node.
@@ -230,6 +249,27 @@ fn least_sums(
         }
     }
     Ok(sums)
+}
+
+/// For each row of the table and each other one, by how much at most a number of the other is greater.
+fn greatest_gaps(alloc: Global, table: &[u32], width: usize) -> Result<Vec<i32>, AllocError> {
+    let mut gaps = vec![in alloc; 0; table.len()]?;
+    for k in 0..table.len() / width.max(1) {
+        let legs = row(table, k, width);
+        for (m, gap) in row_mut(&mut gaps, k, width).iter_mut().enumerate() {
+            *gap = greatest_gap(legs, row(table, m, width));
+        }
+    }
+    Ok(gaps)
+}
+
+/// By how much at most a number is greater than that at its place in the first list.
+fn greatest_gap(some: &[u32], others: &[u32]) -> i32 {
+    let mut most = i32::MIN;
+    for (some, other) in some.iter().zip(others) {
+        most = most.max(small(*other).wrapping_sub(small(*some)));
+    }
+    most
 }
 
 /// The flows in this unit, rounded; one above 0 stays above 0.

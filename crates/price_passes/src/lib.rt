@@ -41,5 +41,6 @@ mod rows;
 mod state;
 mod tightening;
 mod units;
+mod waits;
 
 pub use adviser::Adviser;

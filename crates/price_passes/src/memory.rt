@@ -2,30 +2,39 @@
 
 use crate::rows::copy;
 use crate::state::State;
+use search_advice::Side;
 use std::alloc::{AllocError, Global};
 
 /// So many memories there are at most. Each takes four bytes for each commodity and place.
 const MOST_MEMORIES: usize = 2;
 
-/// The duals and the prices of an adviser.
+/// The duals of an adviser, and the sides and prices of the node.
 #[derive(Drop)]
 pub(crate) struct Memory {
     pub(crate) state: State,
+    pub(crate) sides: Vec<Side>,
     pub(crate) prices: Vec<i64>,
 }
 
 impl Memory {
-    /// A memory of these duals and prices.
-    fn of(alloc: Global, state: &State, prices: &[i64]) -> Result<Memory, AllocError> {
+    /// A memory of these duals, sides and prices.
+    fn of(
+        alloc: Global,
+        state: &State,
+        sides: &[Side],
+        prices: &[i64],
+    ) -> Result<Memory, AllocError> {
         Ok(Memory {
             state: state.copied(alloc)?,
+            sides: sides.to_vec(alloc)?,
             prices: prices.to_vec(alloc)?,
         })
     }
 
-    /// Makes these the duals and the prices, as far as the lists go.
-    fn take(&mut self, state: &State, prices: &[i64]) {
+    /// Makes these the duals, the sides and the prices, as far as the lists go.
+    fn take(&mut self, state: &State, sides: &[Side], prices: &[i64]) {
         self.state.copy_from(state);
+        copy(sides, &mut self.sides);
         copy(prices, &mut self.prices);
     }
 }
@@ -47,27 +56,34 @@ impl Memories {
         }
     }
 
-    /// Puts the duals and the prices aside.
+    /// Puts the duals, the sides and the prices aside.
     pub(crate) fn put(
         &mut self,
         alloc: Global,
         state: &State,
+        sides: &[Side],
         prices: &[i64],
     ) -> Result<(), AllocError> {
         if self.aside < MOST_MEMORIES {
-            self.put_next(alloc, state, prices)?;
+            self.put_next(alloc, state, sides, prices)?;
         }
         self.aside = self.aside.saturating_add(1);
         Ok(())
     }
 
-    /// Puts the duals and the prices into the first memory that is not in use, a new one if there is none.
-    fn put_next(&mut self, alloc: Global, state: &State, prices: &[i64]) -> Result<(), AllocError> {
+    /// Puts the duals, the sides and the prices into the first memory that is not in use, a new one if there is none.
+    fn put_next(
+        &mut self,
+        alloc: Global,
+        state: &State,
+        sides: &[Side],
+        prices: &[i64],
+    ) -> Result<(), AllocError> {
         if let Some(memory) = self.items.get_mut(self.aside) {
-            memory.take(state, prices);
+            memory.take(state, sides, prices);
             return Ok(());
         }
-        let memory = Memory::of(alloc, state, prices)?;
+        let memory = Memory::of(alloc, state, sides, prices)?;
         self.items.push(memory)?;
         Ok(())
     }

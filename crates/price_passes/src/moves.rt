@@ -81,6 +81,29 @@ impl LocalSearch {
         cost
     }
 
+    /// Marks only the cheapest of all places, the last if there are several, where the set costs more than it alone.
+    pub(crate) fn drop_costly(&mut self, lengths: &Lengths, marks: &mut [bool]) {
+        let mut least = self.cost(lengths, marks);
+        fill(&mut self.marks, false);
+        self.set_routes(lengths);
+        self.close(lengths, None);
+        let mut found = None;
+        for k in 0..lengths.places() {
+            let routes = self.weight_with(lengths, None, k) as i128;
+            let cost = routes
+                .wrapping_mul(lengths.worth())
+                .wrapping_add(fixed_cost(lengths, k));
+            if cost <= least {
+                least = cost;
+                found = Some(k);
+            }
+        }
+        if let Some(k) = found {
+            fill(marks, false);
+            put(marks, k, true);
+        }
+    }
+
     /// Sets each cap to the greatest length that a commodity has when a hub of the set is left out, or to the limit.
     pub(crate) fn set_caps(&self, lengths: &Lengths, limit: u32, caps: &mut [u32]) {
         for i in 0..lengths.size() {

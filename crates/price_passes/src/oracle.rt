@@ -3,9 +3,16 @@
 use crate::lengths::Lengths;
 use crate::network::Network;
 use crate::places::{Commodity, PlaceValues};
-use crate::ramps::Turn;
-use crate::rows::{FAR, amount_at, gather, put};
+use crate::ramps::{FULL_PRICE, Turn};
+use crate::rows::{FAR, amount_at, gather, put, row};
 use std::alloc::{AllocError, Global};
+
+/// A priced place as the only hub of a route: the route's length, and the place's price.
+#[derive(Clone, Copy)]
+struct Single {
+    length: u32,
+    price: i64,
+}
 
 /// What finds the best dual of a commodity, and its values once they are found. The legs of the priced places stand in
 /// lists of their own.
@@ -13,6 +20,7 @@ use std::alloc::{AllocError, Global};
 pub(crate) struct Oracle {
     network: Network,
     priced: Vec<usize>,
+    singles: Vec<Single>,
     collect: Vec<u32>,
     deliver: Vec<u32>,
     values: PlaceValues,
@@ -24,6 +32,7 @@ impl Oracle {
         Ok(Oracle {
             network: Network::new(alloc, places)?,
             priced: Vec::with_capacity(alloc, places)?,
+            singles: Vec::with_capacity(alloc, places)?,
             collect: vec![in alloc; FAR; places]?,
             deliver: vec![in alloc; FAR; places]?,
             values: PlaceValues::new(alloc, places)?,
@@ -35,27 +44,75 @@ impl Oracle {
         self.values.values()
     }
 
-    /// Finds the best values at the prices by place, and gives the commodity's own price, which is at most the cap.
-    ///
-    /// Places without a price come after, in the order, and each gets the least value that is asked of it.
+    /// Finds the best values of the priced places at the prices by place, and gives the commodity's own price, which is
+    /// at most the cap. Other places have no values as yet.
     pub(crate) fn find(
         &mut self,
         lengths: &Lengths,
         legs: &Commodity<'_>,
         prices: &[i64],
-        order: &[Turn],
         cap: u32,
     ) -> u32 {
+        let cap = cap.min(self.single_cap(legs, prices));
         self.list_priced(legs, prices, cap);
         self.connect(lengths, legs, prices);
         let price = self.network.solve(cap);
-        self.set_priced(legs, prices, price);
+        self.set_priced(lengths, legs, price);
+        price
+    }
+
+    /// What the values that were found cost more at the prices than these.
+    pub(crate) fn added_cost(&self, prices: &[i64], old: &[u32]) -> i64 {
+        let mut cost = 0i64;
+        let values = old.iter().zip(self.values.values());
+        for (price, (old, new)) in prices.iter().zip(values) {
+            let change = *new as i64 - *old as i64;
+            cost = cost.wrapping_add(price.wrapping_mul(change));
+        }
+        cost
+    }
+
+    /// Gives each place without a price, in the order, the least value that is asked of it.
+    pub(crate) fn complete(
+        &mut self,
+        lengths: &Lengths,
+        legs: &Commodity<'_>,
+        prices: &[i64],
+        order: &[Turn],
+    ) {
         for turn in order {
             if amount_at(prices, turn.place) == 0 {
-                self.values.set_asked(lengths, legs, turn.place, price);
+                self.values.settle_asked(lengths, legs, turn.place);
             }
         }
-        price
+    }
+
+    /// The length by some single place, of which no best price is above.
+    ///
+    /// Two full prices are sent. Of the places with the shortest single routes whose prices come to that, one has room
+    /// left before the last part is sent, so that a way no longer than its single route is open.
+    fn single_cap(&mut self, legs: &Commodity<'_>, prices: &[i64]) -> u32 {
+        self.singles.clear();
+        for (k, price) in prices.iter().enumerate() {
+            if *price > 0 {
+                // It succeeds, since there is room for all places.
+                let _ = self.singles.push(Single {
+                    length: legs.alone(k),
+                    price: *price,
+                });
+            }
+        }
+        let mut sum = 0i64;
+        for _ in 0..self.singles.len() {
+            let Some(single) = take_shortest(&mut self.singles) else {
+                break;
+            };
+            sum = sum.wrapping_add(single.price);
+            if sum >= 2 * FULL_PRICE {
+                return single.length;
+            }
+        }
+        FAR
     }
 
     /// Lists the priced places by which some route is shorter than the cap.
@@ -77,25 +134,43 @@ impl Oracle {
         gather(legs.deliver, &self.priced, &mut self.deliver);
         for (x, k) in self.priced.iter().enumerate() {
             let place = legs.place(lengths, *k);
-            let costs = self.network.costs_mut(x);
-            place.set_pairs(&self.priced, &self.collect, &self.deliver, costs);
-            put(costs, x, FAR);
-            let price = amount_at(prices, *k).clamp(0, u32::MAX as i64) as u32;
+            let before = row(&self.priced, 0, x);
+            place.set_pairs(
+                before,
+                &self.collect,
+                &self.deliver,
+                self.network.costs_mut(x),
+            );
+            let price = amount_at(prices, *k).clamp(0, FULL_PRICE) as i32;
             self.network.limit(x, price);
-            self.network.link(x, count, legs.alone(*k));
+            self.network.set_cost(count, x, legs.alone(*k));
         }
+        self.network.mirror();
     }
 
-    /// Gives the priced places their values.
-    fn set_priced(&mut self, legs: &Commodity<'_>, prices: &[i64], price: u32) {
-        self.values.clear();
-        for (k, open) in prices.iter().enumerate() {
-            if *open > 0 {
-                self.values.set(legs, k, 0);
-            }
-        }
+    /// Gives the places of the network their values; other priced places have none, since all routes by them are too long.
+    fn set_priced(&mut self, lengths: &Lengths, legs: &Commodity<'_>, price: u32) {
+        self.values.begin(price);
         for (x, k) in self.priced.iter().enumerate() {
-            self.values.set(legs, *k, self.network.value(x, price));
+            self.values
+                .settle(lengths, legs, *k, self.network.value(x, price));
         }
     }
+}
+
+/// Takes the single with the least length out.
+fn take_shortest(singles: &mut Vec<Single>) -> Option<Single> {
+    let last = singles.pop()?;
+    let mut shortest = last;
+    let mut slot = None;
+    for (index, single) in singles.iter().enumerate() {
+        if single.length < shortest.length {
+            shortest = *single;
+            slot = Some(index);
+        }
+    }
+    if let Some(slot) = slot {
+        put(singles, slot, last);
+    }
+    Some(shortest)
 }

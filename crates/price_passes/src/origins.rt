@@ -4,15 +4,28 @@ use crate::lengths::Lengths;
 use crate::mixing::{Step, mixed_down};
 use crate::oracle::Oracle;
 use crate::places::Commodity;
-use crate::ramps::{Ramp, Turn, set_prices};
+use crate::ramps::{FULL_PRICE, Ramp, Turn, set_prices};
 use crate::rows::{at, copy, row, row_mut};
+use crate::waits::{Gain, NO_GAIN, Quote};
 use std::alloc::{AllocError, Global};
 
-/// What a pass reads of a node of the search: the ramps by place, and by commodity what no price is to be above.
+/// What a pass reads of a node of the search: the ramps by place, by commodity what no price is to be above, and, where
+/// commodities wait, what a turn promises after which they do not, in parts of the full price.
 #[derive(Clone, Copy)]
 pub(crate) struct Terms<'a> {
     pub(crate) ramps: &'a [Ramp],
     pub(crate) caps: &'a [u32],
+    pub(crate) little: Option<i128>,
+}
+
+impl Terms<'_> {
+    /// Tells whether a commodity waits after a turn that promised so much.
+    fn is_little(&self, promised: i128) -> bool {
+        match self.little {
+            None => false,
+            Some(little) => promised <= little,
+        }
+    }
 }
 
 /// What all origins of a batch start from: the loads at its start, the order of the places at them, and how many
@@ -46,59 +59,83 @@ impl OriginScratch {
         })
     }
 
-    /// Betters the duals of the origin, whose prices and values these are, and gives what the prices gain, weighed by
-    /// the flows.
+    /// Betters the duals of the origin, whose prices and values these are, but for commodities that wait, and gives
+    /// what that brings.
     pub(crate) fn better_origin(
         &mut self,
         start: Start<'_>,
         i: usize,
-        prices: &mut [u32],
+        quotes: &mut [Quote],
         values: &mut [u32],
-    ) -> i64 {
+    ) -> Gain {
         copy(start.loads, &mut self.loads);
         set_prices(start.terms.ramps, start.loads, &mut self.prices);
         let lengths = start.lengths;
         let caps = row(start.terms.caps, i, lengths.size());
-        let mut gained = 0i64;
-        for (j, (price, flow)) in prices.iter_mut().zip(lengths.flows(i)).enumerate() {
-            if *flow > 0 {
+        let mut gain = NO_GAIN;
+        for (j, (quote, flow)) in quotes.iter_mut().zip(lengths.flows(i)).enumerate() {
+            if *flow > 0 && !quote.wait.leaves_out() {
                 let legs = Commodity::of(lengths, i, j);
-                let weight = (*flow as i64).wrapping_mul(start.copies as i64);
                 let values = row_mut(values, j, lengths.places());
-                let new = self.better(start, &legs, weight, at(caps, j), *price, values);
-                gained = gained.wrapping_add(
-                    (*flow as i64).wrapping_mul(new as i64 - *price as i64),
-                );
-                *price = new;
+                gain.add(self.better(start, &legs, *flow, at(caps, j), quote, values));
             }
         }
-        gained
+        gain
     }
 
-    /// Betters the dual of a commodity with this price, and gives its new price.
+    /// Betters the dual of a commodity with this flow, price and wait, and gives what that brings.
     fn better(
         &mut self,
         start: Start<'_>,
         legs: &Commodity<'_>,
-        weight: i64,
+        flow: u32,
         cap: u32,
-        price: u32,
+        quote: &mut Quote,
+        values: &mut [u32],
+    ) -> Gain {
+        let found = self.oracle.find(start.lengths, legs, &self.prices, cap);
+        let change = found as i64 - quote.price as i64;
+        let promised = change
+            .wrapping_mul(FULL_PRICE)
+            .wrapping_sub(self.oracle.added_cost(&self.prices, values))
+            .max(0);
+        let before = quote.price;
+        if promised > 0 {
+            let parts = self.step(start, legs, flow, change, values);
+            quote.price = mixed_down(before, found, parts);
+        }
+        let promised = (promised as i128).wrapping_mul(flow as i128);
+        quote.wait.follow(start.terms.is_little(promised));
+        Gain {
+            prices: (flow as i64).wrapping_mul(quote.price as i64 - before as i64),
+            promised,
+            turns: 1,
+        }
+    }
+
+    /// Takes a step to the values that were found, where the commodity's own price changes by so much in a whole step.
+    /// It gives the parts of the step.
+    fn step(
+        &mut self,
+        start: Start<'_>,
+        legs: &Commodity<'_>,
+        flow: u32,
+        change: i64,
         values: &mut [u32],
     ) -> u32 {
-        let found = self
-            .oracle
-            .find(start.lengths, legs, &self.prices, start.order, cap);
+        self.oracle
+            .complete(start.lengths, legs, &self.prices, start.order);
         self.step.list(
             values,
             self.oracle.values(),
             start.terms.ramps,
             &self.loads,
-            weight,
+            (flow as i64).wrapping_mul(start.copies as i64),
         );
-        let parts = self.step.parts(found as i64 - price as i64);
+        let parts = self.step.parts(change);
         self.step
             .take(parts, values, &mut self.loads, &mut self.prices);
-        mixed_down(price, found, parts)
+        parts
     }
 
     /// Adds to the sums what the origin that was bettered last changed in the loads.

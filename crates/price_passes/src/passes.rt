@@ -1,4 +1,4 @@
-//! One pass over all commodities, that betters the dual of each at the prices of its turn.
+//! One pass over the commodities that do not wait, that betters the dual of each at the prices of its turn.
 //!
 //! Origins go in batches. All origins of a batch start at the loads of its start, and each counts its own changes as
 //! if all the others did the same. So the order of the origins of a batch makes no difference, and workers can do them
@@ -12,6 +12,7 @@ use crate::origins::{OriginScratch, Start, Terms};
 use crate::ramps::{NO_TURN, Turn, set_order};
 use crate::rows::{add, copy, row_mut, short};
 use crate::state::{State, Sums};
+use crate::waits::{Gain, NO_GAIN, Quote};
 use crew::answers;
 use hub_io::OpenGate;
 use std::alloc::{AllocError, Global};
@@ -48,7 +49,8 @@ impl Bench {
         set_order(terms.ramps, loads, &mut self.order);
     }
 
-    /// Betters the duals of all commodities, batch by batch, by so many workers. The sums follow.
+    /// Betters the duals of all commodities that do not wait, batch by batch, by so many workers, and gives what that
+    /// brings. The sums follow.
     fn better_all<R: Threads + Sync>(
         &mut self,
         rt: &R,
@@ -56,12 +58,13 @@ impl Bench {
         workers: u32,
         lengths: &Lengths,
         terms: Terms<'_>,
-        prices: &mut [u32],
+        quotes: &mut [Quote],
         values: &mut [u32],
         sums: &mut Sums,
-    ) -> Result<(), AllocError> {
+    ) -> Result<Gain, AllocError> {
         let size = lengths.size();
         let batch = size.div_ceil(NODES_FOR_AN_ORIGIN).max(1);
+        let mut gain = NO_GAIN;
         for number in 0..size.div_ceil(batch) {
             let first = number.wrapping_mul(batch);
             self.begin_batch(terms, &sums.loads);
@@ -74,68 +77,75 @@ impl Bench {
             };
             // One worker needs no memory for answers.
             if workers <= 1 || start.copies <= 1 {
-                better_in_turn(&mut self.scratch, start, first, prices, values, sums);
+                gain.add(better_in_turn(&mut self.scratch, start, first, quotes, values, sums));
             } else {
-                better_together(rt, alloc, workers, start, first, prices, values, sums)?;
+                gain.add(better_together(rt, alloc, workers, start, first, quotes, values, sums)?);
             }
         }
-        Ok(())
+        Ok(gain)
     }
 }
 
-/// Betters the duals of a batch, one origin after another from `first` on, in their place. The sums follow.
+/// Betters the duals of a batch, one origin after another from `first` on, in their place, and gives what that brings.
+/// The sums follow.
 fn better_in_turn(
     scratch: &mut OriginScratch,
     start: Start<'_>,
     first: usize,
-    prices: &mut [u32],
+    quotes: &mut [Quote],
     values: &mut [u32],
     sums: &mut Sums,
-) {
+) -> Gain {
     let lengths = start.lengths;
+    let mut all = NO_GAIN;
     for e in 0..start.copies {
         let i = first.wrapping_add(e as usize);
-        let prices = row_mut(prices, i, lengths.size());
+        let quotes = row_mut(quotes, i, lengths.size());
         let values = row_mut(values, i, lengths.origin_values());
-        let gained = scratch.better_origin(start, i, prices, values);
-        sums.total = sums.total.wrapping_add(gained);
+        let gain = scratch.better_origin(start, i, quotes, values);
+        sums.total = sums.total.wrapping_add(gain.prices);
         scratch.add_changes(start, &mut sums.loads);
+        all.add(gain);
     }
+    all
 }
 
-/// Betters the duals of a batch, whose origins are those from `first` on, by so many workers side by side. The sums
-/// follow.
+/// Betters the duals of a batch, whose origins are those from `first` on, by so many workers side by side, and gives
+/// what that brings. The sums follow.
 fn better_together<R: Threads + Sync>(
     rt: &R,
     alloc: Global,
     workers: u32,
     start: Start<'_>,
     first: usize,
-    prices: &mut [u32],
+    quotes: &mut [Quote],
     values: &mut [u32],
     sums: &mut Sums,
-) -> Result<(), AllocError> {
+) -> Result<Gain, AllocError> {
     let batch = Batch {
         start,
         first,
-        prices,
+        quotes,
         values,
     };
     let workers = workers.clamp(1, MOST_WORKERS);
     let found = answers(rt, alloc, &batch, start.copies, workers, &OpenGate)?;
+    let mut all = NO_GAIN;
     for (e, duals) in found.iter().enumerate() {
         let i = first.wrapping_add(e);
         let lengths = start.lengths;
-        copy(&duals.prices, row_mut(prices, i, lengths.size()));
+        copy(&duals.quotes, row_mut(quotes, i, lengths.size()));
         copy(&duals.values, row_mut(values, i, lengths.origin_values()));
-        sums.total = sums.total.wrapping_add(duals.gained);
+        sums.total = sums.total.wrapping_add(duals.gain.prices);
         add(&duals.added, &mut sums.loads);
+        all.add(duals.gain);
     }
-    Ok(())
+    Ok(all)
 }
 
 impl State {
-    /// Betters the duals of all commodities by one pass of so many workers, at most 64.
+    /// Betters the duals of all commodities that do not wait by one pass of so many workers, at most 64, and gives what
+    /// that brings.
     ///
     /// They come out the same, whatever the workers. Where memory runs out, those of the batches before are bettered.
     pub(crate) fn pass<R: Threads + Sync>(
@@ -146,7 +156,7 @@ impl State {
         lengths: &Lengths,
         terms: Terms<'_>,
         bench: &mut Bench,
-    ) -> Result<(), AllocError>
+    ) -> Result<Gain, AllocError>
         ensures { self.new ≡ self.old }
     {
         bench.better_all(
@@ -155,7 +165,7 @@ impl State {
             workers,
             lengths,
             terms,
-            &mut self.prices,
+            &mut self.quotes,
             &mut self.values,
             &mut self.sums,
         )

@@ -1,7 +1,7 @@
 //! The legs of a commodity over places, and the values of the places for it.
 
 use crate::lengths::Lengths;
-use crate::rows::{FAR, at, copy, fill, least_sum, put};
+use crate::rows::{FAR, at, copy, fill, put, small, small_at};
 use std::alloc::{AllocError, Global};
 
 /// The legs of a commodity over places: of collection and delivery, and the least lengths of both with a trunk leg.
@@ -26,9 +26,17 @@ impl<'a> Commodity<'a> {
 
     /// Tells whether some route by the place is shorter than the limit.
     pub(crate) fn is_near(&self, k: usize, limit: u32) -> bool {
-        let forth = at(self.collect, k).wrapping_add(at(self.deliver_near, k));
-        let back = at(self.collect_near, k).wrapping_add(at(self.deliver, k));
-        forth.min(back) < limit
+        self.forth(k) < limit || self.back(k) < limit
+    }
+
+    /// The least length of a route with the place as its first hub.
+    fn forth(&self, k: usize) -> u32 {
+        at(self.collect, k).wrapping_add(at(self.deliver_near, k))
+    }
+
+    /// The least length of a route with the place as its last hub.
+    fn back(&self, k: usize) -> u32 {
+        at(self.collect_near, k).wrapping_add(at(self.deliver, k))
     }
 
     /// The length by the place alone.
@@ -74,32 +82,127 @@ impl<'a> PlaceLegs<'a> {
         others: &[usize],
         collect: &[u32],
         deliver: &[u32],
-        lengths: &mut [u32],
+        lengths: &mut [i32],
     ) {
         for (length, (m, (collect, deliver))) in lengths
             .iter_mut()
             .zip(others.iter().zip(collect.iter().zip(deliver)))
         {
-            *length = self.pair(*m, *collect, *deliver);
+            *length = small(self.pair(*m, *collect, *deliver));
         }
     }
 }
 
-/// The values of the places for a commodity, and its legs with the values added; `FAR` where a place has none as yet.
+/// Places as ends of routes, each with its leg and its value added up, but for those that another one always betters.
+#[derive(Drop)]
+struct Ends {
+    places: Vec<usize>,
+    legs: Vec<u32>,
+}
+
+impl Ends {
+    fn new(alloc: Global, places: usize) -> Result<Ends, AllocError> {
+        Ok(Ends {
+            places: Vec::with_capacity(alloc, places)?,
+            legs: Vec::with_capacity(alloc, places)?,
+        })
+    }
+
+    fn clear(&mut self) {
+        self.places.clear();
+        self.legs.clear();
+    }
+
+    /// Makes the place an end with this leg, unless another end serves each route at least as well; the gaps tell by how
+    /// much, at most, trunk legs of other places are longer.
+    fn join(&mut self, k: usize, leg: u32, gaps: &[i32]) {
+        let most = small(leg);
+        for (m, other) in self.places.iter().zip(&self.legs) {
+            if small(*other).wrapping_add(small_at(gaps, *m)) <= most {
+                return;
+            }
+        }
+        // Both succeed, since there is room for all places.
+        let _ = self.places.push(k);
+        let _ = self.legs.push(leg);
+    }
+
+    /// Lets the place go, if it came last.
+    fn leave(&mut self, k: usize) {
+        if self.places.last().copied() == Some(k) {
+            let _ = self.places.pop();
+            let _ = self.legs.pop();
+        }
+    }
+
+    /// The least sum of an end's leg and its trunk leg, or `FAR` where none is less.
+    fn least(&self, trunk: &[u32]) -> u32 {
+        let mut least = FAR;
+        for (m, leg) in self.places.iter().zip(&self.legs) {
+            least = least.min(at(trunk, *m).wrapping_add(*leg));
+        }
+        least
+    }
+}
+
+/// Places as ends of the routes of a commodity at a price, first and last ones: those by which some route is shorter
+/// than the price, with their values added. No others ask anything of a place.
+#[derive(Drop)]
+struct RouteEnds {
+    firsts: Ends,
+    lasts: Ends,
+}
+
+impl RouteEnds {
+    fn new(alloc: Global, places: usize) -> Result<RouteEnds, AllocError> {
+        Ok(RouteEnds {
+            firsts: Ends::new(alloc, places)?,
+            lasts: Ends::new(alloc, places)?,
+        })
+    }
+
+    fn clear(&mut self) {
+        self.firsts.clear();
+        self.lasts.clear();
+    }
+
+    /// Makes the place with this value an end where it may be one.
+    fn join(&mut self, lengths: &Lengths, legs: &Commodity<'_>, price: u32, k: usize, value: u32) {
+        if legs.forth(k).wrapping_add(value) < price {
+            let leg = at(legs.collect, k).wrapping_add(value);
+            self.firsts.join(k, leg, lengths.first_gaps(k));
+        }
+        if legs.back(k).wrapping_add(value) < price {
+            let leg = at(legs.deliver, k).wrapping_add(value);
+            self.lasts.join(k, leg, lengths.last_gaps(k));
+        }
+    }
+
+    /// Lets the place go, if it came last.
+    fn leave(&mut self, k: usize) {
+        self.firsts.leave(k);
+        self.lasts.leave(k);
+    }
+}
+
+/// The values of the places for a commodity at a price. Those that are settled ask something of the others, and so do
+/// those that are pending: old ones, of which the last to come is changed first.
 #[derive(Drop)]
 pub(crate) struct PlaceValues {
+    price: u32,
     values: Vec<u32>,
-    collect: Vec<u32>,
-    deliver: Vec<u32>,
+    settled: RouteEnds,
+    pending: RouteEnds,
 }
 
 impl PlaceValues {
     /// Values of so many places.
     pub(crate) fn new(alloc: Global, places: usize) -> Result<PlaceValues, AllocError> {
         Ok(PlaceValues {
+            price: 0,
             values: vec![in alloc; 0; places]?,
-            collect: vec![in alloc; FAR; places]?,
-            deliver: vec![in alloc; FAR; places]?,
+            settled: RouteEnds::new(alloc, places)?,
+            pending: RouteEnds::new(alloc, places)?,
         })
     }
 
@@ -108,70 +211,55 @@ impl PlaceValues {
         &self.values
     }
 
-    /// The value of the place.
-    pub(crate) fn value(&self, k: usize) -> u32 {
-        at(&self.values, k)
-    }
-
-    /// Gives no place a value.
-    pub(crate) fn clear(&mut self) {
+    /// Begins at this price, with all values 0.
+    pub(crate) fn begin(&mut self, price: u32) {
         fill(&mut self.values, 0);
-        fill(&mut self.collect, FAR);
-        fill(&mut self.deliver, FAR);
+        self.price = price;
+        self.settled.clear();
+        self.pending.clear();
     }
 
-    /// Gives each place the value of the list.
-    pub(crate) fn take(&mut self, values: &[u32], legs: &Commodity<'_>) {
+    /// Begins at this price, with the values of the list, none of which is settled or pending.
+    pub(crate) fn begin_from(&mut self, price: u32, values: &[u32]) {
+        self.begin(price);
         copy(values, &mut self.values);
-        add(&self.values, legs.collect, &mut self.collect);
-        add(&self.values, legs.deliver, &mut self.deliver);
     }
 
-    /// Gives the place a value.
-    pub(crate) fn set(&mut self, legs: &Commodity<'_>, k: usize, value: u32) {
+    /// Settles the value of a place.
+    pub(crate) fn settle(&mut self, lengths: &Lengths, legs: &Commodity<'_>, k: usize, value: u32) {
         put(&mut self.values, k, value);
-        put(
-            &mut self.collect,
-            k,
-            at(legs.collect, k).wrapping_add(value),
-        );
-        put(
-            &mut self.deliver,
-            k,
-            at(legs.deliver, k).wrapping_add(value),
-        );
+        self.settled.join(lengths, legs, self.price, k, value);
     }
 
-    /// Gives the place the least value that the routes by it, alone or with places that have one, ask at this price.
-    pub(crate) fn set_asked(
-        &mut self,
-        lengths: &Lengths,
-        legs: &Commodity<'_>,
-        k: usize,
-        price: u32,
-    ) {
-        let asked = if legs.is_near(k, price) {
-            price.saturating_sub(self.least_by(lengths, legs, k))
-        } else {
-            0
-        };
-        self.set(legs, k, asked);
+    /// Makes the value of a place pending. It is to be changed before those of places that came before.
+    pub(crate) fn suspend(&mut self, lengths: &Lengths, legs: &Commodity<'_>, k: usize) {
+        let value = at(&self.values, k);
+        self.pending.join(lengths, legs, self.price, k, value);
     }
 
-    /// The least length by the place, with the value of the other place added.
-    fn least_by(&self, lengths: &Lengths, legs: &Commodity<'_>, k: usize) -> u32 {
-        let onward = least_sum(lengths.trunk(k), &self.deliver);
-        let before = least_sum(lengths.trunk_back(k), &self.collect);
-        let forth = at(legs.collect, k).wrapping_add(onward);
-        let back = at(legs.deliver, k).wrapping_add(before);
-        forth.min(back).min(legs.alone(k))
-    }
-}
-
-/// Sets each sum to the value and the leg that stand at its place.
-fn add(values: &[u32], legs: &[u32], sums: &mut [u32]) {
-    let count = sums.len().min(values.len()).min(legs.len());
-    for place in 0..count {
-        sums[place] = values[place].wrapping_add(legs[place]);
+    /// Settles the value of a place: the least that the routes by it, alone or with settled and pending places, ask at the
+    /// price.
+    pub(crate) fn settle_asked(&mut self, lengths: &Lengths, legs: &Commodity<'_>, k: usize) {
+        self.pending.leave(k);
+        let is_first = legs.forth(k) < self.price;
+        let is_last = legs.back(k) < self.price;
+        if !is_first && !is_last {
+            put(&mut self.values, k, 0);
+            return;
+        }
+        let mut least = legs.alone(k);
+        if is_first {
+            let trunk = lengths.trunk(k);
+            let lasts = self.settled.lasts.least(trunk);
+            let onward = lasts.min(self.pending.lasts.least(trunk));
+            least = least.min(at(legs.collect, k).wrapping_add(onward));
+        }
+        if is_last {
+            let trunk = lengths.trunk_back(k);
+            let firsts = self.settled.firsts.least(trunk);
+            let before = firsts.min(self.pending.firsts.least(trunk));
+            least = least.min(at(legs.deliver, k).wrapping_add(before));
+        }
+        self.settle(lengths, legs, k, self.price.saturating_sub(least));
     }
 }

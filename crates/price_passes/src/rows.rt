@@ -6,6 +6,14 @@
 /// A length that stands for none. The sum of three of them does not wrap.
 pub(crate) const FAR: u32 = 1 << 30;
 
+/// A length that stands for none among numbers that have a sign.
+pub(crate) const NONE: i32 = 1 << 29;
+
+/// The length with a sign; far ones are the least that stands for none.
+pub(crate) fn small(length: u32) -> i32 {
+    length.min(NONE as u32) as i32
+}
+
 /// The number in 32 bits, or the greatest of these.
 pub(crate) fn short(number: usize) -> u32 {
     number.min(u32::MAX as usize) as u32
@@ -27,6 +35,11 @@ pub(crate) fn row_mut<T>(table: &mut [T], index: usize, width: usize) -> &mut [T
 
 /// The number at this place.
 pub(crate) fn at(items: &[u32], index: usize) -> u32 {
+    items.get(index).copied().unwrap_or(0)
+}
+
+/// The number with a sign at this place.
+pub(crate) fn small_at(items: &[i32], index: usize) -> i32 {
     items.get(index).copied().unwrap_or(0)
 }
 
@@ -84,15 +97,8 @@ pub(crate) fn least_sum(some: &[u32], others: &[u32]) -> u32 {
     least
 }
 
-/// Lowers each number to the base and a length, where that is less.
-pub(crate) fn lower(items: &mut [u32], base: u32, lengths: &[u32]) {
-    for (item, length) in items.iter_mut().zip(lengths) {
-        *item = (*item).min(base.wrapping_add(*length));
-    }
-}
-
 /// Lowers each number to the base and a length less a potential, where that is less.
-pub(crate) fn lower_reduced(items: &mut [u32], base: u32, lengths: &[u32], potentials: &[u32]) {
+pub(crate) fn lower_reduced(items: &mut [i32], base: i32, lengths: &[i32], potentials: &[i32]) {
     let count = items.len().min(lengths.len()).min(potentials.len());
     for place in 0..count {
         let reduced = base

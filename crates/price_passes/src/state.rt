@@ -5,18 +5,20 @@ ghost use Rattle.hub_spec.specs.Limits.{most_nodes};
 ghost use Rattle.price_passes.specs.Shapes.{cells};
 
 use crate::lengths::Lengths;
-use crate::rows::copy;
+use crate::places::Commodity;
+use crate::rows::{copy, row_mut};
+use crate::waits::{NO_QUOTE, NO_WAIT, Quote};
 use search_advice::Side;
 use std::alloc::{AllocError, Global};
 use std::marker::Model;
 
-/// The duals of all commodities in the small units: for each a price, and a value for each place; with the sums of
-/// both, weighed by the flows.
+/// The duals of all commodities in the small units: for each a price, with its wait, and a value for each place; with
+/// the sums of prices and values, weighed by the flows.
 #[derive(Drop)]
 pub struct State {
     pub(crate) size: usize,
     pub(crate) places: usize,
-    pub(crate) prices: Vec<u32>,
+    pub(crate) quotes: Vec<Quote>,
     pub(crate) values: Vec<u32>,
     pub(crate) sums: Sums,
 }
@@ -50,7 +52,7 @@ impl State {
         Ok(State {
             size,
             places,
-            prices: vec![in alloc; 0; commodities]?,
+            quotes: vec![in alloc; NO_QUOTE; commodities]?,
             values: vec![in alloc; 0; commodities * places]?,
             sums: Sums::new(alloc, places)?,
         })
@@ -87,7 +89,7 @@ impl State {
         Ok(State {
             size: self.size,
             places: self.places,
-            prices: self.prices.to_vec(alloc)?,
+            quotes: self.quotes.to_vec(alloc)?,
             values: self.values.to_vec(alloc)?,
             sums: self.sums.copied(alloc)?,
         })
@@ -97,9 +99,46 @@ impl State {
     pub fn copy_from(&mut self, other: &State)
         ensures { self.new ≡ self.old }
     {
-        copy(&other.prices, &mut self.prices);
+        copy(&other.quotes, &mut self.quotes);
         copy(&other.values, &mut self.values);
         self.sums.take(&other.sums);
+    }
+
+    /// Ends all waits, as if there had been none.
+    pub(crate) fn end_waits(&mut self)
+        ensures { self.new ≡ self.old }
+    {
+        for quote in self.quotes.iter_mut() {
+            quote.wait = NO_WAIT;
+        }
+    }
+
+    /// Breaks all waits off.
+    pub(crate) fn break_off_waits(&mut self)
+        ensures { self.new ≡ self.old }
+    {
+        for quote in self.quotes.iter_mut() {
+            quote.wait.break_off();
+        }
+    }
+
+    /// Ends the waits of the commodities with a route by the place that is no longer than their price.
+    pub(crate) fn end_waits_near(&mut self, lengths: &Lengths, k: usize)
+        ensures { self.new ≡ self.old }
+    {
+        end_near(lengths, k, &mut self.quotes);
+    }
+}
+
+/// Ends the waits of the commodities with a route by the place that is no longer than their price.
+fn end_near(lengths: &Lengths, k: usize, quotes: &mut [Quote]) {
+    for i in 0..lengths.size() {
+        let quotes = row_mut(quotes, i, lengths.size());
+        for (j, quote) in quotes.iter_mut().enumerate() {
+            if Commodity::of(lengths, i, j).is_near(k, quote.price.wrapping_add(1)) {
+                quote.wait = NO_WAIT;
+            }
+        }
     }
 }
 

@@ -9,14 +9,26 @@ use crate::origins::Terms;
 use crate::places::{Commodity, PlaceValues};
 use crate::ramps::{NO_TURN, Turn, set_order};
 use crate::routes::{Route, SetRoutes};
-use crate::rows::{copy, fill, is_marked, row_mut};
+use crate::rows::{amount_at, at, copy, fill, is_marked, put, row, row_mut};
 use crate::state::{State, Sums};
+use crate::waits::Quote;
+use search_advice::Side;
 use std::alloc::{AllocError, Global};
+
+/// The price of a commodity that is tight at its route over a set, and the values of the route's hubs; where these are
+/// one, it has the first.
+#[derive(Clone, Copy)]
+struct TightRoute {
+    price: u32,
+    first: u32,
+    last: u32,
+}
 
 /// What it takes to tighten duals: the routes over the set, the order of the other places, and the sums that come out.
 #[derive(Drop)]
 pub(crate) struct Tightening {
     marks: Vec<bool>,
+    all: Vec<Turn>,
     order: Vec<Turn>,
     routes: SetRoutes,
     values: PlaceValues,
@@ -28,7 +40,8 @@ impl Tightening {
     pub(crate) fn new(alloc: Global, size: usize, places: usize) -> Result<Tightening, AllocError> {
         Ok(Tightening {
             marks: vec![in alloc; false; places]?,
-            order: vec![in alloc; NO_TURN; places]?,
+            all: vec![in alloc; NO_TURN; places]?,
+            order: Vec::with_capacity(alloc, places)?,
             routes: SetRoutes::new(alloc, size, places)?,
             values: PlaceValues::new(alloc, places)?,
             sums: Sums::new(alloc, places)?,
@@ -48,9 +61,18 @@ impl Tightening {
         terms: Terms<'_>,
         loads: &[i64],
     ) {
-        copy(marks, &mut self.marks);
-        set_order(terms.ramps, loads, &mut self.order);
-        self.routes.take(lengths, marks);
+        set_order(terms.ramps, loads, &mut self.all);
+        self.order.clear();
+        for turn in &self.all {
+            if !is_marked(marks, turn.place) {
+                // It succeeds, since there is room for all places.
+                let _ = self.order.push(*turn);
+            }
+        }
+        if self.marks.as_slice() != marks {
+            copy(marks, &mut self.marks);
+            self.routes.take(lengths, marks);
+        }
     }
 
     /// Finds the duals, nearest to these, that are tight at the set, and their sums. They take the place of these if
@@ -58,14 +80,14 @@ impl Tightening {
     fn tighten_all(
         &mut self,
         lengths: &Lengths,
-        prices: &mut [u32],
+        quotes: &mut [Quote],
         values: &mut [u32],
         keeps: bool,
     ) {
         self.sums.total = 0;
         fill(&mut self.sums.loads, 0);
         for i in 0..lengths.size() {
-            self.tighten_origin(lengths, i, prices, values, keeps);
+            self.tighten_origin(lengths, i, quotes, values, keeps);
         }
     }
 
@@ -75,19 +97,19 @@ impl Tightening {
         &mut self,
         lengths: &Lengths,
         i: usize,
-        prices: &mut [u32],
+        quotes: &mut [Quote],
         values: &mut [u32],
         keeps: bool,
     ) {
-        let prices = row_mut(prices, i, lengths.size());
+        let quotes = row_mut(quotes, i, lengths.size());
         let values = row_mut(values, i, lengths.origin_values());
-        for (j, (price, flow)) in prices.iter_mut().zip(lengths.flows(i)).enumerate() {
+        for (j, (quote, flow)) in quotes.iter_mut().zip(lengths.flows(i)).enumerate() {
             if *flow > 0 {
                 let values = row_mut(values, j, lengths.places());
                 let tight = self.tighten(lengths, i, j, values);
                 self.add(*flow as i64, tight);
                 if keeps {
-                    *price = tight;
+                    quote.price = tight;
                     copy(self.values.values(), values);
                 }
             }
@@ -98,36 +120,76 @@ impl Tightening {
     fn tighten(&mut self, lengths: &Lengths, i: usize, j: usize, values: &[u32]) -> u32 {
         let legs = Commodity::of(lengths, i, j);
         let route = self.routes.shortest(i, j);
-        self.values.take(values, &legs);
+        let tight = self.tight_route(i, j, route, values);
+        self.values.begin_from(tight.price, values);
         for k in self.routes.hubs() {
             if !route.uses(*k) {
-                self.values.set(&legs, *k, 0);
+                self.values.settle(lengths, &legs, *k, 0);
             }
         }
-        let price = self.lower_route(&legs, i, j, route);
+        self.values.settle(lengths, &legs, route.first, tight.first);
+        if route.last != route.first {
+            self.values.settle(lengths, &legs, route.last, tight.last);
+        }
+        for turn in self.order.iter().rev() {
+            self.values.suspend(lengths, &legs, turn.place);
+        }
         for turn in &self.order {
-            if !is_marked(&self.marks, turn.place) {
-                self.values.set_asked(lengths, &legs, turn.place, price);
-            }
+            self.values.settle_asked(lengths, &legs, turn.place);
         }
-        price
+        tight.price
     }
 
-    /// Lowers the values of the route's hubs to what the routes without them leave, and gives the price.
-    fn lower_route(&mut self, legs: &Commodity<'_>, i: usize, j: usize, route: Route) -> u32 {
+    /// Lowers the values of the route's hubs to what the routes without them leave.
+    fn tight_route(&self, i: usize, j: usize, route: Route, values: &[u32]) -> TightRoute {
         let (k, m) = (route.first, route.last);
         let neither = self.routes.without(i, j, k, m).saturating_sub(route.length);
         let without_first = self.routes.without(i, j, k, k).saturating_sub(route.length);
-        let without_last = self.routes.without(i, j, m, m).saturating_sub(route.length);
-        let first = self.values.value(k).min(without_first).min(neither);
-        self.values.set(legs, k, first);
+        let first = at(values, k).min(without_first).min(neither);
         if k == m {
-            return route.length.wrapping_add(first);
+            return TightRoute {
+                price: route.length.wrapping_add(first),
+                first,
+                last: 0,
+            };
         }
+        let without_last = self.routes.without(i, j, m, m).saturating_sub(route.length);
         let room = without_last.min(neither.saturating_sub(first));
-        let last = self.values.value(m).min(room);
-        self.values.set(legs, m, last);
-        route.length.wrapping_add(first).wrapping_add(last)
+        let last = at(values, m).min(room);
+        TightRoute {
+            price: route.length.wrapping_add(first).wrapping_add(last),
+            first,
+            last,
+        }
+    }
+
+    /// Sets the sums to those of the duals that are tight at the set and nearest to these values, but for the loads of
+    /// other places, which count as none: the bound by these sums is no less than by all.
+    fn sum_hubs(&mut self, lengths: &Lengths, values: &[u32]) {
+        self.sums.total = 0;
+        fill(&mut self.sums.loads, 0);
+        for i in 0..lengths.size() {
+            let values = row(values, i, lengths.origin_values());
+            for (j, flow) in lengths.flows(i).iter().enumerate() {
+                if *flow > 0 {
+                    let route = self.routes.shortest(i, j);
+                    let values = row(values, j, lengths.places());
+                    let tight = self.tight_route(i, j, route, values);
+                    self.add_route(*flow as i64, route, tight);
+                }
+            }
+        }
+    }
+
+    /// Adds a commodity with this flow and tight route to the sums.
+    fn add_route(&mut self, flow: i64, route: Route, tight: TightRoute) {
+        let total = flow.wrapping_mul(tight.price as i64);
+        self.sums.total = self.sums.total.wrapping_add(total);
+        for (k, value) in [(route.first, tight.first), (route.last, tight.last)] {
+            let load = amount_at(&self.sums.loads, k);
+            let added = flow.wrapping_mul(value as i64);
+            put(&mut self.sums.loads, k, load.wrapping_add(added));
+        }
     }
 
     /// Adds a commodity with this flow and price to the sums.
@@ -148,12 +210,25 @@ fn add_weighed(flow: i64, values: &[u32], loads: &mut [i64]) {
 }
 
 impl State {
+    /// Tells whether the duals that are tight at the set that the tightening began with may come to this bound, where
+    /// the sides are these.
+    pub(crate) fn may_tighten(
+        &self,
+        lengths: &Lengths,
+        tightening: &mut Tightening,
+        sides: &[Side],
+        wanted: i128,
+    ) -> bool {
+        tightening.sum_hubs(lengths, &self.values);
+        tightening.sums.bound(lengths, sides) >= wanted
+    }
+
     /// Finds the duals that are nearest to these and tight at the set that the tightening began with; its sums are
     /// those of these duals. They take the place of the present ones if they are to be kept.
     pub(crate) fn tighten(&mut self, lengths: &Lengths, tightening: &mut Tightening, keeps: bool)
         ensures { self.new ≡ self.old }
     {
-        tightening.tighten_all(lengths, &mut self.prices, &mut self.values, keeps);
+        tightening.tighten_all(lengths, &mut self.quotes, &mut self.values, keeps);
         if keeps {
             self.sums.take(tightening.sums());
         }
