@@ -27,7 +27,7 @@ const EARLY_PASSES: usize = 3;
 /// Gives advice at the nodes of a search, one after another. It is seen as the shape of its instance.
 ///
 /// Duals and prices go on from node to node, so that a child starts from its parent's; a memory leads back to those that
-/// were put aside at an earlier node. Of what is put aside the first two are kept, and the others forgotten.
+/// were put aside at an earlier node. Of what is put aside the first eight are kept, and the others forgotten.
 #[derive(Drop)]
 pub struct Adviser {
     workers: u32,
@@ -268,18 +268,15 @@ impl Advice for Adviser {
     fn put_aside(&mut self, alloc: Global) -> Result<(), AllocError>
         ensures { self.new ≡ self.old }
     {
-        self.memories
-            .put(alloc, &self.state, &self.node.sides, &self.node.prices)
+        self.memories.put(alloc, &self.state, &self.node)
     }
 
     fn go_back(&mut self)
         ensures { self.new ≡ self.old }
     {
-        self.memories.step_back();
-        if let Some(memory) = self.memories.next() {
-            self.state.copy_from(&memory.state);
-            copy(&memory.sides, &mut self.node.sides);
-            copy(&memory.prices, &mut self.node.prices);
+        if let Some(memory) = self.memories.take_back() {
+            self.state.recall(&memory);
+            memory.recall_node(&mut self.node);
         }
     }
 }

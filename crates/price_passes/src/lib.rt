@@ -7,18 +7,19 @@
 //!
 //! Each place, a candidate counted from 0, has a price between 0 (closed) and full (open). It rises with the place's
 //! load, the sum of its values weighed by the flows: at the fixed cost it is what it was at the end of the pass
-//! before. A pass goes over all commodities. Each gets the values that are best at the prices, mixed with its old
-//! ones where the whole step would go too far, and loads and prices follow at once. Several origins start from the same
+//! before. A pass goes over the commodities. Each gets the values that are best at the prices, mixed with its old
+//! ones where the whole step would go too far, and loads and prices follow at once. One that hardly gains by that waits: the
+//! next passes leave it out. Several origins start from the same
 //! loads, so that workers can do them side by side; a pass comes out the same, whatever the workers. The prices, rounded,
 //! name a hub set, and a local search betters it; where the bound is near its cost, the duals are made tight at it, so
 //! that the bound becomes the cost.
 //!
 //! In the order of reading: `units` and `lengths` (the instance in 32 bits), `rows` (lists and tables), `ramps`
 //! (prices and orders by loads), `places` (a commodity's legs and values), `network` and `oracle` (the best values at
-//! prices), `mixing` (a step), `origins` (the duals of one origin), `batches` (origins side by side), `state` and `passes`
-//! (all duals, and one pass), `routes` (shortest routes over a hub set), `tightening` (duals tight at a set), `moves` (a
-//! local search over sets), `node`, `guess`, `progress` and `memory` (what is known at a node, and at nodes before),
-//! `adviser` (what callers use).
+//! prices), `mixing` (a step), `waits` (who waits), `origins` (the duals of one origin), `batches` (origins side by side),
+//! `state` and `passes` (all duals, and one pass), `routes` (shortest routes over a hub set), `tightening` (duals tight at a
+//! set), `moves` (a local search over sets), `node`, `guess`, `progress` and `memory` (what is known at a node, and at nodes
+//! before), `adviser` (what callers use).
 #![tactic(auto)]
 
 mod adviser;

@@ -1,46 +1,119 @@
 //! What an adviser knew at nodes, to go back to it.
 
-use crate::rows::copy;
-use crate::state::State;
+ghost use Rattle.std.specs.Prelude.{◌≡◌};
+
+use crate::node::Node;
+use crate::rows::{at, copy, fill, put, row, row_mut};
+use crate::state::{State, Sums};
+use crate::waits::Quote;
 use search_advice::Side;
 use std::alloc::{AllocError, Global};
 
-/// So many memories there are at most. Each takes four bytes for each commodity and place.
-const MOST_MEMORIES: usize = 2;
+/// So many memories there are at most.
+const MOST_MEMORIES: usize = 8;
+
+/// Values of all commodities, but for those that are 0: how many each commodity has, and one after another their places
+/// and the values themselves.
+#[derive(Drop)]
+struct SparseValues {
+    counts: Vec<u32>,
+    places: Vec<u8>,
+    values: Vec<u32>,
+}
+
+impl SparseValues {
+    /// The values, of so many places for each commodity.
+    fn of(alloc: Global, values: &[u32], places: usize) -> Result<SparseValues, AllocError> {
+        let mut some = 0usize;
+        for value in values {
+            if *value > 0 {
+                some = some.wrapping_add(1);
+            }
+        }
+        let commodities = values.len() / places.max(1);
+        let mut sparse = SparseValues {
+            counts: Vec::with_capacity(alloc, commodities)?,
+            places: Vec::with_capacity(alloc, some)?,
+            values: Vec::with_capacity(alloc, some)?,
+        };
+        for commodity in 0..commodities {
+            let before = sparse.values.len();
+            sparse.add(row(values, commodity, places))?;
+            let count = sparse.values.len().wrapping_sub(before);
+            sparse.counts.push(count.min(u32::MAX as usize) as u32)?;
+        }
+        Ok(sparse)
+    }
+
+    /// Adds the values of a commodity. There are fewer places than a byte can tell.
+    fn add(&mut self, values: &[u32]) -> Result<(), AllocError> {
+        for (k, value) in values.iter().enumerate() {
+            if *value > 0 {
+                self.places.push(k.min(u8::MAX as usize) as u8)?;
+                self.values.push(*value)?;
+            }
+        }
+        Ok(())
+    }
+
+    /// Puts the values in place of those of the list.
+    fn put_into(&self, places: usize, values: &mut [u32]) {
+        fill(values, 0);
+        let mut first = 0usize;
+        for (commodity, count) in self.counts.iter().enumerate() {
+            let values = row_mut(values, commodity, places);
+            let end = first.wrapping_add(*count as usize);
+            for entry in first..end {
+                let k = self.places.get(entry).copied().unwrap_or(0);
+                put(values, k as usize, at(&self.values, entry));
+            }
+            first = end;
+        }
+    }
+}
 
 /// The duals of an adviser, and the sides and prices of the node.
 #[derive(Drop)]
 pub(crate) struct Memory {
-    pub(crate) state: State,
-    pub(crate) sides: Vec<Side>,
-    pub(crate) prices: Vec<i64>,
+    quotes: Vec<Quote>,
+    values: SparseValues,
+    sums: Sums,
+    sides: Vec<Side>,
+    prices: Vec<i64>,
 }
 
 impl Memory {
-    /// A memory of these duals, sides and prices.
-    fn of(
-        alloc: Global,
-        state: &State,
-        sides: &[Side],
-        prices: &[i64],
-    ) -> Result<Memory, AllocError> {
+    /// A memory of these duals and this node.
+    pub(crate) fn of(alloc: Global, state: &State, node: &Node) -> Result<Memory, AllocError> {
         Ok(Memory {
-            state: state.copied(alloc)?,
-            sides: sides.to_vec(alloc)?,
-            prices: prices.to_vec(alloc)?,
+            quotes: state.quotes.to_vec(alloc)?,
+            values: SparseValues::of(alloc, &state.values, state.places)?,
+            sums: state.sums.copied(alloc)?,
+            sides: node.sides.to_vec(alloc)?,
+            prices: node.prices.to_vec(alloc)?,
         })
     }
 
-    /// Makes these the duals, the sides and the prices, as far as the lists go.
-    fn take(&mut self, state: &State, sides: &[Side], prices: &[i64]) {
-        self.state.copy_from(state);
-        copy(sides, &mut self.sides);
-        copy(prices, &mut self.prices);
+    /// Puts the sides and prices back in their place.
+    pub(crate) fn recall_node(&self, node: &mut Node) {
+        copy(&self.sides, &mut node.sides);
+        copy(&self.prices, &mut node.prices);
     }
 }
 
-/// The memories of an adviser, and how often something has been put aside and not gone back to. What was put aside first has
-/// the first memory; past the last memory it is forgotten.
+impl State {
+    /// Makes these the duals of the memory, as far as the lists go.
+    pub(crate) fn recall(&mut self, memory: &Memory)
+        ensures { self.new ≡ self.old }
+    {
+        copy(&memory.quotes, &mut self.quotes);
+        memory.values.put_into(self.places, &mut self.values);
+        self.sums.take(&memory.sums);
+    }
+}
+
+/// The memories of an adviser, and how often something has been put aside and not gone back to. Past the last memory it is
+/// forgotten.
 #[derive(Drop)]
 pub(crate) struct Memories {
     items: Vec<Memory>,
@@ -56,45 +129,27 @@ impl Memories {
         }
     }
 
-    /// Puts the duals, the sides and the prices aside.
+    /// Puts the duals and the node aside.
     pub(crate) fn put(
         &mut self,
         alloc: Global,
         state: &State,
-        sides: &[Side],
-        prices: &[i64],
+        node: &Node,
     ) -> Result<(), AllocError> {
         if self.aside < MOST_MEMORIES {
-            self.put_next(alloc, state, sides, prices)?;
+            self.items.push(Memory::of(alloc, state, node)?)?;
         }
         self.aside = self.aside.saturating_add(1);
         Ok(())
     }
 
-    /// Puts the duals, the sides and the prices into the first memory that is not in use, a new one if there is none.
-    fn put_next(
-        &mut self,
-        alloc: Global,
-        state: &State,
-        sides: &[Side],
-        prices: &[i64],
-    ) -> Result<(), AllocError> {
-        if let Some(memory) = self.items.get_mut(self.aside) {
-            memory.take(state, sides, prices);
-            return Ok(());
-        }
-        let memory = Memory::of(alloc, state, sides, prices)?;
-        self.items.push(memory)?;
-        Ok(())
-    }
-
-    /// Leaves what was put aside last aside no longer.
-    pub(crate) fn step_back(&mut self) {
+    /// Takes back what was put aside last, unless it was forgotten.
+    pub(crate) fn take_back(&mut self) -> Option<Memory> {
         self.aside = self.aside.saturating_sub(1);
-    }
-
-    /// The first memory that is not in use, if there is one.
-    pub(crate) fn next(&self) -> Option<&Memory> {
-        self.items.get(self.aside)
+        if self.items.len() > self.aside {
+            self.items.pop()
+        } else {
+            None
+        }
     }
 }

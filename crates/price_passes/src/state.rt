@@ -82,28 +82,6 @@ impl State {
         self.sums.bound(lengths, sides)
     }
 
-    /// The same duals.
-    pub fn copied(&self, alloc: Global) -> Result<State, AllocError>
-        ensures { IfOk result (λ s. s ≡ self.now) }
-    {
-        Ok(State {
-            size: self.size,
-            places: self.places,
-            quotes: self.quotes.to_vec(alloc)?,
-            values: self.values.to_vec(alloc)?,
-            sums: self.sums.copied(alloc)?,
-        })
-    }
-
-    /// Makes these the duals of another state, as far as both lists go.
-    pub fn copy_from(&mut self, other: &State)
-        ensures { self.new ≡ self.old }
-    {
-        copy(&other.quotes, &mut self.quotes);
-        copy(&other.values, &mut self.values);
-        self.sums.take(&other.sums);
-    }
-
     /// Ends all waits, as if there had been none.
     pub(crate) fn end_waits(&mut self)
         ensures { self.new ≡ self.old }
@@ -152,7 +130,7 @@ impl Sums {
     }
 
     /// The same sums.
-    fn copied(&self, alloc: Global) -> Result<Sums, AllocError> {
+    pub(crate) fn copied(&self, alloc: Global) -> Result<Sums, AllocError> {
         Ok(Sums {
             total: self.total,
             loads: self.loads.to_vec(alloc)?,
