@@ -1,5 +1,5 @@
 -- The choice of a kept cut for a leaf, and the leaves that come of it.
-use Rattle.std.proofs.Common.{◌≡◌, ℕ, ◌^◌, ◌<◌, ◌≤◌, ℤ, pos, ◌≤ℤ◌, List, [], length, All, Option, None, Some, IfSome, ◌⊎◌, inl, inr, refl, sym, subst, arith}
+use Rattle.std.proofs.Common.{◌≡◌, ℕ, ◌^◌, ◌<◌, ◌≤◌, ℤ, pos, negsuc, ◌≤ℤ◌, List, [], length, All, Option, None, Some, IfSome, ◌⊎◌, inl, inr, refl, sym, subst, arith}
 use Rattle.std.proofs.lemmas.Int.{ints}
 use Rattle.std.proofs.lemmas.List.{length-map}
 use Rattle.std.proofs.lemmas.List.Elements.{All-nil, All-cons}
@@ -20,7 +20,7 @@ use Rattle.closing_search.specs.declared.leaves.Choice.{Choice}
 use Rattle.closing_search.specs.SingleCuts.{cut_bound, weights_on, IsChoice}
 use Rattle.closing_search.proofs.KeptSums.{kept_are_whole}
 use Rattle.closing_search.proofs.SingleBounds.{bare_not_below}
-use Rattle.closing_search.proofs.Steps.{stop_below}
+use Rattle.closing_search.proofs.Steps.{left_below}
 use Rattle.closing_search.proofs.Unlimited.{any_room}
 
 -- the bound by one cut of a list is the bound by the cut alone
@@ -115,14 +115,33 @@ pub next_within : (best other next : Choice) → IsWithin most_bound best.bound 
 next_within best other next low high (inl same) = subst (λ (x : Choice). IsWithin most_bound x.bound) (sym same) low
 next_within best other next low high (inr new) = subst (λ (x : Choice). IsWithin most_bound x.bound) (sym new.1) high
 
--- once rounded up, and no more than the incumbent's cost and what an earlier stop left, the bound of the choice closes it
-pub stop_closes : (p : Problem) (cuts : List Cut) (b : Branching) (choice : Choice) (cost r : ℕ) (stop : Option ℕ) → IsChoice p cuts b choice
+-- ---- what a leaf says
+
+-- a bound that is not below 0, or closes some goal, closes itself once rounded up
+said_closes : (bound : ℤ) (goal : ℕ) → (pos 0 ≤ℤ bound) ⊎ Closes denominator goal bound → Closes denominator (rounded_up bound) bound
+said_closes bound goal (inl low) = rounded_closes bound low
+said_closes (pos n) goal (inr closes) = rounded_closes (pos n) (omega (arith, ints))
+said_closes (negsuc n) goal (inr closes) = closes_less denominator goal 0 (negsuc n) (omega arith) closes
+
+-- and is then no less than the goal
+pub said_least : (bound : ℤ) (goal : ℕ) → Closes denominator goal bound → goal ≤ rounded_up bound
+said_least (pos n) goal closes = omega (arith, ints, closes)
+said_least (negsuc n) goal closes = omega (arith, ints, closes)
+
+-- once rounded up, and no more than the incumbent's cost and what earlier leaves say, it closes itself
+pub left_closes : (bound : ℤ) (goal cost r : ℕ) (left : Option ℕ) → (pos 0 ≤ℤ bound) ⊎ Closes denominator goal bound
+    → r ≡ rounded_up bound → Closes denominator (lesser cost (Some (lesser r left))) bound
+left_closes bound goal cost r left sound up =
+    closes_less denominator r (lesser cost (Some (lesser r left))) bound (left_below cost r left)
+    (subst (λ (n : ℕ). Closes denominator n bound) (sym up) (said_closes bound goal sound))
+
+-- so does the bound of the choice
+pub choice_closes : (p : Problem) (cuts : List Cut) (b : Branching) (choice : Choice) (cost r : ℕ) (left : Option ℕ) → IsChoice p cuts b choice
     → r ≡ rounded_up choice.bound
-    → Closes denominator (lesser cost (Some (lesser r stop))) (leaf_bound p cuts denominator (weights_on choice.number) b)
-stop_closes p cuts b choice cost r stop is up =
-    subst (λ (z : ℤ). Closes denominator (lesser cost (Some (lesser r stop))) z) is.bound
-    (closes_less denominator r (lesser cost (Some (lesser r stop))) choice.bound (stop_below cost r stop)
-    (subst (λ (n : ℕ). Closes denominator n choice.bound) (sym up) (rounded_closes choice.bound is.low)))
+    → Closes denominator (lesser cost (Some (lesser r left))) (leaf_bound p cuts denominator (weights_on choice.number) b)
+choice_closes p cuts b choice cost r left is up =
+    subst (λ (z : ℤ). Closes denominator (lesser cost (Some (lesser r left))) z) is.bound
+    (left_closes choice.bound 0 cost r left (inl is.low) up)
 
 pub number_in : (p : Problem) (cuts : List Cut) (b : Branching) (choice : Choice) → IsChoice p cuts b choice → IsNumber cuts choice.number
 number_in p cuts b choice is = record { least = is.least; most = is.most }

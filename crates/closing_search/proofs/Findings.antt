@@ -1,5 +1,5 @@
 -- What a search found, as a certificate that holds.
-use Rattle.std.proofs.Common.{◌≡◌, ℕ, ◌+◌, ◌^◌, ◌<◌, ◌≤◌, List, [], ◌∷◌, length, All, Option, None, Some, IsSome, IsNone, is_some, true≢false, refl, sym, ap, subst, ◌∙◌, arith}
+use Rattle.std.proofs.Common.{◌≡◌, ℕ, ◌+◌, ◌^◌, ◌<◌, ◌≤◌, List, [], ◌∷◌, length, All, false, Option, None, Some, ◌⊎◌, inl, inr, true≢false, refl, sym, ap, subst, ◌∙◌, arith}
 use Rattle.std.specs.List.{AllZip}
 use Rattle.std.proofs.lemmas.List.{length-map}
 use Rattle.std.proofs.lemmas.List.Elements.{All-nil, All-cons, All-weaker, All-map, All-contains_itself}
@@ -14,6 +14,7 @@ use Rattle.hub_spec.specs.Ranges.{IsCutInRange, IsFirstLine, IsLineInRange, IsIn
 use Rattle.hub_spec.proofs.Commodities.{length_commodities}
 use Rattle.hub_spec.proofs.Limits.{AreNodes, few_candidates, hubs_are_nodes, least_route_nodes, plan_cost_limit}
 use Rattle.hub_spec.proofs.Preorders.{length-preorder}
+use Rattle.hub_spec.proofs.SumLemmas.{by_test}
 use Rattle.hub_spec.proofs.SetCosts.{plan_of_least, set_cost_is, one_set_cost}
 use Rattle.hub_spec.proofs.WeakDuality.{no_plan_below_bound}
 use Rattle.plan_model.specs.Lines.{tree_line_of}
@@ -27,9 +28,11 @@ use Rattle.kept_cuts.specs.declared.found.Found.{Found}
 use Rattle.kept_cuts.specs.Findings.{lines_of, proof_of, IsUnlimited, AreOwn, IsVersionFor, IsProved}
 use Rattle.kept_cuts.proofs.KeptCutLaws.{kept_is_cut, kept_in_range}
 use Rattle.kept_cuts.proofs.Versions.{has_text}
-use Rattle.search_core.specs.declared.tasks.Task.{Task}
+use Rattle.closing_search.specs.declared.task.Task.{Task}
 use Rattle.closing_search.specs.declared.progress.Progress.{Progress}
+use Rattle.closing_search.specs.Gaps.{most_gap, IsWithinGap}
 use Rattle.closing_search.specs.Progressing.{target_of, IsGoing, IsOver}
+use Rattle.closing_search.proofs.Gaps.{all_within}
 use Rattle.closing_search.proofs.Unlimited.{hub_set, any_wanted}
 
 -- the finding is what the search has at its end, with the least routes of the incumbent
@@ -76,7 +79,7 @@ module _ (t : Task) (s : Progress) (found : Found) (over : IsOver t s) (is : IsF
   found_own = rw is.cuts over.going.own
 
   pub found_within : found.bound ≤ found.cost
-  found_within = omega (arith, is.bound, is.cost, lesser_least s.cost s.stop)
+  found_within = omega (arith, is.bound, is.cost, lesser_least s.cost s.left)
 
   found_holds : (h : HasTree t.instance.now found) (version : ℕ)
       → Holds t.instance.now (proof_of version t.instance.now found h.tree)
@@ -150,27 +153,21 @@ module _ (t : Task) (s : Progress) (found : Found) (over : IsOver t s) (is : IsF
   pub found_allowed : AreWithin t.nodes (length found.tree.items)
   found_allowed = subst (AreWithin t.nodes) (sym found_made) over.going.allowed
 
-  pub found_spent : found.bound < found.cost → IsSpent t.nodes (length found.tree.items)
+  found_near : s.stopped ≡ false → IsWithinGap t.gap found.bound found.cost
+  found_near goes = rw (is.bound, is.cost) (over.going.near goes)
+
+  pub found_spent : found.bound < found.cost → IsSpent t.nodes (length found.tree.items) ⊎ IsWithinGap t.gap found.bound found.cost
   found_spent less =
-      subst (IsSpent t.nodes) (sym found_made)
-      (spent_when t.nodes s.cost s.stop s.made over.going.spent (omega (arith, less, is.bound, is.cost)))
-    where
-      spent_when : (n : Option ℕ) (cost : ℕ) (stop : Option ℕ) (made : ℕ) → (IsSome stop → IsSpent n made) → lesser cost stop < cost → IsSpent n made
-      spent_when n cost None made spent less = absurd (omega (arith, less))
-      spent_when n cost (Some low) made spent less = spent refl
+      by_test s.stopped (λ stopped. inl (subst (IsSpent t.nodes) (sym found_made) (over.going.spent stopped)))
+      (λ goes. inr (found_near goes))
 
   pub found_most : length found.tree.items + 1 ≤ 2 ^ (length t.instance.now.candidates + 1)
   found_most = omega (arith, found_made, over.most)
 
-  pub found_enough : IsEnough (2 ^ (length t.instance.now.candidates + 1)) t.nodes → found.bound ≡ found.cost
-  found_enough enough =
-      is.bound ∙ whole_when s.cost s.stop (over.enough enough) ∙ sym is.cost
-    where
-      whole_when : (cost : ℕ) (stop : Option ℕ) → IsNone stop → lesser cost stop ≡ cost
-      whole_when cost None none = refl
-      whole_when cost (Some low) none = absurd (true≢false none)
+  pub found_enough : IsEnough (2 ^ (length t.instance.now.candidates + 1)) t.nodes → IsWithinGap t.gap found.bound found.cost
+  found_enough enough = found_near (over.enough enough)
 
-  pub found_whole : t.nodes ≡ None → found.bound ≡ found.cost
+  pub found_whole : t.nodes ≡ None → IsWithinGap t.gap found.bound found.cost
   found_whole none = found_enough (subst (IsEnough (2 ^ (length t.instance.now.candidates + 1))) (sym none) tt)
 
   pub found_at_most : (cost : ℕ) → IsSetCost t.instance.now t.instance.now.candidates cost → found.cost ≤ cost
@@ -197,14 +194,10 @@ within_one : (n : Option ℕ) → AreWithin n 1
 within_one None = tt
 within_one (Some m) = λ some. some
 
-no_stop : (o : Option ℕ) (n : Option ℕ) (made : ℕ) → o ≡ None → IsSome o → IsSpent n made
-no_stop None n made none some = absurd (true≢false (sym some))
-no_stop (Some m) n made none some = absurd (true≢false (ap is_some none))
-
-pub begun_going : (t : Task) (s : Progress) → IsProblem t.instance.now → IsUnlimited t.instance.now
+pub begun_going : (t : Task) (s : Progress) → IsProblem t.instance.now → IsUnlimited t.instance.now → t.gap ≤ most_gap
     → s.cuts ≡ record { cuts = []; totals = []; loads = [] } → s.lines.items ≡ [] → s.hubs ≡ t.instance.now.candidates
-    → IsSetCost t.instance.now s.hubs s.cost → s.made ≡ 1 → s.stop ≡ None → IsGoing t s
-begun_going t s ok any cuts lines hubs is_cost made stop =
+    → IsSetCost t.instance.now s.hubs s.cost → s.made ≡ 1 → s.stopped ≡ false → s.left ≡ None → IsGoing t s
+begun_going t s ok any gap cuts lines hubs is_cost made stopped left =
     let p = t.instance.now in
     record {
       problem = ok;
@@ -221,7 +214,9 @@ begun_going t s ok any cuts lines hubs is_cost made stop =
       cost_limit = set_cost_within p s.hubs s.cost ok is_cost;
       made = omega (arith, made);
       allowed = rw made (within_one t.nodes);
-      spent = no_stop s.stop t.nodes s.made stop;
+      spent = λ stop. absurd (true≢false (sym stop ∙ stopped));
+      gap_limit = gap;
+      near = λ goes. rw left (all_within t.gap s.cost s.cost (omega arith));
     }
 
 -- ---- the end

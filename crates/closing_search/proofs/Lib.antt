@@ -1,3 +1,4 @@
+pub mod Gaps
 pub mod SingleBounds
 pub mod KeptSums
 pub mod Steps
@@ -6,3 +7,4 @@ pub mod SetLeaves
 pub mod Findings
 pub mod Walks
 pub mod Unlimited
+pub mod Ungapped

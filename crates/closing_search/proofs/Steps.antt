@@ -1,5 +1,5 @@
 -- How the steps of a search follow one another.
-use Rattle.std.proofs.Common.{◌≡◌, ℕ, zero, suc, ◌+◌, ◌-◌, ◌^◌, ◌<◌, ◌≤◌, List, [], ◌∷◌, ◌++◌, length, All, Bool, true, false, Option, None, Some, IsSome, IsNone, refl, sym, ap, subst, ◌∙◌, append-nil, pow_pos, arith}
+use Rattle.std.proofs.Common.{◌≡◌, ℕ, zero, suc, ◌+◌, ◌-◌, ◌^◌, ◌<◌, ◌≤◌, List, [], ◌∷◌, ◌++◌, length, All, Bool, true, false, IsTrue, Option, None, Some, refl, sym, ap, subst, ◌∙◌, append-nil, pow_pos, arith}
 use Rattle.std.proofs.lemmas.List.{length_push, map_push}
 use Rattle.std.proofs.lemmas.List.Elements.{All-push}
 use Rattle.hub_spec.specs.Limits.{most_cuts, most_tree_lines}
@@ -19,10 +19,12 @@ use Rattle.tree_walks.specs.Walks.{IsSoundLine, filled, Walks}
 use Rattle.tree_walks.proofs.Walking.{goes_on, stays}
 use Rattle.kept_cuts.specs.Kept.{Kept, kept_cut, IsOwn, IsKeptFor, AreKeptFor}
 use Rattle.kept_cuts.specs.Findings.{lines_of}
-use Rattle.search_core.specs.declared.tasks.Task.{Task}
+use Rattle.closing_search.specs.declared.task.Task.{Task}
 use Rattle.closing_search.specs.declared.progress.Progress.{Progress}
+use Rattle.closing_search.specs.Gaps.{IsWithinGap}
 use Rattle.closing_search.specs.SingleCuts.{AreLoads}
-use Rattle.closing_search.specs.Progressing.{cuts_of, target_of, WalksTo, IsGoing, IsAt, IsEndLine, IsDone, IsHalved, IsAdvised, IsOver}
+use Rattle.closing_search.specs.Progressing.{cuts_of, target_of, WalksTo, IsGoing, IsAt, IsEndLine, MayBeWhole, IsDone, IsHalved, IsAdvised, IsOver}
+use Rattle.closing_search.proofs.Gaps.{fallen_within}
 use Rattle.closing_search.proofs.KeptSums.{kept_more}
 
 -- what is led to stays so
@@ -38,7 +40,8 @@ pub record HasLine (before after : Progress) (line : model.TreeLine) (count : �
   pub hubs : after.hubs ≡ before.hubs
   pub cost : after.cost ≡ before.cost
   pub made : after.made ≡ count
-  pub stop : after.stop ≡ before.stop
+  pub stopped : after.stopped ≡ before.stopped
+  pub left : after.left ≡ before.left
 
 line_more : (before after : Progress) (line : model.TreeLine) (count : ℕ) → HasLine before after line count
     → length after.lines.items ≡ length before.lines.items + 1
@@ -48,7 +51,7 @@ line_walks : (p : Problem) (before after : Progress) (line : model.TreeLine) (co
     → HasLine before after line count → IsSoundLine p (cuts_of p before) (target_of before) b (tree_line_of line)
     → WalksTo p before first (b ∷ pending) → WalksTo p after first (filled b (tree_line_of line) pending)
 line_walks p before after line count b first pending has sound walks =
-    rw (has.cuts, has.cost, has.stop, has.lines, map_push tree_line_of before.lines.items line)
+    rw (has.cuts, has.cost, has.left, has.lines, map_push tree_line_of before.lines.items line)
     (goes_on p (cuts_of p before) (target_of before) first (lines_of before.lines.items) b pending (tree_line_of line) walks sound)
 
 spent_on : (n : Option ℕ) (made more : ℕ) → made ≤ more → IsSpent n made → IsSpent n more
@@ -77,7 +80,9 @@ line_going t before after line count going has few in_range first more less with
   made = omega (arith, has.made, less, going.made, line_more before after line count has);
   allowed = subst (AreWithin t.nodes) (sym has.made) within;
   spent = λ stopped. subst (IsSpent t.nodes) (sym has.made)
-      (spent_on t.nodes before.made count more (going.spent (subst (λ (o : Option ℕ). IsSome o) has.stop stopped)));
+      (spent_on t.nodes before.made count more (going.spent (subst (λ (x : Bool). IsTrue x) has.stopped stopped)));
+  gap_limit = going.gap_limit;
+  near = rw (has.stopped, has.cost, has.left) going.near;
 }
 
 pub line_done : (t : Task) (b : Branching) (before after : Progress) (line : model.TreeLine) → IsGoing t before → IsEndLine (tree_line_of line)
@@ -94,7 +99,7 @@ line_done t b before after line going end sound in_range first few has =
           (line_walks p before after line before.made b first pending has sound walks);
       lines = omega (arith, line_more before after line before.made has, has.made);
       most = omega (arith, has.made, double (length b.free), pow_pos (length b.free));
-      enough = λ room none. subst (λ (o : Option ℕ). IsNone o) (sym has.stop) none;
+      enough = λ room none. has.stopped ∙ none;
     }
 
 pub line_halved : (t : Task) (b : Branching) (k : ℕ) (before after : Progress) (line : model.TreeLine) → IsGoing t before
@@ -113,13 +118,13 @@ line_halved t b k before after line going is sound node within few has =
           (subst (IsSoundLine p (cuts_of p before) (target_of before) b) (sym is) sound) walks);
       lines = line_more before after line (before.made + 2) has;
       made = has.made;
-      stop = has.stop;
+      stopped = has.stopped;
     }
 
 -- ---- no line more
 
 pub at_same : (t : Task) (s : Progress) → IsGoing t s → IsAt t s s
-at_same t s going = record { going = going; walks = λ first last walks. walks; lines = refl; made = refl; stop = refl }
+at_same t s going = record { going = going; walks = λ first last walks. walks; lines = refl; made = refl; stopped = refl }
 
 pub at_twice : (t : Task) (before middle after : Progress) → IsAt t before middle → IsAt t middle after → IsAt t before after
 at_twice t before middle after one two = record {
@@ -127,7 +132,7 @@ at_twice t before middle after one two = record {
   walks = λ first last walks. two.walks first last (one.walks first last walks);
   lines = two.lines ∙ one.lines;
   made = two.made ∙ one.made;
-  stop = two.stop ∙ one.stop;
+  stopped = two.stopped ∙ one.stopped;
 }
 
 pub at_done : (t : Task) (b : Branching) (before middle after : Progress) → IsAt t before middle → IsDone t b middle after → IsDone t b before after
@@ -137,7 +142,7 @@ at_done t b before middle after at done = record {
   lines = omega (arith, at.lines, at.made, done.lines);
   most = omega (arith, at.made, done.most);
   enough = λ room none. done.enough (subst (λ (made : ℕ). IsEnough (made + 2 ^ (length b.free + 1) - 1) t.nodes) (sym at.made) room)
-      (subst (λ (o : Option ℕ). IsNone o) (sym at.stop) none);
+      (at.stopped ∙ none);
 }
 
 -- what advice comes to, told of what stood before the advice was taken
@@ -157,14 +162,15 @@ pub record HasOffer (before after : Progress) : Type 0 where
   pub cuts : after.cuts ≡ before.cuts
   pub lines : after.lines ≡ before.lines
   pub made : after.made ≡ before.made
-  pub stop : after.stop ≡ before.stop
+  pub stopped : after.stopped ≡ before.stopped
+  pub left : after.left ≡ before.left
   pub cost : after.cost ≤ before.cost
 
 pub offer_at : (t : Task) (before after : Progress) → IsGoing t before → HasOffer before after → IsHubSet t.instance.now after.hubs
     → IsSetCost t.instance.now after.hubs after.cost → IsAt t before after
 offer_at t before after going has set is_cost =
     let p = t.instance.now in
-    let falls : lesser after.cost before.stop ≤ target_of before = lesser_less after.cost before.cost before.stop has.cost in
+    let falls : lesser after.cost before.left ≤ target_of before = lesser_less after.cost before.cost before.left has.cost in
     record {
       going = record {
         problem = going.problem;
@@ -181,12 +187,15 @@ offer_at t before after going has set is_cost =
         cost_limit = omega (arith, has.cost, going.cost_limit);
         made = rw (has.lines, has.made) going.made;
         allowed = rw has.made going.allowed;
-        spent = rw (has.made, has.stop) going.spent;
+        spent = rw (has.made, has.stopped) going.spent;
+        gap_limit = going.gap_limit;
+        near = λ goes. subst (λ (o : Option ℕ). IsWithinGap t.gap (lesser after.cost o) after.cost) (sym has.left)
+            (fallen_within t.gap before.cost after.cost before.left going.gap_limit has.cost (going.near (sym has.stopped ∙ goes)));
       };
-      walks = λ first last walks. rw (has.cuts, has.stop, has.lines) (target_falls p before (lesser after.cost before.stop) falls first last walks);
+      walks = λ first last walks. rw (has.cuts, has.left, has.lines) (target_falls p before (lesser after.cost before.left) falls first last walks);
       lines = ap (λ ls. length ls.items) has.lines;
       made = has.made;
-      stop = has.stop;
+      stopped = has.stopped;
     }
 
 -- the cut was added, and nothing else
@@ -200,7 +209,8 @@ pub record HasCut (before after : Progress) (cut : Kept) (sum : ℕ) (loads : Li
   pub hubs : after.hubs ≡ before.hubs
   pub cost : after.cost ≡ before.cost
   pub made : after.made ≡ before.made
-  pub stop : after.stop ≡ before.stop
+  pub stopped : after.stopped ≡ before.stopped
+  pub left : after.left ≡ before.left
 
 pub cut_at_step : (t : Task) (before after : Progress) (cut : Kept) (sum : ℕ) (loads : List ℕ) → IsGoing t before → HasCut before after cut sum loads
     → IsOwn cut → IsKeptFor t.instance.now cut → AreLoads t.instance.now (kept_cut t.instance.now cut) sum loads → length before.cuts.cuts < most_cuts
@@ -223,21 +233,27 @@ cut_at_step t before after cut sum loads going has own fits sums few =
         cost_limit = rw has.cost going.cost_limit;
         made = rw (has.lines, has.made) going.made;
         allowed = rw has.made going.allowed;
-        spent = rw (has.made, has.stop) going.spent;
+        spent = rw (has.made, has.stopped) going.spent;
+        gap_limit = going.gap_limit;
+        near = rw (has.stopped, has.cost, has.left) going.near;
       };
-      walks = λ first last walks. rw (has.cuts, has.cost, has.stop, has.lines, map_push (kept_cut p) before.cuts.cuts cut)
+      walks = λ first last walks. rw (has.cuts, has.cost, has.left, has.lines, map_push (kept_cut p) before.cuts.cuts cut)
           (stays p (cuts_of p before) (kept_cut p cut ∷ []) (target_of before) (target_of before) first (lines_of before.lines.items) last (omega arith) walks);
       lines = ap (λ ls. length ls.items) has.lines;
       made = has.made;
-      stop = has.stop;
+      stopped = has.stopped;
     }
 
--- ---- a stop
+-- ---- what a leaf leaves
 
--- only the stop is another
-pub stop_going : (t : Task) (before : Progress) (low : ℕ) → IsGoing t before → IsSpent t.nodes before.made
-    → IsGoing t (record before { stop = Some low })
-stop_going t before low going spent = record {
+-- only what leaves say is another, and there may be a stop
+abbrev pub leaving : Progress → Bool → ℕ → Progress
+leaving s stopped low = record s { stopped = stopped; left = Some low }
+
+-- where two nodes more are not allowed, or the search did not stop and what its leaves close stays within the gap
+pub left_going : (t : Task) (before : Progress) (stopped : Bool) (low : ℕ) → IsGoing t before → (IsTrue stopped → IsSpent t.nodes before.made)
+    → (stopped ≡ false → IsWithinGap t.gap (lesser before.cost (Some low)) before.cost) → IsGoing t (leaving before stopped low)
+left_going t before stopped low going spent near = record {
   problem = going.problem;
   unlimited = going.unlimited;
   kept = going.kept;
@@ -252,16 +268,35 @@ stop_going t before low going spent = record {
   cost_limit = going.cost_limit;
   made = going.made;
   allowed = going.allowed;
-  spent = λ stopped. spent;
+  spent = spent;
+  gap_limit = going.gap_limit;
+  near = near;
 }
 
-stop_falls : (cost r : ℕ) (o : Option ℕ) → lesser cost (Some (lesser r o)) ≤ lesser cost o
-stop_falls cost r None = omega arith
-stop_falls cost r (Some m) = omega arith
+left_falls : (cost r : ℕ) (o : Option ℕ) → lesser cost (Some (lesser r o)) ≤ lesser cost o
+left_falls cost r None = omega arith
+left_falls cost r (Some m) = omega arith
 
-pub stop_below : (cost r : ℕ) (o : Option ℕ) → lesser cost (Some (lesser r o)) ≤ r
-stop_below cost r None = omega arith
-stop_below cost r (Some m) = omega arith
+pub left_below : (cost r : ℕ) (o : Option ℕ) → lesser cost (Some (lesser r o)) ≤ r
+left_below cost r None = omega arith
+left_below cost r (Some m) = omega arith
+
+-- the branch was filled with a leaf that says this, whether or not there was a stop
+pub left_done : (t : Task) (b : Branching) (before after : Progress) (stopped : Bool) (r : ℕ)
+    → (MayBeWhole t b before → before.stopped ≡ false → after.stopped ≡ false)
+    → IsDone t b (leaving before stopped (lesser r before.left)) after → IsDone t b before after
+left_done t b before after stopped r enough done =
+    let p = t.instance.now in
+    record {
+      going = done.going;
+      walks = λ first pending walks. done.walks first pending
+          (target_falls p before (lesser before.cost (Some (lesser r before.left))) (left_falls before.cost r before.left) first (b ∷ pending) walks);
+      lines = done.lines;
+      most = done.most;
+      enough = enough;
+    }
+
+-- ---- a stop
 
 two_free : (f : ℕ) → 1 ≤ f → 4 ≤ 2 ^ (f + 1)
 two_free zero some = absurd (omega arith)
@@ -272,18 +307,10 @@ too_few : {G : Type 0} (n : Option ℕ) (made free : ℕ) → IsEnough (made + 2
 too_few None made free room spent some = absurd spent
 too_few (Some n) made free room spent some = absurd (omega (arith, room, spent, two_free free some))
 
-pub stop_done : (t : Task) (b : Branching) (before after : Progress) (r : ℕ) → IsSpent t.nodes before.made → (IsNone before.stop → 1 ≤ length b.free)
-    → IsDone t b (record before { stop = Some (lesser r before.stop) }) after → IsDone t b before after
+pub stop_done : (t : Task) (b : Branching) (before after : Progress) (r : ℕ) → IsSpent t.nodes before.made
+    → (before.stopped ≡ false → 1 ≤ length b.free) → IsDone t b (leaving before true (lesser r before.left)) after → IsDone t b before after
 stop_done t b before after r spent due done =
-    let p = t.instance.now in
-    record {
-      going = done.going;
-      walks = λ first pending walks. done.walks first pending
-          (target_falls p before (lesser before.cost (Some (lesser r before.stop))) (stop_falls before.cost r before.stop) first (b ∷ pending) walks);
-      lines = done.lines;
-      most = done.most;
-      enough = λ room none. too_few t.nodes before.made (length b.free) room spent (due none);
-    }
+    left_done t b before after true r (λ room none. too_few t.nodes before.made (length b.free) room spent (due none)) done
 
 -- ---- children
 
@@ -311,12 +338,12 @@ halved_done t b k before begun middle after halved opened closed =
           (opened.enough
           (enough_less t.nodes (begun.made + 2 ^ (length (open_child b k).free + 1) - 1) (before.made + 2 ^ (f + 1) - 1)
           (omega (arith, halved.made, some, power, twice)) room)
-          (subst (λ (o : Option ℕ). IsNone o) (sym halved.stop) none));
+          (halved.stopped ∙ none));
     }
 
 -- ---- the end
 
-pub is_over : (t : Task) (begun after : Progress) → begun.lines.items ≡ [] → begun.made ≡ 1 → IsNone begun.stop
+pub is_over : (t : Task) (begun after : Progress) → begun.lines.items ≡ [] → begun.made ≡ 1 → begun.stopped ≡ false
     → IsDone t (root t.instance.now) begun after → IsOver t after
 is_over t begun after none one going done =
     let p = t.instance.now in

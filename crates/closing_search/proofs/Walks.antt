@@ -1,7 +1,7 @@
 -- How walks go on.
 use Rattle.std.proofs.Common.{◌≡◌, sym, ap, subst, ◌∙◌}
 use Rattle.hub_spec.specs.Trees.{Branching}
-use Rattle.search_core.specs.declared.tasks.Task.{Task}
+use Rattle.closing_search.specs.declared.task.Task.{Task}
 use Rattle.closing_search.specs.declared.progress.Progress.{Progress}
 use Rattle.closing_search.specs.declared.walk.Walk.{Walk}
 use Rattle.closing_search.specs.Progressing.{IsGoing, IsAt, IsDone}

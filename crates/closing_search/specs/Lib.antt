@@ -1,3 +1,4 @@
+pub mod Gaps
 pub mod SingleCuts
 pub mod Progressing
 pub mod Benches

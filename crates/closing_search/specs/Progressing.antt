@@ -1,5 +1,5 @@
 -- What a search has at each step, and what a step keeps.
-use Rattle.std.specs.Prelude.{◌≡◌, ℕ, ◌+◌, ◌-◌, ◌*◌, ◌^◌, ◌≤◌, Bool, true, false, List, [], ◌∷◌, length, All, Contains, IsSome, IsNone}
+use Rattle.std.specs.Prelude.{◌≡◌, ℕ, ◌+◌, ◌-◌, ◌*◌, ◌^◌, ◌≤◌, Bool, true, false, IsTrue, List, [], ◌∷◌, length, All, Contains}
 use Rattle.hub_spec.specs.Limits.{most_cost, most_cuts, most_tree_lines}
 use Rattle.hub_spec.specs.Problem.{Problem, IsProblem}
 use Rattle.hub_spec.specs.Plans.{IsHubSet, IsSetCost}
@@ -11,7 +11,8 @@ use Rattle.search_spec.specs.Findings.{AreWithin, IsSpent, IsEnough}
 use Rattle.tree_walks.specs.Walks.{filled, Walks}
 use Rattle.kept_cuts.specs.Kept.{kept_cuts, IsOwn, AreKeptFor}
 use Rattle.kept_cuts.specs.Findings.{lines_of, IsUnlimited}
-use Rattle.search_core.specs.declared.tasks.Task.{Task}
+use Rattle.closing_search.specs.declared.task.Task.{Task}
+use Rattle.closing_search.specs.Gaps.{most_gap, IsWithinGap}
 use Rattle.closing_search.specs.declared.progress.Progress.{Progress}
 
 -- the cuts of a search
@@ -20,14 +21,15 @@ cuts_of p s = kept_cuts p s.cuts.cuts
 
 -- what its leaves close
 abbrev pub target_of : Progress → ℕ
-target_of s = lesser s.cost s.stop
+target_of s = lesser s.cost s.left
 
 -- its lines lead from the first branches to the last, which are still to be filled
 abbrev pub WalksTo : Problem → Progress → List Branching → List Branching → Type 0
 WalksTo p s first last = Walks p (cuts_of p s) (target_of s) first (lines_of s.lines.items) last
 
 -- what holds at each step: of the task, of the cuts, none of which was given, the lines, which each version spells, and the
--- incumbent, which costs at most what all candidates cost, and of the nodes
+-- incumbent, which costs at most what all candidates cost, of the nodes, and of the gap: unless the search stopped, what its
+-- leaves close is within it
 pub record IsGoing (t : Task) (s : Progress) : Type 0 where
   pub problem : IsProblem t.instance.now
   pub unlimited : IsUnlimited t.instance.now
@@ -43,7 +45,9 @@ pub record IsGoing (t : Task) (s : Progress) : Type 0 where
   pub cost_limit : s.cost ≤ most_cost
   pub made : s.made ≤ 2 * length s.lines.items + 1
   pub allowed : AreWithin t.nodes s.made
-  pub spent : IsSome s.stop → IsSpent t.nodes s.made
+  pub spent : IsTrue s.stopped → IsSpent t.nodes s.made
+  pub gap_limit : t.gap ≤ most_gap
+  pub near : s.stopped ≡ false → IsWithinGap t.gap (target_of s) s.cost
 
 -- the search goes on with the same lines and nodes: what its lines led to they still lead to
 pub record IsAt (t : Task) (before after : Progress) : Type 0 where
@@ -51,7 +55,7 @@ pub record IsAt (t : Task) (before after : Progress) : Type 0 where
   pub walks : (first last : List Branching) → WalksTo t.instance.now before first last → WalksTo t.instance.now after first last
   pub lines : length after.lines.items ≡ length before.lines.items
   pub made : after.made ≡ before.made
-  pub stop : after.stop ≡ before.stop
+  pub stopped : after.stopped ≡ before.stopped
 
 -- a line after which nothing more is to be filled
 abbrev pub IsEndLine : TreeLine → Type 0
@@ -69,7 +73,7 @@ pub record IsDone (t : Task) (b : Branching) (before after : Progress) : Type 0 
       → WalksTo t.instance.now before first (b ∷ pending) → WalksTo t.instance.now after first pending
   pub lines : length after.lines.items + before.made ≡ length before.lines.items + after.made + 1
   pub most : after.made + 2 ≤ before.made + 2 ^ (length b.free + 1)
-  pub enough : MayBeWhole t b before → IsNone before.stop → IsNone after.stop
+  pub enough : MayBeWhole t b before → before.stopped ≡ false → after.stopped ≡ false
 
 -- in the place of the branch its two children on the free node are to be filled
 pub record IsHalved (t : Task) (b : Branching) (k : ℕ) (before after : Progress) : Type 0 where
@@ -79,7 +83,7 @@ pub record IsHalved (t : Task) (b : Branching) (k : ℕ) (before after : Progres
       → WalksTo t.instance.now after first (open_child b k ∷ closed_child b k ∷ pending)
   pub lines : length after.lines.items ≡ length before.lines.items + 1
   pub made : after.made ≡ before.made + 2
-  pub stop : after.stop ≡ before.stop
+  pub stopped : after.stopped ≡ before.stopped
 
 -- advice was taken: the branch has been filled, or the search goes on, and two nodes more are allowed
 abbrev pub IsAdvised : Task → Branching → Progress → Progress → Bool → Type 0
@@ -93,4 +97,4 @@ pub record IsOver (t : Task) (s : Progress) : Type 0 where
   pub walks : WalksTo t.instance.now s (root t.instance.now ∷ []) []
   pub lines : length s.lines.items ≡ s.made
   pub most : s.made + 1 ≤ 2 ^ (length t.instance.now.candidates + 1)
-  pub enough : IsEnough (2 ^ (length t.instance.now.candidates + 1)) t.nodes → IsNone s.stop
+  pub enough : IsEnough (2 ^ (length t.instance.now.candidates + 1)) t.nodes → s.stopped ≡ false

@@ -5,14 +5,14 @@ ghost use Rattle.hub_spec.specs.Trees.{IsBranch};
 ghost use Rattle.closing_search.specs.Progressing.{IsGoing, IsAt, IsAdvised};
 ghost use Rattle.closing_search.specs.Walking.{IsWalking, IsSameWalk};
 
-use crate::progress::{Progress, offer};
+use crate::progress::{Progress, goal, offer};
+use crate::task::Task;
 use crate::walker::Walker;
 use assign_sub::set_cost;
 use hub_model::{signed, unsigned};
 use hub_plain::is_candidate_set;
 use plan_model::{Branch, HubSet};
 use search_advice::Advice;
-use search_core::Task;
 use std::alloc::{AllocError, Global};
 use std::thread::Threads;
 
@@ -55,13 +55,14 @@ impl<R: Threads + Sync, A: Advice + Drop> Walker<'_, R, A> {
         Ok(())
     }
 
-    // Makes one pass, and takes the guess after it, unless a pass is not worth its time. It tells whether it did.
+    // Makes one pass towards the goal, and takes the guess after it, unless a pass is not worth its time. It tells whether it
+    // did.
     fn pass(&mut self) -> Result<bool, AllocError>
         requires { IsGoing self.old.walk.task.now self.old.walk.progress }
         ensures same { IsSameWalk self.old.walk self.new.walk }
         ensures at { OnOk result (IsAt self.old.walk.task.now self.old.walk.progress self.new.walk.progress) }
     {
-        let wanted = signed(self.walk.progress.cost);
+        let wanted = signed(goal(self.walk.task, &self.walk.progress));
         if !self.guide.goes_on(wanted) {
             return Ok(false);
         }

@@ -7,16 +7,18 @@ ghost use Rattle.hub_spec.specs.Trees.{IsBranch, leaf_bound, cut_at, Closes};
 ghost use Rattle.hub_spec.specs.Limits.{most_cost};
 ghost use Rattle.leaf_bound.specs.Weighing.{most_bound, IsWithin};
 ghost use Rattle.search_spec.specs.States.{denominator};
-ghost use Rattle.closing_search.specs.Progressing.{cuts_of, target_of, IsGoing};
+ghost use Rattle.closing_search.specs.Gaps.{goal_of};
+ghost use Rattle.closing_search.specs.Progressing.{cuts_of, IsGoing};
 ghost use Rattle.closing_search.specs.SingleCuts.{AreLoads, AreLentOf, IsOnCut, IsOnNone, cut_bound, ClosesBy};
 
-use crate::progress::{Progress, target};
+use crate::progress::{Progress, goal};
+use crate::task::Task;
 use crate::walk::Walk;
 use hub_model::{Instance, signed};
 use kept_cuts::signed_row;
 use leaf_bound::{Weighting, bound, threshold};
 use plan_model::Branch;
-use search_core::{Task, WHOLE_WEIGHT};
+use search_core::WHOLE_WEIGHT;
 use std::alloc::AllocError;
 
 /// The whole weight, on one cut.
@@ -87,7 +89,7 @@ pub(crate) fn kept_bound(task: &Task, branch: &Branch, progress: &Progress, numb
 }
 
 impl Walk<'_> {
-    /// Tells whether the cut with this total, whose loads the bench has worked out last, closes the target in the branch,
+    /// Tells whether the cut with this total, whose loads the bench has worked out last, closes the goal in the branch,
     /// alone.
     pub(crate) fn sums_close(&self, branch: &Branch, total: u128) -> Result<bool, AllocError>
         requires going { IsGoing self.now.task.now self.now.progress }
@@ -95,13 +97,13 @@ impl Walk<'_> {
         requires sums { (cut : Cut) × AreLoads self.now.task.now.instance.now cut total self.now.bench.loads }
         ensures { let p = self.now.task.now.instance.now in
             IfOk result (λ yes. (cut : Cut) → AreLoads p cut total self.now.bench.loads → IsTrue yes
-            → ClosesBy p cut (target_of self.now.progress) branch.now) }
+            → ClosesBy p cut (goal_of self.now.task.now.gap self.now.progress.cost) branch.now) }
     {
         let row = signed_row(self.alloc, self.bench.loads())?;
         let rows = vec![in self.alloc; row]?;
         let totals = [signed(total)];
         let weighting = cut_weighting(self.task.instance, &totals, &rows, &PART);
-        Ok(is_above(bound(&weighting, branch), target(&self.progress)))
+        Ok(is_above(bound(&weighting, branch), goal(self.task, &self.progress)))
     }
 }
 

@@ -1,6 +1,6 @@
 //! The leaves of the tree.
 
-ghost use Rattle.std.specs.Prelude.{◌≡◌, ◌≤◌, ◌+◌, [], ◌∷◌, pos, length, ◌≤ℤ◌, ◌⊎◌, IsNone, IfOk, IfSome, OnOk};
+ghost use Rattle.std.specs.Prelude.{◌≡◌, ◌≤◌, ◌+◌, [], ◌∷◌, pos, length, ◌≤ℤ◌, ◌⊎◌, false, IfOk, IfSome, OnOk};
 ghost use Rattle.hub_spec.specs.Limits.{most_cost};
 ghost use Rattle.hub_spec.specs.Problem.{opening_cost};
 ghost use Rattle.hub_spec.specs.Plans.{IsHubSet, IsSetCost};
@@ -10,54 +10,56 @@ ghost use Rattle.leaf_bound.specs.Weighing.{most_bound, IsWithin};
 ghost use Rattle.search_spec.specs.States.{denominator};
 ghost use Rattle.search_spec.specs.Findings.{IsSpent};
 ghost use Rattle.kept_cuts.specs.Findings.{IsUnlimited};
-ghost use Rattle.closing_search.specs.Progressing.{cuts_of, target_of, IsGoing, IsAt, IsDone};
+ghost use Rattle.closing_search.specs.Gaps.{goal_of};
+ghost use Rattle.closing_search.specs.Progressing.{cuts_of, IsGoing, IsAt, IsDone};
 ghost use Rattle.closing_search.specs.Walking.{IsWalking, IsSameWalk};
 ghost use Rattle.closing_search.specs.SingleCuts.{ClosesBy, weights_on, IsChoice, IsOrderedSet};
 
 use crate::bounds::{bare_bound, is_above, kept_bound};
-use crate::progress::{Progress, end_with, offer, target};
+use crate::progress::{Progress, end_with, goal, offer};
+use crate::task::Task;
 use crate::walk::Walk;
 use hub_plain::outside;
 use kept_cuts::KeptCut;
 use plan_model::{Branch, HubSet, Mix, TreeLine};
-use search_core::{Task, WHOLE_WEIGHT, lesser, rounded_up, whole_leaf};
+use search_core::{WHOLE_WEIGHT, lesser, rounded_up, whole_leaf};
 use std::alloc::{AllocError, Global};
 
 /// So many of the newest kept cuts are tried at a branch before advice is asked for.
 const MOST_TRIES: u64 = 64;
 
 impl Walk<'_> {
-    /// Ends the branch with the leaf of the kept cut of this number, which closes the target.
+    /// Ends the branch with the leaf of the kept cut of this number, which closes the goal.
     pub(crate) fn cut_leaf(&mut self, branch: &Branch, number: u64) -> Result<(), AllocError>
         requires going { IsGoing self.old.task.now self.old.progress }
         requires least { 1 ≤ number }
         requires most { number ≤ length self.old.progress.cuts.cuts }
+        requires branch { IsBranch self.old.task.now.instance.now branch.now }
         requires closes { let p = self.old.task.now.instance.now in
-            ClosesBy p (cut_at (cuts_of p self.old.progress) number) (target_of self.old.progress) branch.now }
+            ClosesBy p (cut_at (cuts_of p self.old.progress) number) (goal_of self.old.task.now.gap self.old.progress.cost) branch.now }
         ensures same { IsSameWalk self.old self.new }
         ensures done { OnOk result (IsDone self.old.task.now branch.now self.old.progress self.new.progress) }
     {
+        let bound = kept_bound(self.task, branch, &self.progress, number);
         let line = whole_leaf(self.alloc, number)?;
+        self.progress.left = Some(lesser(rounded_up(bound), self.progress.left));
         end_with(self.task, branch, line, &mut self.progress)
     }
 
-    /// The number of a kept cut that closes the target in the branch, alone, if one of the newest does.
+    /// The number of a kept cut that closes the goal in the branch, alone, if one of the newest does.
     pub(crate) fn closing_cut(&self, branch: &Branch) -> Option<u64>
         requires going { IsGoing self.now.task.now self.now.progress }
         requires branch { IsBranch self.now.task.now.instance.now branch.now }
         ensures least { IfSome result (λ c. 1 ≤ c) }
         ensures most { IfSome result (λ c. c ≤ length self.now.progress.cuts.cuts) }
         ensures closes { let p = self.now.task.now.instance.now in
-            IfSome result (λ c. ClosesBy p (cut_at (cuts_of p self.now.progress) c) (target_of self.now.progress) branch.now) }
+            IfSome result (λ c. ClosesBy p (cut_at (cuts_of p self.now.progress) c) (goal_of self.now.task.now.gap self.now.progress.cost) branch.now) }
     {
         let count = self.progress.cuts.len();
-        let target = target(&self.progress);
+        let goal = goal(self.task, &self.progress);
         for back in 0..count.min(MOST_TRIES) {
             let number = count - back;
-            if is_above(
-                kept_bound(self.task, branch, &self.progress, number),
-                target,
-            ) {
+            if is_above(kept_bound(self.task, branch, &self.progress, number), goal) {
                 return Some(number);
             }
         }
@@ -87,13 +89,14 @@ impl Walk<'_> {
         requires going { IsGoing self.old.task.now self.old.progress }
         requires branch { IsBranch self.old.task.now.instance.now branch.now }
         requires spent { IsSpent self.old.task.now.nodes self.old.progress.made }
-        requires due { IsNone self.old.progress.stop → 1 ≤ length branch.now.free }
+        requires due { self.old.progress.stopped ≡ false → 1 ≤ length branch.now.free }
         ensures same { IsSameWalk self.old self.new }
         ensures done { OnOk result (IsDone self.old.task.now branch.now self.old.progress self.new.progress) }
     {
         let choice = best_choice(self.task, branch, &self.progress);
         let line = leaf_line(self.alloc, choice.number)?;
-        self.progress.stop = Some(lesser(rounded_up(choice.bound), self.progress.stop));
+        self.progress.stopped = true;
+        self.progress.left = Some(lesser(rounded_up(choice.bound), self.progress.left));
         end_with(self.task, branch, line, &mut self.progress)
     }
 }

@@ -6,9 +6,12 @@
 //! does not, the search branches. A branch with nothing free ends on the cut of its own hubs. With a most number of nodes
 //! the search stops where two more are not allowed, and each branch that is left becomes a leaf.
 //!
+//! Who calls `optimize_within` allows a gap between the bound and the cost. Then a leaf is to close the goal alone, which is the cost less
+//! the gap; what it says of every plan is kept, and the bound is the least of what all leaves say and of the cost.
+//!
 //! Who calls hands in the advice, of which nothing is trusted. Each step keeps what `Progressing` of the specs says: the
 //! lines lead from the root to the branches that are still to be filled (`tree_walks`), and the incumbent has its cost.
-//! `Walk` is what a search is to do, works with (`Bench`) and has (`Progress`), and `Walker` goes on with it by advice
+//! `Walk` is what a search is to do (`Task`), works with (`Bench`) and has (`Progress`), and `Walker` goes on with it by advice
 //! (`Guide`). Costs are in 10^-12; nodes are `u32`, counted from 0, cuts are counted from 1.
 #![tactic(auto)]
 
@@ -20,9 +23,10 @@ mod keeping;
 mod leaves;
 mod optimizing;
 mod progress;
+mod task;
 mod values;
 mod walk;
 mod walker;
 mod walking;
 
-pub use optimizing::optimize;
+pub use optimizing::{optimize, optimize_within};

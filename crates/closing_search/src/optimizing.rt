@@ -1,22 +1,23 @@
 //! The whole search.
 
-ghost use Rattle.std.specs.Prelude.{◌≡◌, ℕ, ◌+◌, ◌^◌, ◌≤◌, ◌<◌, [], ◌∷◌, length, None, IsNone, IfOk};
+ghost use Rattle.std.specs.Prelude.{◌≡◌, ℕ, ◌+◌, ◌^◌, ◌≤◌, ◌<◌, [], ◌∷◌, ◌⊎◌, length, None, false, IfOk};
 ghost use Rattle.std.specs.List.{AllZip};
 ghost use Rattle.hub_spec.specs.Problem.{commodities};
 ghost use Rattle.hub_spec.specs.Plans.{IsSetCost, IsLeastRoute, NoPlanBelow};
 ghost use Rattle.hub_spec.specs.Trees.{root};
 ghost use Rattle.search_spec.specs.Findings.{AreWithin, IsSpent, IsEnough};
 ghost use Rattle.kept_cuts.specs.Findings.{IsUnlimited, AreOwn, IsProved};
+ghost use Rattle.closing_search.specs.Gaps.{most_gap, IsWithinGap};
 ghost use Rattle.closing_search.specs.Progressing.{IsGoing, IsDone, IsOver};
 
 use crate::progress::{Progress, target};
+use crate::task::Task;
 use crate::walker::Walker;
 use assign_sub::{assign, set_cost};
 use hub_model::{Instance, unsigned};
 use kept_cuts::{Found, KeptCuts};
 use plan_model::{Branch, HubSet, Plan};
 use search_advice::Advice;
-use search_core::Task;
 use std::alloc::{AllocError, Global};
 use std::thread::Threads;
 
@@ -54,7 +55,35 @@ pub fn optimize<R: Threads + Sync, A: Advice + Drop>(
     ensures enough { IsEnough (2 ^ (length instance.now.candidates + 1)) nodes → IfOk result (λ found. found.bound ≡ found.cost) }
     ensures whole { nodes ≡ None → IfOk result (λ found. found.bound ≡ found.cost) }
 {
-    let task = Task::new(instance, nodes);
+    optimize_within(rt, alloc, instance, nodes, 0, advice)
+}
+
+/// The same, up to a gap: how far the bound may be below the cost, in thousandths of a per cent of the cost. Only where two
+/// nodes more are not allowed the search stops, and then the bound may be further below. With a gap of 0 it is `optimize`.
+pub fn optimize_within<R: Threads + Sync, A: Advice + Drop>(
+    rt: &R,
+    alloc: Global,
+    instance: &Instance,
+    nodes: Option<u64>,
+    gap: u32,
+    advice: A,
+) -> Result<Found, AllocError>
+    requires any_length { instance.now.longest ≡ None }
+    requires any_number { instance.now.wanted ≡ None }
+    requires gap { gap ≤ most_gap }
+    ensures proved { IfOk result (IsProved instance.now) }
+    ensures own { IfOk result AreOwn }
+    ensures routes { IfOk result (λ found. AllZip (IsLeastRoute instance.now found.plan.hubs) (commodities instance.now.size) found.plan.routes) }
+    ensures at_most { IfOk result (λ found. (cost : ℕ) → IsSetCost instance.now instance.now.candidates cost → found.cost ≤ cost) }
+    ensures within { IfOk result (λ found. found.bound ≤ found.cost) }
+    ensures below { IfOk result (λ found. NoPlanBelow instance.now found.bound) }
+    ensures most { IfOk result (λ found. length found.tree.items + 1 ≤ 2 ^ (length instance.now.candidates + 1)) }
+    ensures allowed { IfOk result (λ found. AreWithin nodes (length found.tree.items)) }
+    ensures spent { IfOk result (λ found. found.bound < found.cost → IsSpent nodes (length found.tree.items) ⊎ IsWithinGap gap found.bound found.cost) }
+    ensures enough { IsEnough (2 ^ (length instance.now.candidates + 1)) nodes → IfOk result (λ found. IsWithinGap gap found.bound found.cost) }
+    ensures whole { nodes ≡ None → IfOk result (λ found. IsWithinGap gap found.bound found.cost) }
+{
+    let task = Task::new(instance, nodes, gap);
     let begun = begin(alloc, &task)?;
     let progress = fill_tree(rt, alloc, &task, advice, begun)?;
     finish(alloc, &task, progress)
@@ -80,11 +109,12 @@ fn fill_tree<'a, R: Threads + Sync, A: Advice + Drop>(
 
 // No cut and no line, with the set of all candidates as the first incumbent.
 fn begin(alloc: Global, task: &Task) -> Result<Progress, AllocError>
-    requires { IsUnlimited task.now.instance.now }
+    requires unlimited { IsUnlimited task.now.instance.now }
+    requires gap { task.now.gap ≤ most_gap }
     ensures going { IfOk result (IsGoing task.now) }
     ensures no_line { IfOk result (λ s. s.lines.items ≡ []) }
     ensures one_node { IfOk result (λ s. s.made ≡ 1) }
-    ensures no_stop { IfOk result (λ s. IsNone s.stop) }
+    ensures no_stop { IfOk result (λ s. s.stopped ≡ false) }
 {
     let hubs = HubSet::of(alloc, task.instance.candidates())?;
     let cost = unsigned(set_cost(task.instance, &hubs));
@@ -94,7 +124,8 @@ fn begin(alloc: Global, task: &Task) -> Result<Progress, AllocError>
         hubs,
         cost,
         made: 1,
-        stop: None,
+        stopped: false,
+        left: None,
     })
 }
 
@@ -110,9 +141,11 @@ fn finish(alloc: Global, task: &Task, progress: Progress) -> Result<Found, Alloc
     ensures below { IfOk result (λ found. NoPlanBelow task.now.instance.now found.bound) }
     ensures most { IfOk result (λ found. length found.tree.items + 1 ≤ 2 ^ (length task.now.instance.now.candidates + 1)) }
     ensures allowed { IfOk result (λ found. AreWithin task.now.nodes (length found.tree.items)) }
-    ensures spent { IfOk result (λ found. found.bound < found.cost → IsSpent task.now.nodes (length found.tree.items)) }
-    ensures enough { IsEnough (2 ^ (length task.now.instance.now.candidates + 1)) task.now.nodes → IfOk result (λ found. found.bound ≡ found.cost) }
-    ensures whole { task.now.nodes ≡ None → IfOk result (λ found. found.bound ≡ found.cost) }
+    ensures spent { IfOk result (λ found. found.bound < found.cost
+        → IsSpent task.now.nodes (length found.tree.items) ⊎ IsWithinGap task.now.gap found.bound found.cost) }
+    ensures enough { IsEnough (2 ^ (length task.now.instance.now.candidates + 1)) task.now.nodes
+        → IfOk result (λ found. IsWithinGap task.now.gap found.bound found.cost) }
+    ensures whole { task.now.nodes ≡ None → IfOk result (λ found. IsWithinGap task.now.gap found.bound found.cost) }
 {
     let assignment = assign(alloc, task.instance, &progress.hubs)?;
     let hubs = progress.hubs.members().to_vec(alloc)?;

@@ -1,21 +1,24 @@
 //! What a search has so far, and the lines that it adds.
 
 ghost use Rattle.std.specs.Prelude.{◌≡◌, ◌+◌, ◌≤◌, IsTrue, false, Contains, OnOk};
+ghost use Rattle.hub_spec.specs.Limits.{most_cost};
 ghost use Rattle.hub_spec.specs.Plans.{IsHubSet, IsSetCost};
 ghost use Rattle.hub_spec.specs.Trees.{IsBranch};
 ghost use Rattle.hub_spec.specs.Ranges.{IsFirstLine, IsLineInRange};
 ghost use Rattle.plan_model.specs.Lines.{tree_line_of};
 ghost use Rattle.search_spec.specs.Findings.{AreWithin, IsSpent};
 ghost use Rattle.tree_walks.specs.Walks.{IsSoundLine};
+ghost use Rattle.closing_search.specs.Gaps.{goal_of};
 ghost use Rattle.closing_search.specs.Progressing.{cuts_of, target_of, IsGoing, IsAt, IsDone, IsHalved, IsEndLine};
 
+use crate::task::{MOST_GAP, Task};
 use kept_cuts::KeptCuts;
 use plan_model::{Branch, HubSet, TreeLine};
-use search_core::{Task, add_line, lesser};
+use search_core::{add_line, lesser};
 use std::alloc::AllocError;
 
-/// The cuts and the lines of the tree, the incumbent with its cost, the nodes made, and after a stop the least that a
-/// leaf of the stop says of every plan. Costs are in 10^-12.
+/// The cuts and the lines of the tree, the incumbent with its cost, the nodes made, whether the search stopped for want of
+/// nodes, and the least that a leaf of a cut or of the stop says of every plan. Costs are in 10^-12.
 #[derive(Drop)]
 pub(crate) struct Progress {
     pub(crate) cuts: KeptCuts,
@@ -23,14 +26,24 @@ pub(crate) struct Progress {
     pub(crate) hubs: HubSet,
     pub(crate) cost: u128,
     pub(crate) made: u64,
-    pub(crate) stop: Option<u128>,
+    pub(crate) stopped: bool,
+    pub(crate) left: Option<u128>,
 }
 
-/// What a leaf is to close, in 10^-12: the incumbent's cost, or the least of it and of what a stop left.
+/// What all leaves close, in 10^-12: the incumbent's cost, or the least of it and of what leaves say.
 pub(crate) fn target(progress: &Progress) -> u128
     ensures { result ≡ target_of progress.now }
 {
-    lesser(progress.cost, progress.stop)
+    lesser(progress.cost, progress.left)
+}
+
+/// What a leaf is to close before a stop, in 10^-12: the incumbent's cost less the gap.
+pub(crate) fn goal(task: &Task, progress: &Progress) -> u128
+    requires { IsGoing task.now progress.now }
+    ensures value { result ≡ goal_of task.now.gap progress.now.cost }
+    ensures limit { result ≤ most_cost }
+{
+    progress.cost - u128::from(task.gap) * progress.cost / u128::from(MOST_GAP)
 }
 
 /// Ends the branch with a line, unless the tree is as long as a certificate's can be.

@@ -2,7 +2,7 @@
 
 use crate::bench::Bench;
 use crate::progress::Progress;
-use search_core::Task;
+use crate::task::Task;
 use std::alloc::Global;
 
 /// A walk over the tree: its task, a bench for the instance, and what the search has so far.

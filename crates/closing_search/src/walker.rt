@@ -5,9 +5,9 @@ ghost use Rattle.std.specs.Prelude.{◌≡◌, IfOk};
 use crate::bench::Bench;
 use crate::guide::Guide;
 use crate::progress::Progress;
+use crate::task::Task;
 use crate::walk::Walk;
 use search_advice::Advice;
-use search_core::Task;
 use std::alloc::{AllocError, Global};
 
 /// A walk with who advises it, and the runtime's handle for the advice's threads.

@@ -30,7 +30,7 @@ impl<R: Threads + Sync, A: Advice + Drop> Walker<'_, R, A> {
                 &mut self.walk.progress,
             );
         }
-        if self.walk.progress.stop.is_some() {
+        if self.walk.progress.stopped {
             return self.walk.stopped_leaf(branch);
         }
         if let Some(number) = self.walk.closing_cut(branch) {

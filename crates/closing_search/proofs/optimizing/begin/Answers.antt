@@ -10,7 +10,7 @@ use Rattle.closing_search.proofs.optimizing.begin.Goals as goal
 pub set_cost-requires : goal.set_cost-requires
 set_cost-requires c =
     let p = c.args.task.now.instance.now in
-    all_set p c.in_ok-hubs.hubs c.candidates.ensures.problem c.requires
+    all_set p c.in_ok-hubs.hubs c.candidates.ensures.problem c.requires.unlimited
     (c.in_ok-hubs.ensures ∙ c.candidates.ensures.value)
 
 pub returns-clause-going : goal.returns-clause-going
@@ -18,6 +18,6 @@ returns-clause-going c =
     let p = c.args.task.now.instance.now in
     let fits : FitsSigned w128 c.set_cost.result = search rules in
     let same = c.unsigned-cost.ensures.value ∙ ap natural (to_z-of_z w128 c.set_cost.result fits) in
-    begun_going c.args.task.now _ c.candidates.ensures.problem c.requires (search rules) (search rules)
+    begun_going c.args.task.now _ c.candidates.ensures.problem c.requires.unlimited c.requires.gap (search rules) (search rules)
     (c.in_ok-hubs.ensures ∙ c.candidates.ensures.value)
-    (subst (λ (n : ℕ). IsSetCost p c.in_ok-hubs.hubs n) (sym same) c.set_cost.ensures.value) refl refl
+    (subst (λ (n : ℕ). IsSetCost p c.in_ok-hubs.hubs n) (sym same) c.set_cost.ensures.value) refl refl refl

@@ -1,7 +1,7 @@
 use Rattle.std.proofs.Common.{sym, subst}
 use Rattle.hub_spec.specs.Trees.{Branching, IsBranch}
 use Rattle.hub_spec.proofs.ChildLists.{root_branch}
-use Rattle.search_core.specs.declared.tasks.Task.{Task}
+use Rattle.closing_search.specs.declared.task.Task.{Task}
 use Rattle.closing_search.specs.Progressing.{IsDone}
 use Rattle.closing_search.proofs.Walks.{begun_walking, begun_done}
 use Rattle.closing_search.proofs.optimizing.fill_tree.Goals as goal

@@ -1,26 +1,11 @@
-use Rattle.std.proofs.Common.{◌≤◌, sym, subst}
-use Rattle.std.specs.Prelude.{ℕ, IfOk}
-use Rattle.hub_spec.specs.Problem.{Problem}
-use Rattle.hub_spec.specs.Plans.{IsSetCost, NoPlanBelow}
-use Rattle.kept_cuts.specs.Findings.{IsUnlimited}
-use Rattle.closing_search.proofs.Steps.{is_over}
+use Rattle.closing_search.proofs.Ungapped.{closed, spent_closed}
 use Rattle.closing_search.proofs.optimizing.optimize.Goals as goal
 
-pub begin-requires : goal.begin-requires
-begin-requires g c =
-    subst IsUnlimited (sym c.new-task.ensures.instance)
-    (record { any_length = c.requires.any_length; any_number = c.requires.any_number })
+pub returns-clause-spent : goal.returns-clause-spent
+returns-clause-spent g c = spent_closed c.args.nodes c.optimize_within.result c.optimize_within.ensures.spent c.optimize_within.ensures.within
 
-pub finish-requires : goal.finish-requires
-finish-requires g c =
-    is_over _ c.in_ok-begun.begun c.in_ok-progress.progress c.in_ok-begun.ensures.no_line c.in_ok-begun.ensures.one_node
-    c.in_ok-begun.ensures.no_stop c.in_ok-progress.ensures
+pub returns-clause-enough : goal.returns-clause-enough
+returns-clause-enough g c enough = closed c.optimize_within.result (c.optimize_within.ensures.enough enough) c.optimize_within.ensures.within
 
-pub returns-clause-at_most : goal.returns-clause-at_most
-returns-clause-at_most g c =
-    subst (λ (p : Problem). IfOk c.finish.result (λ found. (cost : ℕ) → IsSetCost p p.candidates cost → found.cost ≤ cost))
-    c.new-task.ensures.instance c.finish.ensures.at_most
-
-pub returns-clause-below : goal.returns-clause-below
-returns-clause-below g c =
-    subst (λ (p : Problem). IfOk c.finish.result (λ found. NoPlanBelow p found.bound)) c.new-task.ensures.instance c.finish.ensures.below
+pub returns-clause-whole : goal.returns-clause-whole
+returns-clause-whole g c none = closed c.optimize_within.result (c.optimize_within.ensures.whole none) c.optimize_within.ensures.within

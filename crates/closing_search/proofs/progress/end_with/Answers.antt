@@ -7,4 +7,4 @@ returns c =
     let added = c.in_ok-add_line.ensures in
     line_done c.args.task.now c.args.branch.now c.args.progress.now _ c.args.line c.requires.going c.requires.end c.requires.sound c.requires.in_range
     c.requires.first added.few
-    (record { cuts = refl; lines = added.added; hubs = refl; cost = refl; made = refl; stop = refl })
+    (record { cuts = refl; lines = added.added; hubs = refl; cost = refl; made = refl; stopped = refl; left = refl })

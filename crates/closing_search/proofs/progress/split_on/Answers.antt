@@ -15,4 +15,4 @@ returns c =
     (candidate_is_node p k going.problem (All-contains (Contains p.candidates) b.free k c.requires.branch.free_are c.requires.free))
     c.requires.allowed
     c.in_ok-add_line.ensures.few
-    (record { cuts = refl; lines = c.in_ok-add_line.ensures.added; hubs = refl; cost = refl; made = refl; stop = refl })
+    (record { cuts = refl; lines = c.in_ok-add_line.ensures.added; hubs = refl; cost = refl; made = refl; stopped = refl; left = refl })

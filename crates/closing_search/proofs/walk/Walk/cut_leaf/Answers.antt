@@ -1,21 +1,56 @@
-use Rattle.std.proofs.Common.{Some, refl, arith}
+use Rattle.std.proofs.Common.{◌≡◌, ◌≤◌, ℕ, ℤ, false, Some, true≢false, inr, refl, sym, ap, subst, ◌∙◌, FitsSigned, rules, arith}
+use Rattle.std.specs.Int.{w128}
+use Rattle.std.proofs.lemmas.Int.{to_z-of_z}
 use Rattle.std.proofs.lemmas.List.{length-map}
+use Rattle.std.proofs.lemmas.Result.{on_ok_weaker}
+use Rattle.hub_spec.specs.Trees.{Closes, cut_at}
 use Rattle.plan_model.specs.Lines.{tree_line_of}
+use Rattle.search_spec.specs.States.{denominator, lesser, rounded_up}
 use Rattle.kept_cuts.specs.Kept.{kept_cut}
-use Rattle.closing_search.specs.Progressing.{cuts_of, target_of}
-use Rattle.closing_search.proofs.Choices.{number_of, leaf_sound, leaf_in_range, leaf_is_first}
+use Rattle.closing_search.specs.Gaps.{IsWithinGap, goal_of}
+use Rattle.closing_search.specs.Progressing.{cuts_of, IsDone}
+use Rattle.closing_search.specs.SingleCuts.{cut_bound}
+use Rattle.closing_search.proofs.Choices.{number_of, leaf_sound, leaf_in_range, leaf_is_first, said_least, left_closes}
+use Rattle.closing_search.proofs.Gaps.{left_within}
+use Rattle.closing_search.proofs.Steps.{leaving, left_going, left_done}
 use Rattle.closing_search.proofs.walk.Walk.cut_leaf.Goals as goal
+use Rattle.closing_search.proofs.walk.Walk.cut_leaf.Goals.{After-lesser}
+
+-- the bound of the cut is taken rounded up
+rounded : (c : After-lesser) → let p = c.args.self.now.task.now.instance.now in let s = c.args.self.now.progress in
+    c.rounded_up.result ≡ rounded_up (cut_bound p (cut_at (cuts_of p s) c.args.number) c.args.branch.now)
+rounded c =
+    let fits : FitsSigned w128 c.kept_bound-bound.result = search rules in
+    c.rounded_up.ensures ∙ ap rounded_up (to_z-of_z w128 c.kept_bound-bound.result fits ∙ c.kept_bound-bound.ensures.bound)
+
+pub end_with-requires-clause-going : goal.end_with-requires-clause-going
+end_with-requires-clause-going c =
+    let t = c.args.self.now.task.now in
+    let p = t.instance.now in
+    let s = c.args.self.now.progress in
+    let bound = cut_bound p (cut_at (cuts_of p s) c.args.number) c.args.branch.now in
+    let is = rounded (goal.at.end_with-requires-clause-going c).After-lesser in
+    let wanted = goal_of t.gap s.cost in
+    let least : wanted ≤ c.rounded_up.result = subst (λ (n : ℕ). wanted ≤ n) (sym is) (said_least bound wanted c.requires.closes) in
+    left_going t s s.stopped c.lesser.result c.requires.going c.requires.going.spent
+    (λ goes. subst (λ (low : ℕ). IsWithinGap t.gap (lesser s.cost (Some low)) s.cost) (sym c.lesser.ensures)
+    (left_within t.gap s.cost c.rounded_up.result s.left least (c.requires.going.near goes)))
 
 pub end_with-requires-clause-end : goal.end_with-requires-clause-end
 end_with-requires-clause-end c b pending = rw c.in_ok-line.ensures refl
 
 pub end_with-requires-clause-sound : goal.end_with-requires-clause-sound
 end_with-requires-clause-sound c =
-    let p = c.args.self.now.task.now.instance.now in
+    let t = c.args.self.now.task.now in
+    let p = t.instance.now in
     let s = c.args.self.now.progress in
-    leaf_sound p s.cuts.cuts (target_of s) c.args.branch.now (Some c.args.number) (tree_line_of c.in_ok-line.line)
+    let bound = cut_bound p (cut_at (cuts_of p s) c.args.number) c.args.branch.now in
+    let is = rounded (goal.at.end_with-requires-clause-sound c).After-lesser in
+    let closes = subst (λ (low : ℕ). Closes denominator (lesser s.cost (Some low)) bound) (sym c.lesser.ensures)
+    (left_closes bound (goal_of t.gap s.cost) s.cost c.rounded_up.result s.left (inr c.requires.closes) is) in
+    leaf_sound p s.cuts.cuts (lesser s.cost (Some c.lesser.result)) c.args.branch.now (Some c.args.number) (tree_line_of c.in_ok-line.line)
     c.requires.going.unlimited c.requires.going.own (number_of p s.cuts.cuts c.args.number c.requires.least c.requires.most)
-    c.in_ok-line.ensures c.requires.closes
+    c.in_ok-line.ensures closes
 
 pub end_with-requires-clause-in_range : goal.end_with-requires-clause-in_range
 end_with-requires-clause-in_range c =
@@ -28,3 +63,14 @@ end_with-requires-clause-in_range c =
 pub end_with-requires-clause-first : goal.end_with-requires-clause-first
 end_with-requires-clause-first c =
     leaf_is_first (Some c.args.number) (tree_line_of c.in_ok-line.line) c.in_ok-line.ensures
+
+pub returns-clause-done : goal.returns-clause-done
+returns-clause-done c =
+    let t = c.args.self.now.task.now in
+    let b = c.args.branch.now in
+    let s = c.args.self.now.progress in
+    let after = c.end_with.new.progress in
+    on_ok_weaker c.end_with.result
+    (λ done. let now = subst (λ (low : ℕ). IsDone t b (leaving s s.stopped low) after) c.lesser.ensures done in
+    left_done t b s after s.stopped c.rounded_up.result now.enough now)
+    c.end_with.ensures

@@ -1,5 +1,5 @@
 use Rattle.std.proofs.Common.{subst}
-use Rattle.search_core.specs.declared.tasks.Task.{Task}
+use Rattle.closing_search.specs.declared.task.Task.{Task}
 use Rattle.closing_search.specs.Progressing.{IsDone}
 use Rattle.closing_search.proofs.Steps.{at_done}
 use Rattle.closing_search.proofs.walk.Walk.end_by_values.Goals as goal

@@ -25,6 +25,6 @@ returns-clause-at c =
     let sums = subst (AreLoads p (kept_cut p (kept_of c.args.cut)) c.args.total) (sym c.loads.ensures) c.requires.sums in
     on_ok_weaker c.keep.result
     (λ kept. cut_at_step c.args.self.now.task.now c.args.self.now.progress _ (kept_of c.args.cut) c.args.total loads c.requires.going
-    (record { cuts = kept; lines = refl; hubs = refl; cost = refl; made = refl; stop = refl }) c.requires.own c.requires.fit sums
+    (record { cuts = kept; lines = refl; hubs = refl; cost = refl; made = refl; stopped = refl; left = refl }) c.requires.own c.requires.fit sums
     (omega (arith, c.len.ensures, c.if-len.false)))
     c.keep.ensures.kept

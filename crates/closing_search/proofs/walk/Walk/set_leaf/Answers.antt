@@ -3,10 +3,11 @@ use Rattle.std.proofs.lemmas.Result.{on_ok_weaker}
 use Rattle.hub_spec.specs.Problem.{opening_cost}
 use Rattle.hub_spec.specs.Cuts.{Cut}
 use Rattle.hub_spec.specs.Trees.{cut_at}
-use Rattle.search_spec.proofs.Invariants.{lesser_least}
-use Rattle.search_core.specs.declared.tasks.Task.{Task}
-use Rattle.closing_search.specs.Progressing.{cuts_of, target_of, IsDone}
+use Rattle.closing_search.specs.declared.task.Task.{Task}
+use Rattle.closing_search.specs.Gaps.{goal_of}
+use Rattle.closing_search.specs.Progressing.{cuts_of, IsDone}
 use Rattle.closing_search.specs.SingleCuts.{ClosesBy}
+use Rattle.closing_search.proofs.Gaps.{goal_least}
 use Rattle.closing_search.proofs.Steps.{at_twice, at_done}
 use Rattle.closing_search.proofs.SingleBounds.{total_within}
 use Rattle.closing_search.proofs.SetLeaves.{inside_set, inside_cost, inside_closes}
@@ -38,11 +39,12 @@ cut_leaf-requires-clause-closes c =
     let cost = c.set_sums-total.result + opening_cost p b.inside in
     let is_cost = inside_cost p _ b c.in_ok-inside.inside c.deref.result.now _ c.set_sums-total.result (sums.problem ∙ c.requires.walking.bench)
     c.deref.ensures.value c.requires.walking.going.problem c.in_ok-inside.ensures sums.sums in
-    let low : target_of after ≤ cost = omega (arith, lesser_least after.cost after.stop, c.in_ok-number.ensures.cost, c.in_ok-offer_inside.ensures.reached) in
-    subst (λ (t : Task). ClosesBy t.instance.now (cut_at (cuts_of t.instance.now after) c.in_ok-number.number) (target_of after) b)
+    let gap = c.args.self.now.task.now.gap in
+    let low : goal_of gap after.cost ≤ cost = omega (arith, goal_least gap after.cost, c.in_ok-number.ensures.cost, c.in_ok-offer_inside.ensures.reached) in
+    subst (λ (t : Task). ClosesBy t.instance.now (cut_at (cuts_of t.instance.now after) c.in_ok-number.number) (goal_of t.gap after.cost) b)
     (sym c.in_ok-number.ensures.same.task)
-    (subst (λ (cut : Cut). ClosesBy p cut (target_of after) b) (sym c.in_ok-number.ensures.cut)
-    (inside_closes p b c.in_ok-inside.inside cost (target_of after) c.requires.walking.going.problem
+    (subst (λ (cut : Cut). ClosesBy p cut (goal_of gap after.cost) b) (sym c.in_ok-number.ensures.cut)
+    (inside_closes p b c.in_ok-inside.inside cost (goal_of gap after.cost) c.requires.walking.going.problem
     c.requires.walking.going.unlimited c.in_ok-inside.ensures c.requires.none_free is_cost low))
 
 pub returns-clause-done : goal.returns-clause-done

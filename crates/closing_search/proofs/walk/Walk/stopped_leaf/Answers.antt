@@ -1,4 +1,4 @@
-use Rattle.std.proofs.Common.{◌≡◌, ℕ, Some, refl, sym, ap, subst, ◌∙◌, FitsSigned, rules, arith}
+use Rattle.std.proofs.Common.{◌≡◌, ℕ, true, Some, true≢false, refl, sym, ap, subst, ◌∙◌, FitsSigned, rules, arith}
 use Rattle.std.specs.Int.{w128}
 use Rattle.std.proofs.lemmas.Int.{to_z-of_z}
 use Rattle.std.proofs.lemmas.List.{length-map}
@@ -10,12 +10,14 @@ use Rattle.hub_spec.specs.Trees.{Closes, leaf_bound}
 use Rattle.search_spec.specs.States.{denominator}
 use Rattle.closing_search.specs.SingleCuts.{weights_on}
 use Rattle.closing_search.specs.Progressing.{cuts_of, IsDone}
-use Rattle.closing_search.proofs.Choices.{leaf_sound, leaf_in_range, leaf_is_first, stop_closes, number_in}
-use Rattle.closing_search.proofs.Steps.{stop_going, stop_done}
+use Rattle.closing_search.proofs.Choices.{leaf_sound, leaf_in_range, leaf_is_first, choice_closes, number_in}
+use Rattle.closing_search.proofs.Steps.{leaving, left_going, stop_done}
 use Rattle.closing_search.proofs.walk.Walk.stopped_leaf.Goals as goal
 
 pub end_with-requires-clause-going : goal.end_with-requires-clause-going
-end_with-requires-clause-going c = stop_going c.args.self.now.task.now c.args.self.now.progress c.lesser.result c.requires.going c.requires.spent
+end_with-requires-clause-going c =
+    left_going c.args.self.now.task.now c.args.self.now.progress true c.lesser.result c.requires.going (λ stop. c.requires.spent)
+    (λ goes. absurd (true≢false goes))
 
 pub end_with-requires-clause-end : goal.end_with-requires-clause-end
 end_with-requires-clause-end c b pending = rw c.in_ok-line.ensures refl
@@ -31,7 +33,7 @@ end_with-requires-clause-sound c =
     let fits : FitsSigned w128 choice.bound = search rules in
     let up : c.rounded_up.result ≡ rounded_up choice.bound = c.rounded_up.ensures ∙ ap rounded_up (to_z-of_z w128 choice.bound fits) in
     let closes = subst (λ (low : ℕ). Closes denominator (lesser s.cost (Some low)) (leaf_bound p cuts denominator (weights_on choice.number) b))
-    (sym c.lesser.ensures) (stop_closes p cuts b choice s.cost c.rounded_up.result s.stop is up) in
+    (sym c.lesser.ensures) (choice_closes p cuts b choice s.cost c.rounded_up.result s.left is up) in
     leaf_sound p s.cuts.cuts (lesser s.cost (Some c.lesser.result)) b choice.number (tree_line_of c.in_ok-line.line)
     c.requires.going.unlimited c.requires.going.own (number_in p cuts b choice is) c.in_ok-line.ensures closes
 
@@ -56,5 +58,5 @@ returns-clause-done c =
     let after = c.end_with.new.progress in
     on_ok_weaker c.end_with.result
     (λ done. stop_done t b s after c.rounded_up.result c.requires.spent c.requires.due
-    (subst (λ (low : ℕ). IsDone t b (record s { stop = Some low }) after) c.lesser.ensures done))
+    (subst (λ (low : ℕ). IsDone t b (leaving s true low) after) c.lesser.ensures done))
     c.end_with.ensures

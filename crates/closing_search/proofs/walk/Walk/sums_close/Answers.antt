@@ -62,6 +62,6 @@ returns c cut are above =
     (on_cut (goal.at.returns c).After-cut_weighting-weighting cut are) in
     let fits : FitsSigned w128 c.bound.result = search rules in
     let same = to_z-of_z w128 c.bound.result fits in
-    let target = c.target.ensures in
+    let wanted = c.goal.ensures.value in
     let closes = c.is_above.ensures above in
     search rules

@@ -3,7 +3,7 @@ use Rattle.std.proofs.lemmas.Result.{on_ok_weaker}
 use Rattle.hub_spec.specs.Trees.{Branching, IsBranch}
 use Rattle.hub_spec.proofs.ChildLists.{open_branch, closed_branch}
 use Rattle.search_spec.proofs.Parting.{length-without}
-use Rattle.search_core.specs.declared.tasks.Task.{Task}
+use Rattle.closing_search.specs.declared.task.Task.{Task}
 use Rattle.closing_search.specs.Progressing.{IsDone, IsAdvised}
 use Rattle.closing_search.proofs.Steps.{at_done, halved_done}
 use Rattle.closing_search.proofs.Walks.{walks_on}

@@ -1,6 +1,6 @@
 use Rattle.std.proofs.Common.{subst}
 use Rattle.std.proofs.lemmas.Result.{IfOk-weaker}
-use Rattle.search_core.specs.declared.tasks.Task.{Task}
+use Rattle.closing_search.specs.declared.task.Task.{Task}
 use Rattle.closing_search.specs.Progressing.{IsAdvised}
 use Rattle.closing_search.proofs.Steps.{at_advised}
 use Rattle.closing_search.proofs.walker.Walker.end_by_advice.Goals as goal
