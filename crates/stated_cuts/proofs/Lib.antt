@@ -1,0 +1,3 @@
+pub mod DualEntries
+pub mod RunLists
+pub mod RunSums

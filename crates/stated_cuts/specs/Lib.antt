@@ -1,0 +1,4 @@
+pub mod Totals
+pub mod Values
+pub mod Runs
+pub mod CutParts
