@@ -12,7 +12,7 @@ from .files import put_all
 from .loads import FIXED_UNITS, Network
 from .options import options_of
 from .program import short
-from .quantities import decimal, gap
+from .quantities import trimmed
 from .tables import Named, add_accepted, cost_text, flow_text, read_named
 
 if TYPE_CHECKING:
@@ -22,11 +22,6 @@ PARTS = Path(__file__).resolve().parent / "page_parts"
 """The page without its contents, its style and its script."""
 WIDTH = 1000
 """The longer side of the map, in the numbers of the page; the browser fits it to its window."""
-
-
-def trimmed(text: str) -> str:
-    """A decimal without zeros at its end."""
-    return text.rstrip("0").rstrip(".") if "." in text else text
 
 
 def map_places(places: "np.ndarray") -> tuple[list[list[float]], list[float]]:
@@ -71,6 +66,7 @@ def page_data(named: Named, places: "np.ndarray", note: str) -> dict[str, object
         "parts": [[part, trimmed(cost_text(cost))] for part, cost in network.costs().items()],
         "total": trimmed(cost_text(named.verdict.cost)),
         "bound": trimmed(cost_text(named.verdict.bound)),
+        "gap": named.verdict.gap(),
         "ways": ways,
         "flows": [" ".join(trimmed(flow_text(flow)) for flow in row) for row in network.instance.flows],
         "costs": [" ".join(trimmed(cost_text(cost)) for cost in row) for row in network.route_costs],
@@ -82,10 +78,9 @@ def verdict_text(named: Named) -> str:
     verdict = named.verdict
     if verdict.is_optimal():
         return f"Proved optimal: this network costs {short(verdict.cost)}, and none costs less."
-    part = decimal(int(gap(verdict.cost, verdict.bound).replace(".", "")), 4)
     return (
         f"Not proved optimal: this network costs {short(verdict.cost)}, and none costs less than"
-        f" {short(verdict.bound)}; the gap is {part} % of the cost."
+        f" {short(verdict.bound)}; the gap is {verdict.gap()} % of the cost."
     )
 
 

@@ -1,7 +1,9 @@
 """From Python: a problem of numpy arrays or of files, solved and proved by `hub`. Nodes count from 0 here."""
 
+import inspect
 import os
 import shutil
+import warnings
 import weakref
 from collections.abc import Iterable
 from dataclasses import dataclass, field, replace
@@ -16,9 +18,10 @@ from . import pythons
 from .convert import read_tables, with_distances
 from .faults import Fault
 from .files import put_all
-from .quantities import COST_PLACES, DISTANCE, FACTOR, FIXED_COST, FLOW, SIZE, Quantity, decimal
+from .options import LISTED, QUANTITIES
+from .quantities import COST_PLACES, DISTANCE, FACTOR, FIXED_COST, FLOW, SIZE, Quantity, decimal, trimmed
 from .report_files import all_results
-from .solving import ASKED, CERTIFICATE, Question, answer, answer_in, question_of
+from .solving import ASKED, CERTIFICATE, Question, answer, answer_in, question_of, served
 from .sources import Source, numbered, read_ap, read_fixed
 from .tables import Named
 from .tokens import Tokens
@@ -89,6 +92,16 @@ class Result:
     def bound(self) -> Decimal:
         """No network costs less than this."""
         return exact_cost(self.named.verdict.bound)
+
+    @property
+    def gap(self) -> Decimal:
+        """How far the bound is below the cost, in per cent of the cost, rounded up to four decimals."""
+        return Decimal(self.named.verdict.gap())
+
+    @property
+    def solved_by(self) -> str:
+        """The command of `hub` that found it: `optimize` or `solve`."""
+        return self.question.verb
 
     @property
     def is_optimal(self) -> bool:
@@ -186,37 +199,68 @@ class Problem:
     def solve(
         self,
         fixed: Any = None,
-        hubs: int | None = None,
+        hubs: int | str | None = None,
         max_length: Any = None,
         collect: Any = None,
         trunk: Any = None,
         deliver: Any = None,
         candidates: Iterable[int] | None = None,
         no_self: bool = False,
+        gap: Any = None,
         nodes: int | None = None,
         workers: int | None = None,
+        format: int | None = None,
         by: str = "optimize",
+        rounded: bool = False,
     ) -> Result:
-        """The network that costs least. What is given here takes the place of what the problem has; `nodes` stops the
-        search at so many nodes of its tree, and `by` may be `solve` for its fixed rule."""
+        """The network that costs least. What is given here takes the place of what the problem has.
+
+        `hubs` is how many hubs there are to be, or "file" for as many as an AP file lists; `max_length` how long a route
+        may be, in the unit of the distances; `candidates` are the nodes that may be hubs. `gap` ends the search once the
+        bound is within so many per cent of the cost, `nodes` at so many nodes of its tree. `by` may be "solve" for its
+        fixed rule. Where this `hub` has `hubs` or `max_length` for `solve` alone, that takes the place of `optimize`, and
+        a warning says so. A `Fault` where there is no network, or where `hub` takes what is given not.
+        """
         source, values = self.source, dict(self.values)
+        if by not in ("optimize", "solve"):
+            raise Fault(f"by: wanted 'optimize' or 'solve', found {by!r}")
         if fixed is not None:
-            source = replace(source, fixed=vector_texts(fixed, source.size(), "fixed", False))
-        for name, factor in (("collect", collect), ("trunk", trunk), ("deliver", deliver)):
-            if factor is not None:
-                values[name] = exact_text(factor, FACTOR, name, False)
-        if max_length is not None:
-            values["max-length"] = exact_text(max_length, DISTANCE, "max_length", False)
+            source = replace(source, fixed=vector_texts(fixed, source.size(), "fixed", rounded))
+        for name, number in (("collect", collect), ("trunk", trunk), ("deliver", deliver), ("max-length", max_length)):
+            if number is not None:
+                values[name] = exact_text(number, QUANTITIES[name], name.replace("-", "_"), rounded)
         if hubs is not None:
-            values["hubs"] = str(hubs)
+            values["hubs"] = whole_text(hubs, "hubs")
         if candidates is not None:
             values["candidates"] = candidate_list(candidates, source.size())
-        search = {name: str(number) for name, number in (("nodes", nodes), ("workers", workers)) if number is not None}
+        counts = (("nodes", nodes), ("workers", workers), ("format", format))
+        search = {name: whole_text(number, name) for name, number in counts if number is not None}
+        if gap is not None:
+            # It is not cut by hub, so a Decimal with zeros at its end is written without them.
+            search["gap"] = trimmed(exact_text(gap, QUANTITIES["gap"], "gap", rounded))
         return result_of(question_of(source, self.layout, values, no_self, verb=by, **search))
+
+
+def whole_text(value: Any, name: str) -> str:
+    """A whole number as hub wants it, or the word for the number that an AP file lists."""
+    if isinstance(value, str) and (name, value) == ("hubs", LISTED):
+        return LISTED
+    return trimmed(exact_text(value, QUANTITIES[name], name, False))
+
+
+def calls_from_outside() -> int:
+    """By how many calls who asks this is led back to the one who called this module."""
+    frame, calls = inspect.currentframe(), 0
+    while frame and frame.f_code.co_filename == __file__:
+        frame, calls = frame.f_back, calls + 1
+    return calls
 
 
 def result_of(question: Question) -> Result:
     """The answer to a question, in a folder that is removed with it."""
+    question, note = served(question)
+    if note:
+        warnings.warn(note, stacklevel=calls_from_outside())
     folder = Path(mkdtemp(prefix="hub-"))
     try:
         answer(question, folder)
@@ -244,5 +288,7 @@ def solve(
     rounded: bool = False,
     **options: Any,
 ) -> Result:
-    """The network that costs least for two square matrices; `options` are those of `Problem.solve`."""
-    return Problem.from_arrays(flows, distances, fixed, names, rounded).solve(**options)
+    """The network that costs least for two square matrices, whose rows are origins, and whose distances are in any unit;
+    `fixed` is one cost of a hub, or one for each node, and `options` are those of `Problem.solve`. Numbers with more
+    decimals than `hub` keeps are refused with a `Fault`, or rounded where `rounded` says so."""
+    return Problem.from_arrays(flows, distances, fixed, names, rounded).solve(rounded=rounded, **options)

@@ -11,13 +11,17 @@ from pathlib import Path
 
 from .faults import Fault
 from .options import NOT_IN_EACH, Options
-from .quantities import COST_PLACES, decimal
+from .quantities import COST_PLACES, decimal, gap_percent
 
 
 USAGE = 3
 """The status with which `hub` refuses words, before it opens any file."""
 NO_NETWORK = 8
 """The status with which `hub` says that no network keeps to the longest route."""
+NO_ROUTE = re.compile(r"hub: no network for ([0-9]+) ([0-9]+)")
+"""What it says then: the first two nodes that no route joins which is short enough."""
+TAKES_PLACE = "hub solve takes its place, which serves up to some 25 nodes"
+"""What is told where `optimize` has not an option that `solve` has."""
 MOST_STATUS = 15
 """A greater status, or a signal, is none of hub's."""
 
@@ -44,13 +48,47 @@ def refuses(name: str, verb: str, *words: str) -> bool:
     return ended.returncode == USAGE
 
 
+def lacking(verb: str, names: Iterable[str]) -> list[str]:
+    """Those of these options that this `hub` has not for a command that it has."""
+    return [name for name in names if name in NOT_IN_EACH and refuses(program(), verb, f"--{name}={NOT_IN_EACH[name]}")]
+
+
 def require(verb: str, names: Iterable[str] = ()) -> None:
     """A fault where this `hub` has not the command, or has not one of its options of these names."""
     if refuses(program(), verb):
         raise Fault(f"{program()}: this hub has no command {verb}")
-    for name in names:
-        if name in NOT_IN_EACH and refuses(program(), verb, f"--{name}={NOT_IN_EACH[name]}"):
-            raise Fault(f"{program()}: this hub has no option --{name} for {verb}")
+    for name in lacking(verb, names):
+        raise Fault(f"{program()}: this hub has no option --{name} for {verb}")
+
+
+def serving(verb: str, names: Iterable[str]) -> tuple[str, str]:
+    """The command that solves with these options, and what a user is told of it: the one that was asked for, of which
+    nothing is told; or `solve` in the place of `optimize` where this `hub` has not one of them for that. A fault where
+    neither serves."""
+    names = list(names)
+    missing = [] if refuses(program(), verb) else lacking(verb, names)
+    if verb != "optimize" or not missing or refuses(program(), "solve"):
+        require(verb, names)
+        return verb, ""
+    options = " and ".join(f"--{name}" for name in missing)
+    beside = lacking("solve", names)
+    if not beside:
+        return "solve", f"this hub has no option {options} for optimize; {TAKES_PLACE}"
+    more = "" if beside == missing else f", and no --{beside[0]} for solve, which could take its place"
+    raise Fault(f"{program()}: this hub has no option {options} for optimize{more}")
+
+
+def no_network(said: str, names: list[str] | None, longest: str) -> str:
+    """What a user is told where no network keeps to the longest route, from the line of `hub`; places by their names,
+    where they have any."""
+    match = NO_ROUTE.fullmatch(said)
+    if match is None or not longest:
+        return f"no network keeps to the longest route: {said}"
+    start, stop = (names[int(node) - 1] if names else node for node in match.groups())
+    return (
+        f"no network keeps to --max-length {longest}: from {start} to {stop} no route is that short, even with all"
+        " candidates as hubs"
+    )
 
 
 def command(verb: str, options: Options, *files: Path, extra: list[str] | None = None) -> list[str]:
@@ -89,7 +127,12 @@ class Verdict:
         """The cost and what is proved of it, in words."""
         if self.is_optimal():
             return f"cost {short(self.cost)}, proved optimal"
-        return f"cost {short(self.cost)}, not proved optimal: no plan costs less than {short(self.bound)}"
+        least = f"no plan costs less than {short(self.bound)} (gap {self.gap()} %)"
+        return f"cost {short(self.cost)}, not proved optimal:\n{least}"
+
+    def gap(self) -> str:
+        """How far the bound is below the cost, in per cent of the cost."""
+        return gap_percent(self.cost, self.bound)
 
 
 def short(cost: int) -> str:

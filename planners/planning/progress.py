@@ -27,6 +27,11 @@ class Steps:
         seconds = int(time.monotonic() - self.start)
         self.show(f"[{self.number}/{self.total}] {self.text}" + (f", {seconds} s" if seconds else ""))
 
+    def tell(self, line: str) -> None:
+        """Writes a line that stays, also where standard error is no terminal."""
+        self.show("")
+        print(line, file=sys.stderr, flush=True)
+
     def end(self) -> None:
         """Leaves nothing behind."""
         self.show("")

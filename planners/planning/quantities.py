@@ -8,6 +8,8 @@ MOST_BYTES = 40
 COST_PLACES = 12
 FLOW_PLACES = 6
 DISTANCE_PLACES = 3
+GAP_PLACES = 4
+"""Of a gap in per cent, as it is told."""
 
 
 @dataclass(frozen=True)
@@ -62,8 +64,14 @@ def decimal(units: int, places: int) -> str:
     return f"{sign}{whole}.{part:0{places}}" if places else f"{sign}{whole}"
 
 
-def gap(cost: int, bound: int) -> str:
-    """How far the bound is below the cost, as a part of the cost, rounded up: it is 0 only where it is closed."""
+def trimmed(text: str) -> str:
+    """A decimal without zeros at its end."""
+    return text.rstrip("0").rstrip(".") if "." in text else text
+
+
+def gap_percent(cost: int, bound: int) -> str:
+    """How far the bound is below the cost, in per cent of the cost to four decimals, rounded up: it is 0 only where it
+    is closed."""
     if cost == 0:
-        return decimal(0, 6)
-    return decimal(-((bound - cost) * 10**6 // cost), 6)
+        return decimal(0, GAP_PLACES)
+    return decimal(-((bound - cost) * 100 * 10**GAP_PLACES // cost), GAP_PLACES)

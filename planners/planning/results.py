@@ -13,8 +13,8 @@ from .certificate import read_hubs
 from .csv_tables import table_text
 from .files import put_all
 from .measure import run
-from .program import NO_NETWORK, Verdict, command, verdict_of
-from .quantities import COST_PLACES, decimal, gap
+from .program import NO_NETWORK, Verdict, command, no_network, verdict_of
+from .quantities import COST_PLACES, decimal
 from .scenarios import Scenario
 
 
@@ -33,14 +33,14 @@ class Result:
     verdict: str = ""
     cost: str = ""
     bound: str = ""
-    gap: str = ""
+    gap_percent: str = ""
     number_of_hubs: str = ""
     open_hubs: str = ""
     tree_nodes: str = ""
     again_from: str = ""
     """The row from whose certificate it was solved again; empty where it was solved anew."""
     anew_seconds: str = ""
-    """What the last row before that was solved anew took, or this one."""
+    """What the row took that was solved anew, this one or that from which it was solved again."""
 
     def is_answer_to(self, key: str, limit: float | None) -> bool:
         """Whether the scenario of this key need not be run again under this time limit."""
@@ -49,7 +49,7 @@ class Result:
 
     @property
     def gain(self) -> str:
-        """How many times as long the last row took that was solved anew."""
+        """How many times as long the row took from which it was solved again."""
         if not self.again_from or not float(self.seconds):
             return ""
         return f"{float(self.anew_seconds) / float(self.seconds):.2f}"
@@ -59,7 +59,7 @@ SHOWN = [
     "outcome",
     "cost",
     "bound",
-    "gap",
+    "gap_percent",
     "number_of_hubs",
     "open_hubs",
     "tree_nodes",
@@ -83,6 +83,8 @@ class Sweep:
     folder: Path
     limit: float | None
     keep: bool
+    names: list[str] | None = None
+    """The names of the nodes, where they are known."""
 
     def file(self, scenario: Scenario, end: str) -> Path:
         """A file of one scenario."""
@@ -96,26 +98,33 @@ class Sweep:
             return None
         return result if result.is_answer_to(scenario.key(), self.limit) else None
 
-    def before(self, scenario: Scenario) -> Scenario | None:
-        """The scenario that this one may go on from."""
-        return self.scenarios[scenario.number - 2] if scenario.goes_on else None
-
-    def chains(self, pending: list[Scenario]) -> list[list[Scenario]]:
-        """These scenarios, those together of which each goes on from the one before."""
+    def chains(self) -> list[list[Scenario]]:
+        """All scenarios, those together that may go on from each other."""
         chains: list[list[Scenario]] = []
-        for scenario in pending:
-            if chains and self.before(scenario) is chains[-1][-1]:
+        for scenario in self.scenarios:
+            if scenario.goes_on:
                 chains[-1].append(scenario)
             else:
                 chains.append([scenario])
         return chains
 
     def do_chain(self, chain: list[Scenario], stop: Event) -> None:
-        """Does scenarios one after another; each certificate is kept until the next one is done."""
-        for place, scenario in enumerate(chain):
-            self.do(scenario, stop, self.keep or place + 1 < len(chain))
-            if place and not self.keep:
-                self.file(chain[place - 1], "cert").unlink(missing_ok=True)
+        """Does scenarios one after another; certificates from which others may go on are kept until all are done."""
+        for scenario in chain:
+            self.do(scenario, stop, self.keep or len(chain) > 1)
+        if not self.keep:
+            for scenario in chain:
+                self.file(scenario, "cert").unlink(missing_ok=True)
+
+    def older(self, scenario: Scenario) -> tuple[Scenario, Result] | None:
+        """The scenario from whose certificate this one is solved again, and its result: the last one before it that was
+        solved anew. A certificate that was itself made from an older one has all of its cuts too, and serves worse."""
+        chain = next(chain for chain in self.chains() if scenario in chain)
+        for other in reversed(chain[: chain.index(scenario)]):
+            result = self.result(other)
+            if result and result.outcome == "accepted" and not result.again_from and self.file(other, "cert").exists():
+                return other, result
+        return None
 
     def do(self, scenario: Scenario, stop: Event, keep: bool) -> None:
         """Solves and checks a scenario, unless it is done, and keeps the result."""
@@ -125,41 +134,39 @@ class Sweep:
         with TemporaryDirectory(prefix=f"{scenario.number}{AT_WORK}", dir=self.folder / "rows") as held:
             folder = Path(held)
             result = self.solve(scenario, folder, stop)
-            if keep and (folder / "cert").exists():
+            if (self.keep or (keep and not result.again_from)) and (folder / "cert").exists():
                 (folder / "cert").replace(self.file(scenario, "cert"))
             part = folder / "json"
             part.write_text(json.dumps(asdict(result), indent=1) + "\n", encoding="utf-8")
             part.replace(self.file(scenario, "json"))
 
-    def search_words(self, scenario: Scenario) -> tuple[list[str], Result | None]:
-        """The words that solve a scenario, and the result of the row before if it is solved again from that."""
-        before = self.before(scenario)
-        old = self.file(before, "cert") if before else None
-        known = self.result(before) if before else None
-        if old and known and known.outcome == "accepted" and old.exists():
+    def words(self, scenario: Scenario, older: Scenario | None) -> list[str]:
+        """The words that solve a scenario, anew or again from the certificate of an older one."""
+        if older:
             # A format is one of the certificate to be written; what solves again has its own.
-            words = [word for word in scenario.solve_words if not word.startswith("--format=")]
-            return command("resolve", scenario.options, old, extra=words), known
-        return command(scenario.command, scenario.options, extra=scenario.solve_words), None
+            return command(
+                "resolve", scenario.options, self.file(older, "cert"), extra=scenario.search_words(("format",))
+            )
+        return command(scenario.command, scenario.options, extra=scenario.search_words())
 
     def solve(self, scenario: Scenario, folder: Path, stop: Event) -> Result:
         """Runs the search, and `hub check` on what it wrote into this folder."""
         key = scenario.key()
         certificate, told = folder / "cert", folder / "verdict"
-        words, known = self.search_words(scenario)
-        solved = run(words, certificate, self.limit, stop)
+        older, known = (self.older(scenario) if scenario.goes_on else None) or (None, None)
+        solved = run(self.words(scenario, older), certificate, self.limit, stop)
         seconds = f"{solved.seconds:.3f}"
         used = {
             "limit": self.limit,
             "seconds": seconds,
             "peak_mib": f"{solved.peak / 1024:.1f}" if solved.peak else "",
-            "again_from": str(scenario.number - 1) if known else "",
-            "anew_seconds": known.anew_seconds if known else seconds,
+            "again_from": str(older.number) if older else "",
+            "anew_seconds": known.seconds if known else seconds,
         }
         if solved.status is None:
             return Result(key, "time limit", **used)
         if solved.status == NO_NETWORK:
-            return Result(key, solved.error.removeprefix("hub: "), **used)
+            return Result(key, no_network(solved.error, self.names, scenario.options.values.get("max-length", "")), **used)
         if solved.status not in (0, 1):
             return Result(key, f"failed with status {solved.status}: {solved.error}", **used)
         checked = run(command("check", scenario.options, certificate), told, self.limit, stop)
@@ -196,7 +203,7 @@ def accepted(key: str, verdict: Verdict, certificate: Path, used: dict[str, Any]
         verdict=verdict.line().split()[0],
         cost=decimal(verdict.cost, COST_PLACES),
         bound=decimal(verdict.bound, COST_PLACES),
-        gap=gap(verdict.cost, verdict.bound),
+        gap_percent=verdict.gap(),
         number_of_hubs=str(len(hubs)),
         open_hubs=" ".join(map(str, hubs)),
         tree_nodes=tree_nodes(certificate),

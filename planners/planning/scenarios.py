@@ -9,14 +9,14 @@ from pathlib import Path
 
 from .csv_tables import Row, read_table
 from .faults import Fault, at
-from .options import QUANTITIES, Options, is_costs, is_taken
+from .options import OF_SEARCH, QUANTITIES, Options, is_costs, is_list_of_nodes, is_taken, not_together, wanted
 
 NUMBERS = {name.replace("-", "_"): quantity for name, quantity in QUANTITIES.items() if name != "divide"}
 """The columns of numbers."""
 COLUMNS = [*NUMBERS, "costs", "candidates"]
 """What a table may change."""
-OF_SOLVE = ("nodes", "workers", "format")
-"""Options of a search that are none of the instance."""
+ALONE = "gap"
+"""An option of `optimize` that `resolve` has not, so that a row with it is solved anew."""
 
 
 @dataclass(frozen=True)
@@ -31,16 +31,22 @@ class Scenario:
     """The instance."""
     command: str
     """The command of `hub` that solves it anew: `optimize` or `solve`."""
-    solve_words: list[str]
+    search: dict[str, str]
+    """The options of the search, by name."""
     goes_on: bool = False
-    """Whether it may be solved again from the certificate of the row before, from which it differs in fixed costs."""
+    """Whether it may be solved again from the certificate of a row before, since it differs from the row before in fixed
+    costs or the number of hubs alone."""
+
+    def search_words(self, left_out: tuple[str, ...] = ()) -> list[str]:
+        """The options of the search as words for `hub`."""
+        return [f"--{name}={value}" for name, value in self.search.items() if name not in left_out]
 
     def key(self) -> str:
         """What tells whether two rows ask the same: the words and the bytes of the files."""
         costs = self.options.values.get("costs")
         files = [digest(self.options.file), digest(Path(costs)) if costs else ""]
         words = [word for word in self.options.words() if not word.startswith("--costs=")]
-        text = json.dumps([self.options.layout, files, sorted(words), self.command, self.solve_words, self.goes_on])
+        text = json.dumps([self.options.layout, files, sorted(words), self.command, self.search_words(), self.goes_on])
         return hashlib.sha256(text.encode()).hexdigest()
 
 
@@ -55,11 +61,10 @@ def tested(row: Row, column: str) -> str:
     text = row.cells[column]
     if column in NUMBERS:
         if not is_taken(column.replace("_", "-"), text):
-            raise row.fault(column, NUMBERS[column].wanted())
+            raise row.fault(column, wanted(column.replace("_", "-")))
     elif column == "candidates":
         text = re.sub(r"[\s,]+", ",", text)
-        nodes = [int(word) for word in text.split(",") if re.fullmatch("[1-9][0-9]{0,2}", word)]
-        if len(nodes) != text.count(",") + 1 or nodes != sorted(set(nodes)):
+        if not is_list_of_nodes(text):
             raise row.fault(column, "ascending numbers of nodes with spaces or commas between")
     elif not Path(text).is_file():
         raise row.fault(column, "a file")
@@ -67,17 +72,20 @@ def tested(row: Row, column: str) -> str:
 
 
 def is_same_network(first: Options, second: Options) -> bool:
-    """Whether two options of one instance differ in fixed costs alone."""
+    """Whether two options of one instance differ in fixed costs or the number of hubs alone, so that what the certificate
+    of one proves by its cuts holds for the other."""
 
     def others(options: Options) -> dict[str, str]:
-        return {name: value for name, value in options.values.items() if not is_costs(name, value)}
+        return {name: value for name, value in options.values.items() if name != "hubs" and not is_costs(name, value)}
 
     return others(first) == others(second)
 
 
-def read_scenarios(path: Path, base: Options, command: str, again: bool = False) -> list[Scenario]:
-    """The rows of a table of scenarios of an instance, each to be solved by this command of `hub`; or again from the
-    certificate of the row before, where that may be and is asked for."""
+def read_scenarios(
+    path: Path, base: Options, search: dict[str, str], command: str, again: bool = False
+) -> list[Scenario]:
+    """The rows of a table of scenarios of an instance, each to be solved by this command of `hub` with these options of
+    the search; or again from the certificate of a row before, where that may be and is asked for."""
     scenarios: list[Scenario] = []
     for row in read_table(path, []):
         unknown = [column for column in row.cells if column not in (*COLUMNS, "name")]
@@ -86,10 +94,13 @@ def read_scenarios(path: Path, base: Options, command: str, again: bool = False)
         values = {column.replace("_", "-"): tested(row, column) for column in COLUMNS if row.cells.get(column)}
         if "fixed" in values and "costs" in values:
             raise row.fault("costs", "no file beside a number in the column 'fixed'")
-        solve_words = [f"--{name}={values.pop(name)}" for name in OF_SOLVE if name in values]
+        asked = search | {name: values.pop(name) for name in OF_SEARCH if name in values}
         options = base.changed(values)
-        goes_on = again and bool(scenarios) and is_same_network(scenarios[-1].options, options)
-        scenarios.append(Scenario(len(scenarios) + 1, row.cells, options, command, solve_words, goes_on))
+        reason = not_together(options.values | asked, base.layout)
+        if reason:
+            raise Fault(f"{path}:{row.line}: {reason}")
+        goes_on = again and bool(scenarios) and is_same_network(scenarios[-1].options, options) and ALONE not in asked
+        scenarios.append(Scenario(len(scenarios) + 1, row.cells, options, command, asked, goes_on))
     if not scenarios:
         raise Fault(f"{path}: wanted at least one row")
     return scenarios

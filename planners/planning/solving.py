@@ -1,10 +1,12 @@
 """A question to `hub`, and the folder that keeps its files and the certificate that answers it."""
 
+import csv
 import hashlib
 import json
+import re
 import shlex
 from collections.abc import Callable, Iterable
-from dataclasses import asdict, dataclass
+from dataclasses import dataclass, replace
 from pathlib import Path
 from tempfile import TemporaryDirectory
 from threading import Event
@@ -13,8 +15,9 @@ from .convert import converted
 from .faults import Fault
 from .files import put_all
 from .measure import Ended, run
-from .options import Options, test_values
-from .program import NO_NETWORK, command, judge, require
+from .options import LISTED, Options, test_values
+from .program import NO_NETWORK, USAGE, command, judge, no_network, serving
+from .quantities import LISTED_HUBS
 from .sources import Source
 from .tables import Named, read_named
 
@@ -22,6 +25,8 @@ INSTANCE, COSTS, NAMES = "instance.txt", "instance.costs.txt", "instance.names.c
 CERTIFICATE = "certificate.txt"
 ASKED = "study.json"
 """What was asked, by which a certificate is known as the answer to the same words again."""
+TOO_MANY = re.compile(r"hub: instance fault 12 Hubs ([0-9]+)")
+"""What `hub` says where fewer candidates are there than hubs are wanted."""
 
 
 @dataclass(frozen=True)
@@ -43,6 +48,10 @@ class Question:
         costs = {"costs": str(folder / COSTS)} if COSTS in self.texts else {}
         return Options(self.layout, folder / INSTANCE, costs | self.values, self.no_self)
 
+    def names(self) -> list[str]:
+        """The names of the nodes."""
+        return [row["name"] for row in csv.DictReader(self.texts[NAMES].splitlines())]
+
     def search_words(self) -> list[str]:
         """The options of the search as words for `hub`."""
         return [f"--{name}={value}" for name, value in self.search.items()]
@@ -61,7 +70,17 @@ def question_of(source: Source, layout: str, values: dict[str, str], no_self: bo
     """The question of a source; `search` has the command as `verb`, and its options."""
     texts = {path.name: text for path, text in converted(source, layout, False, "instance").items()}
     verb = search.pop("verb", "optimize")
+    test_values(values | search, layout)
+    if values.get("hubs") == LISTED and not LISTED_HUBS.read(source.listed):
+        raise Fault(f"--hubs {LISTED} wants an ap file that lists a number of hubs; say the number itself")
     return Question(texts, layout, values, no_self, verb, search)
+
+
+def served(question: Question) -> tuple[Question, str]:
+    """The question by the command of this `hub` that has its options, and what a user is told where that is another
+    one than was asked for."""
+    verb, note = serving(question.verb, [*question.values, *question.search])
+    return replace(question, verb=verb), note
 
 
 def is_answered(question: Question, folder: Path) -> bool:
@@ -76,9 +95,8 @@ def is_answered(question: Question, folder: Path) -> bool:
 
 
 def answer(question: Question, folder: Path, look: Callable[[], None] | None = None, stale: Iterable[str] = ()) -> None:
-    """Solves and checks, and puts files and certificate into the folder; files of the stale names are removed then."""
-    test_values(question.values | question.search)
-    require(question.verb, [*question.values, *question.search])
+    """Solves a question that is served, checks, and puts files and certificate into the folder; files of the stale names
+    are removed then."""
     folder.mkdir(parents=True, exist_ok=True)
     with TemporaryDirectory(prefix=".at-work-", dir=folder) as held:
         work = Path(held)
@@ -101,7 +119,13 @@ def failure(question: Question, ended: Ended) -> str:
     """Why there is no certificate."""
     said = ended.error or f"status {ended.status}"
     if ended.status == NO_NETWORK:
-        return f"no network keeps to the longest route: {said}"
+        return no_network(said, question.names(), question.values.get("max-length", ""))
+    if ended.status == USAGE:
+        words = shlex.join([question.layout, *question.options(Path()).words(), *question.search_words()])
+        return f"hub {question.verb} does not take these words: {words}"
+    too_many = TOO_MANY.fullmatch(said)
+    if too_many:
+        return f"--hubs {too_many[1]}: there are not so many candidates"
     return f"hub {question.verb} found no network: {said}"
 
 

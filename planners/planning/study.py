@@ -9,15 +9,14 @@ from . import pythons
 from .convert import add_tables, listed, read_tables, with_distances
 from .faults import Fault, Parser
 from .files import put_all
-from .options import add_valued, values_of
+from .options import OF_SEARCH, add_valued, values_of
 from .progress import Steps
 from .report_files import PAGE, RESULTS, all_results
-from .solving import Question, answer, answer_in, is_answered, question_of
+from .solving import Question, answer, answer_in, is_answered, question_of, served
 from .sources import Source
 from .sweep import stop_as_by_hand
 
 OF_INSTANCE = ["divide", "collect", "trunk", "deliver", "fixed", "hubs", "max-length"]
-OF_SEARCH = ["workers", "format"]
 
 
 def parser() -> Parser:
@@ -33,7 +32,6 @@ def parser() -> Parser:
     several = "which nodes may be hubs: names or numbers with commas between"
     group.add_argument("--candidates", metavar="LIST", help=several)
     group.add_argument("--no-self", action="store_true", help="flows from a node to itself count as 0")
-    group.add_argument("--nodes", dest="tree_nodes", metavar="N", help="stop the search at so many nodes, with a bound")
     add_valued(group, OF_SEARCH)
     group.add_argument("--solve", action="store_true", help="by hub solve, for up to some 25 nodes, not hub optimize")
     return words
@@ -48,8 +46,6 @@ def question_for(args: argparse.Namespace, source: Source) -> Question:
         nodes = sorted(node + 1 for node in listed(source, "--candidates", args.candidates))
         values["candidates"] = ",".join(map(str, nodes))
     search = {"verb": "solve" if args.solve else "optimize"} | values_of(args, OF_SEARCH)
-    if args.tree_nodes is not None:
-        search["nodes"] = args.tree_nodes
     if source.points:
         return question_of(source, "ap", values, args.no_self, **search)
     return question_of(with_distances(source, args.unit), "cab-matrix", values, args.no_self, **search)
@@ -58,11 +54,14 @@ def question_for(args: argparse.Namespace, source: Source) -> Question:
 def study(args: argparse.Namespace, steps: Steps) -> list[str]:
     """Does all that is not done; what is told at the end."""
     steps.begin("reading the tables")
-    question = question_for(args, read_tables(args.node_table, args.flow_table, args.delimiter))
+    asked = question_for(args, read_tables(args.node_table, args.flow_table, args.delimiter))
     inputs = [args.node_table, args.flow_table]
     if any(path.resolve().parent == args.out.resolve() for path in inputs):
         raise Fault(f"{args.out}: the tables to read lie in this folder; choose another --out")
     steps.begin("looking for what is there")
+    question, note = served(asked)
+    if note:
+        steps.tell(f"study: {note}")
     if not is_answered(question, args.out):
         steps.begin(f"hub {question.verb}")
         answer(question, args.out, steps.look, stale=RESULTS)
@@ -71,7 +70,8 @@ def study(args: argparse.Namespace, steps: Steps) -> list[str]:
     results = all_results(named, question.options(args.out), args.out, args.title, not args.no_map)
     put_all({args.out / name: content for name, content in results.items()})
     names = ", ".join(named.names[hub] for hub in named.network.plan.hubs)
-    return [named.verdict.line(), f"hubs: {names}", str(args.out / PAGE)]
+    gap = [] if named.verdict.is_optimal() else [f"gap: {named.verdict.gap()} % of the cost"]
+    return [named.verdict.line(), *gap, f"hubs: {names}", str(args.out / PAGE)]
 
 
 def main(words: list[str]) -> int:

@@ -2,6 +2,7 @@
 
 import argparse
 import shlex
+from dataclasses import replace
 import shutil
 import signal
 import subprocess
@@ -12,10 +13,12 @@ from pathlib import Path
 from threading import Event
 
 from .faults import Fault, Parser
-from .options import add_options, options_of
-from .program import program, require
+from .csv_tables import read_nodes
+from .options import OF_SEARCH, add_options, add_valued, options_of, test_values, values_of
+from .program import TAKES_PLACE, program, require, serving
 from .results import Result, Sweep
 from .scenarios import COLUMNS, Scenario, read_scenarios
+from .tokens import Tokens
 
 NUMBER = "%ROW%"
 """What GNU parallel puts the number of a scenario for."""
@@ -60,8 +63,15 @@ def parser() -> Parser:
     )
     solve = "solve by hub solve, for up to some 25 nodes, not hub optimize"
     words.add_argument("--solve", action="store_true", help=solve)
-    again = "by hub resolve from the row before, where a row differs from it in fixed costs alone; tells the gain"
+    again = (
+        "by hub resolve, where a row differs from the row before in fixed costs or the number of hubs alone, from the last"
+        " one that was solved anew; tells the gain"
+    )
     words.add_argument("--again", action="store_true", help=again)
+    names = "a CSV table of the nodes in order with a column name, by which places are told"
+    words.add_argument("--names", type=Path, metavar="FILE", help=names)
+    group = words.add_argument_group("options of the search", "as for hub, for rows that do not say otherwise")
+    add_valued(group, OF_SEARCH)
     words.add_argument("--jobs", type=int, default=1, metavar="N", help="scenarios side by side (default: 1)")
     words.add_argument("--time-limit", type=float, metavar="S", help="seconds for each process of hub")
     words.add_argument("--keep", action="store_true", help="keep the certificates, as FOLDER/rows/ROW.cert")
@@ -82,7 +92,8 @@ class Threads:
         """Begins."""
         self.stopped = Event()
         self.pool = ThreadPoolExecutor(jobs)
-        self.tasks = [self.pool.submit(sweep.do_chain, chain, self.stopped) for chain in sweep.chains(pending)]
+        chains = [chain for chain in sweep.chains() if any(scenario in pending for scenario in chain)]
+        self.tasks = [self.pool.submit(sweep.do_chain, chain, self.stopped) for chain in chains]
 
     def is_over(self) -> bool:
         """Whether all have ended."""
@@ -134,7 +145,8 @@ class Parallel:
     def fault(self) -> str:
         """What went wrong."""
         lines = self.log.read_text(errors="replace").strip().split("\n")
-        own = [line.removeprefix("sweep: ") for line in lines if line.startswith("sweep: ")]
+        told = [line.removeprefix("sweep: ") for line in lines if line.startswith("sweep: ")]
+        own = [line for line in told if not line.endswith(TAKES_PLACE)]
         return (own or lines)[-1]
 
 
@@ -171,13 +183,34 @@ def tell(sweep: Sweep, results: list[Result]) -> int:
     return 1 if missing else 0
 
 
-def ask(scenarios: list[Scenario], again: bool) -> None:
-    """A fault where this `hub` has not all that the rows want, before any of them is run."""
-    of_search = [word[2:].partition("=")[0] for scenario in scenarios for word in scenario.solve_words]
-    of_instance = [name for scenario in scenarios for name in scenario.options.values]
-    require(scenarios[0].command, dict.fromkeys([*of_instance, *of_search]))
-    if again:
-        require("resolve", dict.fromkeys(of_instance))
+def named_nodes(path: Path, instance: Path) -> list[str]:
+    """The names of a table of the nodes of an instance."""
+    names, size = read_nodes(path).names, Tokens(instance, by_line=False).read_size()
+    if len(names) != size:
+        raise Fault(f"{path}: wanted {size} nodes as in {instance}, found {len(names)}")
+    return names
+
+
+def served(scenarios: list[Scenario]) -> tuple[list[Scenario], dict[str, list[int]]]:
+    """The rows, each by the command of this `hub` that has its options; and what a user is told where that is another one
+    than was asked for, with the numbers of these rows. A fault where there is none, before any row is run."""
+    rows: list[Scenario] = []
+    notes: dict[str, list[int]] = {}
+    for scenario in scenarios:
+        command, note = serving(scenario.command, [*scenario.options.values, *scenario.search])
+        rows.append(replace(scenario, command=command))
+        if note:
+            notes.setdefault(note, []).append(scenario.number)
+        if scenario.goes_on:
+            require("resolve", scenario.options.values)
+    return rows, notes
+
+
+def tell_notes(notes: dict[str, list[int]]) -> None:
+    """Says which rows are solved by another command than was asked for."""
+    for note, numbers in notes.items():
+        rows = f"row{'s' * (len(numbers) > 1)} {', '.join(map(str, numbers))}"
+        print(f"sweep: {rows}: {note}", file=sys.stderr, flush=True)
 
 
 def tell_gain(results: list[Result]) -> None:
@@ -186,7 +219,8 @@ def tell_gain(results: list[Result]) -> None:
     if again:
         took = sum(float(result.seconds) for result in again)
         anew = sum(float(result.anew_seconds) for result in again)
-        text = f"{len(again)} rows were solved again in {took:.1f} s; as many like the last one anew take {anew:.1f} s"
+        rows = f"{len(again)} row{'s were' if len(again) > 1 else ' was'} solved again in {took:.1f} s"
+        text = f"{rows}; as many like those that they go on from take {anew:.1f} s"
         print(f"sweep: {text}", file=sys.stderr)
 
 
@@ -202,16 +236,23 @@ def main(words: list[str]) -> int:
         raise Fault("--jobs and --time-limit want numbers above 0")
     if args.again and (args.sshlogin or args.row is not None):
         raise Fault("--again takes one row after another on this machine, and no --sshlogin or --row")
-    scenarios = read_scenarios(args.table, options_of(args), "solve" if args.solve else "optimize", args.again)
-    if args.row is not None and not 1 <= args.row <= len(scenarios):
-        raise Fault(f"--row wants 1 to {len(scenarios)}, found {args.row}")
-    ask(scenarios, args.again)
+    if args.again and args.gap:
+        raise Fault("--again and --gap may not stand together, for hub resolve has no --gap")
+    base, search = options_of(args), values_of(args, OF_SEARCH)
+    test_values(base.values | search, base.layout)
+    asked = read_scenarios(args.table, base, search, "solve" if args.solve else "optimize", args.again)
+    names = named_nodes(args.names, base.file) if args.names else None
+    if args.row is not None and not 1 <= args.row <= len(asked):
+        raise Fault(f"--row wants 1 to {len(asked)}, found {args.row}")
+    scenarios, notes = served(asked)
     signal.signal(signal.SIGTERM, stop_as_by_hand)
-    sweep = Sweep(scenarios, args.out, args.time_limit, args.keep)
+    sweep = Sweep(scenarios, args.out, args.time_limit, args.keep, names)
     (args.out / "rows").mkdir(parents=True, exist_ok=True)
     if args.row is not None:
+        tell_notes({note: [args.row] for note, numbers in notes.items() if args.row in numbers})
         sweep.do(scenarios[args.row - 1], Event(), args.keep)
         return 0
+    tell_notes(notes)
     do_all(sweep, args, words)
     results = sweep.write_results()
     tell_gain(results)

@@ -53,11 +53,11 @@ def flow_text(flow: int) -> str:
 
 
 def summary(named: Named) -> Table:
-    """The cost and its parts."""
+    """The cost and its parts, the bound, and the gap between both."""
     status = "optimal" if named.verdict.is_optimal() else "bounds"
     parts = [[part, cost_text(cost)] for part, cost in named.network.costs().items()]
     ends = [["total", cost_text(named.verdict.cost)], ["bound", cost_text(named.verdict.bound)]]
-    return [["item", "value"], ["status", status], *parts, *ends]
+    return [["item", "value"], ["status", status], *parts, *ends, ["gap_percent", named.verdict.gap()]]
 
 
 def hubs(named: Named) -> Table:

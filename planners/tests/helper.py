@@ -59,6 +59,26 @@ class InFolder(unittest.TestCase):
         path.chmod(path.stat().st_mode | stat.S_IXUSR)
         return str(path)
 
+    def without(self, *options: str) -> str:
+        """A program that is hub, and whose `optimize` has not these options."""
+        words = "|".join(f"*--{option}*" for option in options)
+        return self.standin(
+            "older-hub", f'[ "$1" = optimize ] && case "$*" in {words}) exit 3;; esac\nexec {program()} "$@"\n'
+        )
+
+    def with_gap(self) -> str:
+        """A program that stands for a hub whose `optimize` has --gap: it solves to the end, and then names a bound that is
+        just so much lower."""
+        return self.standin(
+            "gap-hub",
+            'gap=; for word do shift; case "$word" in --gap=*) gap=${word#--gap=};; *) set -- "$@" "$word";; esac; done\n'
+            f'[ -z "$gap" ] || [ "$1" = optimize ] || exit 3\n[ -n "$gap" ] || exec {program()} "$@"\n'
+            f'{program()} "$@" >{self.folder}/whole || exit\nexec {sys.executable} -c \'import sys\n'
+            f'lines = open("{self.folder}/whole").read().split("\\n", 4)\ncost = int(lines[2].split()[1])\n'
+            'lines[3] = f"bound {cost - cost * int(sys.argv[1]) // 100}"\n'
+            "print(*lines, sep=\"\\n\", end=\"\")\nsys.exit(1)\n' \"$gap\"\n",
+        )
+
     def script(self, name: str, *words: str, hub: str = "") -> subprocess.CompletedProcess[str]:
         """Runs a script in the folder."""
         return subprocess.run(

@@ -45,6 +45,7 @@ class Sums(InFolder):
             self.assertEqual((ended.returncode, ended.stderr), (0, ""))
             lines = reported.stdout.splitlines()
             summary = [f"{row['item']} {row['value']}" for row in self.table("tables/summary.csv")]
+            self.assertEqual(summary.pop(), "gap_percent 0.0000")
             self.assertEqual(summary, [line for line in lines if line.split()[0] not in ("hub", "hubs", "listed")])
             hubs = [
                 f"hub {row['node']} collected {row['collected_flow']} delivered {row['delivered_flow']}"

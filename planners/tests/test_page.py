@@ -6,6 +6,7 @@ import shutil
 import tempfile
 import time
 import unittest
+from dataclasses import replace
 from decimal import Decimal
 from pathlib import Path
 from unittest import SkipTest
@@ -17,6 +18,7 @@ if lacks("numpy"):
 
 from .networks import made
 from planning.page import page_text
+from planning.program import Verdict
 
 DRIVER = shutil.which("chromedriver")
 CHROMIUM = shutil.which("chromium") or shutil.which("chromium-browser")
@@ -95,6 +97,14 @@ class Texts(Districts):
         self.assert_fault(ended, "page: districts.cert: hub check did not accept this certificate: no Cost 105")
         self.assertEqual(files, sorted(self.folder.iterdir()))
 
+    def test_a_bound_below_the_cost(self) -> None:
+        named, places = made(5, 2)
+        cost = named.verdict.cost
+        page = page_text(replace(named, verdict=Verdict(cost, cost - cost // 8)), places, "", "", "hub check")
+        self.assertIn('id="verdict" class="bounds"', page)
+        self.assertIn("; the gap is 12.5000 % of the cost.", page)
+        self.assertEqual(data_of(page)["gap"], "12.5000")
+
     def test_sizes(self) -> None:
         for size, hubs in ((25, 4), (200, 30)):
             named, places = made(size, hubs)
@@ -163,6 +173,7 @@ class InABrowser(Districts):
         self.assertEqual(self.browser.title, "Ten <b>&")
         self.assertEqual(len(self.find("#picture [data-node]")), 10)
         self.assertEqual({text.text for text in self.find("#picture text")}, set(self.names))
+        self.assertRegex(self.find("#amounts")[0].text, "total 14,900.1.*\\sbound 14,900.1.*\\sgap 0.0000 %")
 
     def test_a_click_shows_routes_and_loads(self) -> None:
         for node in (1, 5):

@@ -7,7 +7,7 @@ import shutil
 import subprocess
 import sys
 from decimal import Decimal
-from unittest import SkipTest
+from unittest import SkipTest, mock
 
 from .helper import PLANNERS, InFolder, environment, lacks, needs
 
@@ -60,13 +60,63 @@ class Numbers(InFolder):
             ({"candidates": [0, 3]}, "candidates: wanted nodes from 0 to 2, each once, found [0, 3]"),
             ({"names": ["a", "b", "a"]}, "names: wanted 3 names, each once, found 2"),
             ({"trunk": 0.0001}, "trunk: hub keeps 3 decimals, and 0.0001 has more; round it, or say rounded=True"),
-            ({"workers": 0}, "--workers: wanted a number of workers, a number from 1 to 64, found '0'"),
+            ({"workers": 0}, "workers: wanted a number of workers, a number from 1 to 64, found 0"),
         ):
             with self.assertRaises(planning.Fault) as caught:
                 planning.solve(FLOWS, DISTANCES, **words)
             self.assertEqual(str(caught.exception), line)
         with self.assertRaises(AttributeError):
             planning.nothing
+
+    def test_numbers_of_the_search(self) -> None:
+        for words, line in (
+            ({"hubs": 2, "max_length": 9}, "--hubs and --max-length may not stand together; hub has no search for both"),
+            ({"hubs": 1.5}, "hubs: hub keeps 0 decimals, and 1.5 has more; round it, or say rounded=True"),
+            ({"hubs": 0}, "hubs: wanted a number of hubs, a number from 1 to 200, found 0"),
+            ({"hubs": "file"}, "--hubs file wants the layout ap, whose files list a number of hubs"),
+            ({"gap": 0.0005}, "gap: hub keeps 3 decimals, and 0.0005 has more; round it, or say rounded=True"),
+            ({"gap": 101}, "gap: wanted a gap in per cent of the cost, a number from 0 to 100, found 101"),
+            ({"by": "guess"}, "by: wanted 'optimize' or 'solve', found 'guess'"),
+        ):
+            with self.assertRaises(planning.Fault) as caught:
+                planning.solve(FLOWS, DISTANCES, **words)
+            self.assertEqual(str(caught.exception), line)
+
+
+class OptionsOfSearch(InFolder):
+    """Options that not each `hub` has for `optimize`."""
+
+    def by(self, hub: str) -> None:
+        """Solves by this program until the test is over."""
+        change = mock.patch.dict(os.environ, {"HUB": hub})
+        change.start()
+        self.addCleanup(change.stop)
+
+    def test_solve_takes_the_place_of_optimize(self) -> None:
+        self.by(self.without("hubs", "max-length"))
+        for words, hubs in (({"hubs": 1}, 1), ({"hubs": 2}, 2), ({"hubs": np.int64(3)}, 3)):
+            with self.assertWarnsRegex(UserWarning, "^this hub has no option --hubs for optimize; hub solve takes") as told:
+                result = planning.solve(FLOWS, DISTANCES, fixed=1, **words)
+            self.assertEqual(told.filename, __file__)
+            self.assertEqual((len(result.hubs), result.solved_by, result.is_optimal), (hubs, "solve", True))
+        with self.assertWarns(UserWarning), self.assertRaises(planning.Fault) as caught:
+            planning.solve(FLOWS, DISTANCES, max_length=7.5, names=["Ayr", "Bute", "Crail"])
+        line = "no network keeps to --max-length 7.5: from Ayr to Crail no route is that short, even with all candidates as hubs"
+        self.assertEqual(str(caught.exception), line)
+        with self.assertWarns(UserWarning):
+            self.assertEqual(planning.solve(FLOWS, DISTANCES, max_length=8, rounded=True).cost, 160)
+
+    def test_as_many_hubs_as_the_file_lists(self) -> None:
+        self.by(self.without("hubs"))
+        self.write("ap", "2\n0 0\n3 4\n0 1\n1 0\n1\n3 0.75 2\n")
+        with self.assertWarns(UserWarning):
+            self.assertEqual(len(planning.Problem.from_ap(self.folder / "ap").solve(hubs="file").hubs), 1)
+
+    def test_a_gap(self) -> None:
+        self.by(self.with_gap())
+        result = planning.solve(FLOWS, DISTANCES, fixed=1, gap=Decimal("10.00"))
+        self.assertEqual((result.is_optimal, result.gap, result.bound), (False, Decimal(10), result.cost * 9 / 10))
+        self.assertEqual(planning.solve(FLOWS, DISTANCES, fixed=1).gap, 0)
 
 
 class Examples(InFolder):

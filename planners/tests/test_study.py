@@ -58,12 +58,12 @@ class Studies(InFolder):
             ended = self.script("study", *words, hub=hub)
             self.assertEqual((ended.returncode, ended.stderr), (0, ""))
             (self.folder / folder / "page.html").unlink()
-        self.assertEqual(self.read("asked").split().count("optimize"), 2)  # once asked for its words
+        self.assertEqual(self.read("asked").split().count("optimize"), 3)  # each time asked for its words, once solved
         # A certificate that was changed, or another question, is solved anew.
         self.write("out/certificate.txt", "HUBCERT 1\n")
         self.assertEqual(self.script("study", *words, hub=hub).returncode, 0)
         self.assertEqual(self.script("study", *words, "--collect=2", hub=hub).returncode, 0)
-        self.assertEqual(self.read("asked").split().count("optimize"), 6)
+        self.assertEqual(self.read("asked").split().count("optimize"), 7)
         self.assertEqual(self.script("study", *words, "--solve", "--fixed=5", hub=hub).returncode, 0)
         self.assertEqual(self.read("asked").split().count("solve"), 2)
         self.assertNotIn("instance.costs.txt", self.names("out"))
@@ -93,7 +93,7 @@ class Studies(InFolder):
         words = ["nodes.csv", "flows.csv", "--trunk=0.4", "--solve", "--nodes=3", "--no-map", "--out", "out"]
         ended = self.script("study", *words, "--candidates", "Violet,Juniper,Alderby,9,17")
         self.assertEqual((ended.returncode, ended.stderr), (0, ""))
-        self.assertRegex(ended.stdout, r"^(bounds [0-9.]+ [0-9.]+|optimal [0-9.]+)\nhubs: ")
+        self.assertRegex(ended.stdout, r"^(bounds [0-9.]+ [0-9.]+\ngap: [0-9.]+ % of the cost|optimal [0-9.]+)\nhubs: ")
         self.assertIn("--candidates=1,9,10,17,22", self.read("out/study.json"))
 
     def test_progress_is_for_a_terminal(self) -> None:
@@ -119,6 +119,27 @@ class Studies(InFolder):
             ([*words, "--candidates", "No"], "--candidates wants names or numbers of nodes, each once, found 'No'"),
             ([*words, "--workers", "0"], "--workers: wanted a number of workers, a number from 1 to 64, found '0'"),
             ([*words[:-1], "."], ".: the tables to read lie in this folder; choose another --out"),
+            (
+                [*words, "--hubs=2", "--max-length=9"],
+                "--hubs and --max-length may not stand together; hub has no search for both",
+            ),
+            (
+                [*words, "--hubs=x"],
+                "--hubs: wanted a number of hubs, a number from 1 to 200, or 'file', found 'x'",
+            ),
+            (
+                [*words, "--hubs=file"],
+                "--hubs file wants an ap file that lists a number of hubs; say the number itself",
+            ),
+            (
+                [*words, "--hubs=2", "--format=1"],
+                "--format 1 has no lines for --hubs and --max-length; leave it out, or say --format 2",
+            ),
+            (
+                [*words, "--gap=0.1234"],
+                "--gap: wanted a gap in per cent of the cost, a number from 0 to 100 with at most 3 decimals,"
+                " found '0.1234'",
+            ),
         ):
             self.assert_fault(self.script("study", *more), "study: " + line)
         self.assertFalse((self.folder / "out").exists())
@@ -127,11 +148,11 @@ class Studies(InFolder):
         words = [*WORDS, "--no-map", "--out", "out"]
         ended = self.script("study", *words)
         before = {name: self.read(f"out/{name}") for name in self.names("out")}
-        none = "hub: no network for 1 2"
         for body, line in (
             ("echo HUBCERT 1; exit 0", "hub check did not accept what hub optimize wrote: no Ended 2"),
             ("echo 'hub: out of memory' >&2; exit 5", "hub optimize found no network: hub: out of memory"),
-            ("echo 'hub: no network for 1 2' >&2; exit 8", "no network keeps to the longest route: " + none),
+            ("echo 'hub: instance fault 12 Hubs 4' >&2; exit 4", "--hubs 4: there are not so many candidates"),
+            ("exit 3", "hub optimize does not take these words: ap --costs=instance.costs.txt --collect=2 --trunk=0.5"),
             ("kill -KILL $$", "hub optimize found no network: status -9"),
         ):
             begin = '[ "$1" = optimize ] && [ "$4" != /dev/null ] && [ "$5" != /dev/null ] &&'
@@ -152,21 +173,80 @@ class Studies(InFolder):
 class LaterOptions(InFolder):
     """Options that not each hub has, with a program that stands for one that has them, and one that has not."""
 
-    def test_they_are_passed_on(self) -> None:
+    def setUp(self) -> None:
+        """Writes the tables."""
+        super().setUp()
         self.write("nodes.csv", NODES)
         self.write("flows.csv", FLOWS)
+
+    def test_solve_takes_the_place_of_optimize(self) -> None:
+        hub = self.without("hubs", "max-length")
+        words = [*WORDS, "--no-map", "--out", "out"]
+        for option in ("--max-length=200", "--hubs=1"):
+            name = option[2:].partition("=")[0]
+            note = (
+                f"study: this hub has no option --{name} for optimize; hub solve takes its place,"
+                " which serves up to some 25 nodes\n"
+            )
+            ended = self.script("study", *words, option, hub=hub)
+            self.assertEqual((ended.returncode, ended.stderr), (0, note))
+            solved = f"hub solve ap instance.txt --costs=instance.costs.txt --trunk=0.5 {option}"
+            self.assertIn(solved, self.read("out/study.json"))
+            check = ["ap", "out/instance.txt", "out/certificate.txt", "--costs=out/instance.costs.txt", "--trunk=0.5"]
+            self.assertEqual(self.hub("check", *check, option).stdout, self.read("out/check.txt"))
+        self.assertEqual(len(self.table("out/hubs.csv")), 1)
+        self.assertEqual(self.script("study", *words, "--hubs=2", hub=hub).returncode, 0)
+        self.assertEqual(len(self.table("out/hubs.csv")), 2)
+        ended = self.script("study", *words, "--hubs=4", hub=hub)
+        self.assertEqual((ended.returncode, ended.stdout), (2, ""))
+        self.assertEqual(ended.stderr.splitlines()[1], "study: --hubs 4: there are not so many candidates")
+
+    def test_places_without_a_short_route_are_named(self) -> None:
+        ended = self.script("study", *WORDS, "--no-map", "--out", "out", "--max-length=40", hub=self.without("max-length"))
+        self.assertEqual((ended.returncode, ended.stdout), (2, ""))
+        line = (
+            "study: no network keeps to --max-length 40: from West to East no route is that short, even with all"
+            " candidates as hubs"
+        )
+        self.assertEqual(ended.stderr.splitlines()[1:], [line])
+        self.assertEqual(list((self.folder / "out").iterdir()), [])
+
+    def test_a_gap_is_told(self) -> None:
+        words = [*WORDS, "--no-map", "--out", "out"]
+        ended = self.script("study", *words, "--gap=5", hub=self.with_gap())
+        self.assertEqual((ended.returncode, ended.stderr), (0, ""))
+        told = ended.stdout.splitlines()
+        self.assertRegex(told[0], "^bounds ")
+        self.assertEqual(told[1], "gap: 5.0000 % of the cost")
+        self.assertIn("; the gap is 5.0000 % of the cost.", self.read("out/page.html"))
+        self.assertEqual(self.table("out/summary.csv")[-1], {"item": "gap_percent", "value": "5.0000"})
+        self.assertIn("--gap=5", self.read("out/study.json"))
+        line = f"study: {self.folder}/gap-hub: this hub has no option --gap for solve"
+        self.assert_fault(self.script("study", *words, "--gap=5", "--solve", hub=self.with_gap()), line)
+        both = (
+            f"study: {self.folder}/older-hub: this hub has no option --hubs for optimize, and no --gap for solve, which"
+            " could take its place"
+        )
+        hub = self.standin(
+            "older-hub",
+            f'case "$*" in "optimize "*--hubs*|"solve "*--gap*) exit 3;; "optimize "*/dev/null) exit 4;; esac\n'
+            f'exec {program()} "$@"\n',
+        )
+        self.assert_fault(self.script("study", *words, "--gap=5", "--hubs=2", hub=hub), both)
+
+    def test_they_are_passed_on(self) -> None:
         # It takes the options, notes them and leaves them out.
         text = (
             'for word do shift; case "$word" in --hubs=*|--max-length=*|--format=*)'
             f' echo "$word" >>{self.folder}/noted;; *) set -- "$@" "$word";; esac; done\nexec {program()} "$@"\n'
         )
         hub = self.standin("later-hub", text)
-        words = [*WORDS, "--no-map", "--out", "out", "--hubs=2", "--max-length=120.5", "--format=2"]
-        ended = self.script("study", *words, hub=hub)
-        self.assertEqual((ended.returncode, ended.stderr), (0, ""))
-        self.assertLessEqual({"--hubs=2", "--max-length=120.5", "--format=2"}, set(self.read("noted").split()))
-        self.assertIn("--hubs=2 --max-length=120.5", self.read("out/page.html"))
-        self.assertIn("--format=2", self.read("out/study.json"))
+        for option in ("--hubs=2", "--max-length=120.5"):
+            ended = self.script("study", *WORDS, "--no-map", "--out", "out", option, "--format=2", hub=hub)
+            self.assertEqual((ended.returncode, ended.stderr), (0, ""))
+            self.assertLessEqual({option, "--format=2"}, set(self.read("noted").split()))
+            self.assertIn(option, self.read("out/page.html"))
+            self.assertIn("--format=2", self.read("out/study.json"))
         for text, line in (
             ("exit 3", "this hub has no command optimize"),
             ("echo no library >&2; exit 127", "this program does not answer as hub does: no library"),

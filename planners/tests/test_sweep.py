@@ -129,7 +129,7 @@ class Sweeps(InFolder):
             text = self.read(words[2])
             self.assertIn(f"\nhubs {row['open_hubs']}\n", text)
             self.assertIn(f"\nnodes {row['tree_nodes']}\n", text)
-            self.assertEqual((row["bound"], row["gap"], row["verdict"]), (row["cost"], "0.000000", "optimal"))
+            self.assertEqual((row["bound"], row["gap_percent"], row["verdict"]), (row["cost"], "0.0000", "optimal"))
 
     @needs("numpy", "matplotlib")
     def test_plots(self) -> None:
@@ -165,21 +165,62 @@ class Sweeps(InFolder):
         self.assertEqual((ended.returncode, ended.stdout), (0, ""))
         self.assertRegex(ended.stderr.splitlines()[-1], r"^sweep: 3 rows were solved again in [0-9.]+ s; as many like")
         rows = self.table("out/results.csv")
-        self.assertEqual([row["again_from"] for row in rows], ["", "1", "2", "", "4"])
+        # From the last row that was solved anew: what was solved again has all cuts of that, and more.
+        self.assertEqual([row["again_from"] for row in rows], ["", "1", "1", "", "4"])
         self.assertEqual([bool(row["gain"]) for row in rows], [False, True, True, False, True])
         olds = {Path(line).name for line in self.read("olds").split()}
-        self.assertEqual(olds, {"null", "1.cert", "2.cert", "4.cert"})
+        self.assertEqual(olds, {"null", "1.cert", "4.cert"})
         self.assertEqual({path.suffix for path in (self.folder / "out/rows").iterdir()}, {".json"})
         ended = self.script("sweep", *self.words("anew"))
         self.assertEqual([row["cost"] for row in rows], [row["cost"] for row in self.table("anew/results.csv")])
         self.assertNotIn("gain", self.table("anew/results.csv")[0])
-        # A row whose row before is done, and its certificate gone, is solved anew.
+        # A row is solved anew where the certificate to go on from is gone.
         (self.folder / "out/rows/5.json").unlink()
         ended = self.script("sweep", *self.words("out", "--again"), hub=hub)
         self.assertEqual(self.table("out/results.csv")[4]["again_from"], "")
         words = self.words("out", "--again", "--row", "2")
         line = "sweep: --again takes one row after another on this machine, and no --sshlogin or --row"
         self.assert_fault(self.script("sweep", *words, hub=hub), line)
+
+    def test_rows_by_the_command_that_has_their_options(self) -> None:
+        self.write("table.csv", "trunk,hubs,max_length\n0.5,,\n0.5,2,\n0.5,3,\n0.5,,9000\n0.5,,10\n")
+        self.write("names.csv", "name\n" + "".join(f"Town {letter}\n" for letter in "ABCDEFGH"))
+        takes = "hub solve takes its place, which serves up to some 25 nodes"
+        for more in (["--plain"], []):
+            words = self.words("out" + "".join(more), "--names", "names.csv", "--fixed", "40000000", *more)
+            ended = self.script("sweep", *words, hub=self.without("hubs", "max-length"))
+            told = [line for line in ended.stderr.splitlines() if not line.startswith("[")]
+            no_route = (
+                "no network keeps to --max-length 10: from Town A to Town B no route is that short, even with all"
+                " candidates as hubs"
+            )
+            self.assertEqual(
+                told,
+                [
+                    f"sweep: rows 2, 3: this hub has no option --hubs for optimize; {takes}",
+                    f"sweep: rows 4, 5: this hub has no option --max-length for optimize; {takes}",
+                    f"sweep: row 5: {no_route}",
+                ],
+            )
+            rows = self.table(words[4] + "/results.csv")
+            self.assertEqual([row["number_of_hubs"] for row in rows[1:3]], ["2", "3"])
+            self.assertEqual([row["outcome"] for row in rows], 4 * ["accepted"] + [no_route])
+            # So long a route binds nothing.
+            self.assertEqual(rows[0]["cost"], rows[3]["cost"])
+        self.write("names.csv", "name\nTown A\n")
+        ended = self.script("sweep", *words, hub=self.without("hubs"))
+        self.assert_fault(ended, "sweep: names.csv: wanted 8 nodes as in towns.txt, found 1")
+
+    def test_gaps(self) -> None:
+        self.write("table.csv", "trunk,gap\n0.5,\n0.5,10\n0.5,4\n")
+        ended = self.script("sweep", *self.words("out", "--gap", "2", "--fixed", "40000000"), hub=self.with_gap())
+        self.assertEqual((ended.returncode, ended.stdout), (0, ""))
+        rows = self.table("out/results.csv")
+        self.assertEqual([row["gap"] for row in rows], ["", "10", "4"])
+        self.assertEqual([row["gap_percent"] for row in rows], ["2.0000", "10.0000", "4.0000"])
+        self.assertEqual({row["verdict"] for row in rows}, {"bounds"})
+        line = "sweep: --again and --gap may not stand together, for hub resolve has no --gap"
+        self.assert_fault(self.script("sweep", *self.words("out", "--gap", "2", "--again"), hub=self.with_gap()), line)
 
     def test_what_this_hub_has_not(self) -> None:
         refused = 'case "$*" in *--hubs*|*--max-length*|*--format*|resolve*) exit 3;; esac'
@@ -202,8 +243,9 @@ class Sweeps(InFolder):
             ' *) set -- "$@" "$word";; esac; done\n[ -z "$short" ] || { echo "hub: no network for 1 2" >&2; exit 8; }\n'
         )
         ended = self.script("sweep", *self.words("out", "--plain"), hub=self.program(text))
-        self.assertEqual((ended.returncode, ended.stderr.splitlines()[-1]), (1, "sweep: row 1: no network for 1 2"))
-        self.assertEqual([row["outcome"] for row in self.table("out/results.csv")], ["no network for 1 2", "accepted"])
+        line = "no network keeps to --max-length 10: from 1 to 2 no route is that short, even with all candidates as hubs"
+        self.assertEqual((ended.returncode, ended.stderr.splitlines()[-1]), (1, "sweep: row 1: " + line))
+        self.assertEqual([row["outcome"] for row in self.table("out/results.csv")], [line, "accepted"])
 
     def test_a_process_stopped_from_outside_tells_nothing(self) -> None:
         self.write("table.csv", "trunk\n0.5\n0.6\n")
@@ -260,9 +302,19 @@ class Sweeps(InFolder):
             (
                 "trunks\n1\n",
                 "table.csv:1: wanted the columns name, collect, trunk, deliver, fixed, hubs, max_length, nodes, workers,"
-                " format, costs, candidates, found 'trunks'",
+                " format, gap, costs, candidates, found 'trunks'",
             ),
             ("trunk\n", "table.csv: wanted at least one row"),
+            (
+                "hubs,max_length\n2,\n2,900\n",
+                "table.csv:3: --hubs and --max-length may not stand together; hub has no search for both",
+            ),
+            ("hubs\nfile\n", "table.csv:2: --hubs file wants the layout ap, whose files list a number of hubs"),
+            (
+                "gap\n1.2345\n",
+                "table.csv:2: wanted in the column 'gap' a gap in per cent of the cost, a number from 0 to 100 with at"
+                " most 3 decimals, found '1.2345'",
+            ),
         ):
             self.write("table.csv", text)
             self.assert_fault(self.script("sweep", *self.words("out")), "sweep: " + line)

@@ -526,7 +526,8 @@ function parts() {
       make("span", { class: "mark", style: `background: ${colors[part]}` }),
       `${part} ${cut(cost, decimals)} (${share(cost)})`)),
     make("strong", { title: readableWhole(data.total) }, `total ${cut(data.total, decimals)}`),
-    make("span", { title: readableWhole(data.bound) }, `bound ${cut(data.bound, decimals)}`));
+    make("span", { title: readableWhole(data.bound) }, `bound ${cut(data.bound, decimals)}`),
+    make("span", {}, `gap ${data.gap} %`));
 }
 
 function tables() {
