@@ -12,6 +12,17 @@ class Fault(Exception):
     """What was wrong, in one line for the user."""
 
 
+class NoNetwork(Fault):
+    """No network keeps to the longest route: all candidates as hubs together lack a route from `origin` to
+    `destination`, which count from 0, that is short enough; both are None where `hub` does not tell them."""
+
+    def __init__(self, line: str, origin: int | None, destination: int | None) -> None:
+        """The line for the user, and the two nodes."""
+        super().__init__(line)
+        self.origin = origin
+        self.destination = destination
+
+
 class Parser(argparse.ArgumentParser):
     """A command line whose faults are one line too."""
 

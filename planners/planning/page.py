@@ -66,7 +66,7 @@ def page_data(named: Named, places: "np.ndarray", note: str) -> dict[str, object
         "parts": [[part, trimmed(cost_text(cost))] for part, cost in network.costs().items()],
         "total": trimmed(cost_text(named.verdict.cost)),
         "bound": trimmed(cost_text(named.verdict.bound)),
-        "gap": named.verdict.gap(),
+        "gap": named.verdict.short_gap(),
         "ways": ways,
         "flows": [" ".join(trimmed(flow_text(flow)) for flow in row) for row in network.instance.flows],
         "costs": [" ".join(trimmed(cost_text(cost)) for cost in row) for row in network.route_costs],
@@ -80,7 +80,7 @@ def verdict_text(named: Named) -> str:
         return f"Proved optimal: this network costs {short(verdict.cost)}, and none costs less."
     return (
         f"Not proved optimal: this network costs {short(verdict.cost)}, and none costs less than"
-        f" {short(verdict.bound)}; the gap is {verdict.gap()} % of the cost."
+        f" {short(verdict.bound)}; the gap is {verdict.short_gap()} of the cost."
     )
 
 

@@ -11,6 +11,8 @@ from .scenarios import NUMBERS
 
 NEEDED = ["outcome", "cost", "bound", "number_of_hubs"]
 MOST_LINES = 10
+NO_NETWORK = "no network "
+"""So begins the outcome of a scenario whose longest route no network keeps to."""
 
 
 @dataclass(frozen=True)
@@ -24,13 +26,14 @@ class Point:
     is_proved: bool
 
 
-def read_lines(path: Path, against: str, by: list[str]) -> tuple[dict[str, list[Point]], int]:
-    """The points of each line, by what they have in common, and how many scenarios have no accepted certificate."""
+def read_lines(path: Path, against: str, by: list[str]) -> tuple[dict[str, list[Point]], list[str]]:
+    """The points of each line, by what they have in common, and what became of the scenarios without an accepted
+    certificate."""
     lines: dict[str, list[Point]] = {}
-    left_out = 0
+    left_out: list[str] = []
     for row in read_table(path, [*NEEDED, against, *by]):
         if row.cells["outcome"] != "accepted":
-            left_out += 1
+            left_out.append(row.cells["outcome"])
             continue
         name = ", ".join(f"{column} {row.cells[column] or '(none)'}" for column in by)
         if NUMBERS[against].read(row.cells[against]) is None:
@@ -56,6 +59,13 @@ def read_lines(path: Path, against: str, by: list[str]) -> tuple[dict[str, list[
     return lines, left_out
 
 
+def notes(left_out: list[str]) -> list[str]:
+    """What the picture says of scenarios that it leaves out, by what became of them."""
+    none = sum(outcome.startswith(NO_NETWORK) for outcome in left_out)
+    counts = [(none, "for which there is no network"), (len(left_out) - none, "without an accepted certificate")]
+    return [f"{count} scenario{'s' * (count > 1)} {what} left out" for count, what in counts if count]
+
+
 def main(words: list[str]) -> int:
     """Draws a sweep."""
     parser = Parser(prog="plot-sweep", description=__doc__.split(": ")[1])
@@ -73,7 +83,6 @@ def main(words: list[str]) -> int:
     from .drawing import picture_bytes
 
     lines, left_out = read_lines(args.results, args.against, [word for word in args.by.split(",") if word])
-    note = f"{left_out} scenarios without a certificate that hub check accepted are left out" if left_out else ""
-    title = "\n".join(filter(None, [args.title, note]))
+    title = "\n".join(filter(None, [args.title, *notes(left_out)]))
     put_all({path: picture_bytes(chart(lines, title, args.against), path.suffix)})
     return 0

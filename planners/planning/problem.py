@@ -68,15 +68,20 @@ def vector_texts(values: Any, size: int, name: str, rounded: bool) -> list[str]:
     return [exact_text(item, FIXED_COST, f"{name}[{i}]", rounded) for i, item in enumerate(array)]
 
 
-@dataclass(frozen=True)
+@dataclass(frozen=True, repr=False)
 class Result:
     """A network that `hub check` has accepted. Costs are exact."""
 
     named: Named
-    folder: Path = field(repr=False)
+    folder: Path
     """It is removed when the result is; `save` keeps what is in it."""
-    question: Question = field(repr=False)
+    question: Question
     """What was asked."""
+
+    def __repr__(self) -> str:
+        """The hubs, what they cost, and what is proved of that."""
+        proved = "optimal" if self.is_optimal else f"bound={self.bound}, gap={self.named.verdict.short_gap()}"
+        return f"Result(hubs={self.hubs}, cost={self.cost}, {proved})"
 
     @property
     def hubs(self) -> list[int]:
@@ -219,7 +224,8 @@ class Problem:
         may be, in the unit of the distances; `candidates` are the nodes that may be hubs. `gap` ends the search once the
         bound is within so many per cent of the cost, `nodes` at so many nodes of its tree. `by` may be "solve" for its
         fixed rule. Where this `hub` has `hubs` or `max_length` for `solve` alone, that takes the place of `optimize`, and
-        a warning says so. A `Fault` where there is no network, or where `hub` takes what is given not.
+        a warning says so. A `Fault` where there is no network, or where `hub` takes what is given not; a `NoNetwork`, which is one
+        too, where all candidates together lack a route that is short enough.
         """
         source, values = self.source, dict(self.values)
         if by not in ("optimize", "solve"):

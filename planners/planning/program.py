@@ -9,9 +9,9 @@ from dataclasses import dataclass
 from functools import cache
 from pathlib import Path
 
-from .faults import Fault
+from .faults import Fault, NoNetwork
 from .options import NOT_IN_EACH, Options
-from .quantities import COST_PLACES, decimal, gap_percent
+from .quantities import COST_PLACES, decimal, gap_percent, trimmed
 
 
 USAGE = 3
@@ -78,17 +78,16 @@ def serving(verb: str, names: Iterable[str]) -> tuple[str, str]:
     raise Fault(f"{program()}: this hub has no option {options} for optimize{more}")
 
 
-def no_network(said: str, names: list[str] | None, longest: str) -> str:
+def no_network(said: str, names: list[str] | None, longest: str) -> NoNetwork:
     """What a user is told where no network keeps to the longest route, from the line of `hub`; places by their names,
     where they have any."""
     match = NO_ROUTE.fullmatch(said)
     if match is None or not longest:
-        return f"no network keeps to the longest route: {said}"
-    start, stop = (names[int(node) - 1] if names else node for node in match.groups())
-    return (
-        f"no network keeps to --max-length {longest}: from {start} to {stop} no route is that short, even with all"
-        " candidates as hubs"
-    )
+        return NoNetwork(f"no network keeps to the longest route: {said}", None, None)
+    origin, destination = (int(node) - 1 for node in match.groups())
+    start, stop = (names[node] if names else node + 1 for node in (origin, destination))
+    route = f"from {start} to {stop} no route is that short, even with all candidates as hubs"
+    return NoNetwork(f"no network keeps to --max-length {longest}: {route}", origin, destination)
 
 
 def command(verb: str, options: Options, *files: Path, extra: list[str] | None = None) -> list[str]:
@@ -127,12 +126,16 @@ class Verdict:
         """The cost and what is proved of it, in words."""
         if self.is_optimal():
             return f"cost {short(self.cost)}, proved optimal"
-        least = f"no plan costs less than {short(self.bound)} (gap {self.gap()} %)"
+        least = f"no plan costs less than {short(self.bound)} (gap {self.short_gap()})"
         return f"cost {short(self.cost)}, not proved optimal:\n{least}"
 
     def gap(self) -> str:
         """How far the bound is below the cost, in per cent of the cost."""
         return gap_percent(self.cost, self.bound)
+
+    def short_gap(self) -> str:
+        """The same for a reader's eye."""
+        return trimmed(self.gap()) + " %"
 
 
 def short(cost: int) -> str:

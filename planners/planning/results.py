@@ -166,7 +166,8 @@ class Sweep:
         if solved.status is None:
             return Result(key, "time limit", **used)
         if solved.status == NO_NETWORK:
-            return Result(key, no_network(solved.error, self.names, scenario.options.values.get("max-length", "")), **used)
+            longest = scenario.options.values.get("max-length", "")
+            return Result(key, str(no_network(solved.error, self.names, longest)), **used)
         if solved.status not in (0, 1):
             return Result(key, f"failed with status {solved.status}: {solved.error}", **used)
         checked = run(command("check", scenario.options, certificate), told, self.limit, stop)

@@ -104,7 +104,7 @@ def answer(question: Question, folder: Path, look: Callable[[], None] | None = N
         words = command(question.verb, question.options(work), extra=question.search_words())
         ended = run(words, work / CERTIFICATE, None, Event(), look)
         if ended.status not in (0, 1):
-            raise Fault(failure(question, ended))
+            raise failure(question, ended)
         verdict, said = judge(question.options(work), work / CERTIFICATE)
         if verdict is None:
             raise Fault(f"hub check did not accept what hub {question.verb} wrote: {said}")
@@ -115,18 +115,18 @@ def answer(question: Question, folder: Path, look: Callable[[], None] | None = N
         put_all({folder / ASKED: question.asked()})
 
 
-def failure(question: Question, ended: Ended) -> str:
+def failure(question: Question, ended: Ended) -> Fault:
     """Why there is no certificate."""
     said = ended.error or f"status {ended.status}"
     if ended.status == NO_NETWORK:
         return no_network(said, question.names(), question.values.get("max-length", ""))
     if ended.status == USAGE:
         words = shlex.join([question.layout, *question.options(Path()).words(), *question.search_words()])
-        return f"hub {question.verb} does not take these words: {words}"
+        return Fault(f"hub {question.verb} does not take these words: {words}")
     too_many = TOO_MANY.fullmatch(said)
     if too_many:
-        return f"--hubs {too_many[1]}: there are not so many candidates"
-    return f"hub {question.verb} found no network: {said}"
+        return Fault(f"--hubs {too_many[1]}: there are not so many candidates")
+    return Fault(f"hub {question.verb} found no network: {said}")
 
 
 def answer_in(question: Question, folder: Path) -> Named:

@@ -70,7 +70,7 @@ def study(args: argparse.Namespace, steps: Steps) -> list[str]:
     results = all_results(named, question.options(args.out), args.out, args.title, not args.no_map)
     put_all({args.out / name: content for name, content in results.items()})
     names = ", ".join(named.names[hub] for hub in named.network.plan.hubs)
-    gap = [] if named.verdict.is_optimal() else [f"gap: {named.verdict.gap()} % of the cost"]
+    gap = [] if named.verdict.is_optimal() else [f"gap: {named.verdict.short_gap()} of the cost"]
     return [named.verdict.line(), *gap, f"hubs: {names}", str(args.out / PAGE)]
 
 

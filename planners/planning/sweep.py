@@ -209,8 +209,18 @@ def served(scenarios: list[Scenario]) -> tuple[list[Scenario], dict[str, list[in
 def tell_notes(notes: dict[str, list[int]]) -> None:
     """Says which rows are solved by another command than was asked for."""
     for note, numbers in notes.items():
-        rows = f"row{'s' * (len(numbers) > 1)} {', '.join(map(str, numbers))}"
-        print(f"sweep: {rows}: {note}", file=sys.stderr, flush=True)
+        print(f"sweep: row{'s' * (len(numbers) > 1)} {listed(numbers)}: {note}", file=sys.stderr, flush=True)
+
+
+def listed(numbers: list[int]) -> str:
+    """Ascending numbers for a reader's eye: three and more that follow each other by the first and the last."""
+    runs: list[list[int]] = []
+    for number in numbers:
+        if runs and number == runs[-1][-1] + 1:
+            runs[-1].append(number)
+        else:
+            runs.append([number])
+    return ", ".join(f"{run[0]} to {run[-1]}" if len(run) > 2 else ", ".join(map(str, run)) for run in runs)
 
 
 def tell_gain(results: list[Result]) -> None:

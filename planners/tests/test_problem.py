@@ -18,7 +18,7 @@ import numpy as np
 
 import planning
 from planning.problem import exact_text
-from planning.program import program
+from planning.program import program, refuses
 from planning.quantities import DISTANCE, FLOW
 
 FLOWS = np.array([[0, 0, 10], [0, 0, 0], [10, 0, 0]])
@@ -99,10 +99,11 @@ class OptionsOfSearch(InFolder):
                 result = planning.solve(FLOWS, DISTANCES, fixed=1, **words)
             self.assertEqual(told.filename, __file__)
             self.assertEqual((len(result.hubs), result.solved_by, result.is_optimal), (hubs, "solve", True))
-        with self.assertWarns(UserWarning), self.assertRaises(planning.Fault) as caught:
+        with self.assertWarns(UserWarning), self.assertRaises(planning.NoNetwork) as caught:
             planning.solve(FLOWS, DISTANCES, max_length=7.5, names=["Ayr", "Bute", "Crail"])
         line = "no network keeps to --max-length 7.5: from Ayr to Crail no route is that short, even with all candidates as hubs"
         self.assertEqual(str(caught.exception), line)
+        self.assertEqual((caught.exception.origin, caught.exception.destination), (0, 2))
         with self.assertWarns(UserWarning):
             self.assertEqual(planning.solve(FLOWS, DISTANCES, max_length=8, rounded=True).cost, 160)
 
@@ -116,6 +117,8 @@ class OptionsOfSearch(InFolder):
         self.by(self.with_gap())
         result = planning.solve(FLOWS, DISTANCES, fixed=1, gap=Decimal("10.00"))
         self.assertEqual((result.is_optimal, result.gap, result.bound), (False, Decimal(10), result.cost * 9 / 10))
+        told = f"Result(hubs=[0], cost={result.cost}, bound={result.bound}, gap=10 %)"
+        self.assertEqual(repr(result), told)
         self.assertEqual(planning.solve(FLOWS, DISTANCES, fixed=1).gap, 0)
 
 
@@ -125,6 +128,8 @@ class Examples(InFolder):
     def test_the_page(self) -> None:
         text = (PLANNERS / "EXAMPLES.md").read_text(encoding="utf-8")
         blocks = re.findall(r"^```python\n(.*?)^```$", text, re.DOTALL | re.MULTILINE)
+        if refuses(program(), "optimize", "--gap=1"):
+            blocks = [block for block in blocks if "gap=" not in block]
         self.assertGreater(len(blocks), 4)
         (self.folder / "planners").symlink_to(PLANNERS)
         examples = doctest.DocTestParser().get_doctest("\n".join(blocks), {}, "EXAMPLES.md", "EXAMPLES.md", 0)

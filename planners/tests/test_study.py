@@ -217,8 +217,8 @@ class LaterOptions(InFolder):
         self.assertEqual((ended.returncode, ended.stderr), (0, ""))
         told = ended.stdout.splitlines()
         self.assertRegex(told[0], "^bounds ")
-        self.assertEqual(told[1], "gap: 5.0000 % of the cost")
-        self.assertIn("; the gap is 5.0000 % of the cost.", self.read("out/page.html"))
+        self.assertEqual(told[1], "gap: 5 % of the cost")
+        self.assertIn("; the gap is 5 % of the cost.", self.read("out/page.html"))
         self.assertEqual(self.table("out/summary.csv")[-1], {"item": "gap_percent", "value": "5.0000"})
         self.assertIn("--gap=5", self.read("out/study.json"))
         line = f"study: {self.folder}/gap-hub: this hub has no option --gap for solve"

@@ -135,14 +135,16 @@ class Sweeps(InFolder):
     def test_plots(self) -> None:
         columns = "row,trunk,fixed,hubs,max_length,outcome,cost,bound,number_of_hubs\n"
         rows = "".join(f"{i},0.{i},{i % 2},{i},{100 * i},accepted,{50 - i}.5,{49 - i}.5,{i}\n" for i in range(1, 6))
-        self.write("results.csv", columns + rows + "6,0.7,0,6,1,no network for 1 2,,,\n")
+        self.write("results.csv", columns + rows + "6,0.7,0,6,1,no network keeps to it,,,\n7,0.8,0,7,9,time limit,,,\n")
         for against, by in (("trunk", "fixed"), ("hubs", ""), ("max_length", "")):
             for out in ("plot.svg", "again.svg"):
                 words = ["results.csv", "--against", against, "--by", by, "--out", out]
                 ended = self.script("plot-sweep", *words)
                 self.assertEqual((ended.returncode, ended.stderr), (0, ""))
             self.assertEqual(self.read("plot.svg"), self.read("again.svg"))
-            self.assertIn("1 scenarios without a certificate", self.read("plot.svg"))
+            self.assertIn("1 scenario for which there is no network left out", self.read("plot.svg"))
+            self.assertIn("1 scenario without an accepted certificate left out", self.read("plot.svg"))
+            self.assertEqual(self.read("plot.svg").count('id="axes_'), 1 if against == "hubs" else 2)
         ended = self.script("plot-sweep", "results.csv", "--against", "fixed", "--out", "plot.png")
         self.assert_fault(
             ended, "plot-sweep: results.csv: two scenarios have the same fixed; name what differs with --by"

@@ -527,7 +527,7 @@ function parts() {
       `${part} ${cut(cost, decimals)} (${share(cost)})`)),
     make("strong", { title: readableWhole(data.total) }, `total ${cut(data.total, decimals)}`),
     make("span", { title: readableWhole(data.bound) }, `bound ${cut(data.bound, decimals)}`),
-    make("span", {}, `gap ${data.gap} %`));
+    make("span", {}, `gap ${data.gap}`));
 }
 
 function tables() {
