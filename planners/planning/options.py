@@ -112,8 +112,8 @@ def options_of(args: argparse.Namespace) -> Options:
 
 
 def is_taken(name: str, text: str) -> bool:
-    """Whether `hub` takes a text as the number of this option. Whole numbers are digits without a leading zero; a gap has
-    at most three decimals, since it is not cut."""
+    """Whether `hub` takes a text as the number of this option. Whole numbers are digits without a leading zero; a gap
+    has at most three decimals, since it is not cut."""
     if (name, text) == ("hubs", LISTED):
         return True
     quantity = QUANTITIES[name]

@@ -220,12 +220,14 @@ class Problem:
     ) -> Result:
         """The network that costs least. What is given here takes the place of what the problem has.
 
-        `hubs` is how many hubs there are to be, or "file" for as many as an AP file lists; `max_length` how long a route
-        may be, in the unit of the distances; `candidates` are the nodes that may be hubs. `gap` ends the search once the
-        bound is within so many per cent of the cost, `nodes` at so many nodes of its tree. `by` may be "solve" for its
-        fixed rule. Where this `hub` has `hubs` or `max_length` for `solve` alone, that takes the place of `optimize`, and
-        a warning says so. A `Fault` where there is no network, or where `hub` takes what is given not; a `NoNetwork`, which is one
-        too, where all candidates together lack a route that is short enough.
+        `hubs` is how many hubs there are to be, or "file" for as many as an AP file lists; `max_length` how long a
+        route may be, in the unit of the distances; `candidates` are the nodes that may be hubs. `gap` ends the search
+        once the bound is within so many per cent of the cost, `nodes` at so many nodes of its tree. `by` may be
+        "solve" for its fixed rule, and `rounded` has numbers rounded to the decimals that `hub` keeps. Where this
+        `hub` has `hubs` or `max_length` for `solve` alone, that takes the place of `optimize`, and a warning says so.
+
+        A `Fault` where `hub` does not take what is given, or finds no network; it is a `NoNetwork` where all candidates
+        together lack a route that is short enough.
         """
         source, values = self.source, dict(self.values)
         if by not in ("optimize", "solve"):
@@ -294,7 +296,7 @@ def solve(
     rounded: bool = False,
     **options: Any,
 ) -> Result:
-    """The network that costs least for two square matrices, whose rows are origins, and whose distances are in any unit;
-    `fixed` is one cost of a hub, or one for each node, and `options` are those of `Problem.solve`. Numbers with more
-    decimals than `hub` keeps are refused with a `Fault`, or rounded where `rounded` says so."""
+    """The network that costs least for two square matrices, whose rows are origins, and whose distances are in any
+    unit; `fixed` is one cost of a hub, or one for each node, and `options` are those of `Problem.solve`. Numbers with
+    more decimals than `hub` keeps are refused with a `Fault`, or rounded where `rounded` says so."""
     return Problem.from_arrays(flows, distances, fixed, names, rounded).solve(rounded=rounded, **options)

@@ -34,8 +34,8 @@ class Scenario:
     search: dict[str, str]
     """The options of the search, by name."""
     goes_on: bool = False
-    """Whether it may be solved again from the certificate of a row before, since it differs from the row before in fixed
-    costs or the number of hubs alone."""
+    """Whether it may be solved again from the certificate of a row before, since it differs from the row before in
+    fixed costs or the number of hubs alone."""
 
     def search_words(self, left_out: tuple[str, ...] = ()) -> list[str]:
         """The options of the search as words for `hub`."""
@@ -72,8 +72,8 @@ def tested(row: Row, column: str) -> str:
 
 
 def is_same_network(first: Options, second: Options) -> bool:
-    """Whether two options of one instance differ in fixed costs or the number of hubs alone, so that what the certificate
-    of one proves by its cuts holds for the other."""
+    """Whether two options of one instance differ in fixed costs or the number of hubs alone, so that the cuts of a
+    certificate of one hold for the other."""
 
     def others(options: Options) -> dict[str, str]:
         return {name: value for name, value in options.values.items() if name != "hubs" and not is_costs(name, value)}

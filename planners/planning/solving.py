@@ -95,8 +95,8 @@ def is_answered(question: Question, folder: Path) -> bool:
 
 
 def answer(question: Question, folder: Path, look: Callable[[], None] | None = None, stale: Iterable[str] = ()) -> None:
-    """Solves a question that is served, checks, and puts files and certificate into the folder; files of the stale names
-    are removed then."""
+    """Solves a question that is served, checks, and puts files and certificate into the folder; files of the stale
+    names are removed then."""
     folder.mkdir(parents=True, exist_ok=True)
     with TemporaryDirectory(prefix=".at-work-", dir=folder) as held:
         work = Path(held)

@@ -64,8 +64,8 @@ def parser() -> Parser:
     solve = "solve by hub solve, for up to some 25 nodes, not hub optimize"
     words.add_argument("--solve", action="store_true", help=solve)
     again = (
-        "by hub resolve, where a row differs from the row before in fixed costs or the number of hubs alone, from the last"
-        " one that was solved anew; tells the gain"
+        "by hub resolve, where a row differs from the row before in fixed costs or the number of hubs alone, from the"
+        " last one that was solved anew; tells the gain"
     )
     words.add_argument("--again", action="store_true", help=again)
     names = "a CSV table of the nodes in order with a column name, by which places are told"
@@ -192,8 +192,8 @@ def named_nodes(path: Path, instance: Path) -> list[str]:
 
 
 def served(scenarios: list[Scenario]) -> tuple[list[Scenario], dict[str, list[int]]]:
-    """The rows, each by the command of this `hub` that has its options; and what a user is told where that is another one
-    than was asked for, with the numbers of these rows. A fault where there is none, before any row is run."""
+    """The rows, each by the command of this `hub` that has its options; and what a user is told where that is another
+    one than was asked for, with the numbers of these rows. A fault where there is none, before any row is run."""
     rows: list[Scenario] = []
     notes: dict[str, list[int]] = {}
     for scenario in scenarios:

@@ -67,11 +67,12 @@ class InFolder(unittest.TestCase):
         )
 
     def with_gap(self) -> str:
-        """A program that stands for a hub whose `optimize` has --gap: it solves to the end, and then names a bound that is
-        just so much lower."""
+        """A program that stands for a hub whose `optimize` has --gap: it solves to the end, and then names a bound that
+        is just so much lower."""
         return self.standin(
             "gap-hub",
-            'gap=; for word do shift; case "$word" in --gap=*) gap=${word#--gap=};; *) set -- "$@" "$word";; esac; done\n'
+            'gap=; for word do shift; case "$word" in --gap=*) gap=${word#--gap=};; *) set -- "$@" "$word";; esac\n'
+            "done\n"
             f'[ -z "$gap" ] || [ "$1" = optimize ] || exit 3\n[ -n "$gap" ] || exec {program()} "$@"\n'
             f'{program()} "$@" >{self.folder}/whole || exit\nexec {sys.executable} -c \'import sys\n'
             f'lines = open("{self.folder}/whole").read().split("\\n", 4)\ncost = int(lines[2].split()[1])\n'

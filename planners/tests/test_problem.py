@@ -70,7 +70,10 @@ class Numbers(InFolder):
 
     def test_numbers_of_the_search(self) -> None:
         for words, line in (
-            ({"hubs": 2, "max_length": 9}, "--hubs and --max-length may not stand together; hub has no search for both"),
+            (
+                {"hubs": 2, "max_length": 9},
+                "--hubs and --max-length may not stand together; hub has no search for both",
+            ),
             ({"hubs": 1.5}, "hubs: hub keeps 0 decimals, and 1.5 has more; round it, or say rounded=True"),
             ({"hubs": 0}, "hubs: wanted a number of hubs, a number from 1 to 200, found 0"),
             ({"hubs": "file"}, "--hubs file wants the layout ap, whose files list a number of hubs"),
@@ -94,14 +97,18 @@ class OptionsOfSearch(InFolder):
 
     def test_solve_takes_the_place_of_optimize(self) -> None:
         self.by(self.without("hubs", "max-length"))
+        note = "^this hub has no option --hubs for optimize; hub solve takes its place"
         for words, hubs in (({"hubs": 1}, 1), ({"hubs": 2}, 2), ({"hubs": np.int64(3)}, 3)):
-            with self.assertWarnsRegex(UserWarning, "^this hub has no option --hubs for optimize; hub solve takes") as told:
+            with self.assertWarnsRegex(UserWarning, note) as told:
                 result = planning.solve(FLOWS, DISTANCES, fixed=1, **words)
             self.assertEqual(told.filename, __file__)
             self.assertEqual((len(result.hubs), result.solved_by, result.is_optimal), (hubs, "solve", True))
         with self.assertWarns(UserWarning), self.assertRaises(planning.NoNetwork) as caught:
             planning.solve(FLOWS, DISTANCES, max_length=7.5, names=["Ayr", "Bute", "Crail"])
-        line = "no network keeps to --max-length 7.5: from Ayr to Crail no route is that short, even with all candidates as hubs"
+        line = (
+            "no network keeps to --max-length 7.5: from Ayr to Crail no route is that short, even with all candidates"
+            " as hubs"
+        )
         self.assertEqual(str(caught.exception), line)
         self.assertEqual((caught.exception.origin, caught.exception.destination), (0, 2))
         with self.assertWarns(UserWarning):

@@ -202,7 +202,8 @@ class LaterOptions(InFolder):
         self.assertEqual(ended.stderr.splitlines()[1], "study: --hubs 4: there are not so many candidates")
 
     def test_places_without_a_short_route_are_named(self) -> None:
-        ended = self.script("study", *WORDS, "--no-map", "--out", "out", "--max-length=40", hub=self.without("max-length"))
+        words = [*WORDS, "--no-map", "--out", "out", "--max-length=40"]
+        ended = self.script("study", *words, hub=self.without("max-length"))
         self.assertEqual((ended.returncode, ended.stdout), (2, ""))
         line = (
             "study: no network keeps to --max-length 40: from West to East no route is that short, even with all"

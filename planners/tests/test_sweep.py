@@ -151,14 +151,9 @@ class Sweeps(InFolder):
         )
 
     def resolving(self) -> str:
-        """A program that stands for a hub with `resolve`: it wants the older certificate, and solves anew."""
-        return self.standin(
-            "resolving-hub",
-            '[ "$1" = resolve ] || exec {0} "$@"\nshift; count=$#; place=0\n'
-            'for word do shift; place=$((place + 1)); [ $place -eq $count ] || set -- "$@" "$word"; done\n'
-            '[ "$word" = /dev/null ] || grep -q HUBCERT "$word" || exit 6\n'
-            'echo "$word" >>{1}/olds\nexec {0} optimize "$@"\n'.format(program(), self.folder),
-        )
+        """A program that is hub, and writes down the older certificates that it is given."""
+        note = f'[ "$1" = resolve ] && for word do :; done && echo "$word" >>{self.folder}/olds'
+        return self.standin("resolving-hub", f'{note}\nexec {program()} "$@"\n')
 
     def test_again_from_the_row_before(self) -> None:
         self.write("table.csv", "trunk,fixed\n0.5,20000000\n0.5,30000000\n0.5,40000000\n0.6,40000000\n0.6,20000000\n")
@@ -183,6 +178,21 @@ class Sweeps(InFolder):
         words = self.words("out", "--again", "--row", "2")
         line = "sweep: --again takes one row after another on this machine, and no --sshlogin or --row"
         self.assert_fault(self.script("sweep", *words, hub=hub), line)
+
+    def test_again_is_stopped_and_taken_up_again(self) -> None:
+        self.write("table.csv", "fixed,hubs\n" + "".join(f"{cost}0000000,\n" for cost in (2, 3, 4, 5, 6, 7)) + "0,2\n")
+        rows = self.folder / "out/rows"
+        are_done = f'[ "$(ls {rows} 2>/dev/null | grep -c json)" -ge 4 ]'
+        whole = self.resolving()
+        slow = self.standin("slow-hub", f'[ "$1" = resolve ] && {are_done} && exec sleep 60\nexec {whole} "$@"\n')
+        words = self.words("out", "--again", "--trunk", "0.5")
+        self.stop(words, slow)
+        # What the others go on from stays until all are done.
+        self.assertTrue((rows / "1.cert").exists())
+        self.assertEqual(self.script("sweep", *words, hub=whole).returncode, 0)
+        again = [row["again_from"] for row in self.table("out/results.csv")]
+        self.assertEqual(again, ["", *6 * ["1"]])
+        self.assertEqual({path.suffix for path in rows.iterdir()}, {".json"})
 
     def test_rows_by_the_command_that_has_their_options(self) -> None:
         self.write("table.csv", "trunk,hubs,max_length\n0.5,,\n0.5,2,\n0.5,3,\n0.5,,9000\n0.5,,10\n")
@@ -245,7 +255,9 @@ class Sweeps(InFolder):
             ' *) set -- "$@" "$word";; esac; done\n[ -z "$short" ] || { echo "hub: no network for 1 2" >&2; exit 8; }\n'
         )
         ended = self.script("sweep", *self.words("out", "--plain"), hub=self.program(text))
-        line = "no network keeps to --max-length 10: from 1 to 2 no route is that short, even with all candidates as hubs"
+        line = (
+            "no network keeps to --max-length 10: from 1 to 2 no route is that short, even with all candidates as hubs"
+        )
         self.assertEqual((ended.returncode, ended.stderr.splitlines()[-1]), (1, "sweep: row 1: " + line))
         self.assertEqual([row["outcome"] for row in self.table("out/results.csv")], [line, "accepted"])
 
@@ -292,8 +304,8 @@ class Sweeps(InFolder):
             ),
             (
                 "candidates\n3 1\n",
-                "table.csv:2: wanted in the column 'candidates' ascending numbers of nodes with spaces or commas between,"
-                " found '3 1'",
+                "table.csv:2: wanted in the column 'candidates' ascending numbers of nodes with spaces or commas"
+                " between, found '3 1'",
             ),
             ("costs\nnowhere\n", "table.csv:2: wanted in the column 'costs' a file, found 'nowhere'"),
             (
@@ -303,8 +315,8 @@ class Sweeps(InFolder):
             ),
             (
                 "trunks\n1\n",
-                "table.csv:1: wanted the columns name, collect, trunk, deliver, fixed, hubs, max_length, nodes, workers,"
-                " format, gap, costs, candidates, found 'trunks'",
+                "table.csv:1: wanted the columns name, collect, trunk, deliver, fixed, hubs, max_length, nodes,"
+                " workers, format, gap, costs, candidates, found 'trunks'",
             ),
             ("trunk\n", "table.csv: wanted at least one row"),
             (
