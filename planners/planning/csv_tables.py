@@ -41,7 +41,7 @@ def read_table(path: Path, needed: list[str], delimiter: str = ",") -> Iterator[
         missing = [column for column in needed if column not in columns]
         if missing or len(set(columns)) != len(columns):
             wanted = f"the column '{missing[0]}'" if missing else "each column once"
-            raise at(path, 1, f"{wanted} in the header", f"'{delimiter.join(header)}'")
+            raise at(path, 1, f"{wanted} in the header", f"'{delimiter.join(header)}'" + other_delimiter(header, missing))
         for cells in reader:
             if not any(cell.strip() for cell in cells):
                 continue
@@ -50,6 +50,14 @@ def read_table(path: Path, needed: list[str], delimiter: str = ",") -> Iterator[
             yield Row(path, reader.line_num, dict(zip(columns, (cell.strip() for cell in cells))))
     except csv.Error as error:
         raise Fault(f"{path}:{reader.line_num}: {error}") from None
+
+
+def other_delimiter(header: list[str], missing: list[str]) -> str:
+    """What a user is told where the whole header lies in one cell, with something else between."""
+    for delimiter, name in ((";", "';'"), ("\t", "a tab")):
+        if missing and len(header) == 1 and missing[0] in header[0].split(delimiter):
+            return f", with {name} between; say it by --delimiter"
+    return ""
 
 
 @dataclass(frozen=True)

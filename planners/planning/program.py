@@ -87,7 +87,7 @@ def no_network(said: str, names: list[str] | None, longest: str) -> NoNetwork:
     origin, destination = (int(node) - 1 for node in match.groups())
     start, stop = (names[node] if names else node + 1 for node in (origin, destination))
     route = f"from {start} to {stop} no route is that short, even with all candidates as hubs"
-    return NoNetwork(f"no network keeps to --max-length {longest}: {route}", origin, destination)
+    return NoNetwork(f"no network keeps to --max-length {longest}: {route} ({said})", origin, destination)
 
 
 def command(verb: str, options: Options, *files: Path, extra: list[str] | None = None) -> list[str]:

@@ -125,7 +125,7 @@ def failure(question: Question, ended: Ended) -> Fault:
         return Fault(f"hub {question.verb} does not take these words: {words}")
     too_many = TOO_MANY.fullmatch(said)
     if too_many:
-        return Fault(f"--hubs {too_many[1]}: there are not so many candidates")
+        return Fault(f"--hubs {too_many[1]}: there are not so many candidates ({said})")
     return Fault(f"hub {question.verb} found no network: {said}")
 
 

@@ -4,7 +4,7 @@ import re
 from dataclasses import dataclass
 from pathlib import Path
 
-from .faults import Fault, at
+from .faults import at
 from .quantities import SIZE, Quantity
 
 SEPARATORS = re.compile(r"[ \t\r,;]+")
@@ -12,10 +12,14 @@ SEPARATORS = re.compile(r"[ \t\r,;]+")
 
 def read_text(path: Path) -> str:
     """The text of a file, without the mark that some editors put at its start."""
+    content = path.read_bytes()
     try:
-        return path.read_text(encoding="utf-8-sig")
+        return content.decode("utf-8-sig").replace("\r\n", "\n").replace("\r", "\n")
     except UnicodeDecodeError as error:
-        raise Fault(f"{path}: wanted a text in UTF-8, byte {error.start} is none") from None
+        # Without the mark at the start, which is not counted, the byte may stand three places further on.
+        line = error.object.count(b"\n", 0, error.start) + 1
+        wrong = error.object[error.start : error.start + 1]
+        raise at(path, line, "a text in UTF-8", f"the byte {wrong.hex().upper()}") from None
 
 
 @dataclass(frozen=True)

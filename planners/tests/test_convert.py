@@ -185,6 +185,18 @@ class Faults(InFolder):
             "b:1: wanted the column 'destination' in the header, found 'origin,amount'",
             "csv",
         )
+        self.refused(
+            [NODES.replace(",", ";"), TABLE],
+            "a:1: wanted the column 'name' in the header, found 'name;x;y;fixed', with ';' between; say it by"
+            " --delimiter",
+            "csv",
+        )
+
+    def test_a_text_that_is_not_in_utf_8(self) -> None:
+        (self.folder / "latin").write_bytes(NODES.replace("East", "Öst").encode("latin-1"))
+        self.write("flows", TABLE)
+        ended = self.script("convert", "csv", "latin", "flows", "--out", "made")
+        self.assert_fault(ended, "convert: latin:3: wanted a text in UTF-8, found the byte D6")
 
     def test_words(self) -> None:
         self.refused([FLOWS, DISTANCES], "--first wants 1 to 2, found 3", "matrices", "--first", "3")

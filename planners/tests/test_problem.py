@@ -107,7 +107,7 @@ class OptionsOfSearch(InFolder):
             planning.solve(FLOWS, DISTANCES, max_length=7.5, names=["Ayr", "Bute", "Crail"])
         line = (
             "no network keeps to --max-length 7.5: from Ayr to Crail no route is that short, even with all candidates"
-            " as hubs"
+            " as hubs (hub: no network for 1 3)"
         )
         self.assertEqual(str(caught.exception), line)
         self.assertEqual((caught.exception.origin, caught.exception.destination), (0, 2))

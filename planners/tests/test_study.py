@@ -12,6 +12,7 @@ from planning.report_files import RESULTS
 
 NODES = "name,x,y,fixed\nWest,0,0,70\nMiddle,30,40,80\nEast,60,80,90\n"
 FLOWS = "origin,destination,amount\nWest,East,2.5\nEast,West,1\nMiddle,East,3\n"
+TOO_MANY = "--hubs 4: there are not so many candidates (hub: instance fault 12 Hubs 4)"
 WORDS = ("nodes.csv", "flows.csv", "--trunk", "0.5")
 OF_INSTANCE = ["instance.txt", "instance.costs.txt", "instance.names.csv", "certificate.txt", "study.json"]
 
@@ -151,7 +152,7 @@ class Studies(InFolder):
         for body, line in (
             ("echo HUBCERT 1; exit 0", "hub check did not accept what hub optimize wrote: no Ended 2"),
             ("echo 'hub: out of memory' >&2; exit 5", "hub optimize found no network: hub: out of memory"),
-            ("echo 'hub: instance fault 12 Hubs 4' >&2; exit 4", "--hubs 4: there are not so many candidates"),
+            ("echo 'hub: instance fault 12 Hubs 4' >&2; exit 4", TOO_MANY),
             ("exit 3", "hub optimize does not take these words: ap --costs=instance.costs.txt --collect=2 --trunk=0.5"),
             ("kill -KILL $$", "hub optimize found no network: status -9"),
         ):
@@ -199,7 +200,7 @@ class LaterOptions(InFolder):
         self.assertEqual(len(self.table("out/hubs.csv")), 2)
         ended = self.script("study", *words, "--hubs=4", hub=hub)
         self.assertEqual((ended.returncode, ended.stdout), (2, ""))
-        self.assertEqual(ended.stderr.splitlines()[1], "study: --hubs 4: there are not so many candidates")
+        self.assertEqual(ended.stderr.splitlines()[1], "study: " + TOO_MANY)
 
     def test_places_without_a_short_route_are_named(self) -> None:
         words = [*WORDS, "--no-map", "--out", "out", "--max-length=40"]
@@ -207,7 +208,7 @@ class LaterOptions(InFolder):
         self.assertEqual((ended.returncode, ended.stdout), (2, ""))
         line = (
             "study: no network keeps to --max-length 40: from West to East no route is that short, even with all"
-            " candidates as hubs"
+            " candidates as hubs (hub: no network for 1 3)"
         )
         self.assertEqual(ended.stderr.splitlines()[1:], [line])
         self.assertEqual(list((self.folder / "out").iterdir()), [])

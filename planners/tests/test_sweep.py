@@ -204,7 +204,7 @@ class Sweeps(InFolder):
             told = [line for line in ended.stderr.splitlines() if not line.startswith("[")]
             no_route = (
                 "no network keeps to --max-length 10: from Town A to Town B no route is that short, even with all"
-                " candidates as hubs"
+                " candidates as hubs (hub: no network for 1 2)"
             )
             self.assertEqual(
                 told,
@@ -257,6 +257,7 @@ class Sweeps(InFolder):
         ended = self.script("sweep", *self.words("out", "--plain"), hub=self.program(text))
         line = (
             "no network keeps to --max-length 10: from 1 to 2 no route is that short, even with all candidates as hubs"
+            " (hub: no network for 1 2)"
         )
         self.assertEqual((ended.returncode, ended.stderr.splitlines()[-1]), (1, "sweep: row 1: " + line))
         self.assertEqual([row["outcome"] for row in self.table("out/results.csv")], [line, "accepted"])
