@@ -14,6 +14,8 @@ from .options import NOT_IN_EACH, Options
 from .quantities import COST_PLACES, decimal, gap_percent, trimmed
 
 
+BUILT = "crates/hub_cli/out/hub_cli"
+"""What the first start of this repository's `hub` builds."""
 USAGE = 3
 """The status with which `hub` refuses words, before it opens any file."""
 NO_NETWORK = 8
@@ -27,13 +29,18 @@ MOST_STATUS = 15
 
 
 def program() -> str:
-    """The program that HUB in the environment names, or the one of this repository, or the one of the path."""
+    """The program that HUB in the environment names, or the one of this repository, or the one of the path. A fault where
+    that of this repository is not built yet: no script begins with half an hour in which it shows nothing."""
     own = Path(__file__).resolve().parents[2] / "hub"
     named = os.environ.get("HUB") or (str(own) if own.is_file() else "hub")
     found = shutil.which(named)
     if found is None:
         raise Fault(f"{named}: no such program; HUB in the environment may name another")
-    return str(Path(found).resolve())
+    path = Path(found).resolve()
+    if path == own and not (own.parent / BUILT).is_file():
+        begin = f"begin with `{own} demo 7 5`, which proves and builds it"
+        raise Fault(f"{own}: this program is not built yet; {begin}, or name another by HUB in the environment")
+    return str(path)
 
 
 @cache

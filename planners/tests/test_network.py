@@ -1,10 +1,14 @@
 """`network`: its sums are those of `hub report`, and it takes no certificate that `hub check` does not accept."""
 
 import json
+import os
 import random
+import shutil
+import subprocess
+import sys
 from unittest import SkipTest
 
-from .helper import InFolder, needs
+from .helper import PLANNERS, InFolder, needs
 
 LINE = "3\n0 0 10\n0 0 0\n10 0 0\n0 4 8\n4 0 4\n8 4 0\n"
 COSTS = "1 1.5 1\n"
@@ -79,6 +83,27 @@ class Tables(InFolder):
         tables = json.loads(self.read("tables.json"))
         self.assertEqual(tables["trunks"], [there, back])
         self.assertEqual(tables["summary"]["total"], "34.000000000000")
+
+
+class NotBuilt(InFolder):
+    """No script begins to build the program of the repository."""
+
+    def test_what_is_told(self) -> None:
+        shutil.copytree(PLANNERS / "planning", self.folder / "planners/planning")
+        shutil.copy(PLANNERS / "network", self.folder / "planners")
+        self.standin("hub", "touch begun\n")
+        environment = {name: text for name, text in os.environ.items() if name != "HUB"}
+        words = ["planners/network", "ap", "file", "certificate", "--out", "tables"]
+        ended = subprocess.run(
+            [sys.executable, *words], cwd=self.folder, env=environment, capture_output=True, text=True
+        )
+        own = self.folder.resolve() / "hub"
+        line = (
+            f"network: {own}: this program is not built yet; begin with `{own} demo 7 5`, which proves and builds it, or"
+            " name another by HUB in the environment"
+        )
+        self.assert_fault(ended, line)
+        self.assertFalse((self.folder / "begun").exists())
 
 
 class Refusals(InFolder):
