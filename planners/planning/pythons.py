@@ -31,15 +31,17 @@ def can_take_over(system: str, packages: tuple[str, ...]) -> bool:
         return False
 
 
-def want(*packages: str) -> None:
-    """Sees to it, before any work is done, that these packages are there: by this Python, or else by the system's."""
+def want(*packages: str, without: str = "") -> None:
+    """Sees to it, before any work is done, that these packages are there: by this Python, or else by the system's.
+    `without` is what a user is told who wants to do without the last one."""
     missing = [package for package in packages if not has(package)]
     if not missing:
         return
     if TAKEN_OVER not in os.environ and can_take_over(SYSTEM, packages):
         sys.stdout.flush()
         os.execve(SYSTEM, [SYSTEM, *sys.argv], os.environ | {TAKEN_OVER: "1"})
-    raise Fault(lacking(missing, sys.executable, SYSTEM))
+    more = f"; {without}" if without and missing == [packages[-1]] else ""
+    raise Fault(lacking(missing, sys.executable, SYSTEM) + more)
 
 
 def lacking(missing: list[str], running: str, system: str) -> str:

@@ -77,7 +77,10 @@ def study(args: argparse.Namespace, steps: Steps) -> list[str]:
 def main(words: list[str]) -> int:
     """Does a study."""
     args = parser().parse_args(words)
-    pythons.want("numpy", *([] if args.no_map else ["matplotlib"]))
+    if args.no_map:
+        pythons.want("numpy")
+    else:
+        pythons.want("numpy", "matplotlib", without="--no-map does without it")
     signal.signal(signal.SIGTERM, stop_as_by_hand)
     steps = Steps(4)
     try:

@@ -6,7 +6,7 @@ import sys
 from pathlib import Path
 
 from .helper import PLANNERS, InFolder, environment
-from planning.pythons import can_take_over, lacking
+from planning.pythons import can_take_over, has, lacking
 
 HIDDEN = ("numpy", "matplotlib")
 
@@ -14,15 +14,17 @@ HIDDEN = ("numpy", "matplotlib")
 class Packages(InFolder):
     """Scripts run by a Python from which packages are hidden."""
 
-    def hiding(self, script: str, *words: str, system: str = "/nowhere/python3") -> subprocess.CompletedProcess[str]:
+    def hiding(
+        self, script: str, *words: str, system: str = "/nowhere/python3", hidden: tuple[str, ...] = HIDDEN
+    ) -> subprocess.CompletedProcess[str]:
         """Runs a script by a Python without the packages, beside another one that stands for the system's."""
         text = (
             "import sys, importlib.util as u\n"
             f"sys.path.insert(0, {str(PLANNERS)!r})\n"
             "from planning import faults, pythons\n"
-            f"pythons.has = lambda package: package not in {HIDDEN}\n"
+            f"pythons.has = lambda package: package not in {hidden}\n"
             f"pythons.SYSTEM = {system!r}\n"
-            f"sys.modules.update(dict.fromkeys({HIDDEN}))\n"
+            f"sys.modules.update(dict.fromkeys({hidden}))\n"
             f"text = open({str(PLANNERS / script)!r}).read()\n"
             f"sys.argv = [{script!r}, *sys.argv[1:]]\n"
             "exec(text)\n"
@@ -44,6 +46,12 @@ class Packages(InFolder):
         self.assert_fault(ended, f"plot-sweep: {told}")
         self.assertIn(f"which neither {sys.executable} nor /nowhere/python3 has", told)
         self.assertIn("(Debian: apt install python3-numpy python3-matplotlib)", told)
+        packages = HIDDEN[1:] if has("numpy") else HIDDEN
+        self.write("nodes.csv", "name,x,y\n")
+        ended = self.hiding("study", "nodes.csv", "nodes.csv", "--out", "out", hidden=packages)
+        told = lacking(list(packages), sys.executable, "/nowhere/python3")
+        more = "; --no-map does without it" if packages == ("matplotlib",) else ""
+        self.assert_fault(ended, f"study: {told}{more}")
         self.assertIn("which /usr/bin/python3 lacks", lacking(["numpy"], "/usr/bin/python3", "/usr/bin/python3"))
 
     def test_the_system_s_python_takes_over(self) -> None:
