@@ -188,11 +188,23 @@ class Sweep:
         columns = list(self.scenarios[0].cells)
         shown = SHOWN + (OF_AGAIN if any(scenario.goes_on for scenario in self.scenarios) else [])
         rows = [
-            [str(scenario.number), *scenario.cells.values(), *(str(getattr(result, name)) for name in shown)]
+            [
+                str(scenario.number),
+                *scenario.cells.values(),
+                *(str(getattr(result, name)) for name in shown),
+                *self.hub_names(result),
+            ]
             for scenario, result in zip(self.scenarios, results)
         ]
-        put_all({self.folder / "results.csv": table_text([["row", *columns, *shown], *rows])})
+        header = ["row", *columns, *shown, *(["hub_names"] if self.names else [])]
+        put_all({self.folder / "results.csv": table_text([header, *rows])})
         return results
+
+    def hub_names(self, result: Result) -> list[str]:
+        """A cell with the names of the open hubs, where names are known."""
+        if not self.names:
+            return []
+        return [", ".join(self.names[int(hub) - 1] for hub in result.open_hubs.split())]
 
 
 def accepted(key: str, verdict: Verdict, certificate: Path, used: dict[str, Any]) -> Result:

@@ -217,6 +217,9 @@ class Sweeps(InFolder):
             rows = self.table(words[4] + "/results.csv")
             self.assertEqual([row["number_of_hubs"] for row in rows[1:3]], ["2", "3"])
             self.assertEqual([row["outcome"] for row in rows], 4 * ["accepted"] + [no_route])
+            for row in rows:
+                named = [f"Town {'ABCDEFGH'[int(hub) - 1]}" for hub in row["open_hubs"].split()]
+                self.assertEqual(row["hub_names"], ", ".join(named))
             # So long a route binds nothing.
             self.assertEqual(rows[0]["cost"], rows[3]["cost"])
         self.write("names.csv", "name\nTown A\n")
