@@ -4,6 +4,8 @@
 more of the package than they use, so these names but the faults are loaded when they are first asked for.
 """
 
+from __future__ import annotations
+
 from typing import Any
 
 from .faults import Fault, NoNetwork

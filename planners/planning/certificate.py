@@ -1,5 +1,7 @@
 """The front of a certificate: what it costs, its hubs and its routes. The proof behind them is left to `hub check`."""
 
+from __future__ import annotations
+
 from dataclasses import dataclass
 from pathlib import Path
 from typing import TextIO

@@ -1,5 +1,7 @@
 """The picture of a sweep: costs above, numbers of hubs below, unless these stand along the bottom."""
 
+from __future__ import annotations
+
 import matplotlib
 
 matplotlib.use("Agg")
@@ -48,9 +50,8 @@ def chart(lines: dict[str, list[Point]], title: str, against: str) -> pyplot.Fig
     is_named = any(lines)
     heights = (1,) if against == "hubs" else (2, 1)
     rows = len(heights)
-    figure, grid = pyplot.subplots(
-        rows, 1, sharex=True, squeeze=False, figsize=(8.5, 2.6 + 1.7 * rows), height_ratios=heights
-    )
+    sizes = {"figsize": (8.5, 2.6 + 1.7 * rows), "gridspec_kw": {"height_ratios": heights}}
+    figure, grid = pyplot.subplots(rows, 1, sharex=True, squeeze=False, **sizes)
     axes = grid[:, 0]
     figure.subplots_adjust(left=0.11, right=0.76 if is_named else 0.97, bottom=0.14 + 0.06 / rows, top=0.9)
     draw_costs(axes[0], lines)
@@ -63,7 +64,7 @@ def chart(lines: dict[str, list[Point]], title: str, against: str) -> pyplot.Fig
         axes[0].legend(loc="upper left", bbox_to_anchor=(1, 1), frameon=False, fontsize=8)
     marks = [Line2D([], [], ls="", marker="o", color="#404040", markerfacecolor=fill) for fill in ("#404040", "white")]
     texts = ["proved optimal", "not proved; dotted down to the bound"]
-    figure.legend(marks, texts, loc="lower center", ncols=2, frameon=False, fontsize=8)
+    figure.legend(marks, texts, loc="lower center", ncol=2, frameon=False, fontsize=8)
     axes[0].set_title(title, fontsize=11)
     axes[-1].set_xlabel(LABELS.get(against, against))
     if against == "hubs":

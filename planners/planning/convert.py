@@ -1,5 +1,7 @@
 """The script `convert`: circulating files into the three layouts of `hub`."""
 
+from __future__ import annotations
+
 import argparse
 import shlex
 from dataclasses import replace

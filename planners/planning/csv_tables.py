@@ -1,5 +1,7 @@
 """Tables with a header: nodes, flows between them, and what the scripts themselves write."""
 
+from __future__ import annotations
+
 import csv
 import io
 from collections.abc import Iterator

@@ -1,5 +1,7 @@
 """Distances of places, in the unit and to the three decimals to which `hub` keeps them."""
 
+from __future__ import annotations
+
 from math import asin, cos, isqrt, radians, sin, sqrt
 
 from .quantities import COORDINATE, DISTANCE_PLACES, decimal

@@ -1,5 +1,7 @@
 """The picture of a network with its hubs, trunks and spokes."""
 
+from __future__ import annotations
+
 from dataclasses import dataclass
 from io import BytesIO
 from math import sqrt

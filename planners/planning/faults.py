@@ -1,5 +1,7 @@
 """How a script ends on bad input: one line on standard error and a status other than 0."""
 
+from __future__ import annotations
+
 import argparse
 import os
 import sys

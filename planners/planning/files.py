@@ -1,5 +1,7 @@
 """Files that a script writes: all of them, or none; each is put in its place once it is whole."""
 
+from __future__ import annotations
+
 from collections.abc import Iterable, Mapping
 from pathlib import Path
 

@@ -1,5 +1,7 @@
 """An instance as `hub` takes it from a file with options: whole numbers in its units."""
 
+from __future__ import annotations
+
 from dataclasses import dataclass, replace
 from pathlib import Path
 

@@ -1,5 +1,7 @@
 """Names beside their nodes, so that no name lies on another or on a mark."""
 
+from __future__ import annotations
+
 from dataclasses import dataclass
 
 import numpy as np

@@ -1,5 +1,7 @@
 """What each part of a network carries and costs, worked out exactly from an instance and a plan."""
 
+from __future__ import annotations
+
 from dataclasses import dataclass, field
 
 from .certificate import Plan

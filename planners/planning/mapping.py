@@ -1,5 +1,7 @@
 """The script `map`: a picture of a network with its hubs, trunks and spokes."""
 
+from __future__ import annotations
+
 from . import pythons
 from .faults import Parser
 from .files import picture_path, put_all

@@ -1,5 +1,7 @@
 """One process with a time limit: how it ended, how long it took, and its peak memory."""
 
+from __future__ import annotations
+
 import os
 import re
 import resource

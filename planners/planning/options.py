@@ -1,5 +1,7 @@
 """The options with which `hub` reads an instance; the scripts take the same words and hand them on."""
 
+from __future__ import annotations
+
 import argparse
 import re
 from dataclasses import dataclass

@@ -1,5 +1,7 @@
 """The script `page`: a network as one HTML file, which opens without a network connection and can be asked."""
 
+from __future__ import annotations
+
 import html
 import json
 import shlex

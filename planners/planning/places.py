@@ -1,5 +1,7 @@
 """Where the nodes of a network are drawn."""
 
+from __future__ import annotations
+
 from math import cos, radians
 from pathlib import Path
 

@@ -1,5 +1,7 @@
 """The script `plot-sweep`: cost and number of hubs of a sweep against one of its columns."""
 
+from __future__ import annotations
+
 from dataclasses import dataclass
 from pathlib import Path
 

@@ -1,5 +1,7 @@
 """From Python: a problem of numpy arrays or of files, solved and proved by `hub`. Nodes count from 0 here."""
 
+from __future__ import annotations
+
 import inspect
 import os
 import shutil

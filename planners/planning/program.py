@@ -1,5 +1,7 @@
 """The program `hub`, which the scripts run for every answer that they rest on."""
 
+from __future__ import annotations
+
 import os
 import re
 import shutil

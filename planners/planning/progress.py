@@ -1,5 +1,7 @@
 """How far a script is, on standard error where that is a terminal."""
 
+from __future__ import annotations
+
 import sys
 import time
 

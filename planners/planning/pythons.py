@@ -1,5 +1,7 @@
 """Which Python runs a script: where it lacks a package that the system's own Python has, that one takes over."""
 
+from __future__ import annotations
+
 import os
 import subprocess
 import sys
@@ -14,7 +16,7 @@ TAKEN_OVER = "HUB_PYTHON_TAKEN_OVER"
 ASK = """
 import sys
 from importlib.util import find_spec
-sys.exit(sys.version_info < (3, 11) or any(find_spec(name) is None for name in sys.argv[1:]))
+sys.exit(sys.version_info < (3, 9) or any(find_spec(name) is None for name in sys.argv[1:]))
 """
 
 

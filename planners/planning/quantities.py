@@ -1,5 +1,7 @@
 """Exact numbers as `hub` reads and prints them: whole multiples of a power of ten."""
 
+from __future__ import annotations
+
 import re
 from dataclasses import dataclass
 

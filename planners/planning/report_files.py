@@ -1,5 +1,7 @@
 """What a planner gets to see of an accepted network, as files: the verdict, the tables, the map and the page."""
 
+from __future__ import annotations
+
 import shlex
 from pathlib import Path
 

@@ -1,5 +1,7 @@
 """What is known of the scenarios of a sweep, kept in a folder so that what is done is not done again."""
 
+from __future__ import annotations
+
 import json
 import mmap
 import shutil

@@ -1,5 +1,7 @@
 """The rows of a sweep: a table of options, tested before anything is run."""
 
+from __future__ import annotations
+
 import hashlib
 import json
 import re

@@ -1,5 +1,7 @@
 """A question to `hub`, and the folder that keeps its files and the certificate that answers it."""
 
+from __future__ import annotations
+
 import csv
 import hashlib
 import json

@@ -1,5 +1,7 @@
 """The kinds of files that circulate, each read into one `Source`."""
 
+from __future__ import annotations
+
 from dataclasses import dataclass, replace
 from pathlib import Path
 from typing import Literal

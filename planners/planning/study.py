@@ -1,5 +1,7 @@
 """The script `study`: from two tables to a network that is proved, with its tables, its map and its page."""
 
+from __future__ import annotations
+
 import argparse
 import signal
 from dataclasses import replace

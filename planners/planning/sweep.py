@@ -1,5 +1,7 @@
 """The script `sweep`: many scenarios of one instance, each solved and checked by a process of its own."""
 
+from __future__ import annotations
+
 import argparse
 import shlex
 from dataclasses import replace

@@ -1,5 +1,7 @@
 """The tables of a network, and the script `network`: certificate and instance into CSV or JSON."""
 
+from __future__ import annotations
+
 import json
 from dataclasses import dataclass
 from pathlib import Path

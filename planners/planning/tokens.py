@@ -1,5 +1,7 @@
 """Tokens of a text file, each with its line, separated as in the files of `hub`."""
 
+from __future__ import annotations
+
 import re
 from dataclasses import dataclass
 from pathlib import Path

@@ -1,5 +1,7 @@
 """Runs all tests of this folder, and tells at the end which were skipped and why."""
 
+from __future__ import annotations
+
 import sys
 import unittest
 from pathlib import Path

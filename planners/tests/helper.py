@@ -1,5 +1,7 @@
 """What the tests share: a folder of their own, and runs of the scripts and of `hub`."""
 
+from __future__ import annotations
+
 import csv
 import os
 import stat

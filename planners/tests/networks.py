@@ -1,5 +1,7 @@
 """Networks of invented nodes for the tests of pictures and pages."""
 
+from __future__ import annotations
+
 import random
 
 import numpy as np

@@ -1,5 +1,7 @@
 """`convert` on files written by hand, in each kind, and on their faults."""
 
+from __future__ import annotations
+
 from .helper import InFolder
 
 AP = "2\n38 62\n78 246\n3 4\n4 6\n1\n3 0.75 2\n"

@@ -1,5 +1,7 @@
 """`map`: what can be read in a picture at three sizes, and that the same network gives the same bytes."""
 
+from __future__ import annotations
+
 from itertools import combinations
 from unittest import SkipTest
 

@@ -1,5 +1,7 @@
 """`network`: its sums are those of `hub report`, and it takes no certificate that `hub check` does not accept."""
 
+from __future__ import annotations
+
 import json
 import os
 import random

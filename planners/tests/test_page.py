@@ -1,5 +1,7 @@
 """`page`: what stands in the file, and what a browser makes of it: the map, clicks, choices and sorting."""
 
+from __future__ import annotations
+
 import json
 import re
 import shutil

@@ -1,5 +1,7 @@
 """From Python: the page of examples, how numbers become text, what is refused, and the package once it is installed."""
 
+from __future__ import annotations
+
 import doctest
 import os
 import re

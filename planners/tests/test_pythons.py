@@ -1,5 +1,7 @@
 """What a script does where its Python lacks a package."""
 
+from __future__ import annotations
+
 import os
 import subprocess
 import sys
@@ -82,4 +84,4 @@ class TestsWithoutPython(InFolder):
                     text=True,
                 )
                 self.assertEqual((ended.returncode, ended.stdout), (status, ""))
-                self.assertIn("there is no Python 3.11 or later", ended.stderr)
+                self.assertRegex(ended.stderr, r"there is no Python 3\.[0-9]+ or later")

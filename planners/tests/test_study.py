@@ -1,5 +1,7 @@
 """`study`: two tables become a folder of results; taken up again, refused, and with nothing half written."""
 
+from __future__ import annotations
+
 import os
 import pty
 import subprocess

@@ -1,5 +1,7 @@
 """`sweep` and `plot-sweep`: twenty scenarios stopped in the middle and taken up again, limits, and what is refused."""
 
+from __future__ import annotations
+
 import os
 import shutil
 import signal
