@@ -62,9 +62,9 @@ def study(args: argparse.Namespace, steps: Steps) -> list[str]:
         raise Fault(f"{args.out}: the tables to read lie in this folder; choose another --out")
     steps.begin("looking for what is there")
     question, note = served(asked)
-    if note:
-        steps.tell(f"study: {note}")
     if not is_answered(question, args.out):
+        if note:
+            steps.tell(f"study: {note}")
         steps.begin(f"hub {question.verb}")
         answer(question, args.out, steps.look, stale=RESULTS)
     steps.begin("tables, map and page")
