@@ -20,11 +20,12 @@ use assign_sub::lacking;
 use hub_model::{Instance, MOST_CUTS};
 use hub_plain::outside;
 use kept_cuts::Found;
-use plan_model::{HubSet, StatedCut, are_among};
+use plan_model::{HubSet, are_among};
 use search_core::{Start, Task};
 use search_progress::{Progress, begin, number_of, separate};
 use search_steps::Rule;
 use separators::Separator;
+use stated_cuts::StatedCut;
 use std::alloc::{AllocError, Global};
 
 /// What the rule of the search, which serves the instance, finds that begins with these cuts beside its own, and tries

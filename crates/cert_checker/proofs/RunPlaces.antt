@@ -186,9 +186,7 @@ second_version version n duals t count is within e =
     e ∙ sym (place_begun n duals t within) ∙ ap (λ (v : Version). place_of (dual_runs (version_number v) n duals) t) (sym is)
 
 -- a run begins where the origin does not, by the test of two duals
-pub begins_by : (n t : ℕ) (duals : List Prices) (first second : Prices) (told : Bool) → (t % n ≡ 0 → ⊥) → 1 ≤ t → t < length duals
-    → first ≡ get_or duals (t - 1) first → second ≡ get_or duals t second → (IsTrue told ↔ (first ≡ second)) → not told ≡ begins_run n duals t
-begins_by n t duals first second told other later within is_first is_second says =
-    let before = get_or_read duals (t - 1) first (omega (arith, later, within)) is_first no_dual in
-    let here = get_or_read duals t second within is_second no_dual in
-    rw (ne_eqb (t % n) 0 other) (ap not (told_same told first second says) ∙ ap₂ (λ (d e : Prices). not (same_prices d e)) before here)
+pub begins_by : (n t : ℕ) (duals : List Prices) (told : Bool) → (t % n ≡ 0 → ⊥)
+    → (IsTrue told ↔ (get_or duals (t - 1) no_dual ≡ get_or duals t no_dual)) → not told ≡ begins_run n duals t
+begins_by n t duals told other says =
+    rw (ne_eqb (t % n) 0 other) (ap not (told_same told (get_or duals (t - 1) no_dual) (get_or duals t no_dual) says))

@@ -16,7 +16,7 @@ use crate::lines::{cut_lines, last_dual_line};
 use crate::sums::SummedCut;
 use cert_format::Version;
 use hub_model::{Instance, MOST_COST};
-use plan_model::StatedCut;
+use stated_cuts::StatedCut;
 use std::alloc::Global;
 use std::thread::Threads;
 

@@ -16,8 +16,9 @@ use crate::kinds::Kind;
 use crate::runs::run_place;
 use cert_format::Version;
 use hub_model::{Instance, MOST_NODES};
-use plan_model::{Dual, StatedCut, is_among};
+use plan_model::is_among;
 use rayon::prelude::*;
+use stated_cuts::{StatedCut, StatedDual};
 use std::thread::Threads;
 
 /// A thread takes at least so many duals, so that a small cut is tried on one.
@@ -41,27 +42,21 @@ pub(crate) fn check_duals<R: Threads + Sync>(
     ensures fails { IfErr result (IsFailure (claims_of_duals instance.now (version_number version) line cut.now)) }
 {
     let n = instance.size();
-    let duals = cut.duals();
-    match first_failing(rt, instance, cut.part(), duals) {
+    match first_failing(rt, instance, cut) {
         None => Ok(()),
         Some(t) => Err(Failure::Fails {
             kind: Kind::Dual,
-            line: line + run_place(version, n, duals, t),
+            line: line + run_place(version, n, cut, t),
         }),
     }
 }
 
 /// The number of the first commodity whose dual is not feasible. The duals are tried side by side, also those behind it.
-fn first_failing<R: Threads + Sync>(
-    rt: &R,
-    instance: &Instance,
-    part: u32,
-    duals: &[Dual],
-) -> Option<u32>
-    requires part { part ≤ most_part }
-    requires one_for_each { length duals.now ≡ instance.now.size * instance.now.size }
-    requires duals { All (IsDualInRange instance.now.size) duals.now }
-    ensures { IsFirstFailing instance.now part duals.now result }
+fn first_failing<R: Threads + Sync>(rt: &R, instance: &Instance, cut: &StatedCut) -> Option<u32>
+    requires part { cut.now.part ≤ most_part }
+    requires one_for_each { length cut.now.duals ≡ instance.now.size * instance.now.size }
+    requires duals { All (IsDualInRange instance.now.size) cut.now.duals }
+    ensures { IsFirstFailing instance.now cut.now.part cut.now.duals result }
 {
     let n = instance.size();
     (0..n * n)
@@ -70,23 +65,23 @@ fn first_failing<R: Threads + Sync>(
         .find_first(
             rt,
             |t: &u32| -> bool
-                requires { MayTryDual instance.now part duals.now t.now }
-                ensures { (result ≡ false) ↔ IsDualAt instance.entry.now part duals.entry.now t.entry.now }
-            { !is_dual_at(instance, part, duals, *t) },
+                requires { MayTryDual instance.now cut.now.part cut.now.duals t.now }
+                ensures { (result ≡ false) ↔ IsDualAt instance.entry.now cut.entry.now.part cut.entry.now.duals t.entry.now }
+            { !is_dual_at(instance, cut, *t) },
         )
 }
 
 /// Tells whether the dual of the commodity of this number is feasible.
-fn is_dual_at(instance: &Instance, part: u32, duals: &[Dual], t: u32) -> bool
-    requires { MayTryDual instance.now part duals.now t }
-    ensures { IsTrue result ↔ IsDualAt instance.now part duals.now t }
+fn is_dual_at(instance: &Instance, cut: &StatedCut, t: u32) -> bool
+    requires { MayTryDual instance.now cut.now.part cut.now.duals t }
+    ensures { IsTrue result ↔ IsDualAt instance.now cut.now.part cut.now.duals t }
 {
     let n = instance.size();
-    is_dual(instance, part, (t / n, t % n), &duals[t as usize])
+    is_dual(instance, cut.part(), (t / n, t % n), &cut.dual(t))
 }
 
 /// Tells whether this is a feasible dual of the commodity with this part.
-fn is_dual(instance: &Instance, part: u32, commodity: (u32, u32), dual: &Dual) -> bool
+fn is_dual(instance: &Instance, part: u32, commodity: (u32, u32), dual: &StatedDual<'_>) -> bool
     requires part { part ≤ most_part }
     requires from { commodity.0 < instance.now.size }
     requires to { commodity.1 < instance.now.size }
@@ -122,7 +117,7 @@ fn is_covered_by_all(
         && is_covered_by_pairs(instance, part, commodity, a, values)
 }
 
-fn lists_candidates(instance: &Instance, dual: &Dual) -> bool
+fn lists_candidates(instance: &Instance, dual: &StatedDual<'_>) -> bool
     ensures { IsTrue result ↔ All (λ e. Contains instance.now.candidates e.0) dual.now.u }
 {
     for i in 0..dual.count() {
@@ -273,7 +268,7 @@ pub(crate) fn times(part: u32, cost: u128) -> u128
 }
 
 /// Puts the values that the dual lists at their nodes.
-fn spread(dual: &Dual, values: &mut [u128])
+fn spread(dual: &StatedDual<'_>, values: &mut [u128])
     requires dual { IsDualInRange (length values.old) dual.now }
     requires cleared { AreValues [] values.old }
     ensures values { AreValues dual.now.u values.new }

@@ -7,7 +7,7 @@ ghost use Rattle.cert_scan.specs.Versions.{version_number};
 
 use crate::runs::run_count;
 use cert_format::Version;
-use plan_model::StatedCut;
+use stated_cuts::StatedCut;
 
 /// The numbers of nodes and of candidates.
 pub(crate) const SIZE_LINE: u64 = 2;
@@ -45,7 +45,7 @@ pub(crate) fn cut_lines(version: Version, n: u32, cut: &StatedCut) -> u64
     ensures value { result ≡ cut_lines (version_number version) n cut.now }
     ensures limit { result ≤ n * n + 1 }
 {
-    run_count(version, n, cut.duals()) + 1
+    run_count(version, n, cut) + 1
 }
 
 /// The last dual of the cut that stands at this line.
@@ -56,7 +56,7 @@ pub(crate) fn last_dual_line(version: Version, n: u32, cut: &StatedCut, line: u6
     requires line { line < 2 ^ 59 }
     ensures { result ≡ last_dual_line (version_number version) n cut.now line }
 {
-    line + run_count(version, n, cut.duals())
+    line + run_count(version, n, cut)
 }
 
 /// The first line of the tree after these cuts.

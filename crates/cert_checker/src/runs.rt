@@ -1,50 +1,50 @@
 //! The runs of a cut's duals, each of which is a line: in the second version equal neighbours of one origin, and in the
 //! first each dual alone.
 
-ghost use Rattle.std.specs.Prelude.{◌≡◌, ◌+◌, ◌*◌, ◌^◌, ◌<◌, ◌≤◌, ◌↔◌, length, IsTrue};
+ghost use Rattle.std.specs.Prelude.{◌≡◌, ◌+◌, ◌*◌, ◌^◌, ◌<◌, ◌≤◌, length};
 ghost use Rattle.hub_spec.specs.Limits.{most_nodes};
 ghost use Rattle.cert_spec.specs.Text.{dual_runs};
 ghost use Rattle.cert_scan.specs.Versions.{version_number};
 ghost use Rattle.cert_checker.specs.Runs.{place_of, begins_run, begun};
 
 use cert_format::Version;
-use plan_model::Dual;
+use stated_cuts::StatedCut;
 
 /// How many runs the duals have.
-pub(crate) fn run_count(version: Version, n: u32, duals: &[Dual]) -> u64
+pub(crate) fn run_count(version: Version, n: u32, cut: &StatedCut) -> u64
     requires some { 1 ≤ n }
     requires few { n ≤ most_nodes }
-    requires one_for_each { length duals.now ≡ n * n }
-    ensures value { result ≡ length (dual_runs (version_number version) n duals.now) }
+    requires one_for_each { length cut.now.duals ≡ n * n }
+    ensures value { result ≡ length (dual_runs (version_number version) n cut.now.duals) }
     ensures limit { result ≤ n * n }
 {
-    run_place(version, n, duals, n * n - 1) + 1
+    run_place(version, n, cut, n * n - 1) + 1
 }
 
 /// The number of the run, counted from 0, that has the commodity of number `t`.
-pub(crate) fn run_place(version: Version, n: u32, duals: &[Dual], t: u32) -> u64
+pub(crate) fn run_place(version: Version, n: u32, cut: &StatedCut, t: u32) -> u64
     requires some { 1 ≤ n }
     requires few { n ≤ most_nodes }
-    requires within { t < length duals.now }
-    ensures value { result ≡ place_of (dual_runs (version_number version) n duals.now) t }
+    requires within { t < length cut.now.duals }
+    ensures value { result ≡ place_of (dual_runs (version_number version) n cut.now.duals) t }
     ensures limit { result ≤ t }
 {
     match version {
         Version::First => t as u64,
-        Version::Second => runs_begun(n, duals, t),
+        Version::Second => runs_begun(n, cut, t),
     }
 }
 
 /// How many runs of equal neighbours begin after the first commodity, up to that of number `t`.
-fn runs_begun(n: u32, duals: &[Dual], t: u32) -> u64
+fn runs_begun(n: u32, cut: &StatedCut, t: u32) -> u64
     requires some { 1 ≤ n }
-    requires within { t < length duals.now }
-    ensures value { result ≡ begun n duals.now t }
+    requires within { t < length cut.now.duals }
+    ensures value { result ≡ begun n cut.now.duals t }
     ensures limit { result ≤ t }
 {
     let mut count = 0;
     for u in 0..t {
-        if begins_run(n, duals, u + 1) {
+        if begins_run(n, cut, u + 1) {
             count += 1;
         }
     }
@@ -53,17 +53,11 @@ fn runs_begun(n: u32, duals: &[Dual], t: u32) -> u64
 
 /// Tells whether a run begins with the commodity of number `t`: its origin or its dual is another than that of the one
 /// before it.
-fn begins_run(n: u32, duals: &[Dual], t: u32) -> bool
+fn begins_run(n: u32, cut: &StatedCut, t: u32) -> bool
     requires some { 1 ≤ n }
     requires later { 1 ≤ t }
-    requires within { t < length duals.now }
-    ensures { result ≡ begins_run n duals.now t }
+    requires within { t < length cut.now.duals }
+    ensures { result ≡ begins_run n cut.now.duals t }
 {
-    t % n == 0 || !is_same(&duals[t as usize - 1], &duals[t as usize])
-}
-
-fn is_same(first: &Dual, second: &Dual) -> bool
-    ensures { IsTrue result ↔ (first.now ≡ second.now) }
-{
-    first.price() == second.price() && first.u() == second.u()
+    t % n == 0 || !cut.is_same(t - 1, t)
 }

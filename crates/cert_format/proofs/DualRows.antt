@@ -1,8 +1,8 @@
 -- The lines of a cut's duals, origin by origin and run by run.
-use Rattle.std.proofs.Common.{◌≡◌, ◌≢◌, ℕ, zero, suc, ◌+◌, ◌*◌, ◌%◌, ◌<◌, ◌≤◌, Bool, true, not, ◌&&◌, List, [], ◌∷◌, ◌++◌, length, drop, get_or, replicate, map, flat_map, Option, Some, None, ℤ, nat_eq, refl, sym, ap, ap₂, ◌∙◌, subst, length-drop, mul-le-mul_right, eq-eqb, eqb-true, arith}
+use Rattle.std.proofs.Common.{◌≡◌, ◌≢◌, ℕ, zero, suc, ◌+◌, ◌-◌, ◌*◌, ◌%◌, ◌<◌, ◌≤◌, Bool, true, not, ◌&&◌, List, [], ◌∷◌, ◌++◌, length, drop, get_or, replicate, map, flat_map, Option, Some, None, ℤ, nat_eq, refl, sym, ap, ap₂, ◌∙◌, subst, length-drop, append_assoc, mul-le-mul_right, eq-eqb, eqb-true, arith}
 use Rattle.std.specs.List.{range_with_len}
 use Rattle.std.proofs.lemmas.Bool.{eqb-false}
-use Rattle.std.proofs.lemmas.List.{get_or_read, map-append, take-append-drop, drop-drop, drop_all, length-take-le}
+use Rattle.std.proofs.lemmas.List.{get_or_read, drop_more, replicate_more, map-append, take-append-drop, drop-drop, drop_all, length-take-le}
 use Rattle.std.proofs.lemmas.List.FromFn.{length-map-range_with_len, get_or-range_with_len}
 use Rattle.std.proofs.lemmas.Nat.{mod-mul-add, div-mul-add}
 use Rattle.std.proofs.lemmas.Option.{same_Some, none-some}
@@ -49,6 +49,19 @@ run_front n t r x ys some one fits other =
     ap (λ zs. runs same_prices n t (replicate r x ++ zs)) (sym (spread_runs same_prices n (t + r) ys prices_told))
     ∙ runs_spread same_prices n t None ((r, x) ∷ rest) prices_told some (one, fits, (λ e. none-some x e), runs_after n (t + r) x ys some other)
 
+-- one equal dual more
+pub one_more_equal : (row : List Prices) (j end : ℕ) → j ≤ end → end < length row → get_or row j no_dual ≡ get_or row end no_dual
+    → drop j row ≡ replicate (end - j) (get_or row j no_dual) ++ drop end row
+    → drop j row ≡ replicate (end + 1 - j) (get_or row j no_dual) ++ drop (end + 1) row
+one_more_equal row j end order below same so_far =
+    let x = get_or row j no_dual in
+    let rest = drop (end + 1) row in
+    let longer : end - j + 1 ≡ end + 1 - j = omega (arith, order) in
+    so_far
+    ∙ ap (λ (ds : List Prices). replicate (end - j) x ++ ds) (drop_more row end no_dual below ∙ ap (λ (d : Prices). d ∷ rest) (sym same))
+    ∙ sym (append_assoc (replicate (end - j) x) (x ∷ []) rest)
+    ∙ ap (λ (ds : List Prices). ds ++ rest) (replicate_more (end - j) x ∙ ap (λ (m : ℕ). replicate m x) longer)
+
 -- ---- the next line of a row
 
 run_said : (v n t j run : ℕ) (row : List Prices) → 1 ≤ n → t % n + run ≤ n → IsRunAt v row j run
@@ -85,6 +98,14 @@ next_text v n i j run row dual values whole is read same listed =
     let later = flat_map line_bytes (row_items_from v n i (j + run) (drop (j + run) row)) in
     (λ t. line_bytes (says_dual (i, j) run (record { a = same t; u = u t })) ++ later)
     ∙ ap (λ (d : Prices). line_bytes (says_dual (i, j) run d) ++ later) at
+    ∙ ap (flat_map line_bytes) (sym (next_line v n i j run row whole is))
+
+-- the same where the dual is put as it is
+pub next_stated : (v n i j run : ℕ) (row : List Prices) (dual : Prices) → length row ≡ n → IsRunAt v row j run → dual ≡ get_or row j no_dual
+    → line_bytes (says_dual (i, j) run dual) ++ flat_map line_bytes (row_items_from v n i (j + run) (drop (j + run) row))
+    ≡ flat_map line_bytes (row_items_from v n i j (drop j row))
+next_stated v n i j run row dual whole is at =
+    ap (λ (d : Prices). line_bytes (says_dual (i, j) run d) ++ flat_map line_bytes (row_items_from v n i (j + run) (drop (j + run) row))) at
     ∙ ap (flat_map line_bytes) (sym (next_line v n i j run row whole is))
 
 pub no_lines : (v n i j : ℕ) (row : List Prices) → length row ≤ j → row_items_from v n i j (drop j row) ≡ []

@@ -1,11 +1,14 @@
 -- What items in order give is in range.
-use Rattle.std.proofs.Common.{◌≡◌, ℕ, ◌<◌, ◌≤◌, false, List, [], ◌∷◌, ◌++◌, flat_map, inl, inr, append_assoc, append-nil, sym, ap, ◌∙◌, subst}
+use Rattle.std.proofs.Common.{◌≡◌, ℕ, ◌+◌, ◌-◌, ◌*◌, ◌<◌, ◌≤◌, false, nat_eq, Option, arith, List, [], ◌∷◌, ◌++◌, flat_map, inl, inr, append_assoc, append-nil, sym, ap, ◌∙◌, subst}
 use Rattle.std.specs.List.{AllByRecursion}
-use Rattle.std.proofs.lemmas.List.Elements.{recursion_from_All}
+use Rattle.std.proofs.lemmas.List.Elements.{All-weaker, recursion_from_All}
+use Rattle.hub_spec.specs.Limits.{most_nodes}
+use Rattle.hub_spec.specs.Cuts.{Prices}
+use Rattle.hub_spec.proofs.SumLemmas.{by_test}
 use Rattle.hub_spec.specs.Trees.{branch_on, leaf_of, no_hub, no_route, no_count}
-use Rattle.hub_spec.specs.Ranges.{IsShort, IsAmount}
+use Rattle.hub_spec.specs.Ranges.{IsShort, IsAmount, IsDualInRange}
 use Rattle.cert_spec.specs.Lines.{Item as Line, says_version, says_size, says_cost, says_bound, says_hubs, says_route, says_cuts, says_cut, says_dual, says_nodes, says_tree, says_end}
-use Rattle.cert_spec.specs.Grammar.{Stage, want_version, want_size, want_end, want_cost, want_bound, want_hubs, want_cuts, want_nodes, want_route, want_cut, want_dual, want_tree, Wants, after, Leads}
+use Rattle.cert_spec.specs.Grammar.{Shape, Stage, want_version, want_size, want_end, want_cost, want_bound, want_hubs, want_cuts, want_nodes, want_route, want_cut, want_dual, want_tree, Wants, kept_dual, after_cut, after_dual, after, Leads}
 use Rattle.cert_scan.specs.Parts.{none_left, hub_parts, value_parts, weight_parts, parts_of, open_hubs, open_values, open_weights}
 use Rattle.cert_scan.specs.Given.{IsBegun, IsGiven}
 use Rattle.cert_scan.specs.declared.items.Item.{Item}
@@ -17,37 +20,84 @@ use Rattle.cert_format.proofs.Collecting.{taken_all-append, dual_at, leaf_at, va
 abbrev Fits : Standing → Type 0
 Fits s = IsFit s.begun
 
+-- the text is of at most so many nodes, once it says how many
+abbrev IsSmall : Stage → Type 0
+IsSmall (want_cost sh) = sh.size ≤ most_nodes
+IsSmall (want_bound sh) = sh.size ≤ most_nodes
+IsSmall (want_hubs sh) = sh.size ≤ most_nodes
+IsSmall (want_cuts sh) = sh.size ≤ most_nodes
+IsSmall (want_nodes sh) = sh.size ≤ most_nodes
+IsSmall (want_route sh t) = sh.size ≤ most_nodes
+IsSmall (want_cut sh all x) = sh.size ≤ most_nodes
+IsSmall (want_dual sh all x t before) = sh.size ≤ most_nodes
+IsSmall (want_tree sh places left) = sh.size ≤ most_nodes
+IsSmall stage = Unit {0}
+
+small_cut : (sh : Shape) (all x : ℕ) → sh.size ≤ most_nodes → IsSmall (after_cut sh all x)
+small_cut sh all x few = by_test (nat_eq x all) (λ e. rw e few) (λ e. rw e few)
+
+small_dual : (sh : Shape) (all x t : ℕ) (before : Option Prices) → sh.size ≤ most_nodes → IsSmall (after_dual sh all x t before)
+small_dual sh all x t before few = by_test (nat_eq t (sh.size * sh.size)) (λ e. rw e (small_cut sh all (x + 1) few)) (λ e. rw e few)
+
+small_after : (stage : Stage) (l : Line) → Wants stage l → IsSmall stage → IsSmall (after stage l)
+small_after want_version (says_version v) w few = tt
+small_after (want_size v) (says_size n q) w few = w.1
+small_after (want_cost sh) l w few = few
+small_after (want_bound sh) l w few = few
+small_after (want_hubs sh) l w few = few
+small_after (want_route sh t) l w few = by_test (nat_eq (t + 1) (sh.size * sh.size)) (λ e. rw e few) (λ e. rw e few)
+small_after (want_cuts sh) (says_cuts all) w few = small_cut sh all 0 few
+small_after (want_cut sh all x) l w few = few
+small_after (want_dual sh all x t before) (says_dual c run dual) w few = small_dual sh all x (t + run) (kept_dual sh (t + run) dual) few
+small_after (want_nodes sh) (says_nodes all) w few = few
+small_after (want_tree sh places left) (says_tree line) w few = by_test (nat_eq (left - 1) 0) (λ e. rw e tt) (λ e. rw e few)
+small_after want_end says_end w few = tt
+small_after stage l w few = absurd w
+
+-- a dual between these nodes is one between so many
+wider : (sh : Shape) (dual : Prices) → sh.size ≤ most_nodes → IsDualInRange sh.size dual → IsDualInRange most_nodes dual
+wider sh dual few h = record {
+  a = h.a;
+  ascend = h.ascend;
+  each = All-weaker (λ (e : ℕ × ℕ). (e.0 < sh.size) × (1 ≤ e.1) × IsAmount e.1) (λ (e : ℕ × ℕ). (e.0 < most_nodes) × (1 ≤ e.1) × IsAmount e.1)
+      (λ e h. (let below : e.0 < most_nodes = omega (arith, few, h.0) in (below, h.1, h.2))) dual.u h.each;
+}
+
 -- ---- whole lines
 
 fits_hubs : (s : Standing) (hubs : List ℕ) → Fits s → Fits (taken_all s (hub_parts hubs))
 fits_hubs s [] h = h
 fits_hubs s (k ∷ hubs) h = fits_hubs (taken s (Hub k (none_left hubs))) hubs tt
 
-fits_line : (stage : Stage) (l : Line) (s : Standing) → Wants stage l → Fits s → Fits (taken_all s (parts_of l))
-fits_line want_version (says_version v) s w h = tt
-fits_line (want_size v) (says_size n q) s w h = tt
-fits_line (want_cost sh) (says_cost c) s w h = tt
-fits_line (want_bound sh) (says_bound b) s w h = tt
-fits_line (want_hubs sh) (says_hubs hubs) s w h = fits_hubs s hubs h
-fits_line (want_route sh t) (says_route c r) s w h = tt
-fits_line (want_cuts sh) (says_cuts all) s w h = tt
-fits_line (want_cut sh all x) (says_cut number part) s w h = tt
-fits_line (want_dual sh all x t before) (says_dual c run dual) s w h =
-    subst Fits (sym (values_taken (settled s) run dual.a [] dual.u)) (w.1.0, (sh.size, w.2))
-fits_line (want_nodes sh) (says_nodes all) s w h = tt
-fits_line (want_tree sh places left) (says_tree (branch_on k)) s w h = tt
-fits_line (want_tree sh places left) (says_tree (leaf_of denom weights)) s w h = subst Fits (sym (weights_taken (settled s) denom [] weights)) w.0
-fits_line (want_tree sh places left) (says_tree no_hub) s w h = tt
-fits_line (want_tree sh places left) (says_tree (no_route commodity)) s w h = tt
-fits_line (want_tree sh places left) (says_tree no_count) s w h = tt
-fits_line want_end says_end s w h = tt
-fits_line stage l s w h = absurd w
+fits_line : (stage : Stage) (l : Line) (s : Standing) → Wants stage l → IsSmall stage → Fits s → Fits (taken_all s (parts_of l))
+fits_line want_version (says_version v) s w few h = tt
+fits_line (want_size v) (says_size n q) s w few h = tt
+fits_line (want_cost sh) (says_cost c) s w few h = tt
+fits_line (want_bound sh) (says_bound b) s w few h = tt
+fits_line (want_hubs sh) (says_hubs hubs) s w few h = fits_hubs s hubs h
+fits_line (want_route sh t) (says_route c r) s w few h = tt
+fits_line (want_cuts sh) (says_cuts all) s w few h = tt
+fits_line (want_cut sh all x) (says_cut number part) s w few h = tt
+fits_line (want_dual sh all x t before) (says_dual c run dual) s w few h =
+    subst Fits (sym (values_taken (settled s) run dual.a [] dual.u)) (w.1.0, wider sh dual few w.2)
+fits_line (want_nodes sh) (says_nodes all) s w few h = tt
+fits_line (want_tree sh places left) (says_tree (branch_on k)) s w few h = tt
+fits_line (want_tree sh places left) (says_tree (leaf_of denom weights)) s w few h = subst Fits (sym (weights_taken (settled s) denom [] weights)) w.0
+fits_line (want_tree sh places left) (says_tree no_hub) s w few h = tt
+fits_line (want_tree sh places left) (says_tree (no_route commodity)) s w few h = tt
+fits_line (want_tree sh places left) (says_tree no_count) s w few h = tt
+fits_line want_end says_end s w few h = tt
+fits_line stage l s w few h = absurd w
 
-fits_lines : (stage : Stage) (ls : List Line) (last : Stage) (s : Standing) → Leads stage ls last → Fits s → Fits (taken_all s (flat_map parts_of ls))
-fits_lines stage [] last s lead h = h
-fits_lines stage (l ∷ ls) last s lead h =
+fits_lines : (stage : Stage) (ls : List Line) (last : Stage) (s : Standing) → Leads stage ls last → IsSmall stage → Fits s → Fits (taken_all s (flat_map parts_of ls))
+fits_lines stage [] last s lead few h = h
+fits_lines stage (l ∷ ls) last s lead few h =
     subst Fits (sym (taken_all-append s (parts_of l) (flat_map parts_of ls)))
-    (fits_lines (after stage l) ls last (taken_all s (parts_of l)) lead.1 (fits_line stage l s lead.0 h))
+    (fits_lines (after stage l) ls last (taken_all s (parts_of l)) lead.1 (small_after stage l lead.0 few) (fits_line stage l s lead.0 few h))
+
+small_last : (stage : Stage) (ls : List Line) (last : Stage) → Leads stage ls last → IsSmall stage → IsSmall last
+small_last stage [] last lead few = subst IsSmall lead few
+small_last stage (l ∷ ls) last lead few = small_last (after stage l) ls last lead.1 (small_after stage l lead.0 few)
 
 -- ---- a line that was begun
 
@@ -63,22 +113,23 @@ fits_open_hubs : (s : Standing) (hubs : List ℕ) → Fits s → Fits (taken_all
 fits_open_hubs s [] h = h
 fits_open_hubs s (k ∷ hubs) h = fits_open_hubs (taken s (Hub k false)) hubs tt
 
-fits_begun : (stage : Stage) (more : List Item) (s : Standing) → IsBegun stage more → Fits s → Fits (taken_all s more)
-fits_begun (want_hubs sh) more s b h = subst (λ l. Fits (taken_all s l)) (sym b.are) (fits_open_hubs s b.hubs h)
-fits_begun (want_dual sh all x t before) more s (inl none) h = subst (λ l. Fits (taken_all s l)) (sym none) h
-fits_begun (want_dual sh all x t before) more s (inr b) h =
-    subst (λ l. Fits (taken_all s l)) (sym b.are) (subst Fits (sym (open_values_taken (settled s) b.run b.dual.a [] b.dual.u)) (b.is_run.0, (sh.size, b.in_range)))
-fits_begun (want_tree sh places left) more s (inl none) h = subst (λ l. Fits (taken_all s l)) (sym none) h
-fits_begun (want_tree sh places left) more s (inr b) h =
+fits_begun : (stage : Stage) (more : List Item) (s : Standing) → IsBegun stage more → IsSmall stage → Fits s → Fits (taken_all s more)
+fits_begun (want_hubs sh) more s b few h = subst (λ l. Fits (taken_all s l)) (sym b.are) (fits_open_hubs s b.hubs h)
+fits_begun (want_dual sh all x t before) more s (inl none) few h = subst (λ l. Fits (taken_all s l)) (sym none) h
+fits_begun (want_dual sh all x t before) more s (inr b) few h =
+    subst (λ l. Fits (taken_all s l)) (sym b.are) (subst Fits (sym (open_values_taken (settled s) b.run b.dual.a [] b.dual.u)) (b.is_run.0, wider sh b.dual few b.in_range))
+fits_begun (want_tree sh places left) more s (inl none) few h = subst (λ l. Fits (taken_all s l)) (sym none) h
+fits_begun (want_tree sh places left) more s (inr b) few h =
     subst (λ l. Fits (taken_all s l)) (sym b.are) (subst Fits (sym (open_weights_taken (settled s) b.denom [] b.weights)) b.in_range)
-fits_begun stage more s none h = subst (λ l. Fits (taken_all s l)) (sym none) h
+fits_begun stage more s none few h = subst (λ l. Fits (taken_all s l)) (sym none) h
 
 fits_given : (given : List Item) → IsGiven given → Fits (taken_all at_start given)
 fits_given given g =
     let lines = flat_map parts_of g.lines in
     subst (λ l. Fits (taken_all at_start l)) (sym g.are)
     (subst Fits (sym (taken_all-append at_start lines g.more))
-    (fits_begun g.stage g.more (taken_all at_start lines) g.begun (fits_lines want_version g.lines g.stage at_start g.lead tt)))
+    (fits_begun g.stage g.more (taken_all at_start lines) g.begun (small_last want_version g.lines g.stage g.lead tt)
+    (fits_lines want_version g.lines g.stage at_start g.lead tt tt)))
 
 -- ---- the amounts of items
 

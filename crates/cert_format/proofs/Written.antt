@@ -11,7 +11,8 @@ use Rattle.hub_model.specs.Amounts.{natural, IsNatural}
 use Rattle.plan_model.specs.Prices.{natural_values, signed_values}
 use Rattle.plan_model.specs.Mixtures.{signed_weights}
 use Rattle.cert_format.proofs.Amounts.{natural_pos}
-use Rattle.cert_format.specs.Spaced.{spaced, words_text, words_line, spaced_node, spaced_value, spaced_weight, run_text}
+use Rattle.cert_format.proofs.SameDuals.{values_back}
+use Rattle.cert_format.specs.Spaced.{spaced, words_text, words_line, spaced_node, spaced_value, spaced_entry, spaced_weight, run_text}
 
 words_joined : (word ns : List ℕ) → words_text word ns ≡ join_with_byte 32 (word ∷ map decimal ns)
 words_joined word [] = append-nil word
@@ -55,6 +56,18 @@ dual_text i j run price a values e =
     ∙ more_numbers word front (value_numbers (natural_values values))
     ∙ ap (λ ns. words_line word ((i + 1) ∷ (j + 1) ∷ ns)) (append_assoc (run_numbers run) (natural a ∷ []) (value_numbers (natural_values values)))
     ∙ line_of (says_dual (i, j) run dual)
+
+entry_words : (u : List (ℕ × ℕ)) → flat_map spaced_entry u ≡ flat_map spaced_value (signed_values u)
+entry_words [] = refl
+entry_words (e ∷ u) = ap (λ bs. spaced_entry e ++ bs) (entry_words u)
+
+-- the same of natural numbers
+pub stated_text : (i j run price : ℕ) (dual : Prices) → price ≡ dual.a
+    → run_text i j run price ++ (flat_map spaced_entry dual.u ++ 10 ∷ []) ≡ line_bytes (says_dual (i, j) run dual)
+stated_text i j run price dual e =
+    ap (λ bs. run_text i j run price ++ (bs ++ 10 ∷ [])) (entry_words dual.u)
+    ∙ dual_text i j run price (pos dual.a) (signed_values dual.u) e
+    ∙ ap (λ (u : List (ℕ × ℕ)). line_bytes (says_dual (i, j) run (record { a = dual.a; u = u }))) (values_back dual.u)
 
 weight_words : (w : List (ℕ × ℕ)) → flat_map spaced_weight (signed_weights w) ≡ flat_map spaced (weight_numbers w)
 weight_words [] = refl

@@ -3,6 +3,7 @@ use Rattle.std.specs.Prelude.{ℕ, ◌≤◌, List, [], ◌∷◌, ◌++◌, rep
 use Rattle.hub_spec.specs.Cuts.{Prices, Cut}
 use Rattle.hub_spec.specs.Trees.{TreeLine, branch_on, leaf_of, no_hub, no_route, no_count, preorder}
 use Rattle.hub_spec.specs.Certificates.{Proof}
+use Rattle.hub_spec.specs.Limits.{most_nodes}
 use Rattle.hub_spec.specs.Ranges.{IsShort, IsAmount, IsDualInRange, IsLineInRange}
 use Rattle.cert_scan.specs.Versions.{version_number}
 use Rattle.cert_scan.specs.declared.items.Item.{Item}
@@ -96,7 +97,7 @@ taken_all s (item ∷ items) = taken_all (taken s item) items
 -- what was begun is in range as far as it has come
 abbrev pub IsFit : Begun → Type 0
 IsFit no_line = Unit {0}
-IsFit (dual_begun run dual) = (1 ≤ run) × ((n : ℕ) × IsDualInRange n dual)
+IsFit (dual_begun run dual) = (1 ≤ run) × IsDualInRange most_nodes dual
 IsFit (leaf_begun denom weights) = IsLineInRange 0 (leaf_of denom weights)
 
 -- the amounts that an item lists are in range

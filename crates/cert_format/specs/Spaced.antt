@@ -23,6 +23,10 @@ spaced_node k = spaced (k + 1)
 abbrev pub spaced_value : ℕ × ℤ → List ℕ
 spaced_value e = flat_map spaced ((e.0 + 1) ∷ natural e.1 ∷ [])
 
+-- a node and its value as a natural number
+abbrev pub spaced_entry : ℕ × ℕ → List ℕ
+spaced_entry e = flat_map spaced ((e.0 + 1) ∷ e.1 ∷ [])
+
 -- the number of a cut and its weight, each behind a space
 abbrev pub spaced_weight : ℤ × ℤ → List ℕ
 spaced_weight e = flat_map spaced (natural e.0 ∷ natural e.1 ∷ [])

@@ -7,7 +7,8 @@ ghost use Rattle.cert_format.specs.Parts.{proof_of, AreCertificateParts, IsHeadi
 
 use crate::Heading;
 use cert_scan::Version;
-use plan_model::{Plan, StatedCut, TreeLine};
+use plan_model::{Plan, TreeLine};
+use stated_cuts::StatedCut;
 use std::marker::Model;
 
 /// A certificate within the ranges of the grammar: a plan and its cost, and cuts with a tree that are to show that no

@@ -1,14 +1,16 @@
 // A certificate in the making, item by item.
 ghost use Rattle.std.specs.Prelude.{◌≡◌, ◌<◌, ◌≤◌, ◌^◌, replicate, IfOk};
 ghost use Rattle.hub_spec.specs.Certificates.{Proof};
-ghost use Rattle.hub_spec.specs.Ranges.{IsInRange};
+ghost use Rattle.hub_spec.specs.Limits.{most_nodes};
+ghost use Rattle.hub_spec.specs.Ranges.{IsDualInRange, IsInRange};
 ghost use Rattle.cert_format.specs.Gathered.{with_duals};
 
 use crate::begun::BegunLine;
 use crate::{Certificate, Heading};
 use cert_scan::{Item, Version};
 use hub_model::signed;
-use plan_model::{Dual, Mix, Plan, StatedCut, TreeLine};
+use plan_model::{Dual, Mix, Plan, TreeLine};
+use stated_cuts::StatedCut;
 use std::alloc::{AllocError, Global};
 use std::mem;
 
@@ -73,7 +75,7 @@ impl Gathering {
             BegunLine::Nothing => Ok(()),
             BegunLine::Dual { run, price, values } => {
                 let dual = Dual::new(signed(price), values);
-                add_duals(&mut self.cuts, run, dual)
+                add_duals(&mut self.cuts, run, &dual)
             }
             BegunLine::Leaf(denominator, weights) => {
                 let mix = Mix::new(signed(denominator as u128), weights);
@@ -98,7 +100,10 @@ impl Gathering {
             Item::Bound(bound) => self.bound = bound,
             Item::Hub { k, .. } => self.hubs.push(k)?,
             Item::Route { k, m, .. } => self.routes.push((k, m))?,
-            Item::Cut { part, .. } => self.cuts.push(StatedCut::new(part, Vec::new(alloc)))?,
+            Item::Cut { part, .. } => {
+                trim_last(&mut self.cuts);
+                self.cuts.push(StatedCut::new(alloc, part))?;
+            }
             Item::Dual { run, a, .. } => {
                 self.begun = BegunLine::Dual {
                     run,
@@ -106,6 +111,7 @@ impl Gathering {
                     values: Vec::new(alloc),
                 };
             }
+            Item::Nodes(_) => trim_last(&mut self.cuts),
             Item::Branch(k) => self.lines.push(TreeLine::BranchOn(k))?,
             Item::Leaf { denom, .. } => self.begun = BegunLine::Leaf(denom, Vec::new(alloc)),
             Item::Empty => self.lines.push(TreeLine::Empty)?,
@@ -148,13 +154,25 @@ impl Gathering {
 }
 
 // Adds the dual of a run of so many commodities to the last cut.
-fn add_duals(cuts: &mut Vec<StatedCut>, run: u32, dual: Dual) -> Result<(), AllocError>
-    requires { 1 ≤ run }
-    ensures { IfOk result (λ _. cuts.new.items ≡ with_duals cuts.old.items (replicate run dual)) }
+fn add_duals(cuts: &mut Vec<StatedCut>, run: u32, dual: &Dual) -> Result<(), AllocError>
+    requires some { 1 ≤ run }
+    requires dual { IsDualInRange most_nodes dual.now }
+    ensures { IfOk result (λ _. cuts.new.items ≡ with_duals cuts.old.items (replicate run dual.now)) }
 {
     if cuts.is_empty() {
         return Ok(());
     }
     let last = cuts.len() - 1;
     cuts[last].add(run, dual)
+}
+
+// Gives back the memory that the last cut took for duals to come: it has all of its duals.
+fn trim_last(cuts: &mut Vec<StatedCut>)
+    ensures { cuts.new.items ≡ cuts.old.items }
+{
+    if cuts.is_empty() {
+        return;
+    }
+    let last = cuts.len() - 1;
+    cuts[last].trim();
 }

@@ -1,7 +1,7 @@
 //! The certificate as a type, and its text written and read.
 //!
 //! - [`Certificate`] is a certificate within the ranges of the grammar, seen by contracts as the definitions' `Proof`:
-//!   what its first lines say ([`Heading`]), a plan, cuts (`StatedCut` of `plan_model`) and the lines of a tree. Its text
+//!   what its first lines say ([`Heading`]), a plan, cuts (`StatedCut` of `stated_cuts`) and the lines of a tree. Its text
 //!   is of the [`Version`] that its first line says.
 //! - [`write_cert`] puts its text on a sink: just `certificate_text` of it. [`put_top`], [`put_cut`], [`put_dual`] and
 //!   [`put_tree`] put its parts, for a text whose duals are made while they are put.

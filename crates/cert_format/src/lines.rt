@@ -9,7 +9,7 @@ ghost use Rattle.hub_model.specs.Amounts.{natural, IsNatural};
 ghost use Rattle.plan_model.specs.Prices.{natural_values};
 ghost use Rattle.plan_model.specs.Lines.{tree_line_of};
 ghost use Rattle.cert_scan.specs.Versions.{version_number};
-ghost use Rattle.cert_format.specs.Spaced.{spaced_node, spaced_value, spaced_weight, run_text};
+ghost use Rattle.cert_format.specs.Spaced.{spaced_node, spaced_value, spaced_entry, spaced_weight, run_text};
 ghost use Rattle.cert_format.specs.Puts.{PutsLine};
 
 use crate::spaced::{put_line, put_number, put_numbers, put_words};
@@ -17,6 +17,7 @@ use cert_scan::Version;
 use hub_io::{Buffer, Failed, Sink};
 use hub_model::unsigned;
 use plan_model::{Mix, TreeLine};
+use stated_cuts::StatedDual;
 
 // Puts the line of the hubs.
 pub(crate) fn put_hubs<K: Sink>(
@@ -96,6 +97,38 @@ pub fn put_dual<K: Sink>(
     put_run(i, j, run, unsigned(a), buffer, sink)?;
     put_values(values, buffer, sink)?;
     buffer.put(b"\n", sink)
+}
+
+// Puts the same line of a dual as a cut holds it.
+pub(crate) fn put_stated_dual<K: Sink>(
+    i: u32,
+    j: u32,
+    run: u32,
+    dual: &StatedDual<'_>,
+    buffer: &mut Buffer,
+    sink: &mut K,
+) -> Result<(), Failed>
+    ensures { PutsLine K.taken K.faults sink.old sink.new buffer.old buffer.new result
+        (says_dual (i, j) run dual.now) }
+{
+    put_run(i, j, run, dual.price(), buffer, sink)?;
+    put_stated_values(dual, buffer, sink)?;
+    buffer.put(b"\n", sink)
+}
+
+fn put_stated_values<K: Sink>(
+    dual: &StatedDual<'_>,
+    buffer: &mut Buffer,
+    sink: &mut K,
+) -> Result<(), Failed>
+    ensures { PutsThrough K.taken K.faults sink.old sink.new buffer.old buffer.new result
+        (flat_map spaced_entry dual.now.u) }
+{
+    for at in 0..dual.count() {
+        let (k, value) = dual.value(at);
+        put_numbers(&[k as u128 + 1, value], buffer, sink)?;
+    }
+    Ok(())
 }
 
 // Puts the first words of the line of a dual, up to its price.

@@ -17,7 +17,8 @@ use crate::{Certificate, Heading};
 use cert_scan::Version;
 use hub_io::{Buffer, Failed, Sink};
 use hub_model::unsigned;
-use plan_model::{Plan, StatedCut, TreeLine};
+use plan_model::{Plan, TreeLine};
+use stated_cuts::StatedCut;
 
 /// Puts the text of a certificate, in puts of about 8192 bytes each. It takes no memory but for those bytes.
 pub fn write_cert<K: Sink>(certificate: &Certificate, sink: &mut K) -> Result<(), Failed>
@@ -146,7 +147,7 @@ fn put_whole_cut<K: Sink>(
         (cut_items (version_number version) n (x, cut.now)) }
 {
     put_cut(version, x, cut.part(), buffer, sink)?;
-    put_duals(version, n, cut.duals(), buffer, sink)
+    put_duals(version, n, cut, buffer, sink)
 }
 
 /// Puts the lines of the tree, with how many they are in front, and the last line of the text.

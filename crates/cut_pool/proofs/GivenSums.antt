@@ -10,7 +10,7 @@ use Rattle.std.proofs.lemmas.List.FromFn.{get_or-map-range_with_len, length-map-
 use Rattle.hub_spec.specs.Limits.{most_nodes}
 use Rattle.hub_spec.specs.Cuts.{Prices, Cut, total, load}
 use Rattle.hub_spec.specs.Ranges.{IsAmount, IsDualInRange, IsCutInRange}
-use Rattle.plan_model.specs.Totals.{most_duals, most_sum}
+use Rattle.stated_cuts.specs.Totals.{most_duals, most_sum}
 use Rattle.kept_cuts.specs.Kept.{node_loads}
 
 pub few_duals : (n : ℕ) (cut : Cut) → n ≤ most_nodes → IsCutInRange n cut → length cut.duals ≤ most_duals

@@ -15,7 +15,8 @@ use crate::unit_columns::{UnitColumns, enter, most_per_unit, per_unit};
 use crate::{CutSums, ShortLoads};
 use hub_model::signed;
 use kept_cuts::{CutStore, KeptCut, KeptCuts, signed_row};
-use plan_model::{HubSet, StatedCut};
+use plan_model::HubSet;
+use stated_cuts::StatedCut;
 use std::alloc::{AllocError, Global};
 use std::marker::Model;
 

@@ -6,7 +6,8 @@ ghost use Rattle.kept_cuts.specs.Kept.{kept_of, kept_at, kept_part};
 
 use crate::{CutStore, PackedValues};
 use hub_model::signed;
-use plan_model::{HubSet, StatedCut};
+use plan_model::HubSet;
+use stated_cuts::StatedCut;
 use std::alloc::{AllocError, Global};
 use std::marker::Model;
 

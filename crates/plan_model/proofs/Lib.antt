@@ -1,4 +1,2 @@
 pub mod SignedPairs
 pub mod ListedValues
-pub mod DualEntries
-pub mod DualSums

@@ -2,4 +2,3 @@ pub mod Ascending
 pub mod Prices
 pub mod Mixtures
 pub mod Lines
-pub mod Totals

@@ -4,6 +4,7 @@ use Rattle.std.proofs.lemmas.List.{length-map, get_or-map, ext_get_or}
 use Rattle.std.proofs.lemmas.List.Elements.{All-get_or, All-weaker, All-map}
 use Rattle.hub_spec.specs.Problem.{Problem, IsProblem, commodities}
 use Rattle.hub_spec.specs.Cuts.{Prices, Cut}
+use Rattle.hub_spec.specs.Limits.{most_nodes}
 use Rattle.hub_spec.specs.Ranges.{IsAmount, IsDualInRange}
 use Rattle.hub_spec.specs.Separation.{set_cut}
 use Rattle.hub_spec.proofs.Commodities.{commodity_index, commodity_at, commodity_at_index, length_commodities}
@@ -52,7 +53,7 @@ still_has p (given cut) i s t d is has =
 
 -- ---- how many values a dual has
 
-dual_in_range : (p : Problem) (kept : Kept) (i j : ℕ) → IsProblem p → IsKeptFor p kept → i < p.size → j < p.size
+pub dual_in_range : (p : Problem) (kept : Kept) (i j : ℕ) → IsProblem p → IsKeptFor p kept → i < p.size → j < p.size
     → IsDualInRange p.size (kept_dual p kept (i, j))
 dual_in_range p kept i j ok fits from to =
     let d = kept_dual p kept in
@@ -64,6 +65,15 @@ dual_in_range p kept i j ok fits from to =
     ∙ ap d (commodity_at_index p.size i j (0, 0) from to))
     (All-get_or (IsDualInRange p.size) (map d (commodities p.size)) at (d (0, 0))
     (omega (arith, below, length_commodities p.size, length-map (commodities p.size) d)) duals)
+
+-- a dual between these nodes is one between as many as there may be
+pub few_nodes : (n : ℕ) (d : Prices) → n ≤ most_nodes → IsDualInRange n d → IsDualInRange most_nodes d
+few_nodes n d few h = record {
+  a = h.a;
+  ascend = h.ascend;
+  each = All-weaker (λ (e : ℕ × ℕ). (e.0 < n) × (1 ≤ e.1) × IsAmount e.1) (λ (e : ℕ × ℕ). (e.0 < most_nodes) × (1 ≤ e.1) × IsAmount e.1)
+      (λ e h. (let below : e.0 < most_nodes = omega (arith, few, h.0) in (below, h.1, h.2))) d.u h.each;
+}
 
 pub few_values : (p : Problem) (kept : Kept) (i j : ℕ) → IsProblem p → IsKeptFor p kept → i < p.size → j < p.size
     → length (kept_dual p kept (i, j)).u ≤ p.size

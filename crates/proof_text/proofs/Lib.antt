@@ -3,3 +3,4 @@ pub mod FoundLines
 pub mod FoundCertificates
 pub mod CutRows
 pub mod RowLines
+pub mod Unpacked

@@ -44,12 +44,12 @@ pub record HasPricesFrom (p : Problem) (w : ValueRows) (i : ℕ) (s : RoomState)
 
 -- ---- duals of any kept cut
 
--- room for duals by values, and for those of a hub set, the number of the commodity whose dual was lent last of a given
--- cut, and the dual that is held beside the one that was made last
+-- room for duals by values, and for those of a hub set, the dual that was made last of a given cut, and the dual that is
+-- held beside the one that was made last
 pub record LenderState : Type 0 where
   pub values : RoomState
   pub sets : ScratchParts
-  pub place : ℕ
+  pub given : Prices
   pub held : Prices
 
 -- the lender is for this problem
@@ -82,4 +82,4 @@ pub record HasDuals (p : Problem) (kept : Kept) (i : ℕ) (s : LenderState) : Ty
 abbrev pub made_dual : Kept → LenderState → Prices
 made_dual (by_values rows) s = s.values.dual
 made_dual (by_set hubs order) s = s.sets.dual
-made_dual (given cut) s = stated_dual cut s.place
+made_dual (given cut) s = s.given

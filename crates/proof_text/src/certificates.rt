@@ -12,7 +12,8 @@ use crate::headings::heading_of;
 use cert_format::{Certificate, Version};
 use hub_model::Instance;
 use kept_cuts::{Found, KeptCut, KeptCuts};
-use plan_model::{Dual, Plan, StatedCut, TreeLine};
+use plan_model::{Dual, Plan, TreeLine};
+use stated_cuts::StatedCut;
 use std::alloc::{AllocError, Global};
 
 /// The certificate of what a search of the instance found in this version, with the duals of each cut made anew, and
@@ -48,35 +49,36 @@ fn stated_cuts(
     let mut all = Vec::with_capacity(alloc, cuts.len() as usize)?;
     for place in 0..cuts.len() {
         let kept = cuts.cut(place + 1);
-        let duals = duals_of(alloc, instance, kept, &mut lender)?;
-        all.push(StatedCut::new(kept.part(), duals))?;
+        all.push(stated_cut(alloc, instance, kept, &mut lender)?)?;
     }
     Ok(all)
 }
 
-// The duals of the cut, one for each commodity in order.
-fn duals_of(
+// The cut with its duals, one for each commodity in order.
+fn stated_cut(
     alloc: Global,
     instance: &Instance,
     kept: &KeptCut,
     lender: &mut DualLender,
-) -> Result<Vec<Dual>, AllocError>
+) -> Result<StatedCut, AllocError>
     requires lender { IsLenderFor instance.now lender.old }
     requires fits { IsKeptFor instance.now (kept_of kept.now) }
     ensures lender { IsLenderFor instance.now lender.new }
-    ensures duals { IfOk result (λ duals. duals.items ≡ (kept_cut instance.now (kept_of kept.now)).duals) }
+    ensures cut { IfOk result (λ cut. cut ≡ kept_cut instance.now (kept_of kept.now)) }
 {
     let n = instance.size();
-    let mut duals = Vec::with_capacity(alloc, n as usize * n as usize)?;
+    let mut cut = StatedCut::new(alloc, kept.part());
     lender.begin(instance, kept);
     for i in 0..n {
         lender.work_out(instance, kept, i);
         for j in 0..n {
             lender.make(instance, kept, i, j);
-            duals.push(lent_dual(alloc, lender, kept)?)?;
+            let dual = lent_dual(alloc, lender, kept)?;
+            cut.add(1, &dual)?;
         }
     }
-    Ok(duals)
+    cut.trim();
+    Ok(cut)
 }
 
 // The dual that was made last of the cut, in a type of its own.

@@ -1,30 +1,30 @@
 //! Duals of kept cuts, lent one at a time.
 
 ghost use Rattle.std.specs.Prelude.{◌≡◌, ◌+◌, ◌*◌, ◌<◌, ◌≤◌, ◌↔◌, pos, length, IfOk, IsTrue};
+ghost use Rattle.hub_spec.specs.Problem.{IsProblem};
 ghost use Rattle.hub_spec.specs.Separation.{AreListedValues};
 ghost use Rattle.plan_model.specs.Prices.{signed_values};
 ghost use Rattle.kept_cuts.specs.Kept.{kept_of, IsKeptFor};
-ghost use Rattle.proof_text.specs.Lenders.{stated_dual, kept_dual, IsLenderFor, IsReady, HasDuals, made_dual};
+ghost use Rattle.proof_text.specs.Lenders.{kept_dual, IsLenderFor, IsReady, HasDuals, made_dual};
 
 use crate::held_duals::HeldDual;
 use crate::value_rooms::ValueRoom;
 use hub_model::Instance;
 use kept_cuts::KeptCut;
 use pareto_cuts::Scratch;
-use plan_model::StatedCut;
 use std::alloc::{AllocError, Global};
 use std::marker::Model;
 
 /// Room to make the duals of an instance's kept cuts in, taken once, from which one dual at a time is lent.
 ///
-/// It is told the cut first, then an origin, then each destination. The duals of a cut that was given are lent from the cut
-/// itself. A second dual can be held, so that the one made last is compared with it. No call takes memory.
+/// It is told the cut first, then an origin, then each destination. The dual of a cut that was given is unpacked when it is
+/// made. A second dual can be held, so that the one made last is compared with it. No call takes memory.
 #[derive(Drop)]
 pub struct DualLender<'a> {
     values: ValueRoom<'a>,
     sets: Scratch,
-    // The number of the commodity whose dual was lent last of a given cut.
-    place: usize,
+    // The dual that was made last of a given cut.
+    given: HeldDual,
     held: HeldDual,
 }
 
@@ -34,9 +34,9 @@ impl<'a> Model for DualLender<'a> {
 
     ghost Value = { LenderState };
 
-    ghost view = { λ s. record { values = s.values; sets = s.sets; place = s.place; held = s.held.dual } };
+    ghost view = { λ s. record { values = s.values; sets = s.sets; given = s.given.dual; held = s.held.dual } };
 
-    ghost invariant = { λ s. (s.values.problem.size ≤ s.sets.room) × (s.values.problem.size ≤ s.held.room) };
+    ghost invariant = { λ s. (s.values.problem.size ≤ s.sets.room) × (s.values.problem.size ≤ s.given.room) × (s.values.problem.size ≤ s.held.room) };
 }
 
 impl<'a> DualLender<'a> {
@@ -44,11 +44,14 @@ impl<'a> DualLender<'a> {
     pub fn new(alloc: Global, instance: &'a Instance) -> Result<DualLender<'a>, AllocError>
         ensures { IfOk result (IsLenderFor instance.now) }
     {
+        let values = ValueRoom::new(alloc, instance)?;
+        let sets = Scratch::new(alloc, instance)?;
+        let (given, held) = two_copies(alloc, instance.size() as usize)?;
         Ok(DualLender {
-            values: ValueRoom::new(alloc, instance)?,
-            sets: Scratch::new(alloc, instance)?,
-            place: 0,
-            held: HeldDual::new(alloc, instance.size() as usize)?,
+            values,
+            sets,
+            given,
+            held,
         })
     }
 
@@ -92,7 +95,10 @@ impl<'a> DualLender<'a> {
         match kept {
             KeptCut::Values(values) => self.values.make_dual(values, i, j),
             KeptCut::Set(set, order) => self.sets.make_dual(instance, set, order, i, j),
-            KeptCut::Given(_) => self.place = commodity_number(instance, i, j),
+            KeptCut::Given(cut) => {
+                let number = commodity_number(instance, i, j);
+                self.given.unpack(&cut.dual(number));
+            }
         }
     }
 
@@ -105,7 +111,7 @@ impl<'a> DualLender<'a> {
         match kept {
             KeptCut::Values(_) => self.values.dual(),
             KeptCut::Set(..) => self.sets.dual(),
-            KeptCut::Given(cut) => given_dual(cut, self.place),
+            KeptCut::Given(_) => self.given.dual(),
         }
     }
 
@@ -123,8 +129,8 @@ impl<'a> DualLender<'a> {
                 let (a, u) = self.sets.dual();
                 self.held.copy(a, u);
             }
-            KeptCut::Given(cut) => {
-                let (a, u) = given_dual(cut, self.place);
+            KeptCut::Given(_) => {
+                let (a, u) = self.given.dual();
                 self.held.copy(a, u);
             }
         }
@@ -147,23 +153,20 @@ impl<'a> DualLender<'a> {
     }
 }
 
-// The number of the commodity from `i` to `j`, counted from 0.
-fn commodity_number(instance: &Instance, i: u32, j: u32) -> usize
-    requires origin { i < instance.now.size }
-    requires destination { j < instance.now.size }
-    ensures { result ≡ i * instance.now.size + j }
+// Room for two copies of duals, of so many values each.
+fn two_copies(alloc: Global, room: usize) -> Result<(HeldDual, HeldDual), AllocError>
+    ensures first { IfOk result (λ copies. copies.0.room ≡ room) }
+    ensures second { IfOk result (λ copies. copies.1.room ≡ room) }
 {
-    i as usize * instance.size() as usize + j as usize
+    Ok((HeldDual::new(alloc, room)?, HeldDual::new(alloc, room)?))
 }
 
-// The price of the dual of the commodity of this number, and its nodes with their values.
-fn given_dual(cut: &StatedCut, number: usize) -> (i128, &[(u32, i128)])
-    ensures price { result.0 ≡ pos (stated_dual cut.now number).a }
-    ensures values { result.1.now ≡ signed_values (stated_dual cut.now number).u }
-    ensures listed { AreListedValues (stated_dual cut.now number).u }
+// The number of the commodity from `i` to `j`, counted from 0.
+fn commodity_number(instance: &Instance, i: u32, j: u32) -> u32
+    requires origin { i < instance.now.size }
+    requires destination { j < instance.now.size }
+    ensures value { result ≡ i * instance.now.size + j }
+    ensures problem { IsProblem instance.now }
 {
-    match cut.duals().get(number) {
-        Some(dual) => (dual.a(), dual.u()),
-        None => (0, &[]),
-    }
+    i * instance.size() + j
 }

@@ -1,6 +1,6 @@
 //! What a search begins again with.
 
-use plan_model::StatedCut;
+use stated_cuts::StatedCut;
 
 /// What a search begins again with: cuts that are given, and hubs that are tried first.
 #[derive(Drop)]

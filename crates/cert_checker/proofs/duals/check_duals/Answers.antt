@@ -1,4 +1,4 @@
-use Rattle.std.proofs.Common.{◌≡◌, ℕ, ◌+◌, List, Option, ap₂, sym, subst, ◌∙◌}
+use Rattle.std.proofs.Common.{◌≡◌, ℕ, ◌+◌, List, Option, ap, sym, subst, ◌∙◌}
 use Rattle.hub_spec.specs.Cuts.{Prices}
 use Rattle.cert_spec.specs.Text.{dual_runs}
 use Rattle.cert_spec.specs.Conditions.{Dual, FailsFirst}
@@ -7,30 +7,21 @@ use Rattle.cert_scan.specs.Versions.{version_number}
 use Rattle.cert_checker.specs.Runs.{place_of}
 use Rattle.cert_checker.specs.Duals.{IsFirstFailing}
 use Rattle.cert_checker.proofs.RunClaims.{duals_hold, duals_zipped, dual_fails}
-use Rattle.cert_checker.proofs.duals.check_duals.Given.{Over}
 use Rattle.cert_checker.proofs.duals.check_duals.Goals as goal
-use Rattle.cert_checker.proofs.duals.check_duals.Goals.{After-first_failing}
-
--- what was tried are the duals of the cut, with its part
-tried : (g : Over) (c : After-first_failing g) → IsFirstFailing c.args.instance.now c.args.cut.now.part c.args.cut.now.duals c.first_failing.result
-tried g c =
-    let p = c.args.instance.now in
-    subst (λ (part : ℕ). IsFirstFailing p part c.args.cut.now.duals c.first_failing.result) c.part.ensures
-    (subst (λ (ds : List Prices). IsFirstFailing p c.part.result ds c.first_failing.result) c.duals-duals.ensures c.first_failing.ensures)
 
 pub returns-in-None-clause-holds : goal.returns-in-None-clause-holds
 returns-in-None-clause-holds g c =
     let cut = c.args.cut.now in
     duals_hold c.args.instance.now (version_number c.args.version) cut.part c.args.line cut.duals
     (subst (λ (o : Option ℕ). IsFirstFailing c.args.instance.now cut.part cut.duals o) c.in-None.is
-    (tried g (goal.at.returns-in-None-clause-holds g c).After-first_failing))
+    c.first_failing.ensures)
 
 pub returns-in-None-clause-are_duals : goal.returns-in-None-clause-are_duals
 returns-in-None-clause-are_duals g c =
     let cut = c.args.cut.now in
     duals_zipped c.args.instance.now cut.part cut.duals c.requires.cut.one_for_each
     (subst (λ (o : Option ℕ). IsFirstFailing c.args.instance.now cut.part cut.duals o) c.in-None.is
-    (tried g (goal.at.returns-in-None-clause-are_duals g c).After-first_failing))
+    c.first_failing.ensures)
 
 pub returns-in-Some-clause-fails : goal.returns-in-Some-clause-fails
 returns-in-Some-clause-fails g c =
@@ -40,7 +31,7 @@ returns-in-Some-clause-fails g c =
     let t = c.in-Some.t in
     let fails = dual_fails p v cut.part c.args.line t cut.duals
     (subst (λ (o : Option ℕ). IsFirstFailing p cut.part cut.duals o) c.in-Some.is
-    (tried g (goal.at.returns-in-Some-clause-fails g c).After-first_failing)) in
+    c.first_failing.ensures) in
     let place : c.run_place.result ≡ place_of (dual_runs v p.size cut.duals) t =
-    c.run_place.ensures.value ∙ ap₂ (λ (n : ℕ) (ds : List Prices). place_of (dual_runs v n ds) t) c.size-n.ensures.value c.duals-duals.ensures in
+    c.run_place.ensures.value ∙ ap (λ (n : ℕ). place_of (dual_runs v n cut.duals) t) c.size-n.ensures.value in
     subst (λ (m : ℕ). FailsFirst (dual_claims p cut.part c.args.line 0 (dual_runs v p.size cut.duals)) Dual (c.args.line + m)) (sym place) fails

@@ -22,13 +22,13 @@ find_first-requires-clause-items g c κs within = λ k d inside p is.
 pub returns : goal.returns
 returns g c =
     let p = c.args.instance.now in
-    let duals = c.args.duals.now in
+    let duals = c.args.cut.now.duals in
     let n = p.size * p.size in
     let e = c.find_first.ensures in
     let start : c.with_min_len.result.base.start ≡ 0 = search rules in
     let end : c.with_min_len.result.base.end ≡ n = search rules in
     let whole : n - 0 ≡ n = omega arith in
     let places : e.0 ≡ range_with_len 0 n = e.2 ∙ (λ i. nat_range (start i) (end i)) ∙ ap (range_with_len 0) whole in
-    let answers = AllZip-weaken _ (IsAnswer p c.args.part duals) (λ t b h. subst (λ (x : ℕ). IsAnswer p c.args.part duals x b) h.1 h.2) e.0 e.1 e.3 in
-    subst (IsFirstFailing p c.args.part duals) (sym (e.4 ∙ ap (λ (xs : List ℕ). slice_get (filter_by_mask xs e.1) 0) places))
-    (first_of_all p c.args.part duals e.1 n (sym c.requires.one_for_each) (subst (λ (xs : List ℕ). AllZip (IsAnswer p c.args.part duals) xs e.1) places answers))
+    let answers = AllZip-weaken _ (IsAnswer p c.args.cut.now.part duals) (λ t b h. subst (λ (x : ℕ). IsAnswer p c.args.cut.now.part duals x b) h.1 h.2) e.0 e.1 e.3 in
+    subst (IsFirstFailing p c.args.cut.now.part duals) (sym (e.4 ∙ ap (λ (xs : List ℕ). slice_get (filter_by_mask xs e.1) 0) places))
+    (first_of_all p c.args.cut.now.part duals e.1 n (sym c.requires.one_for_each) (subst (λ (xs : List ℕ). AllZip (IsAnswer p c.args.cut.now.part duals) xs e.1) places answers))

@@ -6,4 +6,4 @@ use Rattle.cert_format.proofs.rows.put_duals.Given as goal
 
 abbrev pub invariant-loop-i : goal.invariant-loop-i
 invariant-loop-i g l = (let s = g.K.Sink in HasPut s.taken s.faults l.initial.sink l.sink l.initial.buffer l.buffer
-    (row_bytes (version_number l.version) l.n l.duals) (range_with_len 0 l.n) l.i)
+    (row_bytes (version_number l.version) l.n l.cut.duals) (range_with_len 0 l.n) l.i)

@@ -5,18 +5,15 @@ use Rattle.cert_scan.specs.Versions.{version_number}
 use Rattle.cert_format.specs.DualItems.{row_items_from}
 use Rattle.cert_format.proofs.Amounts.{same_amount}
 use Rattle.cert_format.proofs.Written.{values_natural}
-use Rattle.cert_format.proofs.DualRows.{next_text, no_lines}
+use Rattle.cert_format.proofs.DualRows.{next_stated, no_lines}
 use Rattle.cert_format.proofs.Following.{front_more, front_stop, front_end}
 use Rattle.cert_format.proofs.rows.put_row.Goals as goal
 
-pub put_dual-requires-clause-values : goal.put_dual-requires-clause-values
-put_dual-requires-clause-values g c = values_natural c.index-row-j.result.u c.u.result.now c.u.ensures.value
-
-pub returns-in_err-put_dual : goal.returns-in_err-put_dual
-returns-in_err-put_dual g c =
-    front_stop _ c.loop-j.invariant.put c.put_dual.ensures (ap is_err c.in_err-put_dual.was) c.from_residual.ensures.0
-    (next_text (version_number c.args.version) c.args.n c.args.i c.loop-j.j c.run_at-run.result c.args.row.now c.index-row-j.result c.u.result.now
-    c.requires.whole c.run_at-run.ensures c.index-row-j.is (same_amount c.a.result (search rules) ∙ ap natural c.a.ensures) c.u.ensures.value)
+pub returns-in_err-put_stated_dual : goal.returns-in_err-put_stated_dual
+returns-in_err-put_stated_dual g c =
+    front_stop _ c.loop-j.invariant.put c.put_stated_dual.ensures (ap is_err c.in_err-put_stated_dual.was) c.from_residual.ensures.0
+    (next_stated (version_number c.args.version) c.args.n c.args.i c.loop-j.j c.run_at-run.result c.args.row.now c.dual-dual.result
+    c.requires.whole c.run_at-run.ensures c.dual-dual.ensures)
 
 pub loop-j-preserved : goal.loop-j-preserved
 loop-j-preserved g c =
@@ -25,9 +22,9 @@ loop-j-preserved g c =
     record {
       within = c.run_at-run.ensures.equal.within;
       put = front_more (flat_map line_bytes (row_items_from v c.args.n c.args.i after (drop after c.args.row.now)))
-          c.loop-j.invariant.put c.put_dual.ensures (ap is_ok c.in_ok-put_dual.was)
-          (next_text v c.args.n c.args.i c.loop-j.j c.run_at-run.result c.args.row.now c.index-row-j.result c.u.result.now
-          c.requires.whole c.run_at-run.ensures c.index-row-j.is (same_amount c.a.result (search rules) ∙ ap natural c.a.ensures) c.u.ensures.value);
+          c.loop-j.invariant.put c.put_stated_dual.ensures (ap is_ok c.in_ok-put_stated_dual.was)
+          (next_stated v c.args.n c.args.i c.loop-j.j c.run_at-run.result c.args.row.now c.dual-dual.result
+          c.requires.whole c.run_at-run.ensures c.dual-dual.ensures);
     }
 
 pub returns : goal.returns

@@ -11,6 +11,6 @@ returns-in_err-put_cut g c =
 
 pub returns : goal.returns
 returns g c =
-    as_text (whole_cut_text (version_number c.args.version) c.args.n c.args.x c.args.cut.now c.part.ensures c.duals.ensures)
+    as_text (whole_cut_text (version_number c.args.version) c.args.n c.args.x c.args.cut.now c.part.ensures refl)
     (then_put c.put_cut.ensures (ap is_ok c.in_ok-put_cut.was)
     (c.put_duals.ensures))

@@ -7,8 +7,8 @@ use Rattle.proof_text.proofs.FoundLines.{same_place}
 use Rattle.proof_text.proofs.CutRows.{next_stated}
 use Rattle.proof_text.proofs.certificates.stated_cuts.Goals as goal
 
-pub duals_of-requires-clause-fits : goal.duals_of-requires-clause-fits
-duals_of-requires-clause-fits c =
+pub stated_cut-requires-clause-fits : goal.stated_cut-requires-clause-fits
+stated_cut-requires-clause-fits c =
     let p = c.args.instance.now in
     let kept = c.args.cuts.now.cuts in
     subst (IsKeptFor p) (sym (c.cut-kept.ensures ∙ same_place kept c.loop-place.place))
@@ -18,12 +18,9 @@ pub loop-place-preserved : goal.loop-place-preserved
 loop-place-preserved c =
     let p = c.args.instance.now in
     let one = kept_of c.cut-kept.result.now in
-    let cut : c.new-in-loop-place.result ≡ kept_cut p one = c.new-in-loop-place.ensures
-    ∙ ap₂ (λ (part : ℕ) (duals : List Prices). record { part = part; duals = duals })
-    (c.part.ensures ∙ sym (kept_part_is p one)) c.in_ok-duals.ensures.duals in
     record {
-      lender = c.in_ok-duals.ensures.lender;
+      lender = c.in_ok-stated_cut.ensures.lender;
       stated = c.in_ok-push.ensures.items
-          ∙ next_stated p c.args.cuts.now.cuts c.loop-place.place one c.loop-place.all.items c.new-in-loop-place.result
-          (omega (arith, c.len-place-end.ensures)) c.cut-kept.ensures cut c.loop-place.invariant.stated;
+          ∙ next_stated p c.args.cuts.now.cuts c.loop-place.place one c.loop-place.all.items c.in_ok-stated_cut.field-0
+          (omega (arith, c.len-place-end.ensures)) c.cut-kept.ensures c.in_ok-stated_cut.ensures.cut c.loop-place.invariant.stated;
     }

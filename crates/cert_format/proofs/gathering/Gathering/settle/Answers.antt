@@ -1,4 +1,5 @@
 use Rattle.std.proofs.Common.{sym, subst, rules}
+use Rattle.hub_spec.specs.Limits.{most_nodes}
 use Rattle.cert_format.specs.Gathered.{IsFit}
 use Rattle.cert_format.specs.Gatherings.{begun_of}
 use Rattle.cert_format.proofs.Amounts.{passed_on}
@@ -8,10 +9,10 @@ use Rattle.cert_format.proofs.gathering.Gathering.settle.Goals as goal
 pub new-dual-requires : goal.new-dual-requires
 new-dual-requires c =
     let fit = subst (λ b. IsFit (begun_of b)) (sym c.in-Dual.ensures.value) c.requires in
-    signed_prices fit.1.0 c.in-Dual.price _ c.in-Dual.values.items (passed_on c.signed.result (search rules) c.signed.ensures) fit.1.1
+    signed_prices most_nodes c.in-Dual.price _ c.in-Dual.values.items (passed_on c.signed.result (search rules) c.signed.ensures) fit.1
 
-pub add_duals-requires : goal.add_duals-requires
-add_duals-requires c = (subst (λ b. IsFit (begun_of b)) (sym c.in-Dual.ensures.value) c.requires).0
+pub add_duals-requires-clause-some : goal.add_duals-requires-clause-some
+add_duals-requires-clause-some c = (subst (λ b. IsFit (begun_of b)) (sym c.in-Dual.ensures.value) c.requires).0
 
 pub new-mix-requires : goal.new-mix-requires
 new-mix-requires c =

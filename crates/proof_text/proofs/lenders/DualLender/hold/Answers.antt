@@ -6,7 +6,7 @@ use Rattle.plan_model.specs.Prices.{natural_values}
 use Rattle.plan_model.proofs.ListedValues.{listed_again, signed_listed}
 use Rattle.kept_cuts.specs.Kept.{kept_of}
 use Rattle.kept_cuts.specs.declared.kept.KeptCut.{KeptCut}
-use Rattle.proof_text.specs.Lenders.{stated_dual, LenderState, made_dual}
+use Rattle.proof_text.specs.Lenders.{LenderState, made_dual}
 use Rattle.proof_text.proofs.lenders.DualLender.hold.Goals as goal
 
 -- a dual of signed numbers, as it is copied
@@ -36,8 +36,8 @@ returns-in-Values c =
     ∙ ap₂ copied (to_z-of_z fits ∙ c.dual-a.ensures.price) c.dual-a.ensures.values
     ∙ ap (λ (u : List (ℕ × ℕ)). record { a = d.a; u = u }) (listed_again d.u)
     ∙ ap (λ (t : LenderState). t.values.dual) c.self.view_is in
-    (λ t. record { values = (c.self.view_is t).values; sets = (c.self.view_is t).sets; place = (c.self.view_is t).place; held = held t })
-    ∙ ap (λ (kept : KeptCut). record { values = s.values; sets = s.sets; place = s.place; held = made_dual (kept_of kept) s }) (sym c.in-Values.is)
+    (λ t. record { values = (c.self.view_is t).values; sets = (c.self.view_is t).sets; given = (c.self.view_is t).given; held = held t })
+    ∙ ap (λ (kept : KeptCut). record { values = s.values; sets = s.sets; given = s.given; held = made_dual (kept_of kept) s }) (sym c.in-Values.is)
 
 pub returns-in-Set : goal.returns-in-Set
 returns-in-Set c =
@@ -48,25 +48,24 @@ returns-in-Set c =
     ∙ ap₂ copied (to_z-of_z fits ∙ c.dual-a-in-Set.ensures.price) c.dual-a-in-Set.ensures.values
     ∙ ap (λ (u : List (ℕ × ℕ)). record { a = d.a; u = u }) (listed_again d.u)
     ∙ ap (λ (t : LenderState). t.sets.dual) c.self.view_is in
-    (λ t. record { values = (c.self.view_is t).values; sets = (c.self.view_is t).sets; place = (c.self.view_is t).place; held = held t })
-    ∙ ap (λ (kept : KeptCut). record { values = s.values; sets = s.sets; place = s.place; held = made_dual (kept_of kept) s }) (sym c.in-Set.is)
+    (λ t. record { values = (c.self.view_is t).values; sets = (c.self.view_is t).sets; given = (c.self.view_is t).given; held = held t })
+    ∙ ap (λ (kept : KeptCut). record { values = s.values; sets = s.sets; given = s.given; held = made_dual (kept_of kept) s }) (sym c.in-Set.is)
 
 pub copy-requires-in-Given-clause-prices : goal.copy-requires-in-Given-clause-prices
 copy-requires-in-Given-clause-prices c =
-    let fits : SFits w128 c.given_dual-a.result.0 = search (rules, arith) in
-    let d = stated_dual c.in-Given.cut c.self.inside.place in
-    let price : to_z w128 (of_z w128 c.given_dual-a.result.0) ≡ pos d.a = to_z-of_z fits ∙ c.given_dual-a.ensures.price in
-    rw (price, c.given_dual-a.ensures.values) (signed_listed d.a d.u c.given_dual-a.ensures.listed)
+    let fits : SFits w128 c.dual-a-in-Given.result.0 = search (rules, arith) in
+    let d = c.self.inside.given.dual in
+    let price : to_z w128 (of_z w128 c.dual-a-in-Given.result.0) ≡ pos d.a = to_z-of_z fits ∙ c.dual-a-in-Given.ensures.price in
+    rw (price, c.dual-a-in-Given.ensures.values) (signed_listed d.a d.u c.dual-a-in-Given.ensures.listed)
 
 pub returns-in-Given : goal.returns-in-Given
 returns-in-Given c =
     let s = c.args.self.now in
-    let cut = c.in-Given.cut in
-    let d = stated_dual cut c.self.inside.place in
-    let fits : SFits w128 c.given_dual-a.result.0 = search (rules, arith) in
-    let held : c.copy-in-Given.new.self.dual ≡ stated_dual cut s.place = c.copy-in-Given.ensures.dual
-    ∙ ap₂ copied (to_z-of_z fits ∙ c.given_dual-a.ensures.price) c.given_dual-a.ensures.values
+    let d = c.self.inside.given.dual in
+    let fits : SFits w128 c.dual-a-in-Given.result.0 = search (rules, arith) in
+    let held : c.copy-in-Given.new.self.dual ≡ s.given = c.copy-in-Given.ensures.dual
+    ∙ ap₂ copied (to_z-of_z fits ∙ c.dual-a-in-Given.ensures.price) c.dual-a-in-Given.ensures.values
     ∙ ap (λ (u : List (ℕ × ℕ)). record { a = d.a; u = u }) (listed_again d.u)
-    ∙ ap (λ (t : LenderState). stated_dual cut t.place) c.self.view_is in
-    (λ t. record { values = (c.self.view_is t).values; sets = (c.self.view_is t).sets; place = (c.self.view_is t).place; held = held t })
-    ∙ ap (λ (kept : KeptCut). record { values = s.values; sets = s.sets; place = s.place; held = made_dual (kept_of kept) s }) (sym c.in-Given.is)
+    ∙ ap (λ (t : LenderState). t.given) c.self.view_is in
+    (λ t. record { values = (c.self.view_is t).values; sets = (c.self.view_is t).sets; given = (c.self.view_is t).given; held = held t })
+    ∙ ap (λ (kept : KeptCut). record { values = s.values; sets = s.sets; given = s.given; held = made_dual (kept_of kept) s }) (sym c.in-Given.is)
