@@ -6,12 +6,13 @@ ghost use Rattle.price_passes.specs.Shapes.{cells, shape_of};
 
 use crate::guess::Guess;
 use crate::lengths::Lengths;
-use crate::memory::Memories;
+use crate::memory::{Memories, Memory};
 use crate::moves::LocalSearch;
 use crate::node::Node;
 use crate::passes::Bench;
 use crate::progress::Progress;
-use crate::rows::{copy, fill};
+use crate::ramps::FULL_PRICE;
+use crate::rows::{copy, fill, put};
 use crate::state::State;
 use crate::tightening::Tightening;
 use crate::waits::NO_GAIN;
@@ -20,6 +21,9 @@ use search_advice::{Advice, Side};
 use std::alloc::{AllocError, Global};
 use std::marker::Model;
 use std::thread::Threads;
+
+/// So many places are tried to branch on.
+const MOST_TRIED: usize = 8;
 
 /// In so many first passes at a node the start set sets caps and least prices.
 const EARLY_PASSES: usize = 3;
@@ -40,6 +44,7 @@ pub struct Adviser {
     search: LocalSearch,
     tightening: Tightening,
     memories: Memories,
+    branch: Option<usize>,
 }
 
 impl Model for Adviser {
@@ -59,18 +64,49 @@ impl Adviser {
     {
         let size = instance.size() as usize;
         let places = instance.candidates().len();
+        let lengths = Lengths::new(alloc, instance)?;
         Ok(Adviser {
             workers,
-            lengths: Lengths::new(alloc, instance)?,
             state: State::new(alloc, size, places)?,
-            node: Node::new(alloc, size, places)?,
-            guess: Guess::new(alloc, places)?,
+            node: Node::new(alloc, &lengths)?,
+            guess: Guess::new(alloc, places, lengths.wanted())?,
+            lengths,
             progress: Progress::new(alloc)?,
             bench: Bench::new(alloc, places)?,
             search: LocalSearch::new(alloc, size, places)?,
             tightening: Tightening::new(alloc, size, places)?,
             memories: Memories::new(alloc),
+            branch: None,
         })
+    }
+
+    /// Sets the start set of the root.
+    fn set_root_start(&mut self)
+        ensures { self.new ≡ self.old }
+    {
+        match self.lengths.wanted() {
+            None => self
+                .search
+                .drop_costly(&self.lengths, &mut self.guess.start),
+            Some(hubs) => self.search.open_best(
+                &self.lengths,
+                &self.guess.movable,
+                hubs,
+                &mut self.guess.start,
+            ),
+        }
+    }
+
+    /// Begins at the root with the prices of the start set, which costs so much, and with ramps as wide as a hub is worth.
+    fn begin_prices(&mut self, cost: i128)
+        ensures { self.new ≡ self.old }
+    {
+        let worth = self
+            .search
+            .hub_worth(&self.lengths, &self.guess.movable, cost);
+        let worth = worth / self.lengths.worth().max(1);
+        let worth = worth.clamp(FULL_PRICE as i128, 1 << 50) as i64;
+        self.node.begin_at(&self.guess.start, worth);
     }
 
     /// Sets ramps and caps for the next pass.
@@ -88,6 +124,70 @@ impl Adviser {
         if passes == EARLY_PASSES {
             fill(&mut self.node.caps, self.lengths.longest().wrapping_add(1));
         }
+    }
+
+    /// Tries places to branch on, where the bound is so far below what is wanted, in the worth of the units, and chooses
+    /// the one whose two children seem to rise most.
+    fn choose_branch<R: Threads + Sync>(
+        &mut self,
+        rt: &R,
+        alloc: Global,
+        gap: i128,
+    ) -> Result<(), AllocError>
+        ensures { self.new ≡ self.old }
+    {
+        let memory = Memory::of(alloc, &self.state, &self.node)?;
+        self.node.little = None;
+        self.node.sort_near();
+        let mut most = 0i128;
+        for before in 0..MOST_TRIED {
+            let Some(place) = self.node.near_place(before) else {
+                break;
+            };
+            let opened = self.rise(rt, alloc, &memory, place, Side::In)?;
+            let closed = self.rise(rt, alloc, &memory, place, Side::Out)?;
+            let score = branch_score(opened, closed, gap);
+            if score > most {
+                most = score;
+                self.branch = Some(place);
+            }
+        }
+        self.state.recall(&memory);
+        Ok(())
+    }
+
+    /// How much a pass over the commodities of great flow that the place matters to raises, from the duals of the memory,
+    /// with the place on this side.
+    fn rise<R: Threads + Sync>(
+        &mut self,
+        rt: &R,
+        alloc: Global,
+        memory: &Memory,
+        place: usize,
+        side: Side,
+    ) -> Result<i128, AllocError>
+        ensures { self.new ≡ self.old }
+    {
+        self.state.recall(memory);
+        self.state.leave_out_others(&self.lengths, place);
+        put(&mut self.node.sides, place, side);
+        self.node.set_ramps(&self.lengths, None);
+        let before = self.state.objective(self.node.terms());
+        self.state.pass(
+            rt,
+            alloc,
+            self.workers,
+            &self.lengths,
+            self.node.terms(),
+            &mut self.bench,
+        )?;
+        put(&mut self.node.sides, place, Side::Free);
+        Ok(
+            self.state
+                .objective(self.node.terms())
+                .wrapping_sub(before)
+                .max(0),
+        )
     }
 
     /// Makes the duals tight at the hubs of a node where no place is free.
@@ -174,6 +274,7 @@ impl Advice for Adviser {
     fn enter(&mut self, sides: &[Side], hubs: &[bool])
         ensures { self.new ≡ self.old }
     {
+        self.branch = None;
         match self.node.turned_place(sides) {
             None => self.state.end_waits(),
             Some(k) => self.state.end_waits_near(&self.lengths, k),
@@ -185,14 +286,16 @@ impl Advice for Adviser {
         self.node
             .mark_movable(&self.guess.start, &mut self.guess.movable);
         if self.node.is_root() {
-            self.search
-                .drop_costly(&self.lengths, &mut self.guess.start);
+            self.set_root_start();
         }
         let cost = self
             .search
             .improve(&self.lengths, &self.guess.start, &self.guess.movable);
         self.guess.offer(self.search.marks(), cost);
         copy(self.search.marks(), &mut self.guess.start);
+        if self.node.is_root() && self.lengths.wanted().is_some() {
+            self.begin_prices(cost);
+        }
         let limit = self.lengths.longest().wrapping_add(1);
         self.search
             .set_caps(&self.lengths, limit, &mut self.node.caps);
@@ -212,6 +315,7 @@ impl Advice for Adviser {
             self.better_full();
             return Ok(());
         }
+        self.branch = None;
         self.prepare();
         let gain = self.state.pass(
             rt,
@@ -229,7 +333,11 @@ impl Advice for Adviser {
         if self.progress.is_idle(self.lengths.commodities(), wanted) {
             self.state.break_off_waits();
         }
-        Ok(())
+        if bound >= wanted || self.progress.goes_on(wanted) {
+            return Ok(());
+        }
+        let gap = wanted.wrapping_sub(bound) / self.lengths.worth().max(1);
+        self.choose_branch(rt, alloc, gap.max(1))
     }
 
     fn goes_on(&self, wanted: i128) -> bool {
@@ -257,7 +365,10 @@ impl Advice for Adviser {
     fn branch_place(&self) -> Option<usize>
         ensures { IfSome result (λ k. k < self.now.places) }
     {
-        let place = self.node.branch_place()?;
+        let place = match self.branch {
+            Some(place) => place,
+            None => self.node.branch_place()?,
+        };
         if place < self.state.places() {
             Some(place)
         } else {
@@ -279,4 +390,13 @@ impl Advice for Adviser {
             memory.recall_node(&mut self.node);
         }
     }
+}
+
+/// How good it seems to branch where the children rise by so much, and the bound is so far below what is wanted: the
+/// product of the rises, none above the gap and none 0.
+fn branch_score(opened: i128, closed: i128, gap: i128) -> i128 {
+    let least = gap / 100;
+    let opened = opened.min(gap).wrapping_add(least).wrapping_add(1);
+    let closed = closed.min(gap).wrapping_add(least).wrapping_add(1);
+    opened.wrapping_mul(closed)
 }

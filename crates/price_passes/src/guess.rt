@@ -13,11 +13,16 @@ pub(crate) struct Guess {
     pub(crate) rounded: Vec<bool>,
     pub(crate) marks: Vec<bool>,
     pub(crate) movable: Vec<bool>,
+    hubs: Option<usize>,
 }
 
 impl Guess {
-    /// No guess, for so many places.
-    pub(crate) fn new(alloc: Global, places: usize) -> Result<Guess, AllocError> {
+    /// No guess, for so many places and the number of hubs that is wanted, if one is.
+    pub(crate) fn new(
+        alloc: Global,
+        places: usize,
+        hubs: Option<usize>,
+    ) -> Result<Guess, AllocError> {
         Ok(Guess {
             best: vec![in alloc; false; places]?,
             cost: i128::MAX,
@@ -25,6 +30,7 @@ impl Guess {
             rounded: vec![in alloc; false; places]?,
             marks: vec![in alloc; false; places]?,
             movable: vec![in alloc; false; places]?,
+            hubs,
         })
     }
 
@@ -35,9 +41,13 @@ impl Guess {
         self.cost = i128::MAX;
     }
 
-    /// Takes the set as the best, where it costs less.
+    /// Takes the set as the best, where it costs less and has as many hubs as are wanted.
     pub(crate) fn offer(&mut self, marks: &[bool], cost: i128) {
-        if cost < self.cost {
+        let fits = match self.hubs {
+            None => true,
+            Some(hubs) => marked(marks) == hubs,
+        };
+        if fits && cost < self.cost {
             self.cost = cost;
             copy(marks, &mut self.best);
         }
@@ -54,4 +64,15 @@ impl Guess {
         let above_wanted = self.cost.wrapping_sub(wanted);
         above_bound < self.cost / 1024 && above_wanted < wanted / 128
     }
+}
+
+/// How many places are marked.
+fn marked(marks: &[bool]) -> usize {
+    let mut count = 0usize;
+    for mark in marks {
+        if *mark {
+            count = count.wrapping_add(1);
+        }
+    }
+    count
 }

@@ -2,7 +2,7 @@
 
 ghost use Rattle.std.specs.Prelude.{◌≤◌};
 
-use crate::rows::{FAR, at, least_sum, put, row, row_mut, small};
+use crate::rows::{FAR, at, least_sum, put, row, row_mut};
 use crate::units::Units;
 use hub_model::Instance;
 use std::alloc::{AllocError, Global};
@@ -14,6 +14,7 @@ use std::alloc::{AllocError, Global};
 pub struct Lengths {
     size: usize,
     places: usize,
+    wanted: Option<usize>,
     width: usize,
     units: Units,
     collect: Vec<u32>,
@@ -22,9 +23,8 @@ pub struct Lengths {
     deliver_near: Vec<u32>,
     trunk: Vec<u32>,
     trunk_back: Vec<u32>,
-    first_gaps: Vec<i32>,
-    last_gaps: Vec<i32>,
     flows: Vec<u32>,
+    great_flow: u32,
     fixed: Vec<i64>,
     fixed_costs: Vec<i128>,
 }
@@ -45,21 +45,22 @@ impl Lengths {
         let deliver = legs.delivery(alloc)?;
         let trunk = legs.trunk(alloc)?;
         let trunk_back = turned(alloc, &trunk, width)?;
+        let flows = flows_in(alloc, instance, units.flow)?;
         let fixed_costs = fixed_costs(alloc, instance)?;
         Ok(Lengths {
             size,
             places,
+            wanted: wanted_hubs(instance),
             width,
             units,
             collect_near: least_sums(alloc, &collect, &trunk_back, width)?,
             collect,
             deliver_near: least_sums(alloc, &deliver, &trunk, width)?,
             deliver,
-            first_gaps: greatest_gaps(alloc, &trunk, width)?,
-            last_gaps: greatest_gaps(alloc, &trunk_back, width)?,
             trunk,
             trunk_back,
-            flows: flows_in(alloc, instance, units.flow)?,
+            great_flow: great_flow(alloc, &flows)?,
+            flows,
             fixed: fixed_in(alloc, &fixed_costs, units)?,
             fixed_costs,
         })
@@ -73,6 +74,11 @@ impl Lengths {
     /// The number of candidates.
     pub fn places(&self) -> usize {
         self.places
+    }
+
+    /// The number of hubs that is wanted, if one is.
+    pub fn wanted(&self) -> Option<usize> {
+        self.wanted
     }
 
     /// The number of commodities.
@@ -137,19 +143,14 @@ impl Lengths {
         row(&self.trunk_back, k, self.width)
     }
 
-    /// By how much, at most, the trunk legs from each place are longer than those from this place.
-    pub fn first_gaps(&self, k: usize) -> &[i32] {
-        row(&self.first_gaps, k, self.width)
-    }
-
-    /// By how much, at most, the trunk legs to each place are longer than those to this place.
-    pub fn last_gaps(&self, k: usize) -> &[i32] {
-        row(&self.last_gaps, k, self.width)
-    }
-
     /// The flows from the origin to each node.
     pub fn flows(&self, i: usize) -> &[u32] {
         row(&self.flows, i, self.size)
+    }
+
+    /// A fifth of the flows are no less.
+    pub fn great_flow(&self) -> u32 {
+        self.great_flow
     }
 
     /// The fixed costs by place, in what one unit of flow along one unit of length costs.
@@ -221,6 +222,12 @@ impl<'a> Legs<'a> {
     }
 }
 
+/// The number of hubs that is wanted, if one is.
+fn wanted_hubs(instance: &Instance) -> Option<usize> {
+    let wanted = instance.wanted()?;
+    Some(wanted as usize)
+}
+
 /// The table with rows and columns turned.
 fn turned(alloc: Global, table: &[u32], width: usize) -> Result<Vec<u32>, AllocError> {
     let mut back = vec![in alloc; FAR; table.len()]?;
@@ -251,27 +258,6 @@ fn least_sums(
     Ok(sums)
 }
 
-/// For each row of the table and each other one, by how much at most a number of the other is greater.
-fn greatest_gaps(alloc: Global, table: &[u32], width: usize) -> Result<Vec<i32>, AllocError> {
-    let mut gaps = vec![in alloc; 0; table.len()]?;
-    for k in 0..table.len() / width.max(1) {
-        let legs = row(table, k, width);
-        for (m, gap) in row_mut(&mut gaps, k, width).iter_mut().enumerate() {
-            *gap = greatest_gap(legs, row(table, m, width));
-        }
-    }
-    Ok(gaps)
-}
-
-/// By how much at most a number is greater than that at its place in the first list.
-fn greatest_gap(some: &[u32], others: &[u32]) -> i32 {
-    let mut most = i32::MIN;
-    for (some, other) in some.iter().zip(others) {
-        most = most.max(small(*other).wrapping_sub(small(*some)));
-    }
-    most
-}
-
 /// The flows in this unit, rounded; one above 0 stays above 0.
 fn flows_in(alloc: Global, instance: &Instance, unit: u64) -> Result<Vec<u32>, AllocError> {
     let mut flows = Vec::with_capacity(alloc, instance.flows().len())?;
@@ -280,6 +266,13 @@ fn flows_in(alloc: Global, instance: &Instance, unit: u64) -> Result<Vec<u32>, A
         flows.push(rounded.min(u32::MAX as u64) as u32)?;
     }
     Ok(flows)
+}
+
+/// The least of the greatest fifth of the flows.
+fn great_flow(alloc: Global, flows: &[u32]) -> Result<u32, AllocError> {
+    let mut sorted = flows.to_vec(alloc)?;
+    sorted.sort_unstable();
+    Ok(at(&sorted, sorted.len() / 5 * 4))
 }
 
 /// The fixed costs by place, in 10^-12.

@@ -64,16 +64,17 @@ impl Step {
         weight: i64,
     ) {
         self.changes.clear();
-        for (place, (ramp, (old, new))) in ramps.iter().zip(old.iter().zip(new)).enumerate() {
-            if *old != *new {
+        let count = ramps.len().min(old.len()).min(new.len());
+        for place in 0..count {
+            if old[place] != new[place] {
                 // It succeeds, since there is room for all places.
                 let _ = self.changes.push(Change {
                     place,
-                    old: *old,
-                    new: *new,
+                    old: old[place],
+                    new: new[place],
                     load: amount_at(loads, place),
                     weight,
-                    ramp: *ramp,
+                    ramp: ramps[place],
                 });
             }
         }

@@ -1,4 +1,5 @@
-//! A local search over hub sets: a hub is opened, closed, or put in another's stead, as long as that costs less.
+//! A local search over hub sets: a hub is opened, closed, or put in another's stead, as long as that costs less. Where a
+//! number of hubs is wanted, it is only put in another's stead.
 
 use crate::lengths::Lengths;
 use crate::routes::{NO_ROUTE, Route, SetRoutes};
@@ -68,7 +69,9 @@ impl LocalSearch {
         let mut cost = self.cost(lengths, marks);
         for _ in 0..MOST_ROUNDS {
             let before = cost;
-            cost = self.open_all(lengths, movable, cost);
+            if lengths.wanted().is_none() {
+                cost = self.open_all(lengths, movable, cost);
+            }
             for h in 0..lengths.places() {
                 if is_marked(&self.marks, h) && is_marked(movable, h) {
                     cost = self.turn(lengths, movable, Some(h), cost);
@@ -101,6 +104,43 @@ impl LocalSearch {
         if let Some(k) = found {
             fill(marks, false);
             put(marks, k, true);
+        }
+    }
+
+    /// Marks so many of the movable places, opened one after another, each of them the cheapest to open then.
+    pub(crate) fn open_best(
+        &mut self,
+        lengths: &Lengths,
+        movable: &[bool],
+        hubs: usize,
+        marks: &mut [bool],
+    ) {
+        fill(&mut self.marks, false);
+        self.set_routes(lengths);
+        for _ in 0..hubs {
+            let _ = self.turn(lengths, movable, None, i128::MAX);
+        }
+        copy(&self.marks, marks);
+    }
+
+    /// What one hub is worth about the set, which costs so much: half of what the cost rises by at least with a hub less and
+    /// falls by at most with one more, or one of the two where the other cannot be. It is in 10^-12.
+    pub(crate) fn hub_worth(&mut self, lengths: &Lengths, movable: &[bool], cost: i128) -> i128 {
+        let mut least = i128::MAX;
+        for h in 0..lengths.places() {
+            if is_marked(&self.marks, h) {
+                self.close(lengths, Some(h));
+                least = least.min(self.cost_of_base(lengths, Some(h)));
+            }
+        }
+        let rise = least.wrapping_sub(cost);
+        self.close(lengths, None);
+        let opened = self.best_move(lengths, movable, None, i128::MAX);
+        let fall = cost.wrapping_sub(opened.cost);
+        match (least < i128::MAX, opened.open.is_some()) {
+            (true, true) => rise.wrapping_add(fall) / 2,
+            (true, false) => rise,
+            (false, _) => fall,
         }
     }
 
@@ -160,7 +200,7 @@ impl LocalSearch {
         cost: i128,
     ) -> Move {
         let mut best = Move { open: None, cost };
-        if closed.is_some() {
+        if closed.is_some() && lengths.wanted().is_none() {
             best.cost = cost.min(self.cost_of_base(lengths, closed));
         }
         let opened = self.opening_cost(lengths, closed);

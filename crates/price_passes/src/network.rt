@@ -76,10 +76,11 @@ impl Copies {
 
     /// Raises each potential of so many copies by its distance, but by no more than the sink's.
     fn raise(&mut self, width: usize, most: i32) {
-        let distances = row(&self.distances, 0, width);
-        for (potential, distance) in self.potentials.iter_mut().zip(distances) {
-            *potential = potential.wrapping_add((*distance).min(most));
-        }
+        raise(
+            row_mut(&mut self.potentials, 0, width),
+            &self.distances,
+            most,
+        );
     }
 
     fn capacity(&self, index: usize) -> i32 {
@@ -272,15 +273,17 @@ impl Network {
     /// The nearest of the right copies whose turn has not come, if one is nearer than the limit.
     fn nearest(&self, limit: i32) -> Option<usize> {
         let distances = row(&self.right.distances, 0, self.width);
+        let shut = self.right.shut.as_slice();
+        let count = distances.len().min(shut.len());
         let mut least = limit;
-        for (distance, shut) in distances.iter().zip(&self.right.shut) {
-            least = least.min(*distance | *shut);
+        for index in 0..count {
+            least = least.min(distances[index] | shut[index]);
         }
         if least >= limit {
             return None;
         }
-        for (index, (distance, shut)) in distances.iter().zip(&self.right.shut).enumerate() {
-            if *distance | *shut == least {
+        for index in 0..count {
+            if distances[index] | shut[index] == least {
                 return Some(index);
             }
         }
@@ -377,9 +380,11 @@ impl Network {
         let turn = self.right.turn(m);
         let potential = self.right.potential(m);
         let costs = row(&self.costs, m, self.width);
-        let left = self.left.potentials.iter().zip(&self.left.turns);
-        for (x, (cost, (there, reached))) in costs.iter().zip(left).enumerate() {
-            if there.wrapping_add(*cost) == potential && *reached < turn {
+        let there = self.left.potentials.as_slice();
+        let reached = self.left.turns.as_slice();
+        let count = costs.len().min(there.len()).min(reached.len());
+        for x in 0..count {
+            if there[x].wrapping_add(costs[x]) == potential && reached[x] < turn {
                 return Some(x);
             }
         }
@@ -413,16 +418,26 @@ fn clear_bit(words: &mut [u64], index: usize) {
     }
 }
 
+/// Raises each number by the other one, but by no more than this.
+fn raise(items: &mut [i32], others: &[i32], most: i32) {
+    let count = items.len().min(others.len());
+    for place in 0..count {
+        items[place] = items[place].wrapping_add(others[place].min(most));
+    }
+}
+
 /// Lowers each number to the other one, where that is less.
 fn lower(items: &mut [i32], others: &[i32]) {
-    for (item, other) in items.iter_mut().zip(others) {
-        *item = (*item).min(*other);
+    let count = items.len().min(others.len());
+    for place in 0..count {
+        items[place] = items[place].min(others[place]);
     }
 }
 
 /// Sets each number to the difference of the two that stand at its place.
 fn subtract(some: &[i32], others: &[i32], into: &mut [i32]) {
-    for (item, (some, other)) in into.iter_mut().zip(some.iter().zip(others)) {
-        *item = some.wrapping_sub(*other);
+    let count = into.len().min(some.len()).min(others.len());
+    for place in 0..count {
+        into[place] = some[place].wrapping_sub(others[place]);
     }
 }

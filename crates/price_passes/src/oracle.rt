@@ -57,17 +57,18 @@ impl Oracle {
         self.list_priced(legs, prices, cap);
         self.connect(lengths, legs, prices);
         let price = self.network.solve(cap);
-        self.set_priced(lengths, legs, price);
+        self.set_priced(legs, price);
         price
     }
 
     /// What the values that were found cost more at the prices than these.
     pub(crate) fn added_cost(&self, prices: &[i64], old: &[u32]) -> i64 {
+        let new = self.values.values();
+        let count = prices.len().min(old.len()).min(new.len());
         let mut cost = 0i64;
-        let values = old.iter().zip(self.values.values());
-        for (price, (old, new)) in prices.iter().zip(values) {
-            let change = *new as i64 - *old as i64;
-            cost = cost.wrapping_add(price.wrapping_mul(change));
+        for place in 0..count {
+            let change = new[place] as i64 - old[place] as i64;
+            cost = cost.wrapping_add(prices[place].wrapping_mul(change));
         }
         cost
     }
@@ -149,11 +150,10 @@ impl Oracle {
     }
 
     /// Gives the places of the network their values; other priced places have none, since all routes by them are too long.
-    fn set_priced(&mut self, lengths: &Lengths, legs: &Commodity<'_>, price: u32) {
+    fn set_priced(&mut self, legs: &Commodity<'_>, price: u32) {
         self.values.begin(price);
         for (x, k) in self.priced.iter().enumerate() {
-            self.values
-                .settle(lengths, legs, *k, self.network.value(x, price));
+            self.values.settle(legs, *k, self.network.value(x, price));
         }
     }
 }

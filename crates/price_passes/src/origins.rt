@@ -4,21 +4,32 @@ use crate::lengths::Lengths;
 use crate::mixing::{Step, mixed_down};
 use crate::oracle::Oracle;
 use crate::places::Commodity;
-use crate::ramps::{FULL_PRICE, Ramp, Turn, set_prices};
+use crate::ramps::{FULL_PRICE, Ramp, Turn, balanced, set_prices};
 use crate::rows::{at, copy, row, row_mut};
 use crate::waits::{Gain, NO_GAIN, Quote};
 use std::alloc::{AllocError, Global};
 
 /// What a pass reads of a node of the search: the ramps by place, by commodity what no price is to be above, and, where
-/// commodities wait, what a turn promises after which they do not, in parts of the full price.
+/// commodities wait, what a turn promises after which they do not, in parts of the full price; and the wanted number of
+/// hubs, with what each last cost beside its fixed cost.
 #[derive(Clone, Copy)]
 pub(crate) struct Terms<'a> {
     pub(crate) ramps: &'a [Ramp],
     pub(crate) caps: &'a [u32],
     pub(crate) little: Option<i128>,
+    pub(crate) hubs: Option<usize>,
+    pub(crate) extra: i64,
 }
 
 impl Terms<'_> {
+    /// What each hub costs beside its fixed cost at these loads, so that the prices add up to the wanted number of hubs.
+    pub(crate) fn extra_at(&self, loads: &[i64]) -> i64 {
+        match self.hubs {
+            None => 0,
+            Some(hubs) => balanced(self.ramps, loads, hubs, self.extra),
+        }
+    }
+
     /// Tells whether a commodity waits after a turn that promised so much.
     fn is_little(&self, promised: i128) -> bool {
         match self.little {
@@ -28,8 +39,8 @@ impl Terms<'_> {
     }
 }
 
-/// What all origins of a batch start from: the loads at its start, the order of the places at them, and how many
-/// origins there are. Each counts its own changes so many times.
+/// What all origins of a batch start from: the loads at its start, less what each hub costs beside its fixed cost, the
+/// order of the places at them, and how many origins there are. Each counts its own changes so many times.
 #[derive(Clone, Copy)]
 pub(crate) struct Start<'a> {
     pub(crate) lengths: &'a Lengths,
@@ -69,7 +80,7 @@ impl OriginScratch {
         values: &mut [u32],
     ) -> Gain {
         copy(start.loads, &mut self.loads);
-        set_prices(start.terms.ramps, start.loads, &mut self.prices);
+        set_prices(start.terms.ramps, start.loads, 0, &mut self.prices);
         let lengths = start.lengths;
         let caps = row(start.terms.caps, i, lengths.size());
         let mut gain = NO_GAIN;

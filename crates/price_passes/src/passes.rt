@@ -43,10 +43,13 @@ impl Bench {
         })
     }
 
-    /// Begins a batch of origins at these loads.
+    /// Begins a batch of origins at these loads, less what each hub costs beside its fixed cost.
     fn begin_batch(&mut self, terms: Terms<'_>, loads: &[i64]) {
-        copy(loads, &mut self.start);
-        set_order(terms.ramps, loads, &mut self.order);
+        let extra = terms.extra_at(loads);
+        for (start, load) in self.start.iter_mut().zip(loads) {
+            *start = load.wrapping_sub(extra);
+        }
+        set_order(terms.ramps, loads, extra, &mut self.order);
     }
 
     /// Betters the duals of all commodities that do not wait, batch by batch, by so many workers, and gives what that

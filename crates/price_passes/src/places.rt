@@ -1,7 +1,7 @@
 //! The legs of a commodity over places, and the values of the places for it.
 
 use crate::lengths::Lengths;
-use crate::rows::{FAR, at, copy, fill, put, small, small_at};
+use crate::rows::{FAR, at, copy, fill, least_sum, put, set_sums, small};
 use std::alloc::{AllocError, Global};
 
 /// The legs of a commodity over places: of collection and delivery, and the least lengths of both with a trunk leg.
@@ -84,125 +84,33 @@ impl<'a> PlaceLegs<'a> {
         deliver: &[u32],
         lengths: &mut [i32],
     ) {
-        for (length, (m, (collect, deliver))) in lengths
-            .iter_mut()
-            .zip(others.iter().zip(collect.iter().zip(deliver)))
-        {
-            *length = small(self.pair(*m, *collect, *deliver));
+        let count = lengths.len().min(others.len());
+        let count = count.min(collect.len()).min(deliver.len());
+        for x in 0..count {
+            lengths[x] = small(self.pair(others[x], collect[x], deliver[x]));
         }
     }
 }
 
-/// Places as ends of routes, each with its leg and its value added up, but for those that another one always betters.
-#[derive(Drop)]
-struct Ends {
-    places: Vec<usize>,
-    legs: Vec<u32>,
-}
-
-impl Ends {
-    fn new(alloc: Global, places: usize) -> Result<Ends, AllocError> {
-        Ok(Ends {
-            places: Vec::with_capacity(alloc, places)?,
-            legs: Vec::with_capacity(alloc, places)?,
-        })
-    }
-
-    fn clear(&mut self) {
-        self.places.clear();
-        self.legs.clear();
-    }
-
-    /// Makes the place an end with this leg, unless another end serves each route at least as well; the gaps tell by how
-    /// much, at most, trunk legs of other places are longer.
-    fn join(&mut self, k: usize, leg: u32, gaps: &[i32]) {
-        let most = small(leg);
-        for (m, other) in self.places.iter().zip(&self.legs) {
-            if small(*other).wrapping_add(small_at(gaps, *m)) <= most {
-                return;
-            }
-        }
-        // Both succeed, since there is room for all places.
-        let _ = self.places.push(k);
-        let _ = self.legs.push(leg);
-    }
-
-    /// Lets the place go, if it came last.
-    fn leave(&mut self, k: usize) {
-        if self.places.last().copied() == Some(k) {
-            let _ = self.places.pop();
-            let _ = self.legs.pop();
-        }
-    }
-
-    /// The least sum of an end's leg and its trunk leg, or `FAR` where none is less.
-    fn least(&self, trunk: &[u32]) -> u32 {
-        let mut least = FAR;
-        for (m, leg) in self.places.iter().zip(&self.legs) {
-            least = least.min(at(trunk, *m).wrapping_add(*leg));
-        }
-        least
-    }
-}
-
-/// Places as ends of the routes of a commodity at a price, first and last ones: those by which some route is shorter
-/// than the price, with their values added. No others ask anything of a place.
-#[derive(Drop)]
-struct RouteEnds {
-    firsts: Ends,
-    lasts: Ends,
-}
-
-impl RouteEnds {
-    fn new(alloc: Global, places: usize) -> Result<RouteEnds, AllocError> {
-        Ok(RouteEnds {
-            firsts: Ends::new(alloc, places)?,
-            lasts: Ends::new(alloc, places)?,
-        })
-    }
-
-    fn clear(&mut self) {
-        self.firsts.clear();
-        self.lasts.clear();
-    }
-
-    /// Makes the place with this value an end where it may be one.
-    fn join(&mut self, lengths: &Lengths, legs: &Commodity<'_>, price: u32, k: usize, value: u32) {
-        if legs.forth(k).wrapping_add(value) < price {
-            let leg = at(legs.collect, k).wrapping_add(value);
-            self.firsts.join(k, leg, lengths.first_gaps(k));
-        }
-        if legs.back(k).wrapping_add(value) < price {
-            let leg = at(legs.deliver, k).wrapping_add(value);
-            self.lasts.join(k, leg, lengths.last_gaps(k));
-        }
-    }
-
-    /// Lets the place go, if it came last.
-    fn leave(&mut self, k: usize) {
-        self.firsts.leave(k);
-        self.lasts.leave(k);
-    }
-}
-
-/// The values of the places for a commodity at a price. Those that are settled ask something of the others, and so do
-/// those that are pending: old ones, of which the last to come is changed first.
+/// The values of the places for a commodity at a price, and by place the legs to and from it with its value added, or
+/// `FAR` where the place asks nothing of others as yet.
 #[derive(Drop)]
 pub(crate) struct PlaceValues {
     price: u32,
     values: Vec<u32>,
-    settled: RouteEnds,
-    pending: RouteEnds,
+    firsts: Vec<u32>,
+    lasts: Vec<u32>,
 }
 
 impl PlaceValues {
     /// Values of so many places.
     pub(crate) fn new(alloc: Global, places: usize) -> Result<PlaceValues, AllocError> {
+        let width = places.div_ceil(8).wrapping_mul(8);
         Ok(PlaceValues {
             price: 0,
             values: vec![in alloc; 0; places]?,
-            settled: RouteEnds::new(alloc, places)?,
-            pending: RouteEnds::new(alloc, places)?,
+            firsts: vec![in alloc; FAR; width]?,
+            lasts: vec![in alloc; FAR; width]?,
         })
     }
 
@@ -211,55 +119,42 @@ impl PlaceValues {
         &self.values
     }
 
-    /// Begins at this price, with all values 0.
+    /// Begins at this price, with all values 0, and with no place that asks anything of others.
     pub(crate) fn begin(&mut self, price: u32) {
-        fill(&mut self.values, 0);
         self.price = price;
-        self.settled.clear();
-        self.pending.clear();
+        fill(&mut self.values, 0);
+        fill(&mut self.firsts, FAR);
+        fill(&mut self.lasts, FAR);
     }
 
-    /// Begins at this price, with the values of the list, none of which is settled or pending.
-    pub(crate) fn begin_from(&mut self, price: u32, values: &[u32]) {
-        self.begin(price);
+    /// Begins at this price with the values of the list, where each place asks of others what its value leaves.
+    pub(crate) fn begin_from(&mut self, legs: &Commodity<'_>, price: u32, values: &[u32]) {
+        self.price = price;
         copy(values, &mut self.values);
+        set_sums(legs.collect, values, &mut self.firsts);
+        set_sums(legs.deliver, values, &mut self.lasts);
     }
 
-    /// Settles the value of a place.
-    pub(crate) fn settle(&mut self, lengths: &Lengths, legs: &Commodity<'_>, k: usize, value: u32) {
+    /// Gives a place this value.
+    pub(crate) fn settle(&mut self, legs: &Commodity<'_>, k: usize, value: u32) {
         put(&mut self.values, k, value);
-        self.settled.join(lengths, legs, self.price, k, value);
+        put(&mut self.firsts, k, at(legs.collect, k).wrapping_add(value));
+        put(&mut self.lasts, k, at(legs.deliver, k).wrapping_add(value));
     }
 
-    /// Makes the value of a place pending. It is to be changed before those of places that came before.
-    pub(crate) fn suspend(&mut self, lengths: &Lengths, legs: &Commodity<'_>, k: usize) {
-        let value = at(&self.values, k);
-        self.pending.join(lengths, legs, self.price, k, value);
-    }
-
-    /// Settles the value of a place: the least that the routes by it, alone or with settled and pending places, ask at the
-    /// price.
+    /// Gives a place the least value that the routes by it, alone or with places that ask something, ask at the price.
     pub(crate) fn settle_asked(&mut self, lengths: &Lengths, legs: &Commodity<'_>, k: usize) {
-        self.pending.leave(k);
-        let is_first = legs.forth(k) < self.price;
-        let is_last = legs.back(k) < self.price;
-        if !is_first && !is_last {
-            put(&mut self.values, k, 0);
+        if !legs.is_near(k, self.price) {
+            self.settle(legs, k, 0);
             return;
         }
-        let mut least = legs.alone(k);
-        if is_first {
-            let trunk = lengths.trunk(k);
-            let lasts = self.settled.lasts.least(trunk);
-            let onward = lasts.min(self.pending.lasts.least(trunk));
-            least = least.min(at(legs.collect, k).wrapping_add(onward));
-        }
-        if is_last {
-            let trunk = lengths.trunk_back(k);
-            let firsts = self.settled.firsts.least(trunk);
-            let before = firsts.min(self.pending.firsts.least(trunk));
-            least = least.min(at(legs.deliver, k).wrapping_add(before));
-        }
-        self.settle(lengths, legs, k, self.price.saturating_sub(least));
+        put(&mut self.firsts, k, FAR);
+        put(&mut self.lasts, k, FAR);
+        let onward = least_sum(lengths.trunk(k), &self.lasts);
+        let before = least_sum(lengths.trunk_back(k), &self.firsts);
+        let first = at(legs.collect, k).wrapping_add(onward);
+        let last = at(legs.deliver, k).wrapping_add(before);
+        let least = legs.alone(k).min(first).min(last);
+        self.settle(legs, k, self.price.saturating_sub(least));
     }
 }

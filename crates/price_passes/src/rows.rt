@@ -1,7 +1,8 @@
 //! Lists of numbers, rows of flat tables, and the few loops over them that take most of the time.
 //!
 //! A place outside a list reads as 0 and is not written, and a row outside a table is empty: this is advice, and no
-//! number of it is relied on.
+//! number of it is relied on. A loop over several lists counts up to the least length, so that it has one end and can be
+//! compiled to steps of several numbers.
 
 /// A length that stands for none. The sum of three of them does not wrap.
 pub(crate) const FAR: u32 = 1 << 30;
@@ -69,30 +70,34 @@ pub(crate) fn fill<T: Copy + Drop>(items: &mut [T], item: T) {
 
 /// Copies the items one by one, as far as both lists go.
 pub(crate) fn copy<T: Copy + Drop>(from: &[T], into: &mut [T]) {
-    for (place, item) in into.iter_mut().zip(from) {
-        *place = *item;
+    let count = into.len().min(from.len());
+    for place in 0..count {
+        into[place] = from[place];
     }
 }
 
 /// Adds the amounts one by one, as far as both lists go.
 pub(crate) fn add(from: &[i64], into: &mut [i64]) {
-    for (sum, amount) in into.iter_mut().zip(from) {
-        *sum = sum.wrapping_add(*amount);
+    let count = into.len().min(from.len());
+    for place in 0..count {
+        into[place] = into[place].wrapping_add(from[place]);
     }
 }
 
 /// Gathers the numbers at these places.
 pub(crate) fn gather(numbers: &[u32], places: &[usize], into: &mut [u32]) {
-    for (number, place) in into.iter_mut().zip(places) {
-        *number = at(numbers, *place);
+    let count = into.len().min(places.len());
+    for index in 0..count {
+        into[index] = at(numbers, places[index]);
     }
 }
 
 /// The least sum of two numbers that stand at one place, or `FAR` where none is less.
 pub(crate) fn least_sum(some: &[u32], others: &[u32]) -> u32 {
+    let count = some.len().min(others.len());
     let mut least = FAR;
-    for (some, other) in some.iter().zip(others) {
-        least = least.min(some.wrapping_add(*other));
+    for place in 0..count {
+        least = least.min(some[place].wrapping_add(others[place]));
     }
     least
 }
@@ -129,11 +134,20 @@ pub(crate) fn weighed_by(
     sum
 }
 
+/// Sets each number to the sum of the two that stand at its place.
+pub(crate) fn set_sums(some: &[u32], others: &[u32], into: &mut [u32]) {
+    let count = into.len().min(some.len()).min(others.len());
+    for place in 0..count {
+        into[place] = some[place].wrapping_add(others[place]);
+    }
+}
+
 /// The sum of the flows times their lengths.
 pub(crate) fn weighed(flows: &[u32], lengths: &[u32]) -> u64 {
     let mut sum = 0u64;
-    for (flow, length) in flows.iter().zip(lengths) {
-        sum = sum.wrapping_add((*length as u64).wrapping_mul(*flow as u64));
+    let count = flows.len().min(lengths.len());
+    for place in 0..count {
+        sum = sum.wrapping_add((lengths[place] as u64).wrapping_mul(flows[place] as u64));
     }
     sum
 }

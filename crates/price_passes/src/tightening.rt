@@ -61,7 +61,7 @@ impl Tightening {
         terms: Terms<'_>,
         loads: &[i64],
     ) {
-        set_order(terms.ramps, loads, &mut self.all);
+        set_order(terms.ramps, loads, terms.extra, &mut self.all);
         self.order.clear();
         for turn in &self.all {
             if !is_marked(marks, turn.place) {
@@ -121,18 +121,15 @@ impl Tightening {
         let legs = Commodity::of(lengths, i, j);
         let route = self.routes.shortest(i, j);
         let tight = self.tight_route(i, j, route, values);
-        self.values.begin_from(tight.price, values);
+        self.values.begin_from(&legs, tight.price, values);
         for k in self.routes.hubs() {
             if !route.uses(*k) {
-                self.values.settle(lengths, &legs, *k, 0);
+                self.values.settle(&legs, *k, 0);
             }
         }
-        self.values.settle(lengths, &legs, route.first, tight.first);
+        self.values.settle(&legs, route.first, tight.first);
         if route.last != route.first {
-            self.values.settle(lengths, &legs, route.last, tight.last);
-        }
-        for turn in self.order.iter().rev() {
-            self.values.suspend(lengths, &legs, turn.place);
+            self.values.settle(&legs, route.last, tight.last);
         }
         for turn in &self.order {
             self.values.settle_asked(lengths, &legs, turn.place);
@@ -204,8 +201,9 @@ impl Tightening {
 
 /// Adds the values, weighed by the flow, to the loads.
 fn add_weighed(flow: i64, values: &[u32], loads: &mut [i64]) {
-    for (load, value) in loads.iter_mut().zip(values) {
-        *load = load.wrapping_add(flow.wrapping_mul(*value as i64));
+    let count = loads.len().min(values.len());
+    for place in 0..count {
+        loads[place] = loads[place].wrapping_add(flow.wrapping_mul(values[place] as i64));
     }
 }
 

@@ -13,6 +13,12 @@ pub(crate) struct Wait {
 /// A wait that is over, and none was before.
 pub(crate) const NO_WAIT: Wait = Wait { left: 0, last: 0 };
 
+/// A wait that goes on.
+pub(crate) const LONG_WAIT: Wait = Wait {
+    left: u8::MAX,
+    last: 0,
+};
+
 impl Wait {
     /// Lets a pass go by, and tells whether it leaves the commodity out.
     pub(crate) fn leaves_out(&mut self) -> bool {
