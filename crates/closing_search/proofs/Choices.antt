@@ -6,7 +6,7 @@ use Rattle.std.proofs.lemmas.List.Elements.{All-nil, All-cons}
 use Rattle.hub_spec.specs.Limits.{most_cuts}
 use Rattle.hub_spec.specs.Problem.{Problem}
 use Rattle.hub_spec.specs.Cuts.{Cut}
-use Rattle.hub_spec.specs.Trees.{Branching, cut_at, leaf_bound, IsMix, Closes, TreeLine, leaf_of}
+use Rattle.hub_spec.specs.Trees.{Branching, cut_at, leaf_bound, IsMix, HasRoom, Closes, TreeLine, leaf_of}
 use Rattle.hub_spec.specs.Ranges.{AreWeightsInRange, IsFirstLine, IsLineInRange}
 use Rattle.hub_spec.proofs.Mixes.{AreWhole, whole_multiples}
 use Rattle.leaf_bound.specs.Weighing.{most_bound, IsWithin}
@@ -15,13 +15,11 @@ use Rattle.search_spec.proofs.Bounds.{rounded_closes}
 use Rattle.search_spec.proofs.Keeping.{closes_less}
 use Rattle.tree_walks.specs.Walks.{IsSoundLine}
 use Rattle.kept_cuts.specs.Kept.{Kept, kept_cut, kept_cuts, IsOwn}
-use Rattle.kept_cuts.specs.Findings.{IsUnlimited}
 use Rattle.closing_search.specs.declared.leaves.Choice.{Choice}
 use Rattle.closing_search.specs.SingleCuts.{cut_bound, weights_on, IsChoice}
 use Rattle.closing_search.proofs.KeptSums.{kept_are_whole}
 use Rattle.closing_search.proofs.SingleBounds.{bare_not_below}
 use Rattle.closing_search.proofs.Steps.{left_below}
-use Rattle.closing_search.proofs.Unlimited.{any_room}
 
 -- the bound by one cut of a list is the bound by the cut alone
 pub on_one : (p : Problem) (cuts : List Cut) (c : ℕ) (b : Branching) → leaf_bound p cuts denominator (whole_on c) b ≡ cut_bound p (cut_at cuts c) b
@@ -96,11 +94,11 @@ weights_in_range cuts (Some c) few is = record {
 }
 
 pub leaf_sound : (p : Problem) (kept : List Kept) (target : ℕ) (b : Branching) (number : Option ℕ) (line : TreeLine)
-    → IsUnlimited p → All IsOwn kept → IsNumber (kept_cuts p kept) number → line ≡ leaf_of denominator (weights_on number)
+    → HasRoom p.wanted b → All IsOwn kept → IsNumber (kept_cuts p kept) number → line ≡ leaf_of denominator (weights_on number)
     → Closes denominator target (leaf_bound p (kept_cuts p kept) denominator (weights_on number) b)
     → IsSoundLine p (kept_cuts p kept) target b line
-leaf_sound p kept target b number line any own is same closes =
-    rw same (any_room p b any, mix_on (kept_cuts p kept) number (kept_are_whole p kept own) is, closes)
+leaf_sound p kept target b number line room own is same closes =
+    rw same (room, mix_on (kept_cuts p kept) number (kept_are_whole p kept own) is, closes)
 
 pub leaf_in_range : (n : ℕ) (cuts : List Cut) (number : Option ℕ) (line : TreeLine) → length cuts ≤ most_cuts → IsNumber cuts number
     → line ≡ leaf_of denominator (weights_on number) → IsLineInRange n line

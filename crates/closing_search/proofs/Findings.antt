@@ -2,11 +2,11 @@
 use Rattle.std.proofs.Common.{◌≡◌, ℕ, ◌+◌, ◌^◌, ◌<◌, ◌≤◌, List, [], ◌∷◌, length, All, false, Option, None, Some, ◌⊎◌, inl, inr, true≢false, refl, sym, ap, subst, ◌∙◌, arith}
 use Rattle.std.specs.List.{AllZip}
 use Rattle.std.proofs.lemmas.List.{length-map}
-use Rattle.std.proofs.lemmas.List.Elements.{All-nil, All-cons, All-weaker, All-map, All-contains_itself}
+use Rattle.std.proofs.lemmas.List.Elements.{All-nil, All-cons, All-weaker, All-map}
 use Rattle.std.proofs.lemmas.Slice.Zip.{AllZip-long}
 use Rattle.hub_spec.specs.Limits.{most_cost}
 use Rattle.hub_spec.specs.Problem.{Problem, IsProblem, commodities}
-use Rattle.hub_spec.specs.Plans.{Plan, IsHubSet, IsSetCost, IsLeastRoute, IsPlan, plan_cost, NoPlanBelow}
+use Rattle.hub_spec.specs.Plans.{Plan, IsHubSet, HasWanted, IsSetCost, IsLeastRoute, IsPlan, plan_cost, NoPlanBelow}
 use Rattle.hub_spec.specs.Cuts.{IsCut}
 use Rattle.hub_spec.specs.Trees.{root, Tree, preorder, IsSound}
 use Rattle.hub_spec.specs.Certificates.{Holds}
@@ -18,7 +18,6 @@ use Rattle.hub_spec.proofs.SumLemmas.{by_test}
 use Rattle.hub_spec.proofs.SetCosts.{plan_of_least, set_cost_is, one_set_cost}
 use Rattle.hub_spec.proofs.WeakDuality.{no_plan_below_bound}
 use Rattle.plan_model.specs.Lines.{tree_line_of}
-use Rattle.search_spec.specs.States.{lesser}
 use Rattle.search_spec.specs.Findings.{AreWithin, IsSpent, IsEnough}
 use Rattle.search_spec.proofs.Invariants.{lesser_least}
 use Rattle.tree_walks.specs.Walks.{Walks}
@@ -31,9 +30,8 @@ use Rattle.kept_cuts.proofs.Versions.{has_text}
 use Rattle.closing_search.specs.declared.task.Task.{Task}
 use Rattle.closing_search.specs.declared.progress.Progress.{Progress}
 use Rattle.closing_search.specs.Gaps.{most_gap, IsWithinGap}
-use Rattle.closing_search.specs.Progressing.{target_of, IsGoing, IsOver}
+use Rattle.closing_search.specs.Progressing.{target_of, AreFirstHubs, IsGoing, IsOver}
 use Rattle.closing_search.proofs.Gaps.{all_within}
-use Rattle.closing_search.proofs.Unlimited.{hub_set, any_wanted}
 
 -- the finding is what the search has at its end, with the least routes of the incumbent
 pub record IsFoundOf (t : Task) (s : Progress) (found : Found) : Type 0 where
@@ -90,7 +88,7 @@ module _ (t : Task) (s : Progress) (found : Found) (over : IsOver t s) (is : IsF
         candidates = refl;
         bound = found_within;
         plan = found_plan;
-        wanted = any_wanted p found.plan.hubs over.going.unlimited;
+        wanted = subst (HasWanted p) (sym is.hubs) over.going.wanted;
         cost = found_cost;
         cuts = All-map (IsCut p) (kept_cut p) found.cuts.cuts
             (All-weaker (IsKeptFor p) (λ (k : Kept). IsCut p (kept_cut p k)) (λ k fits. kept_is_cut p k over.going.problem fits)
@@ -106,10 +104,10 @@ module _ (t : Task) (s : Progress) (found : Found) (over : IsOver t s) (is : IsF
       let cost = plan_cost_limit p found.plan ok found_plan in
       let nodes = least_route_nodes p found.plan.hubs (commodities p.size) found.plan.routes ok.limits found_set is.routes in
       let lines : All (IsLineInRange p.size) (lines_of found.tree.items) = rw is.lines over.going.in_range in
-      let first : All IsFirstLine (lines_of found.tree.items) = rw is.lines over.going.first_lines in
+      let first : IsUnlimited p → All IsFirstLine (lines_of found.tree.items) = λ any. rw is.lines (over.going.first_lines any) in
       record {
         version = has_text p found h.tree version ok found_kept
-            (λ any. subst (All IsFirstLine) (sym h.lines) first) there;
+            (λ any. subst (All IsFirstLine) (sym h.lines) (first any)) there;
         some_node = ok.some_node;
         size = ok.size_limit;
         some_candidate = ok.some_candidate;
@@ -170,8 +168,8 @@ module _ (t : Task) (s : Progress) (found : Found) (over : IsOver t s) (is : IsF
   pub found_whole : t.nodes ≡ None → IsWithinGap t.gap found.bound found.cost
   found_whole none = found_enough (subst (IsEnough (2 ^ (length t.instance.now.candidates + 1))) (sym none) tt)
 
-  pub found_at_most : (cost : ℕ) → IsSetCost t.instance.now t.instance.now.candidates cost → found.cost ≤ cost
-  found_at_most cost is_cost = omega (arith, is.cost, over.going.at_most cost is_cost)
+  pub found_at_most : t.instance.now.wanted ≡ None → (cost : ℕ) → IsSetCost t.instance.now t.instance.now.candidates cost → found.cost ≤ cost
+  found_at_most any cost is_cost = omega (arith, is.cost, over.going.at_most any cost is_cost)
 
 -- the cost of a hub set is within the limit of costs
 pub set_cost_within : (p : Problem) (hubs : List ℕ) (cost : ℕ) → IsProblem p → IsSetCost p hubs cost → cost ≤ most_cost
@@ -180,37 +178,30 @@ set_cost_within p hubs cost ok is =
 
 -- ---- the start
 
-pub all_set : (p : Problem) (hubs : List ℕ) → IsProblem p → IsUnlimited p → hubs ≡ p.candidates → IsHubSet p hubs
-all_set p hubs ok any same =
-    subst (IsHubSet p) (sym same)
-    (hub_set p p.candidates any
-    (record {
-      some_hub = ok.some_candidate;
-      ascend = ok.candidates_ascend;
-      are_candidates = All-contains_itself p.candidates;
-    }))
-
 within_one : (n : Option ℕ) → AreWithin n 1
 within_one None = tt
 within_one (Some m) = λ some. some
 
-pub begun_going : (t : Task) (s : Progress) → IsProblem t.instance.now → IsUnlimited t.instance.now → t.gap ≤ most_gap
-    → s.cuts ≡ record { cuts = []; totals = []; loads = [] } → s.lines.items ≡ [] → s.hubs ≡ t.instance.now.candidates
+pub begun_going : (t : Task) (s : Progress) → IsProblem t.instance.now → t.gap ≤ most_gap
+    → s.cuts ≡ record { cuts = []; totals = []; loads = [] } → s.lines.items ≡ [] → AreFirstHubs t.instance.now s.hubs
     → IsSetCost t.instance.now s.hubs s.cost → s.made ≡ 1 → s.stopped ≡ false → s.left ≡ None → IsGoing t s
-begun_going t s ok any gap cuts lines hubs is_cost made stopped left =
+begun_going t s ok gap cuts lines first is_cost made stopped left =
     let p = t.instance.now in
     record {
       problem = ok;
-      unlimited = any;
       kept = rw cuts (record { fit = All-nil (IsKeptFor p); are_totals = refl; are_loads = refl });
       own = rw cuts (All-nil IsOwn);
       few_cuts = rw cuts (omega arith);
       few_lines = rw lines (omega arith);
       in_range = rw lines (All-nil (IsLineInRange p.size));
-      first_lines = rw lines (All-nil IsFirstLine);
-      hubs = all_set p s.hubs ok any hubs;
+      first_lines = λ any. rw lines (All-nil IsFirstLine);
+      hubs = first.is_set;
+      wanted = first.wanted;
       cost = is_cost;
-      at_most = λ most is_most. omega (arith, one_set_cost p p.candidates s.cost most (subst (λ (hs : List ℕ). IsSetCost p hs s.cost) hubs is_cost) is_most);
+      at_most = λ any most is_most. omega (
+        arith,
+        one_set_cost p p.candidates s.cost most (subst (λ (hs : List ℕ). IsSetCost p hs s.cost) (first.all any) is_cost) is_most,
+      );
       cost_limit = set_cost_within p s.hubs s.cost ok is_cost;
       made = omega (arith, made);
       allowed = rw made (within_one t.nodes);

@@ -1,5 +1,5 @@
 -- What is within a gap.
-use Rattle.std.proofs.Common.{◌≡◌, ℕ, ◌+◌, ◌-◌, ◌*◌, ◌<◌, ◌≤◌, ◌⊎◌, inl, inr, Option, None, Some, mul-add, mul-le-mul_right, div-mul-le_self, ⊎_elim, arith}
+use Rattle.std.proofs.Common.{◌≡◌, ℕ, ◌+◌, ◌-◌, ◌*◌, ◌≤◌, Option, None, Some, mul-add, mul-le-mul_right, div-mul-le_self, ⊎_elim, arith}
 use Rattle.std.proofs.lemmas.Bool.{cases_lt}
 use Rattle.search_spec.specs.States.{lesser}
 use Rattle.closing_search.specs.Gaps.{most_gap, IsWithinGap, goal_of}

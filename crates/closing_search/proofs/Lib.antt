@@ -1,4 +1,5 @@
 pub mod Gaps
+pub mod BranchEnds
 pub mod SingleBounds
 pub mod KeptSums
 pub mod Steps
@@ -6,5 +7,4 @@ pub mod Choices
 pub mod SetLeaves
 pub mod Findings
 pub mod Walks
-pub mod Unlimited
 pub mod Ungapped

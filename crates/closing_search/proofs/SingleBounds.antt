@@ -18,13 +18,14 @@ use Rattle.hub_spec.proofs.SetCuts.{unlisted_value}
 use Rattle.hub_model.specs.Amounts.{natural, IsNatural}
 use Rattle.hub_model.proofs.Signs.{natural-pos}
 use Rattle.leaf_bound.specs.declared.weightings.Weighting as lent
-use Rattle.leaf_bound.specs.Bounds.{bound_of}
-use Rattle.leaf_bound.specs.Numbers.{naturals, IsSumOf, AreWeightingNumbers, weighting_of}
+use Rattle.leaf_bound.specs.Bounds.{Weighting}
+use Rattle.leaf_bound.specs.Numbers.{naturals, IsSumOf, AreWeightingNumbers, IsBranchBelow, weighting_of}
 use Rattle.leaf_bound.specs.Theorems.{weight_pairs, AreLoadsOf, IsWeightingOf}
 use Rattle.leaf_bound.proofs.LeafWeights.{leaf_has_bound}
+use Rattle.p_hub.proofs.CountedBounds.{leaf_counted}
 use Rattle.search_spec.specs.States.{denominator}
 use Rattle.search_core.proofs.Weightings.{is_sum, below_size}
-use Rattle.closing_search.specs.SingleCuts.{AreLoads, IsOnCut, IsOnNone, cut_bound}
+use Rattle.closing_search.specs.SingleCuts.{AreLoads, IsOnCut, IsOnNone, bound_for, cut_bound}
 
 -- ---- the loads of a cut are within their limit, at each node
 
@@ -132,18 +133,24 @@ on_cut p cut m on =
       few_weights = omega (arith, length-map m.weights.now natural, ap length on.weights_are);
     }
 
+-- by the number of hubs that is wanted, if one is
+leaf_has : (p : Problem) (wanted : Option ℕ) (cuts : List Cut) (m : Weighting) (b : Branching) → p.wanted ≡ wanted → IsWeightingOf p cuts m
+    → IsBranchBelow p.size b → leaf_bound p cuts m.denom (weight_pairs m.weights) b ≡ bound_for wanted m b
+leaf_has p None cuts m b any on below = leaf_has_bound p cuts m b any on below
+leaf_has p (Some n) cuts m b wanted on below = leaf_counted n p cuts m b wanted on below
+
 -- the bound by these weights, as they are lent
 lent_bound : (p : Problem) (cuts : List Cut) (m : lent.Weighting) (ws : List ℤ) (b : Branching) → IsProblem p
-    → p.wanted ≡ None → IsBranch p b → IsWeightingOf p cuts (weighting_of m) → m.weights.now ≡ ws
-    → m.denom ≡ pos denominator → bound_of (weighting_of m) b ≡ leaf_bound p cuts denominator (weight_pairs (naturals ws)) b
-lent_bound p cuts m ws b ok any is on weights denom =
-    sym (leaf_has_bound p cuts (weighting_of m) b any on (below_size p b ok is))
+    → IsBranch p b → IsWeightingOf p cuts (weighting_of m) → m.weights.now ≡ ws
+    → m.denom ≡ pos denominator → bound_for p.wanted (weighting_of m) b ≡ leaf_bound p cuts denominator (weight_pairs (naturals ws)) b
+lent_bound p cuts m ws b ok is on weights denom =
+    sym (leaf_has p p.wanted cuts (weighting_of m) b refl on (below_size p b ok is))
     ∙ ap₂ (λ (d : ℕ) (xs : List ℤ). leaf_bound p cuts d (weight_pairs (naturals xs)) b) (ap natural denom) weights
 
-pub cut_bound_is : (p : Problem) (cut : Cut) (m : lent.Weighting) (b : Branching) → IsProblem p → p.wanted ≡ None
-    → IsBranch p b → IsOnCut p cut m → bound_of (weighting_of m) b ≡ cut_bound p cut b
-cut_bound_is p cut m b ok any is on =
-    lent_bound p (cut ∷ []) m (pos denominator ∷ []) b ok any is (on_cut p cut m on) on.weights_are on.denom_is
+pub cut_bound_is : (p : Problem) (cut : Cut) (m : lent.Weighting) (b : Branching) → IsProblem p
+    → IsBranch p b → IsOnCut p cut m → bound_for p.wanted (weighting_of m) b ≡ cut_bound p cut b
+cut_bound_is p cut m b ok is on =
+    lent_bound p (cut ∷ []) m (pos denominator ∷ []) b ok is (on_cut p cut m on) on.weights_are on.denom_is
 
 on_none : (p : Problem) (m : lent.Weighting) → IsOnNone p m → IsWeightingOf p [] (weighting_of m)
 on_none p m on = record {
@@ -154,10 +161,10 @@ on_none p m on = record {
   few_weights = omega (arith, length-map m.weights.now natural, ap length on.weights_are);
 }
 
-pub none_bound_is : (p : Problem) (m : lent.Weighting) (b : Branching) → IsProblem p → p.wanted ≡ None → IsBranch p b
+pub none_bound_is : (p : Problem) (m : lent.Weighting) (b : Branching) → IsProblem p → IsBranch p b
     → IsOnNone p m
-    → bound_of (weighting_of m) b ≡ leaf_bound p [] denominator [] b
-none_bound_is p m b ok any is on = lent_bound p [] m [] b ok any is (on_none p m on) on.weights_are on.denom_is
+    → bound_for p.wanted (weighting_of m) b ≡ leaf_bound p [] denominator [] b
+none_bound_is p m b ok is on = lent_bound p [] m [] b ok is (on_none p m on) on.weights_are on.denom_is
 
 -- ---- the bound by no cut is not below 0
 

@@ -1,10 +1,10 @@
 -- How the steps of a search follow one another.
-use Rattle.std.proofs.Common.{◌≡◌, ℕ, zero, suc, ◌+◌, ◌-◌, ◌^◌, ◌<◌, ◌≤◌, List, [], ◌∷◌, ◌++◌, length, All, Bool, true, false, IsTrue, Option, None, Some, refl, sym, ap, subst, ◌∙◌, append-nil, pow_pos, arith}
+use Rattle.std.proofs.Common.{◌≡◌, ℕ, zero, suc, ◌+◌, ◌-◌, ◌^◌, ◌<◌, ◌≤◌, List, [], ◌∷◌, ◌++◌, length, Bool, true, false, IsTrue, Option, None, Some, refl, sym, ap, subst, ◌∙◌, append-nil, pow_pos, arith}
 use Rattle.std.proofs.lemmas.List.{length_push, map_push}
 use Rattle.std.proofs.lemmas.List.Elements.{All-push}
 use Rattle.hub_spec.specs.Limits.{most_cuts, most_tree_lines}
 use Rattle.hub_spec.specs.Problem.{Problem}
-use Rattle.hub_spec.specs.Plans.{IsHubSet, IsSetCost}
+use Rattle.hub_spec.specs.Plans.{IsHubSet, HasWanted, IsSetCost}
 use Rattle.hub_spec.specs.Cuts.{Cut}
 use Rattle.hub_spec.specs.Trees.{Branching, root, open_child, closed_child, TreeLine, branch_on}
 use Rattle.hub_spec.specs.Ranges.{IsFirstLine, IsLineInRange}
@@ -18,12 +18,13 @@ use Rattle.search_spec.proofs.Parting.{length-without}
 use Rattle.tree_walks.specs.Walks.{IsSoundLine, filled, Walks}
 use Rattle.tree_walks.proofs.Walking.{goes_on, stays}
 use Rattle.kept_cuts.specs.Kept.{Kept, kept_cut, IsOwn, IsKeptFor, AreKeptFor}
-use Rattle.kept_cuts.specs.Findings.{lines_of}
+use Rattle.kept_cuts.specs.Findings.{lines_of, IsUnlimited}
+use Rattle.closing_search.specs.Ends.{IsEndLine}
 use Rattle.closing_search.specs.declared.task.Task.{Task}
 use Rattle.closing_search.specs.declared.progress.Progress.{Progress}
 use Rattle.closing_search.specs.Gaps.{IsWithinGap}
 use Rattle.closing_search.specs.SingleCuts.{AreLoads}
-use Rattle.closing_search.specs.Progressing.{cuts_of, target_of, WalksTo, IsGoing, IsAt, IsEndLine, MayBeWhole, IsDone, IsHalved, IsAdvised, IsOver}
+use Rattle.closing_search.specs.Progressing.{cuts_of, target_of, WalksTo, IsGoing, IsAt, MayBeWhole, IsDone, IsHalved, IsAdvised, IsOver}
 use Rattle.closing_search.proofs.Gaps.{fallen_within}
 use Rattle.closing_search.proofs.KeptSums.{kept_more}
 
@@ -60,20 +61,20 @@ spent_on (Some most) made more less spent = omega (arith, less, spent)
 
 line_going : (t : Task) (before after : Progress) (line : model.TreeLine) (count : ℕ) → IsGoing t before → HasLine before after line count
     → length after.lines.items ≤ most_tree_lines → IsLineInRange t.instance.now.size (tree_line_of line)
-    → IsFirstLine (tree_line_of line) → before.made ≤ count
+    → (IsUnlimited t.instance.now → IsFirstLine (tree_line_of line)) → before.made ≤ count
     → count ≤ before.made + 2 → AreWithin t.nodes count → IsGoing t after
 line_going t before after line count going has few in_range first more less within = record {
   problem = going.problem;
-  unlimited = going.unlimited;
   kept = subst (AreKeptFor t.instance.now) (sym has.cuts) going.kept;
   own = rw has.cuts going.own;
   few_cuts = rw has.cuts going.few_cuts;
   few_lines = few;
   in_range = rw (has.lines, map_push tree_line_of before.lines.items line)
       (All-push (IsLineInRange t.instance.now.size) (lines_of before.lines.items) (tree_line_of line) going.in_range in_range);
-  first_lines = rw (has.lines, map_push tree_line_of before.lines.items line)
-      (All-push IsFirstLine (lines_of before.lines.items) (tree_line_of line) going.first_lines first);
+  first_lines = λ any. rw (has.lines, map_push tree_line_of before.lines.items line)
+      (All-push IsFirstLine (lines_of before.lines.items) (tree_line_of line) (going.first_lines any) (first any));
   hubs = rw has.hubs going.hubs;
+  wanted = rw has.hubs going.wanted;
   cost = rw (has.hubs, has.cost) going.cost;
   at_most = rw has.cost going.at_most;
   cost_limit = rw has.cost going.cost_limit;
@@ -87,7 +88,7 @@ line_going t before after line count going has few in_range first more less with
 
 pub line_done : (t : Task) (b : Branching) (before after : Progress) (line : model.TreeLine) → IsGoing t before → IsEndLine (tree_line_of line)
     → IsSoundLine t.instance.now (cuts_of t.instance.now before) (target_of before) b (tree_line_of line)
-    → IsLineInRange t.instance.now.size (tree_line_of line) → IsFirstLine (tree_line_of line)
+    → IsLineInRange t.instance.now.size (tree_line_of line) → (IsUnlimited t.instance.now → IsFirstLine (tree_line_of line))
     → length after.lines.items ≤ most_tree_lines
     → HasLine before after line before.made → IsDone t b before after
 line_done t b before after line going end sound in_range first few has =
@@ -111,7 +112,7 @@ line_halved t b k before after line going is sound node within few has =
     record {
       free = sound;
       going = line_going t before after line (before.made + 2) going has few
-          (subst (IsLineInRange p.size) (sym is) node) (subst IsFirstLine (sym is) tt)
+          (subst (IsLineInRange p.size) (sym is) node) (λ any. subst IsFirstLine (sym is) tt)
           (omega arith) (omega arith) within;
       walks = λ first pending walks. subst (λ (l : TreeLine). WalksTo p after first (filled b l pending)) is
           (line_walks p before after line (before.made + 2) b first pending has
@@ -167,14 +168,13 @@ pub record HasOffer (before after : Progress) : Type 0 where
   pub cost : after.cost ≤ before.cost
 
 pub offer_at : (t : Task) (before after : Progress) → IsGoing t before → HasOffer before after → IsHubSet t.instance.now after.hubs
-    → IsSetCost t.instance.now after.hubs after.cost → IsAt t before after
-offer_at t before after going has set is_cost =
+    → HasWanted t.instance.now after.hubs → IsSetCost t.instance.now after.hubs after.cost → IsAt t before after
+offer_at t before after going has set wanted is_cost =
     let p = t.instance.now in
     let falls : lesser after.cost before.left ≤ target_of before = lesser_less after.cost before.cost before.left has.cost in
     record {
       going = record {
         problem = going.problem;
-        unlimited = going.unlimited;
         kept = subst (AreKeptFor p) (sym has.cuts) going.kept;
         own = rw has.cuts going.own;
         few_cuts = rw has.cuts going.few_cuts;
@@ -182,8 +182,9 @@ offer_at t before after going has set is_cost =
         in_range = rw has.lines going.in_range;
         first_lines = rw has.lines going.first_lines;
         hubs = set;
+        wanted = wanted;
         cost = is_cost;
-        at_most = λ most is_most. omega (arith, has.cost, going.at_most most is_most);
+        at_most = λ any most is_most. omega (arith, has.cost, going.at_most any most is_most);
         cost_limit = omega (arith, has.cost, going.cost_limit);
         made = rw (has.lines, has.made) going.made;
         allowed = rw has.made going.allowed;
@@ -220,7 +221,6 @@ cut_at_step t before after cut sum loads going has own fits sums few =
     record {
       going = record {
         problem = going.problem;
-        unlimited = going.unlimited;
         kept = kept_more p before.cuts after.cuts cut sum loads going.kept fits sums has.cuts;
         own = rw has.cuts (All-push IsOwn before.cuts.cuts cut going.own own);
         few_cuts = rw has.cuts (omega (arith, length_push before.cuts.cuts cut, few));
@@ -228,6 +228,7 @@ cut_at_step t before after cut sum loads going has own fits sums few =
         in_range = rw has.lines going.in_range;
         first_lines = rw has.lines going.first_lines;
         hubs = rw has.hubs going.hubs;
+        wanted = rw has.hubs going.wanted;
         cost = rw (has.hubs, has.cost) going.cost;
         at_most = rw has.cost going.at_most;
         cost_limit = rw has.cost going.cost_limit;
@@ -255,7 +256,6 @@ pub left_going : (t : Task) (before : Progress) (stopped : Bool) (low : ℕ) →
     → (stopped ≡ false → IsWithinGap t.gap (lesser before.cost (Some low)) before.cost) → IsGoing t (leaving before stopped low)
 left_going t before stopped low going spent near = record {
   problem = going.problem;
-  unlimited = going.unlimited;
   kept = going.kept;
   own = going.own;
   few_cuts = going.few_cuts;
@@ -263,6 +263,7 @@ left_going t before stopped low going spent near = record {
   in_range = going.in_range;
   first_lines = going.first_lines;
   hubs = going.hubs;
+  wanted = going.wanted;
   cost = going.cost;
   at_most = going.at_most;
   cost_limit = going.cost_limit;

@@ -1,5 +1,5 @@
 -- What is found with no gap.
-use Rattle.std.proofs.Common.{◌≡◌, ℕ, ◌<◌, ◌≤◌, Option, ◌⊎◌, inl, inr, ⊎_elim, arith}
+use Rattle.std.proofs.Common.{◌≡◌, ℕ, ◌<◌, ◌≤◌, Option, ◌⊎◌, ⊎_elim, arith}
 use Rattle.std.specs.Prelude.{length, Result, Ok, Err, IfOk}
 use Rattle.search_spec.specs.Findings.{IsSpent}
 use Rattle.kept_cuts.specs.declared.found.Found.{Found}

@@ -1,14 +1,14 @@
 -- What a search has at each step, and what a step keeps.
-use Rattle.std.specs.Prelude.{◌≡◌, ℕ, ◌+◌, ◌-◌, ◌*◌, ◌^◌, ◌≤◌, Bool, true, false, IsTrue, List, [], ◌∷◌, length, All, Contains}
+use Rattle.std.specs.Prelude.{◌≡◌, ℕ, ◌+◌, ◌-◌, ◌*◌, ◌^◌, ◌≤◌, Bool, true, false, IsTrue, List, [], ◌∷◌, length, All, Contains, None}
 use Rattle.hub_spec.specs.Limits.{most_cost, most_cuts, most_tree_lines}
 use Rattle.hub_spec.specs.Problem.{Problem, IsProblem}
-use Rattle.hub_spec.specs.Plans.{IsHubSet, IsSetCost}
+use Rattle.hub_spec.specs.Plans.{IsHubSet, HasWanted, IsSetCost}
 use Rattle.hub_spec.specs.Cuts.{Cut}
-use Rattle.hub_spec.specs.Trees.{Branching, root, open_child, closed_child, TreeLine}
+use Rattle.hub_spec.specs.Trees.{Branching, root, open_child, closed_child}
 use Rattle.hub_spec.specs.Ranges.{IsFirstLine, IsLineInRange}
 use Rattle.search_spec.specs.States.{lesser}
 use Rattle.search_spec.specs.Findings.{AreWithin, IsSpent, IsEnough}
-use Rattle.tree_walks.specs.Walks.{filled, Walks}
+use Rattle.tree_walks.specs.Walks.{Walks}
 use Rattle.kept_cuts.specs.Kept.{kept_cuts, IsOwn, AreKeptFor}
 use Rattle.kept_cuts.specs.Findings.{lines_of, IsUnlimited}
 use Rattle.closing_search.specs.declared.task.Task.{Task}
@@ -27,21 +27,27 @@ target_of s = lesser s.cost s.left
 abbrev pub WalksTo : Problem → Progress → List Branching → List Branching → Type 0
 WalksTo p s first last = Walks p (cuts_of p s) (target_of s) first (lines_of s.lines.items) last
 
--- what holds at each step: of the task, of the cuts, none of which was given, the lines, which each version spells, and the
--- incumbent, which costs at most what all candidates cost, of the nodes, and of the gap: unless the search stopped, what its
--- leaves close is within it
+-- what a search may begin with: hubs that are as many as are wanted, or all candidates
+pub record AreFirstHubs (p : Problem) (hubs : List ℕ) : Type 0 where
+  pub is_set : IsHubSet p hubs
+  pub wanted : HasWanted p hubs
+  pub all : p.wanted ≡ None → hubs ≡ p.candidates
+
+-- what holds at each step: of the task, of the cuts, none of which was given, the lines, which each version spells where nothing
+-- is limited, and the incumbent, which has as many hubs as are wanted, or else costs at most what all candidates cost, of the
+-- nodes, and of the gap: unless the search stopped, what its leaves close is within it
 pub record IsGoing (t : Task) (s : Progress) : Type 0 where
   pub problem : IsProblem t.instance.now
-  pub unlimited : IsUnlimited t.instance.now
   pub kept : AreKeptFor t.instance.now s.cuts
   pub own : All IsOwn s.cuts.cuts
   pub few_cuts : length s.cuts.cuts ≤ most_cuts
   pub few_lines : length s.lines.items ≤ most_tree_lines
   pub in_range : All (IsLineInRange t.instance.now.size) (lines_of s.lines.items)
-  pub first_lines : All IsFirstLine (lines_of s.lines.items)
+  pub first_lines : IsUnlimited t.instance.now → All IsFirstLine (lines_of s.lines.items)
   pub hubs : IsHubSet t.instance.now s.hubs
+  pub wanted : HasWanted t.instance.now s.hubs
   pub cost : IsSetCost t.instance.now s.hubs s.cost
-  pub at_most : (all : ℕ) → IsSetCost t.instance.now t.instance.now.candidates all → s.cost ≤ all
+  pub at_most : t.instance.now.wanted ≡ None → (all : ℕ) → IsSetCost t.instance.now t.instance.now.candidates all → s.cost ≤ all
   pub cost_limit : s.cost ≤ most_cost
   pub made : s.made ≤ 2 * length s.lines.items + 1
   pub allowed : AreWithin t.nodes s.made
@@ -56,10 +62,6 @@ pub record IsAt (t : Task) (before after : Progress) : Type 0 where
   pub lines : length after.lines.items ≡ length before.lines.items
   pub made : after.made ≡ before.made
   pub stopped : after.stopped ≡ before.stopped
-
--- a line after which nothing more is to be filled
-abbrev pub IsEndLine : TreeLine → Type 0
-IsEndLine line = (b : Branching) (pending : List Branching) → filled b line pending ≡ pending
 
 -- a whole tree of the branch is allowed: 2 ^ (free nodes + 1) - 1 nodes, of which the branch itself is made
 abbrev pub MayBeWhole : Task → Branching → Progress → Type 0

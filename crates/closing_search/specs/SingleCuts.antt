@@ -6,7 +6,9 @@ use Rattle.hub_spec.specs.Cuts.{Cut, total, load, IsCut}
 use Rattle.hub_spec.specs.Separation.{IsOrder}
 use Rattle.hub_spec.specs.Trees.{Branching, leaf_bound, Closes}
 use Rattle.leaf_bound.specs.declared.weightings.Weighting as lent
+use Rattle.leaf_bound.specs.Bounds.{Weighting, bound_of}
 use Rattle.leaf_bound.specs.Numbers.{rows_of}
+use Rattle.p_hub.specs.Counted.{counted_of}
 use Rattle.search_spec.specs.States.{denominator, whole_on}
 use Rattle.closing_search.specs.declared.leaves.Choice.{Choice}
 use Rattle.closing_search.specs.declared.leaves.OrderedSet.{OrderedSet}
@@ -44,6 +46,11 @@ pub record IsOnNone (p : Problem) (m : lent.Weighting) : Type 0 where
   pub weights_are : m.weights.now ≡ []
   pub denom_is : m.denom ≡ pos denominator
 
+-- the bound of a branch under weights that are lent, by the number of hubs that is wanted, if one is
+abbrev pub bound_for : Option ℕ → Weighting → Branching → ℤ
+bound_for None m b = bound_of m b
+bound_for (Some n) m b = counted_of n m b
+
 -- the bound of a branch by the cut alone
 abbrev pub cut_bound : Problem → Cut → Branching → ℤ
 cut_bound p cut b = leaf_bound p (cut ∷ []) denominator (whole_on 1) b
@@ -64,8 +71,8 @@ pub record IsChoice (p : Problem) (cuts : List Cut) (b : Branching) (choice : Ch
   pub bound : choice.bound ≡ leaf_bound p cuts denominator (weights_on choice.number) b
   pub low : pos 0 ≤ℤ choice.bound
 
--- the hubs of the branch, and an order of the other candidates
-pub record IsOrderedSet (p : Problem) (b : Branching) (inside : OrderedSet) : Type 0 where
-  pub hubs : inside.set ≡ b.inside
-  pub is_set : IsHubSet p inside.set
-  pub is_order : IsOrder p inside.set inside.order.items
+-- the hub set, and an order of the other candidates
+pub record IsOrderedSet (p : Problem) (set : List ℕ) (ordered : OrderedSet) : Type 0 where
+  pub hubs : ordered.set ≡ set
+  pub is_set : IsHubSet p ordered.set
+  pub is_order : IsOrder p ordered.set ordered.order.items

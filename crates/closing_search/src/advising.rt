@@ -1,16 +1,16 @@
 //! Advice at a node: passes better the values, and guess the incumbent.
 
 ghost use Rattle.std.specs.Prelude.{◌≤◌, length, IfOk, OnOk, Contains};
-ghost use Rattle.hub_spec.specs.Trees.{IsBranch};
+ghost use Rattle.hub_spec.specs.Trees.{IsBranch, HasRoom};
 ghost use Rattle.closing_search.specs.Progressing.{IsGoing, IsAt, IsAdvised};
 ghost use Rattle.closing_search.specs.Walking.{IsWalking, IsSameWalk};
 
 use crate::progress::{Progress, goal, offer};
 use crate::task::Task;
 use crate::walker::Walker;
-use assign_sub::set_cost;
+use assign_sub::{lacking, set_cost};
 use hub_model::{signed, unsigned};
-use hub_plain::is_candidate_set;
+use hub_plain::{has_wanted, is_candidate_set};
 use plan_model::{Branch, HubSet};
 use search_advice::Advice;
 use std::alloc::{AllocError, Global};
@@ -28,6 +28,7 @@ impl<R: Threads + Sync, A: Advice + Drop> Walker<'_, R, A> {
     pub(crate) fn end_by_advice(&mut self, branch: &Branch) -> Result<bool, AllocError>
         requires walking { IsWalking self.old.walk }
         requires branch { IsBranch self.old.walk.task.now.instance.now branch.now }
+        requires room { HasRoom self.old.walk.task.now.instance.now.wanted branch.now }
         requires some_free { 1 ≤ length branch.now.free }
         ensures same { IsSameWalk self.old.walk self.new.walk }
         ensures advised { let w = self.old.walk in
@@ -111,8 +112,8 @@ fn most_passes(branch: &Branch) -> u32 {
     }
 }
 
-// Makes the nodes the incumbent, if they are a set of candidates and cost less. No route is forbidden, so that any
-// candidates will do.
+// Makes the nodes the incumbent, if they are a set of candidates, as many as are wanted, that lacks no commodity and costs
+// less.
 fn offer_nodes(
     alloc: Global,
     task: &Task,
@@ -122,10 +123,13 @@ fn offer_nodes(
     requires { IsGoing task.now progress.old }
     ensures { OnOk result (IsAt task.now progress.old progress.new) }
 {
-    if !is_candidate_set(task.instance, hubs) {
+    if !is_candidate_set(task.instance, hubs) || !has_wanted(task.instance, hubs) {
         return Ok(());
     }
     let set = HubSet::of(alloc, hubs)?;
+    if lacking(task.instance, &set).is_some() {
+        return Ok(());
+    }
     let cost = unsigned(set_cost(task.instance, &set));
     offer(task, set, cost, progress);
     Ok(())

@@ -1,15 +1,16 @@
 //! The bound of one cut alone.
 
-ghost use Rattle.std.specs.Prelude.{◌≡◌, ◌≤◌, [], map, length, None, IsTrue, IfOk};
+ghost use Rattle.std.specs.Prelude.{◌≡◌, ◌≤◌, [], map, length, IsTrue, IfOk};
 ghost use Rattle.hub_spec.specs.Problem.{IsProblem};
 ghost use Rattle.hub_spec.specs.Cuts.{Cut};
-ghost use Rattle.hub_spec.specs.Trees.{IsBranch, leaf_bound, cut_at, Closes};
+ghost use Rattle.hub_spec.specs.Trees.{IsBranch, HasRoom, leaf_bound, cut_at, Closes};
 ghost use Rattle.hub_spec.specs.Limits.{most_cost};
+ghost use Rattle.leaf_bound.specs.Numbers.{AreWeightingNumbers, IsBranchBelow, weighting_of};
 ghost use Rattle.leaf_bound.specs.Weighing.{most_bound, IsWithin};
 ghost use Rattle.search_spec.specs.States.{denominator};
 ghost use Rattle.closing_search.specs.Gaps.{goal_of};
 ghost use Rattle.closing_search.specs.Progressing.{cuts_of, IsGoing};
-ghost use Rattle.closing_search.specs.SingleCuts.{AreLoads, AreLentOf, IsOnCut, IsOnNone, cut_bound, ClosesBy};
+ghost use Rattle.closing_search.specs.SingleCuts.{AreLoads, AreLentOf, IsOnCut, IsOnNone, bound_for, cut_bound, ClosesBy};
 
 use crate::progress::{Progress, goal};
 use crate::task::Task;
@@ -17,6 +18,7 @@ use crate::walk::Walk;
 use hub_model::{Instance, signed};
 use kept_cuts::signed_row;
 use leaf_bound::{Weighting, bound, threshold};
+use p_hub::bound_p;
 use plan_model::Branch;
 use search_core::WHOLE_WEIGHT;
 use std::alloc::AllocError;
@@ -62,20 +64,35 @@ fn bare_weighting<'a>(instance: &'a Instance) -> Weighting<'a>
     }
 }
 
+// The bound of the branch, which has room, under these weights: by the number of hubs that is wanted, if one is.
+fn bound_by_number(instance: &Instance, weighting: &Weighting, branch: &Branch) -> i128
+    requires numbers { AreWeightingNumbers weighting.now }
+    requires nodes { IsBranchBelow (length weighting.now.fixed.now) branch.now }
+    requires room { HasRoom instance.now.wanted branch.now }
+    ensures value { result ≡ bound_for instance.now.wanted (weighting_of weighting.now) branch.now }
+    ensures limit { IsWithin most_bound result }
+{
+    match instance.wanted() {
+        None => bound(weighting, branch),
+        Some(hubs) => bound_p(weighting, branch, hubs),
+    }
+}
+
 /// The bound of the branch by no cut.
 pub(crate) fn bare_bound(instance: &Instance, branch: &Branch) -> i128
-    requires any_number { instance.now.wanted ≡ None }
     requires branch { IsBranch instance.now branch.now }
+    requires room { HasRoom instance.now.wanted branch.now }
     ensures bound { result ≡ leaf_bound instance.now [] denominator [] branch.now }
     ensures limit { IsWithin most_bound result }
 {
-    bound(&bare_weighting(instance), branch)
+    bound_by_number(instance, &bare_weighting(instance), branch)
 }
 
 /// The bound of the branch by the kept cut of this number alone.
 pub(crate) fn kept_bound(task: &Task, branch: &Branch, progress: &Progress, number: u64) -> i128
     requires going { IsGoing task.now progress.now }
     requires branch { IsBranch task.now.instance.now branch.now }
+    requires room { HasRoom task.now.instance.now.wanted branch.now }
     requires least { 1 ≤ number }
     requires most { number ≤ length progress.now.cuts.cuts }
     ensures bound { let p = task.now.instance.now in result ≡ cut_bound p (cut_at (cuts_of p progress.now) number) branch.now }
@@ -85,7 +102,8 @@ pub(crate) fn kept_bound(task: &Task, branch: &Branch, progress: &Progress, numb
     let totals = &progress.cuts.totals()[start..start + 1];
     let loads = &progress.cuts.loads()[start..start + 1];
     let parts = &progress.cuts.parts()[start..start + 1];
-    bound(&cut_weighting(task.instance, totals, loads, parts), branch)
+    let weighting = cut_weighting(task.instance, totals, loads, parts);
+    bound_by_number(task.instance, &weighting, branch)
 }
 
 impl Walk<'_> {
@@ -94,6 +112,7 @@ impl Walk<'_> {
     pub(crate) fn sums_close(&self, branch: &Branch, total: u128) -> Result<bool, AllocError>
         requires going { IsGoing self.now.task.now self.now.progress }
         requires branch { IsBranch self.now.task.now.instance.now branch.now }
+        requires room { HasRoom self.now.task.now.instance.now.wanted branch.now }
         requires sums { (cut : Cut) × AreLoads self.now.task.now.instance.now cut total self.now.bench.loads }
         ensures { let p = self.now.task.now.instance.now in
             IfOk result (λ yes. (cut : Cut) → AreLoads p cut total self.now.bench.loads → IsTrue yes
@@ -103,7 +122,8 @@ impl Walk<'_> {
         let rows = vec![in self.alloc; row]?;
         let totals = [signed(total)];
         let weighting = cut_weighting(self.task.instance, &totals, &rows, &PART);
-        Ok(is_above(bound(&weighting, branch), goal(self.task, &self.progress)))
+        let by_cut = bound_by_number(self.task.instance, &weighting, branch);
+        Ok(is_above(by_cut, goal(self.task, &self.progress)))
     }
 }
 

@@ -1,15 +1,15 @@
 //! The leaves of the tree.
 
-ghost use Rattle.std.specs.Prelude.{◌≡◌, ◌≤◌, ◌+◌, [], ◌∷◌, pos, length, ◌≤ℤ◌, ◌⊎◌, false, IfOk, IfSome, OnOk};
+ghost use Rattle.std.specs.Prelude.{◌≡◌, ◌≤◌, ◌+◌, length, ◌≤ℤ◌, ◌⊎◌, false, IfOk, IfSome, OnOk};
 ghost use Rattle.hub_spec.specs.Limits.{most_cost};
 ghost use Rattle.hub_spec.specs.Problem.{opening_cost};
-ghost use Rattle.hub_spec.specs.Plans.{IsHubSet, IsSetCost};
-ghost use Rattle.hub_spec.specs.Trees.{IsBranch, leaf_of, leaf_bound, cut_at};
+ghost use Rattle.hub_spec.specs.Plans.{IsHubSet, HasWanted, IsSetCost};
+ghost use Rattle.hub_spec.specs.Trees.{IsBranch, HasRoom, leaf_of, leaf_bound, cut_at};
 ghost use Rattle.plan_model.specs.Lines.{tree_line_of};
 ghost use Rattle.leaf_bound.specs.Weighing.{most_bound, IsWithin};
 ghost use Rattle.search_spec.specs.States.{denominator};
 ghost use Rattle.search_spec.specs.Findings.{IsSpent};
-ghost use Rattle.kept_cuts.specs.Findings.{IsUnlimited};
+ghost use Rattle.closing_search.specs.Ends.{IsLastSet};
 ghost use Rattle.closing_search.specs.Gaps.{goal_of};
 ghost use Rattle.closing_search.specs.Progressing.{cuts_of, IsGoing, IsAt, IsDone};
 ghost use Rattle.closing_search.specs.Walking.{IsWalking, IsSameWalk};
@@ -35,6 +35,7 @@ impl Walk<'_> {
         requires least { 1 ≤ number }
         requires most { number ≤ length self.old.progress.cuts.cuts }
         requires branch { IsBranch self.old.task.now.instance.now branch.now }
+        requires room { HasRoom self.old.task.now.instance.now.wanted branch.now }
         requires closes { let p = self.old.task.now.instance.now in
             ClosesBy p (cut_at (cuts_of p self.old.progress) number) (goal_of self.old.task.now.gap self.old.progress.cost) branch.now }
         ensures same { IsSameWalk self.old self.new }
@@ -50,6 +51,7 @@ impl Walk<'_> {
     pub(crate) fn closing_cut(&self, branch: &Branch) -> Option<u64>
         requires going { IsGoing self.now.task.now self.now.progress }
         requires branch { IsBranch self.now.task.now.instance.now branch.now }
+        requires room { HasRoom self.now.task.now.instance.now.wanted branch.now }
         ensures least { IfSome result (λ c. 1 ≤ c) }
         ensures most { IfSome result (λ c. c ≤ length self.now.progress.cuts.cuts) }
         ensures closes { let p = self.now.task.now.instance.now in
@@ -66,20 +68,26 @@ impl Walk<'_> {
         None
     }
 
-    /// Ends a branch in which no node is free with the leaf of the cut of its hubs. They become the incumbent, if they
-    /// cost less.
-    pub(crate) fn set_leaf(&mut self, branch: &Branch) -> Result<(), AllocError>
+    /// Ends the branch with the leaf of the cut of the one hub set that is left in it, which becomes the incumbent, if it costs
+    /// less.
+    pub(crate) fn set_leaf(&mut self, branch: &Branch, set: HubSet) -> Result<(), AllocError>
         requires walking { IsWalking self.old }
         requires branch { IsBranch self.old.task.now.instance.now branch.now }
-        requires some_inside { 1 ≤ length branch.now.inside }
-        requires none_free { branch.now.free ≡ [] }
+        requires room { HasRoom self.old.task.now.instance.now.wanted branch.now }
+        requires last { IsLastSet self.old.task.now.instance.now branch.now set }
         ensures same { IsSameWalk self.old self.new }
         ensures done { OnOk result (IsDone self.old.task.now branch.now self.old.progress self.new.progress) }
     {
-        let inside = ordered_set(self.alloc, self.task, branch)?;
-        let total = self.bench.set_sums(&inside.set, &inside.order);
-        offer_inside(self.alloc, self.task, branch, total, &mut self.progress)?;
-        let cut = KeptCut::Set(inside.set, inside.order);
+        let ordered = with_order(self.alloc, self.task, set)?;
+        let total = self.bench.set_sums(&ordered.set, &ordered.order);
+        offer_set(
+            self.alloc,
+            self.task,
+            &ordered.set,
+            total,
+            &mut self.progress,
+        )?;
+        let cut = KeptCut::Set(ordered.set, ordered.order);
         let number = self.keep(cut, total)?;
         self.cut_leaf(branch, number)
     }
@@ -88,6 +96,7 @@ impl Walk<'_> {
     pub(crate) fn stopped_leaf(&mut self, branch: &Branch) -> Result<(), AllocError>
         requires going { IsGoing self.old.task.now self.old.progress }
         requires branch { IsBranch self.old.task.now.instance.now branch.now }
+        requires room { HasRoom self.old.task.now.instance.now.wanted branch.now }
         requires spent { IsSpent self.old.task.now.nodes self.old.progress.made }
         requires due { self.old.progress.stopped ≡ false → 1 ≤ length branch.now.free }
         ensures same { IsSameWalk self.old self.new }
@@ -112,41 +121,39 @@ fn leaf_line(alloc: Global, number: Option<u64>) -> Result<TreeLine, AllocError>
     }
 }
 
-/// The hubs of a branch, with the other candidates in the order for their cut.
+/// A hub set, with the other candidates in the order for its cut.
 #[derive(Drop)]
 pub(crate) struct OrderedSet {
     pub(crate) set: HubSet,
     pub(crate) order: Vec<u32>,
 }
 
-fn ordered_set(alloc: Global, task: &Task, branch: &Branch) -> Result<OrderedSet, AllocError>
-    requires unlimited { IsUnlimited task.now.instance.now }
-    requires branch { IsBranch task.now.instance.now branch.now }
-    requires some_inside { 1 ≤ length branch.now.inside }
-    ensures { IfOk result (IsOrderedSet task.now.instance.now branch.now) }
+fn with_order(alloc: Global, task: &Task, set: HubSet) -> Result<OrderedSet, AllocError>
+    requires { IsHubSet task.now.instance.now set }
+    ensures { IfOk result (IsOrderedSet task.now.instance.now set) }
 {
-    let set = HubSet::of(alloc, branch.inside())?;
     let order = outside(alloc, task.instance, &set)?;
     Ok(OrderedSet { set, order })
 }
 
-// Makes the hubs of the branch the incumbent, if they cost less: the total of their cut, and what they cost to open.
-fn offer_inside(
+// Makes the set the incumbent, if it costs less: the total of its cut, and what its hubs cost to open.
+fn offer_set(
     alloc: Global,
     task: &Task,
-    branch: &Branch,
+    set: &HubSet,
     total: u128,
     progress: &mut Progress,
 ) -> Result<(), AllocError>
     requires going { IsGoing task.now progress.old }
-    requires set { IsHubSet task.now.instance.now branch.now.inside }
+    requires set { IsHubSet task.now.instance.now set.now }
+    requires wanted { HasWanted task.now.instance.now set.now }
     requires total { total ≤ most_cost }
-    requires cost { let p = task.now.instance.now in IsSetCost p branch.now.inside (total + opening_cost p branch.now.inside) }
+    requires cost { let p = task.now.instance.now in IsSetCost p set.now (total + opening_cost p set.now) }
     ensures at { OnOk result (IsAt task.now progress.old progress.new) }
-    ensures reached { OnOk result (progress.new.cost ≤ total + opening_cost task.now.instance.now branch.now.inside) }
+    ensures reached { OnOk result (progress.new.cost ≤ total + opening_cost task.now.instance.now set.now) }
 {
-    let cost = total + task.instance.opening_cost(branch.inside());
-    let hubs = HubSet::of(alloc, branch.inside())?;
+    let cost = total + task.instance.opening_cost(set.members());
+    let hubs = set.copy(alloc)?;
     offer(task, hubs, cost, progress);
     Ok(())
 }
@@ -162,6 +169,7 @@ pub(crate) struct Choice {
 fn best_choice(task: &Task, branch: &Branch, progress: &Progress) -> Choice
     requires going { IsGoing task.now progress.now }
     requires branch { IsBranch task.now.instance.now branch.now }
+    requires room { HasRoom task.now.instance.now.wanted branch.now }
     ensures choice { let p = task.now.instance.now in IsChoice p (cuts_of p progress.now) branch.now result }
     ensures limit { IsWithin most_bound result.bound }
 {

@@ -2,13 +2,13 @@
 
 ghost use Rattle.std.specs.Prelude.{◌≡◌, ℕ, ◌+◌, ◌^◌, ◌≤◌, ◌<◌, [], ◌∷◌, ◌⊎◌, length, None, false, IfOk};
 ghost use Rattle.std.specs.List.{AllZip};
-ghost use Rattle.hub_spec.specs.Problem.{commodities};
-ghost use Rattle.hub_spec.specs.Plans.{IsSetCost, IsLeastRoute, NoPlanBelow};
+ghost use Rattle.hub_spec.specs.Problem.{IsProblem, commodities};
+ghost use Rattle.hub_spec.specs.Plans.{IsHubSet, IsSetCost, IsLeastRoute, NoPlanBelow};
 ghost use Rattle.hub_spec.specs.Trees.{root};
 ghost use Rattle.search_spec.specs.Findings.{AreWithin, IsSpent, IsEnough};
-ghost use Rattle.kept_cuts.specs.Findings.{IsUnlimited, AreOwn, IsProved};
+ghost use Rattle.kept_cuts.specs.Findings.{AreOwn, IsProved};
 ghost use Rattle.closing_search.specs.Gaps.{most_gap, IsWithinGap};
-ghost use Rattle.closing_search.specs.Progressing.{IsGoing, IsDone, IsOver};
+ghost use Rattle.closing_search.specs.Progressing.{AreFirstHubs, IsGoing, IsDone, IsOver};
 
 use crate::progress::{Progress, target};
 use crate::task::Task;
@@ -21,10 +21,13 @@ use search_advice::Advice;
 use std::alloc::{AllocError, Global};
 use std::thread::Threads;
 
-/// A plan with the cuts and the tree that bound what any plan costs, where no length of routes is limited and any
-/// number of hubs will do. `nodes` is the most nodes of the tree, the root among them; with `None` they are not
-/// limited. The routes are least ones through the hubs of the plan, and it costs at most what all candidates as hubs
-/// cost, since the search begins with them.
+/// A wanted plan with the cuts and the tree that bound what any wanted plan costs. `nodes` is the most nodes of the tree,
+/// the root among them; with `None` they are not limited. The routes are least ones through the hubs of the plan, of those
+/// that are allowed. Where any number of hubs will do it costs at most what all candidates as hubs cost, since the search
+/// begins with them; else it begins with the first candidates, as many as are wanted.
+///
+/// All candidates together lack no commodity: else there is no plan, which is for who calls to say (`assign_sub::lacking`).
+/// Where no length of routes is limited that is so (`all_candidates_serve`).
 ///
 /// Only where two nodes more are not allowed the search stops, and then the bound may be below the cost. Else both are
 /// equal and the plan is optimal. So many nodes as a whole tree has, 2^(q + 1) - 1 for q candidates, are always enough.
@@ -41,12 +44,12 @@ pub fn optimize<R: Threads + Sync, A: Advice + Drop>(
     nodes: Option<u64>,
     advice: A,
 ) -> Result<Found, AllocError>
-    requires any_length { instance.now.longest ≡ None }
-    requires any_number { instance.now.wanted ≡ None }
+    requires lacks_none { IsHubSet instance.now instance.now.candidates }
     ensures proved { IfOk result (IsProved instance.now) }
     ensures own { IfOk result AreOwn }
     ensures routes { IfOk result (λ found. AllZip (IsLeastRoute instance.now found.plan.hubs) (commodities instance.now.size) found.plan.routes) }
-    ensures at_most { IfOk result (λ found. (cost : ℕ) → IsSetCost instance.now instance.now.candidates cost → found.cost ≤ cost) }
+    ensures at_most { instance.now.wanted ≡ None
+        → IfOk result (λ found. (cost : ℕ) → IsSetCost instance.now instance.now.candidates cost → found.cost ≤ cost) }
     ensures within { IfOk result (λ found. found.bound ≤ found.cost) }
     ensures below { IfOk result (λ found. NoPlanBelow instance.now found.bound) }
     ensures most { IfOk result (λ found. length found.tree.items + 1 ≤ 2 ^ (length instance.now.candidates + 1)) }
@@ -68,13 +71,13 @@ pub fn optimize_within<R: Threads + Sync, A: Advice + Drop>(
     gap: u32,
     advice: A,
 ) -> Result<Found, AllocError>
-    requires any_length { instance.now.longest ≡ None }
-    requires any_number { instance.now.wanted ≡ None }
+    requires lacks_none { IsHubSet instance.now instance.now.candidates }
     requires gap { gap ≤ most_gap }
     ensures proved { IfOk result (IsProved instance.now) }
     ensures own { IfOk result AreOwn }
     ensures routes { IfOk result (λ found. AllZip (IsLeastRoute instance.now found.plan.hubs) (commodities instance.now.size) found.plan.routes) }
-    ensures at_most { IfOk result (λ found. (cost : ℕ) → IsSetCost instance.now instance.now.candidates cost → found.cost ≤ cost) }
+    ensures at_most { instance.now.wanted ≡ None
+        → IfOk result (λ found. (cost : ℕ) → IsSetCost instance.now instance.now.candidates cost → found.cost ≤ cost) }
     ensures within { IfOk result (λ found. found.bound ≤ found.cost) }
     ensures below { IfOk result (λ found. NoPlanBelow instance.now found.bound) }
     ensures most { IfOk result (λ found. length found.tree.items + 1 ≤ 2 ^ (length instance.now.candidates + 1)) }
@@ -107,16 +110,16 @@ fn fill_tree<'a, R: Threads + Sync, A: Advice + Drop>(
     Ok(walk.progress)
 }
 
-// No cut and no line, with the set of all candidates as the first incumbent.
+// No cut and no line, and the first incumbent.
 fn begin(alloc: Global, task: &Task) -> Result<Progress, AllocError>
-    requires unlimited { IsUnlimited task.now.instance.now }
+    requires lacks_none { IsHubSet task.now.instance.now task.now.instance.now.candidates }
     requires gap { task.now.gap ≤ most_gap }
     ensures going { IfOk result (IsGoing task.now) }
     ensures no_line { IfOk result (λ s. s.lines.items ≡ []) }
     ensures one_node { IfOk result (λ s. s.made ≡ 1) }
     ensures no_stop { IfOk result (λ s. s.stopped ≡ false) }
 {
-    let hubs = HubSet::of(alloc, task.instance.candidates())?;
+    let hubs = HubSet::of(alloc, first_hubs(task.instance))?;
     let cost = unsigned(set_cost(task.instance, &hubs));
     Ok(Progress {
         cuts: KeptCuts::new(alloc),
@@ -129,6 +132,19 @@ fn begin(alloc: Global, task: &Task) -> Result<Progress, AllocError>
     })
 }
 
+// The hubs of the first incumbent: all candidates, or the first ones, as many as are wanted.
+fn first_hubs(instance: &Instance) -> &[u32]
+    requires lacks_none { IsHubSet instance.now instance.now.candidates }
+    ensures problem { IsProblem instance.now }
+    ensures first { AreFirstHubs instance.now result.now }
+{
+    let candidates = instance.candidates();
+    match instance.wanted() {
+        None => candidates,
+        Some(hubs) => &candidates[..hubs as usize],
+    }
+}
+
 // The incumbent with its least routes, and what no plan costs less than.
 fn finish(alloc: Global, task: &Task, progress: Progress) -> Result<Found, AllocError>
     requires { IsOver task.now progress }
@@ -136,7 +152,8 @@ fn finish(alloc: Global, task: &Task, progress: Progress) -> Result<Found, Alloc
     ensures own { IfOk result AreOwn }
     ensures routes { let p = task.now.instance.now in
         IfOk result (λ found. AllZip (IsLeastRoute p found.plan.hubs) (commodities p.size) found.plan.routes) }
-    ensures at_most { let p = task.now.instance.now in IfOk result (λ found. (cost : ℕ) → IsSetCost p p.candidates cost → found.cost ≤ cost) }
+    ensures at_most { let p = task.now.instance.now in p.wanted ≡ None
+        → IfOk result (λ found. (cost : ℕ) → IsSetCost p p.candidates cost → found.cost ≤ cost) }
     ensures within { IfOk result (λ found. found.bound ≤ found.cost) }
     ensures below { IfOk result (λ found. NoPlanBelow task.now.instance.now found.bound) }
     ensures most { IfOk result (λ found. length found.tree.items + 1 ≤ 2 ^ (length task.now.instance.now.candidates + 1)) }

@@ -2,14 +2,16 @@
 
 ghost use Rattle.std.specs.Prelude.{◌≡◌, ◌+◌, ◌≤◌, IsTrue, false, Contains, OnOk};
 ghost use Rattle.hub_spec.specs.Limits.{most_cost};
-ghost use Rattle.hub_spec.specs.Plans.{IsHubSet, IsSetCost};
+ghost use Rattle.hub_spec.specs.Plans.{IsHubSet, HasWanted, IsSetCost};
 ghost use Rattle.hub_spec.specs.Trees.{IsBranch};
 ghost use Rattle.hub_spec.specs.Ranges.{IsFirstLine, IsLineInRange};
 ghost use Rattle.plan_model.specs.Lines.{tree_line_of};
 ghost use Rattle.search_spec.specs.Findings.{AreWithin, IsSpent};
 ghost use Rattle.tree_walks.specs.Walks.{IsSoundLine};
+ghost use Rattle.kept_cuts.specs.Findings.{IsUnlimited};
+ghost use Rattle.closing_search.specs.Ends.{IsEndLine};
 ghost use Rattle.closing_search.specs.Gaps.{goal_of};
-ghost use Rattle.closing_search.specs.Progressing.{cuts_of, target_of, IsGoing, IsAt, IsDone, IsHalved, IsEndLine};
+ghost use Rattle.closing_search.specs.Progressing.{cuts_of, target_of, IsGoing, IsAt, IsDone, IsHalved};
 
 use crate::task::{MOST_GAP, Task};
 use kept_cuts::KeptCuts;
@@ -57,7 +59,7 @@ pub(crate) fn end_with(
     requires end { IsEndLine (tree_line_of line) }
     requires sound { IsSoundLine task.now.instance.now (cuts_of task.now.instance.now progress.old) (target_of progress.old) branch.now (tree_line_of line) }
     requires in_range { IsLineInRange task.now.instance.now.size (tree_line_of line) }
-    requires first { IsFirstLine (tree_line_of line) }
+    requires first { IsUnlimited task.now.instance.now → IsFirstLine (tree_line_of line) }
     ensures { OnOk result (IsDone task.now branch.now progress.old progress.new) }
 {
     add_line(&mut progress.lines, line)?;
@@ -91,10 +93,11 @@ pub(crate) fn may_split(task: &Task, progress: &Progress) -> bool
     task.allows_two(progress.made)
 }
 
-/// Makes the set the incumbent, if it costs less.
+/// Makes the set, which has as many hubs as are wanted, the incumbent, if it costs less.
 pub(crate) fn offer(task: &Task, set: HubSet, cost: u128, progress: &mut Progress)
     requires going { IsGoing task.now progress.old }
     requires set { IsHubSet task.now.instance.now set }
+    requires wanted { HasWanted task.now.instance.now set }
     requires cost { IsSetCost task.now.instance.now set cost }
     ensures at { IsAt task.now progress.old progress.new }
     ensures reached { progress.new.cost ≤ cost }

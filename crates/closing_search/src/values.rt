@@ -1,7 +1,7 @@
 //! The cut of the values of the advice, at a branch.
 
 ghost use Rattle.std.specs.Prelude.{◌≡◌, ◌≤◌, length, IsTrue, IfOk, OnOk};
-ghost use Rattle.hub_spec.specs.Trees.{IsBranch, cut_at};
+ghost use Rattle.hub_spec.specs.Trees.{IsBranch, HasRoom, cut_at};
 ghost use Rattle.value_cuts.specs.Values.{AreValuesFor, value_cut};
 ghost use Rattle.closing_search.specs.Progressing.{cuts_of, target_of, IsGoing, IsAt, IsAdvised};
 ghost use Rattle.closing_search.specs.SingleCuts.{AreLoads, ClosesBy};
@@ -22,6 +22,7 @@ impl Walk<'_> {
     ) -> Result<bool, AllocError>
         requires walking { IsWalking self.old }
         requires branch { IsBranch self.old.task.now.instance.now branch.now }
+        requires room { HasRoom self.old.task.now.instance.now.wanted branch.now }
         requires some_free { 1 ≤ length branch.now.free }
         ensures same { IsSameWalk self.old self.new }
         ensures advised { IfOk result (λ ended. IsAdvised self.old.task.now branch.now self.old.progress self.new.progress ended) }

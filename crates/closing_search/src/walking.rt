@@ -6,9 +6,10 @@ ghost use Rattle.search_spec.specs.Findings.{AreWithin};
 ghost use Rattle.closing_search.specs.Progressing.{IsDone};
 ghost use Rattle.closing_search.specs.Walking.{IsWalking, IsSameWalk};
 
+use crate::ends::{barren_line, last_set};
 use crate::progress::{end_with, split_on};
 use crate::walker::Walker;
-use plan_model::{Branch, TreeLine};
+use plan_model::Branch;
 use search_advice::Advice;
 use std::alloc::AllocError;
 use std::thread::Threads;
@@ -22,13 +23,8 @@ impl<R: Threads + Sync, A: Advice + Drop> Walker<'_, R, A> {
         ensures same { IsSameWalk self.old.walk self.new.walk }
         ensures done { OnOk result (IsDone self.old.walk.task.now branch.now self.old.walk.progress self.new.walk.progress) }
     {
-        if branch.free().is_empty() && branch.inside().is_empty() {
-            return end_with(
-                self.walk.task,
-                branch,
-                TreeLine::Empty,
-                &mut self.walk.progress,
-            );
+        if let Some(line) = barren_line(self.walk.alloc, self.walk.task.instance, branch)? {
+            return end_with(self.walk.task, branch, line, &mut self.walk.progress);
         }
         if self.walk.progress.stopped {
             return self.walk.stopped_leaf(branch);
@@ -36,8 +32,8 @@ impl<R: Threads + Sync, A: Advice + Drop> Walker<'_, R, A> {
         if let Some(number) = self.walk.closing_cut(branch) {
             return self.walk.cut_leaf(branch, number);
         }
-        if branch.free().is_empty() {
-            return self.walk.set_leaf(branch);
+        if let Some(set) = last_set(self.walk.alloc, self.walk.task.instance, branch)? {
+            return self.walk.set_leaf(branch, set);
         }
         if self.end_by_advice(branch)? {
             return Ok(());

@@ -1,10 +1,13 @@
-use Rattle.std.proofs.Common.{sym, subst}
-use Rattle.hub_spec.specs.Plans.{IsHubSet}
-use Rattle.closing_search.proofs.Unlimited.{hub_set}
+use Rattle.std.proofs.Common.{sym, subst, ◌∙◌}
+use Rattle.hub_spec.specs.Plans.{IsCandidateSet}
+use Rattle.hub_spec.proofs.Lacking.{tells}
+use Rattle.search_spec.proofs.Nodes.{none_there}
 use Rattle.closing_search.proofs.advising.offer_nodes.Goals as goal
 
 pub set_cost-requires : goal.set_cost-requires
 set_cost-requires c =
     let p = c.args.task.now.instance.now in
-    subst (IsHubSet p) (sym c.in_ok-set.ensures)
-    (hub_set p c.args.hubs.now c.requires.unlimited (c.is_candidate_set.ensures.tells.0 c.if-not-is_candidate_set.false))
+    record {
+      set = subst (IsCandidateSet p) (sym c.in_ok-set.ensures) (c.is_candidate_set.ensures.tells.0 c.if-not-is_candidate_set.false);
+      lacks_none = (tells p c.in_ok-set.set).none.0 (sym c.lacking.ensures ∙ none_there c.lacking.result (sym c.if-is_some.ensures));
+    }

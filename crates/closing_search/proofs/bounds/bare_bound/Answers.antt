@@ -5,18 +5,18 @@ use Rattle.search_core.proofs.Weightings.{branch_below}
 use Rattle.closing_search.proofs.SingleBounds.{none_numbers, none_bound_is}
 use Rattle.closing_search.proofs.bounds.bare_bound.Goals as goal
 
-pub bound-requires-clause-numbers : goal.bound-requires-clause-numbers
-bound-requires-clause-numbers c =
+pub bound_by_number-requires-clause-numbers : goal.bound_by_number-requires-clause-numbers
+bound_by_number-requires-clause-numbers c =
     none_numbers c.args.instance.now c.bare_weighting.result c.bare_weighting.ensures.problem c.bare_weighting.ensures.lent
 
-pub bound-requires-clause-nodes : goal.bound-requires-clause-nodes
-bound-requires-clause-nodes c =
+pub bound_by_number-requires-clause-nodes : goal.bound_by_number-requires-clause-nodes
+bound_by_number-requires-clause-nodes c =
     branch_below c.args.instance.now c.bare_weighting.result.fixed.now c.args.branch.now c.bare_weighting.ensures.problem
     c.bare_weighting.ensures.lent.fixed_are c.requires.branch
 
 pub returns-clause-bound : goal.returns-clause-bound
 returns-clause-bound c =
-    let fits : FitsSigned w128 c.bound.result = search rules in
-    to_z-of_z w128 c.bound.result fits ∙ c.bound.ensures.value
+    let fits : FitsSigned w128 c.bound_by_number.result = search rules in
+    to_z-of_z w128 c.bound_by_number.result fits ∙ c.bound_by_number.ensures.value
     ∙ none_bound_is c.args.instance.now c.bare_weighting.result c.args.branch.now c.bare_weighting.ensures.problem
-    c.requires.any_number c.requires.branch c.bare_weighting.ensures.lent
+    c.requires.branch c.bare_weighting.ensures.lent

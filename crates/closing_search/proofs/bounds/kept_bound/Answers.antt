@@ -11,7 +11,7 @@ use Rattle.closing_search.specs.SingleCuts.{AreLentOf, IsOnCut}
 use Rattle.closing_search.proofs.KeptSums.{map-slice_range, kept_at_number}
 use Rattle.closing_search.proofs.SingleBounds.{cut_numbers, cut_bound_is}
 use Rattle.closing_search.proofs.bounds.kept_bound.Goals as goal
-use Rattle.closing_search.proofs.bounds.kept_bound.Goals.{After-cut_weighting}
+use Rattle.closing_search.proofs.bounds.kept_bound.Goals.{After-cut_weighting-weighting}
 
 numbers : (p : Problem) (k : KeptList) (n : ℕ) (totals : List ℤ) (loads : List (Vec ℤ Global)) (parts : List ℕ)
     → IsProblem p → AreKeptFor p k → All IsOwn k.cuts → 1 ≤ n → n ≤ length k.cuts → totals ≡ map pos k.totals
@@ -23,30 +23,30 @@ numbers p k n totals loads parts ok are own least most is_totals is_loads is_par
     (kept_at_number p k n ok are own least most)
 
 -- the numbers of the kept cut
-on_cut : (c : After-cut_weighting) → let p = c.args.task.now.instance.now in
-    IsOnCut p (cut_at (cuts_of p c.args.progress.now) c.args.number) c.cut_weighting.result
+on_cut : (c : After-cut_weighting-weighting) → let p = c.args.task.now.instance.now in
+    IsOnCut p (cut_at (cuts_of p c.args.progress.now) c.args.number) c.cut_weighting-weighting.result
 on_cut c =
     let going = c.requires.going in
-    c.cut_weighting.ensures _
+    c.cut_weighting-weighting.ensures _
     (numbers c.args.task.now.instance.now c.args.progress.now.cuts c.args.number c.totals.result.now c.loads.result.now
     c.parts.result.now going.problem going.kept going.own c.requires.least c.requires.most c.totals.ensures.value
     c.loads.ensures.value c.parts.ensures.value)
 
-pub bound-requires-clause-numbers : goal.bound-requires-clause-numbers
-bound-requires-clause-numbers c =
-    cut_numbers c.args.task.now.instance.now _ c.cut_weighting.result c.requires.going.problem
-    (on_cut (goal.at.bound-requires-clause-numbers c).After-cut_weighting)
+pub bound_by_number-requires-clause-numbers : goal.bound_by_number-requires-clause-numbers
+bound_by_number-requires-clause-numbers c =
+    cut_numbers c.args.task.now.instance.now _ c.cut_weighting-weighting.result c.requires.going.problem
+    (on_cut (goal.at.bound_by_number-requires-clause-numbers c).After-cut_weighting-weighting)
 
-pub bound-requires-clause-nodes : goal.bound-requires-clause-nodes
-bound-requires-clause-nodes c =
-    branch_below c.args.task.now.instance.now c.cut_weighting.result.fixed.now c.args.branch.now c.requires.going.problem
-    (on_cut (goal.at.bound-requires-clause-nodes c).After-cut_weighting).fixed_are
+pub bound_by_number-requires-clause-nodes : goal.bound_by_number-requires-clause-nodes
+bound_by_number-requires-clause-nodes c =
+    branch_below c.args.task.now.instance.now c.cut_weighting-weighting.result.fixed.now c.args.branch.now c.requires.going.problem
+    (on_cut (goal.at.bound_by_number-requires-clause-nodes c).After-cut_weighting-weighting).fixed_are
     c.requires.branch
 
 pub returns-clause-bound : goal.returns-clause-bound
 returns-clause-bound c =
-    let fits : FitsSigned w128 c.bound.result = search rules in
-    to_z-of_z w128 c.bound.result fits ∙ c.bound.ensures.value
-    ∙ cut_bound_is c.args.task.now.instance.now _ c.cut_weighting.result c.args.branch.now
-    c.requires.going.problem c.requires.going.unlimited.any_number c.requires.branch
-    (on_cut (goal.at.returns-clause-bound c).After-cut_weighting)
+    let fits : FitsSigned w128 c.bound_by_number.result = search rules in
+    to_z-of_z w128 c.bound_by_number.result fits ∙ c.bound_by_number.ensures.value
+    ∙ cut_bound_is c.args.task.now.instance.now _ c.cut_weighting-weighting.result c.args.branch.now
+    c.requires.going.problem c.requires.branch
+    (on_cut (goal.at.returns-clause-bound c).After-cut_weighting-weighting)

@@ -34,7 +34,7 @@ pub returns-clause-routes : goal.returns-clause-routes
 returns-clause-routes c = (is_found c).routes
 
 pub returns-clause-at_most : goal.returns-clause-at_most
-returns-clause-at_most c = found_at_most c.args.task.now c.args.progress (finding c) c.requires (is_found c)
+returns-clause-at_most c any = found_at_most c.args.task.now c.args.progress (finding c) c.requires (is_found c) any
 
 pub returns-clause-within : goal.returns-clause-within
 returns-clause-within c = found_within c.args.task.now c.args.progress (finding c) c.requires (is_found c)

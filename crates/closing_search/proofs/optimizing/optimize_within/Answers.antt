@@ -1,15 +1,13 @@
-use Rattle.std.proofs.Common.{◌≤◌, sym, subst}
+use Rattle.std.proofs.Common.{◌≡◌, ◌≤◌, None, sym, subst}
 use Rattle.std.specs.Prelude.{ℕ, IfOk}
 use Rattle.hub_spec.specs.Problem.{Problem}
-use Rattle.hub_spec.specs.Plans.{IsSetCost, NoPlanBelow}
-use Rattle.kept_cuts.specs.Findings.{IsUnlimited}
+use Rattle.hub_spec.specs.Plans.{IsHubSet, IsSetCost, NoPlanBelow}
 use Rattle.closing_search.proofs.Steps.{is_over}
 use Rattle.closing_search.proofs.optimizing.optimize_within.Goals as goal
 
-pub begin-requires-clause-unlimited : goal.begin-requires-clause-unlimited
-begin-requires-clause-unlimited g c =
-    subst IsUnlimited (sym c.new-task.ensures.instance)
-    (record { any_length = c.requires.any_length; any_number = c.requires.any_number })
+pub begin-requires-clause-lacks_none : goal.begin-requires-clause-lacks_none
+begin-requires-clause-lacks_none g c =
+    subst (λ (p : Problem). IsHubSet p p.candidates) (sym c.new-task.ensures.instance) c.requires.lacks_none
 
 pub finish-requires : goal.finish-requires
 finish-requires g c =
@@ -18,7 +16,7 @@ finish-requires g c =
 
 pub returns-clause-at_most : goal.returns-clause-at_most
 returns-clause-at_most g c =
-    subst (λ (p : Problem). IfOk c.finish.result (λ found. (cost : ℕ) → IsSetCost p p.candidates cost → found.cost ≤ cost))
+    subst (λ (p : Problem). p.wanted ≡ None → IfOk c.finish.result (λ found. (cost : ℕ) → IsSetCost p p.candidates cost → found.cost ≤ cost))
     c.new-task.ensures.instance c.finish.ensures.at_most
 
 pub returns-clause-below : goal.returns-clause-below

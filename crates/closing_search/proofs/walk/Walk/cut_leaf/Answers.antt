@@ -1,4 +1,4 @@
-use Rattle.std.proofs.Common.{◌≡◌, ◌≤◌, ℕ, ℤ, false, Some, true≢false, inr, refl, sym, ap, subst, ◌∙◌, FitsSigned, rules, arith}
+use Rattle.std.proofs.Common.{◌≡◌, ◌≤◌, ℕ, Some, inr, refl, sym, ap, subst, ◌∙◌, FitsSigned, rules, arith}
 use Rattle.std.specs.Int.{w128}
 use Rattle.std.proofs.lemmas.Int.{to_z-of_z}
 use Rattle.std.proofs.lemmas.List.{length-map}
@@ -49,7 +49,7 @@ end_with-requires-clause-sound c =
     let closes = subst (λ (low : ℕ). Closes denominator (lesser s.cost (Some low)) bound) (sym c.lesser.ensures)
     (left_closes bound (goal_of t.gap s.cost) s.cost c.rounded_up.result s.left (inr c.requires.closes) is) in
     leaf_sound p s.cuts.cuts (lesser s.cost (Some c.lesser.result)) c.args.branch.now (Some c.args.number) (tree_line_of c.in_ok-line.line)
-    c.requires.going.unlimited c.requires.going.own (number_of p s.cuts.cuts c.args.number c.requires.least c.requires.most)
+    c.requires.room c.requires.going.own (number_of p s.cuts.cuts c.args.number c.requires.least c.requires.most)
     c.in_ok-line.ensures closes
 
 pub end_with-requires-clause-in_range : goal.end_with-requires-clause-in_range
@@ -61,7 +61,7 @@ end_with-requires-clause-in_range c =
     (number_of p s.cuts.cuts c.args.number c.requires.least c.requires.most) c.in_ok-line.ensures
 
 pub end_with-requires-clause-first : goal.end_with-requires-clause-first
-end_with-requires-clause-first c =
+end_with-requires-clause-first c any =
     leaf_is_first (Some c.args.number) (tree_line_of c.in_ok-line.line) c.in_ok-line.ensures
 
 pub returns-clause-done : goal.returns-clause-done

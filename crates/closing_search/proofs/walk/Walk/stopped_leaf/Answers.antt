@@ -35,7 +35,7 @@ end_with-requires-clause-sound c =
     let closes = subst (λ (low : ℕ). Closes denominator (lesser s.cost (Some low)) (leaf_bound p cuts denominator (weights_on choice.number) b))
     (sym c.lesser.ensures) (choice_closes p cuts b choice s.cost c.rounded_up.result s.left is up) in
     leaf_sound p s.cuts.cuts (lesser s.cost (Some c.lesser.result)) b choice.number (tree_line_of c.in_ok-line.line)
-    c.requires.going.unlimited c.requires.going.own (number_in p cuts b choice is) c.in_ok-line.ensures closes
+    c.requires.room c.requires.going.own (number_in p cuts b choice is) c.in_ok-line.ensures closes
 
 pub end_with-requires-clause-in_range : goal.end_with-requires-clause-in_range
 end_with-requires-clause-in_range c =
@@ -47,7 +47,7 @@ end_with-requires-clause-in_range c =
     (number_in p (cuts_of p s) c.args.branch.now choice c.best_choice-choice.ensures.choice) c.in_ok-line.ensures
 
 pub end_with-requires-clause-first : goal.end_with-requires-clause-first
-end_with-requires-clause-first c =
+end_with-requires-clause-first c any =
     leaf_is_first c.best_choice-choice.result.number (tree_line_of c.in_ok-line.line) c.in_ok-line.ensures
 
 pub returns-clause-done : goal.returns-clause-done

@@ -38,30 +38,30 @@ on_cut c cut are =
     c.cut_weighting-weighting.ensures cut
     (record { sum = sum; loads = loads; are = are; totals_are = totals_are; rows_are = rows_are; parts_are = refl })
 
-pub bound-requires-clause-numbers : goal.bound-requires-clause-numbers
-bound-requires-clause-numbers c =
+pub bound_by_number-by_cut-requires-clause-numbers : goal.bound_by_number-by_cut-requires-clause-numbers
+bound_by_number-by_cut-requires-clause-numbers c =
     let t = c.args.self.now.task.now in
     let sums = c.requires.sums in
     cut_numbers t.instance.now sums.0 c.cut_weighting-weighting.result c.requires.going.problem
-    (on_cut (goal.at.bound-requires-clause-numbers c).After-cut_weighting-weighting sums.0 sums.1)
+    (on_cut (goal.at.bound_by_number-by_cut-requires-clause-numbers c).After-cut_weighting-weighting sums.0 sums.1)
 
-pub bound-requires-clause-nodes : goal.bound-requires-clause-nodes
-bound-requires-clause-nodes c =
+pub bound_by_number-by_cut-requires-clause-nodes : goal.bound_by_number-by_cut-requires-clause-nodes
+bound_by_number-by_cut-requires-clause-nodes c =
     let t = c.args.self.now.task.now in
     let sums = c.requires.sums in
     branch_below t.instance.now c.cut_weighting-weighting.result.fixed.now c.args.branch.now c.requires.going.problem
-    (on_cut (goal.at.bound-requires-clause-nodes c).After-cut_weighting-weighting sums.0 sums.1).fixed_are
+    (on_cut (goal.at.bound_by_number-by_cut-requires-clause-nodes c).After-cut_weighting-weighting sums.0 sums.1).fixed_are
     c.requires.branch
 
 pub returns : goal.returns
 returns c cut are above =
     let t = c.args.self.now.task.now in
-    let bound = c.bound.ensures.value
+    let bound = c.bound_by_number-by_cut.ensures.value
     ∙ cut_bound_is t.instance.now cut c.cut_weighting-weighting.result c.args.branch.now
-    c.requires.going.problem c.requires.going.unlimited.any_number c.requires.branch
+    c.requires.going.problem c.requires.branch
     (on_cut (goal.at.returns c).After-cut_weighting-weighting cut are) in
-    let fits : FitsSigned w128 c.bound.result = search rules in
-    let same = to_z-of_z w128 c.bound.result fits in
+    let fits : FitsSigned w128 c.bound_by_number-by_cut.result = search rules in
+    let same = to_z-of_z w128 c.bound_by_number-by_cut.result fits in
     let wanted = c.goal.ensures.value in
     let closes = c.is_above.ensures above in
     search rules

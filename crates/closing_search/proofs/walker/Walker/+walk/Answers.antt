@@ -1,13 +1,23 @@
-use Rattle.std.proofs.Common.{◌≡◌, ◌+◌, length, sym, ap, subst, ◌∙◌, rules, arith}
+use Rattle.std.proofs.Common.{◌≡◌, ◌+◌, length, Option, IfSome, sym, ap, subst, ◌∙◌, rules, arith}
 use Rattle.std.proofs.lemmas.Result.{on_ok_weaker}
 use Rattle.hub_spec.specs.Trees.{Branching, IsBranch}
 use Rattle.hub_spec.proofs.ChildLists.{open_branch, closed_branch}
 use Rattle.search_spec.proofs.Parting.{length-without}
 use Rattle.closing_search.specs.declared.task.Task.{Task}
-use Rattle.closing_search.specs.Progressing.{IsDone, IsAdvised}
+use Rattle.plan_model.specs.declared.tree_lines.TreeLine as model
+use Rattle.plan_model.specs.Lines.{tree_line_of}
+use Rattle.closing_search.specs.Ends.{IsBarren}
+use Rattle.closing_search.specs.Progressing.{cuts_of, target_of, IsDone, IsAdvised}
 use Rattle.closing_search.proofs.Steps.{at_done, halved_done}
 use Rattle.closing_search.proofs.Walks.{walks_on}
 use Rattle.closing_search.proofs.walker.Walker.+walk.Goals as goal
+
+pub node-end_with-requires-clause-sound : goal.node-end_with-requires-clause-sound
+node-end_with-requires-clause-sound g t c =
+    let p = c.args.self.now.walk.task.now.instance.now in
+    let barren = subst (λ (o : Option model.TreeLine). IfSome o (λ l. IsBarren p c.args.branch.now (tree_line_of l))) c.in-Some.is
+    c.in_ok-line.ensures.barren in
+    barren.sound (cuts_of p c.args.self.now.walk.progress) (target_of c.args.self.now.walk.progress)
 
 pub node-returns-clause-done : goal.node-returns-clause-done
 node-returns-clause-done g t c =

@@ -1,0 +1,8 @@
+use Rattle.std.proofs.Common.{ℕ, List, take, sym, ap, ◌∙◌}
+use Rattle.closing_search.proofs.BranchEnds.{some_first}
+use Rattle.closing_search.proofs.optimizing.first_hubs.Goals as goal
+
+pub returns-in-Some-clause-first : goal.returns-in-Some-clause-first
+returns-in-Some-clause-first c =
+    some_first c.args.instance.now c.in-Some.hubs _ c.candidates-candidates.ensures.problem (sym c.wanted.ensures.value ∙ c.in-Some.is)
+    (ap (λ (ks : List ℕ). take c.in-Some.hubs ks) c.candidates-candidates.ensures.value)
