@@ -14,6 +14,8 @@ use Rattle.cert_spec.proofs.OlderTexts.{one_older_from}
 use Rattle.cert_spec.proofs.OneText.{one_certificate_lem}
 use Rattle.cert_spec.proofs.TextOrFault.{each_is_text_or_fault_lem}
 use Rattle.hub_make.specs.Contents.{made_problem}
+use Rattle.closing_search.specs.Gaps.{IsWithinGap}
+use Rattle.closing_search.proofs.Gaps.{no_gap}
 use Rattle.hub_words.specs.Requests.{Source, Solving, SearchRule, Resolving, Making, Search, Request, instance}
 use Rattle.hub_words.specs.Requests.{solve, optimize, resolve, check, report, make, demo}
 use Rattle.hub_top.specs.declared.status.Status.{Status}
@@ -44,17 +46,17 @@ solve_instance files x rule Read text h = absurd h
 solve_instance files x rule Write text h = absurd h
 solve_instance files x rule Lacking text h = absurd h
 
-optimize_instance : (files : Files) (x : Solving) (status : Status) (text : List ℕ) → Answers (optimize x) status (Some files) text
+optimize_instance : (files : Files) (x : Solving) (gap : ℕ) (status : Status) (text : List ℕ) → Answers (optimize x gap) status (Some files) text
     → HasInstance files x.source
-optimize_instance files x Done text h = record { problem = h.problem; instance = h.instance }
-optimize_instance files x Stopped text h = record { problem = h.problem; instance = h.instance }
-optimize_instance files x No text h = absurd h
-optimize_instance files x Usage text h = absurd h
-optimize_instance files x Instance text h = absurd h
-optimize_instance files x Memory text h = absurd h
-optimize_instance files x Read text h = absurd h
-optimize_instance files x Write text h = absurd h
-optimize_instance files x Lacking text h = absurd h
+optimize_instance files x gap Done text h = record { problem = h.problem; instance = h.instance }
+optimize_instance files x gap Stopped text h = record { problem = h.problem; instance = h.instance }
+optimize_instance files x gap No text h = absurd h
+optimize_instance files x gap Usage text h = absurd h
+optimize_instance files x gap Instance text h = absurd h
+optimize_instance files x gap Memory text h = absurd h
+optimize_instance files x gap Read text h = absurd h
+optimize_instance files x gap Write text h = absurd h
+optimize_instance files x gap Lacking text h = absurd h
 
 resolve_instance : (files : Files) (x : Resolving) (status : Status) (text : List ℕ) → Answers (resolve x) status (Some files) text
     → HasInstance files x.source
@@ -84,8 +86,8 @@ pub answered_instance : (files : Files) (request : Request) (s : Source) (status
     → Answers request status (Some files) text → HasInstance files s
 answered_instance files (solve x rule) s status text named h =
     let e : x.source ≡ s = cc in subst (HasInstance files) e (solve_instance files x rule status text h)
-answered_instance files (optimize x) s status text named h =
-    let e : x.source ≡ s = cc in subst (HasInstance files) e (optimize_instance files x status text h)
+answered_instance files (optimize x gap) s status text named h =
+    let e : x.source ≡ s = cc in subst (HasInstance files) e (optimize_instance files x gap status text h)
 answered_instance files (resolve x) s status text named h =
     let e : x.source ≡ s = cc in subst (HasInstance files) e (resolve_instance files x status text h)
 answered_instance files (check t file) s status text named h =
@@ -277,25 +279,50 @@ resolve_lacks files x p commodity Lacking text instance lacks h = h
 -- ---- `optimize`
 
 -- `optimize` has one of two statuses
-pub optimize_status : (held : Option Files) (x : Solving) (status : Status) (text : List ℕ) → Answers (optimize x) status held text
+pub optimize_status : (held : Option Files) (x : Solving) (gap : ℕ) (status : Status) (text : List ℕ) → Answers (optimize x gap) status held text
     → (status ≡ Done) ⊎ (status ≡ Stopped)
-optimize_status held x Done text h = inl refl
-optimize_status held x Stopped text h = inr refl
-optimize_status held x No text h = absurd h
-optimize_status held x Usage text h = absurd h
-optimize_status held x Instance text h = absurd h
-optimize_status held x Memory text h = absurd h
-optimize_status held x Read text h = absurd h
-optimize_status held x Write text h = absurd h
-optimize_status held x Lacking text h = absurd h
+optimize_status held x gap Done text h = inl refl
+optimize_status held x gap Stopped text h = inr refl
+optimize_status held x gap No text h = absurd h
+optimize_status held x gap Usage text h = absurd h
+optimize_status held x gap Instance text h = absurd h
+optimize_status held x gap Memory text h = absurd h
+optimize_status held x gap Read text h = absurd h
+optimize_status held x gap Write text h = absurd h
+optimize_status held x gap Lacking text h = absurd h
 
--- and one alone where as many nodes are allowed as a whole tree has
+-- where all candidates together lack a commodity it has no answer
+pub optimize_lacks : (files : Files) (x : Solving) (gap : ℕ) (p : Problem) (commodity : ℕ × ℕ) (status : Status) (text : List ℕ)
+    → HoldsInstance files x.source p → lacking p p.candidates ≡ Some commodity → Answers (optimize x gap) status (Some files) text → ⊥
+optimize_lacks files x gap p commodity Done text instance lacks h =
+    let same : h.problem ≡ p = one_instance files x.source h.problem p h.instance instance in
+    none-some commodity (sym (subst (λ (q : Problem). lacking q q.candidates ≡ None) same
+    (plan_serves h.problem h.optimizes.certificate.plan h.optimizes.finds.holds.plan)) ∙ lacks)
+optimize_lacks files x gap p commodity Stopped text instance lacks h =
+    let same : h.problem ≡ p = one_instance files x.source h.problem p h.instance instance in
+    none-some commodity (sym (subst (λ (q : Problem). lacking q q.candidates ≡ None) same
+    (plan_serves h.problem h.bounds.certificate.plan h.bounds.finds.holds.plan)) ∙ lacks)
+optimize_lacks files x gap p commodity No text instance lacks h = h
+optimize_lacks files x gap p commodity Usage text instance lacks h = h
+optimize_lacks files x gap p commodity Instance text instance lacks h = h
+optimize_lacks files x gap p commodity Memory text instance lacks h = h
+optimize_lacks files x gap p commodity Read text instance lacks h = h
+optimize_lacks files x gap p commodity Write text instance lacks h = h
+optimize_lacks files x gap p commodity Lacking text instance lacks h = h
+
+-- no bound below the cost is within no gap
+closed : (k : Proof) → IsWithinGap 0 k.bound k.cost → k.bound < k.cost → ⊥
+closed k near below = absurd (omega (arith, below, no_gap k.bound k.cost near (omega (arith, below))))
+
+-- and one alone where as many nodes are allowed as a whole tree has, and no gap
 pub optimize_enough : (files : Files) (x : Solving) (p : Problem) (status : Status) (text : List ℕ) → HoldsInstance files x.source p
-    → IsEnoughFor p x.search.nodes → Answers (optimize x) status (Some files) text → status ≡ Done
+    → IsEnoughFor p x.search.nodes → Answers (optimize x 0) status (Some files) text → status ≡ Done
 optimize_enough files x p Done text instance enough h = refl
 optimize_enough files x p Stopped text instance enough h =
     let same : p ≡ h.problem = one_instance files x.source p h.problem instance h.instance in
-    absurd (h.bounds.not_enough (subst (λ (q : Problem). IsEnoughFor q x.search.nodes) same enough))
+    absurd
+    (⊎_elim (λ spent. spent.1 (subst (λ (q : Problem). IsEnoughFor q x.search.nodes) same enough))
+    (λ near. closed h.bounds.certificate near h.bounds.gap) h.bounds.reason)
 optimize_enough files x p No text instance enough h = absurd h
 optimize_enough files x p Usage text instance enough h = absurd h
 optimize_enough files x p Instance text instance enough h = absurd h

@@ -11,10 +11,10 @@ use Rattle.hub_top.specs.declared.status.Status.TheVariants.{Done, Stopped, Usag
 use Rattle.hub_words.specs.Requests.{Source, Resolving, Request, solve, optimize, resolve, check, report, make, demo, instance}
 use Rattle.hub_top.specs.Commands.{WhereTold, Blame, HasBlame, HoldsInstance, LacksNetwork, method_by, demo_method}
 use Rattle.hub_top.specs.Answers.{Answers, verdict_status, report_status, rule_status, solve_status, older_status}
-use Rattle.hub_top.specs.Outcomes.{Outcome, answered, usage, faulty, no_network, memory, read, status_of, ruled, ShelfFails, Quiet, MayComeTo, Written, whole, out_cut, err_cut}
+use Rattle.hub_top.specs.Outcomes.{Outcome, answered, usage, faulty, no_network, memory, read, status_of, to_solve, ShelfFails, Quiet, MayComeTo, Written, whole, out_cut, err_cut}
 use Rattle.hub_top.specs.Completeness.{Completeness, EndsAs, EndsWith}
 use Rattle.hub_top.proofs.OneReading.{no_blame}
-use Rattle.hub_top.proofs.Answered.{answered_instance, solve_status_is, lacking_status, lacks_none, solve_enough, resolve_status_is, resolve_served, resolve_enough, resolve_lacks, optimize_status, optimize_enough, check_status, report_status_is, make_status, demo_status, demo_enough}
+use Rattle.hub_top.proofs.Answered.{answered_instance, solve_status_is, lacking_status, lacks_none, solve_enough, resolve_status_is, resolve_served, resolve_enough, resolve_lacks, optimize_lacks, optimize_status, optimize_enough, check_status, report_status_is, make_status, demo_status, demo_enough}
 
 -- an ending that is written whole has its status, and a sink that fails counts it
 written_status : {O E : Type 0} (out_taken : O → Option (List ℕ)) (out_faults : O → ℕ) (err_taken : E → Option (List ℕ)) (err_faults : E → ℕ)
@@ -31,15 +31,15 @@ written_status out_taken out_faults err_taken err_faults out_old out_new err_old
 same_source : (request : Request) (s t : Source) → instance request ≡ Some s → instance request ≡ Some t → s ≡ t
 same_source request s t e f = cc
 
--- an instance that a request asks the rule to solve is the one that it names
-ruled_instance : (request : Request) (s : Source) → ruled request ≡ Some s → instance request ≡ Some s
-ruled_instance (solve x rule) s e = e
-ruled_instance (optimize x) s e = cc
-ruled_instance (resolve x) s e = e
-ruled_instance (check t file) s e = cc
-ruled_instance (report t file) s e = cc
-ruled_instance (make m) s e = cc
-ruled_instance (demo m search) s e = cc
+-- an instance that a request asks to solve is the one that it names
+instance_to_solve : (request : Request) (s : Source) → to_solve request ≡ Some s → instance request ≡ Some s
+instance_to_solve (solve x rule) s e = e
+instance_to_solve (optimize x gap) s e = e
+instance_to_solve (resolve x) s e = e
+instance_to_solve (check t file) s e = cc
+instance_to_solve (report t file) s e = cc
+instance_to_solve (make m) s e = cc
+instance_to_solve (demo m search) s e = cc
 
 asked_request : (request other : Request) → Some request ≡ Some other → request ≡ other
 asked_request request other e = cc
@@ -65,7 +65,7 @@ ends_faulty files request s blame fault named has fails quiet usage may = cc
 ends_faulty files request s blame fault named has fails quiet (faulty other also) may = inl refl
 ends_faulty files request s blame fault named has fails quiet (no_network commodity) may =
     let r : may.0 ≡ request = sym (asked_request request may.0 may.2) in
-    let own : may.1 ≡ s = same_source request may.1 s (ap instance (sym r) ∙ ruled_instance may.0 may.1 may.3) named in
+    let own : may.1 ≡ s = same_source request may.1 s (ap instance (sym r) ∙ instance_to_solve may.0 may.1 may.3) named in
     let h = may.4 in
     absurd (no_blame files s h.problem (subst (λ (x : Source). HoldsInstance files x h.problem) own h.instance) blame fault has)
 ends_faulty files request s blame fault named has fails quiet memory may = inr refl
@@ -90,7 +90,7 @@ blameless_without held request none blame fault t also has = cc
 -- a run may end so that is asked to solve by the rule and tells of a lacked commodity
 abbrev MayLack : Option Files → Request → (Status → Type 0) → Type 0
 MayLack held request wanted =
-    (s : Source) (commodity : ℕ × ℕ) → ruled request ≡ Some s → LacksNetwork held s commodity → wanted Lacking
+    (s : Source) (commodity : ℕ × ℕ) → to_solve request ≡ Some s → LacksNetwork held s commodity → wanted Lacking
 
 -- no run tells so of an instance whose candidates together lack none
 no_lack : (files : Files) (r : Resolving) (p : Problem) (wanted : Status → Type 0) → HoldsInstance files r.source p → lacking p p.candidates ≡ None
@@ -113,7 +113,7 @@ ends_by request held wanted blameless lacks answers fails quiet (faulty blame fa
     absurd (blameless blame fault may.1 (ap instance (sym r) ∙ may.3) may.4)
 ends_by request held wanted blameless lacks answers fails quiet (no_network commodity) may =
     let r : may.0 ≡ request = sym (asked_request request may.0 may.2) in
-    inl (lacks may.1 commodity (ap ruled (sym r) ∙ may.3) may.4)
+    inl (lacks may.1 commodity (ap to_solve (sym r) ∙ may.3) may.4)
 ends_by request held wanted blameless lacks answers fails quiet memory may = inr refl
 ends_by request held wanted blameless lacks answers fails quiet read may = absurd (quiet may.0 may.2)
 
@@ -169,12 +169,17 @@ module _ (asked : Option Request) (held : Option Files) (fails : Request → Typ
         told_ends files (resolve r) r.source p (λ (x : Status). (x ≡ Done) ⊎ (x ≡ Stopped)) told is refl h
         (no_lack files r p (λ (x : Status). (x ≡ Done) ⊎ (x ≡ Stopped)) h none)
         (λ other text answers. resolve_served files r p bytes serving.0 other text h there serving.1 answers));
-    optimized = λ files s p told is h many. told_ends files (optimize s) s.source p (λ (x : Status). x ≡ Done) told is refl h
-        (λ t commodity same k. cc)
+    unconnected = λ files s gap p commodity told is h lacks. told_ends files (optimize s gap) s.source p (λ (x : Status). x ≡ Lacking) told is refl h
+        (λ t other same k. refl)
+        (λ other text answers. absurd (optimize_lacks files s gap p commodity other text h lacks answers));
+    optimized = λ files s p told is h none many. told_ends files (optimize s 0) s.source p (λ (x : Status). x ≡ Done) told is refl h
+        (λ t commodity same k. (let own : t ≡ s.source = cc in
+        absurd (lacks_none files s.source p commodity h none (subst (λ (x : Source). LacksNetwork (Some files) x commodity) own k))))
         (λ other text answers. optimize_enough files s p other text h many answers);
-    bounded = λ files s p told is h. told_ends files (optimize s) s.source p (λ (x : Status). (x ≡ Done) ⊎ (x ≡ Stopped)) told is refl h
-        (λ t commodity same k. cc)
-        (λ other text answers. optimize_status (Some files) s other text answers);
+    bounded = λ files s gap p told is h none. told_ends files (optimize s gap) s.source p (λ (x : Status). (x ≡ Done) ⊎ (x ≡ Stopped)) told is refl h
+        (λ t commodity same k. (let own : t ≡ s.source = cc in
+        absurd (lacks_none files s.source p commodity h none (subst (λ (x : Source). LacksNetwork (Some files) x commodity) own k))))
+        (λ other text answers. optimize_status (Some files) s gap other text answers);
     judged = λ files s certificate p bytes verdict told is h there why. told_ends files (check s certificate) s p (λ (x : Status). x ≡ verdict_status verdict) told is refl h
         (λ t commodity same k. cc)
         (λ other text answers. check_status files s certificate p bytes verdict other text h there why answers);

@@ -51,9 +51,9 @@ pub stopped_verdict : (p : Problem) (m : Method) (text : List ℕ) (h : Stops p 
     → IsOneVerdict p text (bounds h.certificate.bound h.certificate.cost)
 stopped_verdict p m text h short = gap_verdict p m text h.certificate h.finds h.gap short
 
-pub bounded_verdict : (p : Problem) (m : Method) (text : List ℕ) (h : Bounds p m text) → length text ≤ certificate_limit
+pub bounded_verdict : (p : Problem) (m : Method) (gap : ℕ) (text : List ℕ) (h : Bounds p m gap text) → length text ≤ certificate_limit
     → IsOneVerdict p text (bounds h.certificate.bound h.certificate.cost)
-bounded_verdict p m text h short = gap_verdict p m text h.certificate h.finds h.gap short
+bounded_verdict p m gap text h short = gap_verdict p m text h.certificate h.finds h.gap short
 
 -- the text of a search is that of the rule's certificate
 rule_text : (p : Problem) (m : Method) (text : List ℕ) → Ends p m text → text ≡ certificate_text (rule_certificate p m)

@@ -1,7 +1,7 @@
 -- What `optimize` found is told by its text.
-use Rattle.std.proofs.Common.{◌≡◌, ℕ, ◌+◌, ◌^◌, ◌<◌, ◌≤◌, length, Option, refl, sym, subst, ap, ◌∙◌, arith, nat_eq}
+use Rattle.std.proofs.Common.{◌≡◌, ℕ, ◌+◌, ◌^◌, ◌<◌, ◌≤◌, length, Option, None, Some, ◌⊎◌, inl, inr, ⊎_elim, refl, sym, subst, ap, ◌∙◌, arith, nat_eq}
 use Rattle.std.proofs.lemmas.List.{length-map}
-use Rattle.std.proofs.lemmas.Bool.{cond_both, eqb-true, eqb-false}
+use Rattle.std.proofs.lemmas.Bool.{cases_lt, cond_both, eqb-true, eqb-false}
 use Rattle.hub_io.specs.Outside.{Files}
 use Rattle.hub_spec.specs.Problem.{Problem}
 use Rattle.hub_spec.specs.Plans.{NoPlanBelow}
@@ -15,10 +15,11 @@ use Rattle.kept_cuts.specs.declared.found.Found.{Found}
 use Rattle.kept_cuts.specs.Findings.{IsVersionFor, proof_of, lines_of}
 use Rattle.proof_text.specs.Texts.{found_text}
 use Rattle.proof_text.proofs.FoundLines.{found_text_certificate}
+use Rattle.closing_search.specs.Gaps.{IsWithinGap}
 use Rattle.hub_words.specs.Requests.{Source, Solving, optimize}
 use Rattle.hub_top.specs.declared.status.Status.{Status}
 use Rattle.hub_top.specs.declared.status.Status.TheVariants.{Done, Stopped}
-use Rattle.hub_top.specs.Commands.{Method, method_of, Finds, Optimizes, Bounds}
+use Rattle.hub_top.specs.Commands.{Method, method_of, IsEnoughFor, Finds, Optimizes, Bounds}
 use Rattle.hub_top.specs.Answers.{Answers}
 use Rattle.hub_top.specs.Views.{finding_status}
 use Rattle.hub_top.specs.Solving.{IsOptimum}
@@ -28,9 +29,9 @@ lines_long : (found : Found) (tree : Tree) → lines_of found.tree.items ≡ pre
 lines_long found tree lines =
     sym (length-map found.tree.items tree_line_of) ∙ ap length lines ∙ length-preorder tree
 
-optimum_finds : (held : Option Files) (s : Source) (m : Method) (p : Problem) (found : Found) (h : IsOptimum held s m.nodes p found) → IsVersionFor p found.cuts.cuts m.version
+optimum_finds : (held : Option Files) (s : Source) (m : Method) (gap : ℕ) (p : Problem) (found : Found) (h : IsOptimum held s m.nodes gap p found) → IsVersionFor p found.cuts.cuts m.version
     → Finds p m (Spells (found_text m.version p found)) (proof_of m.version p found h.proved.tree)
-optimum_finds held s m p found h version =
+optimum_finds held s m gap p found h version =
     let proved = h.proved in
     let k = proof_of m.version p found proved.tree in
     let holds = proved.holds m.version in
@@ -45,10 +46,10 @@ optimum_finds held s m p found h version =
       most = subst (λ (made : ℕ). made + 1 ≤ 2 ^ (length p.candidates + 1)) (lines_long found proved.tree proved.lines) h.most;
     }
 
-closes : (held : Option Files) (s : Source) (m : Method) (p : Problem) (found : Found) → IsOptimum held s m.nodes p found → IsVersionFor p found.cuts.cuts m.version
+closes : (held : Option Files) (s : Source) (m : Method) (gap : ℕ) (p : Problem) (found : Found) → IsOptimum held s m.nodes gap p found → IsVersionFor p found.cuts.cuts m.version
     → found.bound ≡ found.cost → Optimizes p m (found_text m.version p found)
-closes held s m p found h version closed =
-    let finds = optimum_finds held s m p found h version in
+closes held s m gap p found h version closed =
+    let finds = optimum_finds held s m gap p found h version in
     let holds = h.proved.holds m.version in
     record {
       certificate = proof_of m.version p found h.proved.tree;
@@ -57,28 +58,37 @@ closes held s m p found h version closed =
       optimal = record { is_plan = holds.plan; wanted = holds.wanted; least = subst (NoPlanBelow p) (closed ∙ holds.cost) finds.below };
     }
 
-leaves : (held : Option Files) (s : Source) (m : Method) (p : Problem) (found : Found) → IsOptimum held s m.nodes p found → IsVersionFor p found.cuts.cuts m.version
-    → found.bound < found.cost → Bounds p m (found_text m.version p found)
-leaves held s m p found h version gap = record {
+-- where two nodes more are not allowed, either fewer are than a whole tree has, or the bound is within the gap
+why_left : (p : Problem) (nodes : Option ℕ) (Spent Near : Type 0) → Spent → (IsEnoughFor p nodes → Near) → (Spent × (IsEnoughFor p nodes → ⊥)) ⊎ Near
+why_left p None Spent Near spent near = inr (near tt)
+why_left p (Some n) Spent Near spent near =
+    ⊎_elim (λ fewer. inl (spent, λ enough. absurd (omega (arith, fewer, enough)))) (λ enough. inr (near enough))
+    (cases_lt (n + 1) (2 ^ (length p.candidates + 1)))
+
+leaves : (held : Option Files) (s : Source) (m : Method) (gap : ℕ) (p : Problem) (found : Found) → IsOptimum held s m.nodes gap p found → IsVersionFor p found.cuts.cuts m.version
+    → found.bound < found.cost → Bounds p m gap (found_text m.version p found)
+leaves held s m gap p found h version below = record {
   certificate = proof_of m.version p found h.proved.tree;
-  finds = optimum_finds held s m p found h version;
-  gap = gap;
-  spent = subst (IsSpent m.nodes) (lines_long found h.proved.tree h.proved.lines) (h.spent gap);
-  not_enough = λ enough. absurd (omega (arith, gap, h.enough enough));
+  finds = optimum_finds held s m gap p found h version;
+  gap = below;
+  reason = ⊎_elim
+      (λ spent. why_left p m.nodes (IsSpent m.nodes (line_count h.proved.tree)) (IsWithinGap gap found.bound found.cost)
+      (subst (IsSpent m.nodes) (lines_long found h.proved.tree h.proved.lines) spent) h.enough)
+      (λ near. inr near) (h.spent below);
   at_most = h.at_most;
 }
 
 -- `optimize` answers so, in a version that there is for the instance
-pub optimize_answers : (held : Option Files) (s : Solving) (p : Problem) (found : Found) → IsVersionFor p found.cuts.cuts s.version
-    → IsOptimum held s.source s.search.nodes p found
-    → Answers (optimize s) (finding_status found) held (found_text s.version p found)
-optimize_answers held s p found version h =
+pub optimize_answers : (held : Option Files) (s : Solving) (gap : ℕ) (p : Problem) (found : Found) → IsVersionFor p found.cuts.cuts s.version
+    → IsOptimum held s.source s.search.nodes gap p found
+    → Answers (optimize s gap) (finding_status found) held (found_text s.version p found)
+optimize_answers held s gap p found version h =
     let m = method_of s in
-    cond_both (nat_eq found.bound found.cost) Done Stopped (λ (x : Status). Answers (optimize s) x held (found_text s.version p found))
-    (λ e. record { problem = p; instance = h.instance; optimizes = closes held s.source m p found h version (eqb-true found.bound found.cost e) })
+    cond_both (nat_eq found.bound found.cost) Done Stopped (λ (x : Status). Answers (optimize s gap) x held (found_text s.version p found))
+    (λ e. record { problem = p; instance = h.instance; optimizes = closes held s.source m gap p found h version (eqb-true found.bound found.cost e) })
     (λ e. record {
       problem = p;
       instance = h.instance;
-      bounds = leaves held s.source m p found h version
+      bounds = leaves held s.source m gap p found h version
           (let apart = eqb-false found.bound found.cost e in let within = h.within in omega (arith, within, apart));
     })

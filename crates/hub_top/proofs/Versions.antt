@@ -24,7 +24,7 @@ first_or_second v asked = elim (cases_lt v 2) [
 ]
 
 -- each, where the instance is unlimited and no cut was given
-pub either_version : (p : Problem) (cuts : List Kept) (v : ℕ) → IsUnlimited p → All IsOwn cuts → words.IsVersion v → IsVersionFor p cuts v
+either_version : (p : Problem) (cuts : List Kept) (v : ℕ) → IsUnlimited p → All IsOwn cuts → words.IsVersion v → IsVersionFor p cuts v
 either_version p cuts v unlimited own asked = ⊎_elim (λ one. inl (one, unlimited, own)) (λ two. inr two) (first_or_second v asked)
 
 -- and any that may be asked for, since limits are said in the second alone

@@ -74,9 +74,9 @@ abbrev pub Answers : Request → Status → Option Files → List ℕ → Type 0
 Answers (solve s rule) Done held text = SolvesInstance held s rule text
 Answers (solve s rule) Stopped held text = StopsInstance held s rule text
 Answers (solve s rule) status held text = ⊥
-Answers (optimize s) Done held text = OptimizesInstance held s text
-Answers (optimize s) Stopped held text = BoundsInstance held s text
-Answers (optimize s) status held text = ⊥
+Answers (optimize s gap) Done held text = OptimizesInstance held s text
+Answers (optimize s gap) Stopped held text = BoundsInstance held s gap text
+Answers (optimize s gap) status held text = ⊥
 Answers (resolve r) Done held text = ResolvesInstance held r text
 Answers (resolve r) Stopped held text = StopsAgain held r text
 Answers (resolve r) No held text = TellsOlder held r text

@@ -19,6 +19,7 @@ use Rattle.file_spec.specs.Files.{HasContents}
 use Rattle.file_spec.specs.Instances.{build_fault, GivesInstance, GivesFileFault, GivesCosts, GivesCostFault}
 use Rattle.branch_tree.specs.Findings.{found_by, found_again}
 use Rattle.node_rounds.specs.Findings.{found_by_rounds}
+use Rattle.closing_search.specs.Gaps.{IsWithinGap}
 use Rattle.network_report.specs.Texts.{report_text}
 use Rattle.hub_words.specs.Requests as words
 use Rattle.hub_words.specs.Requests.{Source, Search, Solving, SearchRule, Resolving, Request, solve, optimize, resolve, check, report, make, demo}
@@ -219,25 +220,26 @@ pub record RefusesOlder (held : Option Files) (r : Resolving) (said : Older) : T
 
 -- ---- what `optimize` comes to
 
--- it costs at most what all candidates as hubs cost
+-- where any number of hubs will do, it costs at most what all candidates as hubs cost
 abbrev pub IsAtMostAll : Problem → Proof → Type 0
-IsAtMostAll p k = (cost : ℕ) → IsSetCost p p.candidates cost → k.cost ≤ cost
+IsAtMostAll p k = p.wanted ≡ None → (cost : ℕ) → IsSetCost p p.candidates cost → k.cost ≤ cost
 
--- the text is a certificate's whose bound is its cost: no nonempty set of candidates with any routing costs less
+-- the text is a certificate's whose bound is its cost: no nonempty set of candidates, as many as are wanted, with any routing over
+-- allowed routes costs less
 pub record Optimizes (p : Problem) (m : Method) (text : List ℕ) : Type 0 where
   pub certificate : Proof
   pub finds : Finds p m (Spells text) certificate
   pub no_gap : certificate.bound ≡ certificate.cost
   pub optimal : IsOptimal p certificate.plan
 
--- its bound is below its cost, since two nodes more are not allowed, and fewer than a whole tree has; it costs at most
--- what all candidates as hubs cost
-pub record Bounds (p : Problem) (m : Method) (text : List ℕ) : Type 0 where
+-- its bound is below its cost, since two nodes more are not allowed, and fewer than a whole tree has, or within the allowed
+-- gap, in thousandths of a per cent of the cost; where any number of hubs will do it costs at most what all candidates as hubs cost
+pub record Bounds (p : Problem) (m : Method) (allowed : ℕ) (text : List ℕ) : Type 0 where
   pub certificate : Proof
   pub finds : Finds p m (Spells text) certificate
   pub gap : certificate.bound < certificate.cost
-  pub spent : IsSpent m.nodes (line_count certificate.tree)
-  pub not_enough : IsEnoughFor p m.nodes → ⊥
+  pub reason : (IsSpent m.nodes (line_count certificate.tree) × (IsEnoughFor p m.nodes → ⊥))
+      ⊎ IsWithinGap allowed certificate.bound certificate.cost
   pub at_most : IsAtMostAll p certificate
 
 -- the files give an instance, which the text optimizes
@@ -247,10 +249,10 @@ pub record OptimizesInstance (held : Option Files) (s : Solving) (text : List �
   pub optimizes : Optimizes problem (method_of s) text
 
 -- the files give an instance, which the text bounds
-pub record BoundsInstance (held : Option Files) (s : Solving) (text : List ℕ) : Type 0 where
+pub record BoundsInstance (held : Option Files) (s : Solving) (gap : ℕ) (text : List ℕ) : Type 0 where
   pub problem : Problem
   pub instance : WhereTold held (λ files. HoldsInstance files s.source problem)
-  pub bounds : Bounds problem (method_of s) text
+  pub bounds : Bounds problem (method_of s) gap text
 
 -- ---- what `check` and `report` come to
 
@@ -301,7 +303,7 @@ pub record LacksOlder (files : Files) (r : Resolving) : Type 0 where
 -- a file that the request names is not held, when its turn comes
 abbrev pub Lacks : Files → Request → Type 0
 Lacks files (solve solving rule) = LacksSource files solving.source
-Lacks files (optimize solving) = LacksSource files solving.source
+Lacks files (optimize solving gap) = LacksSource files solving.source
 Lacks files (resolve resolving) = LacksSource files resolving.source ⊎ LacksOlder files resolving
 Lacks files (check s certificate) = LacksSource files s ⊎ LacksCertificate files s certificate
 Lacks files (report s certificate) = LacksSource files s ⊎ LacksCertificate files s certificate

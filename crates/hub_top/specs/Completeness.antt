@@ -52,12 +52,16 @@ pub record Completeness (asked : Option Request) (held : Option Files) (quiet : 
   pub served : (files : Files) (r : Resolving) (p before : Problem) (bytes : List ℕ) (bound cost : ℕ) → held ≡ Some files
       → asked ≡ Some (resolve r) → HoldsInstance files r.source p → lacking p p.candidates ≡ None → files r.older ≡ Some bytes
       → IsSameNetwork before p → Certifies before bytes bound cost → quiet → EndsAs (λ x. (x ≡ Done) ⊎ (x ≡ Stopped)) status
-  -- `optimize` with an instance and as many nodes as a whole tree has, or any number
-  pub optimized : (files : Files) (s : Solving) (p : Problem) → held ≡ Some files → asked ≡ Some (optimize s)
-      → HoldsInstance files s.source p → IsEnoughFor p s.search.nodes → quiet → EndsWith Done status
-  -- and with any limit: the bound is the cost, or it is below
-  pub bounded : (files : Files) (s : Solving) (p : Problem) → held ≡ Some files → asked ≡ Some (optimize s)
-      → HoldsInstance files s.source p → quiet → EndsAs (λ x. (x ≡ Done) ⊎ (x ≡ Stopped)) status
+  -- `optimize` with an instance: 8 where all candidates together lack a commodity
+  pub unconnected : (files : Files) (s : Solving) (gap : ℕ) (p : Problem) (commodity : ℕ × ℕ) → held ≡ Some files
+      → asked ≡ Some (optimize s gap) → HoldsInstance files s.source p → lacking p p.candidates ≡ Some commodity → quiet
+      → EndsWith Lacking status
+  -- and where they lack none, with no gap and as many nodes as a whole tree has, or any number
+  pub optimized : (files : Files) (s : Solving) (p : Problem) → held ≡ Some files → asked ≡ Some (optimize s 0)
+      → HoldsInstance files s.source p → lacking p p.candidates ≡ None → IsEnoughFor p s.search.nodes → quiet → EndsWith Done status
+  -- and with any gap and limit of nodes: the bound is the cost, or it is below
+  pub bounded : (files : Files) (s : Solving) (gap : ℕ) (p : Problem) → held ≡ Some files → asked ≡ Some (optimize s gap)
+      → HoldsInstance files s.source p → lacking p p.candidates ≡ None → quiet → EndsAs (λ x. (x ≡ Done) ⊎ (x ≡ Stopped)) status
   -- `check` with an instance and a certificate: the status of the verdict on its bytes
   pub judged : (files : Files) (s : Source) (certificate : List ℕ) (p : Problem) (bytes : List ℕ) (verdict : Verdict)
       → held ≡ Some files → asked ≡ Some (check s certificate) → HoldsInstance files s p → files certificate ≡ Some bytes

@@ -8,7 +8,7 @@ use Rattle.hub_top.specs.declared.status.Status.TheVariants.{Done, Stopped, No, 
 use Rattle.hub_words.specs.Requests.{Source, Request, instance}
 use Rattle.hub_top.specs.Commands.{Blame, HasBlame, WhereTold, LacksNetwork}
 use Rattle.hub_top.specs.Answers.{Answers}
-use Rattle.hub_top.specs.Outcomes.{ruled}
+use Rattle.hub_top.specs.Outcomes.{to_solve}
 
 -- the words are a command, and out took the text of its answer with this status
 pub record Answered (asked : Option Request) (held : Option Files) (old new : Option (List ℕ)) (status : Status) : Type 0 where
@@ -36,13 +36,13 @@ pub record Unread (asked : Option Request) (fails : Request → Type 0) (old new
   pub failed : fails request
   pub taken : Appends old new []
 
--- the words ask to solve an instance, or to solve it again, whose candidates lack a commodity, all of them together, and out took
--- nothing
+-- the words ask to solve an instance, by a rule or by none, or to solve it again, whose candidates lack a commodity, all of them
+-- together, and out took nothing
 pub record Networkless (asked : Option Request) (held : Option Files) (old new : Option (List ℕ)) : Type 0 where
   pub request : Request
   pub is_asked : asked ≡ Some request
   pub source : Source
-  pub is_named : ruled request ≡ Some source
+  pub is_named : to_solve request ≡ Some source
   pub commodity : ℕ × ℕ
   pub lacks : LacksNetwork held source commodity
   pub taken : Appends old new []

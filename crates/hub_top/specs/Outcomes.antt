@@ -5,16 +5,17 @@ use Rattle.hub_io.specs.declared.Failed.{Failed}
 use Rattle.file_spec.specs.Faults.{Fault}
 use Rattle.hub_top.specs.declared.status.Status.{Status}
 use Rattle.hub_top.specs.declared.status.Status.TheVariants.{Usage, Instance, Memory, Read, Write, Lacking}
-use Rattle.hub_words.specs.Requests.{Source, Request, solve, resolve, instance}
+use Rattle.hub_words.specs.Requests.{Source, Request, solve, optimize, resolve, instance}
 use Rattle.hub_top.specs.Texts.{usage_text, fault_text, no_network_text, memory_text, read_text}
 use Rattle.hub_top.specs.Commands.{Blame, HasBlame, WhereTold, Lacks, LacksNetwork}
 use Rattle.hub_top.specs.Answers.{Answers}
 
--- the instance that a request asks the search rule to solve, if it names one
-abbrev pub ruled : Request → Option Source
-ruled (solve solving rule) = Some solving.source
-ruled (resolve resolving) = Some resolving.source
-ruled request = None
+-- the instance that a request asks to solve, if it names one
+abbrev pub to_solve : Request → Option Source
+to_solve (solve solving rule) = Some solving.source
+to_solve (optimize solving gap) = Some solving.source
+to_solve (resolve resolving) = Some resolving.source
+to_solve request = None
 
 -- what a run came to, before it was written
 pub data Outcome : Type 0 where
@@ -79,7 +80,7 @@ MayComeTo asked held fails (faulty blame fault) =
     (request : Request) × (s : Source) × (asked ≡ Some request) × (instance request ≡ Some s)
     × WhereTold held (λ files. HasBlame files s blame fault)
 MayComeTo asked held fails (no_network commodity) =
-    (request : Request) × (s : Source) × (asked ≡ Some request) × (ruled request ≡ Some s) × LacksNetwork held s commodity
+    (request : Request) × (s : Source) × (asked ≡ Some request) × (to_solve request ≡ Some s) × LacksNetwork held s commodity
 MayComeTo asked held fails memory = Unit {0}
 MayComeTo asked held fails read = (request : Request) × (asked ≡ Some request) × fails request
 

@@ -1,5 +1,5 @@
 -- What a search of an instance found, as the top call has it.
-use Rattle.std.specs.Prelude.{◌≡◌, ℕ, ◌+◌, ◌^◌, ◌<◌, ◌≤◌, List, length, Option, Some, None}
+use Rattle.std.specs.Prelude.{◌≡◌, ℕ, ◌+◌, ◌^◌, ◌<◌, ◌≤◌, List, length, Option, Some, None, ◌⊎◌}
 use Rattle.std.specs.List.{AllZip}
 use Rattle.hub_io.specs.Outside.{Files}
 use Rattle.hub_spec.specs.Problem.{Problem, IsProblem, commodities}
@@ -9,9 +9,10 @@ use Rattle.search_spec.specs.Again.{start_of, IsStartOf}
 use Rattle.hub_spec.specs.Certificates.{Proof}
 use Rattle.cert_spec.specs.Verdicts.{Older, serves}
 use Rattle.cert_checker.specs.Shows.{verdict_of}
-use Rattle.kept_cuts.specs.Findings.{IsUnlimited, IsProved, AreOwn, proof_of}
+use Rattle.kept_cuts.specs.Findings.{IsProved, AreOwn, proof_of}
 use Rattle.kept_cuts.specs.declared.found.Found as finding
 use Rattle.search_progress.specs.Findings.{IsFound}
+use Rattle.closing_search.specs.Gaps.{IsWithinGap}
 use Rattle.search_core.specs.Starts.{start_seen}
 use Rattle.hub_words.specs.Requests as words
 use Rattle.hub_words.specs.Requests.{Source, SearchRule, Resolving, AsksAnyNumber}
@@ -77,27 +78,33 @@ pub record IsResolution (held : Option Files) (r : Resolving) (p : Problem) (fou
   pub older_held : HoldsOlder held p r.older (serves older)
   pub searched : IsSearched p r.search.nodes (again (start_of older)) found
 
--- it is a proved network of the instance of the source, which is unlimited, with least routes, that costs at most what all
--- candidates do, with no more nodes than are allowed and than a whole tree has; its bound is below its cost only where two
--- nodes more are not allowed, and fewer than a whole tree has
-pub record IsOptimum (held : Option Files) (s : Source) (nodes : Option ℕ) (p : Problem) (found : finding.Found) : Type 0 where
+-- it is a proved network of the instance of the source, whose candidates together lack no commodity, with least routes, that costs
+-- at most what all candidates do where any number of hubs will do, with no more nodes than are allowed and than a whole tree has; its bound is below its cost, and not within the
+-- gap, only where two nodes more are not allowed, and fewer than a whole tree has
+pub record IsOptimum (held : Option Files) (s : Source) (nodes : Option ℕ) (gap : ℕ) (p : Problem) (found : finding.Found) : Type 0 where
   pub instance : ToldInstance held s p
   pub problem : IsProblem p
-  pub unlimited : IsUnlimited p
+  pub limits : KeepsLimits s.options p
+  pub lacks_none : IsHubSet p p.candidates
   pub proved : IsProved p found
   pub own : AreOwn found
   pub routes : AllZip (IsLeastRoute p found.plan.hubs) (commodities p.size) found.plan.routes
-  pub at_most : (cost : ℕ) → IsSetCost p p.candidates cost → found.cost ≤ cost
+  pub at_most : p.wanted ≡ None → (cost : ℕ) → IsSetCost p p.candidates cost → found.cost ≤ cost
   pub within : found.bound ≤ found.cost
   pub most : length found.tree.items + 1 ≤ 2 ^ (length p.candidates + 1)
   pub allowed : AreWithin nodes (length found.tree.items)
-  pub spent : found.bound < found.cost → IsSpent nodes (length found.tree.items)
-  pub enough : IsEnoughFor p nodes → found.bound ≡ found.cost
+  pub spent : found.bound < found.cost → IsSpent nodes (length found.tree.items) ⊎ IsWithinGap gap found.bound found.cost
+  pub enough : IsEnoughFor p nodes → IsWithinGap gap found.bound found.cost
 
 -- it is what the rule finds for the instance of the source, or the commodity that all its candidates together lack
 abbrev pub ComesTo : Option Files → Source → Option ℕ → SearchRule → Solved → Type 0
 ComesTo held s nodes rule (Found instance found) = IsSolution held s nodes rule instance found
 ComesTo held s nodes rule (NoNetwork i j) = LacksNetwork held s (i, j)
+
+-- it is such a network of the instance of the source, or the commodity that all its candidates together lack
+abbrev pub OptimizesTo : Option Files → Source → Option ℕ → ℕ → Solved → Type 0
+OptimizesTo held s nodes gap (Found instance found) = IsOptimum held s nodes gap instance found
+OptimizesTo held s nodes gap (NoNetwork i j) = LacksNetwork held s (i, j)
 
 -- it is what the rule finds for the instance of the source from the older certificate, or the commodity that all its candidates
 -- together lack, or the ending that tells why the older certificate does not serve

@@ -28,7 +28,7 @@ OptimizedIsOptimal = (p : Problem) (m : Method) (text : List ℕ) (optimized : O
     → IsOneVerdict p text (optimal optimized.certificate.cost)
 
 abbrev pub BoundedIsBounds : Type 0
-BoundedIsBounds = (p : Problem) (m : Method) (text : List ℕ) (bounded : Bounds p m text) → length text ≤ certificate_limit
+BoundedIsBounds = (p : Problem) (m : Method) (gap : ℕ) (text : List ℕ) (bounded : Bounds p m gap text) → length text ≤ certificate_limit
     → IsOneVerdict p text (bounds bounded.certificate.bound bounded.certificate.cost)
 
 -- the text solves the instance by the method, or stops

@@ -26,8 +26,8 @@ pub fn optimized_is_optimal()
     ensures { OptimizedIsOptimal }
 {}
 
-/// The verdict on a text with which `optimize` stops, and that has at most 2^30 bytes, is bounds with its bound and cost,
-/// and no other.
+/// The verdict on a text with which `optimize` leaves a bound below the cost, and that has at most 2^30 bytes, is bounds with
+/// its bound and cost, and no other.
 pub fn bounded_is_bounds()
     ensures { BoundedIsBounds }
 {}

@@ -9,8 +9,8 @@ pub enum Status {
     /// `solve`, `resolve`, `optimize`, `demo`: the bound is the cost. `check`: the bytes certify an optimal plan. `report`: they
     /// certify. `make`: the text was written.
     Done,
-    /// `solve`, `resolve`, `optimize`, `demo`: two nodes more were not allowed, and the bound is below the cost. `check`: the bytes
-    /// certify a plan, with a bound below its cost.
+    /// `solve`, `resolve`, `optimize`, `demo`: the bound is below the cost, since two nodes more were not allowed, or for
+    /// `optimize` since it is within the gap. `check`: the bytes certify a plan, with a bound below its cost.
     Stopped,
     /// `check`, `report`: the bytes do not certify. `resolve`: those of the older certificate do not serve.
     No,
@@ -24,7 +24,7 @@ pub enum Status {
     Read,
     /// A sink failed.
     Write,
-    /// `solve`, `resolve`: all candidates together lack a commodity, so there is no network.
+    /// `solve`, `optimize`, `resolve`: all candidates together lack a commodity, so there is no network.
     Lacking,
 }
 

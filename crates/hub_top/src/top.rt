@@ -3,7 +3,7 @@
 ghost use Rattle.std.specs.Prelude.{◌≡◌, ◌⊎◌, IfOk, IfSome, None, Some};
 ghost use Rattle.hub_io.specs.Outside.{Rose};
 ghost use Rattle.hub_words.specs.Words as spec;
-ghost use Rattle.hub_words.specs.Requests.{AreSources, AsksAnyNumber, AsksListed, IsMaking, IsSearch, IsUnlimited, IsVersion, Request, SaysLimits, instance, making_of, optimized, search_of, solved, solved_by_rounds, version_of};
+ghost use Rattle.hub_words.specs.Requests.{AreSources, AsksAnyNumber, AsksListed, IsGap, IsMaking, IsSearch, IsVersion, Request, SaysLimits, gap_of, instance, making_of, search_of, solved, solved_by_rounds, version_of};
 ghost use Rattle.hub_words.specs.Views.{request_of, texts};
 ghost use Rattle.hub_top.specs.Views.{CanBeWritten, came_to, ended};
 ghost use Rattle.hub_top.specs.Outcomes.{Outcome, MayComeTo, ShelfFails, Quiet, Written};
@@ -35,12 +35,12 @@ use std::thread::Threads;
 /// - `ends`: there is an outcome that the words, the files and the shelf's faults allow, and it was written, with its
 ///   status; where a sink failed, a front of the text that it was to take, and nothing further.
 /// - `means`: what each status says of the words, the files, the faults and what `out` took.
-/// - `complete`: where no fault rose, words that are no command end with status 3, a fault of the instance with 4, `solve`
-///   and `resolve` with 8 where all candidates together lack a commodity, else `solve` and `demo` with 0 or 1 as the search
-///   rule says, and with 0 where enough nodes are allowed, `resolve` so too where the older certificate serves, which one that
-///   certifies for other fixed costs or numbers of hubs does, and else with 2, `optimize` with 0 or 1, and with 0 where enough nodes are allowed, `check` with
-///   0, 1 or 2 by the verdict on the certificate's bytes, `report` with 0 or 2 by it, and `make` with 0; or it is want of
-///   memory.
+/// - `complete`: where no fault rose, words that are no command end with status 3, a fault of the instance with 4, `solve`,
+///   `optimize` and `resolve` with 8 where all candidates together lack a commodity, else `solve` and `demo` with 0 or 1 as the
+///   search rule says, and with 0 where enough nodes are allowed, `resolve` so too where the older certificate serves, which one that
+///   certifies for other fixed costs or numbers of hubs does, and else with 2, `optimize` with 0 or 1, and with 0 where no gap
+///   and enough nodes are allowed, `check` with 0, 1 or 2 by the verdict on the certificate's bytes, `report` with 0 or 2 by
+///   it, and `make` with 0; or it is want of memory.
 /// - `headline`: the headline, whose three sentences stand with their meaning in `specs/Headline.antt`.
 pub fn run<R: Threads + Sync, S: Shelf, O: Sink, E: Sink, G: Gate>(
     rt: &R,
@@ -102,9 +102,9 @@ fn answer<R: Threads + Sync, S: Shelf, G: Gate>(
 ) -> Result<Settled, Halt>
     requires sources { IfSome (instance (request_of command.now)) AreSources }
     requires searches { IfSome (search_of (request_of command.now)) IsSearch }
+    requires gaps { IfSome (gap_of (request_of command.now)) IsGap }
     requires versions { IfSome (version_of (request_of command.now)) IsVersion }
     requires listed { IfSome (instance (request_of command.now)) AsksListed }
-    requires unlimited { IfSome (optimized (request_of command.now)) IsUnlimited }
     requires any_number { IfSome (solved_by_rounds (request_of command.now)) AsksAnyNumber }
     requires sayable { IfSome (solved (request_of command.now)) SaysLimits }
     requires makings { IfSome (making_of (request_of command.now)) IsMaking }
@@ -131,9 +131,21 @@ fn answer<R: Threads + Sync, S: Shelf, G: Gate>(
                 Solved::NoNetwork { i, j } => Ok(Settled::NoNetwork { i, j }),
             }
         }
-        Command::Optimize(solving) => {
-            let (instance, found) = optimize(rt, alloc, &solving.source, solving.search, shelf)?;
-            Ok(Settled::Found(instance, found, solving.version))
+        Command::Optimize(optimizing) => {
+            let solving = &optimizing.solving;
+            match optimize(
+                rt,
+                alloc,
+                &solving.source,
+                solving.search,
+                optimizing.gap,
+                shelf,
+            )? {
+                Solved::Found(instance, found) => {
+                    Ok(Settled::Found(instance, found, solving.version))
+                }
+                Solved::NoNetwork { i, j } => Ok(Settled::NoNetwork { i, j }),
+            }
         }
         Command::Resolve(resolving) => match resolve(rt, alloc, resolving, shelf, gate)? {
             Resolved::Found(instance, found) => {

@@ -53,6 +53,10 @@ with_format a = with_option a (codes "format")
 abbrev pub with_choice : App → App
 with_choice a = with_option a (codes "rule")
 
+-- a command that takes a gap between the bound and the cost
+abbrev pub with_gap : App → App
+with_gap a = with_option a (codes "gap")
+
 -- the words of a subcommand that say which instance is made
 abbrev pub making_words : List Text
 making_words = codes "seed" ∷ codes "size" ∷ []
@@ -65,9 +69,9 @@ with_making a = fold with_word a making_words
 abbrev pub solve_app : App
 solve_app = with_choice (with_format (with_search (with_instance (new_app (codes "solve")))))
 
--- `optimize LAYOUT FILE`, with the instance options, those of a search and the version of the text
+-- `optimize LAYOUT FILE`, with the instance options, those of a search, the version of the text and the gap
 abbrev pub optimize_app : App
-optimize_app = with_format (with_search (with_instance (new_app (codes "optimize"))))
+optimize_app = with_gap (with_format (with_search (with_instance (new_app (codes "optimize")))))
 
 -- `resolve LAYOUT FILE OLD`, with the instance options and those of a search
 abbrev pub resolve_app : App

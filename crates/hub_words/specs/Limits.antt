@@ -12,3 +12,7 @@ most_workers = 64
 -- of the seed of a made instance
 abbrev pub most_seed : ℕ
 most_seed = 10 ^ 6
+
+-- of the gap between the bound and the cost, in thousandths of a per cent of the cost
+abbrev pub most_gap : ℕ
+most_gap = 100000

@@ -2,7 +2,7 @@
 use Rattle.std.specs.Prelude.{◌≡◌, ℕ, ◌≤◌, Bool, true, ◌||◌, List, Option, Some, None, IfSome, IsSome, is_some}
 use Rattle.hub_spec.specs.Limits.{most_nodes}
 use Rattle.file_spec.specs.Options.{Layout, australia_post, listed_number, Options, IsOptions, tail_costs}
-use Rattle.hub_words.specs.Limits.{most_search_nodes, most_workers, most_seed}
+use Rattle.hub_words.specs.Limits.{most_search_nodes, most_workers, most_seed, most_gap}
 
 -- an instance as the words name it: the layout and name of its file, the options, and the name of the costs file
 pub record Source : Type 0 where
@@ -38,11 +38,12 @@ pub data SearchRule : Type 0 where
   node_by_node : SearchRule
   by_rounds : SearchRule
 
--- a command: solve an instance by a rule or by a search that follows none, solve it again from an older certificate, check
--- a certificate against it, report on a certificate, make an instance, or make one and solve it
+-- a command: solve an instance by a rule or by a search that follows none, up to a gap in thousandths of a per cent of the
+-- cost, solve it again from an older certificate, check a certificate against it, report on a certificate, make an
+-- instance, or make one and solve it
 pub data Request : Type 0 where
   solve : Solving → (rule : SearchRule) → Request
-  optimize : Solving → Request
+  optimize : Solving → (gap : ℕ) → Request
   resolve : Resolving → Request
   check : Source → (certificate : List ℕ) → Request
   report : Source → (certificate : List ℕ) → Request
@@ -52,7 +53,7 @@ pub data Request : Type 0 where
 -- the instance that a request names, if it names one
 abbrev pub instance : Request → Option Source
 instance (solve solving rule) = Some solving.source
-instance (optimize solving) = Some solving.source
+instance (optimize solving gap) = Some solving.source
 instance (resolve resolving) = Some resolving.source
 instance (check source certificate) = Some source
 instance (report source certificate) = Some source
@@ -62,7 +63,7 @@ instance (demo making search) = None
 -- the search that a request asks for, if it asks for one
 abbrev pub search_of : Request → Option Search
 search_of (solve solving rule) = Some solving.search
-search_of (optimize solving) = Some solving.search
+search_of (optimize solving gap) = Some solving.search
 search_of (resolve resolving) = Some resolving.search
 search_of (check source certificate) = None
 search_of (report source certificate) = None
@@ -72,7 +73,7 @@ search_of (demo making search) = Some search
 -- the instance that a request asks to be made, if it asks for one
 abbrev pub making_of : Request → Option Making
 making_of (solve solving rule) = None
-making_of (optimize solving) = None
+making_of (optimize solving gap) = None
 making_of (resolve resolving) = None
 making_of (check source certificate) = None
 making_of (report source certificate) = None
@@ -82,38 +83,38 @@ making_of (demo making search) = Some making
 -- the version in which a request asks for a certificate, if it asks for one by its version
 abbrev pub version_of : Request → Option ℕ
 version_of (solve solving rule) = Some solving.version
-version_of (optimize solving) = Some solving.version
+version_of (optimize solving gap) = Some solving.version
 version_of (resolve resolving) = None
 version_of (check source certificate) = None
 version_of (report source certificate) = None
 version_of (make making) = None
 version_of (demo making search) = None
 
--- the instance that a request asks to be solved by the search that follows no rule, if it does
-abbrev pub optimized : Request → Option Source
-optimized (solve solving rule) = None
-optimized (optimize solving) = Some solving.source
-optimized (resolve resolving) = None
-optimized (check source certificate) = None
-optimized (report source certificate) = None
-optimized (make making) = None
-optimized (demo making search) = None
-
 -- the instance that a request asks to be solved by rounds, if it does
 abbrev pub solved_by_rounds : Request → Option Source
 solved_by_rounds (solve solving by_rounds) = Some solving.source
 solved_by_rounds (solve solving node_by_node) = None
-solved_by_rounds (optimize solving) = None
+solved_by_rounds (optimize solving gap) = None
 solved_by_rounds (resolve resolving) = None
 solved_by_rounds (check source certificate) = None
 solved_by_rounds (report source certificate) = None
 solved_by_rounds (make making) = None
 solved_by_rounds (demo making search) = None
 
+-- the gap that a request allows, if it is for the search that follows no rule
+abbrev pub gap_of : Request → Option ℕ
+gap_of (solve solving rule) = None
+gap_of (optimize solving gap) = Some gap
+gap_of (resolve resolving) = None
+gap_of (check source certificate) = None
+gap_of (report source certificate) = None
+gap_of (make making) = None
+gap_of (demo making search) = None
+
 -- what is to be solved, if a request asks for it
 abbrev pub solved : Request → Option Solving
 solved (solve solving rule) = Some solving
-solved (optimize solving) = Some solving
+solved (optimize solving gap) = Some solving
 solved (resolve resolving) = None
 solved (check source certificate) = None
 solved (report source certificate) = None
@@ -138,12 +139,7 @@ pub record AreSources (s : Source) : Type 0 where
 abbrev pub AsksListed : Source → Type 0
 AsksListed s = s.options.hubs ≡ Some listed_number → s.layout ≡ australia_post
 
--- neither is the length of routes limited nor a number of hubs wanted
-pub record IsUnlimited (s : Source) : Type 0 where
-  pub any_length : s.options.longest ≡ None
-  pub any_number : s.options.hubs ≡ None
-
--- where one of them is, the version is the second
+-- where the length of routes is limited or a number of hubs wanted, the version is the second
 abbrev pub SaysLimits : Solving → Type 0
 SaysLimits s = is_limited s.source.options ≡ true → s.version ≡ 2
 
@@ -155,6 +151,10 @@ AsksAnyNumber s = s.options.hubs ≡ None
 pub record IsSearch (s : Search) : Type 0 where
   pub nodes : IfSome s.nodes (λ n. (1 ≤ n) × (n ≤ most_search_nodes))
   pub workers : (1 ≤ s.workers) × (s.workers ≤ most_workers)
+
+-- a gap within its limit
+abbrev pub IsGap : ℕ → Type 0
+IsGap gap = gap ≤ most_gap
 
 -- a seed and a number of nodes within their limits
 pub record IsMaking (m : Making) : Type 0 where
@@ -171,9 +171,9 @@ pub record IsLawful (r : Request) : Type 0 where
   pub limits : IfSome (instance r) HasOptions
   pub sources : IfSome (instance r) AreSources
   pub listed : IfSome (instance r) AsksListed
-  pub unlimited : IfSome (optimized r) IsUnlimited
   pub any_number : IfSome (solved_by_rounds r) AsksAnyNumber
   pub searches : IfSome (search_of r) IsSearch
+  pub gaps : IfSome (gap_of r) IsGap
   pub versions : IfSome (version_of r) IsVersion
   pub sayable : IfSome (solved r) SaysLimits
   pub makings : IfSome (making_of r) IsMaking

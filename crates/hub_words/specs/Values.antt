@@ -1,11 +1,11 @@
 -- The forms of the values that the words give.
-use Rattle.std.specs.Prelude.{ℕ, ◌+◌, ◌-◌, ◌==◌, Bool, true, false, List, [], ◌∷◌, codes, bytes_eq, nat_le, ℤ, pos, Option, Some, None, option_map, option_and_then, if◌then◌else◌}
-use Rattle.std.specs.List.{slice_split}
-use Rattle.text_spec.specs.Numbers.{count_value, decimal_value}
+use Rattle.std.specs.Prelude.{ℕ, ◌+◌, ◌-◌, ◌==◌, Bool, true, false, not, ◌&&◌, List, [], ◌∷◌, length, codes, bytes_eq, nat_le, ℤ, pos, Option, Some, None, option_map, option_and_then, if◌then◌else◌}
+use Rattle.std.specs.List.{list_any, after_first, slice_split}
+use Rattle.text_spec.specs.Numbers.{is_point, is_exponent_mark, count_value, decimal_value}
 use Rattle.hub_spec.specs.Limits.{most_nodes, most_factor, most_length}
 use Rattle.file_spec.specs.Limits.{most_cost_read, most_divisor}
 use Rattle.file_spec.specs.Options.{Layout, cab_matrix, cab_rows, australia_post, Order, flow_first, distance_first, Tail, tail_ignored, tail_costs, HubNumber, said_number, listed_number}
-use Rattle.hub_words.specs.Limits.{most_search_nodes, most_workers, most_seed}
+use Rattle.hub_words.specs.Limits.{most_search_nodes, most_workers, most_seed, most_gap}
 use Rattle.hub_words.specs.Requests.{SearchRule, node_by_node, by_rounds}
 
 -- the layout of this name
@@ -118,6 +118,19 @@ nodes_asked = optional (count_value 1 most_search_nodes)
 abbrev pub workers_asked : Option (List ℕ) → Option ℕ
 workers_asked None = Some 1
 workers_asked (Some word) = count_value 1 most_workers word
+
+-- no exponent, and at most so many digits behind the point: nothing is cut
+abbrev pub has_places : ℕ → List ℕ → Bool
+has_places most word = not (list_any is_exponent_mark word) && nat_le (length (after_first is_point word)) most
+
+-- a gap of at most three decimals, in thousandths of a per cent
+abbrev pub gap_named : List ℕ → Option ℕ
+gap_named word = if has_places 3 word then quantity 3 most_gap word else None
+
+-- how far the bound may be below the cost, in thousandths of a per cent of the cost; not at all where no gap is given
+abbrev pub gap_asked : Option (List ℕ) → Option ℕ
+gap_asked None = Some 0
+gap_asked (Some word) = gap_named word
 
 -- the rule of this name
 abbrev pub rule_named : List ℕ → Option SearchRule

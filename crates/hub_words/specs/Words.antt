@@ -3,7 +3,7 @@ use Rattle.std.specs.Prelude.{ℕ, Bool, ◌&&◌, ◌||◌, not, List, codes, b
 use Rattle.clap.specs.Words.{Row, Text, first_of}
 use Rattle.file_spec.specs.Options.{Layout, Order, Tail, tail_ignored, tail_costs, HubNumber, Options}
 use Rattle.hub_words.specs.Requests.{Source, Search, Solving, Resolving, Making, SearchRule, node_by_node, by_rounds, Request, solve, optimize, resolve, check, report, make, demo, is_limited}
-use Rattle.hub_words.specs.Values.{layout_named, order_asked, tail_asked, divide_asked, factor_asked, fixed_asked, longest_asked, hubs_asked, candidates_asked, is_set, nodes_asked, workers_asked, rule_asked, version_asked, seed_asked, size_asked}
+use Rattle.hub_words.specs.Values.{layout_named, order_asked, tail_asked, divide_asked, factor_asked, fixed_asked, longest_asked, hubs_asked, candidates_asked, is_set, nodes_asked, workers_asked, gap_asked, rule_asked, version_asked, seed_asked, size_asked}
 use Rattle.hub_words.specs.Parses.{parsed}
 
 -- the value that the words give to the argument of this name
@@ -139,10 +139,14 @@ solve_from solving rule = None
 abbrev pub solve_asked : List Row → Option Request
 solve_asked rows = solve_from (solving_asked rows) (rule_asked (given rows (codes "rule")))
 
--- a call to solve the instance by a search that follows no rule, which knows no limits of routes or hubs
+-- what is to be solved, and the gap, where each is within its form
+abbrev pub optimize_from : Option Solving → Option ℕ → Option Request
+optimize_from (Some solving) (Some gap) = Some (optimize solving gap)
+optimize_from solving gap = None
+
+-- a call to solve the instance by that search
 abbrev pub optimize_asked : List Row → Option Request
-optimize_asked rows =
-    option_and_then (λ solving. if is_limited solving.source.options then None else Some (optimize solving)) (solving_asked rows)
+optimize_asked rows = optimize_from (solving_asked rows) (gap_asked (given rows (codes "gap")))
 
 -- an instance, an older certificate and a search, where each is given within its form
 abbrev pub resolving_from : Option Text → Option Source → Option Search → Option Resolving

@@ -1,7 +1,7 @@
 //! The command that the words give.
 
 ghost use Rattle.std.specs.Prelude.{◌≡◌, IfOk, IfSome, codes, option_map};
-ghost use Rattle.hub_words.specs.Requests.{AreSources, AsksAnyNumber, AsksListed, HasOptions, IsLawful, IsMaking, IsSearch, IsUnlimited, IsVersion, SaysLimits, instance, making_of, optimized, search_of, solved, solved_by_rounds, version_of};
+ghost use Rattle.hub_words.specs.Requests.{AreSources, AsksAnyNumber, AsksListed, HasOptions, IsGap, IsLawful, IsMaking, IsSearch, IsVersion, SaysLimits, gap_of, instance, making_of, search_of, solved, solved_by_rounds, version_of};
 ghost use Rattle.hub_words.specs.Requests as law;
 ghost use Rattle.cert_scan.specs.Versions.{version_number};
 ghost use Rattle.hub_words.specs.Words as spec;
@@ -9,11 +9,11 @@ ghost use Rattle.hub_words.specs.Views.{request_of, requested, resolving_of, row
 
 use crate::makings::read_making;
 use crate::parsing::parse;
-use crate::requests::{Command, Resolving, SearchRule, Solving, Source};
+use crate::requests::{Command, Optimizing, Resolving, SearchRule, Solving, Source};
 use crate::searches::read_search;
 use crate::settings::given;
 use crate::sources::source;
-use crate::values::{rule, version};
+use crate::values::{gap, rule, version};
 use clap::ArgMatches;
 use hub_model::Terms;
 use std::alloc::{AllocError, Global};
@@ -24,9 +24,9 @@ pub fn asked<'a>(alloc: Global, words: &'a [String]) -> Result<Option<Command<'a
     ensures limits { IfOk result (λ command. IfSome command (λ c. IfSome (instance (request_of c)) HasOptions)) }
     ensures sources { IfOk result (λ command. IfSome command (λ c. IfSome (instance (request_of c)) AreSources)) }
     ensures listed { IfOk result (λ command. IfSome command (λ c. IfSome (instance (request_of c)) AsksListed)) }
-    ensures unlimited { IfOk result (λ command. IfSome command (λ c. IfSome (optimized (request_of c)) IsUnlimited)) }
     ensures any_number { IfOk result (λ command. IfSome command (λ c. IfSome (solved_by_rounds (request_of c)) AsksAnyNumber)) }
     ensures searches { IfOk result (λ command. IfSome command (λ c. IfSome (search_of (request_of c)) IsSearch)) }
+    ensures gaps { IfOk result (λ command. IfSome command (λ c. IfSome (gap_of (request_of c)) IsGap)) }
     ensures versions { IfOk result (λ command. IfSome command (λ c. IfSome (version_of (request_of c)) IsVersion)) }
     ensures sayable { IfOk result (λ command. IfSome command (λ c. IfSome (solved (request_of c)) SaysLimits)) }
     ensures makings { IfOk result (λ command. IfSome command (λ c. IfSome (making_of (request_of c)) IsMaking)) }
@@ -88,9 +88,12 @@ fn optimize<'a>(alloc: Global, found: &ArgMatches<'a>) -> Result<Option<Command<
     ensures command { IfOk result (λ command. requested command ≡ spec.optimize_asked (rows_found found.now)) }
     ensures lawful { IfOk result (λ command. IfSome command (λ c. IsLawful (request_of c))) }
 {
+    let Some(gap) = gap(given(found, "gap")) else {
+        return Ok(None);
+    };
     match solving(alloc, found)? {
-        Some(solving) if !is_limited(&solving.source.terms) => Ok(Some(Command::Optimize(solving))),
-        _ => Ok(None),
+        Some(solving) => Ok(Some(Command::Optimize(Optimizing { solving, gap }))),
+        None => Ok(None),
     }
 }
 

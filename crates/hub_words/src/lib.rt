@@ -2,9 +2,10 @@
 //!
 //! [`asked`] gives the [`Command`] that the words are, with the [`Source`] of its instance (a layout, a file, the
 //! instance options and a costs file) or the [`Making`] of it (a seed and a number of nodes), and with the [`Search`]
-//! that is to solve it, of which `solve` takes the [`SearchRule`] too. Which words are a command is defined in
-//! `specs/Words.antt`: those in which clap finds no fault for the command of `specs/Hub.antt`, whose values have the
-//! forms of `specs/Values.antt`, and whose options are lawful together. Files are only named here; none is read.
+//! that is to solve it, of which `solve` takes the [`SearchRule`] too, and `optimize` a gap ([`Optimizing`]). Which words
+//! are a command is defined in `specs/Words.antt`: those in which clap finds no fault for the command of
+//! `specs/Hub.antt`, whose values have the forms of `specs/Values.antt`, and whose options are lawful together. Files are
+//! only named here; none is read.
 #![tactic(auto)]
 
 // What is answered.
@@ -22,4 +23,6 @@ mod sources;
 mod values;
 
 pub use asking::asked;
-pub use requests::{Command, Layout, Making, Resolving, Search, SearchRule, Solving, Source};
+pub use requests::{
+    Command, Layout, Making, Optimizing, Resolving, Search, SearchRule, Solving, Source,
+};

@@ -2,7 +2,7 @@
 
 ghost use Rattle.std.specs.Prelude.{◌≡◌, codes, false, fold, IfOk, option_and_then};
 ghost use Rattle.clap.specs.Words.{app_of, new_app, rule_of, subcommand_rows_of};
-ghost use Rattle.hub_words.specs.Hub.{bare, certificate_app, demo_app, flag_rule, hub, instance_words, make_app, optimize_app, option_rule, resolve_app, solve_app, with_choice, with_instance, with_making, with_format, with_option, with_search, with_word, word_rule};
+ghost use Rattle.hub_words.specs.Hub.{bare, certificate_app, demo_app, flag_rule, hub, instance_words, make_app, optimize_app, option_rule, resolve_app, solve_app, with_choice, with_gap, with_instance, with_making, with_format, with_option, with_search, with_word, word_rule};
 ghost use Rattle.hub_words.specs.Parses.{Spells, parsed};
 ghost use Rattle.hub_words.specs.Views.{texts};
 ghost use Rattle.clap.specs.Simple.{on_top};
@@ -125,6 +125,14 @@ fn choice_command<'a>(alloc: Global, command: Command<'a>) -> Result<Command<'a>
     command.arg(option(alloc, "rule"))
 }
 
+/// The command that takes a gap between the bound and the cost as well.
+fn gap_command<'a>(alloc: Global, command: Command<'a>) -> Result<Command<'a>, AllocError>
+    requires { (out-Command command).has_globals ≡ false }
+    ensures { IfOk result (Spells (with_gap (app_of command.entry))) }
+{
+    command.arg(option(alloc, "gap"))
+}
+
 /// The command that takes a seed and a number of nodes as well.
 fn making_command<'a>(alloc: Global, command: Command<'a>) -> Result<Command<'a>, AllocError>
     requires { (out-Command command).has_globals ≡ false }
@@ -146,7 +154,8 @@ fn optimize_command<'a>(alloc: Global) -> Result<Command<'a>, AllocError>
     ensures { IfOk result (Spells optimize_app) }
 {
     let command = instance_command(alloc, plain(alloc, "optimize"))?;
-    format_command(alloc, search_command(alloc, command)?)
+    let with_format = format_command(alloc, search_command(alloc, command)?)?;
+    gap_command(alloc, with_format)
 }
 
 fn resolve_command<'a>(alloc: Global) -> Result<Command<'a>, AllocError>

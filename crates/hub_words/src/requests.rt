@@ -39,6 +39,14 @@ pub struct Solving<'a> {
     pub version: Version,
 }
 
+/// What is to be solved by the search that follows no rule, and how far its bound may be below the cost.
+#[derive(Drop)]
+pub struct Optimizing<'a> {
+    pub solving: Solving<'a>,
+    /// In thousandths of a per cent of the cost: 0 to 100,000.
+    pub gap: u32,
+}
+
 /// What is to be solved again, from which older certificate, and by which search.
 #[derive(Drop)]
 pub struct Resolving<'a> {
@@ -71,8 +79,8 @@ pub enum SearchRule {
 pub enum Command<'a> {
     /// Solve the instance by this rule of the search.
     Solve(Solving<'a>, SearchRule),
-    /// Solve the instance by a search that follows no rule.
-    Optimize(Solving<'a>),
+    /// Solve the instance by a search that follows no rule, up to a gap.
+    Optimize(Optimizing<'a>),
     /// Solve the instance again node by node, beginning with the cuts of an older certificate.
     Resolve(Resolving<'a>),
     /// Check the certificate in the file of this name against the instance.

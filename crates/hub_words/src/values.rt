@@ -1,18 +1,19 @@
 //! The values of single words and options, by their forms.
 
-ghost use Rattle.std.specs.Prelude.{◌≡◌, ◌≤◌, true, Some, IfSome, option_map};
+ghost use Rattle.std.specs.Prelude.{◌≡◌, ◌≤◌, true, length, Some, IfSome, option_map};
+ghost use Rattle.std.specs.List.{list_any, after_first};
 ghost use Rattle.hub_spec.specs.Limits.{most_factor, most_length, most_nodes};
 ghost use Rattle.file_spec.specs.Options.{australia_post, listed_number, IsHubNumber};
 ghost use Rattle.file_spec.specs.Limits.{most_cost_read, most_divisor};
-ghost use Rattle.text_spec.specs.Numbers.{count_value};
+ghost use Rattle.text_spec.specs.Numbers.{count_value, is_exponent_mark, is_point};
 ghost use Rattle.hub_model.specs.Asked.{order_of, tail_of, number_of};
 ghost use Rattle.cert_scan.specs.Versions.{version_number};
-ghost use Rattle.hub_words.specs.Limits.{most_search_nodes, most_seed, most_workers};
+ghost use Rattle.hub_words.specs.Limits.{most_gap, most_search_nodes, most_seed, most_workers};
 ghost use Rattle.hub_words.specs.Requests.{IsVersion};
 ghost use Rattle.hub_words.specs.Values as spec;
 ghost use Rattle.hub_words.specs.Views.{layout_of, rule_seen};
 
-use crate::limits::{MOST_SEARCH_NODES, MOST_SEED, MOST_WORKERS};
+use crate::limits::{MOST_GAP, MOST_SEARCH_NODES, MOST_SEED, MOST_WORKERS};
 use crate::requests::{Layout, SearchRule};
 use cert_scan::Version;
 use dec_text::{read_count, read_decimal};
@@ -114,6 +115,54 @@ pub(crate) fn workers(given: Option<&str>) -> Option<u32>
     match given {
         None => Some(1),
         Some(word) => small_count(word, 1, MOST_WORKERS),
+    }
+}
+
+/// How far the bound may be below the cost, in thousandths of a per cent of the cost: not at all where no gap is given.
+pub(crate) fn gap(given: Option<&str>) -> Option<u32>
+    ensures value { result ≡ spec.gap_asked (option_map (λ word. word.now) given.entry) }
+    ensures limit { IfSome result (λ gap. gap ≤ most_gap) }
+{
+    match given {
+        None => Some(0),
+        Some(word) => gap_named(word),
+    }
+}
+
+fn gap_named(word: &str) -> Option<u32>
+    ensures value { result ≡ spec.gap_named word.now }
+    ensures limit { IfSome result (λ gap. gap ≤ most_gap) }
+{
+    if !has_places(word, 3) {
+        return None;
+    }
+    match quantity(word, 3, MOST_GAP) {
+        Some(gap) => Some(gap as u32),
+        None => None,
+    }
+}
+
+/// Tells whether the word has no exponent, and at most so many digits behind its point.
+fn has_places(word: &str, most: usize) -> bool
+    ensures { result ≡ spec.has_places most word.now }
+{
+    !has_exponent(word.as_bytes()) && places_of(word) <= most
+}
+
+fn has_exponent(word: &[u8]) -> bool
+    ensures { result ≡ list_any is_exponent_mark word.now }
+{
+    word.iter().any(|b| *b == b'e' || *b == b'E')
+}
+
+/// How many bytes stand behind the word's point.
+#[tactic(auto, using(std::proofs::lemmas::Str::Pattern::split_once_first))]
+fn places_of(word: &str) -> usize
+    ensures { result ≡ length (after_first is_point word.now) }
+{
+    match word.split_once('.') {
+        Some((_, behind)) => behind.len(),
+        None => 0,
     }
 }
 

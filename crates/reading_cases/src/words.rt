@@ -2,7 +2,9 @@
 
 use crate::cases::Wrong;
 use hub_model::Terms;
-use hub_words::{Command, Making, Resolving, Search, SearchRule, Solving, Source, asked};
+use hub_words::{
+    Command, Making, Optimizing, Resolving, Search, SearchRule, Solving, Source, asked,
+};
 use std::alloc::{AllocError, Global};
 
 /// The command that the words of a text are, which single spaces separate.
@@ -28,7 +30,7 @@ fn words_of(alloc: Global, text: &str) -> Result<Vec<String>, AllocError> {
 fn command_told(alloc: Global, command: &Command) -> Result<String, AllocError> {
     match command {
         Command::Solve(solving, rule) => solving_told(alloc, solve_named(*rule), solving),
-        Command::Optimize(solving) => solving_told(alloc, "optimize", solving),
+        Command::Optimize(optimizing) => optimizing_told(alloc, optimizing),
         Command::Resolve(resolving) => resolving_told(alloc, resolving),
         Command::Check(source, certificate) => judging_told(alloc, "check", source, certificate),
         Command::Report(source, certificate) => judging_told(alloc, "report", source, certificate),
@@ -49,6 +51,12 @@ fn solving_told(alloc: Global, name: &str, solving: &Solving) -> Result<String, 
     let source = source_told(alloc, &solving.source)?;
     let version = solving.version;
     format!(in alloc; "{name} {source}, nodes {nodes:?}, workers {workers}, {version:?} version")
+}
+
+fn optimizing_told(alloc: Global, optimizing: &Optimizing) -> Result<String, AllocError> {
+    let solving = solving_told(alloc, "optimize", &optimizing.solving)?;
+    let gap = optimizing.gap;
+    format!(in alloc; "{solving}, gap {gap}")
 }
 
 fn resolving_told(alloc: Global, resolving: &Resolving) -> Result<String, AllocError> {

@@ -3,8 +3,8 @@ use Rattle.std.specs.Prelude.{IfSome}
 use Rattle.hub_words.specs.Requests.{AsksAnyNumber, IsVersion, SaysLimits, solve, optimize, resolve, demo, solved, solved_by_rounds, version_of}
 use Rattle.hub_words.specs.Views.{making_seen, request_of, resolving_of, rule_seen, search_seen, solving_of}
 use Rattle.hub_words.specs.declared.requests.Command.{Command}
-use Rattle.hub_top.specs.Solving.{ComesTo, ComesAgainTo, IsSolution, IsResolution}
-use Rattle.hub_top.proofs.Versions.{either_version, said_version}
+use Rattle.hub_top.specs.Solving.{ComesTo, ComesAgainTo, OptimizesTo, IsOptimum, IsSolution, IsResolution}
+use Rattle.hub_top.proofs.Versions.{said_version}
 use Rattle.hub_top.proofs.Searched.{demo_answers, found_amounts, made_size, may_follow_by, own_by, resolve_answers, solve_answers}
 use Rattle.hub_top.proofs.Optimized.{optimize_answers}
 use Rattle.hub_top.proofs.top.answer.Goals as goal
@@ -39,19 +39,23 @@ returns-in_ok-found-in-Demo-clause-may g c =
 pub returns-in_ok-found-in-Demo-clause-writable : goal.returns-in_ok-found-in-Demo-clause-writable
 returns-in_ok-found-in-Demo-clause-writable g c = found_amounts _ _ c.in_ok-found-in-Demo.ensures.proved
 
-pub returns-in_ok-instance-in-Optimize-clause-may : goal.returns-in_ok-instance-in-Optimize-clause-may
-returns-in_ok-instance-in-Optimize-clause-may g c =
-    let s = solving_of c.in-Optimize.solving in
-    let r = c.in_ok-instance-in-Optimize in
-    let optimized = c.in_ok-instance-in-Optimize.ensures.optimized in
-    let asked = subst (λ (x : Command). IfSome (version_of (request_of x)) IsVersion) c.in-Optimize.is c.requires.versions in
-    let version = either_version r.instance r.found.cuts.cuts s.version optimized.unlimited optimized.own asked in
-    (optimize s, rw c.in-Optimize.is refl, optimize_answers (g.S.Shelf.held c.args.shelf.now) s r.instance r.found version optimized)
-
 pub returns-in-Found-2-clause-may : goal.returns-in-Found-2-clause-may
 returns-in-Found-2-clause-may g c =
+    let s = solving_of c.in-Optimize.optimizing.solving in
+    let gap = c.in-Optimize.optimizing.gap in
+    let p = c.in-Found-2.instance in
+    let held = g.S.Shelf.held c.args.shelf.now in
+    let optimum : IsOptimum held s.source s.search.nodes gap p c.in-Found-2.found =
+    subst (OptimizesTo held s.source s.search.nodes gap) c.in-Found-2.is c.in_ok-instance-in-Optimize.ensures.optimized in
+    let asked = subst (λ (x : Command). IfSome (version_of (request_of x)) IsVersion) c.in-Optimize.is c.requires.versions in
+    let says = subst (λ (x : Command). IfSome (solved (request_of x)) SaysLimits) c.in-Optimize.is c.requires.sayable in
+    let version = said_version s p c.in-Found-2.found.cuts.cuts optimum.limits optimum.own asked says in
+    (optimize s gap, rw c.in-Optimize.is refl, optimize_answers held s gap p c.in-Found-2.found version optimum)
+
+pub returns-in-Found-3-clause-may : goal.returns-in-Found-3-clause-may
+returns-in-Found-3-clause-may g c =
     let r = resolving_of c.in-Resolve.resolving in
     let held = g.S.Shelf.held c.args.shelf.now in
-    let resolution : IsResolution held r c.in-Found-2.instance c.in-Found-2.found =
-    subst (ComesAgainTo held r) c.in-Found-2.is c.in_ok-instance-in-Resolve.ensures.resolved in
-    (resolve r, rw c.in-Resolve.is refl, resolve_answers held r c.in-Found-2.instance c.in-Found-2.found resolution)
+    let resolution : IsResolution held r c.in-Found-3.instance c.in-Found-3.found =
+    subst (ComesAgainTo held r) c.in-Found-3.is c.in_ok-instance-in-Resolve.ensures.resolved in
+    (resolve r, rw c.in-Resolve.is refl, resolve_answers held r c.in-Found-3.instance c.in-Found-3.found resolution)
