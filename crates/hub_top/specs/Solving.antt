@@ -78,14 +78,13 @@ pub record IsResolution (held : Option Files) (r : Resolving) (p : Problem) (fou
   pub older_held : HoldsOlder held p r.older (serves older)
   pub searched : IsSearched p r.search.nodes (again (start_of older)) found
 
--- it is a proved network of the instance of the source, whose candidates together lack no commodity, with least routes, that costs
--- at most what all candidates do where any number of hubs will do, with no more nodes than are allowed and than a whole tree has; its bound is below its cost, and not within the
+-- it is a proved network of the instance of the source, with least routes, that costs at most what all candidates do where any number
+-- of hubs will do, with no more nodes than are allowed and than a whole tree has; its bound is below its cost, and not within the
 -- gap, only where two nodes more are not allowed, and fewer than a whole tree has
 pub record IsOptimum (held : Option Files) (s : Source) (nodes : Option ℕ) (gap : ℕ) (p : Problem) (found : finding.Found) : Type 0 where
   pub instance : ToldInstance held s p
   pub problem : IsProblem p
   pub limits : KeepsLimits s.options p
-  pub lacks_none : IsHubSet p p.candidates
   pub proved : IsProved p found
   pub own : AreOwn found
   pub routes : AllZip (IsLeastRoute p found.plan.hubs) (commodities p.size) found.plan.routes

@@ -16,3 +16,21 @@ optimize_within-requires-clause-lacks_none g c κs within =
     let all = c.in_ok-all_candidates in
     let none = told_of_all p all.field-0 None all.ensures.all c.in_default.ensures in
     network_when p (subst IsProblem c.instance.view_is c.instance.invariant) none
+
+pub returns-clause-optimized : goal.returns-clause-optimized
+returns-clause-optimized g c =
+    let found = c.in_ok-found.ensures in
+    record {
+      instance = c.in_ok-instance.ensures.given;
+      problem = subst IsProblem c.instance.view_is c.instance.invariant;
+      limits = c.in_ok-instance.ensures.limits;
+      proved = found.proved;
+      own = found.own;
+      routes = found.routes;
+      at_most = found.at_most;
+      within = found.within;
+      most = found.most;
+      allowed = found.allowed;
+      spent = found.spent;
+      enough = found.enough;
+    }
