@@ -126,9 +126,15 @@ class OptionsOfSearch(InFolder):
         self.by(self.with_gap())
         result = planning.solve(FLOWS, DISTANCES, fixed=1, gap=Decimal("10.00"))
         self.assertEqual((result.is_optimal, result.gap, result.bound), (False, Decimal(10), result.cost * 9 / 10))
-        told = f"Result(hubs=[0], cost={result.cost}, bound={result.bound}, gap=10 %)"
+        told = f"Result(hubs={list(result.hubs)}, cost={result.cost}, bound={result.bound}, gap=10 %)"
         self.assertEqual(repr(result), told)
         self.assertEqual(planning.solve(FLOWS, DISTANCES, fixed=1).gap, 0)
+
+    def test_a_gap_as_hub_leaves_it(self) -> None:
+        least = planning.solve(FLOWS, DISTANCES, fixed=1).cost
+        result = planning.solve(FLOWS, DISTANCES, fixed=1, gap=20)
+        self.assertLessEqual(result.gap, 20)
+        self.assertTrue(result.bound <= least <= result.cost)
 
 
 class Examples(InFolder):
