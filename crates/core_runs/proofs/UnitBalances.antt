@@ -32,7 +32,7 @@ use Rattle.core_runs.proofs.Combining.{equal_from_times, number_behind, run_comb
 use Rattle.core_runs.proofs.BestCovers.{columns_long}
 
 -- whether a column is basic in one of the first rows
-basic_or_not : (basis : List ℕ) (c n : ℕ) → ((i : ℕ) × (i < n) × (get_or basis i 0 ≡ c)) ⊎ ((i : ℕ) → i < n → get_or basis i 0 ≡ c → ⊥)
+pub basic_or_not : (basis : List ℕ) (c n : ℕ) → ((i : ℕ) × (i < n) × (get_or basis i 0 ≡ c)) ⊎ ((i : ℕ) → i < n → get_or basis i 0 ≡ c → ⊥)
 basic_or_not basis c zero = inr (λ i l e. omega arith)
 basic_or_not basis c (suc n) = ⊎_elim
     (λ found. inl (found.0, omega (arith, found.1), found.2))

@@ -1,0 +1,4 @@
+pub mod Zipped
+pub mod Duals
+pub mod OneReading
+pub mod WayOrder

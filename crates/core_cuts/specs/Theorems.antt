@@ -1,0 +1,45 @@
+-- What is proved of core duals that are found; each statement is the contract of the public function of its name.
+use Rattle.std.specs.Prelude.{◌≡◌, ℕ, ◌<◌, ◌≤◌, ◌⊎◌, List, All}
+use Rattle.std.specs.List.{AllPairs}
+use Rattle.hub_spec.specs.Problem.{Problem, IsProblem}
+use Rattle.hub_spec.specs.Cuts.{IsDual}
+use Rattle.hub_spec.specs.Plans.{IsHubSet}
+use Rattle.core_spec.specs.CoreCuts.{Way, IsCoreDual, MayBeMarked}
+use Rattle.core_cuts.specs.Readings.{FoundDual, IsFound, IsNotFound}
+
+-- a commodity of an instance where cuts may be marked, and a hub set
+pub record IsAsked (p : Problem) (hubs : List ℕ) (c : ℕ × ℕ) : Type 0 where
+  pub problem : IsProblem p
+  pub may : MayBeMarked p
+  pub set : IsHubSet p hubs
+  pub from : c.0 < p.size
+  pub to : c.1 < p.size
+
+-- what is found is feasible, and a core dual by its proof
+abbrev pub FoundIsCore : Type 0
+FoundIsCore = (p : Problem) (hubs : List ℕ) (c : ℕ × ℕ) (found : FoundDual) → IsAsked p hubs c → IsFound p hubs c found
+    → IsDual p found.part c found.dual × IsCoreDual p hubs found.part c found.dual found.proof
+
+-- no other is found
+abbrev pub FoundIsOne : Type 0
+FoundIsOne = (p : Problem) (hubs : List ℕ) (c : ℕ × ℕ) (found other : FoundDual) → IsAsked p hubs c
+    → IsFound p hubs c found → IsFound p hubs c other → found ≡ other
+
+-- where one is found it does not hold that nothing is
+abbrev pub FoundOrNot : Type 0
+FoundOrNot = (p : Problem) (hubs : List ℕ) (c : ℕ × ℕ) (found : FoundDual) → IsAsked p hubs c
+    → IsFound p hubs c found → IsNotFound p hubs c → ⊥
+
+-- the first way's pair of nodes comes before the second's: its first node is less, or the same and its last node is less
+abbrev pub IsWayBefore : Way → Way → Type 0
+IsWayBefore v w = (v.0 < w.0) ⊎ ((v.0 ≡ w.0) × (v.1 < w.1))
+
+-- a way as a proof line says it: the lesser node first, and taken at least once
+pub record IsLineWay (w : Way) : Type 0 where
+  pub nodes : w.0 ≤ w.1
+  pub some : 1 ≤ w.2
+
+-- the ways of what is found are as a proof line says them, in its order
+abbrev pub FoundInOrder : Type 0
+FoundInOrder = (p : Problem) (hubs : List ℕ) (c : ℕ × ℕ) (found : FoundDual) → IsAsked p hubs c → IsFound p hubs c found
+    → AllPairs IsWayBefore found.proof.ways × All IsLineWay found.proof.ways
