@@ -2,3 +2,13 @@ pub mod Zipped
 pub mod Duals
 pub mod OneReading
 pub mod WayOrder
+pub mod FirstAndRest
+pub mod LastTables
+pub mod LeastReadings
+pub mod NeededLists
+pub mod LaidRows
+pub mod ProblemLimits
+pub mod CommonParts
+pub mod FoundSounds
+pub mod CoredCuts
+pub mod TimesDuals

@@ -1,5 +1,6 @@
 -- Values that stand in the order of nodes.
-use Rattle.std.proofs.Common.{◌≡◌, ℕ, zero, suc, ◌<◌, ◌≤◌, nat_eq, List, [], ◌∷◌, length, get_or, zip, All, refl, eq-eqb, ne_eqb, ext_get_or, arith}
+use Rattle.std.proofs.Common.{◌≡◌, ℕ, zero, suc, ◌+◌, ◌<◌, ◌≤◌, nat_eq, List, [], ◌∷◌, length, get_or, drop, zip, All, refl, ap₂, ◌∙◌, eq-eqb, ne_eqb, ext_get_or, arith}
+use Rattle.std.proofs.lemmas.List.{drop_more}
 use Rattle.std.specs.List.Sorted.{IsStrictlyIncreasing}
 use Rattle.std.proofs.lemmas.List.Elements.{All-head, All-tail, Contains-get_or}
 use Rattle.hub_spec.specs.Cuts.{value_at}
@@ -33,3 +34,13 @@ same_values ks vs ws up long also same =
     let one = value_at_place ks vs x up long here in
     let other = value_at_place ks ws x up also here in
     omega (arith, one, other, same x here)))
+
+-- ---- a search for a node
+
+-- a node that is not the one that is looked for is passed over
+pub value_later : (ks vs : List ℕ) (x k : ℕ) → x < length ks → length vs ≡ length ks → (get_or ks x 0 ≡ k → ⊥)
+    → value_at (zip ks vs) k ≡ value_at (zip (drop x ks) (drop x vs)) k
+    → value_at (zip ks vs) k ≡ value_at (zip (drop (x + 1) ks) (drop (x + 1) vs)) k
+value_later ks vs x k within long apart so_far =
+    so_far ∙ ap₂ (λ (ms ws : List ℕ). value_at (zip ms ws) k) (drop_more ks x 0 within) (drop_more vs x 0 (omega (arith, long, within)))
+    ∙ rw (ne_eqb (get_or ks x 0) k apart) refl

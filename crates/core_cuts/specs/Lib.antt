@@ -1,2 +1,6 @@
+pub mod BasicRatios
+pub mod Bodies
+pub mod Brought
+pub mod FoundCuts
 pub mod Readings
 pub mod Theorems

@@ -4,8 +4,9 @@ use Rattle.std.specs.List.{AllPairs}
 use Rattle.hub_spec.specs.Problem.{Problem, IsProblem}
 use Rattle.hub_spec.specs.Cuts.{IsDual}
 use Rattle.hub_spec.specs.Plans.{IsHubSet}
-use Rattle.core_spec.specs.CoreCuts.{Way, IsCoreDual, MayBeMarked}
+use Rattle.core_spec.specs.CoreCuts.{Way, IsCoreDual, MayBeMarked, IsCoreCut}
 use Rattle.core_cuts.specs.Readings.{FoundDual, IsFound, IsNotFound}
+use Rattle.core_cuts.specs.FoundCuts.{MarkedCut, IsCored}
 
 -- a commodity of an instance where cuts may be marked, and a hub set
 pub record IsAsked (p : Problem) (hubs : List ℕ) (c : ℕ × ℕ) : Type 0 where
@@ -43,3 +44,12 @@ pub record IsLineWay (w : Way) : Type 0 where
 abbrev pub FoundInOrder : Type 0
 FoundInOrder = (p : Problem) (hubs : List ℕ) (c : ℕ × ℕ) (found : FoundDual) → IsAsked p hubs c → IsFound p hubs c found
     → AllPairs IsWayBefore found.proof.ways × All IsLineWay found.proof.ways
+
+-- an instance, and a hub set
+pub record IsAskedSet (p : Problem) (hubs : List ℕ) : Type 0 where
+  pub problem : IsProblem p
+  pub set : IsHubSet p hubs
+
+-- the cut that is found for a hub set is a core cut by its mark
+abbrev pub CoredIsCore : Type 0
+CoredIsCore = (p : Problem) (hubs : List ℕ) (x : MarkedCut) → IsAskedSet p hubs → IsCored p hubs x → IsCoreCut p x.cut x.mark

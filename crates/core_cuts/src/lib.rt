@@ -1,11 +1,37 @@
 //! Core duals: for a commodity and a hub set a dual that is tight at the set, with a proof that no cut which is tight there
-//! dominates it.
+//! dominates it; and core cuts, the cuts of a hub set all of whose duals are core duals.
 //!
-//! They are read off the best table of a linear program, which says of price and values by unit of flow what a dual owes. There
-//! is no code as yet: each function is empty, and its contract is a theorem on what is found.
+//! They are read off the best table of a linear program, which says of price and values by unit of flow what a dual owes.
+//! The modules build on one another in this order: `edges` (the ways of a commodity, and what they cost), `tables` and
+//! `problems` (the table before the first pivot), `ratios` (the basic solution of the last table), `least_parts` (the part that
+//! makes it whole), `unit_prices` (price and values by unit of flow, times the part), `readings` (these of a table), `taken_ways`
+//! and `dual_proofs` (what proves the dual), `core_duals`; and for a cut `found_duals` (the core duals of all commodities),
+//! `common_parts` (the least part that they have in common), `brought_duals` (one of them with that part), `brought_cuts` (all of
+//! them, within the limits of a certificate), `found_cuts`. The functions below are empty: the contract of each is a theorem on
+//! what is found.
 #![tactic(auto)]
 
-ghost use Rattle.core_cuts.specs.Theorems.{FoundIsCore, FoundIsOne, FoundOrNot, FoundInOrder};
+mod brought_cuts;
+mod brought_duals;
+mod common_parts;
+mod core_duals;
+mod dual_proofs;
+mod edges;
+mod found_cuts;
+mod found_duals;
+mod least_parts;
+mod problems;
+mod ratios;
+mod readings;
+mod tables;
+mod taken_ways;
+mod unit_prices;
+
+ghost use Rattle.core_cuts.specs.Theorems.{FoundIsCore, FoundIsOne, FoundOrNot, FoundInOrder, CoredIsCore};
+
+pub use core_duals::{CoreDual, core_dual};
+pub use dual_proofs::DualProof;
+pub use found_cuts::{CoreCut, core_cut};
 
 /// What is found is feasible, and a core dual by its proof.
 pub fn found_is_core()
@@ -25,4 +51,9 @@ pub fn found_or_not()
 /// The ways of what is found stand as in the line of a proof.
 pub fn found_in_order()
     ensures { FoundInOrder }
+{}
+
+/// The cut that is found for a hub set is a core cut by its mark.
+pub fn cored_is_core()
+    ensures { CoredIsCore }
 {}

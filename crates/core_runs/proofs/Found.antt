@@ -34,7 +34,7 @@ distance_limit p i j ok row column =
     All-get_or (λ d. d ≤ most_distance) p.distances (i * p.size + j) 0
     (omega (arith, ok.distance_for_each_pair, mul-add-lt i p.size j p.size row column)) ok.distance_limit
 
-length_limit : (p : Problem) (i j k m : ℕ) → IsProblem p → i < p.size → j < p.size → k < p.size → m < p.size
+pub length_limit : (p : Problem) (i j k m : ℕ) → IsProblem p → i < p.size → j < p.size → k < p.size → m < p.size
     → unit_length p i j k m ≤ 3 * 10 ^ 16
 unfolding unit_length
 length_limit p i j k m ok from to first last =
@@ -45,17 +45,18 @@ length_limit p i j k m ok from to first last =
       mul-le-mul ok.deliver_limit (distance_limit p m j ok last to),
     )
 
-right_limit : (p : Problem) (c e : ℕ × ℕ) → IsProblem p → p.longest ≡ None → c.0 < p.size → c.1 < p.size → e.0 < p.size → e.1 < p.size
+-- what is so many times the flow, over it
+pub quotient_limit : (w long cost : ℕ) → w * long ≡ cost → long ≤ 3 * 10 ^ 16 → cost / w ≤ 3 * 10 ^ 16
+quotient_limit zero long cost is few = (let none : cost ≡ 0 = omega (arith, is) in rw none (omega arith))
+quotient_limit (suc w) long cost is few =
+    let quotient : cost / suc w ≡ long = ap (λ n. n / suc w) (sym is) ∙ mul-div_cancel_left long (omega arith) in
+    omega (arith, quotient, few)
+
+pub right_limit : (p : Problem) (c e : ℕ × ℕ) → IsProblem p → p.longest ≡ None → c.0 < p.size → c.1 < p.size → e.0 < p.size → e.1 < p.size
     → edge_right p c e ≤ 3 * 10 ^ 16
 right_limit p c e ok any from to first last =
-    by_length (flow p c.0 c.1) (pair_length p c e.0 e.1) (pair_cost p c e.0 e.1) (pair_length_costs p c e.0 e.1 any)
+    quotient_limit (flow p c.0 c.1) (pair_length p c e.0 e.1) (pair_cost p c e.0 e.1) (pair_length_costs p c e.0 e.1 any)
     (omega (arith, length_limit p c.0 c.1 e.0 e.1 ok from to first last))
-  where
-    by_length : (w long cost : ℕ) → w * long ≡ cost → long ≤ 3 * 10 ^ 16 → cost / w ≤ 3 * 10 ^ 16
-    by_length zero long cost is few = (let none : cost ≡ 0 = omega (arith, is) in rw none (omega arith))
-    by_length (suc w) long cost is few =
-        let quotient : cost / suc w ≡ long = ap (λ n. n / suc w) (sym is) ∙ mul-div_cancel_left long (omega arith) in
-        omega (arith, quotient, few)
 
 pub core_is_narrow : (p : Problem) (hubs : List ℕ) (c : ℕ × ℕ) → IsProblem p → p.longest ≡ None → c.0 < p.size → c.1 < p.size → IsNarrowCore p hubs c
 core_is_narrow p hubs c ok any from to =

@@ -219,12 +219,12 @@ balanced_step part denom price sum n scale cost y d v some row read sums of_v =
 
 -- ---- the numbers of the columns
 
-number_of_map : (f : ℕ × ℕ → ℤ) (edges : List (ℕ × ℕ)) (ys : List ℤ) (i : ℕ) → i < length edges → number (map f edges ++ ys) i ≡ f (get_or edges i (0, 0))
+pub number_of_map : (f : ℕ × ℕ → ℤ) (edges : List (ℕ × ℕ)) (ys : List ℤ) (i : ℕ) → i < length edges → number (map f edges ++ ys) i ≡ f (get_or edges i (0, 0))
 number_of_map f [] ys i l = absurd (omega arith)
 number_of_map f (e ∷ edges) ys zero l = refl
 number_of_map f (e ∷ edges) ys (suc i) l = number_of_map f edges ys i (omega arith)
 
-number_after : (f : ℕ × ℕ → ℤ) (edges : List (ℕ × ℕ)) (y : ℤ) (i : ℕ) → i ≡ length edges → number (map f edges ++ y ∷ []) i ≡ y
+pub number_after : (f : ℕ × ℕ → ℤ) (edges : List (ℕ × ℕ)) (y : ℤ) (i : ℕ) → i ≡ length edges → number (map f edges ++ y ∷ []) i ≡ y
 number_after f [] y i e = ap (number (y ∷ [])) e
 number_after f (x ∷ edges) y zero e = absurd (omega arith)
 number_after f (x ∷ edges) y (suc i) e = number_after f edges y i (omega arith)

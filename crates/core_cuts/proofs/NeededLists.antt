@@ -1,0 +1,65 @@
+-- The needed edges of a list of candidates, one candidate after another.
+use Rattle.std.proofs.Common.{◌≡◌, ℕ, ◌+◌, ◌<◌, ◌≤◌, true, false, cond, List, [], ◌∷◌, ◌++◌, length, map, filter, get_or, take, drop, sym, ap, ◌∙◌, arith}
+use Rattle.std.proofs.lemmas.List.{drop_more, append_assoc, append-nil, get_or-map, length-map, take_all}
+use Rattle.std.proofs.lemmas.List.Elements.{filter-append, filter_more}
+use Rattle.hub_spec.specs.Problem.{Problem}
+use Rattle.core_runs.specs.CoreTables.{is_needed, pairs_of}
+
+-- the needed edges of the candidates from this place on
+abbrev pub needed_from : Problem → ℕ × ℕ → ℕ → List (ℕ × ℕ)
+needed_from p c x = filter (is_needed p c) (pairs_of (drop x p.candidates))
+
+-- those of one candidate, and the rest
+pub needed_next : (p : Problem) (c : ℕ × ℕ) (x : ℕ) → x < length p.candidates
+    → needed_from p c x
+    ≡ filter (is_needed p c) (map (λ m. (get_or p.candidates x 0, m)) (drop (x + 1) p.candidates)) ++ needed_from p c (x + 1)
+needed_next p c x within =
+    ap (λ ks. filter (is_needed p c) (pairs_of ks)) (drop_more p.candidates x 0 within)
+    ∙ filter-append (is_needed p c) (map (λ m. (get_or p.candidates x 0, m)) (drop (x + 1) p.candidates)) (pairs_of (drop (x + 1) p.candidates))
+
+-- with those of one candidate more, the rest still makes all
+pub needed_added : (p : Problem) (c : ℕ × ℕ) (x : ℕ) (old new all : List (ℕ × ℕ)) → x < length p.candidates
+    → old ++ needed_from p c x ≡ all
+    → new ≡ old ++ filter (is_needed p c) (map (λ m. (get_or p.candidates x 0, m)) (drop (x + 1) p.candidates))
+    → new ++ needed_from p c (x + 1) ≡ all
+needed_added p c x old new all within before added =
+    let here = filter (is_needed p c) (map (λ m. (get_or p.candidates x 0, m)) (drop (x + 1) p.candidates)) in
+    ap (λ es. es ++ needed_from p c (x + 1)) added ∙ append_assoc old here (needed_from p c (x + 1))
+    ∙ ap (λ es. old ++ es) (sym (needed_next p c x within)) ∙ before
+
+-- ---- one candidate
+
+abbrev fan : ℕ → List ℕ → List (ℕ × ℕ)
+fan k later = map (λ m. (k, m)) later
+
+-- the needed ones of its first edges
+abbrev pub first_needed : Problem → ℕ × ℕ → ℕ → List ℕ → ℕ → List (ℕ × ℕ)
+first_needed p c k later i = filter (is_needed p c) (take i (fan k later))
+
+more_needed : (p : Problem) (c : ℕ × ℕ) (k : ℕ) (later : List ℕ) (i : ℕ) → i < length later
+    → first_needed p c k later (i + 1) ≡ first_needed p c k later i ++ cond (is_needed p c (k, get_or later i 0)) ((k, get_or later i 0) ∷ []) []
+more_needed p c k later i within =
+    let at : get_or (fan k later) i (k, 0) ≡ (k, get_or later i 0) = get_or-map (λ m. (k, m)) later i 0 (k, 0) within in
+    filter_more (is_needed p c) (fan k later) i (k, 0) (omega (arith, within, length-map {B = ℕ × ℕ} later (λ m. (k, m))))
+    ∙ ap (λ e. first_needed p c k later i ++ cond (is_needed p c e) (e ∷ []) []) at
+
+pub needed_yes : (p : Problem) (c : ℕ × ℕ) (k : ℕ) (later : List ℕ) (i : ℕ) (base old : List (ℕ × ℕ)) → i < length later
+    → is_needed p c (k, get_or later i 0) ≡ true → old ≡ base ++ first_needed p c k later i
+    → old ++ (k, get_or later i 0) ∷ [] ≡ base ++ first_needed p c k later (i + 1)
+needed_yes p c k later i base old within is_one before =
+    let e : ℕ × ℕ = (k, get_or later i 0) in
+    ap (λ es. es ++ e ∷ []) before ∙ append_assoc base (first_needed p c k later i) (e ∷ [])
+    ∙ ap (λ es. base ++ es) (sym (more_needed p c k later i within ∙ ap (λ b. first_needed p c k later i ++ cond b (e ∷ []) []) is_one))
+
+pub needed_no : (p : Problem) (c : ℕ × ℕ) (k : ℕ) (later : List ℕ) (i : ℕ) (base old : List (ℕ × ℕ)) → i < length later
+    → is_needed p c (k, get_or later i 0) ≡ false → old ≡ base ++ first_needed p c k later i
+    → old ≡ base ++ first_needed p c k later (i + 1)
+needed_no p c k later i base old within is_none before =
+    let e : ℕ × ℕ = (k, get_or later i 0) in
+    before
+    ∙ ap (λ es. base ++ es)
+    (sym (more_needed p c k later i within ∙ ap (λ b. first_needed p c k later i ++ cond b (e ∷ []) []) is_none ∙ append-nil (first_needed p c k later i)))
+
+pub all_needed : (p : Problem) (c : ℕ × ℕ) (k : ℕ) (later : List ℕ) (i : ℕ) → length later ≤ i → first_needed p c k later i ≡ filter (is_needed p c) (fan k later)
+all_needed p c k later i long =
+    ap (filter (is_needed p c)) (take_all i (fan k later) (omega (arith, long, length-map {B = ℕ × ℕ} later (λ m. (k, m)))))

@@ -1,0 +1,100 @@
+//! What proves that a dual is a core dual.
+
+ghost use Rattle.std.specs.Prelude.{◌≡◌, ◌↔◌, ◌+◌, ◌≤◌, length, All, IfOk, IsTrue};
+ghost use Rattle.core_spec.specs.CoreCuts.{Way};
+ghost use Rattle.frac_rows.specs.Rows.{objective};
+ghost use Rattle.core_cuts.specs.Readings.{most_taken, scale_at, IsShortProof};
+ghost use Rattle.core_cuts.specs.Bodies.{table_proof};
+
+use crate::taken_ways::{ordered_ways, ways_of};
+use frac_rows::Rows;
+use std::alloc::{AllocError, Global};
+use std::marker::Model;
+
+/// The greatest scale of a proof.
+const MOST_SCALE: u64 = 1_000_000_000;
+
+/// The most that a way is taken.
+const MOST_TAKEN: u64 = 1_000_000_000_000;
+
+/// A proof: how many times over the hubs count, the scale, and the ways with how often each is taken.
+#[derive(Drop)]
+pub struct DualProof {
+    turns: u32,
+    scale: u64,
+    ways: Vec<(u32, u32, u64)>,
+}
+
+impl Model for DualProof {
+    ghost use Rattle.core_spec.specs.CoreCuts.{CoreProof};
+
+    ghost Value = { CoreProof };
+
+    ghost view = { λ s. record { turns = s.turns; scale = s.scale; ways = s.ways.items } };
+}
+
+impl DualProof {
+    /// What the objective row of a last table proves by these edges.
+    pub(crate) fn of(
+        alloc: Global,
+        candidates: &[u32],
+        rows: &Rows,
+        edges: &[(u32, u32)],
+    ) -> Result<DualProof, AllocError>
+        requires few { length candidates.now ≤ 200 }
+        requires wide { length candidates.now + 1 + length edges.now ≤ length (objective rows.now) }
+        ensures { IfOk result (λ proof. proof ≡ table_proof candidates.now edges.now rows.now) }
+    {
+        let taken = ways_of(alloc, rows, edges, candidates.len() + 1)?;
+        let ways = ordered_ways(alloc, candidates, &taken)?;
+        Ok(DualProof {
+            turns: candidates.len() as u32,
+            scale: scale_of(rows),
+            ways,
+        })
+    }
+
+    /// How many times over the hubs count.
+    pub fn turns(&self) -> u32
+        ensures { result ≡ self.now.turns }
+    {
+        self.turns
+    }
+
+    /// The scale.
+    pub fn scale(&self) -> u64
+        ensures { result ≡ self.now.scale }
+    {
+        self.scale
+    }
+
+    /// The ways in the order of a proof line, each with how often it is taken.
+    pub fn ways(&self) -> &[(u32, u32, u64)]
+        ensures { result.now ≡ self.now.ways }
+    {
+        &self.ways
+    }
+
+    /// Tells whether it can stand in a line.
+    pub(crate) fn is_short(&self) -> bool
+        ensures { IsTrue result ↔ IsShortProof self.now }
+    {
+        self.scale <= MOST_SCALE && are_taken(&self.ways)
+    }
+}
+
+/// The number of v in the objective row.
+fn scale_of(rows: &Rows) -> u64
+    ensures { result ≡ scale_at rows.now }
+{
+    let objective = rows.constraints();
+    let of_v = rows.columns() - 2;
+    rows.entry(objective, of_v).unsigned_abs()
+}
+
+/// Tells whether no way is taken too often.
+fn are_taken(ways: &[(u32, u32, u64)]) -> bool
+    ensures { IsTrue result ↔ All (λ (w : Way). w.2 ≤ most_taken) ways.now }
+{
+    ways.iter().all(|way| way.2 <= MOST_TAKEN)
+}

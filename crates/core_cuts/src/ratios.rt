@@ -1,0 +1,65 @@
+//! The basic solution of a table, as ratios.
+
+ghost use Rattle.std.specs.Prelude.{◌≡◌, ◌<◌, ◌≤◌, length, slice_index, pos, IfOk};
+ghost use Rattle.frac_rows.specs.Rows.{number, right_side, row_at};
+ghost use Rattle.frac_rows.specs.Theorems.{IsBasic, AreRightsLow};
+ghost use Rattle.core_cuts.specs.BasicRatios.{IsRatio, AreRatios};
+
+use frac_rows::Rows;
+use std::alloc::{AllocError, Global};
+
+/// What a variable is: a number over another one.
+#[derive(Clone, Copy)]
+pub(crate) struct Ratio {
+    pub right: u64,
+    pub over: u64,
+}
+
+/// What each of the first variables is.
+pub(crate) fn ratios_of(
+    alloc: Global,
+    rows: &Rows,
+    variables: u32,
+) -> Result<Vec<Ratio>, AllocError>
+    requires basic { IsBasic rows.now }
+    requires rights { AreRightsLow rows.now }
+    ensures { IfOk result (λ ratios. AreRatios rows.now variables ratios.items) }
+{
+    let mut ratios = Vec::new(alloc);
+    for variable in 0..variables {
+        ratios.push(ratio_of(rows, variable))?;
+    }
+    Ok(ratios)
+}
+
+/// What the variable is: in its row, if it has one, or else 0.
+fn ratio_of(rows: &Rows, variable: u32) -> Ratio
+    requires basic { IsBasic rows.now }
+    requires rights { AreRightsLow rows.now }
+    ensures { IsRatio rows.now variable result }
+{
+    for row in 0..rows.constraints() {
+        if rows.basic(row) == variable {
+            return ratio_at(rows, row);
+        }
+    }
+    Ratio { right: 0, over: 1 }
+}
+
+/// The right side of the row over its number in its basic column.
+fn ratio_at(rows: &Rows, row: usize) -> Ratio
+    requires basic { IsBasic rows.now }
+    requires rights { AreRightsLow rows.now }
+    requires row { row < length rows.now.basis }
+    ensures some { 1 ≤ result.over }
+    ensures over { number (row_at rows.now row) (slice_index rows.now.basis row) ≡ pos result.over }
+    ensures right { right_side (row_at rows.now row) ≡ pos result.right }
+{
+    let _ = rows.constraints();
+    let last = rows.columns() - 1;
+    let column = rows.basic(row) as usize;
+    Ratio {
+        right: rows.entry(row, last).unsigned_abs(),
+        over: rows.entry(row, column).unsigned_abs(),
+    }
+}

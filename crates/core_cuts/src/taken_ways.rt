@@ -1,0 +1,68 @@
+//! How often each way is taken.
+
+ghost use Rattle.std.specs.Prelude.{◌≡◌, ◌+◌, ◌≤◌, ◌++◌, length, drop, filter, IfOk, OnOk};
+ghost use Rattle.frac_rows.specs.Rows.{objective};
+ghost use Rattle.core_runs.specs.CoreTables.{ways_of, begins_at, ordered_ways};
+
+use frac_rows::Rows;
+use std::alloc::{AllocError, Global};
+
+/// The ways with the numbers that the objective row has from this column on.
+pub(crate) fn ways_of(
+    alloc: Global,
+    rows: &Rows,
+    edges: &[(u32, u32)],
+    first: usize,
+) -> Result<Vec<(u32, u32, u64)>, AllocError>
+    requires { first + length edges.now ≤ length (objective rows.now) }
+    ensures { IfOk result (λ ways. ways.items ≡ ways_of edges.now (drop first (objective rows.now))) }
+{
+    let objective = rows.constraints();
+    let _ = rows.columns();
+    let mut ways = Vec::new(alloc);
+    for x in 0..edges.len() {
+        let (k, m) = edges[x];
+        let often = rows.entry(objective, first + x).unsigned_abs();
+        ways.push((k, m, often))?;
+    }
+    Ok(ways)
+}
+
+/// Those that are taken, in the order of a proof line.
+#[tactic(auto, unfolding(core_runs::specs::CoreTables::ordered_ways))]
+pub(crate) fn ordered_ways(
+    alloc: Global,
+    nodes: &[u32],
+    ways: &[(u32, u32, u64)],
+) -> Result<Vec<(u32, u32, u64)>, AllocError>
+    ensures { IfOk result (λ list. list.items ≡ ordered_ways nodes.now ways.now) }
+{
+    let mut list = Vec::new(alloc);
+    for k in nodes {
+        add_from(*k, ways, &mut list)?;
+    }
+    Ok(list)
+}
+
+/// Adds those that begin at the node and are taken.
+fn add_from(
+    k: u32,
+    ways: &[(u32, u32, u64)],
+    list: &mut Vec<(u32, u32, u64)>,
+) -> Result<(), AllocError>
+    ensures { OnOk result (list.new.items ≡ list.old.items ++ filter (begins_at k) ways.now) }
+{
+    for way in ways {
+        if begins_at(k, *way) {
+            list.push(*way)?;
+        }
+    }
+    Ok(())
+}
+
+/// Tells whether the way begins at the node and is taken.
+fn begins_at(k: u32, way: (u32, u32, u64)) -> bool
+    ensures { result ≡ begins_at k way }
+{
+    way.0 == k && way.2 > 0
+}
