@@ -21,8 +21,8 @@ use Rattle.cert_format.proofs.CutLines.{cut_text, cut_at, cut_text_by}
 use Rattle.kept_cuts.specs.Kept.{Kept, by_set, KeptList, kept_cut, kept_cuts, kept_part, kept_at, IsKeptFor}
 use Rattle.kept_cuts.specs.Findings.{lines_of, proof_of, IsProved}
 use Rattle.kept_cuts.specs.declared.found.Found.{Found}
-use Rattle.proof_text.specs.Lenders.{kept_dual}
-use Rattle.proof_text.proofs.Lending.{kept_cut_is}
+use Rattle.dual_lender.specs.Lenders.{kept_dual}
+use Rattle.dual_lender.proofs.Lending.{kept_cut_is}
 use Rattle.proof_text.specs.Texts.{kept_dual_items, found_top_items, found_items, found_text}
 
 -- ---- the top

@@ -1,6 +1,7 @@
-pub mod Lending
 pub mod FoundLines
 pub mod FoundCertificates
 pub mod CutRows
 pub mod RowLines
-pub mod Unpacked
+pub mod Ranges
+pub mod PlaceLines
+pub mod PlaceCuts

@@ -1,5 +1,4 @@
-pub mod Lenders
-pub mod LenderParts
-pub mod HeldParts
 pub mod Texts
+pub mod Places
+pub mod Stretches
 pub mod Certificates

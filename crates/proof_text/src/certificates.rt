@@ -5,11 +5,11 @@ ghost use Rattle.cert_scan.specs.Versions.{version_number};
 ghost use Rattle.kept_cuts.specs.Kept.{kept_of, kept_cut, kept_cuts, IsKeptFor};
 ghost use Rattle.kept_cuts.specs.Findings.{IsProved, IsVersionFor};
 ghost use Rattle.proof_text.specs.Certificates.{IsCertificateOf};
-ghost use Rattle.proof_text.specs.Lenders.{IsLenderFor, made_dual};
+ghost use Rattle.dual_lender.specs.Lenders.{IsLenderFor, made_dual};
 
-use crate::DualLender;
 use crate::headings::heading_of;
 use cert_format::{Certificate, Version};
+use dual_lender::DualLender;
 use hub_model::Instance;
 use kept_cuts::{Found, KeptCut, KeptCuts};
 use plan_model::{Dual, Plan, TreeLine};
@@ -46,10 +46,24 @@ fn stated_cuts(
     ensures { IfOk result (λ stated. stated.items ≡ kept_cuts instance.now cuts.now.cuts) }
 {
     let mut lender = DualLender::new(alloc, instance)?;
+    lent_cuts(alloc, instance, cuts, &mut lender)
+}
+
+// Each cut, with its duals, which the lender makes.
+fn lent_cuts(
+    alloc: Global,
+    instance: &Instance,
+    cuts: &KeptCuts,
+    lender: &mut DualLender,
+) -> Result<Vec<StatedCut>, AllocError>
+    requires lender { IsLenderFor instance.now lender.old }
+    requires fit { All (IsKeptFor instance.now) cuts.now.cuts }
+    ensures { IfOk result (λ stated. stated.items ≡ kept_cuts instance.now cuts.now.cuts) }
+{
     let mut all = Vec::with_capacity(alloc, cuts.len() as usize)?;
     for place in 0..cuts.len() {
         let kept = cuts.cut(place + 1);
-        all.push(stated_cut(alloc, instance, kept, &mut lender)?)?;
+        all.push(stated_cut(alloc, instance, kept, lender)?)?;
     }
     Ok(all)
 }

@@ -5,12 +5,12 @@ ghost use Rattle.cert_scan.specs.Versions.{version_number};
 ghost use Rattle.cert_format.specs.Puts.{PutsLines};
 ghost use Rattle.cert_format.specs.DualItems.{dual_items_from};
 ghost use Rattle.kept_cuts.specs.Kept.{kept_of, IsKeptFor};
-ghost use Rattle.proof_text.specs.Lenders.{kept_dual, IsLenderFor, IsReady, HasDuals};
+ghost use Rattle.dual_lender.specs.Lenders.{kept_dual, IsLenderFor, IsReady, HasDuals};
 ghost use Rattle.proof_text.specs.Texts.{kept_dual_items};
 
-use crate::DualLender;
 use crate::dual_runs::put_runs;
 use cert_format::{Version, put_dual};
+use dual_lender::DualLender;
 use hub_io::{Buffer, Failed, Sink};
 use hub_model::Instance;
 use kept_cuts::KeptCut;
@@ -37,8 +37,8 @@ pub(crate) fn put_kept_duals<K: Sink>(
     Ok(())
 }
 
-// Puts the lines of the duals of the commodities from `i`. The lender stays ready for the cut.
-fn put_origin<K: Sink>(
+/// Puts the lines of the duals of the commodities from `i`. The lender stays ready for the cut.
+pub(crate) fn put_origin<K: Sink>(
     version: Version,
     instance: &Instance,
     kept: &KeptCut,

@@ -5,10 +5,10 @@ ghost use Rattle.cert_spec.specs.Lines.{says_dual};
 ghost use Rattle.cert_format.specs.Puts.{PutsLine, PutsLines};
 ghost use Rattle.cert_format.specs.DualItems.{dual_items_from};
 ghost use Rattle.kept_cuts.specs.Kept.{kept_of, IsKeptFor};
-ghost use Rattle.proof_text.specs.Lenders.{kept_dual, HasDuals};
+ghost use Rattle.dual_lender.specs.Lenders.{kept_dual, HasDuals};
 
-use crate::DualLender;
 use cert_format::put_dual;
+use dual_lender::DualLender;
 use hub_io::{Buffer, Failed, Sink};
 use hub_model::Instance;
 use kept_cuts::KeptCut;

@@ -7,55 +7,114 @@ ghost use Rattle.cert_scan.specs.Versions.{version_number};
 ghost use Rattle.cert_format.specs.Puts.{PutsLines};
 ghost use Rattle.kept_cuts.specs.Kept.{kept_of, kept_cut, kept_cuts, IsKeptFor};
 ghost use Rattle.kept_cuts.specs.Findings.{IsProved};
-ghost use Rattle.proof_text.specs.Lenders.{IsLenderFor};
+ghost use Rattle.dual_lender.specs.Lenders.{IsLenderFor};
+ghost use Rattle.proof_text.specs.Places.{AreLines};
 ghost use Rattle.proof_text.specs.Texts.{found_top_items, found_items, found_text};
 
-use crate::DualLender;
 use crate::dual_lines::put_kept_duals;
 use crate::headings::heading_of;
+use crate::places::CutLines;
+use crate::together::put_cuts_together;
 use cert_format::{Version, put_cut, put_top, put_tree};
+use dual_lender::DualLender;
 use hub_io::{Buffer, Failed, Sink};
 use hub_model::Instance;
 use kept_cuts::{Found, KeptCut, KeptCuts};
+use std::alloc::Global;
+use std::thread::Threads;
 
-/// Writes the certificate of what a search of the instance found, in this version, in puts of about 8192 bytes each. It
-/// takes no memory, and fails only where a put does.
+/// Writes the certificate of what a search of the instance found, in this version. It fails only where a put does.
 ///
-/// Each dual is made anew by the lender, which is for the instance.
-pub fn write_found<K: Sink>(
+/// Each dual is made anew: by the lender, which is for the instance, or by so many workers, 1 to 64, each in a thread of its
+/// own where one can be made. The text is the same for every number of workers. One worker takes no memory, and where
+/// memory for several is wanting, the lender does their work.
+pub fn write_found<R: Threads + Sync, K: Sink>(
+    rt: &R,
+    alloc: Global,
     instance: &Instance,
     found: &Found,
     version: Version,
     lender: &mut DualLender,
+    workers: u32,
     sink: &mut K,
 ) -> Result<(), Failed>
     requires lender { IsLenderFor instance.now lender.old }
     requires proved { IsProved instance.now found.now }
+    requires workers { (1 ≤ workers) × (workers ≤ 64) }
     ensures lender { IsLenderFor instance.now lender.new }
     ensures text { Puts K.taken K.faults sink.old sink.new result (found_text (version_number version) instance.now found.now) }
 {
     let mut buffer = Buffer::new();
-    put_found(instance, found, version, lender, &mut buffer, sink)?;
+    put_found(
+        rt,
+        alloc,
+        instance,
+        found,
+        version,
+        lender,
+        workers,
+        &mut buffer,
+        sink,
+    )?;
     buffer.finish(sink)
 }
 
-fn put_found<K: Sink>(
+fn put_found<R: Threads + Sync, K: Sink>(
+    rt: &R,
+    alloc: Global,
     instance: &Instance,
     found: &Found,
     version: Version,
     lender: &mut DualLender,
+    workers: u32,
     buffer: &mut Buffer,
     sink: &mut K,
 ) -> Result<(), Failed>
     requires lender { IsLenderFor instance.now lender.old }
     requires proved { IsProved instance.now found.now }
+    requires workers { (1 ≤ workers) × (workers ≤ 64) }
     ensures lender { IsLenderFor instance.now lender.new }
     ensures lines { PutsLines K.taken K.faults sink.old sink.new buffer.old buffer.new result
         (found_items (version_number version) instance.now found.now) }
 {
     put_found_top(instance, found, version, buffer, sink)?;
-    put_kept_cuts(version, instance, &found.cuts, lender, buffer, sink)?;
+    let lines = CutLines {
+        instance,
+        cuts: &found.cuts,
+        version,
+    };
+    put_cuts(rt, alloc, &lines, workers, lender, buffer, sink)?;
     put_tree(&found.tree, buffer, sink)
+}
+
+// Puts the lines of the cuts: one worker needs no thread, and no text in memory.
+fn put_cuts<'a, R: Threads + Sync, K: Sink>(
+    rt: &R,
+    alloc: Global,
+    lines: &'a CutLines<'a>,
+    workers: u32,
+    lender: &mut DualLender,
+    buffer: &mut Buffer,
+    sink: &mut K,
+) -> Result<(), Failed>
+    requires lines { AreLines lines.now }
+    requires workers { (1 ≤ workers) × (workers ≤ 64) }
+    requires lender { IsLenderFor lines.now.instance.now lender.old }
+    ensures lender { IsLenderFor lines.now.instance.now lender.new }
+    ensures lines { PutsLines K.taken K.faults sink.old sink.new buffer.old buffer.new result
+        (cuts_items (version_number lines.now.version) lines.now.instance.now.size 1 (kept_cuts lines.now.instance.now lines.now.cuts.now.cuts)) }
+{
+    if workers > 1 {
+        return put_cuts_together(rt, alloc, lines, workers, lender, buffer, sink);
+    }
+    put_kept_cuts(
+        lines.version,
+        lines.instance,
+        lines.cuts,
+        lender,
+        buffer,
+        sink,
+    )
 }
 
 // Puts the lines up to the number of cuts.

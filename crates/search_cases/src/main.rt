@@ -17,6 +17,7 @@
 //! - `search NODES`: what the search finds with this most number of nodes, or `all`
 //! - `text NODES`: the text of what it finds, in the first version
 //! - `second NODES`: the same in the second version
+//! - `together NODES`: the same by three workers
 //! - `made NODES`: the text of the certificate that is made of it
 //! - `failing PUT TAKEN`: the text of what it finds, where the put of this number fails with so many bytes taken
 #![tactic(auto)]
@@ -31,6 +32,7 @@ use hub_model::Instance;
 use instances::instance_of;
 use std::alloc::{AllocError, Global};
 use std::io;
+use std::thread::Threads;
 
 fn main(rt: HostRuntime) -> io::Result<()> {
     let mut instance = String::new(rt.alloc());
@@ -39,7 +41,7 @@ fn main(rt: HostRuntime) -> io::Result<()> {
         if line.as_str().starts_with("instance") {
             instance = line;
         } else if !line.is_empty() {
-            let text = answer(rt.alloc(), instance.as_str(), line.as_str())?;
+            let text = answer(&rt, rt.alloc(), instance.as_str(), line.as_str())?;
             println!(rt; "{text}")?;
         }
     }
@@ -47,28 +49,39 @@ fn main(rt: HostRuntime) -> io::Result<()> {
 }
 
 // What is printed of a line that stands below this one of an instance.
-fn answer(alloc: Global, instance: &str, line: &str) -> Result<String, AllocError> {
+fn answer<R: Threads + Sync>(
+    rt: &R,
+    alloc: Global,
+    instance: &str,
+    line: &str,
+) -> Result<String, AllocError> {
     match first_word(line) {
         "#" => String::from_str(alloc, line),
         "leaf" => steps::leaf(alloc, line),
         "kept" => steps::kept(alloc, line),
         _ => match instance_of(alloc, instance)? {
-            Some(instance) => of_instance(alloc, &instance, line),
+            Some(instance) => of_instance(rt, alloc, &instance, line),
             None => String::from_str(alloc, "no instance"),
         },
     }
 }
 
 // What is printed of a line about an instance.
-fn of_instance(alloc: Global, instance: &Instance, line: &str) -> Result<String, AllocError> {
+fn of_instance<R: Threads + Sync>(
+    rt: &R,
+    alloc: Global,
+    instance: &Instance,
+    line: &str,
+) -> Result<String, AllocError> {
     match first_word(line) {
         "fixed" => steps::fixed(alloc, instance),
         "sums" => steps::sums(alloc, instance, line),
         "search" => searches::search_told(alloc, instance, line),
-        "text" => texts::text(alloc, instance, line, Version::First),
-        "second" => texts::text(alloc, instance, line, Version::Second),
+        "text" => texts::text(rt, alloc, instance, line, Version::First, 1),
+        "second" => texts::text(rt, alloc, instance, line, Version::Second, 1),
+        "together" => texts::text(rt, alloc, instance, line, Version::Second, 3),
         "made" => texts::made(alloc, instance, line),
-        "failing" => texts::failing(alloc, instance, line),
+        "failing" => texts::failing(rt, alloc, instance, line),
         _ => String::from_str(alloc, "no such case"),
     }
 }

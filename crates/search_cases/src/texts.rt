@@ -1,17 +1,19 @@
 //! Texts as a sink in memory takes them.
 
-ghost use Rattle.std.specs.Prelude.{IsTrue};
+ghost use Rattle.std.specs.Prelude.{◌≤◌, IsTrue};
 ghost use Rattle.kept_cuts.specs.Findings.{IsUnlimited, IsProved};
 
 use crate::instances::numbers;
 use crate::searches::found_of;
 use cert_format::{Version, put_tree, write_cert};
+use dual_lender::DualLender;
 use hub_io::{Buffer, Failed, MemSink, Partial, Sink};
 use hub_model::Instance;
 use kept_cuts::Found;
 use plan_model::TreeLine;
-use proof_text::{DualLender, certificate_of, write_found};
+use proof_text::{certificate_of, write_found};
 use std::alloc::{AllocError, Global};
+use std::thread::Threads;
 
 // More bytes than any case puts.
 const ROOM: usize = 10_000;
@@ -29,19 +31,26 @@ fn put_whole_tree(lines: &[TreeLine], sink: &mut MemSink) -> Result<(), Failed> 
     buffer.finish(sink)
 }
 
-/// The text of what the search finds, in this version.
-pub(crate) fn text(
+/// The text of what the search finds, in this version, by so many workers.
+pub(crate) fn text<R: Threads + Sync>(
+    rt: &R,
     alloc: Global,
     instance: &Instance,
     line: &str,
     version: Version,
-) -> Result<String, AllocError> {
+    workers: u32,
+) -> Result<String, AllocError>
+    requires { (1 ≤ workers) × (workers ≤ 64) }
+{
     let found = found_of(alloc, instance, line)?;
-    text_of(alloc, instance, &found, version, Vec::new(alloc))
+    let mut sink = MemSink::new(alloc, ROOM)?;
+    let done = put_found(rt, alloc, instance, &found, version, workers, &mut sink)?;
+    told(alloc, done, &sink)
 }
 
-/// The same in the first version, where a put fails.
-pub(crate) fn failing(
+/// The same in the first version by one worker, where a put fails.
+pub(crate) fn failing<R: Threads + Sync>(
+    rt: &R,
     alloc: Global,
     instance: &Instance,
     line: &str,
@@ -54,34 +63,35 @@ pub(crate) fn failing(
         })?;
     }
     let found = found_of(alloc, instance, "search all")?;
-    text_of(alloc, instance, &found, Version::First, failing)
-}
-
-fn text_of(
-    alloc: Global,
-    instance: &Instance,
-    found: &Found,
-    version: Version,
-    failing: Vec<Partial>,
-) -> Result<String, AllocError>
-    requires { IsProved instance.now found.now }
-{
     let mut sink = MemSink::with_faults(alloc, ROOM, failing)?;
-    let done = put_found(alloc, instance, found, version, &mut sink)?;
+    let done = put_found(rt, alloc, instance, &found, Version::First, 1, &mut sink)?;
     told(alloc, done, &sink)
 }
 
-fn put_found(
+fn put_found<R: Threads + Sync>(
+    rt: &R,
     alloc: Global,
     instance: &Instance,
     found: &Found,
     version: Version,
+    workers: u32,
     sink: &mut MemSink,
 ) -> Result<Result<(), Failed>, AllocError>
-    requires { IsProved instance.now found.now }
+    requires proved { IsProved instance.now found.now }
+    requires workers { (1 ≤ workers) × (workers ≤ 64) }
 {
     let mut lender = DualLender::new(alloc, instance)?;
-    Ok(write_found(instance, found, version, &mut lender, sink))
+    let done = write_found(
+        rt,
+        alloc,
+        instance,
+        found,
+        version,
+        &mut lender,
+        workers,
+        sink,
+    );
+    Ok(done)
 }
 
 /// The text of the certificate that is made of what the search finds, in the first version.

@@ -4,7 +4,7 @@ use Rattle.std.proofs.lemmas.List.FromFn.{length-range_with_len}
 use Rattle.cert_format.proofs.Following.{as_text, list_more, list_stop, list_end}
 use Rattle.cert_format.specs.DualItems.{dual_items_from}
 use Rattle.kept_cuts.specs.Kept.{kept_of}
-use Rattle.proof_text.specs.Lenders.{kept_dual}
+use Rattle.dual_lender.specs.Lenders.{kept_dual}
 use Rattle.cert_scan.specs.Versions.{version_number}
 use Rattle.cert_format.proofs.Joined.{texts_joined}
 use Rattle.cert_format.proofs.CutLines.{origin_at}

@@ -5,7 +5,7 @@ use Rattle.cert_spec.specs.Text.{line_bytes}
 use Rattle.cert_format.proofs.Following.{HasPut}
 use Rattle.cert_format.specs.DualItems.{dual_items_from}
 use Rattle.kept_cuts.specs.Kept.{kept_of}
-use Rattle.proof_text.specs.Lenders.{kept_dual, IsReady}
+use Rattle.dual_lender.specs.Lenders.{kept_dual, IsReady}
 use Rattle.proof_text.proofs.dual_lines.put_kept_duals.Given as goal
 
 abbrev pub invariant-loop-i : goal.invariant-loop-i

@@ -1,25 +1,26 @@
 use Rattle.std.proofs.Common.{ap, is_ok, is_err}
 use Rattle.cert_scan.specs.Versions.{version_number}
 use Rattle.cert_format.proofs.Following.{as_text, then_put, then_none}
-use Rattle.proof_text.proofs.FoundLines.{found_in_range, found_lines}
+use Rattle.proof_text.proofs.FoundLines.{found_lines}
+use Rattle.proof_text.proofs.PlaceCuts.{cuts_found}
 use Rattle.proof_text.proofs.written.put_found.Goals as goal
 
-pub put_kept_cuts-requires-clause-some : goal.put_kept_cuts-requires-clause-some
-put_kept_cuts-requires-clause-some g c = (found_in_range c.args.instance.now c.args.found.now c.requires.proved).some_node
+pub put_cuts-requires-clause-lines : goal.put_cuts-requires-clause-lines
+put_cuts-requires-clause-lines g c κs within = cuts_found _ c.args.found.now c.requires.proved (λ _. c.args.found.now.cuts)
 
 pub returns-in_err-put_found_top-clause-lines : goal.returns-in_err-put_found_top-clause-lines
 returns-in_err-put_found_top-clause-lines g c =
     as_text (found_lines (version_number c.args.version) c.args.instance.now c.args.found.now (λ _. c.args.found.now.cuts) (λ _. c.args.found.now.tree.items))
     (then_none _ c.put_found_top.ensures (ap is_err c.in_err-put_found_top.was) c.from_residual.ensures.0)
 
-pub returns-in_err-put_kept_cuts-clause-lines : goal.returns-in_err-put_kept_cuts-clause-lines
-returns-in_err-put_kept_cuts-clause-lines g c =
+pub returns-in_err-put_cuts-clause-lines : goal.returns-in_err-put_cuts-clause-lines
+returns-in_err-put_cuts-clause-lines g c =
     as_text (found_lines (version_number c.args.version) c.args.instance.now c.args.found.now (λ _. c.args.found.now.cuts) (λ _. c.args.found.now.tree.items))
     (then_put c.put_found_top.ensures (ap is_ok c.in_ok-put_found_top.was)
-    (then_none _ c.put_kept_cuts.ensures.lines (ap is_err c.in_err-put_kept_cuts.was) c.from_residual-in_err-put_kept_cuts.ensures.0))
+    (then_none _ c.put_cuts.ensures.lines (ap is_err c.in_err-put_cuts.was) c.from_residual-in_err-put_cuts.ensures.0))
 
 pub returns-clause-lines : goal.returns-clause-lines
 returns-clause-lines g c =
     as_text (found_lines (version_number c.args.version) c.args.instance.now c.args.found.now (λ _. c.args.found.now.cuts) c.deref.ensures.value)
     (then_put c.put_found_top.ensures (ap is_ok c.in_ok-put_found_top.was)
-    (then_put c.put_kept_cuts.ensures.lines (ap is_ok c.in_ok-put_kept_cuts.was) c.put_tree.ensures))
+    (then_put c.put_cuts.ensures.lines (ap is_ok c.in_ok-put_cuts.was) c.put_tree.ensures))

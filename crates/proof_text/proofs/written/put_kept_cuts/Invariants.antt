@@ -1,7 +1,7 @@
 use Rattle.cert_scan.specs.Versions.{version_number}
 use Rattle.cert_format.proofs.Following.{HasPut}
 use Rattle.cert_format.proofs.CutLines.{cut_text}
-use Rattle.proof_text.specs.Lenders.{IsLenderFor}
+use Rattle.dual_lender.specs.Lenders.{IsLenderFor}
 use Rattle.proof_text.proofs.FoundLines.{numbered}
 use Rattle.proof_text.proofs.written.put_kept_cuts.Given as goal
 

@@ -1,0 +1,3 @@
+pub mod Lenders
+pub mod LenderParts
+pub mod HeldParts

@@ -1,0 +1,172 @@
+//! Duals of kept cuts, lent one at a time.
+
+ghost use Rattle.std.specs.Prelude.{◌≡◌, ◌+◌, ◌*◌, ◌<◌, ◌≤◌, ◌↔◌, pos, length, IfOk, IsTrue};
+ghost use Rattle.hub_spec.specs.Problem.{IsProblem};
+ghost use Rattle.hub_spec.specs.Separation.{AreListedValues};
+ghost use Rattle.plan_model.specs.Prices.{signed_values};
+ghost use Rattle.kept_cuts.specs.Kept.{kept_of, IsKeptFor};
+ghost use Rattle.dual_lender.specs.Lenders.{kept_dual, IsLenderFor, IsReady, HasDuals, made_dual};
+
+use crate::held_duals::HeldDual;
+use crate::value_rooms::ValueRoom;
+use hub_model::Instance;
+use kept_cuts::KeptCut;
+use pareto_cuts::Scratch;
+use std::alloc::{AllocError, Global};
+use std::marker::Model;
+
+/// Room to make the duals of an instance's kept cuts in, taken once, from which one dual at a time is lent.
+///
+/// It is told the cut first, then an origin, then each destination. The dual of a cut that was given is unpacked when it is
+/// made. A second dual can be held, so that the one made last is compared with it. No call takes memory.
+#[derive(Drop)]
+pub struct DualLender<'a> {
+    values: ValueRoom<'a>,
+    sets: Scratch,
+    // The dual that was made last of a given cut.
+    given: HeldDual,
+    held: HeldDual,
+}
+
+impl<'a> Model for DualLender<'a> {
+    ghost use Rattle.std.specs.Prelude.{◌≤◌};
+    ghost use Rattle.dual_lender.specs.Lenders.{LenderState};
+
+    ghost Value = { LenderState };
+
+    ghost view = { λ s. record { values = s.values; sets = s.sets; given = s.given.dual; held = s.held.dual } };
+
+    ghost invariant = { λ s. (s.values.problem.size ≤ s.sets.room) × (s.values.problem.size ≤ s.given.room) × (s.values.problem.size ≤ s.held.room) };
+}
+
+impl<'a> DualLender<'a> {
+    /// Room for the instance.
+    pub fn new(alloc: Global, instance: &'a Instance) -> Result<DualLender<'a>, AllocError>
+        ensures { IfOk result (IsLenderFor instance.now) }
+    {
+        let values = ValueRoom::new(alloc, instance)?;
+        let sets = Scratch::new(alloc, instance)?;
+        let (given, held) = two_copies(alloc, instance.size() as usize)?;
+        Ok(DualLender {
+            values,
+            sets,
+            given,
+            held,
+        })
+    }
+
+    /// Makes ready for the duals of the cut.
+    pub fn begin(&mut self, instance: &Instance, kept: &KeptCut)
+        requires lender { IsLenderFor instance.now self.old }
+        requires fits { IsKeptFor instance.now (kept_of kept.now) }
+        ensures ready { IsReady instance.now (kept_of kept.now) self.new }
+    {
+        match kept {
+            KeptCut::Values(_) => {}
+            KeptCut::Set(set, order) => self.sets.prepare(instance, set, order),
+            KeptCut::Given(_) => {}
+        }
+    }
+
+    /// Works out what the duals of all commodities from `i` are made from.
+    pub fn work_out(&mut self, instance: &Instance, kept: &KeptCut, i: u32)
+        requires fits { IsKeptFor instance.now (kept_of kept.now) }
+        requires ready { IsReady instance.now (kept_of kept.now) self.old }
+        requires origin { i < instance.now.size }
+        ensures duals { HasDuals instance.now (kept_of kept.now) i self.new }
+    {
+        match kept {
+            KeptCut::Values(values) => self.values.set_prices(values, i),
+            KeptCut::Set(set, order) => self.sets.work_out(instance, set, order, i),
+            KeptCut::Given(_) => {}
+        }
+    }
+
+    /// Makes the dual of the commodity from `i` to `j`.
+    pub fn make(&mut self, instance: &Instance, kept: &KeptCut, i: u32, j: u32)
+        requires fits { IsKeptFor instance.now (kept_of kept.now) }
+        requires duals { HasDuals instance.now (kept_of kept.now) i self.old }
+        requires origin { i < instance.now.size }
+        requires destination { j < instance.now.size }
+        ensures duals { HasDuals instance.now (kept_of kept.now) i self.new }
+        ensures made { made_dual (kept_of kept.now) self.new ≡ kept_dual instance.now (kept_of kept.now) (i, j) }
+        ensures held { self.new.held ≡ self.old.held }
+    {
+        match kept {
+            KeptCut::Values(values) => self.values.make_dual(values, i, j),
+            KeptCut::Set(set, order) => self.sets.make_dual(instance, set, order, i, j),
+            KeptCut::Given(cut) => {
+                let number = commodity_number(instance, i, j);
+                self.given.unpack(&cut.dual(number));
+            }
+        }
+    }
+
+    /// The price of the dual that was made last of the cut, and its nodes with their values, ascending.
+    pub fn dual<'d>(&'d self, kept: &'d KeptCut) -> (i128, &'d [(u32, i128)])
+        ensures price { result.0 ≡ pos (made_dual (kept_of kept.now) self.now).a }
+        ensures values { result.1.now ≡ signed_values (made_dual (kept_of kept.now) self.now).u }
+        ensures listed { AreListedValues (made_dual (kept_of kept.now) self.now).u }
+    {
+        match kept {
+            KeptCut::Values(_) => self.values.dual(),
+            KeptCut::Set(..) => self.sets.dual(),
+            KeptCut::Given(_) => self.given.dual(),
+        }
+    }
+
+    /// Holds the dual that was made last of the cut, in place of the one that was held.
+    pub fn hold(&mut self, kept: &KeptCut)
+        requires few { length (made_dual (kept_of kept.now) self.old).u ≤ self.old.values.problem.size }
+        ensures { self.new ≡ record self.old { held = made_dual (kept_of kept.now) self.old } }
+    {
+        match kept {
+            KeptCut::Values(_) => {
+                let (a, u) = self.values.dual();
+                self.held.copy(a, u);
+            }
+            KeptCut::Set(..) => {
+                let (a, u) = self.sets.dual();
+                self.held.copy(a, u);
+            }
+            KeptCut::Given(_) => {
+                let (a, u) = self.given.dual();
+                self.held.copy(a, u);
+            }
+        }
+    }
+
+    /// Tells whether the dual that was made last of the cut is the one that is held.
+    pub fn holds(&self, kept: &KeptCut) -> bool
+        ensures { IsTrue result ↔ (self.now.held ≡ made_dual (kept_of kept.now) self.now) }
+    {
+        let (a, u) = self.dual(kept);
+        self.held.is(a, u)
+    }
+
+    /// The price of the dual that is held, and its nodes with their values, ascending.
+    pub fn held(&self) -> (i128, &[(u32, i128)])
+        ensures price { result.0 ≡ pos self.now.held.a }
+        ensures values { result.1.now ≡ signed_values self.now.held.u }
+    {
+        self.held.dual()
+    }
+}
+
+// Room for two copies of duals, of so many values each.
+fn two_copies(alloc: Global, room: usize) -> Result<(HeldDual, HeldDual), AllocError>
+    ensures first { IfOk result (λ copies. copies.0.room ≡ room) }
+    ensures second { IfOk result (λ copies. copies.1.room ≡ room) }
+{
+    Ok((HeldDual::new(alloc, room)?, HeldDual::new(alloc, room)?))
+}
+
+// The number of the commodity from `i` to `j`, counted from 0.
+fn commodity_number(instance: &Instance, i: u32, j: u32) -> u32
+    requires origin { i < instance.now.size }
+    requires destination { j < instance.now.size }
+    ensures value { result ≡ i * instance.now.size + j }
+    ensures problem { IsProblem instance.now }
+{
+    i * instance.size() + j
+}

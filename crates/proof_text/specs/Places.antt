@@ -1,0 +1,33 @@
+-- The cuts of a finding as their lines are worked out by places.
+use Rattle.std.specs.Prelude.{ℕ, ◌+◌, ◌*◌, ◌/◌, ◌≤◌, List, length, All, Option, MatchOption}
+use Rattle.hub_spec.specs.Limits.{most_nodes, most_cuts}
+use Rattle.cert_spec.specs.Lines.{Item}
+use Rattle.cert_scan.specs.Versions.{version_number}
+use Rattle.kept_cuts.specs.Kept.{Kept, kept_at, IsKeptFor}
+use Rattle.dual_lender.specs.Lenders.{LenderState, IsLenderFor, IsReady}
+use Rattle.proof_text.specs.Texts.{place_items}
+use Rattle.proof_text.specs.declared.places.CutLines.{CutLines}
+
+-- there are nodes, and no more of them and of the cuts than there may be, and the cuts fit the instance
+pub record AreLines (l : CutLines) : Type 0 where
+  pub some : 1 ≤ l.instance.now.size
+  pub small : l.instance.now.size ≤ most_nodes
+  pub few : length l.cuts.now.cuts ≤ most_cuts
+  pub fit : All (IsKeptFor l.instance.now) l.cuts.now.cuts
+
+-- how many places there are
+abbrev pub place_count : CutLines → ℕ
+place_count l = length l.cuts.now.cuts * l.instance.now.size
+
+-- the kept cut of the place
+abbrev pub cut_of : CutLines → ℕ → Kept
+cut_of l t = kept_at l.cuts.now.cuts (t / l.instance.now.size + 1)
+
+-- the lines of the place
+abbrev pub items_of : CutLines → ℕ → List Item
+items_of l t = place_items (version_number l.version) l.instance.now l.cuts.now.cuts t
+
+-- the lender is for the instance, and ready for the cut of this number, if there is one
+pub record Lends (l : CutLines) (cut : Option ℕ) (s : LenderState) : Type 0 where
+  pub lender : IsLenderFor l.instance.now s
+  pub ready : MatchOption cut (Unit {0}) (λ c. IsReady l.instance.now (kept_at l.cuts.now.cuts c) s)

@@ -1,0 +1,141 @@
+//! The lines of a finding's cuts by places: a place is an origin of a cut, in the order of the cuts.
+
+ghost use Rattle.std.specs.Prelude.{◌≡◌, ◌+◌, ◌/◌, ◌%◌, ◌<◌};
+ghost use Rattle.cert_scan.specs.Versions.{version_number};
+ghost use Rattle.cert_format.specs.Puts.{PutsLines};
+ghost use Rattle.kept_cuts.specs.Kept.{kept_of, IsKeptFor};
+ghost use Rattle.dual_lender.specs.Lenders.{IsLenderFor, IsReady};
+ghost use Rattle.proof_text.specs.Texts.{head_items, origin_items};
+ghost use Rattle.proof_text.specs.Places.{AreLines, place_count, cut_of, items_of};
+
+use crate::dual_lines::put_origin;
+use cert_format::{Version, put_cut};
+use dual_lender::DualLender;
+use hub_io::{Buffer, Failed, Sink};
+use hub_model::Instance;
+use kept_cuts::{KeptCut, KeptCuts};
+
+/// The cuts of a finding for the instance, whose lines are put in this version.
+#[derive(Drop)]
+pub(crate) struct CutLines<'a> {
+    pub(crate) instance: &'a Instance,
+    pub(crate) cuts: &'a KeptCuts,
+    pub(crate) version: Version,
+}
+
+impl CutLines<'_> {
+    /// How many places there are.
+    pub(crate) fn places(&self) -> u64
+        requires { AreLines self.now }
+        ensures { result ≡ place_count self.now }
+    {
+        self.cuts.len() * self.instance.size() as u64
+    }
+
+    /// The number of the place's cut, counted from 1.
+    pub(crate) fn cut_number(&self, place: u64) -> u64
+        requires lines { AreLines self.now }
+        requires place { place < place_count self.now }
+        ensures { result ≡ place / self.now.instance.now.size + 1 }
+    {
+        place / self.instance.size() as u64 + 1
+    }
+
+    // The place's origin.
+    fn origin(&self, place: u64) -> u32
+        requires { AreLines self.now }
+        ensures value { result ≡ place % self.now.instance.now.size }
+        ensures node { result < self.now.instance.now.size }
+    {
+        (place % self.instance.size() as u64) as u32
+    }
+
+    // The place's cut.
+    fn kept(&self, place: u64) -> &KeptCut
+        requires lines { AreLines self.now }
+        requires place { place < place_count self.now }
+        ensures value { kept_of result.now ≡ cut_of self.now place }
+        ensures fits { IsKeptFor self.now.instance.now (kept_of result.now) }
+    {
+        self.cuts.cut(self.cut_number(place))
+    }
+
+    /// Makes the lender ready for the cut of the place.
+    pub(crate) fn begin(&self, place: u64, lender: &mut DualLender)
+        requires lines { AreLines self.now }
+        requires place { place < place_count self.now }
+        requires lender { IsLenderFor self.now.instance.now lender.old }
+        ensures { IsReady self.now.instance.now (cut_of self.now place) lender.new }
+    {
+        lender.begin(self.instance, self.kept(place));
+    }
+
+    /// Puts the lines of the place. The lender stays ready for its cut.
+    pub(crate) fn put_place<K: Sink>(
+        &self,
+        place: u64,
+        lender: &mut DualLender,
+        buffer: &mut Buffer,
+        sink: &mut K,
+    ) -> Result<(), Failed>
+        requires lines { AreLines self.now }
+        requires place { place < place_count self.now }
+        requires ready { IsReady self.now.instance.now (cut_of self.now place) lender.old }
+        ensures ready { IsReady self.now.instance.now (cut_of self.now place) lender.new }
+        ensures lines { PutsLines K.taken K.faults sink.old sink.new buffer.old buffer.new result (items_of self.now place) }
+    {
+        let c = self.cut_number(place);
+        let i = self.origin(place);
+        let kept = self.kept(place);
+        put_cut_origin(
+            self.version,
+            self.instance,
+            c,
+            kept,
+            i,
+            lender,
+            buffer,
+            sink,
+        )
+    }
+}
+
+// Puts the lines of the origin of the cut of this number.
+fn put_cut_origin<K: Sink>(
+    version: Version,
+    instance: &Instance,
+    c: u64,
+    kept: &KeptCut,
+    i: u32,
+    lender: &mut DualLender,
+    buffer: &mut Buffer,
+    sink: &mut K,
+) -> Result<(), Failed>
+    requires fits { IsKeptFor instance.now (kept_of kept.now) }
+    requires ready { IsReady instance.now (kept_of kept.now) lender.old }
+    requires origin { i < instance.now.size }
+    ensures ready { IsReady instance.now (kept_of kept.now) lender.new }
+    ensures lines { PutsLines K.taken K.faults sink.old sink.new buffer.old buffer.new result
+        (origin_items (version_number version) instance.now c (kept_of kept.now) i) }
+{
+    put_head(version, c, kept, i, buffer, sink)?;
+    put_origin(version, instance, kept, i, lender, buffer, sink)
+}
+
+// Puts the line of the cut of this number, where the origin is the first.
+fn put_head<K: Sink>(
+    version: Version,
+    c: u64,
+    kept: &KeptCut,
+    i: u32,
+    buffer: &mut Buffer,
+    sink: &mut K,
+) -> Result<(), Failed>
+    ensures { PutsLines K.taken K.faults sink.old sink.new buffer.old buffer.new result
+        (head_items (version_number version) c (kept_of kept.now) i) }
+{
+    if i > 0 {
+        return Ok(());
+    }
+    put_cut(version, c, kept.part(), buffer, sink)
+}
