@@ -2,7 +2,7 @@
 use Rattle.std.specs.Prelude.{◌≡◌, ℕ, ◌*◌, List, length}
 use Rattle.hub_spec.specs.Problem.{Problem, IsProblem}
 use Rattle.value_cuts.specs.Values.{ValueRows, AreValuesFor}
-use Rattle.closing_search.specs.declared.bench.Pricing.{Pricing}
+use Rattle.closing_search.specs.declared.pricing.Pricing.{Pricing}
 
 -- the instance, the values that were taken last, and the loads of the cut that was worked out last
 pub record BenchState : Type 0 where

@@ -5,15 +5,12 @@ ghost use Rattle.hub_spec.specs.Trees.{IsBranch, HasRoom};
 ghost use Rattle.closing_search.specs.Progressing.{IsGoing, IsAt, IsAdvised};
 ghost use Rattle.closing_search.specs.Walking.{IsWalking, IsSameWalk};
 
-use crate::progress::{Progress, goal, offer};
-use crate::task::Task;
+use crate::progress::{goal, offer_nodes};
 use crate::walker::Walker;
-use assign_sub::{lacking, set_cost};
-use hub_model::{signed, unsigned};
-use hub_plain::{has_wanted, is_candidate_set};
-use plan_model::{Branch, HubSet};
+use hub_model::signed;
+use plan_model::Branch;
 use search_advice::Advice;
-use std::alloc::{AllocError, Global};
+use std::alloc::AllocError;
 use std::thread::Threads;
 
 /// So many passes there are at most at the root.
@@ -36,7 +33,7 @@ impl<R: Threads + Sync, A: Advice + Drop> Walker<'_, R, A> {
     {
         self.take_advice(branch)?;
         let values = self.guide.advice.values();
-        self.walk.end_by_values(values, branch)
+        self.walk.end_by_values(self.rt, values, branch)
     }
 
     // Makes passes at the branch, as long as they are worth their time.
@@ -110,27 +107,4 @@ fn most_passes(branch: &Branch) -> u32 {
     } else {
         PASSES
     }
-}
-
-// Makes the nodes the incumbent, if they are a set of candidates, as many as are wanted, that lacks no commodity and costs
-// less.
-fn offer_nodes(
-    alloc: Global,
-    task: &Task,
-    hubs: &[u32],
-    progress: &mut Progress,
-) -> Result<(), AllocError>
-    requires { IsGoing task.now progress.old }
-    ensures { OnOk result (IsAt task.now progress.old progress.new) }
-{
-    if !is_candidate_set(task.instance, hubs) || !has_wanted(task.instance, hubs) {
-        return Ok(());
-    }
-    let set = HubSet::of(alloc, hubs)?;
-    if lacking(task.instance, &set).is_some() {
-        return Ok(());
-    }
-    let cost = unsigned(set_cost(task.instance, &set));
-    offer(task, set, cost, progress);
-    Ok(())
 }

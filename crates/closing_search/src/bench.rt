@@ -7,40 +7,16 @@ ghost use Rattle.hub_spec.specs.Separation.{IsOrder, set_cut};
 ghost use Rattle.value_cuts.specs.Values.{AreValuesFor, value_cut};
 ghost use Rattle.kept_cuts.specs.Kept.{kept_of, by_values};
 ghost use Rattle.closing_search.specs.SingleCuts.{AreLoads};
-ghost use Rattle.closing_search.specs.Benches.{IsPricingFor};
 
+use crate::pricing::Pricing;
 use hub_model::Instance;
 use kept_cuts::{KeptCut, PackedValues};
 use pareto_cuts::Scratch;
 use plan_model::HubSet;
 use std::alloc::{AllocError, Global};
 use std::marker::Model;
-use value_cuts::{CandidateLegs, PriceScratch, Values};
-
-/// The values that were taken last, and the prices and loads of their cut.
-#[derive(Drop)]
-pub(crate) struct Pricing {
-    pub(crate) values: Values,
-    pub(crate) prices: Vec<u64>,
-    pub(crate) loads: Vec<u128>,
-    pub(crate) scratch: PriceScratch,
-}
-
-impl Pricing {
-    // Values of 0, in this unit, as far as a small number holds it.
-    fn new(alloc: Global, tables: &CandidateLegs, unit: u64) -> Result<Pricing, AllocError>
-        ensures { IfOk result (IsPricingFor tables.now) }
-    {
-        let size = tables.instance().size() as usize;
-        let unit = u32::try_from(unit).unwrap_or(u32::MAX);
-        Ok(Pricing {
-            values: Values::new(alloc, tables.instance(), unit)?,
-            prices: vec![in alloc; 0; size * size]?,
-            loads: vec![in alloc; 0; size]?,
-            scratch: PriceScratch::new(alloc, tables)?,
-        })
-    }
-}
+use std::thread::Threads;
+use value_cuts::CandidateLegs;
 
 /// The instance's tables, the values that were taken last, the loads of the cut that was worked out last, and room to
 /// work in.
@@ -81,21 +57,23 @@ impl<'a> Bench<'a> {
         })
     }
 
-    /// Takes the values, and works out the total of their cut. It takes no memory.
-    pub(crate) fn value_sums(&mut self, values: &[u32]) -> u128
+    /// Takes the values, and works out the total of their cut, its prices by so many workers, 1 to 64. By one worker it
+    /// takes no memory.
+    pub(crate) fn value_sums<R: Threads + Sync>(
+        &mut self,
+        rt: &R,
+        alloc: Global,
+        workers: u32,
+        values: &[u32],
+    ) -> Result<u128, AllocError>
+        requires workers { (1 ≤ workers) × (workers ≤ 64) }
         ensures problem { self.new.problem ≡ self.old.problem }
         ensures fit { AreValuesFor self.new.problem self.new.values }
-        ensures sums { AreLoads self.new.problem (value_cut self.new.problem self.new.values) result self.new.loads }
+        ensures sums { let b = self.new in IfOk result (λ total. AreLoads b.problem (value_cut b.problem b.values) total b.loads) }
     {
-        let pricing = &mut self.pricing;
-        copy_values(values, pricing.values.rows_mut());
-        value_cuts::cut_sums(
-            &self.tables,
-            &pricing.values,
-            &mut pricing.scratch,
-            &mut pricing.prices,
-            &mut pricing.loads,
-        )
+        self.pricing.take(values);
+        self.pricing.price(rt, alloc, &self.tables, workers)?;
+        Ok(self.pricing.sum(&self.tables))
     }
 
     /// What the cut of the values can be made from anew.
@@ -129,12 +107,5 @@ impl<'a> Bench<'a> {
         ensures { result.now ≡ self.now.loads }
     {
         &self.pricing.loads
-    }
-}
-
-// Copies the values, as far as both lists go.
-fn copy_values(from: &[u32], to: &mut [u32]) {
-    for at in 0..to.len() {
-        to[at] = from.get(at).copied().unwrap_or(0);
     }
 }

@@ -30,6 +30,7 @@ mod keeping;
 mod laws;
 mod leaves;
 mod optimizing;
+mod pricing;
 mod progress;
 mod task;
 mod values;
@@ -39,3 +40,4 @@ mod walking;
 
 pub use laws::all_candidates_serve;
 pub use optimizing::{optimize, optimize_within};
+pub use task::Task;

@@ -10,7 +10,7 @@ ghost use Rattle.kept_cuts.specs.Findings.{AreOwn, IsProved};
 ghost use Rattle.closing_search.specs.Gaps.{most_gap, IsWithinGap};
 ghost use Rattle.closing_search.specs.Progressing.{AreFirstHubs, IsGoing, IsDone, IsOver};
 
-use crate::progress::{Progress, target};
+use crate::progress::{Progress, offer_nodes, target};
 use crate::task::Task;
 use crate::walker::Walker;
 use assign_sub::{assign, set_cost};
@@ -58,38 +58,44 @@ pub fn optimize<R: Threads + Sync, A: Advice + Drop>(
     ensures enough { IsEnough (2 ^ (length instance.now.candidates + 1)) nodes → IfOk result (λ found. found.bound ≡ found.cost) }
     ensures whole { nodes ≡ None → IfOk result (λ found. found.bound ≡ found.cost) }
 {
-    optimize_within(rt, alloc, instance, nodes, 0, advice)
+    let task = Task {
+        instance,
+        nodes,
+        gap: 0,
+        workers: 1,
+        first: &[],
+    };
+    optimize_within(rt, alloc, &task, advice)
 }
 
-/// The same, up to a gap: how far the bound may be below the cost, in thousandths of a per cent of the cost. Only where two
-/// nodes more are not allowed the search stops, and then the bound may be further below. With a gap of 0 it is `optimize`.
+/// The same for a task, up to its gap: how far the bound may be below the cost. Only where two nodes more are not allowed
+/// the search stops, and then the bound may be further below. With a gap of 0 and no first nodes it is `optimize`. The
+/// number of workers changes nothing of what is found.
 pub fn optimize_within<R: Threads + Sync, A: Advice + Drop>(
     rt: &R,
     alloc: Global,
-    instance: &Instance,
-    nodes: Option<u64>,
-    gap: u32,
+    task: &Task,
     advice: A,
 ) -> Result<Found, AllocError>
-    requires lacks_none { IsHubSet instance.now instance.now.candidates }
-    requires gap { gap ≤ most_gap }
-    ensures proved { IfOk result (IsProved instance.now) }
+    requires lacks_none { IsHubSet task.now.instance.now task.now.instance.now.candidates }
+    requires gap { task.now.gap ≤ most_gap }
+    requires workers { (1 ≤ task.now.workers) × (task.now.workers ≤ 64) }
+    ensures proved { IfOk result (IsProved task.now.instance.now) }
     ensures own { IfOk result AreOwn }
-    ensures routes { IfOk result (λ found. AllZip (IsLeastRoute instance.now found.plan.hubs) (commodities instance.now.size) found.plan.routes) }
-    ensures at_most { instance.now.wanted ≡ None
-        → IfOk result (λ found. (cost : ℕ) → IsSetCost instance.now instance.now.candidates cost → found.cost ≤ cost) }
+    ensures routes { IfOk result (λ found. AllZip (IsLeastRoute task.now.instance.now found.plan.hubs) (commodities task.now.instance.now.size) found.plan.routes) }
+    ensures at_most { task.now.instance.now.wanted ≡ None
+        → IfOk result (λ found. (cost : ℕ) → IsSetCost task.now.instance.now task.now.instance.now.candidates cost → found.cost ≤ cost) }
     ensures within { IfOk result (λ found. found.bound ≤ found.cost) }
-    ensures below { IfOk result (λ found. NoPlanBelow instance.now found.bound) }
-    ensures most { IfOk result (λ found. length found.tree.items + 1 ≤ 2 ^ (length instance.now.candidates + 1)) }
-    ensures allowed { IfOk result (λ found. AreWithin nodes (length found.tree.items)) }
-    ensures spent { IfOk result (λ found. found.bound < found.cost → IsSpent nodes (length found.tree.items) ⊎ IsWithinGap gap found.bound found.cost) }
-    ensures enough { IsEnough (2 ^ (length instance.now.candidates + 1)) nodes → IfOk result (λ found. IsWithinGap gap found.bound found.cost) }
-    ensures whole { nodes ≡ None → IfOk result (λ found. IsWithinGap gap found.bound found.cost) }
+    ensures below { IfOk result (λ found. NoPlanBelow task.now.instance.now found.bound) }
+    ensures most { IfOk result (λ found. length found.tree.items + 1 ≤ 2 ^ (length task.now.instance.now.candidates + 1)) }
+    ensures allowed { IfOk result (λ found. AreWithin task.now.nodes (length found.tree.items)) }
+    ensures spent { IfOk result (λ found. found.bound < found.cost → IsSpent task.now.nodes (length found.tree.items) ⊎ IsWithinGap task.now.gap found.bound found.cost) }
+    ensures enough { IsEnough (2 ^ (length task.now.instance.now.candidates + 1)) task.now.nodes → IfOk result (λ found. IsWithinGap task.now.gap found.bound found.cost) }
+    ensures whole { task.now.nodes ≡ None → IfOk result (λ found. IsWithinGap task.now.gap found.bound found.cost) }
 {
-    let task = Task::new(instance, nodes, gap);
-    let begun = begin(alloc, &task)?;
-    let progress = fill_tree(rt, alloc, &task, advice, begun)?;
-    finish(alloc, &task, progress)
+    let begun = begin(alloc, task)?;
+    let progress = fill_tree(rt, alloc, task, advice, begun)?;
+    finish(alloc, task, progress)
 }
 
 // Handles the root, and all nodes below it, by this advice.
@@ -100,7 +106,8 @@ fn fill_tree<'a, R: Threads + Sync, A: Advice + Drop>(
     advice: A,
     begun: Progress,
 ) -> Result<Progress, AllocError>
-    requires { IsGoing task.now begun }
+    requires going { IsGoing task.now begun }
+    requires workers { (1 ≤ task.now.workers) × (task.now.workers ≤ 64) }
     ensures { IfOk result (IsDone task.now (root task.now.instance.now) begun) }
 {
     let root = Branch::root(alloc, task.instance)?;
@@ -110,8 +117,23 @@ fn fill_tree<'a, R: Threads + Sync, A: Advice + Drop>(
     Ok(walk.progress)
 }
 
-// No cut and no line, and the first incumbent.
+// No cut and no line, and the first incumbent: the first nodes of the task, where they cost less than that of a bare
+// beginning.
 fn begin(alloc: Global, task: &Task) -> Result<Progress, AllocError>
+    requires lacks_none { IsHubSet task.now.instance.now task.now.instance.now.candidates }
+    requires gap { task.now.gap ≤ most_gap }
+    ensures going { IfOk result (IsGoing task.now) }
+    ensures no_line { IfOk result (λ s. s.lines.items ≡ []) }
+    ensures one_node { IfOk result (λ s. s.made ≡ 1) }
+    ensures no_stop { IfOk result (λ s. s.stopped ≡ false) }
+{
+    let mut progress = bare_progress(alloc, task)?;
+    offer_nodes(alloc, task, task.first, &mut progress)?;
+    Ok(progress)
+}
+
+// No cut and no line, and the incumbent that the instance gives.
+fn bare_progress(alloc: Global, task: &Task) -> Result<Progress, AllocError>
     requires lacks_none { IsHubSet task.now.instance.now task.now.instance.now.candidates }
     requires gap { task.now.gap ≤ most_gap }
     ensures going { IfOk result (IsGoing task.now) }
@@ -132,7 +154,7 @@ fn begin(alloc: Global, task: &Task) -> Result<Progress, AllocError>
     })
 }
 
-// The hubs of the first incumbent: all candidates, or the first ones, as many as are wanted.
+// The hubs of that incumbent: all candidates, or the first ones, as many as are wanted.
 fn first_hubs(instance: &Instance) -> &[u32]
     requires lacks_none { IsHubSet instance.now instance.now.candidates }
     ensures problem { IsProblem instance.now }

@@ -14,10 +14,13 @@ ghost use Rattle.closing_search.specs.Gaps.{goal_of};
 ghost use Rattle.closing_search.specs.Progressing.{cuts_of, target_of, IsGoing, IsAt, IsDone, IsHalved};
 
 use crate::task::{MOST_GAP, Task};
+use assign_sub::{lacking, set_cost};
+use hub_model::unsigned;
+use hub_plain::{has_wanted, is_candidate_set};
 use kept_cuts::KeptCuts;
 use plan_model::{Branch, HubSet, TreeLine};
 use search_core::{add_line, lesser};
-use std::alloc::AllocError;
+use std::alloc::{AllocError, Global};
 
 /// The cuts and the lines of the tree, the incumbent with its cost, the nodes made, whether the search stopped for want of
 /// nodes, and the least that a leaf of a cut or of the stop says of every plan. Costs are in 10^-12.
@@ -107,4 +110,27 @@ pub(crate) fn offer(task: &Task, set: HubSet, cost: u128, progress: &mut Progres
         progress.hubs = set;
         progress.cost = cost;
     }
+}
+
+/// Makes the nodes the incumbent, whatever they are, if they are a set of candidates, as many as are wanted, that lacks no
+/// commodity and costs less.
+pub(crate) fn offer_nodes(
+    alloc: Global,
+    task: &Task,
+    hubs: &[u32],
+    progress: &mut Progress,
+) -> Result<(), AllocError>
+    requires { IsGoing task.now progress.old }
+    ensures { OnOk result (IsAt task.now progress.old progress.new) }
+{
+    if !is_candidate_set(task.instance, hubs) || !has_wanted(task.instance, hubs) {
+        return Ok(());
+    }
+    let set = HubSet::of(alloc, hubs)?;
+    if lacking(task.instance, &set).is_some() {
+        return Ok(());
+    }
+    let cost = unsigned(set_cost(task.instance, &set));
+    offer(task, set, cost, progress);
+    Ok(())
 }

@@ -8,29 +8,23 @@ use hub_model::Instance;
 /// The greatest gap, in thousandths of a per cent: the whole cost.
 pub(crate) const MOST_GAP: u32 = 100_000;
 
-/// The instance that is searched, the most nodes of the tree, the root among them, where they are limited, and the gap
-/// that the search may leave, in thousandths of a per cent of the cost.
+/// What a search is to do.
 #[derive(Clone, Copy)]
-pub(crate) struct Task<'a> {
-    pub(crate) instance: &'a Instance,
-    pub(crate) nodes: Option<u64>,
-    pub(crate) gap: u32,
+pub struct Task<'a> {
+    /// The instance that is searched.
+    pub instance: &'a Instance,
+    /// The most nodes of the tree, the root among them; with `None` they are not limited.
+    pub nodes: Option<u64>,
+    /// The gap that the search may leave between its bound and the cost, in thousandths of a per cent of the cost.
+    pub gap: u32,
+    /// How many workers work out exact prices, 1 to 64.
+    pub workers: u32,
+    /// Nodes that are tried as the first incumbent, whatever they are: they become it where they are a set of candidates, as
+    /// many as are wanted, that lacks no commodity, and cost less than what the search would begin with.
+    pub first: &'a [u32],
 }
 
-impl<'a> Task<'a> {
-    /// The task to search the instance with at most so many nodes, until the bound is within the gap.
-    pub(crate) fn new(instance: &'a Instance, nodes: Option<u64>, gap: u32) -> Task<'a>
-        ensures instance { result.instance.now ≡ instance.now }
-        ensures most { result.nodes ≡ nodes }
-        ensures gap { result.gap ≡ gap }
-    {
-        Task {
-            instance,
-            nodes,
-            gap,
-        }
-    }
-
+impl Task<'_> {
     /// Tells whether two nodes more are allowed, where so many were made.
     pub(crate) fn allows_two(&self, made: u64) -> bool
         requires { made + 2 < 2 ^ 64 }

@@ -1,9 +1,11 @@
 //! The cut of the values of the advice, at a branch.
 
-ghost use Rattle.std.specs.Prelude.{◌≡◌, ◌≤◌, length, IsTrue, IfOk, OnOk};
+ghost use Rattle.std.specs.Prelude.{◌≡◌, ◌≤◌, length, IsTrue, false, IfOk, OnOk};
 ghost use Rattle.hub_spec.specs.Trees.{IsBranch, HasRoom, cut_at};
 ghost use Rattle.value_cuts.specs.Values.{AreValuesFor, value_cut};
-ghost use Rattle.closing_search.specs.Progressing.{cuts_of, target_of, IsGoing, IsAt, IsAdvised};
+ghost use Rattle.search_spec.specs.Findings.{IsSpent};
+ghost use Rattle.closing_search.specs.Gaps.{goal_of};
+ghost use Rattle.closing_search.specs.Progressing.{cuts_of, IsGoing, IsAt, IsDone, IsAdvised};
 ghost use Rattle.closing_search.specs.SingleCuts.{AreLoads, ClosesBy};
 ghost use Rattle.closing_search.specs.Walking.{IsWalking, IsSameWalk};
 
@@ -11,12 +13,14 @@ use crate::progress::may_split;
 use crate::walk::Walk;
 use plan_model::Branch;
 use std::alloc::AllocError;
+use std::thread::Threads;
 
 impl Walk<'_> {
     /// Ends the branch by the cut of the values, if that closes it, or by a stop, where two nodes more are not allowed,
     /// and tells whether it did.
-    pub(crate) fn end_by_values(
+    pub(crate) fn end_by_values<R: Threads + Sync>(
         &mut self,
+        rt: &R,
         values: &[u32],
         branch: &Branch,
     ) -> Result<bool, AllocError>
@@ -27,18 +31,38 @@ impl Walk<'_> {
         ensures same { IsSameWalk self.old self.new }
         ensures advised { IfOk result (λ ended. IsAdvised self.old.task.now branch.now self.old.progress self.new.progress ended) }
     {
-        let total = self.bench.value_sums(values);
+        let total = self
+            .bench
+            .value_sums(rt, self.alloc, self.task.workers, values)?;
         let closes = self.sums_close(branch, total)?;
         if !closes && may_split(self.task, &self.progress) {
             return Ok(false);
         }
+        self.end_by_sums(branch, total, closes)?;
+        Ok(true)
+    }
+
+    // Keeps the cut of the values that were taken last, and ends the branch: by that cut, if it closes the goal, or else by
+    // a stop.
+    fn end_by_sums(&mut self, branch: &Branch, total: u128, closes: bool) -> Result<(), AllocError>
+        requires going { IsGoing self.old.task.now self.old.progress }
+        requires fit { AreValuesFor self.old.task.now.instance.now self.old.bench.values }
+        requires sums { let p = self.old.task.now.instance.now in AreLoads p (value_cut p self.old.bench.values) total self.old.bench.loads }
+        requires branch { IsBranch self.old.task.now.instance.now branch.now }
+        requires room { HasRoom self.old.task.now.instance.now.wanted branch.now }
+        requires some_free { 1 ≤ length branch.now.free }
+        requires closing { let p = self.old.task.now.instance.now in IsTrue closes
+            → ClosesBy p (value_cut p self.old.bench.values) (goal_of self.old.task.now.gap self.old.progress.cost) branch.now }
+        requires spent { closes ≡ false → IsSpent self.old.task.now.nodes self.old.progress.made }
+        ensures same { IsSameWalk self.old self.new }
+        ensures done { OnOk result (IsDone self.old.task.now branch.now self.old.progress self.new.progress) }
+    {
         let number = self.keep_values(total)?;
         if closes {
-            self.cut_leaf(branch, number)?;
+            self.cut_leaf(branch, number)
         } else {
-            self.stopped_leaf(branch)?;
+            self.stopped_leaf(branch)
         }
-        Ok(true)
     }
 
     // Keeps the cut of the values that were taken last, and gives its number.

@@ -1,9 +1,11 @@
 //! A walk over the tree: what it is to do, works with and has.
 
+ghost use Rattle.std.specs.Prelude.{◌≡◌, IfOk};
+
 use crate::bench::Bench;
 use crate::progress::Progress;
 use crate::task::Task;
-use std::alloc::Global;
+use std::alloc::{AllocError, Global};
 
 /// A walk over the tree: its task, a bench for the instance, and what the search has so far.
 #[derive(Drop)]
@@ -12,4 +14,26 @@ pub(crate) struct Walk<'a> {
     pub(crate) task: &'a Task<'a>,
     pub(crate) bench: Bench<'a>,
     pub(crate) progress: Progress,
+}
+
+impl<'a> Walk<'a> {
+    /// A walk that goes on from what the search has, for values in this unit, in 10^-6 by unit of flow.
+    pub(crate) fn new(
+        alloc: Global,
+        task: &'a Task<'a>,
+        unit: u64,
+        progress: Progress,
+    ) -> Result<Walk<'a>, AllocError>
+        ensures task { IfOk result (λ w. w.task.now ≡ task.now) }
+        ensures bench { IfOk result (λ w. w.bench.problem ≡ task.now.instance.now) }
+        ensures progress { IfOk result (λ w. w.progress ≡ progress) }
+    {
+        let bench = Bench::new(alloc, task.instance, unit)?;
+        Ok(Walk {
+            alloc,
+            task,
+            bench,
+            progress,
+        })
+    }
 }

@@ -2,7 +2,6 @@
 
 ghost use Rattle.std.specs.Prelude.{◌≡◌, IfOk};
 
-use crate::bench::Bench;
 use crate::guide::Guide;
 use crate::progress::Progress;
 use crate::task::Task;
@@ -31,14 +30,8 @@ impl<'a, R, A: Advice + Drop> Walker<'a, R, A> {
         ensures bench { IfOk result (λ w. w.walk.bench.problem ≡ task.now.instance.now) }
         ensures progress { IfOk result (λ w. w.walk.progress ≡ progress) }
     {
-        let bench = Bench::new(alloc, task.instance, advice.unit())?;
+        let walk = Walk::new(alloc, task, advice.unit(), progress)?;
         let guide = Guide::new(alloc, task.instance.candidates().len(), advice)?;
-        let walk = Walk {
-            alloc,
-            task,
-            bench,
-            progress,
-        };
         Ok(Walker { rt, guide, walk })
     }
 }

@@ -9,13 +9,13 @@ use Rattle.closing_search.proofs.optimizing.fill_tree.Goals as goal
 pub node-requires-clause-walking : goal.node-requires-clause-walking
 node-requires-clause-walking g c = λ _ _.
     (let is = c.in_ok-walker.ensures in
-    begun_walking c.args.task.now c.args.begun c.in_ok-walker.walker.walk is.task is.bench is.progress c.requires)
+    begun_walking c.args.task.now c.args.begun c.in_ok-walker.walker.walk is.task is.bench is.progress c.requires.going c.requires.workers)
 
 pub node-requires-clause-branch : goal.node-requires-clause-branch
 node-requires-clause-branch g c = λ _ _.
     (let p = c.args.task.now.instance.now in
     subst (λ (t : Task). IsBranch t.instance.now c.in_ok-root.root) (sym c.in_ok-walker.ensures.task)
-    (subst (IsBranch p) (sym c.in_ok-root.ensures) (root_branch p c.requires.problem)))
+    (subst (IsBranch p) (sym c.in_ok-root.ensures) (root_branch p c.requires.going.problem)))
 
 pub returns : goal.returns
 returns g c =

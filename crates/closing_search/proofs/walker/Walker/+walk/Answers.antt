@@ -48,7 +48,7 @@ parted-child-requires g t c = λ _ within.
           (
             search rules,
             (
-              record { going = c.in_ok-split_on.ensures.going; bench = c.requires.walking.bench },
+              record { going = c.in_ok-split_on.ensures.going; bench = c.requires.walking.bench; workers = c.requires.walking.workers },
               subst (IsBranch p) (sym child) (open_branch p b c.branch_node-k.result c.requires.branch free),
             ),
           ),
@@ -73,7 +73,7 @@ parted-child-requires-2 g t c = λ _ within.
           (
             search rules,
             (
-              walks_on _ c.child.new.self.walk same c.requires.walking.bench c.in_ok-child.ensures.done.going,
+              walks_on _ c.child.new.self.walk same c.requires.walking.bench c.requires.walking.workers c.in_ok-child.ensures.done.going,
               subst (λ (x : Task). IsBranch x.instance.now c.in_ok-closed.closed) (sym same.task)
                   (subst (IsBranch p) (sym child) (closed_branch p b c.branch_node-k.result c.requires.branch free)),
             ),

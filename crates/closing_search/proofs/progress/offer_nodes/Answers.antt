@@ -2,7 +2,7 @@ use Rattle.std.proofs.Common.{sym, subst, ◌∙◌}
 use Rattle.hub_spec.specs.Plans.{IsCandidateSet}
 use Rattle.hub_spec.proofs.Lacking.{tells}
 use Rattle.search_spec.proofs.Nodes.{none_there}
-use Rattle.closing_search.proofs.advising.offer_nodes.Goals as goal
+use Rattle.closing_search.proofs.progress.offer_nodes.Goals as goal
 
 pub set_cost-requires : goal.set_cost-requires
 set_cost-requires c =
