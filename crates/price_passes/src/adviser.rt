@@ -6,7 +6,7 @@ ghost use Rattle.price_passes.specs.Shapes.{cells, shape_of};
 
 use crate::guess::Guess;
 use crate::lengths::Lengths;
-use crate::memory::{Memories, Memory};
+use crate::memory::{Kept, Memories, Memory};
 use crate::moves::LocalSearch;
 use crate::node::Node;
 use crate::passes::Bench;
@@ -80,6 +80,16 @@ impl Adviser {
         })
     }
 
+    /// Begins with these values in place of 0, in the unit of `unit()`: a row for each commodity in order, a number for each
+    /// place. Past the end of the list they are 0.
+    ///
+    /// Prices and loads are worked out anew, and the passes are as ever. It is meant for a new adviser.
+    pub fn begin_with(&mut self, values: &[u32])
+        ensures { self.new ≡ self.old }
+    {
+        self.state.begin_with(&self.lengths, values);
+    }
+
     /// Sets the start set of the root.
     fn set_root_start(&mut self)
         ensures { self.new ≡ self.old }
@@ -136,7 +146,9 @@ impl Adviser {
     ) -> Result<(), AllocError>
         ensures { self.new ≡ self.old }
     {
-        let memory = Memory::of(alloc, &self.state, &self.node)?;
+        // Passes leave all others out.
+        let kept = Kept::of(&self.lengths, self.lengths.great_flow());
+        let memory = Memory::of(alloc, &self.state, &self.node, kept)?;
         self.node.little = None;
         self.node.sort_near();
         let mut most = 0i128;
@@ -191,52 +203,71 @@ impl Adviser {
     }
 
     /// Makes the duals tight at the hubs of a node where no place is free.
-    fn better_full(&mut self)
+    fn better_full<R: Threads + Sync>(&mut self, rt: &R, alloc: Global) -> Result<(), AllocError>
         ensures { self.new ≡ self.old }
     {
         self.begin_tightening();
-        self.state
-            .tighten(&self.lengths, &mut self.tightening, true);
+        self.tighten(rt, alloc)?;
         let bound = self.state.bound(&self.lengths, &self.node.sides);
         self.progress.note(bound, NO_GAIN);
+        Ok(())
     }
 
     /// Rounds the prices to a set, betters the guess from it, and makes the duals tight at the best set, where the
     /// bound then comes to what is wanted. It gives the bound.
-    fn round(&mut self, wanted: i128, bound: i128) -> i128
+    fn round<R: Threads + Sync>(
+        &mut self,
+        rt: &R,
+        alloc: Global,
+        wanted: i128,
+        bound: i128,
+    ) -> Result<i128, AllocError>
         ensures { self.new ≡ self.old }
     {
         if !self.node.mark_rounded(&mut self.guess.marks) {
-            return bound;
+            return Ok(bound);
         }
         if !self.guess.is_rounded() {
             self.better_guess();
         }
         let wanted = wanted.min(self.guess.cost);
         if bound >= wanted || !self.guess.is_close(bound, wanted) {
-            return bound;
+            return Ok(bound);
         }
         self.begin_tightening();
-        if !self.state.may_tighten(
+        let tight = self.tight_bound(rt, alloc, wanted)?;
+        if tight < wanted {
+            return Ok(bound);
+        }
+        self.tighten(rt, alloc)?;
+        Ok(tight)
+    }
+
+    /// The bound by the duals that are tight at the best set; where it is below `wanted`, another bound below that.
+    fn tight_bound<R: Threads + Sync>(
+        &mut self,
+        rt: &R,
+        alloc: Global,
+        wanted: i128,
+    ) -> Result<i128, AllocError>
+        ensures { self.new ≡ self.old }
+    {
+        self.tightening.bound(
+            rt,
+            alloc,
+            self.workers,
             &self.lengths,
-            &mut self.tightening,
+            self.state.values(),
             &self.node.sides,
             wanted,
-        ) {
-            return bound;
-        }
-        self.state
-            .tighten(&self.lengths, &mut self.tightening, false);
-        let tight = self
-            .tightening
-            .sums()
-            .bound(&self.lengths, &self.node.sides);
-        if tight < wanted {
-            return bound;
-        }
-        self.state
-            .tighten(&self.lengths, &mut self.tightening, true);
-        tight
+        )
+    }
+
+    /// Makes the duals tight at the best set.
+    fn tighten<R: Threads + Sync>(&mut self, rt: &R, alloc: Global) -> Result<(), AllocError>
+        ensures { self.new ≡ self.old }
+    {
+        self.state.tighten(rt, alloc, self.workers, &self.lengths, &mut self.tightening)
     }
 
     /// Betters the guess from the marked set.
@@ -312,8 +343,7 @@ impl Advice for Adviser {
         ensures { self.new ≡ self.old }
     {
         if self.node.is_full() {
-            self.better_full();
-            return Ok(());
+            return self.better_full(rt, alloc);
         }
         self.branch = None;
         self.prepare();
@@ -327,7 +357,7 @@ impl Advice for Adviser {
         )?;
         self.node.follow(self.state.loads());
         let bound = self.state.bound(&self.lengths, &self.node.sides);
-        let bound = self.round(wanted, bound);
+        let bound = self.round(rt, alloc, wanted, bound)?;
         self.progress.note(bound, gain);
         let wanted = wanted.min(self.guess.cost);
         if self.progress.is_idle(self.lengths.commodities(), wanted) {
@@ -379,7 +409,8 @@ impl Advice for Adviser {
     fn put_aside(&mut self, alloc: Global) -> Result<(), AllocError>
         ensures { self.new ≡ self.old }
     {
-        self.memories.put(alloc, &self.state, &self.node)
+        let kept = Kept::of(&self.lengths, 1);
+        self.memories.put(alloc, &self.state, &self.node, kept)
     }
 
     fn go_back(&mut self)

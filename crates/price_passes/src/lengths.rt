@@ -148,6 +148,11 @@ impl Lengths {
         row(&self.flows, i, self.size)
     }
 
+    /// The flows of all commodities, in order.
+    pub(crate) fn all_flows(&self) -> &[u32] {
+        &self.flows
+    }
+
     /// A fifth of the flows are no less.
     pub fn great_flow(&self) -> u32 {
         self.great_flow

@@ -2,8 +2,9 @@
 
 ghost use Rattle.std.specs.Prelude.{◌≡◌};
 
+use crate::lengths::Lengths;
 use crate::node::Node;
-use crate::rows::{at, copy, fill, put, row, row_mut};
+use crate::rows::{at, copy, fill, put, row, row_mut, short};
 use crate::state::{State, Sums};
 use crate::waits::Quote;
 use search_advice::Side;
@@ -12,8 +13,53 @@ use std::alloc::{AllocError, Global};
 /// So many memories there are at most.
 const MOST_MEMORIES: usize = 8;
 
-/// Values of all commodities, but for those that are 0: how many each commodity has, and one after another their places
-/// and the values themselves.
+/// How many values a commodity has that is not kept.
+const NOT_KEPT: u32 = u32::MAX;
+
+/// The commodities that a memory keeps the values of: those with no less flow.
+#[derive(Clone, Copy)]
+pub(crate) struct Kept<'a> {
+    flows: &'a [u32],
+    least: u32,
+}
+
+impl<'a> Kept<'a> {
+    /// The commodities with no less flow.
+    pub(crate) fn of(lengths: &'a Lengths, least: u32) -> Kept<'a> {
+        Kept {
+            flows: lengths.all_flows(),
+            least,
+        }
+    }
+
+    /// Tells whether the commodity is kept.
+    fn has(&self, commodity: usize) -> bool {
+        at(self.flows, commodity) >= self.least
+    }
+
+    /// How many values of kept commodities are not 0, where each has so many places.
+    fn some(&self, values: &[u32], places: usize) -> usize {
+        let mut count = 0usize;
+        for commodity in 0..self.flows.len() {
+            if self.has(commodity) {
+                count = count.wrapping_add(some(row(values, commodity, places)));
+            }
+        }
+        count
+    }
+}
+
+/// How many of the values are not 0.
+fn some(values: &[u32]) -> usize {
+    let mut count = 0usize;
+    for place in 0..values.len() {
+        count = count.wrapping_add(values[place].min(1) as usize);
+    }
+    count
+}
+
+/// Values of the commodities that are kept, but for those that are 0: how many each commodity has, and one after another
+/// their places and the values themselves.
 #[derive(Drop)]
 struct SparseValues {
     counts: Vec<u32>,
@@ -23,51 +69,70 @@ struct SparseValues {
 
 impl SparseValues {
     /// The values, of so many places for each commodity.
-    fn of(alloc: Global, values: &[u32], places: usize) -> Result<SparseValues, AllocError> {
-        let mut some = 0usize;
-        for value in values {
-            if *value > 0 {
-                some = some.wrapping_add(1);
-            }
-        }
-        let commodities = values.len() / places.max(1);
+    fn of(
+        alloc: Global,
+        values: &[u32],
+        places: usize,
+        kept: Kept<'_>,
+    ) -> Result<SparseValues, AllocError> {
+        let some = kept.some(values, places);
         let mut sparse = SparseValues {
-            counts: Vec::with_capacity(alloc, commodities)?,
+            counts: Vec::with_capacity(alloc, kept.flows.len())?,
             places: Vec::with_capacity(alloc, some)?,
             values: Vec::with_capacity(alloc, some)?,
         };
-        for commodity in 0..commodities {
-            let before = sparse.values.len();
-            sparse.add(row(values, commodity, places))?;
-            let count = sparse.values.len().wrapping_sub(before);
-            sparse.counts.push(count.min(u32::MAX as usize) as u32)?;
+        for commodity in 0..kept.flows.len() {
+            if kept.has(commodity) {
+                sparse.add(row(values, commodity, places));
+            } else {
+                sparse.end_row(NOT_KEPT);
+            }
         }
         Ok(sparse)
     }
 
-    /// Adds the values of a commodity. There are fewer places than a byte can tell.
-    fn add(&mut self, values: &[u32]) -> Result<(), AllocError> {
-        for (k, value) in values.iter().enumerate() {
-            if *value > 0 {
-                self.places.push(k.min(u8::MAX as usize) as u8)?;
-                self.values.push(*value)?;
+    /// Adds the values of a commodity.
+    fn add(&mut self, values: &[u32]) {
+        let before = self.values.len();
+        for k in 0..values.len() {
+            if values[k] > 0 {
+                self.push(k, values[k]);
             }
         }
-        Ok(())
+        let count = self.values.len().wrapping_sub(before);
+        self.end_row(short(count));
     }
 
-    /// Puts the values in place of those of the list.
+    /// Adds a value. There is room for all, and there are fewer places than a byte can tell.
+    fn push(&mut self, k: usize, value: u32) {
+        let _ = self.places.push(k.min(u8::MAX as usize) as u8);
+        let _ = self.values.push(value);
+    }
+
+    /// Ends the values of a commodity, so many. There is room for all commodities.
+    fn end_row(&mut self, count: u32) {
+        let _ = self.counts.push(count);
+    }
+
+    /// Puts the values of kept commodities in place of those of the list.
     fn put_into(&self, places: usize, values: &mut [u32]) {
-        fill(values, 0);
         let mut first = 0usize;
-        for (commodity, count) in self.counts.iter().enumerate() {
-            let values = row_mut(values, commodity, places);
-            let end = first.wrapping_add(*count as usize);
-            for entry in first..end {
-                let k = self.places.get(entry).copied().unwrap_or(0);
-                put(values, k as usize, at(&self.values, entry));
+        for commodity in 0..self.counts.len() {
+            let count = at(&self.counts, commodity);
+            if count != NOT_KEPT {
+                let end = first.wrapping_add(count as usize);
+                self.put_row(first, end, row_mut(values, commodity, places));
+                first = end;
             }
-            first = end;
+        }
+    }
+
+    /// Puts the entries from the first to before the end in place of the values of a commodity.
+    fn put_row(&self, first: usize, end: usize, values: &mut [u32]) {
+        fill(values, 0);
+        for entry in first..end {
+            let k = self.places.get(entry).copied().unwrap_or(0);
+            put(values, k as usize, at(&self.values, entry));
         }
     }
 }
@@ -83,11 +148,16 @@ pub(crate) struct Memory {
 }
 
 impl Memory {
-    /// A memory of these duals and this node.
-    pub(crate) fn of(alloc: Global, state: &State, node: &Node) -> Result<Memory, AllocError> {
+    /// A memory of these duals, but for the values of commodities that are not kept, and of this node.
+    pub(crate) fn of(
+        alloc: Global,
+        state: &State,
+        node: &Node,
+        kept: Kept<'_>,
+    ) -> Result<Memory, AllocError> {
         Ok(Memory {
             quotes: state.quotes.to_vec(alloc)?,
-            values: SparseValues::of(alloc, &state.values, state.places)?,
+            values: SparseValues::of(alloc, &state.values, state.places, kept)?,
             sums: state.sums.copied(alloc)?,
             sides: node.sides.to_vec(alloc)?,
             prices: node.prices.to_vec(alloc)?,
@@ -102,7 +172,7 @@ impl Memory {
 }
 
 impl State {
-    /// Makes these the duals of the memory, as far as the lists go.
+    /// Makes these the duals of the memory, as far as the lists go. Values that it does not keep stay.
     pub(crate) fn recall(&mut self, memory: &Memory)
         ensures { self.new ≡ self.old }
     {
@@ -135,9 +205,10 @@ impl Memories {
         alloc: Global,
         state: &State,
         node: &Node,
+        kept: Kept<'_>,
     ) -> Result<(), AllocError> {
         if self.aside < MOST_MEMORIES {
-            self.items.push(Memory::of(alloc, state, node)?)?;
+            self.items.push(Memory::of(alloc, state, node, kept)?)?;
         }
         self.aside = self.aside.saturating_add(1);
         Ok(())

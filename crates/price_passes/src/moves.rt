@@ -230,11 +230,9 @@ impl LocalSearch {
     fn set_routes(&mut self, lengths: &Lengths) {
         self.routes.take(lengths, &self.marks);
         for i in 0..lengths.size() {
-            for (j, route) in row_mut(&mut self.shortest, i, lengths.size())
-                .iter_mut()
-                .enumerate()
-            {
-                *route = self.routes.shortest(i, j);
+            let routes = row_mut(&mut self.shortest, i, lengths.size());
+            for j in 0..routes.len() {
+                routes[j] = self.routes.shortest(i, j);
             }
         }
     }
@@ -245,11 +243,12 @@ impl LocalSearch {
         for i in 0..lengths.size() {
             let shortest = row(&self.shortest, i, lengths.size());
             let base = row_mut(&mut self.base, i, lengths.size());
-            for (j, (length, route)) in base.iter_mut().zip(shortest).enumerate() {
-                *length = if closed.is_some() && route.uses(h) {
+            let count = base.len().min(shortest.len());
+            for j in 0..count {
+                base[j] = if closed.is_some() && shortest[j].uses(h) {
                     self.routes.without(i, j, h, h)
                 } else {
-                    route.length
+                    shortest[j].length
                 };
             }
         }
@@ -287,10 +286,11 @@ impl LocalSearch {
     /// The flows times their lengths, where this hub is closed and the place is opened.
     fn weight_with(&mut self, lengths: &Lengths, closed: Option<usize>, k: usize) -> u64 {
         self.set_trunks(lengths, closed, k);
-        for (j, (onward, last)) in self.onward.iter_mut().zip(self.last.iter_mut()).enumerate() {
+        for j in 0..lengths.size() {
             let leg = at(lengths.deliver(j), k);
-            *onward = leg.min(least_sum(&self.to_hubs, self.routes.deliver(j)));
-            *last = leg;
+            let onward = least_sum(&self.to_hubs, self.routes.deliver(j));
+            put(&mut self.onward, j, leg.min(onward));
+            put(&mut self.last, j, leg);
         }
         let mut sum = 0u64;
         for i in 0..lengths.size() {
@@ -321,14 +321,22 @@ impl LocalSearch {
             &mut self.from_hubs,
         );
         if let Some(h) = closed {
-            for (e, hub) in self.routes.hubs().iter().enumerate() {
-                if *hub == h {
-                    put(&mut self.to_hubs, e, FAR);
-                    put(&mut self.from_hubs, e, FAR);
-                }
-            }
+            // What no hub is, is past all of them.
+            let e = place_of(self.routes.hubs(), h);
+            put(&mut self.to_hubs, e, FAR);
+            put(&mut self.from_hubs, e, FAR);
         }
     }
+}
+
+/// Where the hub is among these, or their number if it is none.
+fn place_of(hubs: &[usize], h: usize) -> usize {
+    for e in 0..hubs.len() {
+        if hubs[e] == h {
+            return e;
+        }
+    }
+    hubs.len()
 }
 
 /// The cost of opening a hub at the place, in 10^-12.

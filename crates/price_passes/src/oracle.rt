@@ -161,16 +161,21 @@ impl Oracle {
 /// Takes the single with the least length out.
 fn take_shortest(singles: &mut Vec<Single>) -> Option<Single> {
     let last = singles.pop()?;
-    let mut shortest = last;
-    let mut slot = None;
-    for (index, single) in singles.iter().enumerate() {
-        if single.length < shortest.length {
-            shortest = *single;
-            slot = Some(index);
+    let slot = shortest_below(singles, last.length);
+    let shortest = singles.get(slot).copied().unwrap_or(last);
+    put(singles, slot, last);
+    Some(shortest)
+}
+
+/// Where the first single with the least length is, if it is below this one; else a place outside.
+fn shortest_below(singles: &[Single], length: u32) -> usize {
+    let mut slot = singles.len();
+    let mut least = length;
+    for index in 0..singles.len() {
+        if singles[index].length < least {
+            least = singles[index].length;
+            slot = index;
         }
     }
-    if let Some(slot) = slot {
-        put(singles, slot, last);
-    }
-    Some(shortest)
+    slot
 }

@@ -10,7 +10,7 @@ use crate::batches::Batch;
 use crate::lengths::Lengths;
 use crate::origins::{OriginScratch, Start, Terms};
 use crate::ramps::{NO_TURN, Turn, set_order};
-use crate::rows::{add, copy, row_mut, short};
+use crate::rows::{add, copy, copy_less, row_mut, short};
 use crate::state::{State, Sums};
 use crate::waits::{Gain, NO_GAIN, Quote};
 use crew::answers;
@@ -22,7 +22,7 @@ use std::thread::Threads;
 const NODES_FOR_AN_ORIGIN: usize = 50;
 
 /// No more workers make a pass.
-const MOST_WORKERS: u32 = 64;
+pub(crate) const MOST_WORKERS: u32 = 64;
 
 /// What a pass works with, besides the duals: the loads at the start of a batch and the order of the places at them,
 /// and what origins are bettered in one after another.
@@ -46,9 +46,7 @@ impl Bench {
     /// Begins a batch of origins at these loads, less what each hub costs beside its fixed cost.
     fn begin_batch(&mut self, terms: Terms<'_>, loads: &[i64]) {
         let extra = terms.extra_at(loads);
-        for (start, load) in self.start.iter_mut().zip(loads) {
-            *start = load.wrapping_sub(extra);
-        }
+        copy_less(loads, extra, &mut self.start);
         set_order(terms.ramps, loads, extra, &mut self.order);
     }
 

@@ -1,7 +1,7 @@
 //! The legs of a commodity over places, and the values of the places for it.
 
 use crate::lengths::Lengths;
-use crate::rows::{FAR, at, copy, fill, least_sum, put, set_sums, small};
+use crate::rows::{FAR, at, copy, fill, least_sum, least_sum_of_three, put, set_sums, small};
 use std::alloc::{AllocError, Global};
 
 /// The legs of a commodity over places: of collection and delivery, and the least lengths of both with a trunk leg.
@@ -42,6 +42,19 @@ impl<'a> Commodity<'a> {
     /// The length by the place alone.
     pub(crate) fn alone(&self, k: usize) -> u32 {
         at(self.collect, k).wrapping_add(at(self.deliver, k))
+    }
+
+    /// The greatest price that the values allow, or the limit.
+    pub(crate) fn greatest_price(&self, lengths: &Lengths, values: &[u32], limit: u32) -> u32 {
+        let mut price = limit;
+        for (k, value) in values.iter().enumerate() {
+            if self.forth(k).wrapping_add(*value) < price {
+                let onward = least_sum_of_three(lengths.trunk(k), self.deliver, values);
+                let shortest = onward.wrapping_add(at(self.collect, k)).min(self.alone(k));
+                price = price.min(shortest.wrapping_add(*value));
+            }
+        }
+        price
     }
 
     /// The legs of the place.

@@ -161,8 +161,10 @@ impl SetRoutes {
     fn take_hops(&mut self, lengths: &Lengths, j: usize) {
         let deliver = lengths.deliver(j);
         let hops = row_mut(&mut self.hops, j, self.width);
-        for (hops, k) in hops.iter_mut().zip(&self.hubs) {
-            *hops = shortest_hops(lengths.trunk(*k), deliver, &self.hubs);
+        let hubs = self.hubs.as_slice();
+        let count = hops.len().min(hubs.len());
+        for e in 0..count {
+            hops[e] = shortest_hops(lengths.trunk(hubs[e]), deliver, hubs);
         }
     }
 
@@ -171,12 +173,15 @@ impl SetRoutes {
         let collect = row(&self.collect, i, self.width);
         let hops = row(&self.hops, j, self.width);
         let mut found = NO_ROUTE;
-        for (k, (leg, hops)) in self.hubs.iter().zip(collect.iter().zip(hops)) {
-            let length = leg.wrapping_add(hops.first.length);
+        let hubs = self.hubs.as_slice();
+        let count = hubs.len().min(collect.len()).min(hops.len());
+        for e in 0..count {
+            let hop = hops[e].first;
+            let length = collect[e].wrapping_add(hop.length);
             if length < found.length {
                 found = Route {
-                    first: *k,
-                    last: hops.first.last as usize,
+                    first: hubs[e],
+                    last: hop.last as usize,
                     length,
                 };
             }
@@ -188,10 +193,13 @@ impl SetRoutes {
     pub(crate) fn without(&self, i: usize, j: usize, some: usize, other: usize) -> u32 {
         let collect = row(&self.collect, i, self.width);
         let hops = row(&self.hops, j, self.width);
+        let hubs = self.hubs.as_slice();
+        let (skipped, too) = (short(some), short(other));
+        let count = hubs.len().min(collect.len()).min(hops.len());
         let mut least = FAR;
-        for (k, (leg, hops)) in self.hubs.iter().zip(collect.iter().zip(hops)) {
-            if *k != some && *k != other {
-                least = least.min(leg.wrapping_add(hops.without(short(some), short(other))));
+        for e in 0..count {
+            if hubs[e] != some && hubs[e] != other {
+                least = least.min(collect[e].wrapping_add(hops[e].without(skipped, too)));
             }
         }
         least

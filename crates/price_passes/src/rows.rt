@@ -84,6 +84,14 @@ pub(crate) fn add(from: &[i64], into: &mut [i64]) {
     }
 }
 
+/// Sets each amount to the one at its place in the list, less this, as far as both lists go.
+pub(crate) fn copy_less(from: &[i64], less: i64, into: &mut [i64]) {
+    let count = into.len().min(from.len());
+    for place in 0..count {
+        into[place] = from[place].wrapping_sub(less);
+    }
+}
+
 /// Gathers the numbers at these places.
 pub(crate) fn gather(numbers: &[u32], places: &[usize], into: &mut [u32]) {
     let count = into.len().min(places.len());
@@ -100,6 +108,34 @@ pub(crate) fn least_sum(some: &[u32], others: &[u32]) -> u32 {
         least = least.min(some[place].wrapping_add(others[place]));
     }
     least
+}
+
+/// The least sum of three numbers that stand at one place, or `FAR` where none is less.
+pub(crate) fn least_sum_of_three(some: &[u32], others: &[u32], more: &[u32]) -> u32 {
+    let count = some.len().min(others.len()).min(more.len());
+    let mut least = FAR;
+    for place in 0..count {
+        let sum = some[place].wrapping_add(others[place]);
+        least = least.min(sum.wrapping_add(more[place]));
+    }
+    least
+}
+
+/// Copies the numbers one by one, none above the limit, and 0 past the end of the list.
+pub(crate) fn copy_capped(from: &[u32], limit: u32, into: &mut [u32]) {
+    fill(into, 0);
+    let count = into.len().min(from.len());
+    for place in 0..count {
+        into[place] = from[place].min(limit);
+    }
+}
+
+/// Adds the numbers, weighed by the flow, to the amounts one by one, as far as both lists go.
+pub(crate) fn add_weighed(flow: i64, numbers: &[u32], into: &mut [i64]) {
+    let count = into.len().min(numbers.len());
+    for place in 0..count {
+        into[place] = into[place].wrapping_add(flow.wrapping_mul(numbers[place] as i64));
+    }
 }
 
 /// Lowers each number to the base and a length less a potential, where that is less.

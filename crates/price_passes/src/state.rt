@@ -8,7 +8,7 @@ use crate::lengths::Lengths;
 use crate::origins::Terms;
 use crate::places::Commodity;
 use crate::ramps::FULL_PRICE;
-use crate::rows::{amount_at, copy, row_mut};
+use crate::rows::{add_weighed, amount_at, copy, fill, row_mut};
 use crate::waits::{LONG_WAIT, NO_QUOTE, NO_WAIT, Quote};
 use search_advice::Side;
 use std::alloc::{AllocError, Global};
@@ -175,6 +175,19 @@ impl Sums {
         copy(&other.loads, &mut self.loads);
     }
 
+    /// Adds a commodity with this flow, price and values.
+    pub(crate) fn add(&mut self, flow: i64, price: u32, values: &[u32]) {
+        let added = flow.wrapping_mul(price as i64);
+        self.total = self.total.wrapping_add(added);
+        add_weighed(flow, values, &mut self.loads);
+    }
+
+    /// Forgets all commodities.
+    pub(crate) fn clear(&mut self) {
+        self.total = 0;
+        fill(&mut self.loads, 0);
+    }
+
     /// What passes raise at these terms: the price of all commodities less what their loads cost, with what the ramps leave
     /// for a rise. It is weighed by the flows.
     fn objective(&self, terms: Terms<'_>) -> i128 {
@@ -200,13 +213,9 @@ impl Sums {
 
     /// The bound where any number of hubs will do.
     fn free_bound(&self, lengths: &Lengths, sides: &[Side]) -> i128 {
-        let worth = lengths.worth();
-        let mut bound = (self.total as i128).wrapping_mul(worth);
-        for (side, (load, cost)) in sides
-            .iter()
-            .zip(self.loads.iter().zip(lengths.fixed_costs()))
-        {
-            let rest = cost.wrapping_sub((*load as i128).wrapping_mul(worth));
+        let mut bound = (self.total as i128).wrapping_mul(lengths.worth());
+        for (k, side) in sides.iter().enumerate() {
+            let rest = self.rest(lengths, k).cost;
             let added = match *side {
                 Side::In => rest,
                 Side::Free => rest.min(0),

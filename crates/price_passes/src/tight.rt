@@ -1,0 +1,189 @@
+//! The duals of an origin that are tight at a hub set: each price is what the hubs' values leave of the shortest route.
+//! Origins are a crew's work: the duals of each are found by themselves.
+
+use crate::lengths::Lengths;
+use crate::origins::Terms;
+use crate::places::{Commodity, PlaceValues};
+use crate::ramps::{NO_TURN, Turn, set_order};
+use crate::routes::{Route, SetRoutes};
+use crate::rows::{add_weighed, at, copy, is_marked, put, row, row_mut};
+use crew::Job;
+use std::alloc::{AllocError, Global};
+
+/// The shortest route of a commodity over a set, the price that is tight at it, and the values of the route's hubs; where
+/// these are one, it has the first.
+#[derive(Clone, Copy)]
+pub(crate) struct TightRoute {
+    pub(crate) route: Route,
+    pub(crate) price: u32,
+    pub(crate) first: u32,
+    pub(crate) last: u32,
+}
+
+/// A hub set to be tight at: its marks and routes, and the order of the other places among all.
+#[derive(Drop)]
+pub(crate) struct TightSet {
+    marks: Vec<bool>,
+    routes: SetRoutes,
+    all: Vec<Turn>,
+    order: Vec<Turn>,
+}
+
+impl TightSet {
+    /// Room for a set of so many places, as yet empty.
+    pub(crate) fn new(alloc: Global, size: usize, places: usize) -> Result<TightSet, AllocError> {
+        Ok(TightSet {
+            marks: vec![in alloc; false; places]?,
+            routes: SetRoutes::new(alloc, size, places)?,
+            all: vec![in alloc; NO_TURN; places]?,
+            order: Vec::with_capacity(alloc, places)?,
+        })
+    }
+
+    /// Makes the marked places the set, with the order of the others at these loads.
+    pub(crate) fn take(
+        &mut self,
+        lengths: &Lengths,
+        marks: &[bool],
+        terms: Terms<'_>,
+        loads: &[i64],
+    ) {
+        set_order(terms.ramps, loads, terms.extra, &mut self.all);
+        self.order.clear();
+        for turn in &self.all {
+            if !is_marked(marks, turn.place) {
+                // It succeeds, since there is room for all places.
+                let _ = self.order.push(*turn);
+            }
+        }
+        if self.marks.as_slice() != marks {
+            copy(marks, &mut self.marks);
+            self.routes.take(lengths, marks);
+        }
+    }
+
+    /// The places outside the set, in their order.
+    pub(crate) fn order(&self) -> &[Turn] {
+        &self.order
+    }
+
+    /// The shortest route of a commodity, and its tight price where the values of the route's hubs are lowered to what the
+    /// routes without them leave.
+    pub(crate) fn route(&self, i: usize, j: usize, values: &[u32]) -> TightRoute {
+        let route = self.routes.shortest(i, j);
+        let (k, m) = (route.first, route.last);
+        let neither = self.routes.without(i, j, k, m).saturating_sub(route.length);
+        let without_first = self.routes.without(i, j, k, k).saturating_sub(route.length);
+        let first = at(values, k).min(without_first).min(neither);
+        let last = if k == m {
+            0
+        } else {
+            let without_last = self.routes.without(i, j, m, m).saturating_sub(route.length);
+            let room = without_last.min(neither.saturating_sub(first));
+            at(values, m).min(room)
+        };
+        TightRoute {
+            route,
+            price: route.length.wrapping_add(first).wrapping_add(last),
+            first,
+            last,
+        }
+    }
+
+    /// Makes the values of a commodity the nearest that are tight at the set, and gives its price.
+    fn tighten(
+        &self,
+        lengths: &Lengths,
+        scratch: &mut PlaceValues,
+        i: usize,
+        j: usize,
+        values: &mut [u32],
+    ) -> u32 {
+        let legs = Commodity::of(lengths, i, j);
+        let tight = self.route(i, j, values);
+        scratch.begin_from(&legs, tight.price, values);
+        for k in self.routes.hubs() {
+            if !tight.route.uses(*k) {
+                scratch.settle(&legs, *k, 0);
+            }
+        }
+        scratch.settle(&legs, tight.route.first, tight.first);
+        if tight.route.last != tight.route.first {
+            scratch.settle(&legs, tight.route.last, tight.last);
+        }
+        for turn in &self.order {
+            scratch.settle_asked(lengths, &legs, turn.place);
+        }
+        copy(scratch.values(), values);
+        tight.price
+    }
+}
+
+/// The tight duals of an origin, its prices and values, and by place the sum of the values, weighed by the flows. The price
+/// of a commodity without flow is 0.
+#[derive(Drop)]
+pub(crate) struct TightDuals {
+    pub(crate) prices: Vec<u32>,
+    pub(crate) values: Vec<u32>,
+    pub(crate) loads: Vec<i64>,
+}
+
+impl TightDuals {
+    /// As yet these values, and all prices 0.
+    fn new(alloc: Global, lengths: &Lengths, values: &[u32]) -> Result<TightDuals, AllocError> {
+        Ok(TightDuals {
+            prices: vec![in alloc; 0; lengths.size()]?,
+            values: values.to_vec(alloc)?,
+            loads: vec![in alloc; 0; lengths.places()]?,
+        })
+    }
+
+    /// Makes the duals, which are of this origin, tight at the set.
+    fn tighten(&mut self, lengths: &Lengths, set: &TightSet, scratch: &mut PlaceValues, i: usize) {
+        for (j, flow) in lengths.flows(i).iter().enumerate() {
+            if *flow > 0 {
+                let values = row_mut(&mut self.values, j, lengths.places());
+                let price = set.tighten(lengths, scratch, i, j, values);
+                put(&mut self.prices, j, price);
+                add_weighed(*flow as i64, values, &mut self.loads);
+            }
+        }
+    }
+}
+
+/// Origins whose duals are to be tight at a set, and the values of all commodities that they are to be nearest to: block e is the
+/// origin at e after the first.
+#[derive(Drop)]
+pub(crate) struct TightOrigins<'a> {
+    pub(crate) lengths: &'a Lengths,
+    pub(crate) set: &'a TightSet,
+    pub(crate) values: &'a [u32],
+    pub(crate) first: usize,
+}
+
+impl<'a> Job<TightDuals> for TightOrigins<'a> {
+    type Scratch = PlaceValues;
+
+    ghost answer = { λ job block duals. Unit {0} };
+
+    ghost accepts = { λ job block. Unit {0} };
+
+    ghost serves = { λ job scratch. Unit {0} };
+
+    fn new_scratch(&self, alloc: Global) -> Result<PlaceValues, AllocError> {
+        PlaceValues::new(alloc, self.lengths.places())
+    }
+
+    fn at(
+        &self,
+        alloc: Global,
+        scratch: &mut PlaceValues,
+        block: u32,
+    ) -> Result<TightDuals, AllocError> {
+        let i = self.first.wrapping_add(block as usize);
+        let values = row(self.values, i, self.lengths.origin_values());
+        let mut duals = TightDuals::new(alloc, self.lengths, values)?;
+        duals.tighten(self.lengths, self.set, scratch, i);
+        Ok(duals)
+    }
+}
