@@ -301,12 +301,15 @@ def line_for(problem: Problem, text: bytes) -> tuple[int, str]:
     return 1, f"bounds {printed(found.bound)} {printed(found.cost)}"
 
 
-def older_line(problem: Problem, text: bytes) -> str | None:
-    """The line with which `hub resolve` is to refuse the text as an older certificate, if it is."""
+def older_line(problem: Problem, text: bytes, cuts: bool = True) -> str | None:
+    """The line with which `hub resolve` is to refuse the text as an older certificate, if it is.
+
+    With `cuts` False it is that of `hub optimize --from`, which tries the text and the size alone.
+    """
     try:
         found = spelled(text)
         fail_unless(found.size == (len(problem.flows), len(problem.candidates)), "Size", 2)
-        for cut in found.cuts:
+        for cut in found.cuts if cuts else ():
             sums_of(problem, cut)
     except (Bad, Fails) as no:
         kind, line = no.args

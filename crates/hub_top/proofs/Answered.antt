@@ -20,8 +20,10 @@ use Rattle.hub_words.specs.Requests.{Source, Solving, SearchRule, Resolving, Mak
 use Rattle.hub_words.specs.Requests.{solve, optimize, resolve, check, report, make, demo}
 use Rattle.hub_top.specs.declared.status.Status.{Status}
 use Rattle.hub_top.specs.declared.status.Status.TheVariants.{Done, Stopped, No, Usage, Instance, Memory, Read, Write, Lacking}
-use Rattle.hub_top.specs.Commands.{HoldsInstance, Method, method_by, demo_method, again_method, IsEnoughFor, Solves, Stops, LacksNetwork, HoldsOlder, JudgesFile, ReportsFile}
-use Rattle.hub_top.specs.Answers.{Answers, Demonstrates, found_status, rule_status, solve_status, older_status, verdict_status, report_status}
+use Rattle.hub_top.specs.Commands.{HoldsInstance, Method, method_by, demo_method, again_method, IsEnoughFor, Solves, Stops, LacksNetwork, HoldsOlder, MayBegin, BeginsInstance, JudgesFile, ReportsFile}
+use Rattle.old_duals.specs.Sized.{IsSized}
+use Rattle.old_duals.proofs.Sizes.{IsServing, still_serving}
+use Rattle.hub_top.specs.Answers.{Answers, TellsFirst, Demonstrates, found_status, rule_status, solve_status, older_status, verdict_status, report_status}
 use Rattle.hub_top.specs.Texts.{older_line}
 use Rattle.hub_top.proofs.OneReading.{same_bytes, one_instance}
 use Rattle.hub_top.proofs.OneTexts.{only_verdict}
@@ -46,17 +48,17 @@ solve_instance files x rule Read text h = absurd h
 solve_instance files x rule Write text h = absurd h
 solve_instance files x rule Lacking text h = absurd h
 
-optimize_instance : (files : Files) (x : Solving) (gap : ℕ) (status : Status) (text : List ℕ) → Answers (optimize x gap) status (Some files) text
+optimize_instance : (files : Files) (x : Solving) (gap : ℕ) (from : Option (List ℕ)) (status : Status) (text : List ℕ) → Answers (optimize x gap from) status (Some files) text
     → HasInstance files x.source
-optimize_instance files x gap Done text h = record { problem = h.problem; instance = h.instance }
-optimize_instance files x gap Stopped text h = record { problem = h.problem; instance = h.instance }
-optimize_instance files x gap No text h = absurd h
-optimize_instance files x gap Usage text h = absurd h
-optimize_instance files x gap Instance text h = absurd h
-optimize_instance files x gap Memory text h = absurd h
-optimize_instance files x gap Read text h = absurd h
-optimize_instance files x gap Write text h = absurd h
-optimize_instance files x gap Lacking text h = absurd h
+optimize_instance files x gap from Done text h = record { problem = h.0.problem; instance = h.0.instance }
+optimize_instance files x gap from Stopped text h = record { problem = h.0.problem; instance = h.0.instance }
+optimize_instance files x gap from No text h = record { problem = h.refuses.problem; instance = h.refuses.instance }
+optimize_instance files x gap from Usage text h = absurd h
+optimize_instance files x gap from Instance text h = absurd h
+optimize_instance files x gap from Memory text h = absurd h
+optimize_instance files x gap from Read text h = absurd h
+optimize_instance files x gap from Write text h = absurd h
+optimize_instance files x gap from Lacking text h = absurd h
 
 resolve_instance : (files : Files) (x : Resolving) (status : Status) (text : List ℕ) → Answers (resolve x) status (Some files) text
     → HasInstance files x.source
@@ -86,8 +88,8 @@ pub answered_instance : (files : Files) (request : Request) (s : Source) (status
     → Answers request status (Some files) text → HasInstance files s
 answered_instance files (solve x rule) s status text named h =
     let e : x.source ≡ s = cc in subst (HasInstance files) e (solve_instance files x rule status text h)
-answered_instance files (optimize x gap) s status text named h =
-    let e : x.source ≡ s = cc in subst (HasInstance files) e (optimize_instance files x gap status text h)
+answered_instance files (optimize x gap from) s status text named h =
+    let e : x.source ≡ s = cc in subst (HasInstance files) e (optimize_instance files x gap from status text h)
 answered_instance files (resolve x) s status text named h =
     let e : x.source ≡ s = cc in subst (HasInstance files) e (resolve_instance files x status text h)
 answered_instance files (check t file) s status text named h =
@@ -166,6 +168,13 @@ solve_enough files x rule p Memory text instance enough h = absurd h
 solve_enough files x rule p Read text instance enough h = absurd h
 solve_enough files x rule p Write text instance enough h = absurd h
 solve_enough files x rule p Lacking text instance enough h = absurd h
+
+-- no line tells of one that serves
+no_line : (said : Older) (line : List ℕ) → IsServing said → older_line said ≡ Some line → ⊥
+no_line (serves older) line serving e = absurd (none-some line e)
+no_line (serves_not kind place) line serving e = serving
+no_line (unread fault) line serving e = serving
+no_line over_limit line serving e = serving
 
 -- ---- `resolve`
 
@@ -278,58 +287,108 @@ resolve_lacks files x p commodity Lacking text instance lacks h = h
 
 -- ---- `optimize`
 
--- `optimize` has one of two statuses
-pub optimize_status : (held : Option Files) (x : Solving) (gap : ℕ) (status : Status) (text : List ℕ) → Answers (optimize x gap) status held text
+-- the answer tells why the older certificate does not serve, and it does
+refused_first : (files : Files) (x : Solving) (from : Option (List ℕ)) (p : Problem) (text : List ℕ) → HoldsInstance files x.source p
+    → MayBegin (Some files) p from → TellsFirst (Some files) x.source from text → ⊥
+refused_first files x None p text instance may h = (let named = h.refuses.named in cc)
+refused_first files x (Some older) p text instance may h =
+    let k = h.refuses in
+    let same : k.problem ≡ p = one_instance files x.source k.problem p k.instance instance in
+    let named : Some older ≡ Some k.older = k.named in
+    let name : older ≡ k.older = cc in
+    let there : k.older_held.bytes ≡ may.1.bytes =
+    same_bytes files older k.older_held.bytes may.1.bytes (subst (λ (f : List ℕ). files f ≡ Some k.older_held.bytes) (sym name) k.older_held.bytes_held)
+    may.1.bytes_held in
+    let said : IsSized p may.1.bytes h.said =
+    subst (λ (b : List ℕ). IsSized p b h.said) there (subst (λ (q : Problem). IsSized q k.older_held.bytes h.said) same k.older_held.is) in
+    no_line h.said text (still_serving p may.1.bytes may.0 h.said may.1.is said) h.of_text
+
+-- where the search may begin so, it has one of two statuses
+pub optimize_status : (files : Files) (x : Solving) (gap : ℕ) (from : Option (List ℕ)) (p : Problem) (status : Status) (text : List ℕ)
+    → HoldsInstance files x.source p → MayBegin (Some files) p from → Answers (optimize x gap from) status (Some files) text
     → (status ≡ Done) ⊎ (status ≡ Stopped)
-optimize_status held x gap Done text h = inl refl
-optimize_status held x gap Stopped text h = inr refl
-optimize_status held x gap No text h = absurd h
-optimize_status held x gap Usage text h = absurd h
-optimize_status held x gap Instance text h = absurd h
-optimize_status held x gap Memory text h = absurd h
-optimize_status held x gap Read text h = absurd h
-optimize_status held x gap Write text h = absurd h
-optimize_status held x gap Lacking text h = absurd h
+optimize_status files x gap from p Done text instance may h = inl refl
+optimize_status files x gap from p Stopped text instance may h = inr refl
+optimize_status files x gap from p No text instance may h = absurd (refused_first files x from p text instance may h)
+optimize_status files x gap from p Usage text instance may h = absurd h
+optimize_status files x gap from p Instance text instance may h = absurd h
+optimize_status files x gap from p Memory text instance may h = absurd h
+optimize_status files x gap from p Read text instance may h = absurd h
+optimize_status files x gap from p Write text instance may h = absurd h
+optimize_status files x gap from p Lacking text instance may h = absurd h
+
+-- where the bytes that are named are none of a certificate of its size, it has one alone
+may_not : (files : Files) (x : Solving) (older bytes line : List ℕ) (said : Older) (p : Problem) → HoldsInstance files x.source p
+    → files older ≡ Some bytes → IsSized p bytes said → older_line said ≡ Some line → BeginsInstance (Some files) x.source (Some older) → ⊥
+may_not files x older bytes line said p instance held is tells h =
+    let same : h.problem ≡ p = one_instance files x.source h.problem p h.instance instance in
+    let k = h.may.1 in
+    let there : k.bytes ≡ bytes = same_bytes files older k.bytes bytes k.bytes_held held in
+    let serving : IsSized p bytes (serves h.may.0) =
+    subst (λ (b : List ℕ). IsSized p b (serves h.may.0)) there (subst (λ (q : Problem). IsSized q k.bytes (serves h.may.0)) same k.is) in
+    no_line said line (still_serving p bytes h.may.0 said serving is) tells
+
+pub optimize_misled : (files : Files) (x : Solving) (gap : ℕ) (older bytes line : List ℕ) (said : Older) (p : Problem) (status : Status) (text : List ℕ)
+    → HoldsInstance files x.source p → files older ≡ Some bytes → IsSized p bytes said → older_line said ≡ Some line
+    → Answers (optimize x gap (Some older)) status (Some files) text → status ≡ No
+optimize_misled files x gap older bytes line said p Done text instance held is tells h =
+    absurd (may_not files x older bytes line said p instance held is tells h.1)
+optimize_misled files x gap older bytes line said p Stopped text instance held is tells h =
+    absurd (may_not files x older bytes line said p instance held is tells h.1)
+optimize_misled files x gap older bytes line said p No text instance held is tells h = refl
+optimize_misled files x gap older bytes line said p Usage text instance held is tells h = absurd h
+optimize_misled files x gap older bytes line said p Instance text instance held is tells h = absurd h
+optimize_misled files x gap older bytes line said p Memory text instance held is tells h = absurd h
+optimize_misled files x gap older bytes line said p Read text instance held is tells h = absurd h
+optimize_misled files x gap older bytes line said p Write text instance held is tells h = absurd h
+optimize_misled files x gap older bytes line said p Lacking text instance held is tells h = absurd h
 
 -- where all candidates together lack a commodity it has no answer
-pub optimize_lacks : (files : Files) (x : Solving) (gap : ℕ) (p : Problem) (commodity : ℕ × ℕ) (status : Status) (text : List ℕ)
-    → HoldsInstance files x.source p → lacking p p.candidates ≡ Some commodity → Answers (optimize x gap) status (Some files) text → ⊥
-optimize_lacks files x gap p commodity Done text instance lacks h =
-    let same : h.problem ≡ p = one_instance files x.source h.problem p h.instance instance in
+pub optimize_lacks : (files : Files) (x : Solving) (gap : ℕ) (from : Option (List ℕ)) (p : Problem) (commodity : ℕ × ℕ) (status : Status) (text : List ℕ)
+    → HoldsInstance files x.source p → lacking p p.candidates ≡ Some commodity → Answers (optimize x gap from) status (Some files) text → ⊥
+optimize_lacks files x gap from p commodity Done text instance lacks h =
+    let k = h.0 in
+    let same : k.problem ≡ p = one_instance files x.source k.problem p k.instance instance in
     none-some commodity (sym (subst (λ (q : Problem). lacking q q.candidates ≡ None) same
-    (plan_serves h.problem h.optimizes.certificate.plan h.optimizes.finds.holds.plan)) ∙ lacks)
-optimize_lacks files x gap p commodity Stopped text instance lacks h =
-    let same : h.problem ≡ p = one_instance files x.source h.problem p h.instance instance in
+    (plan_serves k.problem k.optimizes.certificate.plan k.optimizes.finds.holds.plan)) ∙ lacks)
+optimize_lacks files x gap from p commodity Stopped text instance lacks h =
+    let k = h.0 in
+    let same : k.problem ≡ p = one_instance files x.source k.problem p k.instance instance in
     none-some commodity (sym (subst (λ (q : Problem). lacking q q.candidates ≡ None) same
-    (plan_serves h.problem h.bounds.certificate.plan h.bounds.finds.holds.plan)) ∙ lacks)
-optimize_lacks files x gap p commodity No text instance lacks h = h
-optimize_lacks files x gap p commodity Usage text instance lacks h = h
-optimize_lacks files x gap p commodity Instance text instance lacks h = h
-optimize_lacks files x gap p commodity Memory text instance lacks h = h
-optimize_lacks files x gap p commodity Read text instance lacks h = h
-optimize_lacks files x gap p commodity Write text instance lacks h = h
-optimize_lacks files x gap p commodity Lacking text instance lacks h = h
+    (plan_serves k.problem k.bounds.certificate.plan k.bounds.finds.holds.plan)) ∙ lacks)
+optimize_lacks files x gap from p commodity No text instance lacks h =
+    let k = h.refuses in
+    let same : k.problem ≡ p = one_instance files x.source k.problem p k.instance instance in
+    none-some commodity (sym (subst (λ (q : Problem). lacking q q.candidates ≡ None) same k.lacks_none) ∙ lacks)
+optimize_lacks files x gap from p commodity Usage text instance lacks h = h
+optimize_lacks files x gap from p commodity Instance text instance lacks h = h
+optimize_lacks files x gap from p commodity Memory text instance lacks h = h
+optimize_lacks files x gap from p commodity Read text instance lacks h = h
+optimize_lacks files x gap from p commodity Write text instance lacks h = h
+optimize_lacks files x gap from p commodity Lacking text instance lacks h = h
 
 -- no bound below the cost is within no gap
 closed : (k : Proof) → IsWithinGap 0 k.bound k.cost → k.bound < k.cost → ⊥
 closed k near below = absurd (omega (arith, below, no_gap k.bound k.cost near (omega (arith, below))))
 
 -- and one alone where as many nodes are allowed as a whole tree has, and no gap
-pub optimize_enough : (files : Files) (x : Solving) (p : Problem) (status : Status) (text : List ℕ) → HoldsInstance files x.source p
-    → IsEnoughFor p x.search.nodes → Answers (optimize x 0) status (Some files) text → status ≡ Done
-optimize_enough files x p Done text instance enough h = refl
-optimize_enough files x p Stopped text instance enough h =
-    let same : p ≡ h.problem = one_instance files x.source p h.problem instance h.instance in
+pub optimize_enough : (files : Files) (x : Solving) (from : Option (List ℕ)) (p : Problem) (status : Status) (text : List ℕ)
+    → HoldsInstance files x.source p → MayBegin (Some files) p from → IsEnoughFor p x.search.nodes
+    → Answers (optimize x 0 from) status (Some files) text → status ≡ Done
+optimize_enough files x from p Done text instance may enough h = refl
+optimize_enough files x from p Stopped text instance may enough h =
+    let k = h.0 in
+    let same : p ≡ k.problem = one_instance files x.source p k.problem instance k.instance in
     absurd
     (⊎_elim (λ spent. spent.1 (subst (λ (q : Problem). IsEnoughFor q x.search.nodes) same enough))
-    (λ near. closed h.bounds.certificate near h.bounds.gap) h.bounds.reason)
-optimize_enough files x p No text instance enough h = absurd h
-optimize_enough files x p Usage text instance enough h = absurd h
-optimize_enough files x p Instance text instance enough h = absurd h
-optimize_enough files x p Memory text instance enough h = absurd h
-optimize_enough files x p Read text instance enough h = absurd h
-optimize_enough files x p Write text instance enough h = absurd h
-optimize_enough files x p Lacking text instance enough h = absurd h
+    (λ near. closed k.bounds.certificate near k.bounds.gap) k.bounds.reason)
+optimize_enough files x from p No text instance may enough h = absurd (refused_first files x from p text instance may h)
+optimize_enough files x from p Usage text instance may enough h = absurd h
+optimize_enough files x from p Instance text instance may enough h = absurd h
+optimize_enough files x from p Memory text instance may enough h = absurd h
+optimize_enough files x from p Read text instance may enough h = absurd h
+optimize_enough files x from p Write text instance may enough h = absurd h
+optimize_enough files x from p Lacking text instance may enough h = absurd h
 
 pub demo_status : (held : Option Files) (m : Making) (search : Search) (status : Status) (text : List ℕ)
     → Answers (demo m search) status held text → status ≡ rule_status (made_problem m.seed m.size) (demo_method search)

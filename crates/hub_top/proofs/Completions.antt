@@ -7,14 +7,14 @@ use Rattle.cert_spec.proofs.OlderTexts.{certified_serves_lem}
 use Rattle.file_spec.specs.Faults.{Fault}
 use Rattle.hub_make.specs.Contents.{made_problem}
 use Rattle.hub_top.specs.declared.status.Status.{Status}
-use Rattle.hub_top.specs.declared.status.Status.TheVariants.{Done, Stopped, Usage, Instance, Lacking}
+use Rattle.hub_top.specs.declared.status.Status.TheVariants.{Done, Stopped, No, Usage, Instance, Lacking}
 use Rattle.hub_words.specs.Requests.{Source, Resolving, Request, solve, optimize, resolve, check, report, make, demo, instance}
 use Rattle.hub_top.specs.Commands.{WhereTold, Blame, HasBlame, HoldsInstance, LacksNetwork, method_by, demo_method}
 use Rattle.hub_top.specs.Answers.{Answers, verdict_status, report_status, rule_status, solve_status, older_status}
 use Rattle.hub_top.specs.Outcomes.{Outcome, answered, usage, faulty, no_network, memory, read, status_of, to_solve, ShelfFails, Quiet, MayComeTo, Written, whole, out_cut, err_cut}
 use Rattle.hub_top.specs.Completeness.{Completeness, EndsAs, EndsWith}
 use Rattle.hub_top.proofs.OneReading.{no_blame}
-use Rattle.hub_top.proofs.Answered.{answered_instance, solve_status_is, lacking_status, lacks_none, solve_enough, resolve_status_is, resolve_served, resolve_enough, resolve_lacks, optimize_lacks, optimize_status, optimize_enough, check_status, report_status_is, make_status, demo_status, demo_enough}
+use Rattle.hub_top.proofs.Answered.{answered_instance, solve_status_is, lacking_status, lacks_none, solve_enough, resolve_status_is, resolve_served, resolve_enough, resolve_lacks, optimize_lacks, optimize_misled, optimize_status, optimize_enough, check_status, report_status_is, make_status, demo_status, demo_enough}
 
 -- an ending that is written whole has its status, and a sink that fails counts it
 written_status : {O E : Type 0} (out_taken : O → Option (List ℕ)) (out_faults : O → ℕ) (err_taken : E → Option (List ℕ)) (err_faults : E → ℕ)
@@ -34,7 +34,7 @@ same_source request s t e f = cc
 -- an instance that a request asks to solve is the one that it names
 instance_to_solve : (request : Request) (s : Source) → to_solve request ≡ Some s → instance request ≡ Some s
 instance_to_solve (solve x rule) s e = e
-instance_to_solve (optimize x gap) s e = e
+instance_to_solve (optimize x gap from) s e = e
 instance_to_solve (resolve x) s e = e
 instance_to_solve (check t file) s e = cc
 instance_to_solve (report t file) s e = cc
@@ -169,17 +169,21 @@ module _ (asked : Option Request) (held : Option Files) (fails : Request → Typ
         told_ends files (resolve r) r.source p (λ (x : Status). (x ≡ Done) ⊎ (x ≡ Stopped)) told is refl h
         (no_lack files r p (λ (x : Status). (x ≡ Done) ⊎ (x ≡ Stopped)) h none)
         (λ other text answers. resolve_served files r p bytes serving.0 other text h there serving.1 answers));
-    unconnected = λ files s gap p commodity told is h lacks. told_ends files (optimize s gap) s.source p (λ (x : Status). x ≡ Lacking) told is refl h
+    unconnected = λ files s gap from p commodity told is h lacks. told_ends files (optimize s gap from) s.source p (λ (x : Status). x ≡ Lacking) told is refl h
         (λ t other same k. refl)
-        (λ other text answers. absurd (optimize_lacks files s gap p commodity other text h lacks answers));
-    optimized = λ files s p told is h none many. told_ends files (optimize s 0) s.source p (λ (x : Status). x ≡ Done) told is refl h
+        (λ other text answers. absurd (optimize_lacks files s gap from p commodity other text h lacks answers));
+    optimized = λ files s from p told is h none may many. told_ends files (optimize s 0 from) s.source p (λ (x : Status). x ≡ Done) told is refl h
         (λ t commodity same k. (let own : t ≡ s.source = cc in
         absurd (lacks_none files s.source p commodity h none (subst (λ (x : Source). LacksNetwork (Some files) x commodity) own k))))
-        (λ other text answers. optimize_enough files s p other text h many answers);
-    bounded = λ files s gap p told is h none. told_ends files (optimize s gap) s.source p (λ (x : Status). (x ≡ Done) ⊎ (x ≡ Stopped)) told is refl h
+        (λ other text answers. optimize_enough files s from p other text h may many answers);
+    bounded = λ files s gap from p told is h none may. told_ends files (optimize s gap from) s.source p (λ (x : Status). (x ≡ Done) ⊎ (x ≡ Stopped)) told is refl h
         (λ t commodity same k. (let own : t ≡ s.source = cc in
         absurd (lacks_none files s.source p commodity h none (subst (λ (x : Source). LacksNetwork (Some files) x commodity) own k))))
-        (λ other text answers. optimize_status (Some files) s gap other text answers);
+        (λ other text answers. optimize_status files s gap from p other text h may answers);
+    misled = λ files s gap older bytes line said p told is h none there says tells. told_ends files (optimize s gap (Some older)) s.source p (λ (x : Status). x ≡ No) told is refl h
+        (λ t commodity same k. (let own : t ≡ s.source = cc in
+        absurd (lacks_none files s.source p commodity h none (subst (λ (x : Source). LacksNetwork (Some files) x commodity) own k))))
+        (λ other text answers. optimize_misled files s gap older bytes line said p other text h there says tells answers);
     judged = λ files s certificate p bytes verdict told is h there why. told_ends files (check s certificate) s p (λ (x : Status). x ≡ verdict_status verdict) told is refl h
         (λ t commodity same k. cc)
         (λ other text answers. check_status files s certificate p bytes verdict other text h there why answers);

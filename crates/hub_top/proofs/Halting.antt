@@ -211,13 +211,13 @@ check_halts held faults sound old new s certificate h k =
     (λ b f is. is)
     (λ u. fails_for {P = λ files. LacksSource files s} {Q = λ files. LacksSource files s ⊎ LacksCertificate files s certificate} (λ files told lacks. inl lacks) u) k
 
--- what a search from an older certificate has for a halt, where there is no instance
-pub resolve_halts : {S : Type 0} (held : S → Option Files) (faults : S → ℕ) (sound : S → Type 0) (old new : S) (r : Resolving) (h : Halt)
-    → Halts (IsOfSource (held old) r.source) (FailsFor held faults sound old new (λ files. LacksSource files r.source)) h
-    → Halts (IsOfSource (held old) r.source) (FailsFor held faults sound old new (λ files. LacksSource files r.source ⊎ LacksOlder files r)) h
-resolve_halts held faults sound old new r h k =
-    weaker (IsOfSource (held old) r.source) (IsOfSource (held old) r.source)
-    (FailsFor held faults sound old new (λ files. LacksSource files r.source))
-    (FailsFor held faults sound old new (λ files. LacksSource files r.source ⊎ LacksOlder files r)) h
+-- what a command has for a halt that may lack more than a file of its instance, where there is no instance
+pub source_halts : {S : Type 0} (held : S → Option Files) (faults : S → ℕ) (sound : S → Type 0) (old new : S) (s : Source) (more : Files → Type 0) (h : Halt)
+    → Halts (IsOfSource (held old) s) (FailsFor held faults sound old new (λ files. LacksSource files s)) h
+    → Halts (IsOfSource (held old) s) (FailsFor held faults sound old new (λ files. LacksSource files s ⊎ more files)) h
+source_halts held faults sound old new s more h k =
+    weaker (IsOfSource (held old) s) (IsOfSource (held old) s)
+    (FailsFor held faults sound old new (λ files. LacksSource files s))
+    (FailsFor held faults sound old new (λ files. LacksSource files s ⊎ more files)) h
     (λ b f is. is)
-    (λ u. fails_for {P = λ files. LacksSource files r.source} {Q = λ files. LacksSource files r.source ⊎ LacksOlder files r} (λ files told lacks. inl lacks) u) k
+    (λ u. fails_for {P = λ files. LacksSource files s} {Q = λ files. LacksSource files s ⊎ more files} (λ files told lacks. inl lacks) u) k

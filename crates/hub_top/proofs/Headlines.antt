@@ -37,9 +37,10 @@ resolved_of : (asked : Option Request) (held : Option Files) (old new : Option (
 resolved_of asked held old new h files r told is = (h.text, h.taken, answers_to asked held old new h files (resolve r) told is)
 
 optimized_of : (asked : Option Request) (held : Option Files) (old new : Option (List ℕ)) → Answered asked held old new Done
-    → (files : Files) (s : Solving) (gap : ℕ) → held ≡ Some files → asked ≡ Some (optimize s gap)
+    → (files : Files) (s : Solving) (gap : ℕ) (from : Option (List ℕ)) → held ≡ Some files → asked ≡ Some (optimize s gap from)
     → (text : List ℕ) × Appends old new text × OptimizesInstance (Some files) s text
-optimized_of asked held old new h files s gap told is = (h.text, h.taken, answers_to asked held old new h files (optimize s gap) told is)
+optimized_of asked held old new h files s gap from told is =
+    (h.text, h.taken, (answers_to asked held old new h files (optimize s gap from) told is).0)
 
 -- what a verdict says whose status is 0
 certifies : (files : Files) (s : Source) (certificate text : List ℕ) (old new : Option (List ℕ)) (v : Verdict) → verdict_status v ≡ Done
@@ -109,7 +110,7 @@ headline asked held fails old new rose quiet status means complete =
       resolved = λ files r told is done. resolved_of asked held old new (subst P done means) files r told is;
       resolved_checked = λ before files r t certificate text told is h short same there calm.
           resolved_checked_of asked held quiet status complete before files r t certificate text told is h short same there calm;
-      optimized = λ files s gap told is done. optimized_of asked held old new (subst P done means) files s gap told is;
+      optimized = λ files s gap from told is done. optimized_of asked held old new (subst P done means) files s gap from told is;
       optimized_checked = λ before files s t certificate text told is h short same there calm.
           optimum_checked asked held quiet status complete before files s t certificate text told is h short same there calm;
       certified = λ files s certificate told is done. certified_of asked held old new (subst P done means) files s certificate told is;

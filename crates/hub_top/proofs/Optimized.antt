@@ -1,37 +1,62 @@
 -- What `optimize` found is told by its text.
-use Rattle.std.proofs.Common.{◌≡◌, ℕ, ◌+◌, ◌^◌, ◌<◌, ◌≤◌, length, Option, None, Some, ◌⊎◌, inl, inr, ⊎_elim, refl, sym, subst, ap, ◌∙◌, arith, nat_eq}
+use Rattle.std.proofs.Common.{◌≡◌, ℕ, ◌+◌, ◌^◌, ◌<◌, ◌≤◌, List, length, Option, None, Some, Ok, Err, ◌⊎◌, inl, inr, ⊎_elim, refl, sym, subst, ap, ◌∙◌, arith, nat_eq}
 use Rattle.std.proofs.lemmas.List.{length-map}
 use Rattle.std.proofs.lemmas.Bool.{cases_lt, cond_both, eqb-true, eqb-false}
+use Rattle.std.specs.Prelude.{Result, IfOk}
+use Rattle.std.specs.List.{AllZip}
 use Rattle.hub_io.specs.Outside.{Files}
-use Rattle.hub_spec.specs.Problem.{Problem}
-use Rattle.hub_spec.specs.Plans.{NoPlanBelow}
+use Rattle.hub_spec.specs.Problem.{Problem, IsProblem, commodities}
+use Rattle.hub_spec.specs.Plans.{NoPlanBelow, IsSetCost, IsLeastRoute}
 use Rattle.hub_spec.specs.Trees.{Tree, line_count, preorder}
 use Rattle.hub_spec.proofs.Preorders.{length-preorder}
 use Rattle.hub_spec.proofs.WeakDuality.{no_plan_below_bound}
 use Rattle.plan_model.specs.Lines.{tree_line_of}
-use Rattle.search_spec.specs.Findings.{AreWithin, IsSpent}
+use Rattle.search_spec.specs.Findings.{AreWithin, IsSpent, IsEnough}
 use Rattle.cert_spec.specs.Text.{Spells}
 use Rattle.kept_cuts.specs.declared.found.Found.{Found}
-use Rattle.kept_cuts.specs.Findings.{IsVersionFor, proof_of, lines_of}
+use Rattle.kept_cuts.specs.Findings.{AreOwn, IsProved, IsVersionFor, proof_of, lines_of}
 use Rattle.proof_text.specs.Texts.{found_text}
 use Rattle.proof_text.proofs.FoundLines.{found_text_certificate}
 use Rattle.closing_search.specs.Gaps.{IsWithinGap}
-use Rattle.hub_words.specs.Requests.{Source, Solving, optimize}
+use Rattle.hub_words.specs.Requests.{Solving, optimize}
 use Rattle.hub_top.specs.declared.status.Status.{Status}
 use Rattle.hub_top.specs.declared.status.Status.TheVariants.{Done, Stopped}
-use Rattle.hub_top.specs.Commands.{Method, method_of, IsEnoughFor, Finds, Optimizes, Bounds}
+use Rattle.hub_top.specs.Commands.{Method, method_of, IsEnoughFor, Finds, MayBegin, BeginsInstance, Optimizes, Bounds}
 use Rattle.hub_top.specs.Answers.{Answers}
 use Rattle.hub_top.specs.Views.{finding_status}
-use Rattle.hub_top.specs.Solving.{IsOptimum}
+use Rattle.hub_top.specs.Solving.{IsClosed, IsOptimum}
+
+-- what the search found is such a network, if it found one
+pub closed_by : {E : Type 0} (p : Problem) (nodes : Option ℕ) (gap : ℕ) (r : Result Found E) → IsProblem p → IfOk r (IsProved p)
+    → IfOk r AreOwn → IfOk r (λ found. AllZip (IsLeastRoute p found.plan.hubs) (commodities p.size) found.plan.routes)
+    → (p.wanted ≡ None → IfOk r (λ found. (cost : ℕ) → IsSetCost p p.candidates cost → found.cost ≤ cost))
+    → IfOk r (λ found. found.bound ≤ found.cost) → IfOk r (λ found. length found.tree.items + 1 ≤ 2 ^ (length p.candidates + 1))
+    → IfOk r (λ found. AreWithin nodes (length found.tree.items))
+    → IfOk r (λ found. found.bound < found.cost → IsSpent nodes (length found.tree.items) ⊎ IsWithinGap gap found.bound found.cost)
+    → (IsEnough (2 ^ (length p.candidates + 1)) nodes → IfOk r (λ found. IsWithinGap gap found.bound found.cost))
+    → IfOk r (IsClosed p nodes gap)
+closed_by p nodes gap (Err e) problem proved own routes at_most within most allowed spent enough = tt
+closed_by p nodes gap (Ok found) problem proved own routes at_most within most allowed spent enough = record {
+  problem = problem;
+  proved = proved;
+  own = own;
+  routes = routes;
+  at_most = at_most;
+  within = within;
+  most = most;
+  allowed = allowed;
+  spent = spent;
+  enough = enough;
+}
 
 -- a line of what was found for each of its tree
 lines_long : (found : Found) (tree : Tree) → lines_of found.tree.items ≡ preorder tree → length found.tree.items ≡ line_count tree
 lines_long found tree lines =
     sym (length-map found.tree.items tree_line_of) ∙ ap length lines ∙ length-preorder tree
 
-optimum_finds : (held : Option Files) (s : Source) (m : Method) (gap : ℕ) (p : Problem) (found : Found) (h : IsOptimum held s m.nodes gap p found) → IsVersionFor p found.cuts.cuts m.version
+optimum_finds : (m : Method) (gap : ℕ) (p : Problem) (found : Found) (h : IsClosed p m.nodes gap found) → IsVersionFor p found.cuts.cuts m.version
     → Finds p m (Spells (found_text m.version p found)) (proof_of m.version p found h.proved.tree)
-optimum_finds held s m gap p found h version =
+optimum_finds m gap p found h version =
     let proved = h.proved in
     let k = proof_of m.version p found proved.tree in
     let holds = proved.holds m.version in
@@ -46,10 +71,10 @@ optimum_finds held s m gap p found h version =
       most = subst (λ (made : ℕ). made + 1 ≤ 2 ^ (length p.candidates + 1)) (lines_long found proved.tree proved.lines) h.most;
     }
 
-closes : (held : Option Files) (s : Source) (m : Method) (gap : ℕ) (p : Problem) (found : Found) → IsOptimum held s m.nodes gap p found → IsVersionFor p found.cuts.cuts m.version
+closes : (m : Method) (gap : ℕ) (p : Problem) (found : Found) → IsClosed p m.nodes gap found → IsVersionFor p found.cuts.cuts m.version
     → found.bound ≡ found.cost → Optimizes p m (found_text m.version p found)
-closes held s m gap p found h version closed =
-    let finds = optimum_finds held s m gap p found h version in
+closes m gap p found h version closed =
+    let finds = optimum_finds m gap p found h version in
     let holds = h.proved.holds m.version in
     record {
       certificate = proof_of m.version p found h.proved.tree;
@@ -65,11 +90,11 @@ why_left p (Some n) Spent Near spent near =
     ⊎_elim (λ fewer. inl (spent, λ enough. absurd (omega (arith, fewer, enough)))) (λ enough. inr (near enough))
     (cases_lt (n + 1) (2 ^ (length p.candidates + 1)))
 
-leaves : (held : Option Files) (s : Source) (m : Method) (gap : ℕ) (p : Problem) (found : Found) → IsOptimum held s m.nodes gap p found → IsVersionFor p found.cuts.cuts m.version
+leaves : (m : Method) (gap : ℕ) (p : Problem) (found : Found) → IsClosed p m.nodes gap found → IsVersionFor p found.cuts.cuts m.version
     → found.bound < found.cost → Bounds p m gap (found_text m.version p found)
-leaves held s m gap p found h version below = record {
+leaves m gap p found h version below = record {
   certificate = proof_of m.version p found h.proved.tree;
-  finds = optimum_finds held s m gap p found h version;
+  finds = optimum_finds m gap p found h version;
   gap = below;
   reason = ⊎_elim
       (λ spent. why_left p m.nodes (IsSpent m.nodes (line_count h.proved.tree)) (IsWithinGap gap found.bound found.cost)
@@ -79,16 +104,20 @@ leaves held s m gap p found h version below = record {
 }
 
 -- `optimize` answers so, in a version that there is for the instance
-pub optimize_answers : (held : Option Files) (s : Solving) (gap : ℕ) (p : Problem) (found : Found) → IsVersionFor p found.cuts.cuts s.version
-    → IsOptimum held s.source s.search.nodes gap p found
-    → Answers (optimize s gap) (finding_status found) held (found_text s.version p found)
-optimize_answers held s gap p found version h =
+pub optimize_answers : (held : Option Files) (s : Solving) (gap : ℕ) (from : Option (List ℕ)) (p : Problem) (found : Found)
+    → IsVersionFor p found.cuts.cuts s.version → IsOptimum held s.source s.search.nodes gap p found → MayBegin held p from
+    → Answers (optimize s gap from) (finding_status found) held (found_text s.version p found)
+optimize_answers held s gap from p found version h may =
     let m = method_of s in
-    cond_both (nat_eq found.bound found.cost) Done Stopped (λ (x : Status). Answers (optimize s gap) x held (found_text s.version p found))
-    (λ e. record { problem = p; instance = h.instance; optimizes = closes held s.source m gap p found h version (eqb-true found.bound found.cost e) })
-    (λ e. record {
-      problem = p;
-      instance = h.instance;
-      bounds = leaves held s.source m gap p found h version
-          (let apart = eqb-false found.bound found.cost e in let within = h.within in omega (arith, within, apart));
-    })
+    let begins : BeginsInstance held s.source from = record { problem = p; instance = h.instance; may = may } in
+    cond_both (nat_eq found.bound found.cost) Done Stopped (λ (x : Status). Answers (optimize s gap from) x held (found_text s.version p found))
+    (λ e. (record { problem = p; instance = h.instance; optimizes = closes m gap p found h.closed version (eqb-true found.bound found.cost e) }, begins))
+    (λ e. (
+      record {
+        problem = p;
+        instance = h.instance;
+        bounds = leaves m gap p found h.closed version
+            (let apart = eqb-false found.bound found.cost e in let within = h.closed.within in omega (arith, within, apart));
+      },
+      begins,
+    ))

@@ -42,16 +42,16 @@ of_solve s rule Read held text none h = h
 of_solve s rule Write held text none h = h
 of_solve s rule Lacking held text none h = h
 
-of_optimize : (s : Solving) (gap : ℕ) (status : Status) (held : Option Files) (text : List ℕ) → HasNoAnswer status → Answers (optimize s gap) status held text → ⊥
-of_optimize s gap Done held text none h = none
-of_optimize s gap Stopped held text none h = none
-of_optimize s gap No held text none h = none
-of_optimize s gap Usage held text none h = h
-of_optimize s gap Instance held text none h = h
-of_optimize s gap Memory held text none h = h
-of_optimize s gap Read held text none h = h
-of_optimize s gap Write held text none h = h
-of_optimize s gap Lacking held text none h = h
+of_optimize : (s : Solving) (gap : ℕ) (from : Option (List ℕ)) (status : Status) (held : Option Files) (text : List ℕ) → HasNoAnswer status → Answers (optimize s gap from) status held text → ⊥
+of_optimize s gap from Done held text none h = none
+of_optimize s gap from Stopped held text none h = none
+of_optimize s gap from No held text none h = none
+of_optimize s gap from Usage held text none h = h
+of_optimize s gap from Instance held text none h = h
+of_optimize s gap from Memory held text none h = h
+of_optimize s gap from Read held text none h = h
+of_optimize s gap from Write held text none h = h
+of_optimize s gap from Lacking held text none h = h
 
 of_resolve : (r : Resolving) (status : Status) (held : Option Files) (text : List ℕ) → HasNoAnswer status → Answers (resolve r) status held text → ⊥
 of_resolve r Done held text none h = none
@@ -99,7 +99,7 @@ of_demo m search Lacking held text none h = h
 
 no_answer : (request : Request) (status : Status) (held : Option Files) (text : List ℕ) → HasNoAnswer status → Answers request status held text → ⊥
 no_answer (solve s rule) status held text none h = of_solve s rule status held text none h
-no_answer (optimize s gap) status held text none h = of_optimize s gap status held text none h
+no_answer (optimize s gap from) status held text none h = of_optimize s gap from status held text none h
 no_answer (resolve r) status held text none h = of_resolve r status held text none h
 no_answer (check s file) status held text none h = of_verdict h.verdict status none h.of_status
 no_answer (report s file) status held text none h = of_report s file status held text none h

@@ -13,7 +13,7 @@ use Rattle.hub_words.specs.Requests.{Source, Search, Resolving, Request, solve, 
 use Rattle.hub_top.specs.declared.status.Status.{Status}
 use Rattle.hub_top.specs.declared.status.Status.TheVariants.{Done, Stopped, No, Lacking}
 use Rattle.hub_top.specs.Texts.{verdict_text, older_line}
-use Rattle.hub_top.specs.Commands.{Method, demo_method, again_method, rule_certificate, Solves, Stops, SolvesInstance, StopsInstance, ResolvesInstance, StopsAgain, RefusesOlder, OptimizesInstance, BoundsInstance, JudgesFile, ReportsFile}
+use Rattle.hub_top.specs.Commands.{Method, demo_method, again_method, rule_certificate, Solves, Stops, SolvesInstance, StopsInstance, ResolvesInstance, StopsAgain, RefusesOlder, BeginsInstance, RefusesFirst, OptimizesInstance, BoundsInstance, JudgesFile, ReportsFile}
 
 -- ---- statuses
 
@@ -54,6 +54,12 @@ pub record TellsOlder (held : Option Files) (r : Resolving) (text : List ℕ) : 
   pub of_text : older_line said ≡ Some text
   pub refuses : RefusesOlder held r said
 
+-- the text is the line that tells why the bytes of the older certificate that is named do not
+pub record TellsFirst (held : Option Files) (s : Source) (from : Option (List ℕ)) (text : List ℕ) : Type 0 where
+  pub said : Older
+  pub of_text : older_line said ≡ Some text
+  pub refuses : RefusesFirst held s from said
+
 -- the text is the line of a verdict with this status, which is the verdict on the certificate
 pub record Judges (held : Option Files) (s : Source) (certificate : List ℕ) (status : Status) (text : List ℕ) : Type 0 where
   pub verdict : Verdict
@@ -74,9 +80,10 @@ abbrev pub Answers : Request → Status → Option Files → List ℕ → Type 0
 Answers (solve s rule) Done held text = SolvesInstance held s rule text
 Answers (solve s rule) Stopped held text = StopsInstance held s rule text
 Answers (solve s rule) status held text = ⊥
-Answers (optimize s gap) Done held text = OptimizesInstance held s text
-Answers (optimize s gap) Stopped held text = BoundsInstance held s gap text
-Answers (optimize s gap) status held text = ⊥
+Answers (optimize s gap from) Done held text = OptimizesInstance held s text × BeginsInstance held s.source from
+Answers (optimize s gap from) Stopped held text = BoundsInstance held s gap text × BeginsInstance held s.source from
+Answers (optimize s gap from) No held text = TellsFirst held s.source from text
+Answers (optimize s gap from) status held text = ⊥
 Answers (resolve r) Done held text = ResolvesInstance held r text
 Answers (resolve r) Stopped held text = StopsAgain held r text
 Answers (resolve r) No held text = TellsOlder held r text

@@ -24,6 +24,7 @@ use Rattle.network_report.specs.Texts.{report_text}
 use Rattle.hub_words.specs.Requests as words
 use Rattle.hub_words.specs.Requests.{Source, Search, Solving, SearchRule, Resolving, Request, solve, optimize, resolve, check, report, make, demo}
 use Rattle.cert_checker.specs.Shows.{Proves}
+use Rattle.old_duals.specs.Sized.{IsSized}
 
 -- a fact about the files, where they are told
 abbrev pub WhereTold : Option Files → (Files → Type 0) → Type 0
@@ -218,6 +219,35 @@ pub record RefusesOlder (held : Option Files) (r : Resolving) (said : Older) : T
   pub lacks_none : lacking problem problem.candidates ≡ None
   pub older_held : HoldsOlder held problem r.older said
 
+-- ---- the older certificate from which `optimize` begins
+
+-- the file holds bytes of which this is said by their text and their size alone
+pub record HoldsSized (held : Option Files) (p : Problem) (older : List ℕ) (said : Older) : Type 0 where
+  pub bytes : List ℕ
+  pub bytes_held : WhereTold held (λ files. files older ≡ Some bytes)
+  pub is : IsSized p bytes said
+
+-- no older certificate is named, or its file holds one of the instance's size
+abbrev pub MayBegin : Option Files → Problem → Option (List ℕ) → Type 0
+MayBegin held p None = Unit {0}
+MayBegin held p (Some older) = (k : Proof) × HoldsSized held p older (serves k)
+
+-- the files give an instance, for which that is so
+pub record BeginsInstance (held : Option Files) (s : Source) (from : Option (List ℕ)) : Type 0 where
+  pub problem : Problem
+  pub instance : WhereTold held (λ files. HoldsInstance files s problem)
+  pub may : MayBegin held problem from
+
+-- the files give an instance whose candidates together lack no commodity, and in the file that is named bytes that are no certificate
+-- of its size, for this reason
+pub record RefusesFirst (held : Option Files) (s : Source) (from : Option (List ℕ)) (said : Older) : Type 0 where
+  pub problem : Problem
+  pub instance : WhereTold held (λ files. HoldsInstance files s problem)
+  pub lacks_none : lacking problem problem.candidates ≡ None
+  pub older : List ℕ
+  pub named : from ≡ Some older
+  pub older_held : HoldsSized held problem older said
+
 -- ---- what `optimize` comes to
 
 -- where any number of hubs will do, it costs at most what all candidates as hubs cost
@@ -300,10 +330,23 @@ pub record LacksOlder (files : Files) (r : Resolving) : Type 0 where
   pub lacks_none : lacking problem problem.candidates ≡ None
   pub lacks : files r.older ≡ None
 
+-- a file of this name is not held, if one is named
+abbrev pub LacksNamed : Option (List ℕ) → Files → Type 0
+LacksNamed None files = ⊥
+LacksNamed (Some name) files = files name ≡ None
+
+-- the file of the older certificate from which `optimize` is to begin is not held, where there is an instance whose candidates together
+-- lack no commodity
+pub record LacksFirst (files : Files) (s : Source) (from : Option (List ℕ)) : Type 0 where
+  pub problem : Problem
+  pub instance : HoldsInstance files s problem
+  pub lacks_none : lacking problem problem.candidates ≡ None
+  pub lacks : LacksNamed from files
+
 -- a file that the request names is not held, when its turn comes
 abbrev pub Lacks : Files → Request → Type 0
 Lacks files (solve solving rule) = LacksSource files solving.source
-Lacks files (optimize solving gap) = LacksSource files solving.source
+Lacks files (optimize solving gap from) = LacksSource files solving.source ⊎ LacksFirst files solving.source from
 Lacks files (resolve resolving) = LacksSource files resolving.source ⊎ LacksOlder files resolving
 Lacks files (check s certificate) = LacksSource files s ⊎ LacksCertificate files s certificate
 Lacks files (report s certificate) = LacksSource files s ⊎ LacksCertificate files s certificate

@@ -8,10 +8,12 @@ use Rattle.cert_spec.specs.Verdicts.{Verdict, Why, Certifies, Older, serves, IsO
 use Rattle.file_spec.specs.Faults.{Fault}
 use Rattle.hub_make.specs.Contents.{made_problem}
 use Rattle.hub_top.specs.declared.status.Status.{Status}
-use Rattle.hub_top.specs.declared.status.Status.TheVariants.{Done, Stopped, Usage, Instance, Memory, Lacking}
+use Rattle.hub_top.specs.declared.status.Status.TheVariants.{Done, Stopped, No, Usage, Instance, Memory, Lacking}
 use Rattle.hub_words.specs.Requests.{Source, Solving, SearchRule, Resolving, Making, Search, Request, instance}
 use Rattle.hub_words.specs.Requests.{solve, optimize, resolve, check, report, make, demo}
-use Rattle.hub_top.specs.Commands.{Blame, HasBlame, HoldsInstance, method_by, demo_method, IsEnoughFor}
+use Rattle.hub_top.specs.Commands.{Blame, HasBlame, HoldsInstance, MayBegin, method_by, demo_method, IsEnoughFor}
+use Rattle.old_duals.specs.Sized.{IsSized}
+use Rattle.hub_top.specs.Texts.{older_line}
 use Rattle.hub_top.specs.Answers.{verdict_status, report_status, rule_status, solve_status, older_status}
 
 -- the run ended with a status of which this holds, or for want of memory
@@ -53,15 +55,21 @@ pub record Completeness (asked : Option Request) (held : Option Files) (quiet : 
       → asked ≡ Some (resolve r) → HoldsInstance files r.source p → lacking p p.candidates ≡ None → files r.older ≡ Some bytes
       → IsSameNetwork before p → Certifies before bytes bound cost → quiet → EndsAs (λ x. (x ≡ Done) ⊎ (x ≡ Stopped)) status
   -- `optimize` with an instance: 8 where all candidates together lack a commodity
-  pub unconnected : (files : Files) (s : Solving) (gap : ℕ) (p : Problem) (commodity : ℕ × ℕ) → held ≡ Some files
-      → asked ≡ Some (optimize s gap) → HoldsInstance files s.source p → lacking p p.candidates ≡ Some commodity → quiet
+  pub unconnected : (files : Files) (s : Solving) (gap : ℕ) (from : Option (List ℕ)) (p : Problem) (commodity : ℕ × ℕ) → held ≡ Some files
+      → asked ≡ Some (optimize s gap from) → HoldsInstance files s.source p → lacking p p.candidates ≡ Some commodity → quiet
       → EndsWith Lacking status
-  -- and where they lack none, with no gap and as many nodes as a whole tree has, or any number
-  pub optimized : (files : Files) (s : Solving) (p : Problem) → held ≡ Some files → asked ≡ Some (optimize s 0)
-      → HoldsInstance files s.source p → lacking p p.candidates ≡ None → IsEnoughFor p s.search.nodes → quiet → EndsWith Done status
+  -- and where they lack none, and an older certificate of its size is held or none is named, with no gap and as many nodes as a whole
+  -- tree has, or any number
+  pub optimized : (files : Files) (s : Solving) (from : Option (List ℕ)) (p : Problem) → held ≡ Some files → asked ≡ Some (optimize s 0 from)
+      → HoldsInstance files s.source p → lacking p p.candidates ≡ None → MayBegin (Some files) p from → IsEnoughFor p s.search.nodes → quiet → EndsWith Done status
   -- and with any gap and limit of nodes: the bound is the cost, or it is below
-  pub bounded : (files : Files) (s : Solving) (gap : ℕ) (p : Problem) → held ≡ Some files → asked ≡ Some (optimize s gap)
-      → HoldsInstance files s.source p → lacking p p.candidates ≡ None → quiet → EndsAs (λ x. (x ≡ Done) ⊎ (x ≡ Stopped)) status
+  pub bounded : (files : Files) (s : Solving) (gap : ℕ) (from : Option (List ℕ)) (p : Problem) → held ≡ Some files
+      → asked ≡ Some (optimize s gap from) → HoldsInstance files s.source p → lacking p p.candidates ≡ None
+      → MayBegin (Some files) p from → quiet → EndsAs (λ x. (x ≡ Done) ⊎ (x ≡ Stopped)) status
+  -- and where the bytes that are held under the name of the older certificate are none of its size, 2
+  pub misled : (files : Files) (s : Solving) (gap : ℕ) (older bytes line : List ℕ) (said : Older) (p : Problem) → held ≡ Some files
+      → asked ≡ Some (optimize s gap (Some older)) → HoldsInstance files s.source p → lacking p p.candidates ≡ None
+      → files older ≡ Some bytes → IsSized p bytes said → older_line said ≡ Some line → quiet → EndsWith No status
   -- `check` with an instance and a certificate: the status of the verdict on its bytes
   pub judged : (files : Files) (s : Source) (certificate : List ℕ) (p : Problem) (bytes : List ℕ) (verdict : Verdict)
       → held ≡ Some files → asked ≡ Some (check s certificate) → HoldsInstance files s p → files certificate ≡ Some bytes

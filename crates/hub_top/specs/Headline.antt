@@ -44,8 +44,9 @@ pub record Headline (asked : Option Request) (held : Option Files) (old new : Op
       → asked ≡ Some (check t certificate) → ResolvesInstance (Some before) r text → length text ≤ certificate_limit
       → IsSameInstance before r.source files t → files certificate ≡ Some text → quiet
       → (status ≡ Done) ⊎ (status ≡ Memory)
-  -- and with `optimize`, whatever the gap
-  pub optimized : (files : Files) (s : Solving) (gap : ℕ) → held ≡ Some files → asked ≡ Some (optimize s gap) → status ≡ Done
+  -- and with `optimize`, whatever the gap and the older certificate
+  pub optimized : (files : Files) (s : Solving) (gap : ℕ) (from : Option (List ℕ)) → held ≡ Some files
+      → asked ≡ Some (optimize s gap from) → status ≡ Done
       → (text : List ℕ) × Appends old new text × OptimizesInstance (Some files) s text
   pub optimized_checked : (before files : Files) (s : Solving) (t : Source) (certificate text : List ℕ) → held ≡ Some files → asked ≡ Some (check t certificate)
       → OptimizesInstance (Some before) s text → length text ≤ certificate_limit

@@ -13,7 +13,7 @@ use Rattle.hub_top.specs.Answers.{Answers}
 -- the instance that a request asks to solve, if it names one
 abbrev pub to_solve : Request → Option Source
 to_solve (solve solving rule) = Some solving.source
-to_solve (optimize solving gap) = Some solving.source
+to_solve (optimize solving gap from) = Some solving.source
 to_solve (resolve resolving) = Some resolving.source
 to_solve request = None
 

@@ -24,8 +24,11 @@ use Rattle.hub_top.specs.declared.resolving.Resolved.{Resolved}
 use Rattle.hub_top.specs.declared.resolving.Resolved.TheVariants as resolved
 use Rattle.hub_top.specs.declared.resolving.Reading.{Reading}
 use Rattle.hub_top.specs.declared.resolving.Reading.TheVariants.{Serves, Refused}
+use Rattle.hub_top.specs.declared.optimizing.First.{First}
+use Rattle.hub_top.specs.declared.optimizing.First.TheVariants as first
+use Rattle.hub_top.specs.declared.optimizing.First.TheVariants.{With}
 use Rattle.hub_top.specs.declared.status.Status.TheVariants.{No}
-use Rattle.hub_top.specs.Commands.{Course, node_by_node, again, by_rounds, course_of, found_from, IsEnoughFor, HoldsOlder, RefusesOlder, LacksNetwork}
+use Rattle.hub_top.specs.Commands.{Course, node_by_node, again, by_rounds, course_of, found_from, IsEnoughFor, HoldsOlder, HoldsSized, RefusesOlder, RefusesFirst, MayBegin, LacksNetwork}
 use Rattle.hub_top.specs.Texts.{verdict_text, older_line}
 use Rattle.hub_top.specs.Answers.{verdict_status}
 use Rattle.hub_top.specs.Building.{KeepsLimits}
@@ -78,13 +81,11 @@ pub record IsResolution (held : Option Files) (r : Resolving) (p : Problem) (fou
   pub older_held : HoldsOlder held p r.older (serves older)
   pub searched : IsSearched p r.search.nodes (again (start_of older)) found
 
--- it is a proved network of the instance of the source, with least routes, that costs at most what all candidates do where any number
--- of hubs will do, with no more nodes than are allowed and than a whole tree has; its bound is below its cost, and not within the
--- gap, only where two nodes more are not allowed, and fewer than a whole tree has
-pub record IsOptimum (held : Option Files) (s : Source) (nodes : Option ℕ) (gap : ℕ) (p : Problem) (found : finding.Found) : Type 0 where
-  pub instance : ToldInstance held s p
+-- it is a proved network of the problem, with least routes, that costs at most what all candidates do where any number of hubs will
+-- do, with no more nodes than are allowed and than a whole tree has; its bound is below its cost, and not within the gap, only where two
+-- nodes more are not allowed, and fewer than a whole tree has
+pub record IsClosed (p : Problem) (nodes : Option ℕ) (gap : ℕ) (found : finding.Found) : Type 0 where
   pub problem : IsProblem p
-  pub limits : KeepsLimits s.options p
   pub proved : IsProved p found
   pub own : AreOwn found
   pub routes : AllZip (IsLeastRoute p found.plan.hubs) (commodities p.size) found.plan.routes
@@ -95,15 +96,26 @@ pub record IsOptimum (held : Option Files) (s : Source) (nodes : Option ℕ) (ga
   pub spent : found.bound < found.cost → IsSpent nodes (length found.tree.items) ⊎ IsWithinGap gap found.bound found.cost
   pub enough : IsEnoughFor p nodes → IsWithinGap gap found.bound found.cost
 
+-- it is such a network of the instance of the source
+pub record IsOptimum (held : Option Files) (s : Source) (nodes : Option ℕ) (gap : ℕ) (p : Problem) (found : finding.Found) : Type 0 where
+  pub instance : ToldInstance held s p
+  pub limits : KeepsLimits s.options p
+  pub closed : IsClosed p nodes gap found
+
 -- it is what the rule finds for the instance of the source, or the commodity that all its candidates together lack
 abbrev pub ComesTo : Option Files → Source → Option ℕ → SearchRule → Solved → Type 0
 ComesTo held s nodes rule (Found instance found) = IsSolution held s nodes rule instance found
 ComesTo held s nodes rule (NoNetwork i j) = LacksNetwork held s (i, j)
 
--- it is such a network of the instance of the source, or the commodity that all its candidates together lack
-abbrev pub OptimizesTo : Option Files → Source → Option ℕ → ℕ → Solved → Type 0
-OptimizesTo held s nodes gap (Found instance found) = IsOptimum held s nodes gap instance found
-OptimizesTo held s nodes gap (NoNetwork i j) = LacksNetwork held s (i, j)
+-- it is such a network of the instance of the source, for which the search may begin with the older certificate that is named, or the
+-- commodity that all its candidates together lack, or the ending that tells why the older certificate does not serve
+abbrev pub OptimizesTo : Option Files → Source → Option ℕ → ℕ → Option (List ℕ) → Resolved → Type 0
+OptimizesTo held s nodes gap from (resolved.Found instance found) =
+    IsOptimum held s nodes gap instance found × MayBegin held instance from
+OptimizesTo held s nodes gap from (resolved.NoNetwork i j) = LacksNetwork held s (i, j)
+OptimizesTo held s nodes gap from (resolved.Refused ending) =
+    (said : Older) × (older_line said ≡ Some (verdict_text (verdict_of ending))) × (verdict_status (verdict_of ending) ≡ No)
+    × RefusesFirst held s from said
 
 -- it is what the rule finds for the instance of the source from the older certificate, or the commodity that all its candidates
 -- together lack, or the ending that tells why the older certificate does not serve
@@ -119,6 +131,18 @@ abbrev pub IsReadingAs : Older → Reading → Type 0
 IsReadingAs said (Serves certificate) = said ≡ serves certificate
 IsReadingAs said (Refused ending) =
     (older_line said ≡ Some (verdict_text (verdict_of ending))) × (verdict_status (verdict_of ending) ≡ No)
+
+-- the file holds bytes of which that is said by their text and size alone
+pub record IsReadingOfSized (p : Problem) (held : Option Files) (older : List ℕ) (reading : Reading) : Type 0 where
+  pub said : Older
+  pub older_held : HoldsSized held p older said
+  pub reads : IsReadingAs said reading
+
+-- the search of the problem may begin with the older certificate that is named, or with none, or the ending tells why it may not
+abbrev pub BeginsAs : Option Files → Problem → Option (List ℕ) → First → Type 0
+BeginsAs held p from (With older) = MayBegin held p from
+BeginsAs held p from (first.Refused ending) =
+    (name : List ℕ) × (from ≡ Some name) × IsReadingOfSized p held name (Refused ending)
 
 -- the file holds bytes of which that is said
 pub record IsReadingOfOlder (p : Problem) (held : Option Files) (older : List ℕ) (reading : Reading) : Type 0 where

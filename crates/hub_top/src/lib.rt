@@ -14,6 +14,7 @@ mod files;
 mod halts;
 mod instances;
 mod laws;
+mod optimizing;
 mod outcomes;
 mod reporting;
 mod resolving;

@@ -4,11 +4,11 @@ ghost use Rattle.std.specs.Prelude.{◌≡◌, ◌⊎◌};
 ghost use Rattle.hub_io.specs.Outside.{Puts};
 ghost use Rattle.cert_scan.specs.Versions.{version_number};
 ghost use Rattle.kept_cuts.specs.Findings.{IsProved};
-ghost use Rattle.proof_text.specs.Lenders.{IsLenderFor};
+ghost use Rattle.dual_lender.specs.Lenders.{IsLenderFor};
 ghost use Rattle.proof_text.specs.Texts.{found_text};
 ghost use Rattle.hub_top.specs.Texts.{no_network_text, usage_text};
 ghost use Rattle.hub_top.specs.Outcomes.{IsTold, Written, err_text, memory, status_of};
-ghost use Rattle.hub_top.specs.Views.{CanBeWritten, IsReady, IsWritable, answer_status, answer_text, came_to, finding_status, halted, outcome};
+ghost use Rattle.hub_top.specs.Views.{CanBeWritten, HasWorkers, IsReady, IsWritable, answer_status, answer_text, came_to, finding_status, halted, outcome};
 ghost use Rattle.hub_top.specs.declared.status.Status.TheVariants.{Lacking, Usage};
 
 use crate::Status;
@@ -16,19 +16,30 @@ use crate::answers::{Answer, put_answer, status_of_answer, status_of_finding};
 use crate::halts::Halt;
 use crate::texts::{put_fault, put_memory, put_no_network, put_read, put_usage};
 use cert_format::Version;
+use dual_lender::DualLender;
 use hub_io::{Failed, Sink};
 use hub_model::Instance;
 use kept_cuts::Found;
-use proof_text::{DualLender, write_found};
+use proof_text::write_found;
 use std::alloc::Global;
+use std::thread::Threads;
+
+/// How a certificate is written.
+#[derive(Clone, Copy)]
+pub struct Writing {
+    /// The version of its text.
+    pub version: Version,
+    /// By how many workers its text is worked out: 1 to 64.
+    pub workers: u32,
+}
 
 /// What a run settled on.
 #[derive(Drop)]
 pub enum Settled {
     /// The answer of a command.
     Answered(Answer),
-    /// What `solve`, `resolve` or `optimize` found for the instance, whose certificate is wanted in this version.
-    Found(Instance, Found, Version),
+    /// What `solve`, `resolve` or `optimize` found for the instance, whose certificate is wanted so.
+    Found(Instance, Found, Writing),
     /// `solve`, `resolve`: all candidates together lack the commodity from `i` to `j`.
     NoNetwork { i: u32, j: u32 },
     /// The words are no command.
@@ -42,8 +53,8 @@ pub enum Settled {
 pub enum Intended<'a> {
     /// The answer of a command.
     Answered(&'a Answer),
-    /// The certificate in this version of what was found for the instance, with room to make its duals in.
-    Found(&'a Instance, &'a Found, Version, DualLender<'a>),
+    /// The certificate of what was found for the instance, written so, with room to make its duals in.
+    Found(&'a Instance, &'a Found, Writing, DualLender<'a>),
     /// All candidates together lack the commodity from `i` to `j`.
     NoNetwork { i: u32, j: u32 },
     /// The words are no command.
@@ -60,8 +71,8 @@ pub fn intend<'a>(alloc: Global, what: &'a Settled) -> Intended<'a>
 {
     match what {
         Settled::Answered(answer) => Intended::Answered(answer),
-        Settled::Found(instance, found, version) => match DualLender::new(alloc, instance) {
-            Ok(lender) => Intended::Found(instance, found, *version, lender),
+        Settled::Found(instance, found, writing) => match DualLender::new(alloc, instance) {
+            Ok(lender) => Intended::Found(instance, found, *writing, lender),
             Err(_) => Intended::Halted(Halt::Memory),
         },
         Settled::NoNetwork { i, j } => Intended::NoNetwork { i: *i, j: *j },
@@ -70,15 +81,22 @@ pub fn intend<'a>(alloc: Global, what: &'a Settled) -> Intended<'a>
     }
 }
 
-/// Writes what a run came to: an answer on out, and why there is none on err. It takes no memory.
-pub fn write<O: Sink, E: Sink>(intended: Intended, out: &mut O, err: &mut E) -> Status
+/// Writes what a run came to: an answer on out, and why there is none on err. It asks for no memory but for the workers of a
+/// certificate's text, and goes on without them where there is none.
+pub fn write<R: Threads + Sync, O: Sink, E: Sink>(
+    rt: &R,
+    alloc: Global,
+    intended: Intended,
+    out: &mut O,
+    err: &mut E,
+) -> Status
     requires { IsReady intended }
     ensures { Written O.taken O.faults E.taken E.faults out.old out.new err.old err.new result (outcome intended.entry) }
 {
     match intended {
         Intended::Answered(answer) => write_answer(answer, out),
-        Intended::Found(instance, found, version, mut lender) => {
-            write_certificate(instance, found, version, &mut lender, out)
+        Intended::Found(instance, found, writing, mut lender) => {
+            write_certificate(rt, alloc, instance, found, writing, &mut lender, out)
         }
         Intended::NoNetwork { i, j } => write_no_network(i, j, err),
         Intended::Usage => write_usage(err),
@@ -96,20 +114,24 @@ fn write_answer<O: Sink>(answer: &Answer, out: &mut O) -> Status
     }
 }
 
-/// Writes the certificate of what a search found, in this version.
-fn write_certificate<O: Sink>(
+/// Writes the certificate of what a search found.
+fn write_certificate<R: Threads + Sync, O: Sink>(
+    rt: &R,
+    alloc: Global,
     instance: &Instance,
     found: &Found,
-    version: Version,
+    writing: Writing,
     lender: &mut DualLender,
     out: &mut O,
 ) -> Status
     requires lender { IsLenderFor instance.now lender.old }
     requires proved { IsProved instance.now found.now }
+    requires workers { HasWorkers writing }
     ensures { IsTold O.taken O.faults out.old out.new result (finding_status found.now)
-        (found_text (version_number version) instance.now found.now) }
+        (found_text (version_number writing.version) instance.now found.now) }
 {
-    match write_found(instance, found, version, lender, out) {
+    let Writing { version, workers } = writing;
+    match write_found(rt, alloc, instance, found, version, lender, workers, out) {
         Ok(()) => status_of_finding(found),
         Err(_) => Status::Write,
     }

@@ -27,15 +27,15 @@ use std::alloc::Global;
 use std::thread::Threads;
 use warm_start::start_of;
 
-/// What `resolve` comes to.
+/// What `resolve` and `optimize` come to.
 #[derive(Drop)]
 pub enum Resolved {
-    /// What the search rule finds for the instance from the cuts and the hubs of the older certificate.
+    /// What the search finds for the instance.
     Found(Instance, Found),
     /// All candidates together lack the commodity from `i` to `j`, the first one.
     NoNetwork { i: u32, j: u32 },
-    /// The older certificate does not serve: its text ends so where it is read, or its size line or one of its cuts does not
-    /// hold for the instance.
+    /// The older certificate does not serve: its text ends so where it is read, or its size line, or for `resolve` one of its
+    /// cuts, does not hold for the instance.
     Refused(Ending),
 }
 
@@ -75,8 +75,8 @@ pub fn resolve<R: Threads + Sync, S: Shelf, G: Gate>(
 
 /// What the bytes of an older certificate are for an instance.
 #[derive(Drop)]
-enum Reading {
-    /// They spell this certificate, which has cuts of the instance.
+pub enum Reading {
+    /// They spell this certificate, which serves.
     Serves(Certificate),
     /// They do not serve, for this reason.
     Refused(Ending),
@@ -104,7 +104,7 @@ fn read_file<R: Threads + Sync, S: Shelf>(
 }
 
 /// What is said of an older certificate, with the ending that tells it where it does not serve.
-fn reading_of(older: Older) -> Reading
+pub fn reading_of(older: Older) -> Reading
     ensures { IsReadingAs (older_of older) result }
 {
     match older {

@@ -1,4 +1,4 @@
-//! The commands `solve`, `demo` and `optimize`: an instance to what a search finds for it.
+//! The commands `solve` and `demo`: an instance to what the search rule finds for it.
 
 ghost use Rattle.std.specs.Prelude.{◌≡◌, ◌≤◌, IfOk, IfErr};
 ghost use denote.Param.Send.{IsSync};
@@ -8,12 +8,12 @@ ghost use Rattle.hub_spec.specs.Separation.{IsOrder};
 ghost use Rattle.cut_pool.specs.Entries.{entry_of};
 ghost use Rattle.search_steps.specs.Pools.{IsSumsOf};
 ghost use Rattle.hub_make.specs.Contents.{made_problem};
-ghost use Rattle.hub_words.specs.Requests.{AreSources, AsksListed, IsGap, IsMaking, IsSearch};
+ghost use Rattle.hub_words.specs.Requests.{AreSources, AsksListed, IsMaking, IsSearch};
 ghost use Rattle.hub_words.specs.Views.{making_seen, rule_seen, search_seen, source_of};
 ghost use Rattle.hub_top.specs.Commands.{LacksSource, course_of, node_by_node};
 ghost use Rattle.hub_top.specs.Outcomes.{FailsFor, StaysShelf};
 ghost use Rattle.hub_top.specs.Halts.{Halts, IsOfSource};
-ghost use Rattle.hub_top.specs.Solving.{ComesTo, IsSearched, MayFollow, MayGo, OptimizesTo, course_seen};
+ghost use Rattle.hub_top.specs.Solving.{ComesTo, IsSearched, MayFollow, MayGo, course_seen};
 
 use crate::halts::Halt;
 use crate::instances::read_instance;
@@ -28,14 +28,13 @@ use kept_cuts::Found;
 use node_rounds::search_rounds;
 use par_separate::{Crew, separate_sums, workers_for};
 use plan_model::HubSet;
-use price_passes::Adviser;
 use search_core::Start;
 use search_steps::{Counted, Plain, Rule};
 use separators::{Separator, Solo};
 use std::alloc::{AllocError, Global};
 use std::thread::Threads;
 
-/// What `solve` and `optimize` come to.
+/// What `solve` comes to.
 #[derive(Drop)]
 pub enum Solved {
     /// What the search finds for the instance.
@@ -99,34 +98,6 @@ pub fn all_candidates(alloc: Global, instance: &Instance) -> Result<HubSet, Allo
     ensures candidates { IfOk result (IsCandidateSet instance.now) }
 {
     HubSet::of(alloc, instance.candidates())
-}
-
-/// What the search without a rule finds for the instance that the source names, with the instance, or the first commodity that
-/// all candidates together lack. The gap that it may leave is in thousandths of a per cent of the cost.
-pub fn optimize<R: Threads + Sync, S: Shelf>(
-    rt: &R,
-    alloc: Global,
-    source: &Source<'_>,
-    asked: Search,
-    gap: u32,
-    shelf: &mut S,
-) -> Result<Solved, Halt>
-    requires sources { AreSources (source_of source.now) }
-    requires listed { AsksListed (source_of source.now) }
-    requires asked { IsSearch (search_seen asked) }
-    requires gap { IsGap gap }
-    ensures optimized { IfOk result (OptimizesTo (S.held shelf.old) (source_of source.now) asked.nodes gap) }
-    ensures halted { IfErr result (Halts (IsOfSource (S.held shelf.old) (source_of source.now))
-        (FailsFor S.held S.faults S.sound shelf.old shelf.new (λ files. LacksSource files (source_of source.now)))) }
-    ensures stays { StaysShelf S.held S.faults S.sound shelf.old shelf.new }
-{
-    let instance = read_instance(alloc, source, shelf)?;
-    if let Some((i, j)) = lacking(&instance, &all_candidates(alloc, &instance)?) {
-        return Ok(Solved::NoNetwork { i, j });
-    }
-    let adviser = Adviser::new(alloc, &instance, asked.workers)?;
-    let found = closing_search::optimize_within(rt, alloc, &instance, asked.nodes, gap, adviser)?;
-    Ok(Solved::Found(instance, found))
 }
 
 /// What the search rule finds for a made-up instance.

@@ -15,10 +15,11 @@ use crate::Status;
 use crate::answers::Answer;
 use crate::checking::check;
 use crate::halts::Halt;
-use crate::outcomes::{Settled, intend, write};
+use crate::optimizing::optimize;
+use crate::outcomes::{Settled, Writing, intend, write};
 use crate::reporting::report;
 use crate::resolving::{Resolved, resolve};
-use crate::solving::{Solved, demonstrate, optimize, solve};
+use crate::solving::{Solved, demonstrate, solve};
 use cert_format::Version;
 use hub_io::{Gate, Shelf, Sink};
 use hub_make::instance_text;
@@ -29,8 +30,9 @@ use std::thread::Threads;
 /// Runs the command that the words give, of which the first is the program's name.
 ///
 /// It reads and decides first, takes the room that the writing needs, and then writes: the answer of the command on `out`,
-/// or what hinders it on `err`. `make` and `demo` call nothing on the shelf. The runtime and the gate serve the workers of a
-/// search alone: no clause reads them, nor the number of workers, and out takes the same text whatever they are.
+/// or what hinders it on `err`. `make` and `demo` call nothing on the shelf. The runtime serves the workers of a
+/// search and of a certificate's text, the gate those of a search: no clause reads them, nor the number of workers, and out
+/// takes the same text whatever they are.
 ///
 /// - `ends`: there is an outcome that the words, the files and the shelf's faults allow, and it was written, with its
 ///   status; where a sink failed, a front of the text that it was to take, and nothing further.
@@ -38,8 +40,8 @@ use std::thread::Threads;
 /// - `complete`: where no fault rose, words that are no command end with status 3, a fault of the instance with 4, `solve`,
 ///   `optimize` and `resolve` with 8 where all candidates together lack a commodity, else `solve` and `demo` with 0 or 1 as the
 ///   search rule says, and with 0 where enough nodes are allowed, `resolve` so too where the older certificate serves, which one that
-///   certifies for other fixed costs or numbers of hubs does, and else with 2, `optimize` with 0 or 1, and with 0 where no gap
-///   and enough nodes are allowed, `check` with 0, 1 or 2 by the verdict on the certificate's bytes, `report` with 0 or 2 by
+///   certifies for other fixed costs or numbers of hubs does, and else with 2, `optimize` with 0 or 1, with 0 where no gap
+///   and enough nodes are allowed, and with 2 where the bytes of the older certificate that is named are none of its size, `check` with 0, 1 or 2 by the verdict on the certificate's bytes, `report` with 0 or 2 by
 ///   it, and `make` with 0; or it is want of memory.
 /// - `headline`: the headline, whose three sentences stand with their meaning in `specs/Headline.antt`.
 pub fn run<R: Threads + Sync, S: Shelf, O: Sink, E: Sink, G: Gate>(
@@ -65,7 +67,7 @@ pub fn run<R: Threads + Sync, S: Shelf, O: Sink, E: Sink, G: Gate>(
 {
     let settled = settle(rt, alloc, words, shelf, gate);
     let intended = intend(alloc, &settled);
-    write(intended, out, err)
+    write(rt, alloc, intended, out, err)
 }
 
 /// What the words and files come to. It writes nothing.
@@ -126,30 +128,33 @@ fn answer<R: Threads + Sync, S: Shelf, G: Gate>(
                 gate,
             )? {
                 Solved::Found(instance, found) => {
-                    Ok(Settled::Found(instance, found, solving.version))
+                    let writing = Writing {
+                        version: solving.version,
+                        workers: solving.search.workers,
+                    };
+                    Ok(Settled::Found(instance, found, writing))
                 }
                 Solved::NoNetwork { i, j } => Ok(Settled::NoNetwork { i, j }),
             }
         }
-        Command::Optimize(optimizing) => {
-            let solving = &optimizing.solving;
-            match optimize(
-                rt,
-                alloc,
-                &solving.source,
-                solving.search,
-                optimizing.gap,
-                shelf,
-            )? {
-                Solved::Found(instance, found) => {
-                    Ok(Settled::Found(instance, found, solving.version))
-                }
-                Solved::NoNetwork { i, j } => Ok(Settled::NoNetwork { i, j }),
+        Command::Optimize(optimizing) => match optimize(rt, alloc, optimizing, shelf)? {
+            Resolved::Found(instance, found) => {
+                let writing = Writing {
+                    version: optimizing.solving.version,
+                    workers: optimizing.solving.search.workers,
+                };
+                Ok(Settled::Found(instance, found, writing))
             }
-        }
+            Resolved::NoNetwork { i, j } => Ok(Settled::NoNetwork { i, j }),
+            Resolved::Refused(ending) => Ok(Settled::Answered(Answer::Judged(ending))),
+        },
         Command::Resolve(resolving) => match resolve(rt, alloc, resolving, shelf, gate)? {
             Resolved::Found(instance, found) => {
-                Ok(Settled::Found(instance, found, Version::Second))
+                let writing = Writing {
+                    version: Version::Second,
+                    workers: resolving.search.workers,
+                };
+                Ok(Settled::Found(instance, found, writing))
             }
             Resolved::NoNetwork { i, j } => Ok(Settled::NoNetwork { i, j }),
             Resolved::Refused(ending) => Ok(Settled::Answered(Answer::Judged(ending))),

@@ -53,9 +53,9 @@ with_format a = with_option a (codes "format")
 abbrev pub with_choice : App → App
 with_choice a = with_option a (codes "rule")
 
--- a command that takes a gap between the bound and the cost
+-- a command that takes a gap between the bound and the cost, and the file of an older certificate to begin with
 abbrev pub with_gap : App → App
-with_gap a = with_option a (codes "gap")
+with_gap a = with_option (with_option a (codes "gap")) (codes "from")
 
 -- the words of a subcommand that say which instance is made
 abbrev pub making_words : List Text
@@ -69,7 +69,7 @@ with_making a = fold with_word a making_words
 abbrev pub solve_app : App
 solve_app = with_choice (with_format (with_search (with_instance (new_app (codes "solve")))))
 
--- `optimize LAYOUT FILE`, with the instance options, those of a search, the version of the text and the gap
+-- `optimize LAYOUT FILE`, with the instance options, those of a search, the version of the text, the gap and an older certificate
 abbrev pub optimize_app : App
 optimize_app = with_gap (with_format (with_search (with_instance (new_app (codes "optimize")))))
 

@@ -39,11 +39,11 @@ pub data SearchRule : Type 0 where
   by_rounds : SearchRule
 
 -- a command: solve an instance by a rule or by a search that follows none, up to a gap in thousandths of a per cent of the
--- cost, solve it again from an older certificate, check a certificate against it, report on a certificate, make an
+-- cost and from what an older certificate says, if the name of its file is given, solve it again from the cuts of one, check a certificate against it, report on a certificate, make an
 -- instance, or make one and solve it
 pub data Request : Type 0 where
   solve : Solving → (rule : SearchRule) → Request
-  optimize : Solving → (gap : ℕ) → Request
+  optimize : Solving → (gap : ℕ) → (from : Option (List ℕ)) → Request
   resolve : Resolving → Request
   check : Source → (certificate : List ℕ) → Request
   report : Source → (certificate : List ℕ) → Request
@@ -53,7 +53,7 @@ pub data Request : Type 0 where
 -- the instance that a request names, if it names one
 abbrev pub instance : Request → Option Source
 instance (solve solving rule) = Some solving.source
-instance (optimize solving gap) = Some solving.source
+instance (optimize solving gap from) = Some solving.source
 instance (resolve resolving) = Some resolving.source
 instance (check source certificate) = Some source
 instance (report source certificate) = Some source
@@ -63,7 +63,7 @@ instance (demo making search) = None
 -- the search that a request asks for, if it asks for one
 abbrev pub search_of : Request → Option Search
 search_of (solve solving rule) = Some solving.search
-search_of (optimize solving gap) = Some solving.search
+search_of (optimize solving gap from) = Some solving.search
 search_of (resolve resolving) = Some resolving.search
 search_of (check source certificate) = None
 search_of (report source certificate) = None
@@ -73,7 +73,7 @@ search_of (demo making search) = Some search
 -- the instance that a request asks to be made, if it asks for one
 abbrev pub making_of : Request → Option Making
 making_of (solve solving rule) = None
-making_of (optimize solving gap) = None
+making_of (optimize solving gap from) = None
 making_of (resolve resolving) = None
 making_of (check source certificate) = None
 making_of (report source certificate) = None
@@ -83,7 +83,7 @@ making_of (demo making search) = Some making
 -- the version in which a request asks for a certificate, if it asks for one by its version
 abbrev pub version_of : Request → Option ℕ
 version_of (solve solving rule) = Some solving.version
-version_of (optimize solving gap) = Some solving.version
+version_of (optimize solving gap from) = Some solving.version
 version_of (resolve resolving) = None
 version_of (check source certificate) = None
 version_of (report source certificate) = None
@@ -94,7 +94,7 @@ version_of (demo making search) = None
 abbrev pub solved_by_rounds : Request → Option Source
 solved_by_rounds (solve solving by_rounds) = Some solving.source
 solved_by_rounds (solve solving node_by_node) = None
-solved_by_rounds (optimize solving gap) = None
+solved_by_rounds (optimize solving gap from) = None
 solved_by_rounds (resolve resolving) = None
 solved_by_rounds (check source certificate) = None
 solved_by_rounds (report source certificate) = None
@@ -104,7 +104,7 @@ solved_by_rounds (demo making search) = None
 -- the gap that a request allows, if it is for the search that follows no rule
 abbrev pub gap_of : Request → Option ℕ
 gap_of (solve solving rule) = None
-gap_of (optimize solving gap) = Some gap
+gap_of (optimize solving gap from) = Some gap
 gap_of (resolve resolving) = None
 gap_of (check source certificate) = None
 gap_of (report source certificate) = None
@@ -114,7 +114,7 @@ gap_of (demo making search) = None
 -- what is to be solved, if a request asks for it
 abbrev pub solved : Request → Option Solving
 solved (solve solving rule) = Some solving
-solved (optimize solving gap) = Some solving
+solved (optimize solving gap from) = Some solving
 solved (resolve resolving) = None
 solved (check source certificate) = None
 solved (report source certificate) = None

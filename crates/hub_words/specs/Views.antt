@@ -61,7 +61,8 @@ rows_found found = rows_of (found_of found)
 -- the request
 abbrev pub request_of : Command → request.Request
 request_of (Solve solving rule) = request.solve (solving_of solving) (rule_seen rule)
-request_of (Optimize optimizing) = request.optimize (solving_of optimizing.solving) optimizing.gap
+request_of (Optimize optimizing) =
+    request.optimize (solving_of optimizing.solving) optimizing.gap (option_map (λ name. name.now) optimizing.from)
 request_of (Resolve resolving) = request.resolve (resolving_of resolving)
 request_of (Check source certificate) = request.check (source_of source) certificate.now
 request_of (Report source certificate) = request.report (source_of source) certificate.now

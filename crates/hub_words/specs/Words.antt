@@ -139,14 +139,15 @@ solve_from solving rule = None
 abbrev pub solve_asked : List Row → Option Request
 solve_asked rows = solve_from (solving_asked rows) (rule_asked (given rows (codes "rule")))
 
--- what is to be solved, and the gap, where each is within its form
-abbrev pub optimize_from : Option Solving → Option ℕ → Option Request
-optimize_from (Some solving) (Some gap) = Some (optimize solving gap)
-optimize_from solving gap = None
+-- what is to be solved, and the gap, where each is within its form, with the older certificate that is named
+abbrev pub optimize_from : Option Solving → Option ℕ → Option Text → Option Request
+optimize_from (Some solving) (Some gap) from = Some (optimize solving gap from)
+optimize_from solving gap from = None
 
 -- a call to solve the instance by that search
 abbrev pub optimize_asked : List Row → Option Request
-optimize_asked rows = optimize_from (solving_asked rows) (gap_asked (given rows (codes "gap")))
+optimize_asked rows =
+    optimize_from (solving_asked rows) (gap_asked (given rows (codes "gap"))) (given rows (codes "from"))
 
 -- an instance, an older certificate and a search, where each is given within its form
 abbrev pub resolving_from : Option Text → Option Source → Option Search → Option Resolving

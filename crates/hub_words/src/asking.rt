@@ -92,7 +92,10 @@ fn optimize<'a>(alloc: Global, found: &ArgMatches<'a>) -> Result<Option<Command<
         return Ok(None);
     };
     match solving(alloc, found)? {
-        Some(solving) => Ok(Some(Command::Optimize(Optimizing { solving, gap }))),
+        Some(solving) => {
+            let from = given(found, "from");
+            Ok(Some(Command::Optimize(Optimizing { solving, gap, from })))
+        }
         None => Ok(None),
     }
 }

@@ -125,12 +125,13 @@ fn choice_command<'a>(alloc: Global, command: Command<'a>) -> Result<Command<'a>
     command.arg(option(alloc, "rule"))
 }
 
-/// The command that takes a gap between the bound and the cost as well.
+/// The command that takes a gap between the bound and the cost, and an older certificate, as well.
 fn gap_command<'a>(alloc: Global, command: Command<'a>) -> Result<Command<'a>, AllocError>
     requires { (out-Command command).has_globals ≡ false }
     ensures { IfOk result (Spells (with_gap (app_of command.entry))) }
 {
-    command.arg(option(alloc, "gap"))
+    let with_gap = command.arg(option(alloc, "gap"))?;
+    with_gap.arg(option(alloc, "from"))
 }
 
 /// The command that takes a seed and a number of nodes as well.

@@ -39,12 +39,15 @@ pub struct Solving<'a> {
     pub version: Version,
 }
 
-/// What is to be solved by the search that follows no rule, and how far its bound may be below the cost.
+/// What is to be solved by the search that follows no rule, how far its bound may be below the cost, and what it begins
+/// with.
 #[derive(Drop)]
 pub struct Optimizing<'a> {
     pub solving: Solving<'a>,
     /// In thousandths of a per cent of the cost: 0 to 100,000.
     pub gap: u32,
+    /// The name of an older certificate's file, where the search is to begin with what it says.
+    pub from: Option<&'a str>,
 }
 
 /// What is to be solved again, from which older certificate, and by which search.
@@ -79,7 +82,7 @@ pub enum SearchRule {
 pub enum Command<'a> {
     /// Solve the instance by this rule of the search.
     Solve(Solving<'a>, SearchRule),
-    /// Solve the instance by a search that follows no rule, up to a gap.
+    /// Solve the instance by a search that follows no rule, up to a gap, and from an older certificate, if one is named.
     Optimize(Optimizing<'a>),
     /// Solve the instance again node by node, beginning with the cuts of an older certificate.
     Resolve(Resolving<'a>),

@@ -2,15 +2,17 @@ use Rattle.std.proofs.Common.{ℕ, Some, None, subst}
 use Rattle.std.proofs.lemmas.Result.{err_from_is_err_and}
 use Rattle.hub_spec.specs.Problem.{IsProblem}
 use Rattle.hub_words.specs.Views.{resolving_of}
-use Rattle.hub_top.proofs.Halting.{resolve_halts}
+use Rattle.hub_top.specs.Commands.{LacksOlder}
+use Rattle.hub_top.proofs.Halting.{source_halts}
 use Rattle.hub_top.proofs.Networks.{told_of_all, network_when, no_plan_when}
 use Rattle.hub_top.proofs.resolving.resolve.Goals as goal
 
 pub returns-in_err-instance-clause-halted : goal.returns-in_err-instance-clause-halted
 returns-in_err-instance-clause-halted g c =
     let e = err_from_is_err_and c.from_residual.result c.from_residual.ensures.1 in
-    rw (e.1, e.2) (resolve_halts g.S.Shelf.held g.S.Shelf.faults g.S.Shelf.sound c.args.shelf.now c.read_instance.new.shelf
-    (resolving_of c.args.asked.now) _ c.in_err-instance.ensures.halted)
+    let r = resolving_of c.args.asked.now in
+    rw (e.1, e.2) (source_halts g.S.Shelf.held g.S.Shelf.faults g.S.Shelf.sound c.args.shelf.now c.read_instance.new.shelf
+    r.source (λ files. LacksOlder files r) _ c.in_err-instance.ensures.halted)
 
 pub returns-in-Some-clause-resolved : goal.returns-in-Some-clause-resolved
 returns-in-Some-clause-resolved g c =

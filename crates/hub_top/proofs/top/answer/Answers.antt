@@ -1,5 +1,6 @@
 use Rattle.std.proofs.Common.{refl, subst}
-use Rattle.std.specs.Prelude.{IfSome}
+use Rattle.std.specs.Prelude.{IfSome, option_map}
+use Rattle.hub_top.specs.declared.resolving.Resolved.TheVariants.{Found}
 use Rattle.hub_words.specs.Requests.{AsksAnyNumber, IsVersion, SaysLimits, solve, optimize, resolve, demo, solved, solved_by_rounds, version_of}
 use Rattle.hub_words.specs.Views.{making_seen, request_of, resolving_of, rule_seen, search_seen, solving_of}
 use Rattle.hub_words.specs.declared.requests.Command.{Command}
@@ -43,14 +44,16 @@ pub returns-in-Found-2-clause-may : goal.returns-in-Found-2-clause-may
 returns-in-Found-2-clause-may g c =
     let s = solving_of c.in-Optimize.optimizing.solving in
     let gap = c.in-Optimize.optimizing.gap in
+    let from = option_map (λ name. name.now) c.in-Optimize.optimizing.from in
     let p = c.in-Found-2.instance in
     let held = g.S.Shelf.held c.args.shelf.now in
-    let optimum : IsOptimum held s.source s.search.nodes gap p c.in-Found-2.found =
-    subst (OptimizesTo held s.source s.search.nodes gap) c.in-Found-2.is c.in_ok-instance-in-Optimize.ensures.optimized in
+    let both : OptimizesTo held s.source s.search.nodes gap from (Found c.in-Found-2.instance c.in-Found-2.found) =
+    subst (OptimizesTo held s.source s.search.nodes gap from) c.in-Found-2.is c.in_ok-instance-in-Optimize.ensures.optimized in
+    let optimum : IsOptimum held s.source s.search.nodes gap p c.in-Found-2.found = both.0 in
     let asked = subst (λ (x : Command). IfSome (version_of (request_of x)) IsVersion) c.in-Optimize.is c.requires.versions in
     let says = subst (λ (x : Command). IfSome (solved (request_of x)) SaysLimits) c.in-Optimize.is c.requires.sayable in
-    let version = said_version s p c.in-Found-2.found.cuts.cuts optimum.limits optimum.own asked says in
-    (optimize s gap, rw c.in-Optimize.is refl, optimize_answers held s gap p c.in-Found-2.found version optimum)
+    let version = said_version s p c.in-Found-2.found.cuts.cuts optimum.limits optimum.closed.own asked says in
+    (optimize s gap from, rw c.in-Optimize.is refl, optimize_answers held s gap from p c.in-Found-2.found version optimum both.1)
 
 pub returns-in-Found-3-clause-may : goal.returns-in-Found-3-clause-may
 returns-in-Found-3-clause-may g c =
