@@ -43,7 +43,7 @@ TOLD = {
     "format": ("F", "the format of the certificate"),
 }
 """What the help of a script says of each option of hub that takes a value."""
-NOT_IN_EACH = {"hubs": "1", "max-length": "1", "format": "1", "gap": "1"}
+NOT_IN_EACH = {"hubs": "1", "max-length": "1", "format": "1", "gap": "1", "from": "/dev/null"}
 """Options that not each command of each version of `hub` has, with a value by which it is asked."""
 OF_SEARCH = ["gap", "nodes", "workers", "format"]
 """The names of the options of a search, which are none of the instance."""

@@ -219,14 +219,17 @@ class Problem:
         format: int | None = None,
         by: str = "optimize",
         rounded: bool = False,
+        again: Result | str | os.PathLike | None = None,
     ) -> Result:
         """The network that costs least. What is given here takes the place of what the problem has.
 
         `hubs` is how many hubs there are to be, or "file" for as many as an AP file lists; `max_length` how long a
         route may be, in the unit of the distances; `candidates` are the nodes that may be hubs. `gap` ends the search
         once the bound is within so many per cent of the cost, `nodes` at so many nodes of its tree. `by` may be
-        "solve" for its fixed rule, and `rounded` has numbers rounded to the decimals that `hub` keeps. Where this
-        `hub` has `hubs` or `max_length` for `solve` alone, that takes the place of `optimize`, and a warning says so.
+        "solve" for its fixed rule, and `rounded` has numbers rounded to the decimals that `hub` keeps. `again` is an
+        older result, or the file of its certificate, with which `optimize` begins: it may be of any problem with the
+        same numbers of nodes and candidates, and the answer rests on nothing in it. Where this `hub` has `hubs` or
+        `max_length` for `solve` alone, that takes the place of `optimize`, and a warning says so.
 
         A `Fault` where `hub` does not take what is given, or finds no network; it is a `NoNetwork` where all candidates
         together lack a route that is short enough.
@@ -248,7 +251,10 @@ class Problem:
         if gap is not None:
             # It is not cut by hub, so a Decimal with zeros at its end is written without them.
             search["gap"] = trimmed(exact_text(gap, QUANTITIES["gap"], "gap", rounded))
-        return result_of(question_of(source, self.layout, values, no_self, verb=by, **search))
+        question = question_of(source, self.layout, values, no_self, verb=by, **search)
+        if again is not None:
+            question = replace(question, older=again.certificate if isinstance(again, Result) else Path(again))
+        return result_of(question)
 
 
 def whole_text(value: Any, name: str) -> str:

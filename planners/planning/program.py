@@ -24,8 +24,10 @@ NO_NETWORK = 8
 """The status with which `hub` says that no network keeps to the longest route."""
 NO_ROUTE = re.compile(r"hub: no network for ([0-9]+) ([0-9]+)")
 """What it says then: the first two nodes that no route joins which is short enough."""
-TAKES_PLACE = "hub solve takes its place, which serves up to some 25 nodes"
-"""What is told where `optimize` has not an option that `solve` has."""
+NOT_TAKEN = 2
+"""The status with which `hub` says that an older certificate does not serve, by a line on standard output."""
+TAKES_PLACE = "takes its place, which serves up to some 25 nodes"
+"""What is told of a command where `optimize` has not an option."""
 MOST_STATUS = 15
 """A greater status, or a signal, is none of hub's."""
 
@@ -82,9 +84,15 @@ def serving(verb: str, names: Iterable[str]) -> tuple[str, str]:
     options = " and ".join(f"--{name}" for name in missing)
     beside = lacking("solve", names)
     if not beside:
-        return "solve", f"this hub has no option {options} for optimize; {TAKES_PLACE}"
+        return "solve", f"this hub has no option {options} for optimize; hub solve {TAKES_PLACE}"
     more = "" if beside == missing else f", and no --{beside[0]} for solve, which could take its place"
     raise Fault(f"{program()}: this hub has no option {options} for optimize{more}")
+
+
+def serving_again(verb: str) -> str:
+    """The command that solves from an older certificate what this one solves anew: `optimize` itself, where this `hub`
+    has --from for it; else `resolve`."""
+    return "resolve" if verb != "optimize" or lacking(verb, ["from"]) else verb
 
 
 def no_network(said: str, names: list[str] | None, longest: str) -> NoNetwork:

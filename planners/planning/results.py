@@ -15,7 +15,7 @@ from .certificate import read_hubs
 from .csv_tables import table_text
 from .files import put_all
 from .measure import run
-from .program import NO_NETWORK, Verdict, command, no_network, verdict_of
+from .program import NO_NETWORK, NOT_TAKEN, Verdict, command, no_network, verdict_of
 from .quantities import COST_PLACES, decimal
 from .scenarios import Scenario
 
@@ -42,7 +42,7 @@ class Result:
     again_from: str = ""
     """The row from whose certificate it was solved again; empty where it was solved anew."""
     anew_seconds: str = ""
-    """What the row took that was solved anew, this one or that from which it was solved again."""
+    """What this row took where it was solved anew, else the last one before it that was."""
 
     def is_answer_to(self, key: str, limit: float | None) -> bool:
         """Whether the scenario of this key need not be run again under this time limit."""
@@ -51,7 +51,7 @@ class Result:
 
     @property
     def gain(self) -> str:
-        """How many times as long the row took from which it was solved again."""
+        """How many times as long the last row before it took that was solved anew, where this one was solved again."""
         if not self.again_from or not float(self.seconds):
             return ""
         return f"{float(self.anew_seconds) / float(self.seconds):.2f}"
@@ -104,39 +104,47 @@ class Sweep:
         """All scenarios, those together that may go on from each other."""
         chains: list[list[Scenario]] = []
         for scenario in self.scenarios:
-            if scenario.goes_on:
+            if scenario.again_by:
                 chains[-1].append(scenario)
             else:
                 chains.append([scenario])
         return chains
 
     def do_chain(self, chain: list[Scenario], stop: Event) -> None:
-        """Does scenarios one after another; certificates from which others may go on are kept until all are done."""
-        for scenario in chain:
+        """Does scenarios one after another; certificates from which others may go on are kept for so long."""
+        for done, scenario in enumerate(chain):
             self.do(scenario, stop, self.keep or len(chain) > 1)
+            if scenario.again_by == "optimize" and self.file(scenario, "cert").exists():
+                self.forget(chain[:done])
+        self.forget(chain)
+
+    def forget(self, scenarios: list[Scenario]) -> None:
+        """Removes the certificates of scenarios, unless all are to be kept."""
         if not self.keep:
-            for scenario in chain:
+            for scenario in scenarios:
                 self.file(scenario, "cert").unlink(missing_ok=True)
 
     def older(self, scenario: Scenario) -> tuple[Scenario, Result] | None:
-        """The scenario from whose certificate this one is solved again, and its result: the last one before it that was
-        solved anew. A certificate that was itself made from an older one has all of its cuts too, and serves worse."""
+        """The scenario from whose certificate this one is solved again, and its result: the last accepted one before it
+        whose certificate serves and is there."""
         chain = next(chain for chain in self.chains() if scenario in chain)
         for other in reversed(chain[: chain.index(scenario)]):
             result = self.result(other)
-            if result and result.outcome == "accepted" and not result.again_from and self.file(other, "cert").exists():
+            serves = result and is_of_use(other, result) and scenario.goes_on_from(other)
+            if serves and self.file(other, "cert").exists():
                 return other, result
         return None
 
     def do(self, scenario: Scenario, stop: Event, keep: bool) -> None:
-        """Solves and checks a scenario, unless it is done, and keeps the result."""
+        """Solves and checks a scenario, unless it is done, and keeps the result; and its certificate, where that was
+        asked for and another row may go on from it."""
         if self.result(scenario):
             return
         # Files in a folder of their own: what a killed sweep has left running may be at the same scenario.
         with TemporaryDirectory(prefix=f"{scenario.number}{AT_WORK}", dir=self.folder / "rows") as held:
             folder = Path(held)
             result = self.solve(scenario, folder, stop)
-            if (self.keep or (keep and not result.again_from)) and (folder / "cert").exists():
+            if (self.keep or (keep and is_of_use(scenario, result))) and (folder / "cert").exists():
                 (folder / "cert").replace(self.file(scenario, "cert"))
             part = folder / "json"
             part.write_text(json.dumps(asdict(result), indent=1) + "\n", encoding="utf-8")
@@ -144,18 +152,19 @@ class Sweep:
 
     def words(self, scenario: Scenario, older: Scenario | None) -> list[str]:
         """The words that solve a scenario, anew or again from the certificate of an older one."""
-        if older:
-            # A format is one of the certificate to be written; what solves again has its own.
+        if older and scenario.again_by == "resolve":
+            # A format is one of the certificate to be written; `resolve` has its own.
             return command(
                 "resolve", scenario.options, self.file(older, "cert"), extra=scenario.search_words(("format",))
             )
-        return command(scenario.command, scenario.options, extra=scenario.search_words())
+        begin = [f"--from={self.file(older, 'cert')}"] if older else []
+        return command(scenario.command, scenario.options, extra=[*scenario.search_words(), *begin])
 
     def solve(self, scenario: Scenario, folder: Path, stop: Event) -> Result:
         """Runs the search, and `hub check` on what it wrote into this folder."""
         key = scenario.key()
         certificate, told = folder / "cert", folder / "verdict"
-        older, known = (self.older(scenario) if scenario.goes_on else None) or (None, None)
+        older, known = (self.older(scenario) if scenario.again_by else None) or (None, None)
         solved = run(self.words(scenario, older), certificate, self.limit, stop)
         seconds = f"{solved.seconds:.3f}"
         used = {
@@ -163,13 +172,16 @@ class Sweep:
             "seconds": seconds,
             "peak_mib": f"{solved.peak / 1024:.1f}" if solved.peak else "",
             "again_from": str(older.number) if older else "",
-            "anew_seconds": known.seconds if known else seconds,
+            "anew_seconds": known.anew_seconds if known else seconds,
         }
         if solved.status is None:
             return Result(key, "time limit", **used)
         if solved.status == NO_NETWORK:
             longest = scenario.options.values.get("max-length", "")
             return Result(key, str(no_network(solved.error, self.names, longest)), **used)
+        if older and solved.status == NOT_TAKEN:
+            line = certificate.read_text(errors="replace").strip()
+            return Result(key, f"the certificate of row {older.number} does not serve: {line}", **used)
         if solved.status not in (0, 1):
             return Result(key, f"failed with status {solved.status}: {solved.error}", **used)
         checked = run(command("check", scenario.options, certificate), told, self.limit, stop)
@@ -188,7 +200,7 @@ class Sweep:
             shutil.rmtree(left, ignore_errors=True)
         results = [result for scenario in self.scenarios if (result := self.result(scenario))]
         columns = list(self.scenarios[0].cells)
-        shown = SHOWN + (OF_AGAIN if any(scenario.goes_on for scenario in self.scenarios) else [])
+        shown = SHOWN + (OF_AGAIN if any(scenario.again_by for scenario in self.scenarios) else [])
         rows = [
             [
                 str(scenario.number),
@@ -207,6 +219,12 @@ class Sweep:
         if not self.names:
             return []
         return [", ".join(self.names[int(hub) - 1] for hub in result.open_hubs.split())]
+
+
+def is_of_use(scenario: Scenario, result: Result) -> bool:
+    """Whether others may go on from the certificate of a scenario: `hub check` accepted it, and it was not made by
+    `resolve` from an older one, whose cuts it would have beside its own, and serve worse."""
+    return result.outcome == "accepted" and not (scenario.again_by == "resolve" and result.again_from)
 
 
 def accepted(key: str, verdict: Verdict, certificate: Path, used: dict[str, Any]) -> Result:

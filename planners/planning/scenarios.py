@@ -18,7 +18,7 @@ NUMBERS = {name.replace("-", "_"): quantity for name, quantity in QUANTITIES.ite
 COLUMNS = [*NUMBERS, "costs", "candidates"]
 """What a table may change."""
 ALONE = "gap"
-"""An option of `optimize` that `resolve` has not, so that a row with it is solved anew."""
+"""An option of `optimize` that `resolve` has not, so that no row with it is solved by that."""
 
 
 @dataclass(frozen=True)
@@ -35,9 +35,17 @@ class Scenario:
     """The command of `hub` that solves it anew: `optimize` or `solve`."""
     search: dict[str, str]
     """The options of the search, by name."""
-    goes_on: bool = False
-    """Whether it may be solved again from the certificate of a row before, since it differs from the row before in
-    fixed costs or the number of hubs alone."""
+    again_by: str = ""
+    """The command of `hub` that solves it from the certificate of a row before: `optimize` or `resolve`; empty where it
+    is always solved anew."""
+
+    def goes_on_from(self, other: "Scenario") -> bool:
+        """Whether that command takes a certificate of another row. `optimize` believes nothing of it, and wants the
+        same candidates; `resolve` has no gap, and keeps the cuts, which hold where no more than fixed costs or the
+        number of hubs is another."""
+        if self.again_by == "optimize":
+            return self.options.values.get("candidates") == other.options.values.get("candidates")
+        return ALONE not in self.search and is_same_network(self.options, other.options)
 
     def search_words(self, left_out: tuple[str, ...] = ()) -> list[str]:
         """The options of the search as words for `hub`."""
@@ -48,7 +56,7 @@ class Scenario:
         costs = self.options.values.get("costs")
         files = [digest(self.options.file), digest(Path(costs)) if costs else ""]
         words = [word for word in self.options.words() if not word.startswith("--costs=")]
-        text = json.dumps([self.options.layout, files, sorted(words), self.command, self.search_words(), self.goes_on])
+        text = json.dumps([self.options.layout, files, sorted(words), self.command, self.search_words(), self.again_by])
         return hashlib.sha256(text.encode()).hexdigest()
 
 
@@ -83,11 +91,9 @@ def is_same_network(first: Options, second: Options) -> bool:
     return others(first) == others(second)
 
 
-def read_scenarios(
-    path: Path, base: Options, search: dict[str, str], command: str, again: bool = False
-) -> list[Scenario]:
+def read_scenarios(path: Path, base: Options, search: dict[str, str], command: str) -> list[Scenario]:
     """The rows of a table of scenarios of an instance, each to be solved by this command of `hub` with these options of
-    the search; or again from the certificate of a row before, where that may be and is asked for."""
+    the search."""
     scenarios: list[Scenario] = []
     for row in read_table(path, []):
         unknown = [column for column in row.cells if column not in (*COLUMNS, "name")]
@@ -101,8 +107,7 @@ def read_scenarios(
         reason = not_together(options.values | asked, base.layout)
         if reason:
             raise Fault(f"{path}:{row.line}: {reason}")
-        goes_on = again and bool(scenarios) and is_same_network(scenarios[-1].options, options) and ALONE not in asked
-        scenarios.append(Scenario(len(scenarios) + 1, row.cells, options, command, asked, goes_on))
+        scenarios.append(Scenario(len(scenarios) + 1, row.cells, options, command, asked))
     if not scenarios:
         raise Fault(f"{path}: wanted at least one row")
     return scenarios

@@ -18,7 +18,7 @@ from .faults import Fault
 from .files import put_all
 from .measure import Ended, run
 from .options import LISTED, Options, test_values
-from .program import NO_NETWORK, USAGE, command, judge, no_network, serving
+from .program import NO_NETWORK, NOT_TAKEN, USAGE, command, judge, no_network, serving
 from .quantities import LISTED_HUBS
 from .sources import Source
 from .tables import Named, read_named
@@ -44,6 +44,9 @@ class Question:
     """`optimize` or `solve`."""
     search: dict[str, str]
     """The options of the search."""
+    older: Path | None = None
+    """A certificate with which the search begins. It is no part of what is asked, for the answer rests on nothing in
+    it."""
 
     def options(self, folder: Path) -> Options:
         """The instance where its files lie in this folder."""
@@ -57,6 +60,10 @@ class Question:
     def search_words(self) -> list[str]:
         """The options of the search as words for `hub`."""
         return [f"--{name}={value}" for name, value in self.search.items()]
+
+    def begin_words(self) -> list[str]:
+        """The older certificate, if there is one, as words for `hub`."""
+        return [f"--from={self.older}"] if self.older else []
 
     def asked(self) -> str:
         """What was asked, as a text: digests of the files, and the words for a reader in the folder."""
@@ -81,7 +88,8 @@ def question_of(source: Source, layout: str, values: dict[str, str], no_self: bo
 def served(question: Question) -> tuple[Question, str]:
     """The question by the command of this `hub` that has its options, and what a user is told where that is another
     one than was asked for."""
-    verb, note = serving(question.verb, [*question.values, *question.search])
+    begin = ["from"] if question.older else []
+    verb, note = serving(question.verb, [*question.values, *question.search, *begin])
     return replace(question, verb=verb), note
 
 
@@ -99,14 +107,17 @@ def is_answered(question: Question, folder: Path) -> bool:
 def answer(question: Question, folder: Path, look: Callable[[], None] | None = None, stale: Iterable[str] = ()) -> None:
     """Solves a question that is served, checks, and puts files and certificate into the folder; files of the stale
     names are removed then."""
+    if question.older and not question.older.is_file():
+        raise Fault(f"{question.older}: no such file")
     folder.mkdir(parents=True, exist_ok=True)
     with TemporaryDirectory(prefix=".at-work-", dir=folder) as held:
         work = Path(held)
         put_all({work / name: text for name, text in question.texts.items()})
-        words = command(question.verb, question.options(work), extra=question.search_words())
+        search = [*question.search_words(), *question.begin_words()]
+        words = command(question.verb, question.options(work), extra=search)
         ended = run(words, work / CERTIFICATE, None, Event(), look)
         if ended.status not in (0, 1):
-            raise failure(question, ended)
+            raise failure(question, ended, work / CERTIFICATE)
         verdict, said = judge(question.options(work), work / CERTIFICATE)
         if verdict is None:
             raise Fault(f"hub check did not accept what hub {question.verb} wrote: {said}")
@@ -117,13 +128,17 @@ def answer(question: Question, folder: Path, look: Callable[[], None] | None = N
         put_all({folder / ASKED: question.asked()})
 
 
-def failure(question: Question, ended: Ended) -> Fault:
-    """Why there is no certificate."""
+def failure(question: Question, ended: Ended, out: Path) -> Fault:
+    """Why there is no certificate; `out` has what was written to standard output."""
     said = ended.error or f"status {ended.status}"
     if ended.status == NO_NETWORK:
         return no_network(said, question.names(), question.values.get("max-length", ""))
+    if question.older and ended.status == NOT_TAKEN:
+        line = out.read_text(errors="replace").strip()
+        return Fault(f"{question.older}: hub {question.verb} cannot begin with this certificate: {line}")
     if ended.status == USAGE:
-        words = shlex.join([question.layout, *question.options(Path()).words(), *question.search_words()])
+        search = [*question.search_words(), *question.begin_words()]
+        words = shlex.join([question.layout, *question.options(Path()).words(), *search])
         return Fault(f"hub {question.verb} does not take these words: {words}")
     too_many = TOO_MANY.fullmatch(said)
     if too_many:

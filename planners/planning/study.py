@@ -35,6 +35,8 @@ def parser() -> Parser:
     group.add_argument("--candidates", metavar="LIST", help=several)
     group.add_argument("--no-self", action="store_true", help="flows from a node to itself count as 0")
     add_valued(group, OF_SEARCH)
+    begin = "begin the search with what this older certificate says, where this hub has the option"
+    group.add_argument("--from", dest="older", type=Path, metavar="OLD", help=begin)
     group.add_argument("--solve", action="store_true", help="by hub solve, for up to some 25 nodes, not hub optimize")
     return words
 
@@ -48,9 +50,8 @@ def question_for(args: argparse.Namespace, source: Source) -> Question:
         nodes = sorted(node + 1 for node in listed(source, "--candidates", args.candidates))
         values["candidates"] = ",".join(map(str, nodes))
     search = {"verb": "solve" if args.solve else "optimize"} | values_of(args, OF_SEARCH)
-    if source.points:
-        return question_of(source, "ap", values, args.no_self, **search)
-    return question_of(with_distances(source, args.unit), "cab-matrix", values, args.no_self, **search)
+    layout, source = ("ap", source) if source.points else ("cab-matrix", with_distances(source, args.unit))
+    return replace(question_of(source, layout, values, args.no_self, **search), older=args.older)
 
 
 def study(args: argparse.Namespace, steps: Steps) -> list[str]:

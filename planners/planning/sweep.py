@@ -3,21 +3,22 @@
 from __future__ import annotations
 
 import argparse
+import math
 import shlex
-from dataclasses import replace
 import shutil
 import signal
 import subprocess
 import sys
 import time
 from concurrent.futures import ThreadPoolExecutor
+from dataclasses import replace
 from pathlib import Path
 from threading import Event
 
 from .faults import Fault, Parser
 from .csv_tables import read_nodes
 from .options import OF_SEARCH, add_options, add_valued, options_of, test_values, values_of
-from .program import TAKES_PLACE, program, require, serving
+from .program import TAKES_PLACE, program, require, serving, serving_again
 from .results import Result, Sweep
 from .scenarios import COLUMNS, Scenario, read_scenarios
 from .tokens import Tokens
@@ -26,6 +27,11 @@ NUMBER = "%ROW%"
 """What GNU parallel puts the number of a scenario for."""
 LENGTH = 30
 """Of the bar."""
+NO_FROM = (
+    f"this hub has no option --from for optimize; hub resolve {TAKES_PLACE}, where fixed costs or the number of hubs"
+    " alone have changed"
+)
+"""What is told where rows are to be solved again by `optimize`."""
 PAUSE = 0.1
 """Seconds between two looks at what is done."""
 TRIES = 3
@@ -66,8 +72,9 @@ def parser() -> Parser:
     solve = "solve by hub solve, for up to some 25 nodes, not hub optimize"
     words.add_argument("--solve", action="store_true", help=solve)
     again = (
-        "by hub resolve, where a row differs from the row before in fixed costs or the number of hubs alone, from the"
-        " last one that was solved anew; tells the gain"
+        "begin the search of a row with the certificate of the last accepted row before it, by hub optimize --from,"
+        " where the row has the candidates of the row before; with --solve, and where this hub has no --from, by hub"
+        " resolve, where it differs from the row before in fixed costs or the number of hubs alone; tells the gain"
     )
     words.add_argument("--again", action="store_true", help=again)
     names = "a CSV table of the nodes in order with a column name, by which places are told"
@@ -203,9 +210,25 @@ def served(scenarios: list[Scenario]) -> tuple[list[Scenario], dict[str, list[in
         rows.append(replace(scenario, command=command))
         if note:
             notes.setdefault(note, []).append(scenario.number)
-        if scenario.goes_on:
-            require("resolve", scenario.options.values)
     return rows, notes
+
+
+def going_on(scenarios: list[Scenario], jobs: int) -> list[Scenario]:
+    """The rows, each with the command that solves it from the certificate of a row before, where one may. By `optimize`
+    no more rows go on from each other than are the share of a job, so that all jobs have work. A fault where this `hub`
+    has not the command."""
+    rows = scenarios[:1]
+    share, length = math.ceil(len(scenarios) / jobs), 1
+    for before, scenario in zip(scenarios, scenarios[1:]):
+        row = replace(scenario, again_by=serving_again(scenario.command))
+        if row.goes_on_from(before) and (row.again_by == "resolve" or length < share):
+            require(row.again_by, row.options.values)
+            rows.append(row)
+            length += 1
+        else:
+            rows.append(scenario)
+            length = 1
+    return rows
 
 
 def tell_notes(notes: dict[str, list[int]]) -> None:
@@ -232,7 +255,7 @@ def tell_gain(results: list[Result]) -> None:
         took = sum(float(result.seconds) for result in again)
         anew = sum(float(result.anew_seconds) for result in again)
         rows = f"{len(again)} row{'s were' if len(again) > 1 else ' was'} solved again in {took:.1f} s"
-        text = f"{rows}; as many like those that they go on from take {anew:.1f} s"
+        text = f"{rows}; as many like the last one before each that was solved anew take {anew:.1f} s"
         print(f"sweep: {text}", file=sys.stderr)
 
 
@@ -248,15 +271,19 @@ def main(words: list[str]) -> int:
         raise Fault("--jobs and --time-limit want numbers above 0")
     if args.again and (args.sshlogin or args.row is not None):
         raise Fault("--again takes one row after another on this machine, and no --sshlogin or --row")
-    if args.again and args.gap:
+    command = "solve" if args.solve else "optimize"
+    resolves = args.again and serving_again(command) == "resolve"
+    if resolves and args.gap:
         raise Fault("--again and --gap may not stand together, for hub resolve has no --gap")
     base, search = options_of(args), values_of(args, OF_SEARCH)
     test_values(base.values | search, base.layout)
-    asked = read_scenarios(args.table, base, search, "solve" if args.solve else "optimize", args.again)
+    asked = read_scenarios(args.table, base, search, command)
     names = named_nodes(args.names, base.file) if args.names else None
     if args.row is not None and not 1 <= args.row <= len(asked):
         raise Fault(f"--row wants 1 to {len(asked)}, found {args.row}")
     scenarios, notes = served(asked)
+    if args.again:
+        scenarios = going_on(scenarios, args.jobs)
     signal.signal(signal.SIGTERM, stop_as_by_hand)
     sweep = Sweep(scenarios, args.out, args.time_limit, args.keep, names)
     (args.out / "rows").mkdir(parents=True, exist_ok=True)
@@ -264,6 +291,8 @@ def main(words: list[str]) -> int:
         tell_notes({note: [args.row] for note, numbers in notes.items() if args.row in numbers})
         sweep.do(scenarios[args.row - 1], Event(), args.keep)
         return 0
+    if resolves and not args.solve:
+        print(f"sweep: {NO_FROM}", file=sys.stderr, flush=True)
     tell_notes(notes)
     do_all(sweep, args, words)
     results = sweep.write_results()

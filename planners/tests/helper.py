@@ -68,15 +68,32 @@ class InFolder(unittest.TestCase):
             "older-hub", f'[ "$1" = optimize ] && case "$*" in {words}) exit 3;; esac\nexec {program()} "$@"\n'
         )
 
-    def with_gap(self) -> str:
+    def with_from(self, hub: str = "") -> str:
+        """A program that stands for a hub whose `optimize` has --from: it solves without the older certificate, whose
+        first two lines it tests, and writes down its name in the file `begun`."""
+        hub, found = hub or program(), f"{self.folder}/found.$$"
+        return self.standin(
+            "beginning-hub",
+            'old=; for word do shift; case "$word" in --from=*) old=${word#--from=};; *) set -- "$@" "$word";; esac\n'
+            f'done\n[ -n "$old" ] || exec {hub} "$@"\n[ "$1" = optimize ] || exit 3\n'
+            f'{hub} "$@" >{found}; status=$?\n[ $status -le 1 ] || exit $status\n'
+            '[ -f "$old" ] || { echo "hub: read failed" >&2; exit 6; }\n'
+            'case "$(head -n 1 "$old")" in "HUBCERT "*) ;; *) echo "no BadLine 1"; exit 2;; esac\n'
+            f'[ "$(head -n 2 "$old" | tail -n 1)" = "$(head -n 2 {found} | tail -n 1)" ] ||'
+            ' { echo "no Size 2"; exit 2; }\n'
+            f'echo "$old" >>{self.folder}/begun\ncat {found}\nexit $status\n',
+        )
+
+    def with_gap(self, hub: str = "") -> str:
         """A program that stands for a hub whose `optimize` has --gap: it solves to the end, and then names a bound that
         is just so much lower."""
+        hub = hub or program()
         return self.standin(
             "gap-hub",
             'gap=; for word do shift; case "$word" in --gap=*) gap=${word#--gap=};; *) set -- "$@" "$word";; esac\n'
             "done\n"
-            f'[ -z "$gap" ] || [ "$1" = optimize ] || exit 3\n[ -n "$gap" ] || exec {program()} "$@"\n'
-            f'{program()} "$@" >{self.folder}/whole || exit\nexec {sys.executable} -c \'import sys\n'
+            f'[ -z "$gap" ] || [ "$1" = optimize ] || exit 3\n[ -n "$gap" ] || exec {hub} "$@"\n'
+            f'{hub} "$@" >{self.folder}/whole || exit\nexec {sys.executable} -c \'import sys\n'
             f'lines = open("{self.folder}/whole").read().split("\\n", 4)\ncost = int(lines[2].split()[1])\n'
             'lines[3] = f"bound {cost - cost * int(sys.argv[1]) // 100}"\n'
             "print(*lines, sep=\"\\n\", end=\"\")\nsys.exit(1)\n' \"$gap\"\n",

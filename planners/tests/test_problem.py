@@ -137,14 +137,47 @@ class OptionsOfSearch(InFolder):
         self.assertTrue(result.bound <= least <= result.cost)
 
 
+    def test_a_search_begins_with_an_older_result(self) -> None:
+        self.by(self.with_from())
+        first = planning.solve(FLOWS, DISTANCES, fixed=1)
+        first.save(self.folder / "saved", with_map=False)
+        kept = self.folder / "saved/certificate.txt"
+        for again, old in ((first, first.certificate), (kept, kept), (str(kept), kept)):
+            result = planning.solve(FLOWS, DISTANCES, fixed=2, trunk=0.5, again=again)
+            self.assertEqual((result.is_optimal, result.solved_by), (True, "optimize"))
+            self.assertEqual(self.read("begun").splitlines()[-1], str(old))
+        for words, line in (
+            ({"again": "nowhere"}, "nowhere: no such file"),
+            ({"again": first, "by": "solve"}, f"{program()}: this hub has no option --from for solve"),
+            ({"again": __file__}, f"{__file__}: hub optimize cannot begin with this certificate: no BadLine 1"),
+        ):
+            with self.assertRaises(planning.Fault) as caught:
+                planning.solve(FLOWS, DISTANCES, **words)
+            self.assertEqual(str(caught.exception), line)
+
+    def test_an_older_result_as_hub_takes_it(self) -> None:
+        if refuses(program(), "optimize", "--from=/dev/null"):
+            self.skipTest("this hub has no option --from for optimize")
+        first = planning.solve(FLOWS, DISTANCES, fixed=1)
+        for words in ({"trunk": 0.5}, {"fixed": 3, "hubs": 2}, {"max_length": 8}, {"gap": 5}):
+            again, anew = (planning.solve(FLOWS, DISTANCES, **words, again=older) for older in (first, None))
+            self.assertTrue(again.bound <= anew.cost and anew.bound <= again.cost)
+            self.assertTrue("gap" in words or again.is_optimal)
+        with self.assertRaisesRegex(planning.Fault, "cannot begin with this certificate: no Size 2$"):
+            planning.solve(FLOWS[:2, :2], DISTANCES[:2, :2], again=first)
+        with self.assertRaisesRegex(planning.Fault, "cannot begin with this certificate: no BadLine 1$"):
+            planning.solve(FLOWS, DISTANCES, again=__file__)
+
+
 class Examples(InFolder):
     """The page of examples."""
 
     def test_the_page(self) -> None:
         text = (PLANNERS / "EXAMPLES.md").read_text(encoding="utf-8")
         blocks = re.findall(r"^```python\n(.*?)^```$", text, re.DOTALL | re.MULTILINE)
-        if refuses(program(), "optimize", "--gap=1"):
-            blocks = [block for block in blocks if "gap=" not in block]
+        for word, option in (("gap=", "--gap=1"), ("again=", "--from=/dev/null")):
+            if refuses(program(), "optimize", option):
+                blocks = [block for block in blocks if word not in block]
         self.assertGreater(len(blocks), 4)
         (self.folder / "planners").symlink_to(PLANNERS)
         examples = doctest.DocTestParser().get_doctest("\n".join(blocks), {}, "EXAMPLES.md", "EXAMPLES.md", 0)

@@ -238,6 +238,41 @@ class LaterOptions(InFolder):
         )
         self.assert_fault(self.script("study", *words, "--gap=5", "--hubs=2", hub=hub), both)
 
+    def test_a_search_begins_with_an_older_certificate(self) -> None:
+        words = [*WORDS[:2], "--no-map"]
+        self.assertEqual(self.script("study", *words, "--trunk=0.5", "--out", "first").returncode, 0)
+        # Its place may be the folder of what is to come.
+        for out in ("second", "first"):
+            again = [*words, "--trunk=0.6", "--out", out]
+            ended = self.script("study", *again, "--from", "first/certificate.txt", hub=self.with_from())
+            self.assertEqual((ended.returncode, ended.stderr), (0, ""))
+        self.assertEqual(self.read("begun"), "first/certificate.txt\n" * 2)
+        self.assertEqual(self.read("first/certificate.txt"), self.read("second/certificate.txt"))
+        # It is no part of what was asked, so what is solved is not solved again.
+        self.assertNotIn("--from", self.read("second/study.json"))
+        self.assertEqual(self.script("study", *again, "--from", "nowhere", hub=self.with_from()).returncode, 0)
+        self.assertEqual(self.script("study", *again).returncode, 0)
+        self.assertEqual(self.read("begun"), "first/certificate.txt\n" * 2)
+
+    def test_what_no_search_begins_with(self) -> None:
+        self.write("two.csv", "\n".join(NODES.splitlines()[:3]) + "\n")
+        self.write("flows-of-two.csv", "origin,destination,amount\nWest,Middle,2.5\n")
+        ended = self.script("study", "two.csv", "flows-of-two.csv", "--no-map", "--out", "of-two")
+        self.assertEqual(ended.returncode, 0)
+        words = [*WORDS, "--no-map", "--out", "out"]
+        cannot = "hub optimize cannot begin with this certificate"
+        for old, line in (
+            ("nowhere", "nowhere: no such file"),
+            ("nodes.csv", f"nodes.csv: {cannot}: no BadLine 1"),
+            ("of-two/certificate.txt", f"of-two/certificate.txt: {cannot}: no Size 2"),
+        ):
+            ended = self.script("study", *words, "--from", old, hub=self.with_from())
+            self.assert_fault(ended, f"study: {line}")
+        self.assertFalse(list(self.folder.glob("out/*")))
+        for hub, more, verb in ((self.without("from"), [], "optimize"), (self.with_from(), ["--solve"], "solve")):
+            ended = self.script("study", *words, "--from", "of-two/certificate.txt", *more, hub=hub)
+            self.assert_fault(ended, f"study: {hub}: this hub has no option --from for {verb}")
+
     def test_they_are_passed_on(self) -> None:
         # It takes the options, notes them and leaves them out.
         text = (

@@ -2,6 +2,7 @@
 
 from __future__ import annotations
 
+import json
 import os
 import shutil
 import signal
@@ -13,6 +14,7 @@ from pathlib import Path
 
 from .helper import INSTANCES, PLANNERS, InFolder, environment, needs
 from planning.program import program
+from planning.results import Result
 
 MEASURED = ("seconds", "check_seconds", "peak_mib")
 TABLE = "name,trunk,fixed,candidates\n" + "".join(
@@ -152,16 +154,21 @@ class Sweeps(InFolder):
             ended, "plot-sweep: results.csv: two scenarios have the same fixed; name what differs with --by"
         )
 
-    def resolving(self) -> str:
-        """A program that is hub, and writes down the older certificates that it is given."""
+    def resolving(self, hub: str) -> str:
+        """A program that is this one, and writes down the older certificates that its `resolve` is given."""
         note = f'[ "$1" = resolve ] && for word do :; done && echo "$word" >>{self.folder}/olds'
-        return self.standin("resolving-hub", f'{note}\nexec {program()} "$@"\n')
+        return self.standin("resolving-hub", f'{note}\nexec {hub} "$@"\n')
 
-    def test_again_from_the_row_before(self) -> None:
+    def test_again_by_resolve(self) -> None:
         self.write("table.csv", "trunk,fixed\n0.5,20000000\n0.5,30000000\n0.5,40000000\n0.6,40000000\n0.6,20000000\n")
-        hub = self.resolving()
+        hub = self.resolving(self.without("from"))
         ended = self.script("sweep", *self.words("out", "--again", "--jobs", "2"), hub=hub)
         self.assertEqual((ended.returncode, ended.stdout), (0, ""))
+        line = (
+            "sweep: this hub has no option --from for optimize; hub resolve takes its place, which serves up to some 25"
+            " nodes, where fixed costs or the number of hubs alone have changed"
+        )
+        self.assertEqual(ended.stderr.splitlines()[0], line)
         self.assertRegex(ended.stderr.splitlines()[-1], r"^sweep: 3 rows were solved again in [0-9.]+ s; as many like")
         rows = self.table("out/results.csv")
         # From the last row that was solved anew: what was solved again has all cuts of that, and more.
@@ -181,20 +188,101 @@ class Sweeps(InFolder):
         line = "sweep: --again takes one row after another on this machine, and no --sshlogin or --row"
         self.assert_fault(self.script("sweep", *words, hub=hub), line)
 
-    def test_again_is_stopped_and_taken_up_again(self) -> None:
+    def test_again_with_solve_is_by_resolve(self) -> None:
+        self.write("table.csv", "trunk,fixed\n0.5,20000000\n0.5,30000000\n0.6,30000000\n")
+        hub = self.resolving(self.with_from())
+        ended = self.script("sweep", *self.words("out", "--solve", "--again"), hub=hub)
+        self.assertEqual((ended.returncode, ended.stderr.splitlines()[0]), (0, f"[{30 * '.'}] 0/3"))
+        self.assertEqual([row["again_from"] for row in self.table("out/results.csv")], ["", "1", ""])
+        self.assertEqual({Path(line).name for line in self.read("olds").split()}, {"null", "1.cert"})
+        self.assertFalse((self.folder / "begun").exists())
+        line = "sweep: --again and --gap may not stand together, for hub resolve has no --gap"
+        ended = self.script("sweep", *self.words("out", "--solve", "--again", "--gap", "2"), hub=hub)
+        self.assert_fault(ended, line)
+
+    def test_again_from_the_last_accepted_row(self) -> None:
+        table = "trunk,fixed,hubs,max_length,gap,candidates\n" + "".join(
+            f"{row}\n"
+            for row in (
+                "0.5,20000000,,,,",
+                "0.6,20000000,,,,",
+                "0.6,30000000,,,4,",
+                "0.6,30000000,3,,,",
+                "0.6,30000000,,9000,,",
+                "0.6,30000000,,,,1 2 4 5 8",
+                "0.7,40000000,,,,1 2 4 5 8",
+                "0.7,40000000,,,,",
+            )
+        )
+        self.write("table.csv", table)
+        ended = self.script("sweep", *self.words("out", "--again"), hub=self.with_from())
+        self.assertEqual((ended.returncode, ended.stdout), (0, ""))
+        self.assertRegex(ended.stderr.splitlines()[-1], r"^sweep: 5 rows were solved again in [0-9.]+ s; as many like")
+        rows = self.table("out/results.csv")
+        # One with other candidates, or with all of them again, is solved anew.
+        self.assertEqual([row["again_from"] for row in rows], ["", "1", "2", "3", "4", "", "6", ""])
+        self.assertEqual([bool(row["gain"]) for row in rows], [bool(row["again_from"]) for row in rows])
+        begun = [Path(line).name for line in self.read("begun").split()]
+        self.assertEqual(begun, ["1.cert", "2.cert", "3.cert", "4.cert", "6.cert"])
+        self.assertEqual({path.suffix for path in (self.folder / "out/rows").iterdir()}, {".json"})
+        # The gain is told against the last row that was solved anew.
+        known = [Result(**json.loads(self.read(f"out/rows/{number}.json"))) for number in range(1, 9)]
+        anew = [0, 0, 0, 0, 0, 5, 5, 7]
+        self.assertEqual([result.anew_seconds for result in known], [known[place].seconds for place in anew])
+        self.assertEqual(self.script("sweep", *self.words("anew")).returncode, 0)
+        self.assertEqual([row["cost"] for row in rows], [row["cost"] for row in self.table("anew/results.csv")])
+
+    def test_again_with_a_gap_by_several_jobs(self) -> None:
+        self.write("table.csv", "trunk\n0.5\n0.6\n0.7\n0.8\n0.9\n")
+        words = self.words("out", "--again", "--gap", "2", "--jobs", "2", "--keep", "--fixed", "40000000")
+        ended = self.script("sweep", *words, hub=self.with_from())
+        self.assertEqual((ended.returncode, ended.stdout), (0, ""))
+        rows = self.table("out/results.csv")
+        # Of five rows three are the share of a job.
+        self.assertEqual([row["again_from"] for row in rows], ["", "1", "2", "", "4"])
+        self.assertLessEqual(max(float(row["gap_percent"]) for row in rows), 2)
+        kept = [path.name for path in (self.folder / "out/rows").glob("*.cert")]
+        self.assertEqual(sorted(kept), [f"{number}.cert" for number in range(1, 6)])
+
+    def test_again_past_a_row_without_an_accepted_certificate(self) -> None:
+        self.write("table.csv", "trunk\n0.5\n0.6\n0.7\n0.8\n")
+        false = 'case "$*" in "optimize "*trunk=0.6*) echo HUBCERT 1; exit 0;; esac'
+        refused = 'case "$*" in "optimize "*trunk=0.8*) echo no Size 2; exit 2;; esac'
+        hub = self.standin("false-hub", f'{false}\n{refused}\nexec {self.with_from()} "$@"\n')
+        ended = self.script("sweep", *self.words("out", "--again", "--fixed", "40000000"), hub=hub)
+        told = [line for line in ended.stderr.splitlines() if "row " in line]
+        wanted = [
+            "sweep: row 2: hub check did not accept: no Ended 2",
+            "sweep: row 4: the certificate of row 3 does not serve: no Size 2",
+        ]
+        self.assertEqual((ended.returncode, told), (1, wanted))
+        rows = self.table("out/results.csv")
+        self.assertEqual([row["again_from"] for row in rows], ["", "1", "1", "3"])
+
+    def again_is_stopped_and_taken_up_again(self, whole: str, goes_on: str, kept: str) -> list[str]:
+        """From which rows are solved again that are stopped once four are done, and then taken up by a whole hub; it
+        goes on from an older certificate where this is so in the shell, and then this one is kept."""
         self.write("table.csv", "fixed,hubs\n" + "".join(f"{cost}0000000,\n" for cost in (2, 3, 4, 5, 6, 7)) + "0,2\n")
         rows = self.folder / "out/rows"
         are_done = f'[ "$(ls {rows} 2>/dev/null | grep -c json)" -ge 4 ]'
-        whole = self.resolving()
-        slow = self.standin("slow-hub", f'[ "$1" = resolve ] && {are_done} && exec sleep 60\nexec {whole} "$@"\n')
+        slow = self.standin("slow-hub", f'{goes_on} && {are_done} && exec sleep 60\nexec {whole} "$@"\n')
         words = self.words("out", "--again", "--trunk", "0.5")
         self.stop(words, slow)
-        # What the others go on from stays until all are done.
-        self.assertTrue((rows / "1.cert").exists())
+        # What the others go on from stays until they are done.
+        self.assertEqual([path.name for path in rows.glob("*.cert")], [kept])
         self.assertEqual(self.script("sweep", *words, hub=whole).returncode, 0)
-        again = [row["again_from"] for row in self.table("out/results.csv")]
-        self.assertEqual(again, ["", *6 * ["1"]])
         self.assertEqual({path.suffix for path in rows.iterdir()}, {".json"})
+        return [row["again_from"] for row in self.table("out/results.csv")]
+
+    def test_again_by_resolve_is_stopped_and_taken_up_again(self) -> None:
+        whole = self.resolving(self.without("from"))
+        again = self.again_is_stopped_and_taken_up_again(whole, '[ "$1" = resolve ]', "1.cert")
+        self.assertEqual(again, ["", *6 * ["1"]])
+
+    def test_again_is_stopped_and_taken_up_again(self) -> None:
+        begins = 'case "$*" in *--from=out/*) :;; *) false;; esac'
+        again = self.again_is_stopped_and_taken_up_again(self.with_from(), begins, "4.cert")
+        self.assertEqual(again, ["", "1", "2", "3", "4", "5", "6"])
 
     def test_rows_by_the_command_that_has_their_options(self) -> None:
         self.write("table.csv", "trunk,hubs,max_length\n0.5,,\n0.5,2,\n0.5,3,\n0.5,,9000\n0.5,,10\n")
@@ -237,10 +325,11 @@ class Sweeps(InFolder):
         self.assertEqual([row["gap_percent"] for row in rows], ["2.0000", "10.0000", "4.0000"])
         self.assertEqual({row["verdict"] for row in rows}, {"bounds"})
         line = "sweep: --again and --gap may not stand together, for hub resolve has no --gap"
-        self.assert_fault(self.script("sweep", *self.words("out", "--gap", "2", "--again"), hub=self.with_gap()), line)
+        hub = self.with_gap(self.without("from"))
+        self.assert_fault(self.script("sweep", *self.words("out", "--gap", "2", "--again"), hub=hub), line)
 
     def test_what_this_hub_has_not(self) -> None:
-        refused = 'case "$*" in *--hubs*|*--max-length*|*--format*|resolve*) exit 3;; esac'
+        refused = 'case "$*" in *--hubs*|*--max-length*|*--format*|*--from*|resolve*) exit 3;; esac'
         hub = self.program(refused)
         for table, more, what in (
             ("hubs\n2\n", [], "option --hubs for optimize"),
