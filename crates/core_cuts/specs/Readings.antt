@@ -9,6 +9,7 @@ use Rattle.core_spec.specs.CoreCuts.{Way, CoreProof}
 use Rattle.frac_rows.specs.Rows.{Table, number, objective}
 use Rattle.frac_rows.specs.Runs.{Outcome, run}
 use Rattle.frac_rows.specs.declared.ended.Ended.TheVariants.{Best, Turns, Wide}
+use Rattle.core_spec.specs.MarkRanges.{most_scale, most_taken}
 use Rattle.core_runs.specs.CoreTables.{core_edges, core_table, ways_of, ordered_ways}
 use Rattle.core_runs.specs.Theorems.{IsReadOf}
 
@@ -64,13 +65,6 @@ proof_of p hubs c = record {
 -- of a price or a value, by unit of flow
 abbrev pub most_units : ℕ
 most_units = 10 ^ 20
-
--- of a proof's scale, and of how often it takes a way
-abbrev pub most_scale : ℕ
-most_scale = 10 ^ 9
-
-abbrev pub most_taken : ℕ
-most_taken = 10 ^ 12
 
 -- the proof can stand in a line
 pub record IsShortProof (proof : CoreProof) : Type 0 where

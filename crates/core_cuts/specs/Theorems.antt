@@ -5,6 +5,7 @@ use Rattle.hub_spec.specs.Problem.{Problem, IsProblem}
 use Rattle.hub_spec.specs.Cuts.{IsDual}
 use Rattle.hub_spec.specs.Plans.{IsHubSet}
 use Rattle.core_spec.specs.CoreCuts.{Way, IsCoreDual, MayBeMarked, IsCoreCut}
+use Rattle.core_spec.specs.MarkRanges.{IsWayBefore}
 use Rattle.core_cuts.specs.Readings.{FoundDual, IsFound, IsNotFound}
 use Rattle.core_cuts.specs.FoundCuts.{MarkedCut, IsCored}
 
@@ -30,10 +31,6 @@ FoundIsOne = (p : Problem) (hubs : List ℕ) (c : ℕ × ℕ) (found other : Fou
 abbrev pub FoundOrNot : Type 0
 FoundOrNot = (p : Problem) (hubs : List ℕ) (c : ℕ × ℕ) (found : FoundDual) → IsAsked p hubs c
     → IsFound p hubs c found → IsNotFound p hubs c → ⊥
-
--- the first way's pair of nodes comes before the second's: its first node is less, or the same and its last node is less
-abbrev pub IsWayBefore : Way → Way → Type 0
-IsWayBefore v w = (v.0 < w.0) ⊎ ((v.0 ≡ w.0) × (v.1 < w.1))
 
 -- a way as a proof line says it: the lesser node first, and taken at least once
 pub record IsLineWay (w : Way) : Type 0 where

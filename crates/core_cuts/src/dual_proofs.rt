@@ -3,7 +3,8 @@
 ghost use Rattle.std.specs.Prelude.{◌≡◌, ◌↔◌, ◌+◌, ◌≤◌, length, All, IfOk, IsTrue};
 ghost use Rattle.core_spec.specs.CoreCuts.{Way};
 ghost use Rattle.frac_rows.specs.Rows.{objective};
-ghost use Rattle.core_cuts.specs.Readings.{most_taken, scale_at, IsShortProof};
+ghost use Rattle.core_spec.specs.MarkRanges.{most_taken};
+ghost use Rattle.core_cuts.specs.Readings.{scale_at, IsShortProof};
 ghost use Rattle.core_cuts.specs.Bodies.{table_proof};
 
 use crate::taken_ways::{ordered_ways, ways_of};

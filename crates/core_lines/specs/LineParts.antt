@@ -1,7 +1,8 @@
 -- What a line of a proof holds.
 use Rattle.std.specs.Prelude.{◌≡◌, ◌*◌, ◌^◌, ℕ, ◌<◌, ◌≤◌, List, length, All, Contains}
 use Rattle.hub_spec.specs.Problem.{Problem, flow, route_cost}
-use Rattle.core_lines.specs.Tallies.{ProofTally, most_turns, most_scale, most_taken, most_ways}
+use Rattle.core_spec.specs.MarkRanges.{most_turns, most_scale, most_taken}
+use Rattle.core_lines.specs.Tallies.{ProofTally, most_ways}
 use Rattle.core_lines.specs.declared.lines.ProofLine.TheInside.{Inside}
 
 -- of what a route costs by unit of flow, in 10^-6: three legs at the greatest distance and factor

@@ -4,16 +4,6 @@ use Rattle.hub_spec.specs.Limits.{most_nodes}
 use Rattle.hub_spec.specs.Problem.{Problem, flow}
 use Rattle.core_spec.specs.CoreCuts.{Way, CoreProof, taken_at, taken, taken_through, pair_cost, ways_cost}
 
--- what a proof says of turns, scale and one way
-abbrev pub most_turns : ℕ
-most_turns = 1000
-
-abbrev pub most_scale : ℕ
-most_scale = 10 ^ 9
-
-abbrev pub most_taken : ℕ
-most_taken = 10 ^ 12
-
 -- of a proof's ways: no pair of nodes comes twice
 abbrev pub most_ways : ℕ
 most_ways = most_nodes * most_nodes

@@ -5,7 +5,7 @@ ghost use Rattle.hub_spec.specs.Problem.{flow, route_cost};
 ghost use Rattle.hub_spec.specs.Edges.{least_cost};
 ghost use Rattle.hub_spec.specs.Plans.{IsCandidateSet};
 ghost use Rattle.core_spec.specs.CoreCuts.{pair_cost};
-ghost use Rattle.core_lines.specs.Tallies.{most_taken};
+ghost use Rattle.core_spec.specs.MarkRanges.{most_taken};
 ghost use Rattle.core_lines.specs.LineParts.{most_unit, IsLeastFrom};
 
 use hub_model::Instance;

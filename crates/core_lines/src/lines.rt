@@ -7,7 +7,8 @@ ghost use Rattle.hub_spec.specs.Plans.{IsCandidateSet};
 ghost use Rattle.hub_spec.specs.Limits.{most_nodes, most_flow, most_part};
 ghost use Rattle.core_spec.specs.CoreCuts.{IsByFlow, taken_at};
 ghost use Rattle.core_lines.specs.LineParts.{most_unit};
-ghost use Rattle.core_lines.specs.Tallies.{carried, most_turns, most_scale, most_taken, most_ways, IsNoWay, IsWayAdded};
+ghost use Rattle.core_spec.specs.MarkRanges.{most_turns, most_scale, most_taken};
+ghost use Rattle.core_lines.specs.Tallies.{carried, most_ways, IsNoWay, IsWayAdded};
 ghost use Rattle.core_lines.specs.Tests.{most_amount, Proves, Covers, IsWithinCover, IsTightPrice, AreByFlow, IsBalanced, values_of};
 
 use crate::amounts::{sum_of_units, units_of};

@@ -1,3 +1,4 @@
+pub mod MarkRanges
 pub mod Domination
 pub mod CoreCuts
 pub mod Theorems

@@ -1,7 +1,8 @@
 use Rattle.std.proofs.Common.{◌≡◌, ℕ, ◌+◌, ◌*◌, ◌≤◌, ◌&&◌, ◌++◌, List, length, take, drop, All, Contains, slice_index, refl, ap, sym, ◌∙◌, subst, mul-add, arith}
 use Rattle.hub_spec.specs.Problem.{flow}
 use Rattle.core_spec.specs.CoreCuts.{Way, taken_at}
-use Rattle.core_lines.specs.Tallies.{ProofTally, most_taken, IsWayAdded}
+use Rattle.core_spec.specs.MarkRanges.{most_taken}
+use Rattle.core_lines.specs.Tallies.{ProofTally, IsWayAdded}
 use Rattle.core_lines.proofs.AddedWays.{through_more, all_written, both_known}
 use Rattle.core_lines.proofs.lines.ProofLine.take.Goals as goal
 
