@@ -1,21 +1,23 @@
 -- The conditions of a whole certificate, by its lines.
-use Rattle.std.proofs.Common.{◌≡◌, ℕ, ◌+◌, ◌-◌, ◌*◌, ◌≤◌, sum_by, true, false, eq-eqb, List, [], ◌∷◌, ◌++◌, length, map, All, Contains, inl, inr, refl, sym, subst, ap, ap₂, ◌∙◌, append_assoc, append-nil, mul-pos, ⊎_elim, arith}
-use Rattle.std.specs.List.{AllByRecursion}
+use Rattle.std.proofs.Common.{◌≡◌, ℕ, ◌+◌, ◌-◌, ◌*◌, ◌≤◌, sum_by, true, eq-eqb, List, [], ◌∷◌, ◌++◌, length, map, All, Contains, Option, Some, None, inl, inr, refl, sym, subst, ap, ap₂, ◌∙◌, append_assoc, append-nil, mul-pos, ⊎_elim, arith}
+use Rattle.std.specs.List.{AllZip}
 use Rattle.std.proofs.lemmas.Bool.{cases_eq}
-use Rattle.std.proofs.lemmas.List.Elements.{recursion_from_All}
+use Rattle.std.proofs.lemmas.List.Elements.{All-head, All-tail, All-weaker}
 use Rattle.hub_spec.specs.Problem.{Problem, commodities}
 use Rattle.hub_spec.specs.Plans.{plan_cost, HasWanted}
 use Rattle.hub_spec.specs.Cuts.{Cut}
 use Rattle.hub_spec.specs.Trees.{root, preorder, line_count}
-use Rattle.hub_spec.specs.Certificates.{Proof}
-use Rattle.hub_spec.specs.Ranges.{IsFirstCut, IsFirst, IsSecond, IsCutInRange, IsInRange}
+use Rattle.hub_spec.specs.Ranges.{IsFirstCut, IsFirst, IsCutInRange}
 use Rattle.hub_spec.proofs.Commodities.{length_commodities}
-use Rattle.cert_spec.specs.Lines.{Item, says_cuts, says_nodes, says_tree, says_end}
+use Rattle.core_spec.specs.CoreCuts.{Mark}
+use Rattle.cert_spec.specs.Stated.{Stated, IsLater, cuts_of, IsStatedInRange}
+use Rattle.cert_spec.specs.Lines.{Item, part_of, says_cuts, says_nodes, says_tree, says_end}
 use Rattle.cert_spec.specs.PartConditions.{size_line, hubs_line, first_route_line, last_route_line, cut_lines, first_cut_line, first_tree_line, route_claims, cut_claims, tree_claims, size_claims, claims}
-use Rattle.cert_spec.specs.Text.{is_first, cuts_items, certificate_items}
+use Rattle.cert_spec.specs.Text.{part_said, cuts_items, certificate_items}
 use Rattle.cert_spec.specs.Conditions.{conditions, Claim, claim, Kind, Size, Hubs, Number, Cost, FailsFirst, conditions_from, ComesToTheSame}
 use Rattle.cert_spec.specs.Progress.{Progress, at_start, after_lines}
-use Rattle.cert_spec.proofs.Versions.{second_later}
+use Rattle.cert_spec.proofs.Claims.{IsMarkWithin}
+use Rattle.cert_spec.proofs.Versions.{first_is_no_later, version_said}
 use Rattle.cert_spec.proofs.ByParts.{IsSaidCut, conditions-append, routes_by_lines, cuts_by_lines, tree_by_lines}
 
 same-refl : (xs : List Claim) → ComesToTheSame xs xs
@@ -45,73 +47,97 @@ same-head c xs ys failed = record {
 }
 
 -- the certificate with this number of nodes
-abbrev sized : Proof → ℕ → Proof
-sized k n = record k { size = n }
+abbrev sized : Stated → ℕ → Stated
+sized k n = record k { proof = record k.proof { size = n } }
 
--- the cuts are said in the certificate's version
-said_first : (n v : ℕ) (cuts : List Cut) → is_first v ≡ true → AllByRecursion (IsCutInRange n) cuts → AllByRecursion IsFirstCut cuts
-    → AllByRecursion (IsSaidCut n v) cuts
-said_first n v [] test each first = tt
-said_first n v (cut ∷ cuts) test each first = (
-  record { long = each.0.one_for_each; part = rw test (sym first.0.whole) },
-  said_first n v cuts test each.1 first.1,
+-- ---- the cuts are said in the certificate's version
+
+-- the part as this version says it is the cut's
+abbrev IsPartSaid : ℕ → Cut → Type 0
+IsPartSaid v cut = part_of (part_said v cut.part) ≡ cut.part
+
+first_said : (v : ℕ) (cut : Cut) → v ≡ 1 → IsFirstCut cut → IsPartSaid v cut
+first_said v cut first is = rw (eq-eqb v 1 first) (sym is.whole)
+
+later_said : (v : ℕ) (cut : Cut) → IsLater v → IsPartSaid v cut
+later_said v cut later = rw (first_is_no_later v later) refl
+
+-- what is said of one cut in range
+one_said : (n v : ℕ) (cut : Cut) (mark : Option Mark) → IsCutInRange n cut → IsMarkWithin n mark → IsPartSaid v cut → IsSaidCut n v cut mark
+one_said n v cut None range marked part = record { long = range.one_for_each; is_said = part }
+one_said n v cut (Some mark) range marked part = record {
+  long = range.one_for_each;
+  is_said = marked.one_for_each ∙ sym range.one_for_each;
+}
+
+all_said : (n v : ℕ) (cuts : List Cut) (marks : List (Option Mark)) → length marks ≡ length cuts → All (IsCutInRange n) cuts
+    → All (IsMarkWithin n) marks → All (IsPartSaid v) cuts → AllZip (IsSaidCut n v) cuts marks
+all_said n v [] [] long ranges within parts = tt
+all_said n v [] (mark ∷ marks) long ranges within parts = absurd (omega (arith, long))
+all_said n v (cut ∷ cuts) [] long ranges within parts = absurd (omega (arith, long))
+all_said n v (cut ∷ cuts) (mark ∷ marks) long ranges within parts = (
+  one_said n v cut mark (All-head (IsCutInRange n) cut cuts ranges) (All-head (IsMarkWithin n) mark marks within)
+      (All-head (IsPartSaid v) cut cuts parts),
+  all_said n v cuts marks (omega (arith, long)) (All-tail (IsCutInRange n) cut cuts ranges) (All-tail (IsMarkWithin n) mark marks within)
+      (All-tail (IsPartSaid v) cut cuts parts),
 )
 
-said_second : (n v : ℕ) (cuts : List Cut) → is_first v ≡ false → AllByRecursion (IsCutInRange n) cuts → AllByRecursion (IsSaidCut n v) cuts
-said_second n v [] test each = tt
-said_second n v (cut ∷ cuts) test each = (record { long = each.0.one_for_each; part = rw test refl }, said_second n v cuts test each.1)
-
-cuts_said : (k : Proof) → IsInRange k → AllByRecursion (IsSaidCut k.size k.version) k.cuts
+cuts_said : (k : Stated) → IsStatedInRange k → AllZip (IsSaidCut k.proof.size k.proof.version) k.proof.cuts k.marks
 cuts_said k r =
-    let each = recursion_from_All (IsCutInRange k.size) k.cuts r.cuts in
-    ⊎_elim
-    (λ (first : (k.version ≡ 1) × IsFirst k).
-    said_first k.size k.version k.cuts (eq-eqb k.version 1 first.0) each (recursion_from_All IsFirstCut k.cuts first.1.cuts))
-    (λ (second : IsSecond k.version). said_second k.size k.version k.cuts (second_later k.version second) each)
-    r.version
+    let v = k.proof.version in
+    let cuts = k.proof.cuts in
+    all_said k.proof.size v cuts k.marks r.one_for_each r.proof.cuts r.marks
+    (⊎_elim
+    (λ (first : (v ≡ 1) × IsFirst k.proof). All-weaker IsFirstCut (IsPartSaid v) (λ cut is. first_said v cut first.0 is) cuts first.1.cuts)
+    (λ (later : IsLater v). All-weaker (IsCutInRange k.proof.size) (IsPartSaid v) (λ cut range. later_said v cut later) cuts r.proof.cuts)
+    (version_said k.proof r.proof.version))
 
 -- where the number of nodes is the instance's, the lines try just the conditions of the check
-by_lines : (p : Problem) (k : Proof) → IsInRange (sized k p.size)
-    → conditions_from p at_start (certificate_items (sized k p.size)) ≡ claims p (sized k p.size)
-by_lines p k r =
+by_lines : (p : Problem) (s : Stated) → IsStatedInRange (sized s p.size)
+    → conditions_from p at_start (certificate_items (sized s p.size)) ≡ claims p (sized s p.size)
+by_lines p s r =
+    let k = s.proof in
     let n = p.size in
     let routes = k.plan.routes in
-    let long : length routes ≡ n * n = r.one_route_each in
-    let pos : 1 ≤ n * n = mul-pos r.some_node r.some_node in
+    let long : length routes ≡ n * n = r.proof.one_route_each in
+    let pos : 1 ≤ n * n = mul-pos r.proof.some_node r.proof.some_node in
     let cost : ℕ → Claim = λ line. claim Cost line (k.cost ≡ plan_cost p (record { hubs = k.plan.hubs; routes = routes })) in
     let tree_lines = map says_tree (preorder k.tree) ++ says_end ∷ [] in
     let v = k.version in
-    let cut_lines_on = cuts_items v n 1 k.cuts ++ says_nodes (line_count k.tree) ∷ tree_lines in
+    let marked = cuts_of s in
+    let cut_lines_on = cuts_items v n 1 marked ++ says_nodes (line_count k.tree) ∷ tree_lines in
     let planned = record at_start { line = 6; size = n; cost = k.cost; bound = k.bound; hubs = k.plan.hubs } in
     let at_cuts = record planned { line = 6 + length routes + 1; routes = routes } in
     let at_tree : ℕ → Progress = λ line. record at_cuts { line = line; cuts = k.cuts; pending = root p ∷ [] } in
-    let head : List Claim → List Claim = λ cs. size_claims p (sized k n) ++ (claim Hubs hubs_line (All (Contains p.candidates) k.plan.hubs) ∷ (claim Number hubs_line (HasWanted p k.plan.hubs) ∷ cs)) in
+    let hubs = claim Hubs hubs_line (All (Contains p.candidates) k.plan.hubs) in
+    let number = claim Number hubs_line (HasWanted p k.plan.hubs) in
+    let head : List Claim → List Claim = λ cs. size_claims p (record k { size = n }) ++ (hubs ∷ (number ∷ cs)) in
     let going = route_claims p k.plan.hubs first_route_line (commodities n) routes in
-    let tried = cut_claims p v (first_cut_line n) k.cuts in
-    let whole = tree_claims p k.cuts k.bound (first_tree_line v n k.cuts) (root p) k.tree in
-    let lines : ℕ = sum_by (cut_lines v n) k.cuts in
+    let tried = cut_claims p true v (first_cut_line n) marked in
+    let whole = tree_claims p k.cuts k.bound (first_tree_line v n marked) (root p) k.tree in
+    let lines : ℕ = sum_by (cut_lines v n) marked in
     let line_of_tree : ℕ = 6 + length routes + 1 + lines + 1 in
     ap head (
     routes_by_lines p planned (commodities n) routes (says_cuts (length k.cuts) ∷ cut_lines_on) (long ∙ sym (length_commodities n))
     (omega (arith, long, pos)) (omega (arith, long))
     ∙ ap (λ line. going ++ (cost line ∷ conditions_from p at_cuts cut_lines_on)) (let e : 6 + length routes - 1 ≡ 5 + n * n = omega (arith, long) in e)
     ∙ ap (λ cs. going ++ (cost (last_route_line n) ∷ cs)) (
-    cuts_by_lines p at_cuts v 1 k.cuts (says_nodes (line_count k.tree) ∷ tree_lines) refl refl refl r.some_node (cuts_said (sized k n) r)
-    ∙ ap₂ (λ first line. cut_claims p v first k.cuts ++ conditions_from p (at_tree line) tree_lines)
+    cuts_by_lines p at_cuts v 1 k.cuts s.marks (says_nodes (line_count k.tree) ∷ tree_lines) refl refl refl refl r.proof.some_node (cuts_said (sized s n) r)
+    ∙ ap₂ (λ first line. cut_claims p true v first marked ++ conditions_from p (at_tree line) tree_lines)
     (let e : 6 + length routes + 1 ≡ 7 + n * n = omega (arith, long) in e)
     (let e : line_of_tree ≡ 8 + n * n + lines = omega (arith, long) in e)
     ∙ ap (λ cs. tried ++ cs) (
-    tree_by_lines p (at_tree (first_tree_line v n k.cuts)) (root p) [] k.tree (says_end ∷ [])
+    tree_by_lines p (at_tree (first_tree_line v n marked)) (root p) [] k.tree (says_end ∷ [])
     ∙ append-nil whole))
     ∙ sym (append_assoc going (cost (last_route_line n) ∷ []) (tried ++ whole)))
 
 -- where it is not, the first condition of both fails
-pub conditions_of_lines : (p : Problem) (k : Proof) → IsInRange k
+pub conditions_of_lines : (p : Problem) (k : Stated) → IsStatedInRange k
     → ComesToTheSame (claims p k) (conditions p k)
 conditions_of_lines p k r =
     ⊎_elim
-    (λ (same : k.size ≡ p.size).
-    let P : ℕ → Type 0 = λ n. IsInRange (sized k n) → ComesToTheSame (claims p (sized k n)) (conditions_from p at_start (certificate_items (sized k n))) in
-    subst P (sym same) (λ s. same-path (claims p (sized k p.size)) (conditions_from p at_start (certificate_items (sized k p.size))) (sym (by_lines p k s))) r)
-    (λ other. same-head (claim Size size_line ((k.size ≡ p.size) × (k.candidates ≡ length p.candidates))) _ _ (λ h. other h.0))
-    (cases_eq k.size p.size)
+    (λ (same : k.proof.size ≡ p.size).
+    let P : ℕ → Type 0 = λ n. IsStatedInRange (sized k n) → ComesToTheSame (claims p (sized k n)) (conditions p (sized k n)) in
+    subst P (sym same) (λ s. same-path (claims p (sized k p.size)) (conditions p (sized k p.size)) (sym (by_lines p k s))) r)
+    (λ other. same-head (claim Size size_line ((k.proof.size ≡ p.size) × (k.proof.candidates ≡ length p.candidates))) _ _ (λ h. other h.0))
+    (cases_eq k.proof.size p.size)

@@ -1,5 +1,5 @@
 -- Each condition of the check either holds or does not, so one of them is the first that fails, or all hold.
-use Rattle.std.proofs.Common.{◌≡◌, ℕ, ◌+◌, ◌*◌, ◌<◌, ◌≤◌, zero, suc, Bool, true, false, true≢false, Option, Some, None, subst, ℤ, pos, ◌-ℤ◌, ◌<ℤ◌, List, [], ◌∷◌, ◌++◌, length, All, Contains, ◌⊎◌, inl, inr, refl, sym, ◌∙◌, arith}
+use Rattle.std.proofs.Common.{◌≡◌, ℕ, ◌+◌, ◌*◌, ◌<◌, ◌≤◌, zero, suc, nat_eq, Bool, true, false, true≢false, Option, Some, None, subst, ℤ, pos, ◌-ℤ◌, ◌<ℤ◌, List, [], ◌∷◌, ◌++◌, length, All, Contains, ◌⊎◌, inl, inr, refl, sym, ◌∙◌, arith}
 use Rattle.std.proofs.lemmas.List.Elements.{All-contains, All-contains_itself, All-weaker}
 use Rattle.std.proofs.lemmas.Int.{by_lt_z, ints}
 use Rattle.hub_spec.specs.Limits.{most_cost}
@@ -9,11 +9,13 @@ use Rattle.hub_spec.specs.Cuts.{Prices, value_at, IsDual, Cut, total, load, IsWi
 use Rattle.hub_spec.specs.Trees.{Branching, root, open_child, closed_child, Tree, branch, leaf, empty, block, count, cut_at, share, IsMultiple, weight_sum, leaf_bound, IsClosed, IsBlocked, HasRoom, LacksRoom, line_count}
 use Rattle.std.specs.Prelude.{IfSome}
 use Rattle.std.proofs.lemmas.Bool.{cases_lt}
-use Rattle.hub_spec.specs.Certificates.{Proof}
+use Rattle.core_spec.specs.CoreCuts.{CoreProof, Mark, IsCoreDual}
+use Rattle.cert_spec.specs.Stated.{Stated, cuts_of}
 use Rattle.hub_spec.proofs.Decisions.{Decided, decided_by, decided_and, decided_or, decided_le, decided_eq, decided_all, decided_contains}
 use Rattle.cert_spec.specs.Text.{dual_runs}
-use Rattle.cert_spec.specs.PartConditions.{first_route_line, cut_lines, first_cut_line, first_dual_line, first_tree_line, route_claims, dual_claims, one_cut_claims, cut_claims, tree_claims, plan_claims, all_cut_claims, all_tree_claims, claims, older_claims}
-use Rattle.cert_spec.specs.Conditions.{Kind, Claim, AllHold, FailsFirst, IsDualOfRun}
+use Rattle.cert_spec.specs.PartConditions.{first_route_line, cut_lines, first_cut_line, first_dual_line, first_tree_line, route_claims, dual_claims, proved_claims, one_cut_claims, cut_claims, tree_claims, plan_claims, all_cut_claims, all_tree_claims, claims, older_claims}
+use Rattle.cert_spec.specs.Conditions.{Kind, Sum, Core, Claim, claim, AllHold, FailsFirst, if_time, MayMark, IsDualOfRun}
+use Rattle.cert_spec.proofs.DecidedCores.{decided_core_dual, decided_may}
 
 decided_true : (b : Bool) → Decided (b ≡ true)
 decided_true true = inl refl
@@ -176,13 +178,43 @@ duals_decided : (p : Problem) (part line t : ℕ) (rs : List (ℕ × Prices)) �
 duals_decided p part line t [] = tt
 duals_decided p part line t (r ∷ rs) = (decided_run p part t r, duals_decided p part (line + 1) (t + r.0) rs)
 
-cuts_decided : (p : Problem) (v line : ℕ) (cuts : List Cut) → AllDecided (cut_claims p v line cuts)
-cuts_decided p v line [] = tt
-cuts_decided p v line (cut ∷ cuts) =
-    AllDecided-append (one_cut_claims p v line cut) (cut_claims p v (line + cut_lines v p.size cut) cuts)
-    (AllDecided-append (dual_claims p cut.part (first_dual_line line) 0 (dual_runs v p.size cut.duals)) _
-    (duals_decided p cut.part (first_dual_line line) 0 (dual_runs v p.size cut.duals)) (decided_sums p cut, tt))
-    (cuts_decided p v (line + cut_lines v p.size cut) cuts)
+if_time_decided : (b : Bool) (c : Claim) → Decided c.holds → AllDecided (if_time b c)
+if_time_decided true c d = (d, tt)
+if_time_decided false c d = tt
+
+proved_decided : (p : Problem) (asked : Bool) (cut : Cut) (hubs : List ℕ) (line t : ℕ) (duals : List Prices) (proofs : List CoreProof)
+    → AllDecided (proved_claims p asked cut hubs line t duals proofs)
+proved_decided p asked cut hubs line t [] proofs = tt
+proved_decided p asked cut hubs line t (dual ∷ duals) [] = tt
+proved_decided p asked cut hubs line t (dual ∷ duals) (proof ∷ proofs) =
+    let last = nat_eq (t + 1) (p.size * p.size) in
+    let sum = claim Sum line (IsWithinSums p cut) in
+    let core = claim Core (line + 1) (IsCoreDual p hubs cut.part (commodity_at p.size t) dual proof) in
+    let after = proved_claims p asked cut hubs (line + 2) (t + 1) duals proofs in (
+      decided_run p cut.part t (1, dual),
+      AllDecided-append (if_time last sum) (if_time asked core ++ after) (if_time_decided last sum (decided_sums p cut))
+          (AllDecided-append (if_time asked core) after
+          (if_time_decided asked core (decided_core_dual p hubs cut.part (commodity_at p.size t) dual proof))
+          (proved_decided p asked cut hubs (line + 2) (t + 1) duals proofs)),
+    )
+
+cut_decided : (p : Problem) (asked : Bool) (v line : ℕ) (cut : Cut) (mark : Option Mark) → AllDecided (one_cut_claims p asked v line (cut, mark))
+cut_decided p asked v line cut None =
+    AllDecided-append (dual_claims p cut.part (first_dual_line line) 0 (dual_runs v p.size cut.duals)) _
+    (duals_decided p cut.part (first_dual_line line) 0 (dual_runs v p.size cut.duals)) (decided_sums p cut, tt)
+cut_decided p asked v line cut (Some mark) =
+    let may = claim Core line (MayMark p mark.hubs) in
+    let all = decided_all (Contains p.candidates) (decided_contains p.candidates) mark.hubs in
+    AllDecided-append (if_time asked may) (proved_claims p asked cut mark.hubs (first_dual_line line) 0 cut.duals mark.proofs)
+    (if_time_decided asked may (decided_and (decided_may p) all))
+    (proved_decided p asked cut mark.hubs (first_dual_line line) 0 cut.duals mark.proofs)
+
+cuts_decided : (p : Problem) (asked : Bool) (v line : ℕ) (cuts : List (Cut × Option Mark)) → AllDecided (cut_claims p asked v line cuts)
+cuts_decided p asked v line [] = tt
+cuts_decided p asked v line ((cut, mark) ∷ cuts) =
+    let next = line + cut_lines v p.size (cut, mark) in
+    AllDecided-append (one_cut_claims p asked v line (cut, mark)) (cut_claims p asked v next cuts)
+    (cut_decided p asked v line cut mark) (cuts_decided p asked v next cuts)
 
 tree_decided : (p : Problem) (cuts : List Cut) (target line : ℕ) (b : Branching) (t : Tree)
     → AllDecided (tree_claims p cuts target line b t)
@@ -209,17 +241,27 @@ tree_decided p cuts target line b empty = (decided_closed b, tt)
 tree_decided p cuts target line b (block commodity) = (decided_blocked p b commodity, tt)
 tree_decided p cuts target line b count = (decided_lacks p.wanted b, tt)
 
-pub claims_decided : (p : Problem) (k : Proof) → AllDecided (claims p k)
-claims_decided p k =
+all_cuts_decided : (p : Problem) (asked : Bool) (k : Stated) → AllDecided (all_cut_claims p asked k)
+all_cuts_decided p asked k = cuts_decided p asked k.proof.version (first_cut_line k.proof.size) (cuts_of k)
+
+pub claims_decided : (p : Problem) (s : Stated) → AllDecided (claims p s)
+claims_decided p s =
+    let k = s.proof in
     let sizes = decided_and (decided_eq k.size p.size) (decided_eq k.candidates (length p.candidates)) in
     let hubs = decided_all (Contains p.candidates) (decided_contains p.candidates) k.plan.hubs in
     let routes = AllDecided-append (route_claims p k.plan.hubs first_route_line (commodities k.size) k.plan.routes) _
     (routes_decided p k.plan.hubs first_route_line (commodities k.size) k.plan.routes)
     (decided_eq k.cost (plan_cost p k.plan), tt) in
-    AllDecided-append (plan_claims p k) (all_cut_claims p k ++ all_tree_claims p k)
+    AllDecided-append (plan_claims p k) (all_cut_claims p true s ++ all_tree_claims p s)
     (sizes, (decided_le k.bound k.cost, (hubs, (decided_wanted p.wanted (length k.plan.hubs), routes))))
-    (AllDecided-append (all_cut_claims p k) (all_tree_claims p k) (cuts_decided p k.version (first_cut_line k.size) k.cuts)
-    (tree_decided p k.cuts k.bound (first_tree_line k.version k.size k.cuts) (root p) k.tree))
+    (AllDecided-append (all_cut_claims p true s) (all_tree_claims p s) (all_cuts_decided p true s)
+    (tree_decided p k.cuts k.bound (first_tree_line k.version k.size (cuts_of s)) (root p) k.tree))
+
+pub older_decided : (p : Problem) (k : Stated) → AllDecided (older_claims p k)
+older_decided p k = (
+  decided_and (decided_eq k.proof.size p.size) (decided_eq k.proof.candidates (length p.candidates)),
+  all_cuts_decided p false k,
+)
 
 -- all of these conditions hold, or one of them is the first that fails
 pub first_failure : (cs : List Claim) → AllDecided cs → AllHold cs ⊎ ((kind : Kind) × (line : ℕ) × FailsFirst cs kind line)
@@ -252,7 +294,3 @@ one_failure (c ∷ cs) kind other line place f g = elim f [
     | inr further ↦ one_failure cs kind other line place later.1 further.1
   ]
 ]
-
-pub older_decided : (p : Problem) (k : Proof) → AllDecided (older_claims p k)
-older_decided p k =
-    (decided_and (decided_eq k.size p.size) (decided_eq k.candidates (length p.candidates)), cuts_decided p k.version (first_cut_line k.size) k.cuts)

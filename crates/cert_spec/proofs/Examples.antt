@@ -1,4 +1,4 @@
--- Two certificates, computed: one with runs and blocks, and one with a part.
+-- Certificates, computed: one with runs and blocks, one with a marked cut, and a bound where a cut has a part.
 use Rattle.std.proofs.Common.{◌≡◌, ℕ, zero, suc, ◌++◌, List, [], ◌∷◌, true, false, Some, None, refl}
 use Rattle.std.specs.Prelude.{codes, pos, ℤ, ◌-ℤ◌, ◌+ℤ◌, ◌*◌}
 use Rattle.hub_spec.specs.Sums.{least_sum}
@@ -8,7 +8,11 @@ use Rattle.hub_spec.specs.Cuts.{Prices, Cut}
 use Rattle.hub_spec.specs.Separation.{set_cut, minimal_dual}
 use Rattle.hub_spec.specs.Trees.{branch, leaf, block, root, open_child, leaf_bound}
 use Rattle.hub_spec.specs.Certificates.{Proof}
-use Rattle.cert_spec.specs.Lines.{line_text}
+use Rattle.cert_spec.specs.Stated.{Stated, unmarked}
+use Rattle.core_spec.specs.CoreCuts.{CoreProof}
+use Rattle.cert_spec.specs.Lines.{says_marked, line_text}
+use Rattle.cert_spec.specs.Grammar.{want_cut, want_proof, shape}
+use Rattle.cert_spec.specs.Reading.{number_of, item_of, wanted_item}
 use Rattle.cert_spec.specs.Text.{certificate_text}
 use Rattle.std.specs.Fmt.{digits}
 
@@ -60,7 +64,7 @@ far_certificate = record {
 lf : List ℕ → List ℕ
 lf line = line ++ 10 ∷ []
 
-far_text : certificate_text far_certificate
+far_text : certificate_text (unmarked far_certificate)
     ≡ lf (codes "HUBCERT 2") ++ lf (codes "size 2 2") ++ lf (codes "cost 10000000000000") ++ lf (codes "bound 10000000000000")
     ++ lf (codes "hubs 1 2") ++ lf (codes "route 1 1 1 1") ++ lf (codes "route 1 2 1 1") ++ lf (codes "route 2 1 1 1")
     ++ lf (codes "route 2 2 2 2") ++ lf (codes "cuts 1") ++ lf (codes "cut 1 1") ++ lf (codes "duals 1 1 2 0")
@@ -68,6 +72,51 @@ far_text : certificate_text far_certificate
     ++ lf (codes "leaf 1000000") ++ lf (codes "block 2 2") ++ lf (codes "block 1 1") ++ lf (codes "end")
 unfolding certificate_text line_text digits commodities far_certificate no_prices lf
 far_text = refl
+
+-- the same in the third version with a marked cut of part 2: each dual has a line of its own, though it equals the one before
+priced : Prices
+priced = record { a = 20; u = (1, 6) ∷ [] }
+
+no_ways : CoreProof
+no_ways = record { turns = 0; scale = 1; ways = [] }
+
+two_ways : CoreProof
+two_ways = record { turns = 1; scale = 2; ways = (0, 1, 3) ∷ (1, 1, 5) ∷ [] }
+
+marked_certificate : Stated
+marked_certificate = record {
+  proof = record far_certificate { version = 3; cuts = record { part = 2; duals = no_prices ∷ no_prices ∷ priced ∷ priced ∷ [] } ∷ [] };
+  marks = Some (record { hubs = 0 ∷ 1 ∷ []; proofs = no_ways ∷ no_ways ∷ two_ways ∷ two_ways ∷ [] }) ∷ [];
+}
+
+marked_text : certificate_text marked_certificate
+    ≡ lf (codes "HUBCERT 3") ++ lf (codes "size 2 2") ++ lf (codes "cost 10000000000000") ++ lf (codes "bound 10000000000000")
+    ++ lf (codes "hubs 1 2") ++ lf (codes "route 1 1 1 1") ++ lf (codes "route 1 2 1 1") ++ lf (codes "route 2 1 1 1")
+    ++ lf (codes "route 2 2 2 2") ++ lf (codes "cuts 1") ++ lf (codes "cut 1 2 core 1 2")
+    ++ lf (codes "dual 1 1 0") ++ lf (codes "proof 0 1") ++ lf (codes "dual 1 2 0") ++ lf (codes "proof 0 1")
+    ++ lf (codes "dual 2 1 20 2 6") ++ lf (codes "proof 1 2 1 2 3 2 2 5") ++ lf (codes "dual 2 2 20 2 6") ++ lf (codes "proof 1 2 1 2 3 2 2 5")
+    ++ lf (codes "nodes 5") ++ lf (codes "branch 1") ++ lf (codes "branch 2") ++ lf (codes "leaf 1000000") ++ lf (codes "block 2 2")
+    ++ lf (codes "block 1 1") ++ lf (codes "end")
+unfolding certificate_text line_text digits commodities far_certificate marked_certificate priced no_ways two_ways no_prices lf
+marked_text = refl
+
+-- only the third version has marks, and a mark has a hub
+marked_line : wanted_item (want_cut (shape 3 2) 1 0) (codes "cut 1 2 core 1 2") ≡ Some (says_marked 1 2 (0 ∷ 1 ∷ []))
+unfolding wanted_item number_of item_of
+marked_line = refl
+
+not_in_the_second : wanted_item (want_cut (shape 2 2) 1 0) (codes "cut 1 2 core 1 2") ≡ None
+unfolding wanted_item number_of item_of
+not_in_the_second = refl
+
+mark_without_hub : wanted_item (want_cut (shape 3 2) 1 0) (codes "cut 1 2 core") ≡ None
+unfolding wanted_item number_of item_of
+mark_without_hub = refl
+
+-- no pair of nodes stands twice in a proof
+pair_twice : wanted_item (want_proof (shape 3 2) 1 0 0) (codes "proof 1 2 1 2 3 1 2 5") ≡ None
+unfolding wanted_item number_of item_of
+pair_twice = refl
 
 -- the cut of both nodes has no price and no load
 far_cut : set_cut far (0 ∷ 1 ∷ []) [] ≡ record { part = 1; duals = no_prices ∷ no_prices ∷ no_prices ∷ no_prices ∷ [] }

@@ -1,26 +1,30 @@
 -- The lines of a certificate within the ranges are as wanted, from the first to the last.
 use Rattle.std.proofs.Common.{◌≡◌, ℕ, ◌+◌, ◌-◌, ◌*◌, ◌<◌, ◌≤◌, List, [], ◌∷◌, ◌++◌, length, map, replicate, get_or, true, false, Option, Some, None, ◌≢◌, ◌%◌, inl, inr, nat_eq, mul-pos, refl, sym, ap, ◌∙◌, subst, arith, zero, suc, eq-eqb, ne_eqb}
-use Rattle.std.specs.Prelude.{zip}
+use Rattle.std.specs.Prelude.{zip, IfSome, ◌⊎◌}
 use Rattle.std.specs.List.{AllByRecursion}
-use Rattle.std.proofs.lemmas.List.{map-append}
-use Rattle.std.proofs.lemmas.Bool.{cond-true, cond-false}
+use Rattle.std.proofs.lemmas.List.{map-append, length-map}
+use Rattle.std.proofs.lemmas.Slice.Zip.{firsts-zip}
+use Rattle.std.proofs.lemmas.Bool.{cond-true, cond-false, eqb-false}
 use Rattle.std.proofs.lemmas.List.Elements.{recursion_from_All}
 use Rattle.hub_spec.specs.Problem.{commodities}
 use Rattle.hub_spec.specs.Cuts.{Prices, Cut}
 use Rattle.hub_spec.specs.Trees.{Tree, branch, leaf, empty, block, count, TreeLine, preorder, line_count}
 use Rattle.hub_spec.specs.Certificates.{Proof}
+use Rattle.core_spec.specs.CoreCuts.{CoreProof, Mark}
+use Rattle.core_spec.specs.MarkRanges.{IsProofInRange, IsMarkInRange}
+use Rattle.cert_spec.specs.Stated.{in_second, Stated, cuts_of, IsThird, IsStatedInRange}
 use Rattle.cert_spec.specs.Lines.{Item, says_cuts, says_nodes, says_tree, says_end}
-use Rattle.cert_spec.specs.Text.{route_items, is_first, same_prices, singles, dual_runs, run_items, dual_items, part_said, cut_items, cuts_items}
+use Rattle.cert_spec.specs.Text.{route_items, is_first, same_prices, singles, dual_runs, run_items, dual_items, part_said, proved_items, cut_items, cuts_items}
 use Rattle.cert_spec.specs.Theorems.{EachTextLeads}
 use Rattle.cert_spec.specs.Runs.{runs, spread, before_at, AreRuns}
-use Rattle.cert_spec.proofs.Versions.{second_is, second_not_first, second_later}
+use Rattle.cert_spec.proofs.Versions.{version_said, later_not_first, first_is_no_later}
 use Rattle.cert_spec.proofs.RunLaws.{runs_are, spread_runs}
 use Rattle.cert_spec.proofs.SamePrices.{prices_told}
 use Rattle.hub_spec.specs.Limits.{most_part}
 use Rattle.std.proofs.lemmas.Option.{none-some}
 use Rattle.std.proofs.lemmas.List.{length-append, length-replicate}
 use Rattle.hub_spec.specs.Ranges.{IsDualInRange, IsCutInRange, IsLineInRange, IsFirstDual, IsFirstCut, IsFirstLine, IsInRange}
-use Rattle.cert_spec.specs.Grammar.{Stage, want_end, want_nothing, want_cuts, want_nodes, want_route, want_cut, want_dual, want_tree, Shape, shape, after_route, after_cut, after_dual, after_tree, kept_dual, IsRun, IsPart, IsVersion, after, Leads}
+use Rattle.cert_spec.specs.Grammar.{Stage, want_end, want_nothing, want_cuts, want_nodes, want_route, want_cut, want_dual, want_proved, want_tree, Shape, shape, after_route, after_cut, after_dual, after_proof, after_tree, kept_dual, IsRun, IsPart, IsVersion, after, Leads}
 use Rattle.hub_spec.proofs.CommodityIndex.{commodities_from, commodities_by_number}
 
 pub Leads-append : (first mid last : Stage) (items rest : List Item) → Leads first items mid → Leads mid rest last → Leads first (items ++ rest) last
@@ -52,6 +56,14 @@ pub after_dual-more : (s : Shape) (all x t : ℕ) (before : Option Prices) → (
     → after_dual s all x t before ≡ want_dual s all x t before
 after_dual-more s all x t before e =
     cond-false (nat_eq t (s.size * s.size)) (after_cut s all (x + 1)) (want_dual s all x t before) (ne_eqb t (s.size * s.size) e)
+
+pub after_proof-all : (s : Shape) (all x t : ℕ) → t ≡ s.size * s.size → after_proof s all x t ≡ after_cut s all (x + 1)
+after_proof-all s all x t e =
+    cond-true (nat_eq t (s.size * s.size)) (after_cut s all (x + 1)) (want_proved s all x t) (eq-eqb t (s.size * s.size) e)
+
+pub after_proof-more : (s : Shape) (all x t : ℕ) → (t ≡ s.size * s.size → ⊥) → after_proof s all x t ≡ want_proved s all x t
+after_proof-more s all x t e =
+    cond-false (nat_eq t (s.size * s.size)) (after_cut s all (x + 1)) (want_proved s all x t) (ne_eqb t (s.size * s.size) e)
 
 pub after_tree-all : (s : Shape) (places left : ℕ) → left ≡ 0 → after_tree s places left ≡ want_end
 after_tree-all s places left e = cond-true (nat_eq left 0) want_end (want_tree s places left) (eq-eqb left 0 e)
@@ -119,18 +131,17 @@ pub spread_singles : (duals : List Prices) → spread (singles duals) ≡ duals
 spread_singles [] = refl
 spread_singles (d ∷ duals) = ap (λ ds. d ∷ ds) (spread_singles duals)
 
--- runs, in the second
-runs_said : (s : Shape) (t : ℕ) (before : Option Prices) (rs : List (ℕ × Prices)) → s.version ≡ 2 → AreRuns s.size t before rs
+-- runs, in a later one
+runs_said : (s : Shape) (t : ℕ) (before : Option Prices) (rs : List (ℕ × Prices)) → is_first s.version ≡ false → AreRuns s.size t before rs
     → AllByRecursion (IsDualOf s) (spread rs) → AreSaid s t before rs
-runs_said s t before [] second are each = tt
-runs_said s t before ((zero, x) ∷ rest) second are each = absurd (omega (arith, are.0))
-runs_said s t before ((suc q, x) ∷ rest) second are each =
-    let test : is_first s.version ≡ false = ne_eqb s.version 1 (λ e. absurd (omega (arith, e, second))) in
-    let later = (recursion_split (IsDualOf s) (replicate (suc q) x) (spread rest) each).1 in (
-      (are.0, are.1, λ e. absurd (omega (arith, e, second))),
+runs_said s t before [] later are each = tt
+runs_said s t before ((zero, x) ∷ rest) later are each = absurd (omega (arith, are.0))
+runs_said s t before ((suc q, x) ∷ rest) later are each =
+    let ahead = (recursion_split (IsDualOf s) (replicate (suc q) x) (spread rest) each).1 in (
+      (are.0, are.1, λ e. absurd (eqb-false s.version 1 later e)),
       each.0,
       are.2,
-      rw test (runs_said s (t + suc q) (before_at s.size (t + suc q) x) rest second are.3 later),
+      rw later (runs_said s (t + suc q) (before_at s.size (t + suc q) x) rest later are.3 ahead),
     )
 
 -- what the lines of a cut's duals say may stand there, and is of the duals
@@ -142,11 +153,11 @@ pub duals_said : (s : Shape) (duals : List Prices) → IsVersion s.version → 1
 duals_said s duals (inl first) some each =
     let test : is_first s.version ≡ true = eq-eqb s.version 1 first in
     record { said = rw test (singles_said s 0 duals first some each); of = rw test (spread_singles duals) }
-duals_said s duals (inr second) some each =
-    let test : is_first s.version ≡ false = second_later s.version second in
+duals_said s duals (inr later) some each =
+    let test : is_first s.version ≡ false = first_is_no_later s.version later in
     let of : spread (runs same_prices s.size 0 duals) ≡ duals = spread_runs same_prices s.size 0 duals prices_told in
     record {
-      said = rw test (runs_said s 0 None (runs same_prices s.size 0 duals) (second_is s.version second) (runs_are same_prices s.size 0 duals prices_told some)
+      said = rw test (runs_said s 0 None (runs same_prices s.size 0 duals) test (runs_are same_prices s.size 0 duals prices_told some)
           (subst (AllByRecursion (IsDualOf s)) (sym of) each));
       of = rw test of;
     }
@@ -156,36 +167,79 @@ pub record IsCutOf (s : Shape) (cut : Cut) : Type 0 where
   pub in_range : IsCutInRange s.size cut
   pub first : s.version ≡ 1 → IsFirstCut cut
 
+-- a mark that the version can say, if there is one
+abbrev pub IsMarkOf : Shape → Option Mark → Type 0
+IsMarkOf s None = Unit {0}
+IsMarkOf s (Some mark) = IsThird s.version × IsMarkInRange s.size mark
+
+-- a cut with its mark
+pub record IsMarkedCutOf (s : Shape) (c : Cut × Option Mark) : Type 0 where
+  pub cut : IsCutOf s c.0
+  pub mark : IsMarkOf s c.1
+
 pub duals_of_cut : (s : Shape) (cut : Cut) → IsCutOf s cut → AllByRecursion (IsDualOf s) cut.duals
 duals_of_cut s cut h = recursion_from_All (IsDualOf s) cut.duals
     (λ i d l. record { in_range = h.in_range.each i d l; first = λ e. (h.first e).each i d l })
 
 part_is : (v : ℕ) (cut : Cut) → IsVersion v → 1 ≤ cut.part → cut.part ≤ most_part → IsPart v (part_said v cut.part)
 part_is v cut (inl first) least most = let test : is_first v ≡ true = eq-eqb v 1 first in rw test first
-part_is v cut (inr second) least most =
-    let test : is_first v ≡ false = second_later v second in rw test (second, least, most)
+part_is v cut (inr later) least most =
+    let test : is_first v ≡ false = first_is_no_later v later in rw test (later, least, most)
 
-cut_leads : (s : Shape) (all x : ℕ) (cut : Cut) → IsVersion s.version → 1 ≤ s.size → IsCutOf s cut → x < all
-    → Leads (after_cut s all x) (cut_items s.version s.size (x + 1, cut)) (after_cut s all (x + 1))
-cut_leads s all x cut version some h more =
+-- the duals of a marked cut, each with its proof
+proved_lead : (s : Shape) (all x t : ℕ) (duals : List Prices) (proofs : List CoreProof) → t + length duals ≡ s.size * s.size
+    → length proofs ≡ length duals → AllByRecursion (IsDualOf s) duals → AllByRecursion (IsProofInRange s.size) proofs
+    → Leads (after_proof s all x t) (proved_items s.size t duals proofs) (after_cut s all (x + 1))
+proved_lead s all x t [] proofs whole long h k = after_proof-all s all x t (omega arith)
+proved_lead s all x t (dual ∷ duals) [] whole long h k = absurd (omega arith)
+proved_lead s all x t (dual ∷ duals) (proof ∷ proofs) whole long h k =
+    Leads-from (after_proof s all x t) (want_proved s all x t) (after_cut s all (x + 1)) (proved_items s.size t (dual ∷ duals) (proof ∷ proofs))
+    (after_proof-more s all x t (λ e. omega (arith, e, whole))) (
+      (refl, refl, h.0.in_range),
+      (k.0, proved_lead s all x (t + 1) duals proofs (omega (arith, whole)) (omega (arith, long)) h.1 k.1),
+    )
+
+marked_leads : (s : Shape) (all x : ℕ) (cut : Cut) (mark : Mark) → 1 ≤ s.size → IsCutOf s cut → IsMarkOf s (Some mark) → x < all
+    → Leads (after_cut s all x) (cut_items s.version s.size (x + 1, (cut, Some mark))) (after_cut s all (x + 1))
+marked_leads s all x cut mark some h k more =
+    let pos : 1 ≤ s.size * s.size = mul-pos some some in
+    let one = h.in_range.one_for_each in
+    let proofs = recursion_from_All (IsProofInRange s.size) mark.proofs k.1.each in
+    let duals = proved_lead s all x 0 cut.duals mark.proofs (omega (arith, one)) (k.1.one_for_each ∙ sym one) (duals_of_cut s cut h) proofs in
+    Leads-from (after_cut s all x) (want_cut s all x) (after_cut s all (x + 1)) (cut_items s.version s.size (x + 1, (cut, Some mark)))
+    (after_cut-more s all x (λ e. omega arith)) (
+      (refl, (k.0, h.in_range.part_least, h.in_range.part_most, k.1.hubs)),
+      Leads-from (want_proved s all x 0) (after_proof s all x 0) (after_cut s all (x + 1)) (proved_items s.size 0 cut.duals mark.proofs)
+          (sym (after_proof-more s all x 0 (λ e. omega (arith, e, pos)))) duals,
+    )
+
+plain_leads : (s : Shape) (all x : ℕ) (cut : Cut) → IsVersion s.version → 1 ≤ s.size → IsCutOf s cut → x < all
+    → Leads (after_cut s all x) (cut_items s.version s.size (x + 1, (cut, None))) (after_cut s all (x + 1))
+plain_leads s all x cut version some h more =
     let pos : 1 ≤ s.size * s.size = mul-pos some some in
     let said = duals_said s cut.duals version some (duals_of_cut s cut h) in
     let long = ap length said.of in
     let duals = runs_lead s all x 0 None (dual_runs s.version s.size cut.duals) (omega (arith, long, h.in_range.one_for_each)) said.said in
-    Leads-from (after_cut s all x) (want_cut s all x) (after_cut s all (x + 1)) (cut_items s.version s.size (x + 1, cut))
+    Leads-from (after_cut s all x) (want_cut s all x) (after_cut s all (x + 1)) (cut_items s.version s.size (x + 1, (cut, None)))
     (after_cut-more s all x (λ e. omega arith)) (
       (refl, part_is s.version cut version h.in_range.part_least h.in_range.part_most),
       Leads-from (want_dual s all x 0 None) (after_dual s all x 0 None) (after_cut s all (x + 1)) (dual_items s.version s.size cut.duals)
           (sym (after_dual-more s all x 0 None (λ e. omega (arith, e, pos)))) duals,
     )
 
-cuts_lead : (s : Shape) (all x : ℕ) (cuts : List Cut) → IsVersion s.version → 1 ≤ s.size → x + length cuts ≡ all → AllByRecursion (IsCutOf s) cuts
+cut_leads : (s : Shape) (all x : ℕ) (c : Cut × Option Mark) → IsVersion s.version → 1 ≤ s.size → IsMarkedCutOf s c → x < all
+    → Leads (after_cut s all x) (cut_items s.version s.size (x + 1, c)) (after_cut s all (x + 1))
+cut_leads s all x (cut, None) version some h more = plain_leads s all x cut version some h.cut more
+cut_leads s all x (cut, Some mark) version some h more = marked_leads s all x cut mark some h.cut h.mark more
+
+cuts_lead : (s : Shape) (all x : ℕ) (cuts : List (Cut × Option Mark)) → IsVersion s.version → 1 ≤ s.size → x + length cuts ≡ all
+    → AllByRecursion (IsMarkedCutOf s) cuts
     → Leads (after_cut s all x) (cuts_items s.version s.size (x + 1) cuts) (want_nodes s)
 cuts_lead s all x [] version some whole h = after_cut-all s all x (omega arith)
-cuts_lead s all x (cut ∷ cuts) version some whole h =
-    Leads-append (after_cut s all x) (after_cut s all (x + 1)) (want_nodes s) (cut_items s.version s.size (x + 1, cut))
+cuts_lead s all x (c ∷ cuts) version some whole h =
+    Leads-append (after_cut s all x) (after_cut s all (x + 1)) (want_nodes s) (cut_items s.version s.size (x + 1, c))
     (cuts_items s.version s.size (x + 1 + 1) cuts)
-    (cut_leads s all x cut version some h.0 (omega arith)) (cuts_lead s all (x + 1) cuts version some (omega arith) h.1)
+    (cut_leads s all x c version some h.0 (omega arith)) (cuts_lead s all (x + 1) cuts version some (omega arith) h.1)
 
 -- the tree
 pub line_count-least : (t : Tree) → 1 ≤ line_count t
@@ -242,36 +296,66 @@ whole_tree_leads s t h =
 abbrev shape_of : Proof → Shape
 shape_of k = shape k.version k.size
 
-pub version_is : (k : Proof) → IsInRange k → IsVersion k.version
-version_is k h = elim h.version [ inl first ↦ inl first.0 | inr second ↦ inr second ]
+pub version_is : (k : Proof) → IsInRange (in_second k) → IsVersion k.version
+version_is k h = elim (version_said k h.version) [ inl first ↦ inl first.0 | inr later ↦ inr later ]
 
-pub cuts_said : (k : Proof) → IsInRange k → AllByRecursion (IsCutOf (shape k.version k.size)) k.cuts
-cuts_said k h = recursion_from_All (IsCutOf (shape k.version k.size)) k.cuts (λ i d l. record { in_range = h.cuts i d l; first = first i d l })
+cuts_alone : (k : Proof) → IsInRange (in_second k) → AllByRecursion (IsCutOf (shape k.version k.size)) k.cuts
+cuts_alone k h = recursion_from_All (IsCutOf (shape k.version k.size)) k.cuts (λ i d l. record { in_range = h.cuts i d l; first = first i d l })
   where
     first : (i : ℕ) (d : Cut) → i < length k.cuts → k.version ≡ 1 → IsFirstCut (get_or k.cuts i d)
     first i d l one =
-        elim h.version [ inl plain ↦ plain.1.cuts i d l | inr second ↦ absurd (second_not_first k.version second one) ]
+        elim (version_said k h.version) [ inl plain ↦ plain.1.cuts i d l | inr later ↦ absurd (later_not_first k.version later one) ]
 
-pub lines_said : (k : Proof) → IsInRange k → AllByRecursion (IsLineOf (shape k.version k.size)) (preorder k.tree)
+mark_said : (s : Shape) (mark : Option Mark) → IfSome mark (IsMarkInRange s.size) → IsThird s.version ⊎ (mark ≡ None) → IsMarkOf s mark
+mark_said s None range version = tt
+mark_said s (Some mark) range (inl third) = (third, range)
+mark_said s (Some mark) range (inr none) = absurd (let e = none in cc)
+
+marks_said : (k : Stated) → IsStatedInRange k → AllByRecursion (IsMarkOf (shape k.proof.version k.proof.size)) k.marks
+marks_said k h =
+    recursion_from_All (IsMarkOf (shape k.proof.version k.proof.size)) k.marks
+    (λ i d l. mark_said (shape k.proof.version k.proof.size) (get_or k.marks i d) (h.marks i d l) (version i d l))
+  where
+    version : (i : ℕ) (d : Option Mark) → i < length k.marks → IsThird k.proof.version ⊎ (get_or k.marks i d ≡ None)
+    version i d l = elim h.version [ inl third ↦ inl third | inr none ↦ inr (none i d l) ]
+
+both_said : (s : Shape) (cuts : List Cut) (marks : List (Option Mark)) → AllByRecursion (IsCutOf s) cuts → AllByRecursion (IsMarkOf s) marks
+    → AllByRecursion (IsMarkedCutOf s) (zip cuts marks)
+both_said s [] marks h k = tt
+both_said s (cut ∷ cuts) [] h k = tt
+both_said s (cut ∷ cuts) (mark ∷ marks) h k = (record { cut = h.0; mark = k.0 }, both_said s cuts marks h.1 k.1)
+
+-- the cuts of what is stated, each with its mark
+pub cuts_said : (k : Stated) → IsStatedInRange k → AllByRecursion (IsMarkedCutOf (shape k.proof.version k.proof.size)) (cuts_of k)
+cuts_said k h = both_said (shape k.proof.version k.proof.size) k.proof.cuts k.marks (cuts_alone k.proof h.proof) (marks_said k h)
+
+-- they are as many as the cuts
+pub length-cuts_of : (k : Stated) → IsStatedInRange k → length (cuts_of k) ≡ length k.proof.cuts
+length-cuts_of k h =
+    sym (length-map (cuts_of k) (λ (c : Cut × Option Mark). c.0)) ∙ ap length (firsts-zip k.proof.cuts k.marks h.one_for_each)
+
+pub lines_said : (k : Proof) → IsInRange (in_second k) → AllByRecursion (IsLineOf (shape k.version k.size)) (preorder k.tree)
 lines_said k h = recursion_from_All (IsLineOf (shape k.version k.size)) (preorder k.tree) (λ i d l. record { in_range = h.tree i d l; first = first i d l })
   where
     first : (i : ℕ) (d : TreeLine) → i < length (preorder k.tree) → k.version ≡ 1
         → IsFirstLine (get_or (preorder k.tree) i d)
     first i d l one =
-        elim h.version [ inl plain ↦ plain.1.tree i d l | inr second ↦ absurd (second_not_first k.version second one) ]
+        elim (version_said k h.version) [ inl plain ↦ plain.1.tree i d l | inr later ↦ absurd (later_not_first k.version later one) ]
 
-tree_part : (k : Proof) → IsInRange k → Leads (want_nodes (shape_of k)) (says_nodes (line_count k.tree) ∷ (map says_tree (preorder k.tree) ++ says_end ∷ [])) want_nothing
+tree_part : (k : Proof) → IsInRange (in_second k) → Leads (want_nodes (shape_of k)) (says_nodes (line_count k.tree) ∷ (map says_tree (preorder k.tree) ++ says_end ∷ [])) want_nothing
 tree_part k h = ((line_count-least k.tree, h.line_count), whole_tree_leads (shape_of k) k.tree (lines_said k h))
 
-cuts_part : (k : Proof) (rest : List Item) → IsInRange k → Leads (want_nodes (shape_of k)) rest want_nothing
-    → Leads (want_cuts (shape_of k)) (says_cuts (length k.cuts) ∷ (cuts_items k.version k.size 1 k.cuts ++ rest)) want_nothing
-cuts_part k rest h more = (
-  h.cut_count,
-  Leads-append (after_cut (shape_of k) (length k.cuts) 0) (want_nodes (shape_of k)) want_nothing (cuts_items k.version k.size 1 k.cuts) rest
-      (cuts_lead (shape_of k) (length k.cuts) 0 k.cuts (version_is k h) h.some_node (omega arith) (cuts_said k h)) more,
-)
+cuts_part : (k : Stated) (rest : List Item) → IsStatedInRange k → Leads (want_nodes (shape_of k.proof)) rest want_nothing
+    → Leads (want_cuts (shape_of k.proof)) (says_cuts (length k.proof.cuts) ∷ (cuts_items k.proof.version k.proof.size 1 (cuts_of k) ++ rest)) want_nothing
+cuts_part k rest h more =
+    let s : Shape = shape_of k.proof in
+    let all : ℕ = length k.proof.cuts in (
+      h.proof.cut_count,
+      Leads-append (after_cut s all 0) (want_nodes s) want_nothing (cuts_items s.version s.size 1 (cuts_of k)) rest
+          (cuts_lead s all 0 (cuts_of k) (version_is k.proof h.proof) h.proof.some_node (omega (arith, length-cuts_of k h)) (cuts_said k h)) more,
+    )
 
-routes_part : (k : Proof) (rest : List Item) → IsInRange k → Leads (want_cuts (shape_of k)) rest want_nothing
+routes_part : (k : Proof) (rest : List Item) → IsInRange (in_second k) → Leads (want_cuts (shape_of k)) rest want_nothing
     → Leads (want_route (shape_of k) 0) (route_items (zip (commodities k.size) k.plan.routes) ++ rest) want_nothing
 routes_part k rest h more =
     let pos : 1 ≤ k.size * k.size = mul-pos h.some_node h.some_node in
@@ -283,17 +367,17 @@ routes_part k rest h more =
     (subst (λ cs. Leads (after_route (shape_of k) 0) (route_items (zip cs k.plan.routes)) (want_cuts (shape_of k))) (sym (commodities_by_number k.size)) routes) more)
 
 pub each_text_leads_lem : EachTextLeads
-each_text_leads_lem k h = (
-  version_is k h,
+each_text_leads_lem k h = let r = h.proof in (
+  version_is k.proof r,
   (
-    (h.some_node, h.size, h.some_candidate, h.candidates),
+    (r.some_node, r.size, r.some_candidate, r.candidates),
     (
-      h.cost,
+      r.cost,
       (
-        h.bound,
+        r.bound,
         (
-          (h.some_hub, h.hubs_ascend, h.hubs),
-          routes_part k _ h (cuts_part k _ h (tree_part k h)),
+          (r.some_hub, r.hubs_ascend, r.hubs),
+          routes_part k.proof _ r (cuts_part k _ h (tree_part k.proof r)),
         ),
       ),
     ),

@@ -1,110 +1,29 @@
 -- Lines that are as wanted from the first to the last are those of a certificate within the ranges.
-use Rattle.std.proofs.Common.{◌≡◌, ℕ, ◌+◌, ◌-◌, ◌*◌, ◌<◌, ◌≤◌, List, [], ◌∷◌, ◌++◌, length, map, replicate, All, Option, Some, None, true, false, ◌≢◌, inl, inr, eq-eqb, ne_eqb, refl, sym, ap, ◌∙◌, subst, arith, zero, suc, mul-pos, append_assoc, append-nil}
-use Rattle.std.specs.Prelude.{flat_map, zip}
+use Rattle.std.proofs.Common.{get_or, ◌≡◌, ℕ, ◌+◌, ◌*◌, ◌<◌, ◌≤◌, List, [], ◌∷◌, ◌++◌, length, map, All, Option, Some, None, ◌⊎◌, inl, inr, refl, sym, ap, ap₂, ◌∙◌, subst, arith, zero, suc, mul-pos}
+use Rattle.std.specs.Prelude.{zip, IfSome}
 use Rattle.std.specs.List.{AllByRecursion}
 use Rattle.std.specs.List.Sorted.{IsStrictlyIncreasing}
 use Rattle.std.proofs.lemmas.List.Elements.{All-from_recursion}
-use Rattle.hub_spec.specs.Limits.{most_nodes, most_part, most_cuts, most_tree_lines}
+use Rattle.hub_spec.specs.Limits.{most_nodes, most_cuts, most_tree_lines}
 use Rattle.hub_spec.specs.Problem.{commodities, commodity_at}
-use Rattle.hub_spec.specs.Cuts.{Prices, Cut}
-use Rattle.hub_spec.specs.Trees.{Tree, branch, leaf, empty, block, count, TreeLine, branch_on, leaf_of, no_hub, no_route, no_count, preorder, line_count}
+use Rattle.hub_spec.specs.Cuts.{Cut}
+use Rattle.hub_spec.specs.Trees.{Tree, preorder, line_count}
 use Rattle.hub_spec.specs.Certificates.{Proof}
-use Rattle.cert_spec.specs.Lines.{Item, says_version, says_size, says_cost, says_bound, says_hubs, says_route, says_cuts, says_cut, says_dual, says_nodes, says_tree, says_end}
-use Rattle.cert_spec.specs.Text.{route_items, is_first, same_prices, singles, dual_runs, run_items, part_said, dual_items, cuts_items, certificate_items}
+use Rattle.cert_spec.specs.Lines.{Item, says_version, says_size, says_cost, says_bound, says_hubs, says_route, says_cuts, says_nodes, says_tree, says_end}
+use Rattle.cert_spec.specs.Text.{route_items, cuts_items, certificate_items}
 use Rattle.cert_spec.specs.Theorems.{EachLeadIsText}
 use Rattle.hub_spec.specs.Ranges.{IsShort, IsInRange}
-use Rattle.cert_spec.specs.Grammar.{Stage, want_version, want_size, want_end, want_nothing, want_cost, want_bound, want_hubs, want_cuts, want_nodes, want_route, want_cut, want_dual, want_tree, Shape, shape, places_after, IsOpen, Wants, after_route, after_cut, after_dual, after_tree, kept_dual, IsPart, IsRun, IsVersion, after, Leads}
-use Rattle.cert_spec.specs.Runs.{spread, before_at, AreRuns}
-use Rattle.cert_spec.proofs.RunLaws.{runs_spread}
-use Rattle.cert_spec.proofs.SamePrices.{prices_told}
-use Rattle.cert_spec.proofs.Stages.{run_within}
-use Rattle.std.proofs.lemmas.Bool.{cases_eq}
+use Rattle.cert_spec.specs.Grammar.{want_version, want_size, want_cost, want_bound, want_hubs, want_cuts, want_nodes, want_route, Shape, shape, after_route, IsVersion, after}
 use Rattle.hub_spec.proofs.CommodityIndex.{commodities_from, commodities_by_number}
-use Rattle.cert_spec.proofs.Leads.{after_route-all, after_route-more, after_cut-all, after_cut-more, after_dual-all, after_dual-more, after_tree-all, after_tree-more, IsDualOf, AreSaid, IsCutOf, IsLineOf, length-spread}
-
--- lines that lead on from a stage to the last
-abbrev Ends : Stage → List Item → Type 0
-Ends stage items = Leads stage items want_nothing
-
--- the first of them
-record First (stage : Stage) (items : List Item) : Type 0 where
-  item : Item
-  rest : List Item
-  are : items ≡ item ∷ rest
-  wanted : Wants stage item
-  ends : Ends (after stage item) rest
-
-first_line : (stage : Stage) (items : List Item) → (stage ≡ want_nothing → ⊥) → Ends stage items → First stage items
-first_line stage [] more h = absurd (more h)
-first_line stage (item ∷ rest) more h = record { item = item; rest = rest; are = refl; wanted = h.0; ends = h.1 }
-
--- what each stage wants
-version_wanted : (item : Item) → Wants want_version item → (v : ℕ) × (item ≡ says_version v) × IsVersion v
-version_wanted (says_version v) h = (v, refl, h)
-version_wanted item h = absurd h
-
-size_wanted : (v : ℕ) (item : Item) → Wants (want_size v) item → (n q : ℕ) × (item ≡ says_size n q) × (1 ≤ n) × (n ≤ most_nodes) × (1 ≤ q) × (q ≤ n)
-size_wanted v (says_size n q) h = (n, q, refl, h.0, h.1, h.2, h.3)
-size_wanted v item h = absurd h
-
-cost_wanted : (s : Shape) (item : Item) → Wants (want_cost s) item → (c : ℕ) × (item ≡ says_cost c) × IsShort c
-cost_wanted s (says_cost c) h = (c, refl, h)
-cost_wanted s item h = absurd h
-
-bound_wanted : (s : Shape) (item : Item) → Wants (want_bound s) item → (b : ℕ) × (item ≡ says_bound b) × IsShort b
-bound_wanted s (says_bound b) h = (b, refl, h)
-bound_wanted s item h = absurd h
-
-hubs_wanted : (s : Shape) (item : Item) → Wants (want_hubs s) item
-    → (hubs : List ℕ) × (item ≡ says_hubs hubs) × (1 ≤ length hubs) × IsStrictlyIncreasing hubs × All (λ k. k < s.size) hubs
-hubs_wanted s (says_hubs hubs) h = (hubs, refl, h.0, h.1, h.2)
-hubs_wanted s item h = absurd h
-
-route_wanted : (s : Shape) (t : ℕ) (item : Item) → Wants (want_route s t) item
-    → (r : ℕ × ℕ) × (item ≡ says_route (commodity_at s.size t) r) × ((r.0 < s.size) × (r.1 < s.size))
-route_wanted s t (says_route commodity route) h = (route, ap (λ c. says_route c route) h.0, (h.1, h.2))
-route_wanted s t item h = absurd h
-
-count_wanted : (s : Shape) (item : Item) → Wants (want_cuts s) item → (all : ℕ) × (item ≡ says_cuts all) × (all ≤ most_cuts)
-count_wanted s (says_cuts all) h = (all, refl, h)
-count_wanted s item h = absurd h
-
-cut_wanted : (s : Shape) (all x : ℕ) (item : Item) → Wants (want_cut s all x) item → (part : Option ℕ) × (item ≡ says_cut (x + 1) part) × IsPart s.version part
-cut_wanted s all x (says_cut number part) h = (part, ap (λ m. says_cut m part) h.0, h.1)
-cut_wanted s all x item h = absurd h
-
--- the run that a line of duals says
-record IsRunLine (s : Shape) (t : ℕ) (before : Option Prices) (item : Item) : Type 0 where
-  run : ℕ
-  dual : Prices
-  is : item ≡ says_dual (commodity_at s.size t) run dual
-  is_run : IsRun s t run
-  of : IsDualOf s dual
-  other : before ≢ Some dual
-
-dual_wanted : (s : Shape) (all x t : ℕ) (before : Option Prices) (item : Item) → Wants (want_dual s all x t before) item → IsRunLine s t before item
-dual_wanted s all x t before (says_dual commodity run dual) h = record {
-  run = run;
-  dual = dual;
-  is = ap (λ c. says_dual c run dual) h.0;
-  is_run = h.1;
-  of = record { in_range = h.2; first = h.3 };
-  other = h.4;
-}
-dual_wanted s all x t before item h = absurd h
-
-nodes_wanted : (s : Shape) (item : Item) → Wants (want_nodes s) item → (all : ℕ) × (item ≡ says_nodes all) × (1 ≤ all) × (all ≤ most_tree_lines)
-nodes_wanted s (says_nodes all) h = (all, refl, h.0, h.1)
-nodes_wanted s item h = absurd h
-
-tree_wanted : (s : Shape) (places left : ℕ) (item : Item) → Wants (want_tree s places left) item
-    → (line : TreeLine) × (item ≡ says_tree line) × IsLineOf s line × IsOpen (places_after places line) (left - 1)
-tree_wanted s places left (says_tree line) h = (line, refl, record { in_range = h.0; first = h.1 }, h.2)
-tree_wanted s places left item h = absurd h
-
-end_wanted : (item : Item) → Wants want_end item → item ≡ says_end
-end_wanted says_end h = refl
-end_wanted item h = absurd h
+use Rattle.cert_spec.proofs.Leads.{after_route-all, after_route-more, IsCutOf, IsMarkOf, IsMarkedCutOf, IsLineOf}
+use Rattle.core_spec.specs.CoreCuts.{Mark}
+use Rattle.core_spec.specs.MarkRanges.{IsMarkInRange}
+use Rattle.cert_spec.specs.Stated.{Stated, in_second, IsThird, IsStatedInRange}
+use Rattle.cert_spec.proofs.Versions.{version_in_second}
+use Rattle.cert_spec.proofs.FirstLines.{Ends, First, first_line, version_wanted, size_wanted, cost_wanted, bound_wanted, hubs_wanted, route_wanted, count_wanted}
+use Rattle.cert_spec.proofs.CutsBack.{ReadCuts, read_cuts}
+use Rattle.cert_spec.proofs.TreesBack.{ReadEnd, read_end}
+use Rattle.std.proofs.lemmas.List.{length-map}
 
 -- the routes that are still to come, and the lines after them
 record ReadRoutes (s : Shape) (t m : ℕ) (items : List Item) : Type 0 where
@@ -140,347 +59,13 @@ read_routes s t (suc m) items whole h =
     let line = first_route s t items (λ e. omega arith) h in
     with_route s t m items line (read_routes s (t + 1) m line.rest (omega arith) line.ends)
 
--- the runs that are still to come, and the lines after them
-record ReadRuns (s : Shape) (all x t : ℕ) (before : Option Prices) (items : List Item) : Type 0 where
-  runs : List (ℕ × Prices)
-  rest : List Item
-  are : items ≡ run_items s.size t runs ++ rest
-  long : t + length (spread runs) ≡ s.size * s.size
-  said : AreSaid s t before runs
-  ends : Ends (after_cut s all (x + 1)) rest
-
-no_runs : (s : Shape) (all x t : ℕ) (before : Option Prices) (items : List Item) → t ≡ s.size * s.size → Ends (after_dual s all x t before) items
-    → ReadRuns s all x t before items
-no_runs s all x t before items whole h = record {
-  runs = [];
-  rest = items;
-  are = refl;
-  long = omega (arith, whole);
-  said = tt;
-  ends = subst (λ stage. Ends stage items) (after_dual-all s all x t before whole) h;
-}
-
-with_run : (s : Shape) (all x t : ℕ) (before : Option Prices) (items : List Item) (line : First (want_dual s all x t before) items)
-    (h : IsRunLine s t before line.item) → ReadRuns s all x (t + h.run) (kept_dual s (t + h.run) h.dual) line.rest → ReadRuns s all x t before items
-with_run s all x t before items line h more = record {
-  runs = (h.run, h.dual) ∷ more.runs;
-  rest = more.rest;
-  are = line.are ∙ ap (λ i. i ∷ line.rest) h.is ∙ ap (λ l. says_dual (commodity_at s.size t) h.run h.dual ∷ l) more.are;
-  long = omega (arith, more.long, length-spread h.run h.dual more.runs);
-  said = (h.is_run, h.of, h.other, more.said);
-  ends = more.ends;
-}
-
-read_runs : (s : Shape) (all x fuel t : ℕ) (before : Option Prices) (items : List Item) → t ≤ s.size * s.size → s.size * s.size ≤ t + fuel
-    → Ends (after_dual s all x t before) items → ReadRuns s all x t before items
-read_runs s all x zero t before items within left h = no_runs s all x t before items (omega (arith, within, left)) h
-read_runs s all x (suc fuel) t before items within left h = elim (cases_eq t (s.size * s.size)) [
-  | inl whole ↦ no_runs s all x t before items whole h
-  | inr more ↦
-      (let line = first_line (want_dual s all x t before) items (λ e. cc) (subst (λ stage. Ends stage items) (after_dual-more s all x t before more) h) in
-      let is = dual_wanted s all x t before line.item line.wanted in
-      let ends = subst (λ i. Ends (after (want_dual s all x t before) i) line.rest) is.is line.ends in
-      with_run s all x t before items line is
-      (read_runs s all x fuel (t + is.run) (kept_dual s (t + is.run) is.dual) line.rest
-      (run_within s.size t is.run (omega (arith, within, more)) is.is_run.1) (omega (arith, left, is.is_run.0)) ends))
-]
-
--- ---- the cut whose runs these are
-
-spread_of : (s : Shape) (t : ℕ) (before : Option Prices) (rs : List (ℕ × Prices)) → AreSaid s t before rs → AllByRecursion (IsDualOf s) (spread rs)
-spread_of s t before [] said = tt
-spread_of s t before (r ∷ rest) said = repeated r.0 (spread_of s (t + r.0) (kept_dual s (t + r.0) r.1) rest said.3)
-  where
-    repeated : (m : ℕ) → AllByRecursion (IsDualOf s) (spread rest) → AllByRecursion (IsDualOf s) (replicate m r.1 ++ spread rest)
-    repeated zero h = h
-    repeated (suc m) h = (said.1, repeated m h)
-
-singles_of : (s : Shape) (t : ℕ) (before : Option Prices) (rs : List (ℕ × Prices)) → s.version ≡ 1 → AreSaid s t before rs → singles (spread rs) ≡ rs
-singles_of s t before [] first said = refl
-singles_of s t before ((zero, d) ∷ rest) first said = absurd (omega (arith, said.0.0))
-singles_of s t before ((suc zero, d) ∷ rest) first said =
-    ap (λ rs. (1, d) ∷ rs) (singles_of s (t + 1) (kept_dual s (t + 1) d) rest first said.3)
-singles_of s t before ((suc (suc q), d) ∷ rest) first said = absurd (omega (arith, said.0.2 first))
-
-are_runs : (s : Shape) (t : ℕ) (before : Option Prices) (rs : List (ℕ × Prices)) → is_first s.version ≡ false → AreSaid s t before rs
-    → AreRuns s.size t before rs
-are_runs s t before [] second said = tt
-are_runs s t before (r ∷ rest) second said =
-    let kept : kept_dual s (t + r.0) r.1 ≡ before_at s.size (t + r.0) r.1 = rw second refl in (
-      said.0.0,
-      said.0.1,
-      said.2,
-      are_runs s (t + r.0) (before_at s.size (t + r.0) r.1) rest second (subst (λ (o : Option Prices). AreSaid s (t + r.0) o rest) kept said.3),
-    )
-
-runs_of : (s : Shape) (rs : List (ℕ × Prices)) → IsVersion s.version → 1 ≤ s.size → AreSaid s 0 None rs → dual_runs s.version s.size (spread rs) ≡ rs
-runs_of s rs (inl first) some said =
-    let test : is_first s.version ≡ true = eq-eqb s.version 1 first in rw test (singles_of s 0 None rs first said)
-runs_of s rs (inr two) some said =
-    let test : is_first s.version ≡ false = ne_eqb s.version 1 (λ e. absurd (omega (arith, e, two))) in
-    rw test (runs_spread same_prices s.size 0 None rs prices_told some (are_runs s 0 None rs test said))
-
--- the part that a line says
-part_of : Option ℕ → ℕ
-part_of None = 1
-part_of (Some e) = e
-
-record IsPartOf (s : Shape) (part : Option ℕ) : Type 0 where
-  least : 1 ≤ part_of part
-  most : part_of part ≤ most_part
-  said : part_said s.version (part_of part) ≡ part
-  whole : s.version ≡ 1 → part_of part ≡ 1
-
-is_part_of : (s : Shape) (part : Option ℕ) → IsPart s.version part → IsPartOf s part
-unfolding part_of
-is_part_of s None one = record {
-  least = omega arith;
-  most = omega arith;
-  said = (let test : is_first s.version ≡ true = eq-eqb s.version 1 one in rw test refl);
-  whole = λ e. refl;
-}
-is_part_of s (Some e) h = record {
-  least = h.1;
-  most = h.2;
-  said = (let test : is_first s.version ≡ false = ne_eqb s.version 1 (λ i. absurd (omega (arith, i, h.0))) in rw test refl);
-  whole = λ one. absurd (omega (arith, one, h.0));
-}
-
-cut_of : Option ℕ → List (ℕ × Prices) → Cut
-cut_of part rs = record { part = part_of part; duals = spread rs }
-
-of_cut : (s : Shape) (part : Option ℕ) (rs : List (ℕ × Prices)) → IsPart s.version part → length (spread rs) ≡ s.size * s.size → AreSaid s 0 None rs
-    → IsCutOf s (cut_of part rs)
-unfolding cut_of
-of_cut s part rs is_part long said =
-    let p = is_part_of s part is_part in
-    let duals = All-from_recursion (IsDualOf s) (spread rs) (spread_of s 0 None rs said) in
-    record {
-      in_range = record { part_least = p.least; part_most = p.most; one_for_each = long; each = λ i d l. (duals i d l).in_range };
-      first = λ e. record { whole = p.whole e; each = λ i d l. (duals i d l).first e };
-    }
-
-record ReadCuts (s : Shape) (x m : ℕ) (items : List Item) : Type 0 where
-  cuts : List Cut
-  rest : List Item
-  are : items ≡ cuts_items s.version s.size (x + 1) cuts ++ rest
-  long : length cuts ≡ m
-  each : AllByRecursion (IsCutOf s) cuts
-  ends : Ends (want_nodes s) rest
-
-no_cuts : (s : Shape) (x : ℕ) (items : List Item) → Ends (want_nodes s) items → ReadCuts s x 0 items
-no_cuts s x items h = record { cuts = []; rest = items; are = refl; long = refl; each = tt; ends = h }
-
-with_cut : (s : Shape) (all x m : ℕ) (items : List Item) (line : First (want_cut s all x) items) → IsVersion s.version → 1 ≤ s.size
-    → (duals : ReadRuns s all x 0 None line.rest) → ReadCuts s (x + 1) m duals.rest → ReadCuts s x (suc m) items
-unfolding cut_of
-with_cut s all x m items line version some duals more =
-    let said = cut_wanted s all x line.item line.wanted in
-    let part = is_part_of s said.0 said.2 in
-    let cut = cut_of said.0 duals.runs in
-    let head : items ≡ says_cut (x + 1) (part_said s.version cut.part) ∷ line.rest =
-    line.are ∙ ap (λ i. i ∷ line.rest) said.1 ∙ ap (λ o. says_cut (x + 1) o ∷ line.rest) (sym part.said) in
-    let runs = runs_of s duals.runs version some duals.said in
-    let here : line.rest ≡ dual_items s.version s.size cut.duals ++ duals.rest =
-    duals.are ∙ ap (λ rs. run_items s.size 0 rs ++ duals.rest) (sym runs) in
-    let later : List Item = cuts_items s.version s.size (x + 1 + 1) more.cuts in
-    let all_here : line.rest ≡ (dual_items s.version s.size cut.duals ++ later) ++ more.rest =
-    here ∙ ap (λ l. dual_items s.version s.size cut.duals ++ l) more.are
-    ∙ sym (append_assoc (dual_items s.version s.size cut.duals) later more.rest) in
-    record {
-      cuts = cut ∷ more.cuts;
-      rest = more.rest;
-      are = head ∙ ap (λ l. says_cut (x + 1) (part_said s.version cut.part) ∷ l) all_here;
-      long = ap suc more.long;
-      each = (of_cut s said.0 duals.runs said.2 (omega (arith, duals.long)) duals.said, more.each);
-      ends = more.ends;
-    }
-
-first_cut : (s : Shape) (all x : ℕ) (items : List Item) → (x ≡ all → ⊥) → Ends (after_cut s all x) items → First (want_cut s all x) items
-first_cut s all x items left h = first_line (want_cut s all x) items (λ e. cc) (subst (λ stage. Ends stage items) (after_cut-more s all x left) h)
-
-cut_duals : (s : Shape) (all x : ℕ) (items : List Item) → 1 ≤ s.size → Ends (want_dual s all x 0 None) items → ReadRuns s all x 0 None items
-cut_duals s all x items some h =
-    let some_commodity : 1 ≤ s.size * s.size = mul-pos some some in
-    read_runs s all x (s.size * s.size) 0 None items (omega arith) (omega arith)
-    (subst (λ stage. Ends stage items) (sym (after_dual-more s all x 0 None (λ e. omega (arith, e, some_commodity)))) h)
-
-read_cuts : (s : Shape) (all x m : ℕ) (items : List Item) → IsVersion s.version → 1 ≤ s.size → x + m ≡ all → Ends (after_cut s all x) items
-    → ReadCuts s x m items
-read_cuts s all x zero items version some whole h = no_cuts s x items (subst (λ stage. Ends stage items) (after_cut-all s all x (omega arith)) h)
-read_cuts s all x (suc m) items version some whole h =
-    let line = first_cut s all x items (λ e. omega arith) h in
-    let duals = cut_duals s all x line.rest some line.ends in
-    with_cut s all x m items line version some duals (read_cuts s all (x + 1) m duals.rest version some (omega arith) duals.ends)
-
--- the lines of several trees
-abbrev lines_of : List Tree → ℕ
-lines_of [] = 0
-lines_of (t ∷ ts) = line_count t + lines_of ts
-
--- as many trees as places, with the lines that are left
-record ReadTrees (s : Shape) (places left : ℕ) (items : List Item) : Type 0 where
-  trees : List Tree
-  rest : List Item
-  are : items ≡ map says_tree (flat_map preorder trees) ++ rest
-  many : length trees ≡ places
-  long : lines_of trees ≡ left
-  each : AllByRecursion (IsLineOf s) (flat_map preorder trees)
-  ends : Ends want_end rest
-
--- with one more line in front
-with_line : (s : Shape) (places left : ℕ) (line : TreeLine) (items rest : List Item) → 1 ≤ places → items ≡ says_tree line ∷ rest → IsLineOf s line
-    → ReadTrees s (places_after places line) left rest → ReadTrees s places (suc left) items
-with_line s places left (leaf_of denom weights) items rest some are text h = record {
-  trees = leaf denom weights ∷ h.trees;
-  rest = h.rest;
-  are = are ∙ ap (λ l. says_tree (leaf_of denom weights) ∷ l) h.are;
-  many = omega (arith, h.many);
-  long = omega (arith, h.long);
-  each = (text, h.each);
-  ends = h.ends;
-}
-with_line s places left no_hub items rest some are text h = record {
-  trees = empty ∷ h.trees;
-  rest = h.rest;
-  are = are ∙ ap (λ l. says_tree no_hub ∷ l) h.are;
-  many = omega (arith, h.many);
-  long = omega (arith, h.long);
-  each = (text, h.each);
-  ends = h.ends;
-}
-with_line s places left (no_route commodity) items rest some are text h = record {
-  trees = block commodity ∷ h.trees;
-  rest = h.rest;
-  are = are ∙ ap (λ l. says_tree (no_route commodity) ∷ l) h.are;
-  many = omega (arith, h.many);
-  long = omega (arith, h.long);
-  each = (text, h.each);
-  ends = h.ends;
-}
-with_line s places left no_count items rest some are text h = record {
-  trees = count ∷ h.trees;
-  rest = h.rest;
-  are = are ∙ ap (λ l. says_tree no_count ∷ l) h.are;
-  many = omega (arith, h.many);
-  long = omega (arith, h.long);
-  each = (text, h.each);
-  ends = h.ends;
-}
-with_line s places left (branch_on k) items rest some are text h =
-    with_branch h.trees h.rest h.are h.many h.long h.each h.ends
-  where
-    with_branch : (trees : List Tree) (after : List Item) → rest ≡ map says_tree (flat_map preorder trees) ++ after → length trees ≡ places + 1 → lines_of trees ≡ left
-        → AllByRecursion (IsLineOf s) (flat_map preorder trees) → Ends want_end after → ReadTrees s places (suc left) items
-    with_branch [] after is many long each ends = absurd (omega arith)
-    with_branch (a ∷ []) after is many long each ends = absurd (omega arith)
-    with_branch (a ∷ b ∷ trees) after is many long each ends = record {
-      trees = branch k a b ∷ trees;
-      rest = after;
-      are = are ∙ ap (λ l. says_tree (branch_on k) ∷ l) (is ∙ ap (λ l. map says_tree l ++ after) (sym (append_assoc (preorder a) (preorder b) (flat_map preorder trees))));
-      many = omega arith;
-      long = omega arith;
-      each = (text, subst (AllByRecursion (IsLineOf s)) (sym (append_assoc (preorder a) (preorder b) (flat_map preorder trees))) each);
-      ends = ends;
-    }
-
-no_trees : (s : Shape) (items : List Item) → Ends want_end items → ReadTrees s 0 0 items
-no_trees s items h = record { trees = []; rest = items; are = refl; many = refl; long = refl; each = tt; ends = h }
-
-some_place : (places left : ℕ) → IsOpen places (suc left) → 1 ≤ places
-some_place zero left room = absurd (omega (arith, room.1 refl))
-some_place (suc places) left room = omega arith
-
-first_tree_line : (s : Shape) (places left : ℕ) (items : List Item) → Ends (after_tree s places (suc left)) items → First (want_tree s places (suc left)) items
-first_tree_line s places left items h =
-    first_line (want_tree s places (suc left)) items (λ e. cc) (subst (λ stage. Ends stage items) (after_tree-more s places (suc left) (omega arith)) h)
-
--- what a tree line is, with what is after it
-record TreeStep (s : Shape) (places left : ℕ) (items : List Item) : Type 0 where
-  line : TreeLine
-  rest : List Item
-  are : items ≡ says_tree line ∷ rest
-  text : IsLineOf s line
-  room : IsOpen (places_after places line) left
-  ends : Ends (after_tree s (places_after places line) left) rest
-
-tree_step : (s : Shape) (places left : ℕ) (items : List Item) → First (want_tree s places (suc left)) items → TreeStep s places left items
-tree_step s places left items line =
-    let tree = tree_wanted s places (suc left) line.item line.wanted in
-    let next : suc left - 1 ≡ left = omega arith in
-    record {
-      line = tree.0;
-      rest = line.rest;
-      are = line.are ∙ ap (λ i. i ∷ line.rest) tree.1;
-      text = tree.2;
-      room = subst (IsOpen (places_after places tree.0)) next tree.3;
-      ends = subst (λ l. Ends (after_tree s (places_after places tree.0) l) line.rest) next
-          (subst (λ i. Ends (after (want_tree s places (suc left)) i) line.rest) tree.1 line.ends);
-    }
-
-read_trees : (s : Shape) (places left : ℕ) (items : List Item) → IsOpen places left → Ends (after_tree s places left) items → ReadTrees s places left items
-read_trees s places zero items room h =
-    let none : 0 ≡ places = omega (arith, room.0) in
-    subst (λ p. ReadTrees s p 0 items) none (no_trees s items (subst (λ stage. Ends stage items) (after_tree-all s places 0 refl) h))
-read_trees s places (suc left) items room h =
-    let step = tree_step s places left items (first_tree_line s places left items h) in
-    with_line s places left step.line items step.rest (some_place places left room) step.are step.text
-    (read_trees s (places_after places step.line) left step.rest step.room step.ends)
-
--- the tree and the end
-record ReadEnd (s : Shape) (items : List Item) : Type 0 where
-  tree : Tree
-  are : items ≡ says_nodes (line_count tree) ∷ (map says_tree (preorder tree) ++ says_end ∷ [])
-  few : line_count tree ≤ most_tree_lines
-  each : AllByRecursion (IsLineOf s) (preorder tree)
-
-nothing_left : (items : List Item) → Ends want_nothing items → items ≡ []
-nothing_left [] h = refl
-nothing_left (item ∷ items) h = absurd h.0
-
-one_end : (items : List Item) → First want_end items → items ≡ says_end ∷ []
-one_end items line =
-    let is = end_wanted line.item line.wanted in
-    let none = nothing_left line.rest (subst (λ i. Ends (after want_end i) line.rest) is line.ends) in
-    line.are ∙ ap (λ i. i ∷ line.rest) is ∙ ap (λ l. says_end ∷ l) none
-
-just_end : (items : List Item) → Ends want_end items → items ≡ says_end ∷ []
-just_end items h = one_end items (first_line want_end items (λ e. cc) h)
-
-one_tree : (s : Shape) (all : ℕ) (items rest : List Item) → items ≡ says_nodes all ∷ rest → all ≤ most_tree_lines → ReadTrees s 1 all rest → ReadEnd s items
-one_tree s all items rest are few h = from_trees h.trees h.are h.many h.long h.each
-  where
-    from_trees : (trees : List Tree) → rest ≡ map says_tree (flat_map preorder trees) ++ h.rest → length trees ≡ 1 → lines_of trees ≡ all
-        → AllByRecursion (IsLineOf s) (flat_map preorder trees) → ReadEnd s items
-    from_trees [] is many long each = absurd (omega arith)
-    from_trees (t ∷ []) is many long each =
-        let same : all ≡ line_count t = omega arith in
-        record {
-          tree = t;
-          are = are ∙ ap (λ a. says_nodes a ∷ rest) same
-              ∙ ap (λ l. says_nodes (line_count t) ∷ l) (is ∙ ap (λ l. map says_tree l ++ h.rest) (append-nil (preorder t)) ∙ ap (λ l. map says_tree (preorder t) ++ l) (just_end h.rest h.ends));
-          few = omega arith;
-          each = subst (AllByRecursion (IsLineOf s)) (append-nil (preorder t)) each;
-        }
-    from_trees (t ∷ u ∷ trees) is many long each = absurd (omega arith)
-
-end_from : (s : Shape) (items : List Item) → First (want_nodes s) items → ReadEnd s items
-end_from s items line =
-    let all = nodes_wanted s line.item line.wanted in
-    let ends : Ends (want_tree s 1 all.0) line.rest = subst (λ i. Ends (after (want_nodes s) i) line.rest) all.1 line.ends in
-    one_tree s all.0 items line.rest (line.are ∙ ap (λ i. i ∷ line.rest) all.1) all.3
-    (read_trees s 1 all.0 line.rest (all.2, λ e. omega arith) (subst (λ stage. Ends stage line.rest) (sym (after_tree-more s 1 all.0 all.2)) ends))
-
-read_end : (s : Shape) (items : List Item) → Ends (want_nodes s) items → ReadEnd s items
-read_end s items h = end_from s items (first_line (want_nodes s) items (λ e. cc) h)
-
 -- the cuts, with what is after them
 record ReadAllCuts (s : Shape) (items : List Item) : Type 0 where
-  cuts : List Cut
+  cuts : List (Cut × Option Mark)
   rest : List Item
   are : items ≡ says_cuts (length cuts) ∷ (cuts_items s.version s.size 1 cuts ++ rest)
   few : length cuts ≤ most_cuts
-  each : AllByRecursion (IsCutOf s) cuts
+  each : AllByRecursion (IsMarkedCutOf s) cuts
   ends : Ends (want_nodes s) rest
 
 all_cuts : (s : Shape) (all : ℕ) (items rest : List Item) → items ≡ says_cuts all ∷ rest → all ≤ most_cuts → ReadCuts s 0 all rest → ReadAllCuts s items
@@ -528,12 +113,12 @@ read_all_routes s items some h =
 
 -- all from the cuts on
 record FromCuts (s : Shape) (items : List Item) : Type 0 where
-  cuts : List Cut
+  cuts : List (Cut × Option Mark)
   tree : Tree
   are : items ≡ says_cuts (length cuts) ∷ (cuts_items s.version s.size 1 cuts
       ++ says_nodes (line_count tree) ∷ (map says_tree (preorder tree) ++ says_end ∷ []))
   few_cuts : length cuts ≤ most_cuts
-  each_cut : AllByRecursion (IsCutOf s) cuts
+  each_cut : AllByRecursion (IsMarkedCutOf s) cuts
   few_lines : line_count tree ≤ most_tree_lines
   each_line : AllByRecursion (IsLineOf s) (preorder tree)
 
@@ -587,43 +172,127 @@ read_after_routes s items line version some r =
 read_from_hubs : (s : Shape) (items : List Item) → IsVersion s.version → 1 ≤ s.size → First (want_hubs s) items → FromHubs s items
 read_from_hubs s items version some line = read_after_routes s items line version some (read_all_routes s line.rest some line.ends)
 
--- the certificate of the lines
+-- what the lines state
 IsRead : List Item → Type 0
-IsRead items = (k : Proof) × IsInRange k × (items ≡ certificate_items k)
+IsRead items = (k : Stated) × IsStatedInRange k × (items ≡ certificate_items k)
+
+-- the cuts and the marks of cuts with marks
+abbrev cuts_alone : List (Cut × Option Mark) → List Cut
+cuts_alone cuts = map (λ (c : Cut × Option Mark). c.0) cuts
+
+abbrev marks_alone : List (Cut × Option Mark) → List (Option Mark)
+marks_alone cuts = map (λ (c : Cut × Option Mark). c.1) cuts
+
+zip_alone : (cuts : List (Cut × Option Mark)) → zip (cuts_alone cuts) (marks_alone cuts) ≡ cuts
+zip_alone [] = refl
+zip_alone (c ∷ cuts) = ap (λ cs. c ∷ cs) (zip_alone cuts)
+
+said_cuts : (s : Shape) (cuts : List (Cut × Option Mark)) → AllByRecursion (IsMarkedCutOf s) cuts → AllByRecursion (IsCutOf s) (cuts_alone cuts)
+said_cuts s [] h = tt
+said_cuts s (c ∷ cuts) h = (h.0.cut, said_cuts s cuts h.1)
+
+said_marks : (s : Shape) (cuts : List (Cut × Option Mark)) → AllByRecursion (IsMarkedCutOf s) cuts → AllByRecursion (IsMarkOf s) (marks_alone cuts)
+said_marks s [] h = tt
+said_marks s (c ∷ cuts) h = (h.0.mark, said_marks s cuts h.1)
+
+mark_in_range : (s : Shape) (mark : Option Mark) → IsMarkOf s mark → IfSome mark (IsMarkInRange s.size)
+mark_in_range s None h = tt
+mark_in_range s (Some mark) h = h.1
+
+mark_version : (s : Shape) (mark : Option Mark) → IsMarkOf s mark → IsThird s.version ⊎ (mark ≡ None)
+mark_version s None h = inr refl
+mark_version s (Some mark) h = inl h.0
+
+-- the version is the third, or there is no mark
+version_or_none : (s : Shape) (marks : List (Option Mark)) → AllByRecursion (IsMarkOf s) marks
+    → IsThird s.version ⊎ AllByRecursion (λ (mark : Option Mark). mark ≡ None) marks
+version_or_none s [] h = inr tt
+version_or_none s (mark ∷ marks) h = elim (mark_version s mark h.0) [
+  | inl third ↦ inl third
+  | inr none ↦ elim (version_or_none s marks h.1) [ inl third ↦ inl third | inr more ↦ inr (none, more) ]
+]
+
+-- the proof, by its parts
+proof_of : (v n q c b : ℕ) (items : List Item) → FromHubs (shape v n) items → Proof
+proof_of v n q c b items h = record {
+  version = v;
+  size = n;
+  candidates = q;
+  cost = c;
+  bound = b;
+  plan = record { hubs = h.hubs; routes = h.routes };
+  cuts = cuts_alone h.later.cuts;
+  tree = h.later.tree;
+}
+
+stated_of : (v n q c b : ℕ) (items : List Item) → FromHubs (shape v n) items → Stated
+stated_of v n q c b items h = record { proof = proof_of v n q c b items h; marks = marks_alone h.later.cuts }
+
+proof_in_range : (v n q c b : ℕ) (items : List Item) → IsVersion v → (1 ≤ n) × (n ≤ most_nodes) × (1 ≤ q) × (q ≤ n) → IsShort c → IsShort b
+    → (h : FromHubs (shape v n) items) → IsInRange (in_second (proof_of v n q c b items h))
+unfolding proof_of
+proof_in_range v n q c b items version sizes cost bound h =
+    let s : Shape = shape v n in
+    let cuts = All-from_recursion (IsCutOf s) (cuts_alone h.later.cuts) (said_cuts s h.later.cuts h.later.each_cut) in
+    let lines = All-from_recursion (IsLineOf s) (preorder h.later.tree) h.later.each_line in
+    record {
+      version = version_in_second (proof_of v n q c b items h) (elim version [
+        | inl one ↦
+            inl (one, record { cuts = λ i d l. (cuts i d l).first one; tree = λ i d l. (lines i d l).first one })
+        | inr later ↦ inr later
+      ]);
+      some_node = sizes.0;
+      size = sizes.1;
+      some_candidate = sizes.2;
+      candidates = sizes.3;
+      cost = cost;
+      bound = bound;
+      some_hub = h.some;
+      hubs_ascend = h.ascend;
+      hubs = h.within;
+      one_route_each = h.long;
+      routes = All-from_recursion (λ (r : ℕ × ℕ). (r.0 < n) × (r.1 < n)) h.routes h.nodes;
+      cut_count = omega (arith, h.later.few_cuts, length-map h.later.cuts (λ (c : Cut × Option Mark). c.0));
+      cuts = λ i d l. (cuts i d l).in_range;
+      line_count = h.later.few_lines;
+      tree = λ i d l. (lines i d l).in_range;
+    }
+
+stated_in_range : (v n q c b : ℕ) (items : List Item) → IsVersion v → (1 ≤ n) × (n ≤ most_nodes) × (1 ≤ q) × (q ≤ n) → IsShort c → IsShort b
+    → (h : FromHubs (shape v n) items) → IsStatedInRange (stated_of v n q c b items h)
+unfolding stated_of proof_of
+stated_in_range v n q c b items version sizes cost bound h =
+    let s : Shape = shape v n in
+    let each = said_marks s h.later.cuts h.later.each_cut in
+    let marks = All-from_recursion (IsMarkOf s) (marks_alone h.later.cuts) each in
+    record {
+      proof = proof_in_range v n q c b items version sizes cost bound h;
+      one_for_each = length-map h.later.cuts (λ (c : Cut × Option Mark). c.1) ∙ sym (length-map h.later.cuts (λ (c : Cut × Option Mark). c.0));
+      marks = λ i d l. mark_in_range s (get_or (marks_alone h.later.cuts) i d) (marks i d l);
+      version = elim (version_or_none s (marks_alone h.later.cuts) each) [
+        | inl third ↦ inl third
+        | inr none ↦ inr (All-from_recursion (λ (mark : Option Mark). mark ≡ None) (marks_alone h.later.cuts) none)
+      ];
+    }
+
+-- the lines are its lines
+items_are : (v n q c b : ℕ) (items : List Item) (h : FromHubs (shape v n) items)
+    → says_version v ∷ says_size n q ∷ says_cost c ∷ says_bound b ∷ items ≡ certificate_items (stated_of v n q c b items h)
+unfolding stated_of proof_of
+items_are v n q c b items h =
+    let cuts : List (Cut × Option Mark) = h.later.cuts in
+    let front : List Item → List Item = λ l. says_version v ∷ says_size n q ∷ says_cost c ∷ says_bound b ∷ l in
+    let tree : List Item = says_nodes (line_count h.later.tree) ∷ (map says_tree (preorder h.later.tree) ++ says_end ∷ []) in
+    let routes : List Item → List Item = λ l. says_hubs h.hubs ∷ (route_items (zip (commodities n) h.routes) ++ l) in
+    ap front (h.are ∙ ap routes h.later.are
+    ∙ ap₂ (λ (m : ℕ) (cs : List (Cut × Option Mark)). routes (says_cuts m ∷ (cuts_items v n 1 cs ++ tree)))
+    (sym (length-map cuts (λ (c : Cut × Option Mark). c.0))) (sym (zip_alone cuts)))
 
 certificate : (v n q c b : ℕ) (items : List Item) → IsVersion v → (1 ≤ n) × (n ≤ most_nodes) × (1 ≤ q) × (q ≤ n) → IsShort c → IsShort b
     → FromHubs (shape v n) items → IsRead (says_version v ∷ says_size n q ∷ says_cost c ∷ says_bound b ∷ items)
 unfolding IsRead
 certificate v n q c b items version sizes cost bound h =
-    let s : Shape = shape v n in
-    let cuts = All-from_recursion (IsCutOf s) h.later.cuts h.later.each_cut in
-    let lines = All-from_recursion (IsLineOf s) (preorder h.later.tree) h.later.each_line in (
-      record { version = v; size = n; candidates = q; cost = c; bound = b; plan = record { hubs = h.hubs; routes = h.routes }; cuts = h.later.cuts; tree = h.later.tree },
-      record {
-        version = elim version [
-          | inl one ↦
-              inl (one, record { cuts = λ i d l. (cuts i d l).first one; tree = λ i d l. (lines i d l).first one })
-          | inr two ↦ inr two
-        ];
-        some_node = sizes.0;
-        size = sizes.1;
-        some_candidate = sizes.2;
-        candidates = sizes.3;
-        cost = cost;
-        bound = bound;
-        some_hub = h.some;
-        hubs_ascend = h.ascend;
-        hubs = h.within;
-        one_route_each = h.long;
-        routes = All-from_recursion (λ (r : ℕ × ℕ). (r.0 < n) × (r.1 < n)) h.routes h.nodes;
-        cut_count = h.later.few_cuts;
-        cuts = λ i d l. (cuts i d l).in_range;
-        line_count = h.later.few_lines;
-        tree = λ i d l. (lines i d l).in_range;
-      },
-      ap (λ l. says_version v ∷ says_size n q ∷ says_cost c ∷ says_bound b ∷ l)
-          (h.are ∙ ap (λ l. says_hubs h.hubs ∷ (route_items (zip (commodities n) h.routes) ++ l)) h.later.are),
-    )
+    (stated_of v n q c b items h, stated_in_range v n q c b items version sizes cost bound h, items_are v n q c b items h)
 
 -- the lines in front, from the last of them back
 read_bound : (v n q c : ℕ) (items : List Item) → IsVersion v → (1 ≤ n) × (n ≤ most_nodes) × (1 ≤ q) × (q ≤ n) → IsShort c

@@ -2,9 +2,9 @@
 use Rattle.std.proofs.Common.{sym, ◌∙◌, ◌≡◌, ℕ, List, length, inl, inr, refl, subst, ap, arith}
 use Rattle.std.proofs.lemmas.Bool.{cases_lt}
 use Rattle.hub_spec.specs.Problem.{Problem, IsProblem, IsSameNetwork}
-use Rattle.hub_spec.specs.Certificates.{Proof, HasCutsOf}
-use Rattle.hub_spec.specs.Ranges.{IsInRange}
+use Rattle.hub_spec.specs.Certificates.{HasCutsOf}
 use Rattle.hub_spec.proofs.SameNetworks.{cuts_stay, one_closed_cost}
+use Rattle.cert_spec.specs.Stated.{Stated, IsStatedInRange}
 use Rattle.cert_spec.specs.Text.{Spells}
 use Rattle.cert_spec.specs.Conditions.{Kind, FailsFirst}
 use Rattle.cert_spec.specs.PartConditions.{older_claims}
@@ -13,13 +13,13 @@ use Rattle.cert_spec.specs.Theorems.{OneCertificate, EachIsTextOrFault}
 use Rattle.cert_spec.proofs.Claims.{has_cuts_by_claims}
 use Rattle.cert_spec.proofs.Decided.{older_decided, first_failure, failure_or_all, one_failure}
 
-not_failing : (p : Problem) (k : Proof) (kind : Kind) (line : ℕ) → IsInRange k → HasCutsOf p k → FailsFirst (older_claims p k) kind line → ⊥
+not_failing : (p : Problem) (k : Stated) (kind : Kind) (line : ℕ) → IsStatedInRange k → HasCutsOf p k.proof → FailsFirst (older_claims p k) kind line → ⊥
 not_failing p k kind line r has f = failure_or_all (older_claims p k) kind line ((has_cuts_by_claims p k r).1 has) f
 
-has_or_fails : OneCertificate → (p : Problem) (bytes : List ℕ) (k m : Proof) (kind : Kind) (line : ℕ) → Spells bytes k → Spells bytes m
-    → HasCutsOf p k → FailsFirst (older_claims p m) kind line → ⊥
+has_or_fails : OneCertificate → (p : Problem) (bytes : List ℕ) (k m : Stated) (kind : Kind) (line : ℕ) → Spells bytes k → Spells bytes m
+    → HasCutsOf p k.proof → FailsFirst (older_claims p m) kind line → ⊥
 has_or_fails one p bytes k m kind line spells other has f =
-    not_failing p m kind line other.in_range (subst (λ (x : Proof). HasCutsOf p x) (one bytes k m spells other) has) f
+    not_failing p m kind line other.in_range (subst (λ (x : Stated). HasCutsOf p x.proof) (one bytes k m spells other) has) f
 
 same_older : OneCertificate → EachIsTextOrFault → (p : Problem) (bytes : List ℕ) (v w : Older) → IsOlder p bytes v → IsOlder p bytes w → v ≡ w
 same_older one text p bytes (serves k) (serves m) h g = ap serves (one bytes k m h.1 g.1)
@@ -28,7 +28,7 @@ same_older one text p bytes (serves k) (unread fault) h g = absurd ((text bytes)
 same_older one text p bytes (serves k) over_limit h g = (let short = h.0 in absurd (omega arith))
 same_older one text p bytes (serves_not kind line) (serves k) h g = absurd (has_or_fails one p bytes k h.1.0 kind line g.1 h.1.1 g.2 h.1.2)
 same_older one text p bytes (serves_not kind line) (serves_not other place) h g =
-    let moved = subst (λ (x : Proof). FailsFirst (older_claims p x) kind line) (one bytes h.1.0 g.1.0 h.1.1 g.1.1) h.1.2 in
+    let moved = subst (λ (x : Stated). FailsFirst (older_claims p x) kind line) (one bytes h.1.0 g.1.0 h.1.1 g.1.1) h.1.2 in
     let same = one_failure (older_claims p g.1.0) kind other line place moved g.1.2 in
     let e : kind ≡ other = same.0 in
     let f : line ≡ place = same.1 in
@@ -62,14 +62,14 @@ one_older_from one text p bytes =
     let some = some_older text p bytes in (some.0, some.1, λ other is. same_older one text p bytes other some.0 is some.1)
 
 pub certified_serves_lem : (p q : Problem) (bytes : List ℕ) (bound cost : ℕ) → IsSameNetwork p q → Certifies p bytes bound cost
-    → (k : Proof) × IsOlder q bytes (serves k)
+    → (k : Stated) × IsOlder q bytes (serves k)
 certified_serves_lem p q bytes bound cost same is =
     let k = is.certificate.0 in
-    (k, (is.not_too_long, is.certificate.1, cuts_stay p q k same is.certificate.2))
+    (k, (is.not_too_long, is.certificate.1, cuts_stay p q k.proof same is.certificate.2.holds))
 
 pub one_optimal_cost : (p : Problem) (bytes other : List ℕ) (cost too : ℕ) → IsProblem p → Why p bytes (optimal cost) → Why p other (optimal too)
     → cost ≡ too
 one_optimal_cost p bytes other cost too ok why why_too =
     let k = why.certificate in
     let m = why_too.certificate in
-    sym k.4 ∙ one_closed_cost p k.0 m.0 ok k.2 m.2 (k.3 ∙ sym k.4) (m.3 ∙ sym m.4) ∙ m.4
+    sym k.4 ∙ one_closed_cost p k.0.proof m.0.proof ok k.2.holds m.2.holds (k.3 ∙ sym k.4) (m.3 ∙ sym m.4) ∙ m.4

@@ -1,17 +1,18 @@
 -- The conditions of the check, line by line, in the order in which they are tried, each with its kind and line.
-use Rattle.std.specs.Prelude.{◌≡◌, ℕ, ◌+◌, ◌*◌, ◌<◌, ◌≤◌, List, [], ◌∷◌, ◌++◌, length, replicate, Bool, true, false, nat_eq, All, Contains, ◌⊎◌, ◌↔◌}
+use Rattle.std.specs.Prelude.{◌≡◌, ℕ, ◌+◌, ◌-◌, ◌*◌, ◌<◌, ◌≤◌, List, [], ◌∷◌, ◌++◌, length, replicate, slice_index_or, Option, Some, None, Bool, true, false, nat_eq, All, Contains, ◌⊎◌, ◌↔◌}
 use Rattle.hub_spec.specs.Problem.{Problem, is_allowed, commodity_at}
 use Rattle.hub_spec.specs.Plans.{HasWanted, plan_cost}
 use Rattle.hub_spec.specs.Cuts.{Prices, IsDual, IsWithinSums}
 use Rattle.hub_spec.specs.Trees.{Branching, weight_sum, IsMultiple, HasRoom, LacksRoom, leaf_bound, Closes, IsBlocked, TreeLine, branch_on, leaf_of, no_hub, no_route, no_count, IsClosed}
-use Rattle.hub_spec.specs.Certificates.{Proof}
-use Rattle.cert_spec.specs.Lines.{Item, says_version, says_size, says_cost, says_bound, says_hubs, says_route, says_cuts, says_cut, says_dual, says_nodes, says_tree, says_end}
+use Rattle.core_spec.specs.CoreCuts.{CoreProof, MayBeMarked, IsCoreDual}
+use Rattle.cert_spec.specs.Lines.{Item, says_version, says_size, says_cost, says_bound, says_hubs, says_route, says_cuts, says_cut, says_marked, says_dual, says_proof, says_nodes, says_tree, says_end}
+use Rattle.cert_spec.specs.Stated.{Stated}
 use Rattle.cert_spec.specs.Text.{certificate_items}
-use Rattle.cert_spec.specs.Progress.{Progress, at_start, after_line}
+use Rattle.cert_spec.specs.Progress.{Progress, is_whole, at_start, after_line}
 
--- what a condition is about; BoundOverCost fails where the bound is above the cost
+-- what a condition is about; BoundOverCost fails where the bound is above the cost, Core where a marked cut is no core cut
 pub data Kind : Type 0 where
-  Size BoundOverCost Hubs Number Route Length Cost Dual Sum Branch Empty Block Count CutNumber Multiple Weight Leaf : Kind
+  Size BoundOverCost Hubs Number Route Length Cost Dual Sum Core Branch Empty Block Count CutNumber Multiple Weight Leaf : Kind
 
 -- a condition on a certificate, with the line at which it is tried
 pub record Claim : Type 1 where
@@ -51,7 +52,22 @@ cost_conditions p s routes =
 -- the sums of a cut, once each commodity has a dual
 abbrev pub sum_conditions : Problem → Progress → List Prices → List Claim
 sum_conditions p s duals =
-    if_time (nat_eq (length duals) (s.size * s.size)) (claim Sum s.line (IsWithinSums p (record { part = s.part; duals = duals })))
+    if_time (is_whole s duals) (claim Sum s.line (IsWithinSums p (record { part = s.part; duals = duals })))
+
+-- what a cut's line says of its mark: cuts of the problem may be marked, and these hubs are candidates
+abbrev pub MayMark : Problem → List ℕ → Type 0
+MayMark p hubs = MayBeMarked p × All (Contains p.candidates) hubs
+
+-- the hubs of the mark, if there is one
+abbrev pub marked_hubs : Option (List ℕ) → List ℕ
+marked_hubs None = []
+marked_hubs (Some hubs) = hubs
+
+-- the last of the duals is a core dual of its commodity, by this proof
+abbrev pub LastIsCore : Problem → Progress → CoreProof → Type 0
+LastIsCore p s proof =
+    let t = length s.duals - 1 in
+    IsCoreDual p (marked_hubs s.mark) s.part (commodity_at p.size t) (slice_index_or s.duals t (record { a = 0; u = [] })) proof
 
 -- those of a line of the tree, at the next branch that is to be filled
 abbrev pub tree_conditions : Problem → Progress → List Branching → TreeLine → List Claim
@@ -82,8 +98,10 @@ line_conditions p s (says_route commodity route) =
     ∷ cost_conditions p s (s.routes ++ route ∷ [])
 line_conditions p s (says_cuts all) = []
 line_conditions p s (says_cut number part) = []
+line_conditions p s (says_marked number part hubs) = claim Core s.line (MayMark p hubs) ∷ []
 line_conditions p s (says_dual commodity run dual) =
     claim Dual s.line (IsDualOfRun p s.part (length s.duals) (run, dual)) ∷ sum_conditions p s (s.duals ++ replicate run dual)
+line_conditions p s (says_proof proof) = claim Core s.line (LastIsCore p s proof) ∷ []
 line_conditions p s (says_nodes all) = []
 line_conditions p s (says_tree l) = tree_conditions p s s.pending l
 line_conditions p s says_end = []
@@ -94,7 +112,7 @@ conditions_from p s [] = []
 conditions_from p s (item ∷ items) = line_conditions p s item ++ conditions_from p (after_line p s item) items
 
 -- the conditions of the check of a certificate: those of its lines
-abbrev pub conditions : Problem → Proof → List Claim
+abbrev pub conditions : Problem → Stated → List Claim
 conditions p k = conditions_from p at_start (certificate_items k)
 
 -- two lists of conditions come to the same: both hold, or the same condition is the first of them to fail

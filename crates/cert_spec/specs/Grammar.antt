@@ -2,14 +2,16 @@
 use Rattle.std.specs.Prelude.{◌≡◌, ◌≢◌, ℕ, ◌+◌, ◌-◌, ◌*◌, ◌%◌, ◌<◌, ◌≤◌, List, [], ◌∷◌, length, All, Option, Some, None, ◌⊎◌, nat_eq, if◌then◌else◌}
 use Rattle.std.specs.List.{slice_split}
 use Rattle.std.specs.List.Sorted.{IsStrictlyIncreasing}
+use Rattle.core_spec.specs.MarkRanges.{IsProofInRange, AreMarkHubs}
 use Rattle.hub_spec.specs.Limits.{most_nodes, most_part, most_cuts, most_tree_lines}
 use Rattle.hub_spec.specs.Problem.{commodity_at}
 use Rattle.hub_spec.specs.Trees.{TreeLine, branch_on, leaf_of, no_hub, no_route, no_count}
-use Rattle.hub_spec.specs.Ranges.{IsShort, IsDualInRange, IsLineInRange, IsFirstDual, IsFirstLine, IsSecond}
+use Rattle.hub_spec.specs.Ranges.{IsShort, IsDualInRange, IsLineInRange, IsFirstDual, IsFirstLine}
 use Rattle.hub_spec.specs.Cuts.{Prices}
 use Rattle.cert_spec.specs.Runs.{before_at}
+use Rattle.cert_spec.specs.Stated.{IsLater, IsThird}
 use Rattle.cert_spec.specs.Text.{is_first}
-use Rattle.cert_spec.specs.Lines.{Item, says_version, says_size, says_cost, says_bound, says_hubs, says_route, says_cuts, says_cut, says_dual, says_nodes, says_tree, says_end, line_text}
+use Rattle.cert_spec.specs.Lines.{Item, says_version, says_size, says_cost, says_bound, says_hubs, says_route, says_cuts, says_cut, says_marked, says_dual, says_proof, says_nodes, says_tree, says_end, line_text}
 
 -- what the first lines say of the others: the version, and the number of nodes
 pub record Shape : Type 0 where
@@ -33,6 +35,10 @@ pub data Stage : Type 0 where
   want_cut : Shape → (all x : ℕ) → Stage
   -- and how many duals of the next cut stand already, and the last of them that another line of its origin must not repeat
   want_dual : Shape → (all x t : ℕ) (before : Option Prices) → Stage
+  -- and how many duals of the next cut, which is marked, stand already, each with its proof
+  want_proved : Shape → (all x t : ℕ) → Stage
+  -- and a dual more, whose proof is next
+  want_proof : Shape → (all x t : ℕ) → Stage
   -- and how many places are still to be filled, and tree lines still to come
   want_tree : Shape → (places left : ℕ) → Stage
 
@@ -51,15 +57,19 @@ IsOpen places left = (places ≤ left) × (places ≡ 0 → left ≡ 0)
 -- a part as the version says it: none in the first
 abbrev pub IsPart : ℕ → Option ℕ → Type 0
 IsPart v None = v ≡ 1
-IsPart v (Some e) = IsSecond v × (1 ≤ e) × (e ≤ most_part)
+IsPart v (Some e) = IsLater v × (1 ≤ e) × (e ≤ most_part)
 
--- a run as the version says it: of one commodity in the first, of commodities of one origin in the second
+-- the part and the hubs of a marked cut, between n nodes, in the third version
+abbrev pub IsMarking : Shape → ℕ → List ℕ → Type 0
+IsMarking s part hubs = IsThird s.version × (1 ≤ part) × (part ≤ most_part) × AreMarkHubs s.size hubs
+
+-- a run as the version says it: of one commodity in the first, of commodities of one origin in a later one
 abbrev pub IsRun : Shape → ℕ → ℕ → Type 0
 IsRun s t run = (1 ≤ run) × (t % s.size + run ≤ s.size) × (s.version ≡ 1 → run ≡ 1)
 
 -- a version that there is
 abbrev pub IsVersion : ℕ → Type 0
-IsVersion v = (v ≡ 1) ⊎ IsSecond v
+IsVersion v = (v ≡ 1) ⊎ IsLater v
 
 -- the line may stand at this stage
 abbrev pub Wants : Stage → Item → Type 0
@@ -72,6 +82,10 @@ Wants (want_route s t) (says_route commodity route) =
     (commodity ≡ commodity_at s.size t) × (route.0 < s.size) × (route.1 < s.size)
 Wants (want_cuts s) (says_cuts all) = all ≤ most_cuts
 Wants (want_cut s all x) (says_cut number part) = (number ≡ x + 1) × IsPart s.version part
+Wants (want_cut s all x) (says_marked number part hubs) = (number ≡ x + 1) × IsMarking s part hubs
+Wants (want_proved s all x t) (says_dual commodity run dual) =
+    (commodity ≡ commodity_at s.size t) × (run ≡ 1) × IsDualInRange s.size dual
+Wants (want_proof s all x t) (says_proof proof) = IsProofInRange s.size proof
 Wants (want_dual s all x t before) (says_dual commodity run dual) =
     (commodity ≡ commodity_at s.size t) × IsRun s t run × IsDualInRange s.size dual × (s.version ≡ 1 → IsFirstDual dual)
     × (before ≢ Some dual)
@@ -97,6 +111,10 @@ kept_dual s t dual = if is_first s.version then None else before_at s.size t dua
 abbrev pub after_dual : Shape → ℕ → ℕ → ℕ → Option Prices → Stage
 after_dual s all x t before = if nat_eq t (s.size * s.size) then after_cut s all (x + 1) else want_dual s all x t before
 
+-- after t duals of a marked cut, each with its proof
+abbrev pub after_proof : Shape → ℕ → ℕ → ℕ → Stage
+after_proof s all x t = if nat_eq t (s.size * s.size) then after_cut s all (x + 1) else want_proved s all x t
+
 -- after a tree line, with these places and lines left
 abbrev pub after_tree : Shape → ℕ → ℕ → Stage
 after_tree s places left = if nat_eq left 0 then want_end else want_tree s places left
@@ -110,7 +128,10 @@ after (want_bound s) item = want_hubs s
 after (want_hubs s) item = want_route s 0
 after (want_route s t) item = after_route s (t + 1)
 after (want_cuts s) (says_cuts all) = after_cut s all 0
-after (want_cut s all x) item = want_dual s all x 0 None
+after (want_cut s all x) (says_cut number part) = want_dual s all x 0 None
+after (want_cut s all x) (says_marked number part hubs) = want_proved s all x 0
+after (want_proved s all x t) item = want_proof s all x t
+after (want_proof s all x t) item = after_proof s all x (t + 1)
 after (want_dual s all x t before) (says_dual commodity run dual) = after_dual s all x (t + run) (kept_dual s (t + run) dual)
 after (want_nodes s) (says_nodes all) = want_tree s 1 all
 after (want_tree s places left) (says_tree line) = after_tree s (places_after places line) (left - 1)

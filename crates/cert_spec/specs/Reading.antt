@@ -7,10 +7,13 @@ use Rattle.std.specs.Str.Parse.{digits_value}
 use Rattle.hub_spec.specs.Limits.{most_nodes, most_part, most_denominator, most_cuts, most_tree_lines}
 use Rattle.hub_spec.specs.Problem.{commodity_at}
 use Rattle.hub_spec.specs.Cuts.{Prices}
+use Rattle.core_spec.specs.CoreCuts.{Way, CoreProof}
+use Rattle.core_spec.specs.MarkRanges.{most_turns, most_scale, most_taken}
 use Rattle.hub_spec.specs.Trees.{TreeLine, branch_on, leaf_of, no_hub, no_route, no_count}
+use Rattle.cert_spec.specs.Stated.{IsThird}
 use Rattle.cert_spec.specs.Text.{same_prices}
-use Rattle.cert_spec.specs.Lines.{Item, says_version, says_size, says_cost, says_bound, says_hubs, says_route, says_cuts, says_cut, says_dual, says_nodes, says_tree, says_end}
-use Rattle.cert_spec.specs.Grammar.{Stage, want_version, want_size, want_end, want_nothing, want_cost, want_bound, want_hubs, want_cuts, want_nodes, want_route, want_cut, want_dual, want_tree, Shape, places_after, IsVersion, IsLine}
+use Rattle.cert_spec.specs.Lines.{Item, says_version, says_size, says_cost, says_bound, says_hubs, says_route, says_cuts, says_cut, says_marked, says_dual, says_proof, says_nodes, says_tree, says_end}
+use Rattle.cert_spec.specs.Grammar.{Stage, want_version, want_size, want_end, want_nothing, want_cost, want_bound, want_hubs, want_cuts, want_nodes, want_route, want_cut, want_dual, want_proved, want_proof, want_tree, Shape, places_after, IsVersion, IsLine}
 
 -- decimal digits, at least one and at most 33, and no zero in front of another digit
 abbrev pub is_number : List ℕ → Bool
@@ -99,6 +102,24 @@ abbrev pub duals_item : List ℕ → Option Item
 duals_item (i ∷ j ∷ run ∷ rest) = if nat_eq run 1 then None else run_item run (i ∷ j ∷ rest)
 duals_item other = None
 
+-- the numbers three by three
+abbrev pub triples_of : List ℕ → Option (List (ℕ × ℕ × ℕ))
+triples_of [] = Some []
+triples_of (a ∷ []) = None
+triples_of (a ∷ b ∷ []) = None
+triples_of (a ∷ b ∷ c ∷ rest) = option_map (λ triples. (a, b, c) ∷ triples) (triples_of rest)
+
+-- the nodes of a way, and how often it is taken
+abbrev pub way_of : ℕ × ℕ × ℕ → Option Way
+way_of t = option_map (λ (nodes : ℕ × ℕ). (nodes.0, nodes.1, t.2)) (option_zip (node_of t.0) (node_of t.1))
+
+-- the turns, the scale and the ways of a proof
+abbrev pub proof_item : List ℕ → Option Item
+proof_item (turns ∷ scale ∷ rest) =
+    option_map (λ (ways : List Way). says_proof (record { turns = turns; scale = scale; ways = ways }))
+    (option_and_then (each_of way_of) (triples_of rest))
+proof_item other = None
+
 -- the node of a branch
 abbrev pub branch_item : List ℕ → Option Item
 branch_item (k ∷ []) = option_map (λ m. says_tree (branch_on m)) (node_of k)
@@ -127,6 +148,7 @@ readers =
     ∷ (codes "cut", cut_item)
     ∷ (codes "dual", dual_item)
     ∷ (codes "duals", duals_item)
+    ∷ (codes "proof", proof_item)
     ∷ (codes "nodes", number_item says_nodes)
     ∷ (codes "branch", branch_item)
     ∷ (codes "leaf", leaf_item)
@@ -145,10 +167,30 @@ read_by (r ∷ rest) keyword numbers = if bytes_eq r.0 keyword then r.1 numbers 
 unfoldable pub item_of : List ℕ → List ℕ → Option Item
 item_of keyword numbers = read_by readers keyword numbers
 
+-- a marked cut, by its number and its part, and the numbers of its hubs
+abbrev pub marked_item : List ℕ → List ℕ → Option Item
+marked_item (number ∷ part ∷ []) hubs = option_map (λ nodes. says_marked number part nodes) (each_of node_of hubs)
+marked_item other hubs = None
+
+-- the words of a line begin a marked cut: its fourth word is the one before the hubs
+abbrev pub is_marked : List (List ℕ) → Bool
+is_marked (keyword ∷ number ∷ part ∷ word ∷ hubs) = bytes_eq (codes "cut") keyword && bytes_eq (codes "core") word
+is_marked words = false
+
+-- what the words of a marked cut say
+abbrev pub marked_of_words : List (List ℕ) → Option Item
+marked_of_words (keyword ∷ number ∷ part ∷ word ∷ hubs) =
+    option_and_then (λ numbers. option_and_then (marked_item numbers) (numbers_of hubs)) (numbers_of (number ∷ part ∷ []))
+marked_of_words words = None
+
+-- what the words of any other line say
+abbrev pub plain_of_words : List (List ℕ) → Option Item
+plain_of_words [] = None
+plain_of_words (keyword ∷ words) = option_and_then (item_of keyword) (numbers_of words)
+
 -- what the words of a line say
 abbrev pub item_of_words : List (List ℕ) → Option Item
-item_of_words [] = None
-item_of_words (keyword ∷ words) = option_and_then (item_of keyword) (numbers_of words)
+item_of_words words = if is_marked words then marked_of_words words else plain_of_words words
 
 -- a number of at most 30 digits
 abbrev pub is_short : ℕ → Bool
@@ -189,17 +231,48 @@ is_tree_line_text n no_hub = true
 is_tree_line_text n (no_route commodity) = nat_lt commodity.0 n && nat_lt commodity.1 n
 is_tree_line_text n no_count = true
 
--- the second version
-abbrev pub is_second : ℕ → Bool
-is_second v = nat_eq v 2
+-- a version after the first; the third
+abbrev pub is_later : ℕ → Bool
+is_later v = nat_eq v 2 || nat_eq v 3
+
+abbrev pub is_third : ℕ → Bool
+is_third v = nat_eq v 3
 
 -- a version that there is, and a part, a dual and a tree line that the version can say
 abbrev pub is_version : ℕ → Bool
-is_version v = nat_eq v 1 || is_second v
+is_version v = nat_eq v 1 || is_later v
 
 abbrev pub is_part : ℕ → Option ℕ → Bool
 is_part v None = nat_eq v 1
-is_part v (Some e) = is_second v && (nat_le 1 e && nat_le e most_part)
+is_part v (Some e) = is_later v && (nat_le 1 e && nat_le e most_part)
+
+-- the hubs of a mark
+abbrev pub are_mark_hubs : ℕ → List ℕ → Bool
+are_mark_hubs n hubs = nat_le 1 (length hubs) && (ascends hubs && list_all (λ k. nat_lt k n) hubs)
+
+-- the part and the hubs of a marked cut
+abbrev pub is_marking : Shape → ℕ → List ℕ → Bool
+is_marking s part hubs = is_third s.version && (nat_le 1 part && (nat_le part most_part && are_mark_hubs s.size hubs))
+
+-- the first way's nodes come before the second's
+abbrev pub way_before : Way → Way → Bool
+way_before v w = nat_lt v.0 w.0 || (nat_eq v.0 w.0 && nat_lt v.1 w.1)
+
+-- each way comes before the one after it
+abbrev pub ways_ascend : List Way → Bool
+ways_ascend [] = true
+ways_ascend (v ∷ []) = true
+ways_ascend (v ∷ w ∷ rest) = way_before v w && ways_ascend (w ∷ rest)
+
+-- a way that a line can list
+abbrev pub is_way_text : ℕ → Way → Bool
+is_way_text n w = nat_le w.0 w.1 && (nat_lt w.1 n && (nat_le 1 w.2 && nat_le w.2 most_taken))
+
+-- a proof that a line can say
+abbrev pub is_proof_text : ℕ → CoreProof → Bool
+is_proof_text n proof =
+    nat_le proof.turns most_turns
+    && (nat_le 1 proof.scale && (nat_le proof.scale most_scale && (ways_ascend proof.ways && list_all (is_way_text n) proof.ways)))
 
 abbrev pub is_first_dual : Prices → Bool
 is_first_dual dual = is_short dual.a && list_all (λ (e : ℕ × ℕ). is_short e.1) dual.u
@@ -240,6 +313,10 @@ wants (want_dual s all x t before) (says_dual commodity run dual) =
     same_pair commodity (commodity_at s.size t)
     && (is_run s t run
     && (is_dual_text s.size dual && ((not (nat_eq s.version 1) || is_first_dual dual) && is_other before dual)))
+wants (want_cut s all x) (says_marked number part hubs) = nat_eq number (x + 1) && is_marking s part hubs
+wants (want_proved s all x t) (says_dual commodity run dual) =
+    same_pair commodity (commodity_at s.size t) && (nat_eq run 1 && is_dual_text s.size dual)
+wants (want_proof s all x t) (says_proof proof) = is_proof_text s.size proof
 wants (want_nodes s) (says_nodes all) = nat_le 1 all && nat_le all most_tree_lines
 wants (want_tree s places left) (says_tree line) =
     is_tree_line_text s.size line
@@ -281,6 +358,8 @@ IsStage (want_nodes s) = IsShape s
 IsStage (want_route s t) = IsShape s × (t < s.size * s.size)
 IsStage (want_cut s all x) = IsShape s × IsCutPlace all x
 IsStage (want_dual s all x t before) = IsShape s × IsCutPlace all x × (t < s.size * s.size)
+IsStage (want_proved s all x t) = IsShape s × IsThird s.version × IsCutPlace all x × (t < s.size * s.size)
+IsStage (want_proof s all x t) = IsShape s × IsThird s.version × IsCutPlace all x × (t < s.size * s.size)
 IsStage (want_tree s places left) = IsShape s
 
 -- at a stage a line is read as an item exactly where it is a line that may stand there and says this
