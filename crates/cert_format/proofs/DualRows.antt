@@ -17,7 +17,7 @@ use Rattle.cert_spec.proofs.RunLaws.{runs_are, spread_runs, runs_spread}
 use Rattle.cert_spec.proofs.SamePrices.{prices_told}
 use Rattle.cert_spec.proofs.Leads.{length-spread, spread_singles}
 use Rattle.cert_format.proofs.Joined.{texts_joined}
-use Rattle.cert_format.proofs.SameDuals.{values_back}
+use Rattle.plan_model.proofs.ListedValues.{listed_again}
 use Rattle.cert_format.specs.DualItems.{runs_from, row_items_from, row_items, dual_row, no_dual, BeginsOther, IsRunAt, row_of, all_dual_items}
 
 -- ---- runs of a list that begins with equal ones
@@ -93,7 +93,7 @@ pub next_text : (v n i j run : ℕ) (row : List Prices) (dual : Prices) {price :
     → line_bytes (says_dual (i, j) run (record { a = price; u = natural_values values })) ++ flat_map line_bytes (row_items_from v n i (j + run) (drop (j + run) row))
     ≡ flat_map line_bytes (row_items_from v n i j (drop j row))
 next_text v n i j run row dual values whole is read same listed =
-    let u : natural_values values ≡ dual.u = ap natural_values listed ∙ values_back dual.u in
+    let u : natural_values values ≡ dual.u = ap natural_values listed ∙ listed_again dual.u in
     let at = get_or_read row j dual (omega (arith, is.equal.some, is.equal.within)) read no_dual in
     let later = flat_map line_bytes (row_items_from v n i (j + run) (drop (j + run) row)) in
     (λ t. line_bytes (says_dual (i, j) run (record { a = same t; u = u t })) ++ later)

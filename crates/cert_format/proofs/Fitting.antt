@@ -3,18 +3,19 @@ use Rattle.std.proofs.Common.{◌≡◌, ℕ, ◌+◌, ◌-◌, ◌*◌, ◌<◌
 use Rattle.std.specs.List.{AllByRecursion}
 use Rattle.std.proofs.lemmas.List.Elements.{All-weaker, recursion_from_All}
 use Rattle.hub_spec.specs.Limits.{most_nodes}
+use Rattle.core_spec.specs.CoreCuts.{Way}
 use Rattle.hub_spec.specs.Cuts.{Prices}
 use Rattle.hub_spec.proofs.SumLemmas.{by_test}
 use Rattle.hub_spec.specs.Trees.{branch_on, leaf_of, no_hub, no_route, no_count}
 use Rattle.hub_spec.specs.Ranges.{IsShort, IsAmount, IsDualInRange}
-use Rattle.cert_spec.specs.Lines.{Item as Line, says_version, says_size, says_cost, says_bound, says_hubs, says_route, says_cuts, says_cut, says_dual, says_nodes, says_tree, says_end}
-use Rattle.cert_spec.specs.Grammar.{Shape, Stage, want_version, want_size, want_end, want_cost, want_bound, want_hubs, want_cuts, want_nodes, want_route, want_cut, want_dual, want_tree, Wants, kept_dual, after_cut, after_dual, after, Leads}
-use Rattle.cert_scan.specs.Parts.{none_left, hub_parts, value_parts, weight_parts, parts_of, open_hubs, open_values, open_weights}
+use Rattle.cert_spec.specs.Lines.{Item as Line, says_version, says_size, says_cost, says_bound, says_hubs, says_route, says_cuts, says_cut, says_marked, says_dual, says_proof, says_nodes, says_tree, says_end}
+use Rattle.cert_spec.specs.Grammar.{Shape, Stage, want_version, want_size, want_end, want_cost, want_bound, want_hubs, want_cuts, want_nodes, want_route, want_cut, want_dual, want_proved, want_proof, want_tree, Wants, kept_dual, after_cut, after_dual, after_proof, after, Leads}
+use Rattle.cert_scan.specs.Parts.{none_left, hub_parts, mark_parts, value_parts, way_parts, weight_parts, parts_of, open_hubs, open_mark, open_values, open_ways, open_weights}
 use Rattle.cert_scan.specs.Given.{IsBegun, IsGiven}
 use Rattle.cert_scan.specs.declared.items.Item.{Item}
-use Rattle.cert_scan.specs.declared.items.Item.TheVariants.{Hub}
+use Rattle.cert_scan.specs.declared.items.Item.TheVariants.{Hub, Cut, CoreHub}
 use Rattle.cert_format.specs.Gathered.{Gathered, Standing, at_start, settled, taken, taken_all, IsFit, IsShortItem, MayTake}
-use Rattle.cert_format.proofs.Collecting.{taken_all-append, dual_at, leaf_at, values_taken, weights_taken}
+use Rattle.cert_format.proofs.Collecting.{taken_all-append, dual_at, proof_at, leaf_at, values_taken, ways_taken, weights_taken}
 
 -- what was begun behind these parts is in range
 abbrev Fits : Standing → Type 0
@@ -30,6 +31,8 @@ IsSmall (want_nodes sh) = sh.size ≤ most_nodes
 IsSmall (want_route sh t) = sh.size ≤ most_nodes
 IsSmall (want_cut sh all x) = sh.size ≤ most_nodes
 IsSmall (want_dual sh all x t before) = sh.size ≤ most_nodes
+IsSmall (want_proved sh all x t) = sh.size ≤ most_nodes
+IsSmall (want_proof sh all x t) = sh.size ≤ most_nodes
 IsSmall (want_tree sh places left) = sh.size ≤ most_nodes
 IsSmall stage = Unit {0}
 
@@ -39,6 +42,9 @@ small_cut sh all x few = by_test (nat_eq x all) (λ e. rw e few) (λ e. rw e few
 small_dual : (sh : Shape) (all x t : ℕ) (before : Option Prices) → sh.size ≤ most_nodes → IsSmall (after_dual sh all x t before)
 small_dual sh all x t before few = by_test (nat_eq t (sh.size * sh.size)) (λ e. rw e (small_cut sh all (x + 1) few)) (λ e. rw e few)
 
+small_proof : (sh : Shape) (all x t : ℕ) → sh.size ≤ most_nodes → IsSmall (after_proof sh all x t)
+small_proof sh all x t few = by_test (nat_eq t (sh.size * sh.size)) (λ e. rw e (small_cut sh all (x + 1) few)) (λ e. rw e few)
+
 small_after : (stage : Stage) (l : Line) → Wants stage l → IsSmall stage → IsSmall (after stage l)
 small_after want_version (says_version v) w few = tt
 small_after (want_size v) (says_size n q) w few = w.1
@@ -47,7 +53,10 @@ small_after (want_bound sh) l w few = few
 small_after (want_hubs sh) l w few = few
 small_after (want_route sh t) l w few = by_test (nat_eq (t + 1) (sh.size * sh.size)) (λ e. rw e few) (λ e. rw e few)
 small_after (want_cuts sh) (says_cuts all) w few = small_cut sh all 0 few
-small_after (want_cut sh all x) l w few = few
+small_after (want_cut sh all x) (says_cut number part) w few = few
+small_after (want_cut sh all x) (says_marked number part hubs) w few = few
+small_after (want_proved sh all x t) l w few = few
+small_after (want_proof sh all x t) l w few = small_proof sh all x (t + 1) few
 small_after (want_dual sh all x t before) (says_dual c run dual) w few = small_dual sh all x (t + run) (kept_dual sh (t + run) dual) few
 small_after (want_nodes sh) (says_nodes all) w few = few
 small_after (want_tree sh places left) (says_tree line) w few = by_test (nat_eq (left - 1) 0) (λ e. rw e tt) (λ e. rw e few)
@@ -69,6 +78,10 @@ fits_hubs : (s : Standing) (hubs : List ℕ) → Fits s → Fits (taken_all s (h
 fits_hubs s [] h = h
 fits_hubs s (k ∷ hubs) h = fits_hubs (taken s (Hub k (none_left hubs))) hubs tt
 
+fits_mark : (s : Standing) (hubs : List ℕ) → Fits s → Fits (taken_all s (mark_parts hubs))
+fits_mark s [] h = h
+fits_mark s (k ∷ hubs) h = fits_mark (taken s (CoreHub k (none_left hubs))) hubs tt
+
 fits_line : (stage : Stage) (l : Line) (s : Standing) → Wants stage l → IsSmall stage → Fits s → Fits (taken_all s (parts_of l))
 fits_line want_version (says_version v) s w few h = tt
 fits_line (want_size v) (says_size n q) s w few h = tt
@@ -80,6 +93,11 @@ fits_line (want_cuts sh) (says_cuts all) s w few h = tt
 fits_line (want_cut sh all x) (says_cut number part) s w few h = tt
 fits_line (want_dual sh all x t before) (says_dual c run dual) s w few h =
     subst Fits (sym (values_taken (settled s) run dual.a [] dual.u)) (w.1.0, wider sh dual few w.2)
+fits_line (want_cut sh all x) (says_marked number part hubs) s w few h = fits_mark (taken s (Cut number part false)) hubs tt
+fits_line (want_proved sh all x t) (says_dual c run dual) s w few h =
+    subst Fits (sym (values_taken (settled s) run dual.a [] dual.u)) (omega (arith, w.1), wider sh dual few w.2)
+fits_line (want_proof sh all x t) (says_proof proof) s w few h =
+    subst Fits (sym (ways_taken (settled s) proof.turns proof.scale [] proof.ways)) tt
 fits_line (want_nodes sh) (says_nodes all) s w few h = tt
 fits_line (want_tree sh places left) (says_tree (branch_on k)) s w few h = tt
 fits_line (want_tree sh places left) (says_tree (leaf_of denom weights)) s w few h = subst Fits (sym (weights_taken (settled s) denom [] weights)) w.0
@@ -105,6 +123,12 @@ open_values_taken : (g : Gathered) (run a : ℕ) (u more : List (ℕ × ℕ)) �
 open_values_taken g run a u [] = ap (dual_at g run a) (sym (append-nil u))
 open_values_taken g run a u (e ∷ more) = open_values_taken g run a (u ++ e ∷ []) more ∙ ap (dual_at g run a) (append_assoc u (e ∷ []) more)
 
+open_ways_taken : (g : Gathered) (turns scale : ℕ) (ws more : List Way)
+    → taken_all (proof_at g turns scale ws) (open_ways more) ≡ proof_at g turns scale (ws ++ more)
+open_ways_taken g turns scale ws [] = ap (proof_at g turns scale) (sym (append-nil ws))
+open_ways_taken g turns scale ws (w ∷ more) =
+    open_ways_taken g turns scale (ws ++ w ∷ []) more ∙ ap (proof_at g turns scale) (append_assoc ws (w ∷ []) more)
+
 open_weights_taken : (g : Gathered) (denom : ℕ) (w more : List (ℕ × ℕ)) → taken_all (leaf_at g denom w) (open_weights more) ≡ leaf_at g denom (w ++ more)
 open_weights_taken g denom w [] = ap (leaf_at g denom) (sym (append-nil w))
 open_weights_taken g denom w (e ∷ more) = open_weights_taken g denom (w ++ e ∷ []) more ∙ ap (leaf_at g denom) (append_assoc w (e ∷ []) more)
@@ -113,8 +137,22 @@ fits_open_hubs : (s : Standing) (hubs : List ℕ) → Fits s → Fits (taken_all
 fits_open_hubs s [] h = h
 fits_open_hubs s (k ∷ hubs) h = fits_open_hubs (taken s (Hub k false)) hubs tt
 
+fits_open_mark : (s : Standing) (hubs : List ℕ) → Fits s → Fits (taken_all s (open_mark hubs))
+fits_open_mark s [] h = h
+fits_open_mark s (k ∷ hubs) h = fits_open_mark (taken s (CoreHub k false)) hubs tt
+
 fits_begun : (stage : Stage) (more : List Item) (s : Standing) → IsBegun stage more → IsSmall stage → Fits s → Fits (taken_all s more)
 fits_begun (want_hubs sh) more s b few h = subst (λ l. Fits (taken_all s l)) (sym b.are) (fits_open_hubs s b.hubs h)
+fits_begun (want_cut sh all x) more s (inl none) few h = subst (λ l. Fits (taken_all s l)) (sym none) h
+fits_begun (want_cut sh all x) more s (inr b) few h =
+    subst (λ l. Fits (taken_all s l)) (sym b.are) (fits_open_mark (taken s (Cut (x + 1) b.part false)) b.hubs tt)
+fits_begun (want_proved sh all x t) more s (inl none) few h = subst (λ l. Fits (taken_all s l)) (sym none) h
+fits_begun (want_proved sh all x t) more s (inr b) few h =
+    subst (λ l. Fits (taken_all s l)) (sym b.are)
+    (subst Fits (sym (open_values_taken (settled s) 1 b.dual.a [] b.dual.u)) (omega arith, wider sh b.dual few b.in_range))
+fits_begun (want_proof sh all x t) more s (inl none) few h = subst (λ l. Fits (taken_all s l)) (sym none) h
+fits_begun (want_proof sh all x t) more s (inr b) few h =
+    subst (λ l. Fits (taken_all s l)) (sym b.are) (subst Fits (sym (open_ways_taken (settled s) b.proof.turns b.proof.scale [] b.proof.ways)) tt)
 fits_begun (want_dual sh all x t before) more s (inl none) few h = subst (λ l. Fits (taken_all s l)) (sym none) h
 fits_begun (want_dual sh all x t before) more s (inr b) few h =
     subst (λ l. Fits (taken_all s l)) (sym b.are) (subst Fits (sym (open_values_taken (settled s) b.run b.dual.a [] b.dual.u)) (b.is_run.0, wider sh b.dual few b.in_range))
@@ -148,6 +186,14 @@ short_hubs : (hubs : List ℕ) → AreShort (hub_parts hubs)
 short_hubs [] = tt
 short_hubs (k ∷ hubs) = (tt, short_hubs hubs)
 
+short_mark : (hubs : List ℕ) → AreShort (mark_parts hubs)
+short_mark [] = tt
+short_mark (k ∷ hubs) = (tt, short_mark hubs)
+
+short_ways : (ways : List Way) → AreShort (way_parts ways)
+short_ways [] = tt
+short_ways (w ∷ ways) = (tt, short_ways ways)
+
 -- a value of a dual, and a weight of a leaf
 abbrev IsValue : ℕ → ℕ × ℕ → Type 0
 IsValue n e = (e.0 < n) × (1 ≤ e.1) × IsAmount e.1
@@ -174,6 +220,10 @@ short_line (want_cuts sh) (says_cuts all) w = (tt, tt)
 short_line (want_cut sh all x) (says_cut number part) w = (tt, tt)
 short_line (want_dual sh all x t before) (says_dual c run dual) w =
     (tt, short_values sh.size dual.u (recursion_from_All (IsValue sh.size) dual.u w.2.each))
+short_line (want_cut sh all x) (says_marked number part hubs) w = (tt, short_mark hubs)
+short_line (want_proved sh all x t) (says_dual c run dual) w =
+    (tt, short_values sh.size dual.u (recursion_from_All (IsValue sh.size) dual.u w.2.each))
+short_line (want_proof sh all x t) (says_proof proof) w = (tt, short_ways proof.ways)
 short_line (want_nodes sh) (says_nodes all) w = (tt, tt)
 short_line (want_tree sh places left) (says_tree (branch_on k)) w = (tt, tt)
 short_line (want_tree sh places left) (says_tree (leaf_of denom weights)) w = (tt, short_weights weights (recursion_from_All IsWeight weights w.0.2.each))
@@ -200,8 +250,23 @@ short_open_weights : (w : List (ℕ × ℕ)) → AllByRecursion IsWeight w → A
 short_open_weights [] h = tt
 short_open_weights (e ∷ w) h = ((h.0.1, h.0.3), short_open_weights w h.1)
 
+short_open_mark : (hubs : List ℕ) → AreShort (open_mark hubs)
+short_open_mark [] = tt
+short_open_mark (k ∷ hubs) = (tt, short_open_mark hubs)
+
+short_open_ways : (ways : List Way) → AreShort (open_ways ways)
+short_open_ways [] = tt
+short_open_ways (w ∷ ways) = (tt, short_open_ways ways)
+
 short_begun : (stage : Stage) (more : List Item) → IsBegun stage more → AreShort more
 short_begun (want_hubs sh) more b = subst AreShort (sym b.are) (short_open_hubs b.hubs)
+short_begun (want_cut sh all x) more (inl none) = subst AreShort (sym none) tt
+short_begun (want_cut sh all x) more (inr b) = subst AreShort (sym b.are) (tt, short_open_mark b.hubs)
+short_begun (want_proved sh all x t) more (inl none) = subst AreShort (sym none) tt
+short_begun (want_proved sh all x t) more (inr b) =
+    subst AreShort (sym b.are) (tt, short_open_values sh.size b.dual.u (recursion_from_All (IsValue sh.size) b.dual.u b.in_range.each))
+short_begun (want_proof sh all x t) more (inl none) = subst AreShort (sym none) tt
+short_begun (want_proof sh all x t) more (inr b) = subst AreShort (sym b.are) (tt, short_open_ways b.proof.ways)
 short_begun (want_dual sh all x t before) more (inl none) = subst AreShort (sym none) tt
 short_begun (want_dual sh all x t before) more (inr b) =
     subst AreShort (sym b.are) (tt, short_open_values sh.size b.dual.u (recursion_from_All (IsValue sh.size) b.dual.u b.in_range.each))

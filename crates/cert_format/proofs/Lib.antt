@@ -6,9 +6,9 @@ pub mod Signed
 pub mod Finished
 pub mod Steps
 pub mod Written
+pub mod MarkedLines
 pub mod Following
 pub mod Joined
-pub mod SameDuals
 pub mod DualRows
 pub mod CutLines
 pub mod Putting

@@ -1,5 +1,5 @@
 -- The texts of the parts of a certificate, by what is put.
-use Rattle.std.proofs.Common.{◌≡◌, ℕ, ◌*◌, ◌<◌, List, [], ◌∷◌, ◌++◌, length, map, flat_map, zip, get_or, All, refl, sym, ap, ◌∙◌, subst, arith, append-nil}
+use Rattle.std.proofs.Common.{◌≡◌, ℕ, ◌*◌, ◌<◌, List, [], ◌∷◌, ◌++◌, length, map, flat_map, zip, get_or, All, Option, Some, None, IfSome, refl, sym, ap, ◌∙◌, subst, arith, append-nil}
 use Rattle.std.proofs.lemmas.List.{get_or-map, length-map}
 use Rattle.std.proofs.lemmas.List.Concat.{flat_map-append}
 use Rattle.std.proofs.lemmas.List.Elements.{All-weaker, All-get_or}
@@ -9,18 +9,20 @@ use Rattle.hub_spec.specs.Problem as problem
 use Rattle.hub_spec.specs.Plans.{Plan}
 use Rattle.hub_spec.specs.Cuts.{Prices, Cut}
 use Rattle.hub_spec.specs.Trees.{preorder}
-use Rattle.hub_spec.specs.Certificates.{Proof}
-use Rattle.hub_spec.specs.Ranges.{IsCutInRange, IsInRange}
+use Rattle.core_spec.specs.CoreCuts.{Mark}
+use Rattle.core_spec.specs.MarkRanges.{IsMarkInRange}
+use Rattle.hub_spec.specs.Ranges.{IsCutInRange}
 use Rattle.hub_spec.proofs.Commodities.{length_commodities, commodity_at}
 use Rattle.hub_model.specs.Amounts.{natural}
+use Rattle.cert_spec.specs.Stated.{Stated, cuts_of, IsStatedInRange}
 use Rattle.cert_spec.specs.Lines.{Item, says_version, says_size, says_cost, says_bound, says_hubs, says_route, says_cuts, says_cut, says_nodes, says_tree, says_end, keyword, numbers}
-use Rattle.cert_spec.specs.Text.{line_bytes, route_items, part_said, dual_items, cut_items, top_items, cuts_items, tree_items, certificate_items, certificate_text}
+use Rattle.cert_spec.specs.Text.{line_bytes, route_items, part_said, dual_items, cut_items_as, cut_items, top_items, cuts_items, tree_items, certificate_items, certificate_text}
 use Rattle.cert_spec.proofs.Items.{certificate_items-parts}
 use Rattle.cert_scan.specs.Versions.{version_number}
 use Rattle.plan_model.specs.Lines.{tree_line_of}
 use Rattle.plan_model.specs.declared.tree_lines.TreeLine.{TreeLine}
 use Rattle.cert_format.specs.Spaced.{words_line}
-use Rattle.cert_format.specs.Parts.{IsHeadingOf}
+use Rattle.cert_format.specs.Parts.{HasProofs, IsHeadingOf}
 use Rattle.cert_format.specs.declared.headings.Heading.{Heading}
 use Rattle.cert_format.proofs.Joined.{texts_joined, three_texts}
 use Rattle.cert_format.proofs.CutLines.{cut_text}
@@ -40,7 +42,8 @@ pub head_text : (n q : ℕ) {number v c b cost bound : ℕ} → number ≡ v →
     → put_of (says_version number) ++ (put_of (says_size n q) ++ (put_of (says_cost c) ++ put_of (says_bound b)))
     ≡ flat_map line_bytes (head_items v n q cost bound)
 head_text n q {v = v} {cost = cost} {bound = bound} same_version same_cost same_bound =
-    (λ i. line_of (says_version (same_version i)) i ++ (line_of (says_size n q) i ++ (line_of (says_cost (same_cost i)) i ++ line_of (says_bound (same_bound i)) i)))
+    (λ i. line_of (says_version (same_version i)) refl i
+    ++ (line_of (says_size n q) refl i ++ (line_of (says_cost (same_cost i)) refl i ++ line_of (says_bound (same_bound i)) refl i)))
     ∙ ap (λ bs. line_bytes (says_version v) ++ (line_bytes (says_size n q) ++ (line_bytes (says_cost cost) ++ bs))) (sym (append-nil (line_bytes (says_bound bound))))
 
 pub top_text : (v n q c b : ℕ) (plan : Plan) (cuts : ℕ) {hubs : List ℕ} {routes : List (ℕ × ℕ)} → hubs ≡ plan.hubs → routes ≡ plan.routes
@@ -50,7 +53,8 @@ pub top_text : (v n q c b : ℕ) (plan : Plan) (cuts : ℕ) {hubs : List ℕ} {r
 top_text v n q c b plan cuts h r =
     let head = head_items v n q c b in
     let middle = route_items (zip (commodities n) plan.routes) in
-    (λ i. flat_map line_bytes head ++ (line_bytes (says_hubs (h i)) ++ (flat_map line_bytes (route_items (zip (commodities n) (r i))) ++ line_of (says_cuts cuts) i)))
+    (λ i. flat_map line_bytes head
+    ++ (line_bytes (says_hubs (h i)) ++ (flat_map line_bytes (route_items (zip (commodities n) (r i))) ++ line_of (says_cuts cuts) refl i)))
     ∙ ap (λ bs. flat_map line_bytes head ++ (line_bytes (says_hubs plan.hubs) ++ bs))
     (ap (λ bs. flat_map line_bytes middle ++ bs) (sym (append-nil (line_bytes (says_cuts cuts)))) ∙ sym (flat_map-append line_bytes middle (says_cuts cuts ∷ [])))
     ∙ sym (flat_map-append line_bytes head (says_hubs plan.hubs ∷ (middle ++ says_cuts cuts ∷ [])))
@@ -68,24 +72,41 @@ route_at n routes t d l e =
 
 -- ---- the cuts
 
--- the line of a cut, and those of its duals
+-- the line of a cut without a mark, and those of its duals
 pub whole_cut_text : (v n x : ℕ) (cut : Cut) {part : ℕ} {duals : List Prices} → part ≡ cut.part → duals ≡ cut.duals
-    → line_bytes (says_cut x (part_said v part)) ++ flat_map line_bytes (dual_items v n duals) ≡ cut_text v n (x, cut)
+    → line_bytes (says_cut x (part_said v part)) ++ flat_map line_bytes (dual_items v n duals) ≡ flat_map line_bytes (cut_items_as v n x cut None)
 whole_cut_text v n x cut part duals = λ i. line_bytes (says_cut x (part_said v (part i))) ++ flat_map line_bytes (dual_items v n (duals i))
 
-pub cut_texts : (v n : ℕ) (cuts : List (ℕ × Cut)) → flat_map (cut_text v n) cuts ≡ flat_map line_bytes (flat_map (cut_items v n) cuts)
+pub cut_texts : (v n : ℕ) (cuts : List (ℕ × (Cut × Option Mark))) → flat_map (cut_text v n) cuts ≡ flat_map line_bytes (flat_map (cut_items v n) cuts)
 cut_texts v n cuts = texts_joined (cut_items v n) cuts
 
 -- each cut has a dual for each commodity
-pub whole_cuts : (n : ℕ) (k : Proof) (cuts : List Cut) → IsInRange k → cuts ≡ k.cuts → n ≡ k.size → All (λ c. length c.duals ≡ n * n) cuts
+pub whole_cuts : (n : ℕ) (k : Stated) (cuts : List Cut) → IsStatedInRange k → cuts ≡ k.proof.cuts → n ≡ k.proof.size → All (λ c. length c.duals ≡ n * n) cuts
 whole_cuts n k cuts h e s =
-    let each : All (λ (c : Cut). length c.duals ≡ k.size * k.size) k.cuts = All-weaker (IsCutInRange k.size) (λ (c : Cut). length c.duals ≡ k.size * k.size) (λ c t. t.one_for_each) k.cuts h.cuts in
-    subst (λ m. All (λ (c : Cut). length c.duals ≡ m * m) cuts) (sym s) (subst (All (λ (c : Cut). length c.duals ≡ k.size * k.size)) (sym e) each)
+    let m = k.proof.size in
+    let each : All (λ (c : Cut). length c.duals ≡ m * m) k.proof.cuts =
+    All-weaker (IsCutInRange m) (λ (c : Cut). length c.duals ≡ m * m) (λ c t. t.one_for_each) k.proof.cuts h.proof.cuts in
+    subst (λ m. All (λ (c : Cut). length c.duals ≡ m * m) cuts) (sym s) (subst (All (λ (c : Cut). length c.duals ≡ m * m)) (sym e) each)
 
 -- so it is with each of them
 pub whole_at : (n : ℕ) (cuts : List Cut) (x : ℕ) (cut : Cut) → x < length cuts → cut ≡ get_or cuts x cut
     → All (λ c. length c.duals ≡ n * n) cuts → length cut.duals ≡ n * n
 whole_at n cuts x cut l e h = ap (λ (c : Cut). length c.duals) e ∙ All-get_or (λ (c : Cut). length c.duals ≡ n * n) cuts x cut l h
+
+-- each mark has a proof for each commodity
+has_proofs : (n : ℕ) (mark : Option Mark) → IfSome mark (IsMarkInRange n) → HasProofs n mark
+has_proofs n None h = tt
+has_proofs n (Some mark) h = h.one_for_each
+
+pub proved_marks : (n : ℕ) (k : Stated) (marks : List (Option Mark)) → IsStatedInRange k → marks ≡ k.marks → n ≡ k.proof.size → All (HasProofs n) marks
+proved_marks n k marks h e s =
+    let m = k.proof.size in
+    let each = All-weaker (λ (mark : Option Mark). IfSome mark (IsMarkInRange m)) (HasProofs m) (has_proofs m) k.marks h.marks in
+    subst (λ x. All (HasProofs x) marks) (sym s) (subst (All (HasProofs m)) (sym e) each)
+
+pub proved_at : (n : ℕ) (marks : List (Option Mark)) (x : ℕ) (mark : Option Mark) → x < length marks → mark ≡ get_or marks x mark
+    → All (HasProofs n) marks → HasProofs n mark
+proved_at n marks x mark l e h = subst (HasProofs n) (sym e) (All-get_or (HasProofs n) marks x mark l h)
 
 -- ---- the tree
 
@@ -101,27 +122,29 @@ pub tree_text : (lines : List TreeLine)
     ≡ flat_map line_bytes (tree_items (map tree_line_of lines))
 tree_text lines =
     let middle = map says_tree (map tree_line_of lines) in
-    (λ i. line_of (says_nodes (length lines)) i ++ (flat_map line_bytes middle ++ line_of says_end i))
+    (λ i. line_of (says_nodes (length lines)) refl i ++ (flat_map line_bytes middle ++ line_of says_end refl i))
     ∙ ap (λ count. line_bytes (says_nodes count) ++ (flat_map line_bytes middle ++ line_bytes says_end)) (sym (length-map lines tree_line_of))
     ∙ ap (λ bs. line_bytes (says_nodes (length (map tree_line_of lines))) ++ bs)
     (ap (λ bs. flat_map line_bytes middle ++ bs) (sym (append-nil (line_bytes says_end))) ∙ sym (flat_map-append line_bytes middle (says_end ∷ [])))
 
 -- ---- all parts
 
-pub parts_text : (k : Proof) (heading : Heading) {v n : ℕ} {plan : Plan} (cuts : List Cut) (lines : List TreeLine)
-    → IsHeadingOf heading k → v ≡ k.version → n ≡ k.size → plan ≡ k.plan → cuts ≡ k.cuts → map tree_line_of lines ≡ preorder k.tree
+pub parts_text : (k : Stated) (heading : Heading) {v n : ℕ} {plan : Plan} (cuts : List Cut) (marks : List (Option Mark)) (lines : List TreeLine)
+    → IsHeadingOf heading k.proof → v ≡ k.proof.version → n ≡ k.proof.size → plan ≡ k.proof.plan → cuts ≡ k.proof.cuts → marks ≡ k.marks
+    → map tree_line_of lines ≡ preorder k.proof.tree
     → flat_map line_bytes (top_items (version_number heading.version) heading.size heading.candidates (natural heading.cost) (natural heading.bound) plan (length cuts))
-    ++ (flat_map line_bytes (cuts_items v n 1 cuts) ++ flat_map line_bytes (tree_items (map tree_line_of lines)))
+    ++ (flat_map line_bytes (cuts_items v n 1 (zip cuts marks)) ++ flat_map line_bytes (tree_items (map tree_line_of lines)))
     ≡ flat_map line_bytes (certificate_items k)
-parts_text k heading cuts lines h version size plans all tree =
-    let cost : natural heading.cost ≡ k.cost = ap natural h.cost in
-    let bound : natural heading.bound ≡ k.bound = ap natural h.bound in
-    let top = top_items k.version k.size k.candidates k.cost k.bound k.plan (length k.cuts) in
+parts_text k heading cuts marks lines h version size plans all of_all tree =
+    let p = k.proof in
+    let cost : natural heading.cost ≡ p.cost = ap natural h.cost in
+    let bound : natural heading.bound ≡ p.bound = ap natural h.bound in
+    let top = top_items p.version p.size p.candidates p.cost p.bound p.plan (length p.cuts) in
     (λ i. flat_map line_bytes (top_items (h.version i) (h.size i) (h.candidates i) (cost i) (bound i) (plans i) (length (all i)))
-    ++ (flat_map line_bytes (cuts_items (version i) (size i) 1 (all i)) ++ flat_map line_bytes (tree_items (tree i))))
-    ∙ three_texts top (cuts_items k.version k.size 1 k.cuts) (tree_items (preorder k.tree))
+    ++ (flat_map line_bytes (cuts_items (version i) (size i) 1 (zip (all i) (of_all i))) ++ flat_map line_bytes (tree_items (tree i))))
+    ∙ three_texts top (cuts_items p.version p.size 1 (cuts_of k)) (tree_items (preorder p.tree))
     ∙ ap (flat_map line_bytes) (sym (certificate_items-parts k))
 
-pub whole_text : (k : Proof) → flat_map line_bytes (certificate_items k) ≡ certificate_text k
+pub whole_text : (k : Stated) → flat_map line_bytes (certificate_items k) ≡ certificate_text k
 unfolding certificate_text
 whole_text k = refl

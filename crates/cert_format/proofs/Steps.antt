@@ -1,7 +1,6 @@
 -- How the reading of a text begins, and how it ends.
 use Rattle.std.proofs.Common.{◌≡◌, ℕ, List, [], Option, Some, None, IfSome, refl, ap, subst, ◌∙◌}
-use Rattle.hub_spec.specs.Certificates.{Proof}
-use Rattle.hub_spec.specs.Ranges.{IsInRange}
+use Rattle.cert_spec.specs.Stated.{Stated, IsStatedInRange}
 use Rattle.cert_spec.specs.Text.{Spells}
 use Rattle.cert_spec.specs.Grammar.{want_version, IsTextFault}
 use Rattle.cert_scan.specs.Parts.{items_of}
@@ -33,17 +32,17 @@ read_faulty bytes found f is t = told_fault bytes f (subst (λ o. IfSome o (λ f
 
 -- the certificate that was read
 pub record IsRead (bytes : List ℕ) (gathering : Gathering) : Type 0 where
-  pub proof : Proof
-  pub in_range : IsInRange proof
-  pub gathered : gathered_of gathering ≡ all_gathered proof
-  pub spells : Spells bytes proof
+  pub stated : Stated
+  pub in_range : IsStatedInRange stated
+  pub gathered : gathered_of gathering ≡ all_gathered stated
+  pub spells : Spells bytes stated
 
 pub read_whole : (bytes : List ℕ) (scan : Scan) (gathering : Gathering) (found : Option Fault) (h : HasRead bytes scan gathering) → found ≡ None → Tells bytes found
-    → ((k : Proof) → Spells bytes k → h.given ≡ items_of k) → IsRead bytes gathering
+    → ((k : Stated) → Spells bytes k → h.given ≡ items_of k) → IsRead bytes gathering
 read_whole bytes scan gathering found h none t items =
     let k = t.whole.0 none in
     record {
-      proof = k.0;
+      stated = k.0;
       in_range = k.1.in_range;
       gathered = ap (λ (s : Standing). s.parts) (h.gathered ∙ ap (taken_all at_start) (items k.0 k.1)) ∙ certificate_gathered k.0 k.1.in_range;
       spells = k.1;

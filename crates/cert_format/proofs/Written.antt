@@ -5,29 +5,31 @@ use Rattle.std.proofs.lemmas.List.Concat.{flat_map-append}
 use Rattle.std.proofs.lemmas.List.Elements.{All-map}
 use Rattle.hub_spec.specs.Cuts.{Prices}
 use Rattle.hub_spec.specs.Trees.{leaf_of}
-use Rattle.cert_spec.specs.Lines.{Item, says_hubs, says_dual, says_tree, keyword, numbers, run_numbers, value_numbers, weight_numbers, line_text}
+use Rattle.cert_spec.specs.Lines.{Item, says_hubs, says_dual, says_tree, keyword, numbers, words_behind, run_numbers, value_numbers, weight_numbers, line_text}
 use Rattle.cert_spec.specs.Text.{line_bytes}
 use Rattle.hub_model.specs.Amounts.{natural, IsNatural}
 use Rattle.plan_model.specs.Prices.{natural_values, signed_values}
 use Rattle.plan_model.specs.Mixtures.{signed_weights}
 use Rattle.cert_format.proofs.Amounts.{natural_pos}
-use Rattle.cert_format.proofs.SameDuals.{values_back}
+use Rattle.plan_model.proofs.ListedValues.{listed_again}
 use Rattle.cert_format.specs.Spaced.{spaced, words_text, words_line, spaced_node, spaced_value, spaced_entry, spaced_weight, run_text}
 
-words_joined : (word ns : List ℕ) → words_text word ns ≡ join_with_byte 32 (word ∷ map decimal ns)
+pub words_joined : (word ns : List ℕ) → words_text word ns ≡ join_with_byte 32 (word ∷ map decimal ns)
 words_joined word [] = append-nil word
 words_joined word (n ∷ ns) = ap (λ bs. word ++ 32 ∷ bs) (words_joined (decimal n) ns)
 
--- the line of an item
-pub line_of : (item : Item) → words_line (keyword item) (numbers item) ≡ line_bytes item
+-- the line of an item with no words behind its numbers
+pub line_of : (item : Item) → words_behind item ≡ [] → words_line (keyword item) (numbers item) ≡ line_bytes item
 unfolding line_text
-line_of item = ap (λ bs. bs ++ 10 ∷ []) (words_joined (keyword item) (numbers item))
+line_of item none =
+    let all = sym (ap (λ ws. map decimal (numbers item) ++ ws) none ∙ append-nil (map decimal (numbers item))) in
+    ap (λ bs. bs ++ 10 ∷ []) (words_joined (keyword item) (numbers item) ∙ ap (λ ws. join_with_byte 32 (keyword item ∷ ws)) all)
 
 -- more numbers behind the first ones, and a line feed
-more_numbers : (word xs ys : List ℕ) → words_text word xs ++ (flat_map spaced ys ++ 10 ∷ []) ≡ words_line word (xs ++ ys)
+pub more_numbers : (word xs ys : List ℕ) → words_text word xs ++ (flat_map spaced ys ++ 10 ∷ []) ≡ words_line word (xs ++ ys)
 more_numbers word xs ys = simp (append_assoc, flat_map-append)
 
-node_words : (ks : List ℕ) → flat_map spaced_node ks ≡ flat_map spaced (map (λ k. k + 1) ks)
+pub node_words : (ks : List ℕ) → flat_map spaced_node ks ≡ flat_map spaced (map (λ k. k + 1) ks)
 node_words [] = refl
 node_words (k ∷ ks) = ap (λ bs. spaced (k + 1) ++ bs) (node_words ks)
 
@@ -35,7 +37,7 @@ pub hubs_text : (hubs : List ℕ) → codes "hubs" ++ (flat_map spaced_node hubs
 hubs_text hubs =
     ap (λ bs. codes "hubs" ++ (bs ++ 10 ∷ [])) (node_words hubs)
     ∙ sym (append_assoc (codes "hubs") (flat_map spaced (map (λ k. k + 1) hubs)) (10 ∷ []))
-    ∙ line_of (says_hubs hubs)
+    ∙ line_of (says_hubs hubs) refl
 
 value_words : (u : List (ℕ × ℤ)) → flat_map spaced_value u ≡ flat_map spaced (value_numbers (natural_values u))
 value_words [] = refl
@@ -55,7 +57,7 @@ dual_text i j run price a values e =
     ∙ ap (λ bs. words_text word front ++ (bs ++ 10 ∷ [])) (value_words values)
     ∙ more_numbers word front (value_numbers (natural_values values))
     ∙ ap (λ ns. words_line word ((i + 1) ∷ (j + 1) ∷ ns)) (append_assoc (run_numbers run) (natural a ∷ []) (value_numbers (natural_values values)))
-    ∙ line_of (says_dual (i, j) run dual)
+    ∙ line_of (says_dual (i, j) run dual) refl
 
 entry_words : (u : List (ℕ × ℕ)) → flat_map spaced_entry u ≡ flat_map spaced_value (signed_values u)
 entry_words [] = refl
@@ -67,7 +69,7 @@ pub stated_text : (i j run price : ℕ) (dual : Prices) → price ≡ dual.a
 stated_text i j run price dual e =
     ap (λ bs. run_text i j run price ++ (bs ++ 10 ∷ [])) (entry_words dual.u)
     ∙ dual_text i j run price (pos dual.a) (signed_values dual.u) e
-    ∙ ap (λ (u : List (ℕ × ℕ)). line_bytes (says_dual (i, j) run (record { a = dual.a; u = u }))) (values_back dual.u)
+    ∙ ap (λ (u : List (ℕ × ℕ)). line_bytes (says_dual (i, j) run (record { a = dual.a; u = u }))) (listed_again dual.u)
 
 weight_words : (w : List (ℕ × ℕ)) → flat_map spaced_weight (signed_weights w) ≡ flat_map spaced (weight_numbers w)
 weight_words [] = refl
@@ -79,7 +81,7 @@ leaf_text d denom w weights e v =
     (λ k. words_text (codes "leaf") (e k ∷ []) ++ (flat_map spaced_weight (v k) ++ 10 ∷ []))
     ∙ ap (λ bs. words_text (codes "leaf") (denom ∷ []) ++ (bs ++ 10 ∷ [])) (weight_words w)
     ∙ more_numbers (codes "leaf") (denom ∷ []) (weight_numbers w)
-    ∙ line_of (says_tree (leaf_of denom w))
+    ∙ line_of (says_tree (leaf_of denom w)) refl
 
 All-always : {X : Type 0} (P : X → Type 0) (xs : List X) → ((x : X) → P x) → All P xs
 All-always P xs h k d l = h (get_or xs k d)

@@ -1,11 +1,13 @@
 -- Codes of the definitions' data, by which proofs tell values apart.
-use Rattle.std.specs.Prelude.{◌≡◌, ℕ, Bool, true, false, List, [], ◌∷◌, ◌++◌, ◌⊎◌, refl}
+use Rattle.std.specs.Prelude.{◌≡◌, ℕ, Bool, true, false, List, [], ◌∷◌, ◌++◌, ◌⊎◌, Option, refl}
 use Rattle.std.proofs.Common.{sym, ap, ◌∙◌, append_assoc, append-nil, inl, inr}
-use Rattle.std.specs.Coded.{Coded, code_by, coded×, coded⊎, coded_bool, coded_ℕ, coded_list}
+use Rattle.std.specs.Coded.{Coded, code_by, coded×, coded⊎, coded_bool, coded_ℕ, coded_list, coded_option}
 use Rattle.hub_spec.specs.Plans.{Plan}
 use Rattle.hub_spec.specs.Cuts.{Prices, Cut}
 use Rattle.hub_spec.specs.Trees.{Tree, branch, leaf, empty, block, count, TreeLine, branch_on, leaf_of, no_hub, no_route, no_count, preorder}
 use Rattle.hub_spec.specs.Certificates.{Proof}
+use Rattle.core_spec.specs.CoreCuts.{Way, CoreProof, Mark}
+use Rattle.cert_spec.specs.Stated.{Stated}
 use Rattle.cert_format.specs.Growing.{planted, grown, first_tree, tree_of}
 
 -- trees grow again from their lines
@@ -72,11 +74,36 @@ coded_cut = code_by (ℕ × List Prices) (coded× coded_ℕ (coded_list coded_pr
 abbrev pub coded_plan : Coded Plan
 coded_plan = code_by (List ℕ × List (ℕ × ℕ)) (coded× (coded_list coded_ℕ) coded_pairs) (λ p. (p.hubs, p.routes)) (λ p. record { hubs = p.0; routes = p.1 }) (λ _. refl)
 
--- a certificate by its fields
+-- a proof by its fields
 abbrev pub coded_proof : Coded Proof
 coded_proof =
     code_by ((ℕ × (ℕ × ℕ)) × ((ℕ × ℕ) × (Plan × (List Cut × Tree))))
     (coded× (coded× coded_ℕ (coded× coded_ℕ coded_ℕ)) (coded× (coded× coded_ℕ coded_ℕ) (coded× coded_plan (coded× (coded_list coded_cut) coded_tree))))
     (λ k. ((k.version, (k.size, k.candidates)), ((k.cost, k.bound), (k.plan, (k.cuts, k.tree)))))
     (λ p. record { version = p.0.0; size = p.0.1.0; candidates = p.0.1.1; cost = p.1.0.0; bound = p.1.0.1; plan = p.1.1.0; cuts = p.1.1.1.0; tree = p.1.1.1.1 })
+    (λ _. refl)
+
+-- a way by its two nodes and how often it is taken
+abbrev pub coded_way : Coded Way
+coded_way = code_by ((ℕ × ℕ) × ℕ) (coded× (coded× coded_ℕ coded_ℕ) coded_ℕ) (λ w. ((w.0, w.1), w.2)) (λ p. (p.0.0, p.0.1, p.1)) (λ _. refl)
+
+-- the proof of a dual by its turns, its scale and its ways
+abbrev pub coded_core_proof : Coded CoreProof
+coded_core_proof =
+    code_by ((ℕ × ℕ) × List Way) (coded× (coded× coded_ℕ coded_ℕ) (coded_list coded_way)) (λ t. ((t.turns, t.scale), t.ways))
+    (λ p. record { turns = p.0.0; scale = p.0.1; ways = p.1 })
+    (λ _. refl)
+
+-- a mark by its hubs and its proofs
+abbrev pub coded_mark : Coded Mark
+coded_mark =
+    code_by (List ℕ × List CoreProof) (coded× (coded_list coded_ℕ) (coded_list coded_core_proof)) (λ m. (m.hubs, m.proofs))
+    (λ p. record { hubs = p.0; proofs = p.1 })
+    (λ _. refl)
+
+-- what a certificate states by its proof and its marks
+abbrev pub coded_stated : Coded Stated
+coded_stated =
+    code_by (Proof × List (Option Mark)) (coded× coded_proof (coded_list (coded_option coded_mark))) (λ k. (k.proof, k.marks))
+    (λ p. record { proof = p.0; marks = p.1 })
     (λ _. refl)

@@ -44,7 +44,7 @@ pub record EqualDuals (row : List Prices) (j run : ℕ) : Type 0 where
   pub equal : AreEqual row j run
   pub last : BeginsOther (slice_index_or row j no_dual) (drop (j + run) row)
 
--- so many duals of a row, from place j on, are one line: one in the first version, and in the second all that are equal
+-- so many duals of a row, from place j on, are one line: one in the first version, and in a later one all that are equal
 pub record IsRunAt (v : ℕ) (row : List Prices) (j run : ℕ) : Type 0 where
   pub equal : AreEqual row j run
   pub first : v ≡ 1 → run ≡ 1

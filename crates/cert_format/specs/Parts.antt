@@ -1,10 +1,11 @@
 -- The certificate that its parts stand for.
-use Rattle.std.specs.Prelude.{◌≡◌, pos, List, map}
+use Rattle.std.specs.Prelude.{◌≡◌, ℕ, ◌*◌, pos, List, length, map, Option, IfSome}
 use Rattle.hub_spec.specs.Plans.{Plan}
 use Rattle.hub_spec.specs.Cuts.{Cut}
 use Rattle.hub_spec.specs.Trees.{preorder}
 use Rattle.hub_spec.specs.Certificates.{Proof}
-use Rattle.hub_spec.specs.Ranges.{IsInRange}
+use Rattle.core_spec.specs.CoreCuts.{Mark}
+use Rattle.cert_spec.specs.Stated.{Stated, IsStatedInRange}
 use Rattle.hub_model.specs.Amounts.{natural, IsNatural}
 use Rattle.plan_model.specs.Lines.{tree_line_of}
 use Rattle.plan_model.specs.declared.tree_lines.TreeLine.{TreeLine}
@@ -25,15 +26,19 @@ proof_of heading plan cuts lines = record {
   tree = tree_of (map tree_line_of lines);
 }
 
+-- with the marks of the cuts
+abbrev pub stated_of : Heading → Plan → List Cut → List (Option Mark) → List TreeLine → Stated
+stated_of heading plan cuts marks lines = record { proof = proof_of heading plan cuts lines; marks = marks }
+
 -- these are the lines of one tree
 abbrev pub AreOneTree : List TreeLine → Type 0
 AreOneTree lines = preorder (tree_of (map tree_line_of lines)) ≡ map tree_line_of lines
 
 -- no number is below 0, all are within the ranges of the grammar, and the lines are those of one tree
-pub record AreCertificateParts (heading : Heading) (plan : Plan) (cuts : List Cut) (lines : List TreeLine) : Type 0 where
+pub record AreCertificateParts (heading : Heading) (plan : Plan) (cuts : List Cut) (marks : List (Option Mark)) (lines : List TreeLine) : Type 0 where
   pub cost_least : IsNatural heading.cost
   pub bound_least : IsNatural heading.bound
-  pub in_range : IsInRange (proof_of heading plan cuts lines)
+  pub in_range : IsStatedInRange (stated_of heading plan cuts marks lines)
   pub one_tree : AreOneTree lines
 
 -- the first lines say so of the certificate
@@ -43,3 +48,7 @@ pub record IsHeadingOf (heading : Heading) (k : Proof) : Type 0 where
   pub candidates : heading.candidates ≡ k.candidates
   pub cost : heading.cost ≡ pos k.cost
   pub bound : heading.bound ≡ pos k.bound
+
+-- a mark has a proof for each commodity between n nodes
+abbrev pub HasProofs : ℕ → Option Mark → Type 0
+HasProofs n mark = IfSome mark (λ m. length m.proofs ≡ n * n)

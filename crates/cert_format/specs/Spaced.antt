@@ -1,5 +1,6 @@
 -- How a line is written: its first word, and numbers behind it, each behind a space.
 use Rattle.std.specs.Prelude.{ℕ, ℤ, ◌+◌, List, [], ◌∷◌, ◌++◌, flat_map, codes, decimal, nat_eq, if◌then◌else◌}
+use Rattle.core_spec.specs.CoreCuts.{Way}
 use Rattle.hub_model.specs.Amounts.{natural}
 use Rattle.cert_spec.specs.Lines.{run_numbers}
 
@@ -26,6 +27,10 @@ spaced_value e = flat_map spaced ((e.0 + 1) ∷ natural e.1 ∷ [])
 -- a node and its value as a natural number
 abbrev pub spaced_entry : ℕ × ℕ → List ℕ
 spaced_entry e = flat_map spaced ((e.0 + 1) ∷ e.1 ∷ [])
+
+-- the two nodes of a way, and how often it is taken, each behind a space
+abbrev pub spaced_way : Way → List ℕ
+spaced_way w = flat_map spaced ((w.0 + 1) ∷ (w.1 + 1) ∷ w.2 ∷ [])
 
 -- the number of a cut and its weight, each behind a space
 abbrev pub spaced_weight : ℤ × ℤ → List ℕ

@@ -1,20 +1,22 @@
 // A certificate in the making, item by item.
 ghost use Rattle.std.specs.Prelude.{◌≡◌, ◌<◌, ◌≤◌, ◌^◌, replicate, IfOk};
-ghost use Rattle.hub_spec.specs.Certificates.{Proof};
+ghost use Rattle.cert_spec.specs.Stated.{Stated, IsStatedInRange};
 ghost use Rattle.hub_spec.specs.Limits.{most_nodes};
-ghost use Rattle.hub_spec.specs.Ranges.{IsDualInRange, IsInRange};
+ghost use Rattle.hub_spec.specs.Ranges.{IsDualInRange};
 ghost use Rattle.cert_format.specs.Gathered.{with_duals};
 
 use crate::begun::BegunLine;
+use crate::begun_marks::BegunMark;
 use crate::{Certificate, Heading};
 use cert_scan::{Item, Version};
+use core_marks::{DualProof, Mark};
 use hub_model::signed;
 use plan_model::{Dual, Mix, Plan, TreeLine};
 use stated_cuts::StatedCut;
 use std::alloc::{AllocError, Global};
 use std::mem;
 
-// The parts that items gave. That a line ends is told by the next one, so its dual or leaf is put in only then.
+// The parts that items gave. That a line ends is told by the next one, so its dual, proof or leaf is put in only then.
 #[derive(Drop)]
 pub(crate) struct Gathering {
     pub(crate) version: Version,
@@ -26,12 +28,15 @@ pub(crate) struct Gathering {
     pub(crate) routes: Vec<(u32, u32)>,
     // The last may still lack duals.
     pub(crate) cuts: Vec<StatedCut>,
+    // Of the cuts of which no more may come.
+    pub(crate) marks: Vec<Option<Mark>>,
+    pub(crate) last_mark: BegunMark,
     pub(crate) lines: Vec<TreeLine>,
     pub(crate) begun: BegunLine,
 }
 
 impl Gathering {
-    ghost use Rattle.cert_format.specs.Gathered.{at_start, settled, whole, taken, first_taken, MayTake, IsFit, all_gathered};
+    ghost use Rattle.cert_format.specs.Gathered.{at_start, settled, whole, taken, first_taken, with_cut, MayTake, IsFit, all_gathered};
     ghost use Rattle.cert_format.specs.Gatherings.{gathered_of, standing_of};
 
     pub(crate) fn new(alloc: Global) -> Gathering
@@ -46,6 +51,8 @@ impl Gathering {
             hubs: Vec::new(alloc),
             routes: Vec::new(alloc),
             cuts: Vec::new(alloc),
+            marks: Vec::new(alloc),
+            last_mark: BegunMark::NoCut,
             lines: Vec::new(alloc),
             begun: BegunLine::Nothing,
         }
@@ -58,6 +65,7 @@ impl Gathering {
     {
         match item {
             Item::DualPair { k, u, .. } => self.begun.list_value(k, u),
+            Item::ProofPair { k, m, y, .. } => self.begun.list_way(k, m, y),
             Item::LeafPair { c, w, .. } => self.begun.list_weight(c, w),
             _ => {
                 self.settle()?;
@@ -76,6 +84,15 @@ impl Gathering {
             BegunLine::Dual { run, price, values } => {
                 let dual = Dual::new(signed(price), values);
                 add_duals(&mut self.cuts, run, &dual)
+            }
+            BegunLine::Proof {
+                turns,
+                scale,
+                mut ways,
+            } => {
+                ways.shrink_to_fit();
+                self.last_mark
+                    .list_proof(DualProof::new(turns, scale, ways))
             }
             BegunLine::Leaf(denominator, weights) => {
                 let mix = Mix::new(signed(denominator as u128), weights);
@@ -100,18 +117,15 @@ impl Gathering {
             Item::Bound(bound) => self.bound = bound,
             Item::Hub { k, .. } => self.hubs.push(k)?,
             Item::Route { k, m, .. } => self.routes.push((k, m))?,
-            Item::Cut { part, .. } => {
-                trim_last(&mut self.cuts);
+            Item::Cut { part, last, .. } => {
+                self.end_cut()?;
+                self.last_mark = BegunMark::begin(alloc, last);
                 self.cuts.push(StatedCut::new(alloc, part))?;
             }
-            Item::Dual { run, a, .. } => {
-                self.begun = BegunLine::Dual {
-                    run,
-                    price: a,
-                    values: Vec::new(alloc),
-                };
-            }
-            Item::Nodes(_) => trim_last(&mut self.cuts),
+            Item::CoreHub { k, .. } => self.last_mark.list_hub(k)?,
+            Item::Dual { run, a, .. } => self.begun = BegunLine::begin_dual(alloc, run, a),
+            Item::Proof { t, g, .. } => self.begun = BegunLine::begin_proof(alloc, t, g),
+            Item::Nodes(_) => self.end_cut()?,
             Item::Branch(k) => self.lines.push(TreeLine::BranchOn(k))?,
             Item::Leaf { denom, .. } => self.begun = BegunLine::Leaf(denom, Vec::new(alloc)),
             Item::Empty => self.lines.push(TreeLine::Empty)?,
@@ -122,10 +136,19 @@ impl Gathering {
         Ok(())
     }
 
+    // No more of the last cut comes, if there is one.
+    fn end_cut(&mut self) -> Result<(), AllocError>
+        ensures parts { IfOk result (λ _. gathered_of self.new ≡ with_cut (gathered_of self.old)) }
+        ensures begun { IfOk result (λ _. self.new.begun ≡ self.old.begun) }
+    {
+        trim_last(&mut self.cuts);
+        mem::replace(&mut self.last_mark, BegunMark::NoCut).put_behind(&mut self.marks)
+    }
+
     // The certificate of which all items were taken in.
     pub(crate) fn finish(self) -> Certificate
-        requires { (k : Proof) × IsInRange k × (gathered_of self ≡ all_gathered k) }
-        ensures { (k : Proof) → IsInRange k → gathered_of self ≡ all_gathered k → result ≡ k }
+        requires { (k : Stated) × IsStatedInRange k × (gathered_of self ≡ all_gathered k) }
+        ensures { (k : Stated) → IsStatedInRange k → gathered_of self ≡ all_gathered k → result ≡ k }
     {
         let Gathering {
             version,
@@ -136,6 +159,7 @@ impl Gathering {
             hubs,
             routes,
             cuts,
+            marks,
             lines,
             ..
         } = self;
@@ -149,7 +173,7 @@ impl Gathering {
             cost,
             bound,
         };
-        Certificate::new(heading, plan, cuts, lines)
+        Certificate::new(heading, plan, cuts, marks, lines)
     }
 }
 

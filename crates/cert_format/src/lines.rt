@@ -32,7 +32,12 @@ pub(crate) fn put_hubs<K: Sink>(
     buffer.put(b"\n", sink)
 }
 
-fn put_nodes<K: Sink>(nodes: &[u32], buffer: &mut Buffer, sink: &mut K) -> Result<(), Failed>
+// Puts the numbers of nodes, each behind a space.
+pub(crate) fn put_nodes<K: Sink>(
+    nodes: &[u32],
+    buffer: &mut Buffer,
+    sink: &mut K,
+) -> Result<(), Failed>
     ensures { PutsThrough K.taken K.faults sink.old sink.new buffer.old buffer.new result
         (flat_map spaced_node nodes.now) }
 {
@@ -61,7 +66,8 @@ pub(crate) fn put_route<K: Sink>(
     put_line(b"route", &[i, j, k, m], buffer, sink)
 }
 
-/// Puts the line that begins the cut of this number, counted from 1, and of this part. The first version says no part.
+/// Puts the line that begins the cut of this number, counted from 1, and of this part, which is not marked. The first
+/// version says no part.
 pub fn put_cut<K: Sink>(
     version: Version,
     x: u64,
@@ -74,7 +80,12 @@ pub fn put_cut<K: Sink>(
 {
     match version {
         Version::First => put_line(b"cut", &[x as u128], buffer, sink),
-        Version::Second => put_line(b"cut", &[x as u128, part as u128], buffer, sink),
+        Version::Second | Version::Third => put_line(
+            b"cut",
+            &[x as u128, part as u128],
+            buffer,
+            sink,
+        ),
     }
 }
 

@@ -117,14 +117,14 @@ fn put_row<K: Sink>(
     Ok(())
 }
 
-// How many duals of the row, from place j on, are one line: in the second version all that are equal.
+// How many duals of the row, from place j on, are one line: from the second version on all that are equal.
 fn run_at(version: Version, row: &DualRow<'_>, j: u32) -> u32
     requires { j < length row.now }
     ensures { IsRunAt (version_number version) row.now j result }
 {
     match version {
         Version::First => 1,
-        Version::Second => equal_duals(row, j),
+        Version::Second | Version::Third => equal_duals(row, j),
     }
 }
 

@@ -1,20 +1,23 @@
 // A certificate's text put part by part.
-ghost use Rattle.std.specs.Prelude.{◌≡◌, ◌+◌, ◌*◌, ◌≤◌, ◌<◌, ◌^◌, ℕ, [], ◌∷◌, length, map, zip, All};
+ghost use Rattle.std.specs.Prelude.{◌≡◌, ◌+◌, ◌*◌, ◌≤◌, ◌<◌, ◌^◌, ℕ, [], ◌∷◌, length, map, zip, All, None};
 ghost use Rattle.hub_spec.specs.Limits.{most_nodes};
 ghost use Rattle.hub_spec.specs.Problem.{commodities};
 ghost use Rattle.cert_spec.specs.Lines.{says_version, says_size, says_cost, says_bound, says_tree};
-ghost use Rattle.cert_spec.specs.Text.{route_items, cut_items, top_items, cuts_items, tree_items, certificate_items, certificate_text};
+ghost use Rattle.cert_spec.specs.Text.{route_items, cut_items_as, top_items, cuts_items, tree_items, certificate_items, certificate_text};
 ghost use Rattle.hub_io.specs.Outside.{Puts};
 ghost use Rattle.hub_model.specs.Amounts.{natural, IsNatural};
 ghost use Rattle.plan_model.specs.Lines.{tree_line_of};
 ghost use Rattle.cert_scan.specs.Versions.{version_number};
+ghost use Rattle.cert_format.specs.Parts.{HasProofs};
 ghost use Rattle.cert_format.specs.Puts.{PutsLines};
 
 use crate::lines::{put_cut, put_hubs, put_route, put_tree_line};
+use crate::marked::put_marked;
 use crate::rows::put_duals;
 use crate::spaced::put_line;
 use crate::{Certificate, Heading};
 use cert_scan::Version;
+use core_marks::Mark;
 use hub_io::{Buffer, Failed, Sink};
 use hub_model::unsigned;
 use plan_model::{Plan, TreeLine};
@@ -42,9 +45,10 @@ fn put_certificate<K: Sink>(
     let heading = certificate.heading();
     let plan = certificate.plan();
     let cuts = certificate.cuts();
+    let marks = certificate.marks();
     let tree = certificate.tree();
     put_top(heading, plan, cuts.len() as u64, buffer, sink)?;
-    put_cuts(version, n, cuts, buffer, sink)?;
+    put_cuts(version, n, cuts, marks, buffer, sink)?;
     put_tree(tree, buffer, sink)
 }
 
@@ -117,22 +121,47 @@ fn put_cuts<K: Sink>(
     version: Version,
     n: u32,
     cuts: &[StatedCut],
+    marks: &[Option<Mark>],
     buffer: &mut Buffer,
     sink: &mut K,
 ) -> Result<(), Failed>
     requires some { 1 ≤ n }
     requires few { n ≤ most_nodes }
     requires whole { All (λ c. length c.duals ≡ n * n) cuts.now }
+    requires one_for_each { length marks.now ≡ length cuts.now }
+    requires proved { All (HasProofs n) marks.now }
     ensures { PutsLines K.taken K.faults sink.old sink.new buffer.old buffer.new result
-        (cuts_items (version_number version) n 1 cuts.now) }
+        (cuts_items (version_number version) n 1 (zip cuts.now marks.now)) }
 {
     for (x, cut) in cuts.iter().enumerate() {
-        put_whole_cut(version, n, x as u64 + 1, cut, buffer, sink)?;
+        put_whole_cut(version, n, x as u64 + 1, cut, &marks[x], buffer, sink)?;
     }
     Ok(())
 }
 
 fn put_whole_cut<K: Sink>(
+    version: Version,
+    n: u32,
+    x: u64,
+    cut: &StatedCut,
+    mark: &Option<Mark>,
+    buffer: &mut Buffer,
+    sink: &mut K,
+) -> Result<(), Failed>
+    requires some { 1 ≤ n }
+    requires few { n ≤ most_nodes }
+    requires whole { length cut.now.duals ≡ n * n }
+    requires proved { HasProofs n mark.now }
+    ensures { PutsLines K.taken K.faults sink.old sink.new buffer.old buffer.new result
+        (cut_items_as (version_number version) n x cut.now mark.now) }
+{
+    match mark {
+        None => put_unmarked(version, n, x, cut, buffer, sink),
+        Some(mark) => put_marked(n, x, cut, mark, buffer, sink),
+    }
+}
+
+fn put_unmarked<K: Sink>(
     version: Version,
     n: u32,
     x: u64,
@@ -144,7 +173,7 @@ fn put_whole_cut<K: Sink>(
     requires few { n ≤ most_nodes }
     requires whole { length cut.now.duals ≡ n * n }
     ensures { PutsLines K.taken K.faults sink.old sink.new buffer.old buffer.new result
-        (cut_items (version_number version) n (x, cut.now)) }
+        (cut_items_as (version_number version) n x cut.now None) }
 {
     put_cut(version, x, cut.part(), buffer, sink)?;
     put_duals(version, n, cut, buffer, sink)

@@ -2,7 +2,7 @@
 use Rattle.std.proofs.Common.{◌≡◌, ◌≢◌, ℕ, ◌+◌, List, [], ◌∷◌, ◌++◌, length, flat_map, Option, Some, None, nat_eq, ◌⊎◌, inl, inr, refl, sym, ap, ◌∙◌, subst, append_assoc, append-nil, arith}
 use Rattle.std.specs.List.{join_with_byte}
 use Rattle.std.proofs.lemmas.List.Splits.{length-slice_split, slice_split_none, slice_split_at, join_with_byte-slice_split}
-use Rattle.hub_spec.specs.Certificates.{Proof}
+use Rattle.cert_spec.specs.Stated.{Stated}
 use Rattle.cert_spec.specs.Lines.{Item as Line, line_text}
 use Rattle.cert_spec.specs.Text.{certificate_text, line_bytes, Spells}
 use Rattle.cert_spec.specs.Grammar as grammar
@@ -26,7 +26,7 @@ use Rattle.cert_scan.specs.declared.bytes.Position.{Position}
 use Rattle.cert_scan.specs.declared.bytes.Position.TheVariants.{Start, Number, Keyword, Spoiled, Failed}
 use Rattle.cert_scan.specs.declared.stages.Shape.{Shape}
 use Rattle.cert_scan.specs.declared.stages.Stage.{Stage}
-use Rattle.cert_scan.specs.declared.stages.Stage.TheVariants.{Version, Size, Cost, Bound, Hubs, Route, Cuts, Cut, Dual, Nodes, Tree, End, Nothing}
+use Rattle.cert_scan.specs.declared.stages.Stage.TheVariants.{Version, Size, Cost, Bound, Hubs, Route, Cuts, Cut, Dual, ProvedDual, Proof, Nodes, Tree, End, Nothing}
 use Rattle.cert_scan.specs.declared.scanner.Scan.{Scan}
 
 -- a text has some part
@@ -104,7 +104,7 @@ bad_fault h = text_fault h (bad_line (length h.lines + 1)) (bad_from h.shape h.h
 
 -- the text is whole
 record IsWhole (bytes : List ℕ) (given : List Item) : Type 0 where
-  proof : Proof
+  proof : Stated
   spells : Spells bytes proof
   items : given ≡ items_of proof
 
@@ -152,6 +152,8 @@ start_outcome (Route c) h = let is = h.now.here.0 in inr (ended_there h h.now.pl
 start_outcome Cuts h = let is = h.now.here.0 in inr (ended_there h h.now.plain (λ e. cc) refl)
 start_outcome (Cut all before) h = let is = h.now.here.0 in inr (ended_there h h.now.plain (λ e. cc) refl)
 start_outcome (Dual d) h = let is = h.now.here.0 in inr (ended_there h h.now.plain (λ e. cc) refl)
+start_outcome (ProvedDual d) h = let is = h.now.here.0 in inr (ended_there h h.now.plain (λ e. cc) refl)
+start_outcome (Proof d) h = let is = h.now.here.0 in inr (ended_there h h.now.plain (λ e. cc) refl)
 start_outcome Nodes h = let is = h.now.here.0 in inr (ended_there h h.now.plain (λ e. cc) refl)
 start_outcome (Tree d) h = let is = h.now.here.0 in inr (ended_there h h.now.plain (λ e. cc) refl)
 start_outcome End h = let is = h.now.here.0 in inr (ended_there h h.now.plain (λ e. cc) refl)
@@ -190,7 +192,7 @@ scanned_tells bytes given scan h few =
     ]
 
 -- the items of a text that spells a certificate
-pub scanned_items : (bytes : List ℕ) (given : List Item) (scan : Scan) (k : Proof) → HasScanned bytes given scan → Spells bytes k → given ≡ items_of k
+pub scanned_items : (bytes : List ℕ) (given : List Item) (scan : Scan) (k : Stated) → HasScanned bytes given scan → Spells bytes k → given ≡ items_of k
 unfolding Outcome
 scanned_items bytes given scan k h spells =
     let t = scanned_tracks bytes given scan h in

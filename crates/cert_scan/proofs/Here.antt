@@ -1,61 +1,40 @@
 -- What the bytes of a line that have come say, and what one more makes of them.
 use Rattle.std.proofs.Common.{◌≡◌, ℕ, ◌+◌, ◌^◌, ◌<◌, ◌≤◌, false, List, [], ◌∷◌, ◌++◌, length, map, take, flat_map, decimal, Option, Some, None, nat_eq, ◌⊎◌, inl, inr, refl, sym, ap, ◌∙◌, subst, append_assoc, append-nil, arith}
-use Rattle.std.specs.Prelude.{option_to_list}
+use Rattle.std.specs.Prelude.{◌-◌, option_to_list}
 use Rattle.std.specs.List.{join_with_byte}
 use Rattle.std.proofs.lemmas.List.Concat.{flat_map-append}
 use Rattle.std.proofs.lemmas.List.Elements.{All-nil}
-use Rattle.cert_spec.specs.Lines.{Item as Line, keyword, numbers, line_text}
+use Rattle.cert_spec.specs.Lines.{Item as Line, line_text}
 use Rattle.cert_spec.specs.Text.{line_bytes}
 use Rattle.cert_spec.specs.Grammar.{Wants, after}
-use Rattle.cert_scan.specs.Moves.{keyword_of}
+use Rattle.cert_scan.specs.Moves.{keyword_of, subject_run}
+use Rattle.cert_scan.specs.Versions.{version_number}
 use Rattle.cert_scan.specs.Scans.{shape_by}
-use Rattle.cert_scan.specs.Parts.{parts_of, open_values}
+use Rattle.cert_scan.specs.Parts.{parts_of, open_mark, open_values}
 use Rattle.cert_scan.specs.Given.{IsBegun}
-use Rattle.cert_scan.proofs.StagesAt.{stage_at, run_of, IsCommodity, NamesNodes, commodity_named, IsAt}
-use Rattle.cert_scan.proofs.Described.{stage_of, word_of, ValuesAre, WeightsAre, Described}
+use Rattle.cert_scan.proofs.StagesAt.{stage_at, stage_of_subject, run_of, NamesNodes, commodity_named, IsAt}
+use Rattle.cert_scan.proofs.Climbs.{Climbs}
+use Rattle.cert_scan.proofs.ListReads.{is_hub}
+use Rattle.cert_scan.proofs.MarkOutcomes.{proof_wanted}
+use Rattle.cert_scan.proofs.Described.{stage_of, word_of, IsMark, ValuesAre, WaysAre, WeightsAre, Described, stage_of_head, HasHead, front_of_head, given_of_head, front_text}
 use Rattle.cert_scan.proofs.ListOutcomes.{climbs_dual, hubs_range, leaf_wanted}
 use Rattle.cert_scan.specs.declared.items.Item.{Item}
-use Rattle.cert_scan.specs.declared.items.Item.TheVariants.{Dual as dual_item}
+use Rattle.cert_scan.specs.declared.items.Item.TheVariants.{Cut as cut_item, Dual as dual_item}
 use Rattle.cert_scan.specs.declared.bytes.Move.{Move}
 use Rattle.cert_scan.specs.declared.bytes.Position.{Position}
 use Rattle.cert_scan.specs.declared.bytes.Position.TheVariants.{Start, Number, Keyword, Failed}
 use Rattle.cert_scan.specs.declared.heads.Head.{Head}
-use Rattle.cert_scan.specs.declared.heads.Head.TheVariants.{VersionLine, SizeLine, CostLine, BoundLine, HubsLine, RouteLine, CutsLine, CutLine, DualLine, DualsLine, NodesLine, BranchLine, LeafLine, EmptyLine, BlockLine, CountLine, EndLine}
+use Rattle.cert_scan.specs.declared.heads.Head.TheVariants.{MarkWord}
 use Rattle.cert_scan.specs.declared.places.Place.{Place}
-use Rattle.cert_scan.specs.declared.places.Place.TheVariants.{VersionNumber, NodeCount, CandidateCount, CostAmount, BoundAmount, HubNode, RouteFrom, RouteTo, RouteFirst, RouteLast, CutCount, CutNumber, CutPart, DualFrom, DualTo, RunFrom, RunTo, RunLength, DualPrice, ValueNode, ValueAmount, LineCount, BranchNode, BlockFrom, BlockTo, Denominator, WeightCut, WeightAmount}
-use Rattle.cert_scan.specs.declared.items.Version.TheVariants.{Second}
-use Rattle.cert_scan.specs.declared.stages.Run.{Run}
+use Rattle.cert_scan.specs.declared.places.Place.TheVariants.{VersionNumber, NodeCount, CandidateCount, CostAmount, BoundAmount, HubNode, RouteFrom, RouteTo, RouteFirst, RouteLast, CutCount, CutNumber, CutPart, MarkHub, DualFrom, DualTo, RunFrom, RunTo, RunLength, ProvedFrom, ProvedTo, DualPrice, ValueNode, ValueAmount, ProofTurns, ProofScale, WayFrom, WayTo, WayTaken, LineCount, BranchNode, BlockFrom, BlockTo, Denominator, WeightCut, WeightAmount}
+use Rattle.cert_scan.specs.declared.stages.DualAt.{DualAt}
+use Rattle.cert_scan.specs.declared.stages.MarkAt.{MarkAt}
+use Rattle.cert_scan.specs.declared.stages.Subject.{Subject}
+use Rattle.cert_scan.specs.declared.stages.Subject.TheVariants.{Plain, Proved}
 use Rattle.cert_scan.specs.declared.stages.Shape.{Shape}
 use Rattle.cert_scan.specs.declared.stages.TreeAt.{TreeAt}
 use Rattle.cert_scan.specs.declared.stages.Stage.{Stage}
-use Rattle.cert_scan.specs.declared.stages.Stage.TheVariants.{Version, Size, Cost, Bound, Hubs, Route, Cuts, Cut, Dual, Nodes, Tree, End, Nothing}
-
--- the stage at which a line stands
-abbrev pub stage_of_head : Head → Stage
-stage_of_head VersionLine = Version
-stage_of_head SizeLine = Size
-stage_of_head CostLine = Cost
-stage_of_head BoundLine = Bound
-stage_of_head HubsLine = Hubs
-stage_of_head (RouteLine c) = Route c
-stage_of_head CutsLine = Cuts
-stage_of_head (CutLine all before) = Cut all before
-stage_of_head (DualLine d) = Dual d
-stage_of_head (DualsLine d) = Dual d
-stage_of_head NodesLine = Nodes
-stage_of_head (BranchLine t) = Tree t
-stage_of_head (LeafLine t) = Tree t
-stage_of_head (EmptyLine t) = Tree t
-stage_of_head (BlockLine t) = Tree t
-stage_of_head (CountLine t) = Tree t
-stage_of_head EndLine = End
-
--- the version has such a line
-abbrev pub HasHead : Shape → Head → Type 0
-HasHead sh (DualsLine d) = sh.version ≡ Second
-HasHead sh (BlockLine t) = sh.version ≡ Second
-HasHead sh (CountLine t) = sh.version ≡ Second
-HasHead sh head = Unit {0}
+use Rattle.cert_scan.specs.declared.stages.Stage.TheVariants.{Version, Size, Cost, Bound, Hubs, Route, Cuts, Cut, Dual, ProvedDual, Proof, Nodes, Tree, End, Nothing}
 
 -- ---- what is given of a line
 
@@ -67,8 +46,10 @@ begun_none sh Bound = refl
 begun_none sh Hubs = record { hubs = []; are = refl; ascend = λ k h. absurd (omega (arith, h)); nodes = All-nil (λ k. k < sh.n) }
 begun_none sh (Route c) = refl
 begun_none sh Cuts = refl
-begun_none sh (Cut all before) = refl
+begun_none sh (Cut all before) = inl refl
 begun_none sh (Dual d) = inl refl
+begun_none sh (ProvedDual d) = inl refl
+begun_none sh (Proof d) = inl refl
 begun_none sh Nodes = refl
 begun_none sh (Tree t) = inl refl
 begun_none sh End = refl
@@ -80,9 +61,9 @@ begun_nothing sh stage given e = subst (IsBegun (stage_at sh stage)) (sym e) (be
 abbrev dual_begun : ℕ × ℕ → ℕ → ℕ → List (ℕ × ℕ) → List Item
 dual_begun c length a u = dual_item c.0 c.1 length a false ∷ open_values u
 
-begun_values : (sh : Shape) (run : Run) (before : ℕ) (ns : List ℕ) (given : List Item) → IsCommodity sh.n run.first.commodity → ValuesAre sh run before ns given
-    → IsBegun (stage_at sh (Dual run.first)) given
-begun_values sh run before ns given c h =
+begun_values : (sh : Shape) (subject : Subject) (before : ℕ) (ns : List ℕ) (given : List Item) → NamesNodes sh (stage_of_subject subject)
+    → ValuesAre sh (subject_run subject) before ns given → IsBegun (stage_at sh (stage_of_subject subject)) given
+begun_values sh (Plain run) before ns given c h =
     let listed = climbs_dual sh h.a h.u before h.short h.climbs in
     inr (record {
       dual = record { a = h.a; u = h.u };
@@ -92,6 +73,40 @@ begun_values sh run before ns given c h =
       in_range = listed.in_range;
       first = listed.first;
     })
+begun_values sh (Proved d) before ns given c h = inr (record {
+  dual = record { a = h.a; u = h.u };
+  are = h.given_values ∙ ap (λ (p : ℕ × ℕ). dual_begun p 1 h.a h.u) (sym (commodity_named sh.n d.commodity c));
+  in_range = (climbs_dual sh h.a h.u before h.short h.climbs).in_range;
+})
+
+-- a marked cut and some hubs of its mark
+abbrev mark_begun : ℕ → ℕ → List ℕ → List Item
+mark_begun number part hubs = cut_item number part false ∷ open_mark hubs
+
+begun_mark : (sh : Shape) (at : MarkAt) (before : ℕ) (hubs : List ℕ) (given : List Item) → IsMark sh at
+    → given ≡ cut_item at.number at.part false ∷ open_mark hubs
+    → Climbs (is_hub sh.n) (λ k. k) 0 hubs before → IsBegun (stage_at sh (Cut at.all (at.number - 1))) given
+begun_mark sh at before hubs given mark are climbs =
+    let r = hubs_range sh hubs before climbs in
+    let some = mark.number in
+    let is : at.number ≡ at.number - 1 + 1 = omega arith in
+    inr (record {
+      part = at.part;
+      hubs = hubs;
+      are = are ∙ ap (λ number. mark_begun number at.part hubs) is;
+      third = ap version_number mark.third;
+      some = mark.some;
+      most = mark.most;
+      ascend = r.0;
+      nodes = r.1;
+    })
+
+begun_ways : (sh : Shape) (d : DualAt) (from to : ℕ) (ns : List ℕ) (given : List Item) → WaysAre sh.n from to ns given → IsBegun (stage_at sh (Proof d)) given
+begun_ways sh d from to ns given h = inr (record {
+  proof = record { turns = h.turns; scale = h.scale; ways = h.ways };
+  are = h.given_ways;
+  in_range = proof_wanted sh d h.turns h.scale h.ways from to h.few h.some h.most h.climb;
+})
 
 begun_weights : (sh : Shape) (t : TreeAt) (before : ℕ) (ns : List ℕ) (given : List Item) → WeightsAre t before ns given → IsBegun (stage_at sh (Tree t)) given
 begun_weights sh t before ns given h = inr (record {
@@ -113,16 +128,24 @@ described_begun sh (RouteTo c) ns given names h = h.given_none
 described_begun sh (RouteFirst c) ns given names h = h.given_none
 described_begun sh (RouteLast c k) ns given names h = h.are.given_none
 described_begun sh CutCount ns given names h = h.given_none
-described_begun sh (CutNumber all before) ns given names h = h.given_none
+described_begun sh (CutNumber all before) ns given names h = inl h.given_none
+described_begun sh (MarkHub at before) ns given names h = begun_mark sh at before h.hubs given h.mark h.given_hubs h.climbs
 described_begun sh (DualFrom d) ns given names h = inl h.given_none
 described_begun sh (DualTo d) ns given names h = inl h.given_none
-described_begun sh (CutPart all number) ns given names h = h.are.given_none
+described_begun sh (CutPart all number) ns given names h = inl h.are.given_none
 described_begun sh (RunFrom d) ns given names h = inl h.are.given_none
 described_begun sh (RunTo d) ns given names h = inl h.are.given_none
 described_begun sh (RunLength d) ns given names h = inl h.are.given_none
-described_begun sh (DualPrice run) ns given names h = inl h.are.given_none
-described_begun sh (ValueNode run before) ns given names h = begun_values sh run before ns given names h
-described_begun sh (ValueAmount run number) ns given names h = begun_values sh run h.before h.front given names h.values
+described_begun sh (ProvedFrom d) ns given names h = inl h.given_none
+described_begun sh (ProvedTo d) ns given names h = inl h.given_none
+described_begun sh (DualPrice subject) ns given names h = begun_nothing sh (stage_of_subject subject) given h.are.given_none
+described_begun sh (ValueNode subject before) ns given names h = begun_values sh subject before ns given names h
+described_begun sh (ValueAmount subject number) ns given names h = begun_values sh subject h.before h.front given names h.values
+described_begun sh (ProofTurns d) ns given names h = inl h.given_none
+described_begun sh (ProofScale d turns) ns given names h = inl h.are.given_none
+described_begun sh (WayFrom at) ns given names h = begun_ways sh at.dual at.from at.to ns given h
+described_begun sh (WayTo at from) ns given names h = begun_ways sh at.dual at.from at.to h.front given h.ways
+described_begun sh (WayTaken at) ns given names h = begun_ways sh at.dual h.from h.to h.front given h.ways
 described_begun sh LineCount ns given names h = h.given_none
 described_begun sh (BranchNode t) ns given names h = inl h.given_none
 described_begun sh (BlockFrom t) ns given names h = inl h.are.given_none
@@ -132,10 +155,6 @@ described_begun sh (WeightCut t before) ns given names h = begun_weights sh t be
 described_begun sh (WeightAmount t number) ns given names h = begun_weights sh t h.before h.front given h.weights
 
 -- ---- the bytes of a line
-
--- a keyword, and numbers with a space behind each
-abbrev pub front_text : List ℕ → List ℕ → List ℕ
-front_text word ns = word ++ 32 ∷ flat_map (λ m. decimal m ++ 32 ∷ []) ns
 
 pub front_more : (word ns : List ℕ) (m : ℕ) → front_text word ns ++ (decimal m ++ 32 ∷ []) ≡ front_text word (ns ++ m ∷ [])
 front_more word ns m = append_assoc word (32 ∷ flat_map (λ m. decimal m ++ 32 ∷ []) ns) (decimal m ++ 32 ∷ [])
@@ -149,9 +168,9 @@ front_end word (k ∷ ns) m =
     ∙ ap (λ l. word ++ 32 ∷ l) (front_end (decimal k) ns m)
     ∙ sym (append_assoc word (32 ∷ join_with_byte 32 (map decimal (k ∷ (ns ++ m ∷ [])))) (10 ∷ []))
 
-pub line_ends : (line : Line) (word ns : List ℕ) (m : ℕ) → keyword line ≡ word → numbers line ≡ ns ++ m ∷ [] → front_text word ns ++ (decimal m ++ 10 ∷ []) ≡ line_bytes line
-unfolding line_text
-line_ends line word ns m k e = front_end word ns m ∙ (λ i. join_with_byte 32 (sym k i ∷ map decimal (sym e i)) ++ 10 ∷ [])
+pub line_ends : (line : Line) (word ns : List ℕ) (m : ℕ) → line_text line ≡ join_with_byte 32 (word ∷ map decimal (ns ++ m ∷ []))
+    → front_text word ns ++ (decimal m ++ 10 ∷ []) ≡ line_bytes line
+line_ends line word ns m text = front_end word ns m ∙ ap (λ l. l ++ 10 ∷ []) (sym text)
 
 -- the digits of a number that have come
 pub record DigitsAre (v : ℕ) (digits : List ℕ) : Type 0 where
@@ -166,8 +185,8 @@ pub record KeywordIs (sh : Shape) (stage : Stage) (head : Head) (matched : ℕ) 
   pub stage_is : stage_of_head head ≡ stage
   pub known : HasHead sh head
   pub few : matched ≤ length (keyword_of head)
-  pub text : bytes ≡ take matched (keyword_of head)
-  pub given_none : given ≡ []
+  pub text : bytes ≡ front_of_head head ++ take matched (keyword_of head)
+  pub given_is : given ≡ given_of_head head
 
 pub record NumberIs (sh : Shape) (stage : Stage) (place : Place) (value : Option ℕ) (bytes : List ℕ) (given : List Item) : Type 0 where
   pub stage_is : stage_of place ≡ stage
@@ -176,6 +195,16 @@ pub record NumberIs (sh : Shape) (stage : Stage) (place : Place) (value : Option
   pub text : bytes ≡ front_text (word_of place) ns ++ digits
   pub spelled : IsSpelled value digits
   pub described : Described sh place ns given
+
+-- what was given before a word of the line
+head_begun : (sh : Shape) (head : Head) → HasHead sh head → IsBegun (stage_at sh (stage_of_head head)) (given_of_head head)
+head_begun sh (MarkWord at) known = begun_mark sh at 0 [] (given_of_head (MarkWord at)) known refl refl
+head_begun sh head known = begun_none sh (stage_of_head head)
+
+pub word_begun : (sh : Shape) (stage : Stage) (head : Head) (given : List Item) → stage_of_head head ≡ stage → HasHead sh head → given ≡ given_of_head head
+    → IsBegun (stage_at sh stage) given
+word_begun sh stage head given is known given_is =
+    subst (λ x. IsBegun (stage_at sh x) given) is (subst (IsBegun (stage_at sh (stage_of_head head))) (sym given_is) (head_begun sh head known))
 
 -- what the bytes of a line at this stage, which have led to a position, say
 abbrev pub Here : Shape → Stage → Position → List ℕ → List Item → Type 0

@@ -2,25 +2,27 @@
 use Rattle.std.proofs.Common.{◌≡◌, ℕ, ◌<◌, Bool, true, false, List, [], ◌∷◌, length, get_or, Option, None, nat_lt, refl, arith, zero, suc}
 use Rattle.std.specs.List.{list_all}
 use Rattle.std.proofs.lemmas.Bool.{cond_both, and_parts, ltb-true}
-use Rattle.cert_scan.specs.Moves.{taken_by, cut_by, refusal, more_by, whole_by, open_by, allowed, keyword_of}
+use Rattle.cert_scan.specs.Moves.{taken_by, cut_by, part_by, refusal, more_by, whole_by, open_by, allowed, keyword_of}
 use Rattle.cert_scan.specs.declared.items.Item.{Item}
 use Rattle.cert_scan.specs.declared.bytes.Move.{Move}
 use Rattle.cert_scan.specs.declared.bytes.Position.{Position}
-use Rattle.cert_scan.specs.declared.bytes.Position.TheVariants.{Start, Number, Spoiled, Failed}
+use Rattle.cert_scan.specs.declared.bytes.Position.TheVariants.{Start, Keyword, Number, Spoiled, Failed}
 use Rattle.cert_scan.specs.declared.heads.Head.{Head}
-use Rattle.cert_scan.specs.declared.heads.Head.TheVariants.{VersionLine, SizeLine, CostLine, BoundLine, HubsLine, RouteLine, CutsLine, CutLine, DualLine, DualsLine, NodesLine, BranchLine, LeafLine, EmptyLine, BlockLine, CountLine, EndLine}
+use Rattle.cert_scan.specs.declared.heads.Head.TheVariants.{VersionLine, SizeLine, CostLine, BoundLine, HubsLine, RouteLine, CutsLine, CutLine, MarkWord, DualLine, DualsLine, ProvedLine, ProofLine, NodesLine, BranchLine, LeafLine, EmptyLine, BlockLine, CountLine, EndLine}
 use Rattle.cert_scan.specs.declared.places.Place.{Place}
-use Rattle.cert_scan.specs.declared.places.Place.TheVariants.{VersionNumber, NodeCount, CandidateCount, CostAmount, BoundAmount, HubNode, RouteFrom, RouteTo, RouteFirst, RouteLast, CutCount, CutNumber, CutPart, DualFrom, DualTo, RunFrom, RunTo, RunLength, DualPrice, ValueNode, ValueAmount, LineCount, BranchNode, BlockFrom, BlockTo, Denominator, WeightCut, WeightAmount}
+use Rattle.cert_scan.specs.declared.places.Place.TheVariants.{VersionNumber, NodeCount, CandidateCount, CostAmount, BoundAmount, HubNode, RouteFrom, RouteTo, RouteFirst, RouteLast, CutCount, CutNumber, CutPart, MarkHub, DualFrom, DualTo, RunFrom, RunTo, RunLength, ProvedFrom, ProvedTo, DualPrice, ValueNode, ValueAmount, ProofTurns, ProofScale, WayFrom, WayTo, WayTaken, LineCount, BranchNode, BlockFrom, BlockTo, Denominator, WeightCut, WeightAmount}
 use Rattle.cert_scan.specs.declared.items.Version.{Version as TextVersion}
-use Rattle.cert_scan.specs.declared.items.Version.TheVariants.{First, Second}
+use Rattle.cert_scan.specs.declared.items.Version.TheVariants.{First, Second, Third}
 use Rattle.cert_scan.specs.declared.stages.Stage.{Stage}
+use Rattle.cert_scan.specs.declared.stages.MarkAt.{MarkAt}
 use Rattle.cert_scan.specs.declared.stages.Shape.{Shape}
 
--- behind the last number of a line a line begins or was bad, and behind another one a number begins or the line is spoiled
+-- behind the last number of a line a line begins or was bad, and behind another one a number or a word begins or the line is spoiled
 abbrev pub Leaves : Bool → Position → Type 0
 Leaves true (Start stage) = Unit {0}
 Leaves true Failed = Unit {0}
 Leaves false (Number place None) = Unit {0}
+Leaves false (Keyword head matched) = Unit {0}
 Leaves false Spoiled = Unit {0}
 Leaves last position = ⊥
 
@@ -49,6 +51,13 @@ turns_allowed test last next h = cond_both test next (refusal last) (Turns last)
 turns_cut : (version : TextVersion) (all number : ℕ) (last : Bool) → Turns last (cut_by version all number last)
 turns_cut First all number last = turns_whole last _ _
 turns_cut Second all number last = turns_more last _
+turns_cut Third all number last = turns_more last _
+
+turns_part : (version : TextVersion) (at : MarkAt) (last : Bool) → Turns last (part_by version at last)
+turns_part First at last = turns_whole last _ _
+turns_part Second at last = turns_whole last _ _
+turns_part Third at true = tt
+turns_part Third at false = tt
 
 pub taken_leaves : (sh : Shape) (place : Place) (v : ℕ) (last : Bool) → Leaves last (taken_by sh place v last).position
 taken_leaves sh VersionNumber v last = turns_allowed _ last _ (turns_whole last _ _)
@@ -63,15 +72,23 @@ taken_leaves sh (RouteFirst c) v last = turns_allowed _ last _ (turns_more last 
 taken_leaves sh (RouteLast c k) v last = turns_allowed _ last _ (turns_whole last _ _)
 taken_leaves sh CutCount v last = turns_allowed _ last _ (turns_whole last _ _)
 taken_leaves sh (CutNumber all before) v last = turns_allowed _ last _ (turns_cut sh.version all v last)
-taken_leaves sh (CutPart all number) v last = turns_allowed _ last _ (turns_whole last _ _)
+taken_leaves sh (CutPart all number) v last = turns_allowed _ last _ (turns_part sh.version _ last)
+taken_leaves sh (MarkHub at before) v last = turns_allowed _ last _ (turns_open last _ _ _)
 taken_leaves sh (DualFrom d) v last = turns_allowed _ last _ (turns_more last _)
 taken_leaves sh (DualTo d) v last = turns_allowed _ last _ (turns_more last _)
 taken_leaves sh (RunFrom d) v last = turns_allowed _ last _ (turns_more last _)
 taken_leaves sh (RunTo d) v last = turns_allowed _ last _ (turns_more last _)
 taken_leaves sh (RunLength d) v last = turns_allowed _ last _ (turns_more last _)
+taken_leaves sh (ProvedFrom d) v last = turns_allowed _ last _ (turns_more last _)
+taken_leaves sh (ProvedTo d) v last = turns_allowed _ last _ (turns_more last _)
 taken_leaves sh (DualPrice run) v last = turns_allowed _ last _ (turns_open last _ _ _)
 taken_leaves sh (ValueNode d before) v last = turns_allowed _ last _ (turns_more last _)
 taken_leaves sh (ValueAmount d number) v last = turns_allowed _ last _ (turns_open last _ _ _)
+taken_leaves sh (ProofTurns d) v last = turns_allowed _ last _ (turns_more last _)
+taken_leaves sh (ProofScale d turns) v last = turns_allowed _ last _ (turns_open last _ _ _)
+taken_leaves sh (WayFrom at) v last = turns_allowed _ last _ (turns_more last _)
+taken_leaves sh (WayTo at from) v last = turns_allowed _ last _ (turns_more last _)
+taken_leaves sh (WayTaken at) v last = turns_allowed _ last _ (turns_open last _ _ _)
 taken_leaves sh LineCount v last = turns_allowed _ last _ (turns_whole last _ _)
 taken_leaves sh (BranchNode t) v last = turns_allowed _ last _ (turns_whole last _ _)
 taken_leaves sh (BlockFrom t) v last = turns_allowed _ last _ (turns_more last _)
@@ -93,8 +110,11 @@ letters HubsLine = refl
 letters (RouteLine c) = refl
 letters CutsLine = refl
 letters (CutLine all before) = refl
+letters (MarkWord at) = refl
 letters (DualLine d) = refl
 letters (DualsLine d) = refl
+letters (ProvedLine d) = refl
+letters (ProofLine d) = refl
 letters NodesLine = refl
 letters (BranchLine t) = refl
 letters (LeafLine t) = refl

@@ -5,21 +5,23 @@ use Rattle.hub_spec.specs.Limits.{most_nodes, most_part, most_denominator, most_
 use Rattle.cert_spec.specs.Grammar as grammar
 use Rattle.cert_spec.specs.Grammar.{Wants, IsOpen, IsVersion, want_hubs}
 use Rattle.cert_spec.specs.Reading.{IsSize}
-use Rattle.cert_scan.specs.Moves.{more_by, whole_by, open_by, taken_by, allowed, within, may_fill, amount_limit, alone, first_dual_of, stage_after_route, stage_after_dual, stage_after_tree, stage_after_filled}
+use Rattle.cert_scan.specs.Moves.{more_by, whole_by, open_by, taken_by, allowed, cut_by, part_by, within, may_fill, amount_limit, alone, subject_run, first_dual_of, stage_after_route, stage_after_subject, stage_after_tree, stage_after_filled}
 use Rattle.cert_scan.specs.Parts.{none_left}
 use Rattle.cert_scan.specs.Pieces.{told_values, told_weights}
 use Rattle.cert_scan.proofs.Climbs.{Climbs}
 use Rattle.cert_scan.proofs.StagesAt.{text_shape, number_of, IsRunOf, IsCommodity, IsAt, first_commodity, route_at, tree_at}
-use Rattle.cert_scan.specs.declared.items.Version.TheVariants.{First, Second}
+use Rattle.cert_scan.specs.declared.items.Version.TheVariants.{First, Second, Third}
 use Rattle.cert_scan.specs.declared.items.Item.{Item}
 use Rattle.cert_scan.specs.declared.items.Item.TheVariants.{Size as size_item, Route as route_item, Cut as cut_item, Dual as dual_item, DualPair as pair_item, Branch as branch_item, Leaf as leaf_item, LeafPair as weight_item, Block as block_item}
 use Rattle.cert_scan.specs.declared.bytes.Move.{Move}
 use Rattle.cert_scan.specs.declared.places.Place.{Place}
-use Rattle.cert_scan.specs.declared.places.Place.TheVariants.{NodeCount, CandidateCount, RouteFrom, RouteTo, RouteFirst, RouteLast, CutNumber, CutPart, DualFrom, DualTo, RunFrom, RunTo, RunLength, DualPrice, ValueNode, BranchNode, BlockFrom, BlockTo, Denominator, WeightCut}
+use Rattle.cert_scan.specs.declared.places.Place.TheVariants.{NodeCount, CandidateCount, RouteFrom, RouteTo, RouteFirst, RouteLast, CutNumber, CutPart, DualFrom, DualTo, RunFrom, RunTo, RunLength, ProvedFrom, ProvedTo, DualPrice, ValueNode, BranchNode, BlockFrom, BlockTo, Denominator, WeightCut}
 use Rattle.cert_scan.specs.declared.stages.Commodity.{Commodity}
 use Rattle.cert_scan.specs.declared.stages.DualAt.{DualAt}
 use Rattle.cert_scan.specs.declared.stages.TreeAt.{TreeAt}
 use Rattle.cert_scan.specs.declared.stages.Stage.TheVariants.{Cost}
+use Rattle.cert_scan.specs.declared.stages.Subject.{Subject}
+use Rattle.cert_scan.specs.declared.stages.Subject.TheVariants.{Plain, Proved}
 use Rattle.cert_scan.specs.declared.stages.Run.{Run}
 use Rattle.cert_scan.specs.declared.stages.Shape.{Shape}
 use Rattle.cert_scan.proofs.NumberReads.{Reads, allows, is_within, last_number, next_number, node_back}
@@ -31,6 +33,9 @@ first_shape n = record { version = First; n = n }
 
 abbrev pub second_shape : ℕ → Shape
 second_shape n = record { version = Second; n = n }
+
+abbrev pub third_shape : ℕ → Shape
+third_shape n = record { version = Third; n = n }
 
 pub reads_size : (sh : Shape) (nodes q : ℕ) → 1 ≤ nodes → nodes ≤ most_nodes → 1 ≤ q → q ≤ nodes
     → Reads sh NodeCount ((nodes, None) ∷ (q, Some (size_item nodes q)) ∷ []) (grammar.want_cost (text_shape (record { version = sh.version; n = nodes })))
@@ -71,50 +76,59 @@ cut_fits all before low few =
 
 -- a cut of the first version
 pub reads_whole_cut : (n all before : ℕ) → IsSize n → before < all → all ≤ most_cuts
-    → Reads (first_shape n) (CutNumber all before) ((before + 1, Some (cut_item (before + 1) 1)) ∷ []) (grammar.want_dual (text_shape (first_shape n)) all before 0 None)
+    → Reads (first_shape n) (CutNumber all before) ((before + 1, Some (cut_item (before + 1) 1 true)) ∷ [])
+    (grammar.want_dual (text_shape (first_shape n)) all before 0 None)
 reads_whole_cut n all before size low few =
-    let dual : ℕ → Move = λ x. whole_by true (Some (cut_item (before + 1) 1)) (first_dual_of all x) in
-    last_number (first_shape n) (CutNumber all before) (before + 1) (Some (cut_item (before + 1) 1)) (first_dual_of all before)
+    let dual : ℕ → Move = λ x. whole_by true (Some (cut_item (before + 1) 1 true)) (first_dual_of all x) in
+    last_number (first_shape n) (CutNumber all before) (before + 1) (Some (cut_item (before + 1) 1 true)) (first_dual_of all before)
     (grammar.want_dual (text_shape (first_shape n)) all before 0 None) (omega arith)
     (allows (nat_eq (before + 1) (before + 1) && nat_le (before + 1) most_cuts) true (dual (before + 1 - 1)) (cut_fits all before low few)
     ∙ ap dual (node_back before))
     (first_dual_at (first_shape n) all before size)
 
--- and one of the second, with its part
-pub reads_cut_part : (n all before part : ℕ) → IsSize n → before < all → all ≤ most_cuts → 1 ≤ part → part ≤ most_part
-    → Reads (second_shape n) (CutNumber all before) ((before + 1, None) ∷ (part, Some (cut_item (before + 1) part)) ∷ [])
-    (grammar.want_dual (text_shape (second_shape n)) all before 0 None)
-reads_cut_part n all before part size low few some most =
-    let sh = second_shape n in
-    let behind_it = grammar.want_dual (text_shape (second_shape n)) all before 0 None in
-    let dual : ℕ → Move = λ x. whole_by true (Some (cut_item (before + 1) part)) (first_dual_of all x) in
-    next_number (second_shape n) (CutNumber all before) (before + 1) None (part, Some (cut_item (before + 1) part)) [] (CutPart all (before + 1)) behind_it (omega arith)
-    (allows (nat_eq (before + 1) (before + 1) && nat_le (before + 1) most_cuts) false (more_by false (CutPart all (before + 1))) (cut_fits all before low few)) refl
-    (last_number (second_shape n) (CutPart all (before + 1)) part (Some (cut_item (before + 1) part)) (first_dual_of all before) behind_it (omega arith)
-    (allows (within part most_part) true (dual (before + 1 - 1)) (is_within part most_part some most) ∙ ap dual (node_back before))
-    (first_dual_at (second_shape n) all before size))
+-- and one of a later version, with its part
+pub reads_cut_part : (sh : Shape) (all before part : ℕ) → IsSize sh.n → before < all → all ≤ most_cuts → 1 ≤ part → part ≤ most_part
+    → cut_by sh.version all (before + 1) false ≡ more_by false (CutPart all (before + 1))
+    → part_by sh.version (record { all = all; number = before + 1; part = part }) true
+    ≡ whole_by true (Some (cut_item (before + 1) part true)) (first_dual_of all (before + 1 - 1))
+    → Reads sh (CutNumber all before) ((before + 1, None) ∷ (part, Some (cut_item (before + 1) part true)) ∷ [])
+    (grammar.want_dual (text_shape sh) all before 0 None)
+reads_cut_part sh all before part size low few some most number_taken part_taken =
+    let behind_it = grammar.want_dual (text_shape sh) all before 0 None in
+    let dual : ℕ → Move = λ x. whole_by true (Some (cut_item (before + 1) part true)) (first_dual_of all x) in
+    next_number sh (CutNumber all before) (before + 1) None (part, Some (cut_item (before + 1) part true)) [] (CutPart all (before + 1)) behind_it (omega arith)
+    (allows (nat_eq (before + 1) (before + 1) && nat_le (before + 1) most_cuts) false (cut_by sh.version all (before + 1) false)
+    (cut_fits all before low few) ∙ number_taken) refl
+    (last_number sh (CutPart all (before + 1)) part (Some (cut_item (before + 1) part true)) (first_dual_of all before) behind_it (omega arith)
+    (allows (within part most_part) true (part_by sh.version (record { all = all; number = before + 1; part = part }) true) (is_within part most_part some most)
+    ∙ part_taken ∙ ap dual (node_back before))
+    (first_dual_at sh all before size))
 
 -- what a price gives, and where it leads to
-abbrev pub price_move : Shape → Run → ℕ → Bool → Move
-price_move sh run a last =
-    open_by last (dual_item run.first.commodity.from run.first.commodity.to run.length a last) (ValueNode run 0) (stage_after_dual sh.n run)
+abbrev pub price_move : Shape → Subject → ℕ → Bool → Move
+price_move sh subject a last =
+    let run = subject_run subject in
+    open_by last (dual_item run.first.commodity.from run.first.commodity.to run.length a last) (ValueNode subject 0) (stage_after_subject sh.n subject)
 
-pub price_taken : (sh : Shape) (run : Run) (a : ℕ) (last : Bool) → a < amount_limit sh.version → taken_by sh (DualPrice run) a last ≡ price_move sh run a last
-price_taken sh run a last short = allows (nat_lt a (amount_limit sh.version)) last (price_move sh run a last) (lt-ltb a (amount_limit sh.version) short)
+pub price_taken : (sh : Shape) (subject : Subject) (a : ℕ) (last : Bool) → a < amount_limit sh.version
+    → taken_by sh (DualPrice subject) a last ≡ price_move sh subject a last
+price_taken sh subject a last short = allows (nat_lt a (amount_limit sh.version)) last (price_move sh subject a last) (lt-ltb a (amount_limit sh.version) short)
 
 -- the price of a run
 abbrev pub told_price : Run → ℕ → Bool → ℕ × Option Item
 told_price run a last = (a, Some (dual_item run.first.commodity.from run.first.commodity.to run.length a last))
 
-pub reads_price : (sh : Shape) (run : Run) (a : ℕ) (u : List (ℕ × ℕ)) (high : ℕ) (behind_it : grammar.Stage) → sh.n ≤ most_nodes → IsAt sh (stage_after_dual sh.n run) behind_it
-    → a < amount_limit sh.version → Climbs (is_value sh) node_of 0 u high → Reads sh (DualPrice run) (told_price run a (none_left u) ∷ told_values u) behind_it
-reads_price sh run a [] high behind_it few at short h =
-    last_number sh (DualPrice run) a (told_price run a true).1 (stage_after_dual sh.n run) behind_it (omega (arith, short, limit_most sh.version))
-    (price_taken sh run a true short) at
-reads_price sh run a (e ∷ rest) high behind_it few at short h =
-    next_number sh (DualPrice run) a (told_price run a false).1 (e.0 + 1, None)
-    ((e.1, Some (pair_item e.0 e.1 (none_left rest))) ∷ told_values rest) (ValueNode run 0) behind_it (omega (arith, short, limit_most sh.version))
-    (price_taken sh run a false short) refl (reads_values sh run 0 e rest high behind_it few at h)
+pub reads_price : (sh : Shape) (subject : Subject) (a : ℕ) (u : List (ℕ × ℕ)) (high : ℕ) (behind_it : grammar.Stage) → sh.n ≤ most_nodes
+    → IsAt sh (stage_after_subject sh.n subject) behind_it → a < amount_limit sh.version → Climbs (is_value sh) node_of 0 u high
+    → Reads sh (DualPrice subject) (told_price (subject_run subject) a (none_left u) ∷ told_values u) behind_it
+reads_price sh subject a [] high behind_it few at short h =
+    last_number sh (DualPrice subject) a (told_price (subject_run subject) a true).1 (stage_after_subject sh.n subject) behind_it
+    (omega (arith, short, limit_most sh.version))
+    (price_taken sh subject a true short) at
+reads_price sh subject a (e ∷ rest) high behind_it few at short h =
+    next_number sh (DualPrice subject) a (told_price (subject_run subject) a false).1 (e.0 + 1, None)
+    ((e.1, Some (pair_item e.0 e.1 (none_left rest))) ∷ told_values rest) (ValueNode subject 0) behind_it (omega (arith, short, limit_most sh.version))
+    (price_taken sh subject a false short) refl (reads_values sh subject 0 e rest high behind_it few at h)
 
 -- the nodes of a commodity
 abbrev pub node_told : ℕ → ℕ × Option Item
@@ -128,16 +142,28 @@ reads_node sh place next k u rest behind_it low few taken more =
     (taken ∙ allows (nat_eq (k + 1) (k + 1)) false (more_by false next) (eq-eqb (k + 1) (k + 1) refl)) refl more
 
 pub reads_dual : (sh : Shape) (d : DualAt) (a : ℕ) (u : List (ℕ × ℕ)) (high : ℕ) (behind_it : grammar.Stage) → sh.n ≤ most_nodes → IsCommodity sh.n d.commodity
-    → IsAt sh (stage_after_dual sh.n (alone d)) behind_it → a < amount_limit sh.version → Climbs (is_value sh) node_of 0 u high
+    → IsAt sh (stage_after_subject sh.n (Plain (alone d))) behind_it → a < amount_limit sh.version → Climbs (is_value sh) node_of 0 u high
     → Reads sh (DualFrom d) (node_told d.commodity.from ∷ node_told d.commodity.to ∷ told_price (alone d) a (none_left u) ∷ told_values u) behind_it
 reads_dual sh d a u high behind_it few c at short h =
     let price = told_price (alone d) a (none_left u) in
     reads_node sh (DualFrom d) (DualTo d) d.commodity.from (node_told d.commodity.to) (price ∷ told_values u) behind_it c.from few refl
-    (reads_node sh (DualTo d) (DualPrice (alone d)) d.commodity.to price (told_values u) behind_it c.to few refl
-    (reads_price sh (alone d) a u high behind_it few at short h))
+    (reads_node sh (DualTo d) (DualPrice (Plain (alone d))) d.commodity.to price (told_values u) behind_it c.to few refl
+    (reads_price sh (Plain (alone d)) a u high behind_it few at short h))
+
+-- and the dual of a marked cut
+pub reads_proved : (sh : Shape) (d : DualAt) (a : ℕ) (u : List (ℕ × ℕ)) (high : ℕ) (behind_it : grammar.Stage) → sh.n ≤ most_nodes
+    → IsCommodity sh.n d.commodity
+    → IsAt sh (stage_after_subject sh.n (Proved d)) behind_it → a < amount_limit sh.version → Climbs (is_value sh) node_of 0 u high
+    → Reads sh (ProvedFrom d) (node_told d.commodity.from ∷ node_told d.commodity.to ∷ told_price (alone d) a (none_left u) ∷ told_values u) behind_it
+reads_proved sh d a u high behind_it few c at short h =
+    let price = told_price (alone d) a (none_left u) in
+    reads_node sh (ProvedFrom d) (ProvedTo d) d.commodity.from (node_told d.commodity.to) (price ∷ told_values u) behind_it c.from few refl
+    (reads_node sh (ProvedTo d) (DualPrice (Proved d)) d.commodity.to price (told_values u) behind_it c.to few refl
+    (reads_price sh (Proved d) a u high behind_it few at short h))
 
 pub reads_run : (sh : Shape) (run : Run) (a : ℕ) (u : List (ℕ × ℕ)) (high : ℕ) (behind_it : grammar.Stage) → sh.n ≤ most_nodes → IsCommodity sh.n run.first.commodity
-    → 2 ≤ run.length → IsRunOf sh run → IsAt sh (stage_after_dual sh.n run) behind_it → a < amount_limit sh.version → Climbs (is_value sh) node_of 0 u high
+    → 2 ≤ run.length → IsRunOf sh run → IsAt sh (stage_after_subject sh.n (Plain run)) behind_it → a < amount_limit sh.version
+    → Climbs (is_value sh) node_of 0 u high
     → Reads sh (RunFrom run.first)
     (node_told run.first.commodity.from ∷ node_told run.first.commodity.to ∷ (run.length, None) ∷ told_price run a (none_left u) ∷ told_values u) behind_it
 reads_run sh run a u high behind_it few c several is at short h =
@@ -146,10 +172,10 @@ reads_run sh run a u high behind_it few c several is at short h =
     let fits = is.within in
     reads_node sh (RunFrom d) (RunTo d) d.commodity.from (node_told d.commodity.to) ((run.length, None) ∷ price ∷ told_values u) behind_it c.from few refl
     (reads_node sh (RunTo d) (RunLength d) d.commodity.to (run.length, None) (price ∷ told_values u) behind_it c.to few refl
-    (next_number sh (RunLength d) run.length None price (told_values u) (DualPrice run) behind_it (omega arith)
-    (allows (nat_le 2 run.length && nat_le (d.commodity.to + run.length) sh.n) false (more_by false (DualPrice run))
+    (next_number sh (RunLength d) run.length None price (told_values u) (DualPrice (Plain run)) behind_it (omega arith)
+    (allows (nat_le 2 run.length && nat_le (d.commodity.to + run.length) sh.n) false (more_by false (DualPrice (Plain run)))
     (and_from (nat_le 2 run.length) (nat_le (d.commodity.to + run.length) sh.n) (le-leb 2 run.length several) (le-leb (d.commodity.to + run.length) sh.n fits))) refl
-    (reads_price sh run a u high behind_it few at short h)))
+    (reads_price sh (Plain run) a u high behind_it few at short h)))
 
 -- what a branch gives, and where it leads to
 abbrev pub branch_move : TreeAt → ℕ → Move

@@ -17,11 +17,11 @@ use Rattle.cert_scan.specs.declared.bytes.Move.{Move}
 use Rattle.cert_scan.specs.declared.bytes.Position.TheVariants.{Start, Keyword, Number}
 use Rattle.cert_scan.specs.declared.digits.ShortNumber.{ShortNumber}
 use Rattle.cert_scan.specs.declared.heads.Head.{Head}
-use Rattle.cert_scan.specs.declared.heads.Head.TheVariants.{VersionLine, SizeLine, CostLine, BoundLine, HubsLine, RouteLine, CutsLine, CutLine, DualLine, DualsLine, NodesLine, BranchLine, LeafLine, EmptyLine, BlockLine, CountLine, EndLine}
+use Rattle.cert_scan.specs.declared.heads.Head.TheVariants.{VersionLine, SizeLine, CostLine, BoundLine, HubsLine, RouteLine, CutsLine, CutLine, MarkWord, DualLine, DualsLine, ProvedLine, ProofLine, NodesLine, BranchLine, LeafLine, EmptyLine, BlockLine, CountLine, EndLine}
 use Rattle.cert_scan.specs.declared.places.Place.{Place}
 use Rattle.cert_scan.specs.declared.stages.Shape.{Shape}
 use Rattle.cert_scan.specs.declared.stages.Stage.{Stage}
-use Rattle.cert_scan.specs.declared.stages.Stage.TheVariants.{Version, Size, Cost, Bound, Hubs, Route, Cuts, Cut, Dual, Nodes, Tree, End, Nothing}
+use Rattle.cert_scan.specs.declared.stages.Stage.TheVariants.{Version, Size, Cost, Bound, Hubs, Route, Cuts, Cut, Dual, ProvedDual, Proof, Nodes, Tree, End, Nothing}
 use Rattle.cert_scan.specs.declared.scanner.Scan.{Scan}
 
 -- ---- a number
@@ -68,6 +68,8 @@ start_moves sh (Route c) head byte e = ap (λ h. begun_as sh.version h byte) e
 start_moves sh Cuts head byte e = ap (λ h. begun_as sh.version h byte) e
 start_moves sh (Cut all before) head byte e = ap (λ h. begun_as sh.version h byte) e
 start_moves sh (Dual d) head byte e = ap (λ h. begun_as sh.version h byte) e
+start_moves sh (ProvedDual d) head byte e = ap (λ h. begun_as sh.version h byte) e
+start_moves sh (Proof d) head byte e = ap (λ h. begun_as sh.version h byte) e
 start_moves sh Nodes head byte e = ap (λ h. begun_as sh.version h byte) e
 start_moves sh (Tree t) head byte e = ap (λ h. begun_as sh.version h byte) e
 start_moves sh End head byte e = ap (λ h. begun_as sh.version h byte) e
@@ -81,8 +83,11 @@ keyword_some HubsLine = omega arith
 keyword_some (RouteLine c) = omega arith
 keyword_some CutsLine = omega arith
 keyword_some (CutLine all before) = omega arith
+keyword_some (MarkWord at) = omega arith
 keyword_some (DualLine d) = omega arith
 keyword_some (DualsLine d) = omega arith
+keyword_some (ProvedLine d) = omega arith
+keyword_some (ProofLine d) = omega arith
 keyword_some NodesLine = omega arith
 keyword_some (BranchLine t) = omega arith
 keyword_some (LeafLine t) = omega arith

@@ -1,5 +1,5 @@
 -- What each number of a list makes of the line so far: hubs, the values of a dual, the weights of a leaf.
-use Rattle.std.proofs.Common.{◌≡◌, ℕ, ◌+◌, ◌-◌, ◌^◌, ◌<◌, ◌≤◌, Bool, true, false, not, ◌&&◌, ◌||◌, List, [], ◌∷◌, ◌++◌, length, map, All, Some, nat_lt, nat_le, nat_eq, refl, sym, ap, ◌∙◌, subst, append_assoc, append-nil, arith, map-id}
+use Rattle.std.proofs.Common.{◌≡◌, ℕ, ◌+◌, ◌-◌, ◌^◌, ◌<◌, ◌≤◌, Bool, true, false, not, ◌&&◌, ◌||◌, List, [], ◌∷◌, ◌++◌, length, map, codes, All, Some, nat_lt, nat_le, nat_eq, refl, sym, ap, ◌∙◌, subst, append_assoc, append-nil, arith, map-id}
 use Rattle.std.specs.List.{list_all}
 use Rattle.std.specs.List.Sorted.{IsStrictlyIncreasing}
 use Rattle.std.proofs.lemmas.List.Elements.{All-nil}
@@ -13,24 +13,27 @@ use Rattle.hub_spec.specs.Ranges.{IsDualInRange, IsFirstDual}
 use Rattle.cert_spec.specs.Lines.{says_hubs, says_dual, says_tree, value_numbers, weight_numbers}
 use Rattle.cert_spec.specs.Grammar.{Wants, IsOpen, IsVersion, want_hubs, want_version}
 use Rattle.cert_spec.specs.Grammar as grammar
-use Rattle.cert_spec.specs.Reading.{IsSize, ascends, is_amount, is_short, is_dual_text, is_first_dual, is_weights_text, is_tree_line_text, is_first_line}
+use Rattle.cert_spec.specs.Reading.{IsStage, IsSize, ascends, is_amount, is_short, is_dual_text, is_first_dual, is_weights_text, is_tree_line_text, is_first_line}
 use Rattle.cert_spec.proofs.Wanted.{wants_decides, dual_decides, first_dual_decides}
 use Rattle.cert_scan.specs.Versions.{version_number}
-use Rattle.cert_scan.specs.Moves.{taken_by, more_by, open_by, within, follows, may_fill, commodity_by, amount_limit, stage_after_dual, stage_after_filled}
+use Rattle.cert_scan.specs.Moves.{taken_by, more_by, open_by, within, follows, may_fill, commodity_by, amount_limit, subject_run, stage_after_subject, stage_after_filled}
 use Rattle.cert_scan.specs.Parts.{none_left, hub_parts, value_parts, weight_parts, open_hubs, open_values, open_weights}
+use Rattle.cert_scan.proofs.LineTexts.{plain_text}
 use Rattle.cert_scan.proofs.Climbs.{Climbs, climbs_more, climbs_ascend, climbs_pass, all_pass}
-use Rattle.cert_scan.proofs.StagesAt.{stage_at, text_shape, number_of, IsRunOf, run_of, IsCommodity, commodity_named, first_commodity, dual_at, tree_at}
+use Rattle.cert_scan.proofs.StagesAt.{stage_at, stage_of_subject, text_shape, IsRunOf, run_of, IsCommodity, NamesNodes, commodity_named, first_commodity, subject_at, tree_at}
 use Rattle.cert_scan.proofs.ListReads.{limit_most, is_hub, is_value, is_listed, is_short_value, is_weight, node_of}
-use Rattle.cert_scan.proofs.Described.{run_front, Are, RunIs, HubsAre, ValuesAre, ValueAre, WeightsAre, WeightAre, EndIs, Outcome, allowed_is, more_is, open_is, end_is, is_in, is_next}
+use Rattle.cert_scan.proofs.Described.{dual_word, run_front, Are, RunIs, HubsAre, ValuesAre, ValueAre, WeightsAre, WeightAre, EndIs, Outcome, allowed_is, more_is, open_is, end_is, is_in, is_next}
 use Rattle.cert_scan.specs.declared.items.Version.{Version as TextVersion}
-use Rattle.cert_scan.specs.declared.items.Version.TheVariants.{First, Second}
+use Rattle.cert_scan.specs.declared.items.Version.TheVariants.{First, Second, Third}
 use Rattle.cert_scan.specs.declared.items.Item.{Item}
 use Rattle.cert_scan.specs.declared.items.Item.TheVariants.{Hub as hub_item, Dual as dual_item, DualPair as pair_item, Leaf as leaf_item, LeafPair as weight_item}
 use Rattle.cert_scan.specs.declared.places.Place.TheVariants.{HubNode, DualPrice, ValueNode, ValueAmount, Denominator, WeightCut, WeightAmount}
 use Rattle.cert_scan.specs.declared.stages.TreeAt.{TreeAt}
+use Rattle.cert_scan.specs.declared.stages.Subject.{Subject}
+use Rattle.cert_scan.specs.declared.stages.Subject.TheVariants.{Plain, Proved}
 use Rattle.cert_scan.specs.declared.stages.Run.{Run}
 use Rattle.cert_scan.specs.declared.stages.Shape.{Shape}
-use Rattle.cert_scan.specs.declared.stages.Stage.TheVariants.{Route, Dual, Tree}
+use Rattle.cert_scan.specs.declared.stages.Stage.TheVariants.{Route, Tree}
 
 -- ---- hubs
 
@@ -48,7 +51,8 @@ hubs_more sh before ns given k h low high = record {
   climbs = climbs_more (is_hub sh.n) (λ x. x) 0 h.hubs before k h.climbs low (lt-ltb k sh.n high);
 }
 
-hubs_wanted : (sh : Shape) (hubs : List ℕ) (k high : ℕ) → Climbs (is_hub sh.n) (λ x. x) 0 (hubs ++ k ∷ []) high → Wants (want_hubs (text_shape sh)) (says_hubs (hubs ++ k ∷ []))
+pub hubs_wanted : (sh : Shape) (hubs : List ℕ) (k high : ℕ) → Climbs (is_hub sh.n) (λ x. x) 0 (hubs ++ k ∷ []) high
+    → Wants (want_hubs (text_shape sh)) (says_hubs (hubs ++ k ∷ []))
 hubs_wanted sh hubs k high h =
     let all = hubs ++ k ∷ [] in
     let up : ascends (hubs ++ k ∷ []) ≡ true = ap ascends (sym (map-id (hubs ++ k ∷ []))) ∙ climbs_ascend (is_hub sh.n) (λ x. x) 0 (hubs ++ k ∷ []) high h in
@@ -73,8 +77,7 @@ unfolding hubs_more
 hubs_end sh before ns given k h size low high = record {
   line = says_hubs (h.hubs ++ k ∷ []);
   wanted = hubs_wanted sh h.hubs k (k + 1) (hubs_more sh before ns given k h low high).climbs;
-  keyword_is = refl;
-  numbers_are = sym (hubs_more sh before ns given k h low high).numbers;
+  text = plain_text (says_hubs (h.hubs ++ k ∷ [])) (codes "hubs") (ns ++ (k + 1) ∷ []) refl (sym (hubs_more sh before ns given k h low high).numbers) refl;
   parts = ap (λ g. g ++ hub_item k true ∷ []) h.given_hubs ∙ hub_parts-last h.hubs k;
   behind = record { is = ap (grammar.want_route (text_shape sh)) (omega arith); names = first_commodity sh.n size.0 };
 }
@@ -104,7 +107,7 @@ value_parts-last [] e = refl
 value_parts-last (x ∷ []) e = refl
 value_parts-last (x ∷ y ∷ rest) e = ap (λ l. pair_item x.0 x.1 false ∷ l) (value_parts-last (y ∷ rest) e)
 
-none_left-more : {X : Type 0} (xs : List X) (x : X) → none_left (xs ++ x ∷ []) ≡ false
+pub none_left-more : {X : Type 0} (xs : List X) (x : X) → none_left (xs ++ x ∷ []) ≡ false
 none_left-more [] x = refl
 none_left-more (y ∷ ys) x = refl
 
@@ -159,6 +162,7 @@ pub record Listed (sh : Shape) (dual : Prices) : Type 0 where
 limit_first : (v : TextVersion) → version_number v ≡ 1 → amount_limit v ≡ 10 ^ 30
 limit_first First e = refl
 limit_first Second e = absurd (omega (arith, e))
+limit_first Third e = absurd (omega (arith, e))
 
 value_listed : (sh : Shape) (e : ℕ × ℕ) → is_value sh e ≡ true → is_listed sh.n e ≡ true
 value_listed sh e h =
@@ -188,10 +192,11 @@ climbs_dual sh a u high short h =
     (all_pass (is_value sh) is_short_value u (value_short sh first) pass) in
     record { in_range = (dual_decides sh.n dual).0 amounts; first = λ first. (first_dual_decides dual).0 (few first) }
 
-dual_wanted : (sh : Shape) (run : Run) (a : ℕ) (u : List (ℕ × ℕ)) (high : ℕ) → IsCommodity sh.n run.first.commodity → IsRunOf sh run → a < amount_limit sh.version
-    → Climbs (is_value sh) node_of 0 u high
-    → Wants (stage_at sh (Dual run.first)) (says_dual (run.first.commodity.from, run.first.commodity.to) run.length (record { a = a; u = u }))
-dual_wanted sh run a u high c is short h =
+pub dual_wanted : (sh : Shape) (subject : Subject) (a : ℕ) (u : List (ℕ × ℕ)) (high : ℕ) → IsCommodity sh.n (subject_run subject).first.commodity
+    → IsRunOf sh (subject_run subject) → a < amount_limit sh.version → Climbs (is_value sh) node_of 0 u high
+    → Wants (stage_at sh (stage_of_subject subject)) (says_dual ((subject_run subject).first.commodity.from, (subject_run subject).first.commodity.to)
+    (subject_run subject).length (record { a = a; u = u }))
+dual_wanted sh (Plain run) a u high c is short h =
     let dual : Prices = record { a = a; u = u } in
     let listed = climbs_dual sh a u high short h in (
       sym (commodity_named sh.n run.first.commodity c),
@@ -200,55 +205,73 @@ dual_wanted sh run a u high c is short h =
       listed.first,
       (λ e. none-some dual e),
     )
+dual_wanted sh (Proved d) a u high c is short h = (sym (commodity_named sh.n d.commodity c), refl, (climbs_dual sh a u high short h).in_range)
 
-value_end : (sh : Shape) (run : Run) (number : ℕ) (ns : List ℕ) (given : List Item) (v : ℕ) → ValueAre sh run number ns given → run.first.before < run.first.all
-    → IsCommodity sh.n run.first.commodity → 1 ≤ v → v < amount_limit sh.version
-    → EndIs sh (ValueAmount run number) (stage_after_dual sh.n run) (ns ++ v ∷ []) given (Some (pair_item (number - 1) v true))
+-- at the stage of a dual not all cuts stand already, and its commodity is named
+pub subject_place : (sh : Shape) (subject : Subject) → IsStage (stage_at sh (stage_of_subject subject))
+    → (subject_run subject).first.before < (subject_run subject).first.all
+subject_place sh (Plain run) s = s.1.0
+subject_place sh (Proved d) s = s.2.0
+
+pub subject_nodes : (sh : Shape) (subject : Subject) → NamesNodes sh (stage_of_subject subject) → IsCommodity sh.n (subject_run subject).first.commodity
+subject_nodes sh (Plain run) names = names
+subject_nodes sh (Proved d) names = names
+
+value_end : (sh : Shape) (subject : Subject) (number : ℕ) (ns : List ℕ) (given : List Item) (v : ℕ) → ValueAre sh (subject_run subject) number ns given
+    → (subject_run subject).first.before < (subject_run subject).first.all → IsCommodity sh.n (subject_run subject).first.commodity → 1 ≤ v
+    → v < amount_limit sh.version
+    → EndIs sh (ValueAmount subject number) (stage_after_subject sh.n subject) (ns ++ v ∷ []) given (Some (pair_item (number - 1) v true))
 unfolding value_more
-value_end sh run number ns given v h place c some short =
+value_end sh subject number ns given v h place c some short =
+    let run = subject_run subject in
     let w = h.values in
     let more = value_more sh run number ns given v h some short in
+    let dual : Prices = record { a = w.a; u = w.u ++ (number - 1, v) ∷ [] } in
+    let nodes : ℕ × ℕ = (run.first.commodity.from, run.first.commodity.to) in
     record {
-      line = says_dual (run.first.commodity.from, run.first.commodity.to) run.length (record { a = w.a; u = w.u ++ (number - 1, v) ∷ [] });
-      wanted = dual_wanted sh run w.a (w.u ++ (number - 1, v) ∷ []) number c w.is_run w.short more.climbs;
-      keyword_is = refl;
-      numbers_are = sym more.numbers;
+      line = says_dual nodes run.length dual;
+      wanted = dual_wanted sh subject w.a (w.u ++ (number - 1, v) ∷ []) number c w.is_run w.short more.climbs;
+      text = plain_text (says_dual nodes run.length dual) (dual_word run.length) (ns ++ v ∷ []) refl (sym more.numbers) refl;
       parts = ap (λ g. g ++ pair_item (number - 1) v true ∷ []) w.given_values
           ∙ ap (λ l. dual_begun run w.a false ∷ l) (value_parts-last w.u (number - 1, v))
           ∙ ap (λ b. dual_begun run w.a b ∷ value_parts (w.u ++ (number - 1, v) ∷ [])) (sym (none_left-more w.u (number - 1, v)));
-      behind = dual_at sh run
-          (grammar.kept_dual (text_shape sh) (number_of sh.n run.first.commodity + run.length) (record { a = w.a; u = w.u ++ (number - 1, v) ∷ [] })) place c w.is_run;
+      behind = subject_at sh subject nodes dual place c w.is_run;
     }
 
-pub value_outcome : (sh : Shape) (run : Run) (number : ℕ) (ns : List ℕ) (given : List Item) (v : ℕ) (last : Bool) → run.first.before < run.first.all
-    → IsCommodity sh.n run.first.commodity → ValueAre sh run number ns given
-    → Outcome sh (ValueAmount run number) (ns ++ v ∷ []) given (taken_by sh (ValueAmount run number) v last)
-value_outcome sh run number ns given v last place c h =
-    allowed_is sh (ValueAmount run number) (ns ++ v ∷ []) given (nat_le 1 v && nat_lt v (amount_limit sh.version)) last
-    (open_by last (pair_item (number - 1) v last) (ValueNode run number) (stage_after_dual sh.n run))
+pub value_outcome : (sh : Shape) (subject : Subject) (number : ℕ) (ns : List ℕ) (given : List Item) (v : ℕ) (last : Bool)
+    → (subject_run subject).first.before < (subject_run subject).first.all → IsCommodity sh.n (subject_run subject).first.commodity
+    → ValueAre sh (subject_run subject) number ns given
+    → Outcome sh (ValueAmount subject number) (ns ++ v ∷ []) given (taken_by sh (ValueAmount subject number) v last)
+value_outcome sh subject number ns given v last place c h =
+    allowed_is sh (ValueAmount subject number) (ns ++ v ∷ []) given (nat_le 1 v && nat_lt v (amount_limit sh.version)) last
+    (open_by last (pair_item (number - 1) v last) (ValueNode subject number) (stage_after_subject sh.n subject))
     (λ e. (let k = and_parts (nat_le 1 v) (nat_lt v (amount_limit sh.version)) e in
     let some = leb-true 1 v k.0 in
     let short = ltb-true v (amount_limit sh.version) k.1 in
-    open_is sh (ValueAmount run number) (ns ++ v ∷ []) given last (pair_item (number - 1) v) (ValueNode run number) (stage_after_dual sh.n run)
-    (value_end sh run number ns given v h place c some short)
-    (record { stage = refl; word = refl; same = refl; described = value_more sh run number ns given v h some short })))
+    open_is sh (ValueAmount subject number) (ns ++ v ∷ []) given last (pair_item (number - 1) v) (ValueNode subject number) (stage_after_subject sh.n subject)
+    (value_end sh subject number ns given v h place c some short)
+    (record { stage = refl; word = refl; same = refl; described = value_more sh (subject_run subject) number ns given v h some short })))
 
-price_end : (sh : Shape) (run : Run) (ns : List ℕ) (given : List Item) (v : ℕ) → run.first.before < run.first.all → IsCommodity sh.n run.first.commodity → RunIs sh run ns given
-    → v < amount_limit sh.version → EndIs sh (DualPrice run) (stage_after_dual sh.n run) (ns ++ v ∷ []) given (Some (dual_begun run v true))
-price_end sh run ns given v place c h short =
-    end_is sh (DualPrice run) (stage_after_dual sh.n run) (run_front run) ns given (Some (dual_begun run v true)) v
-    (says_dual (run.first.commodity.from, run.first.commodity.to) run.length (record { a = v; u = [] })) h.are (dual_wanted sh run v [] 0 c h.is_run short refl)
-    refl refl refl
-    (dual_at sh run (grammar.kept_dual (text_shape sh) (number_of sh.n run.first.commodity + run.length) (record { a = v; u = [] })) place c h.is_run)
+price_end : (sh : Shape) (subject : Subject) (ns : List ℕ) (given : List Item) (v : ℕ) → (subject_run subject).first.before < (subject_run subject).first.all
+    → IsCommodity sh.n (subject_run subject).first.commodity → RunIs sh (subject_run subject) ns given → v < amount_limit sh.version
+    → EndIs sh (DualPrice subject) (stage_after_subject sh.n subject) (ns ++ v ∷ []) given (Some (dual_begun (subject_run subject) v true))
+price_end sh subject ns given v place c h short =
+    let run = subject_run subject in
+    let nodes : ℕ × ℕ = (run.first.commodity.from, run.first.commodity.to) in
+    end_is sh (DualPrice subject) (stage_after_subject sh.n subject) (run_front run) ns given (Some (dual_begun run v true)) v
+    (says_dual nodes run.length (record { a = v; u = [] })) h.are (dual_wanted sh subject v [] 0 c h.is_run short refl)
+    refl refl refl refl (subject_at sh subject nodes (record { a = v; u = [] }) place c h.is_run)
 
-pub price_outcome : (sh : Shape) (run : Run) (ns : List ℕ) (given : List Item) (v : ℕ) (last : Bool) → run.first.before < run.first.all → IsCommodity sh.n run.first.commodity
-    → RunIs sh run ns given → Outcome sh (DualPrice run) (ns ++ v ∷ []) given (taken_by sh (DualPrice run) v last)
-price_outcome sh run ns given v last place c h =
-    allowed_is sh (DualPrice run) (ns ++ v ∷ []) given (nat_lt v (amount_limit sh.version)) last
-    (open_by last (dual_begun run v last) (ValueNode run 0) (stage_after_dual sh.n run))
+pub price_outcome : (sh : Shape) (subject : Subject) (ns : List ℕ) (given : List Item) (v : ℕ) (last : Bool)
+    → (subject_run subject).first.before < (subject_run subject).first.all → IsCommodity sh.n (subject_run subject).first.commodity
+    → RunIs sh (subject_run subject) ns given → Outcome sh (DualPrice subject) (ns ++ v ∷ []) given (taken_by sh (DualPrice subject) v last)
+price_outcome sh subject ns given v last place c h =
+    let run = subject_run subject in
+    allowed_is sh (DualPrice subject) (ns ++ v ∷ []) given (nat_lt v (amount_limit sh.version)) last
+    (open_by last (dual_begun run v last) (ValueNode subject 0) (stage_after_subject sh.n subject))
     (λ e. (let short = ltb-true v (amount_limit sh.version) e in
-    open_is sh (DualPrice run) (ns ++ v ∷ []) given last (dual_begun run v) (ValueNode run 0) (stage_after_dual sh.n run)
-    (price_end sh run ns given v place c h short)
+    open_is sh (DualPrice subject) (ns ++ v ∷ []) given last (dual_begun run v) (ValueNode subject 0) (stage_after_subject sh.n subject)
+    (price_end sh subject ns given v place c h short)
     (record {
       stage = refl;
       word = refl;
@@ -264,17 +287,25 @@ price_outcome sh run ns given v last place c h =
       };
     })))
 
-pub value_node_outcome : (sh : Shape) (run : Run) (before : ℕ) (ns : List ℕ) (given : List Item) (v : ℕ) (last : Bool) → ValuesAre sh run before ns given
-    → Outcome sh (ValueNode run before) (ns ++ v ∷ []) given (taken_by sh (ValueNode run before) v last)
-value_node_outcome sh run before ns given v last h =
-    allowed_is sh (ValueNode run before) (ns ++ v ∷ []) given (follows sh.n before v) last (more_by last (ValueAmount run v))
+pub value_node_outcome : (sh : Shape) (subject : Subject) (before : ℕ) (ns : List ℕ) (given : List Item) (v : ℕ) (last : Bool)
+    → ValuesAre sh (subject_run subject) before ns given
+    → Outcome sh (ValueNode subject before) (ns ++ v ∷ []) given (taken_by sh (ValueNode subject before) v last)
+value_node_outcome sh subject before ns given v last h =
+    allowed_is sh (ValueNode subject before) (ns ++ v ∷ []) given (follows sh.n before v) last (more_by last (ValueAmount subject v))
     (λ e. (let f = is_next sh.n before v e in
-    more_is sh (ValueNode run before) (ns ++ v ∷ []) given last (ValueAmount run v)
+    more_is sh (ValueNode subject before) (ns ++ v ∷ []) given last (ValueAmount subject v)
     (record {
       stage = refl;
       word = refl;
       same = refl;
-      described = record { front = ns; before = before; values = subst (ValuesAre sh run before ns) (sym (append-nil given)) h; numbers = refl; above = f.low; node = f.high };
+      described = record {
+        front = ns;
+        before = before;
+        values = subst (ValuesAre sh (subject_run subject) before ns) (sym (append-nil given)) h;
+        numbers = refl;
+        above = f.low;
+        node = f.high;
+      };
     })))
 
 -- ---- weights
@@ -323,10 +354,6 @@ empty_wanted sh t room = (wants_decides (stage_at sh (Tree t)) (says_tree no_hub
 pub open_behind : (sh : Shape) (t : TreeAt) → may_fill t ≡ true → IsOpen (t.places - 1) (t.left - 1)
 open_behind sh t room = (empty_wanted sh t room).2
 
--- the second version is not the first
-pub second_only : (sh : Shape) → sh.version ≡ Second → version_number sh.version ≡ 1 → ⊥
-second_only sh second first = omega (arith, first, ap version_number second)
-
 pub leaf_wanted : (sh : Shape) (t : TreeAt) (denom : ℕ) (w : List (ℕ × ℕ)) (high : ℕ) → 1 ≤ denom → denom ≤ most_denominator → may_fill t ≡ true → Climbs is_weight node_of 1 w high
     → Wants (stage_at sh (Tree t)) (says_tree (leaf_of denom w))
 leaf_wanted sh t denom w high some few room h =
@@ -345,8 +372,7 @@ weight_end sh t number ns given v h some short =
     record {
       line = says_tree (leaf_of w.denom (w.weights ++ (number, v) ∷ []));
       wanted = leaf_wanted sh t w.denom (w.weights ++ (number, v) ∷ []) (number + 1) w.some w.few w.room more.climbs;
-      keyword_is = refl;
-      numbers_are = sym more.numbers;
+      text = plain_text (says_tree (leaf_of w.denom (w.weights ++ (number, v) ∷ []))) (codes "leaf") (ns ++ v ∷ []) refl (sym more.numbers) refl;
       parts = ap (λ g. g ++ weight_item number v true ∷ []) w.given_weights
           ∙ ap (λ l. leaf_item w.denom false ∷ l) (weight_parts-last w.weights (number, v))
           ∙ ap (λ b. leaf_item w.denom b ∷ weight_parts (w.weights ++ (number, v) ∷ [])) (sym (none_left-more w.weights (number, v)));
@@ -384,7 +410,8 @@ denominator_outcome sh t ns given v last h =
     (λ e. (let k = and_parts (within v most_denominator) (may_fill t) e in
     let i = is_in v most_denominator k.0 in
     open_is sh (Denominator t) (ns ++ v ∷ []) given last (leaf_item v) (WeightCut t 0) (stage_after_filled t)
-    (end_is sh (Denominator t) (stage_after_filled t) [] ns given (Some (leaf_item v true)) v (says_tree (leaf_of v [])) h (leaf_wanted sh t v [] 1 i.low i.high k.1 refl) refl refl refl
+    (end_is sh (Denominator t) (stage_after_filled t) [] ns given (Some (leaf_item v true)) v (says_tree (leaf_of v [])) h
+    (leaf_wanted sh t v [] 1 i.low i.high k.1 refl) refl refl refl refl
     (tree_at sh (t.places - 1) (t.left - 1)))
     (record {
       stage = refl;

@@ -7,20 +7,21 @@ use Rattle.hub_spec.specs.Cuts.{Prices}
 use Rattle.cert_spec.specs.Grammar as grammar
 use Rattle.cert_spec.specs.Grammar.{Wants, IsOpen, IsVersion, want_hubs}
 use Rattle.cert_spec.specs.Reading.{IsSize, ascends, is_amount, is_short, is_dual_text, is_first_dual}
-use Rattle.cert_scan.specs.Moves.{more_by, open_by, taken_by, follows, commodity_by, amount_limit, stage_after_dual, stage_after_filled}
+use Rattle.cert_scan.specs.Moves.{more_by, open_by, taken_by, follows, commodity_by, amount_limit, stage_after_subject, first_proved_of, stage_after_filled}
 use Rattle.cert_scan.specs.Versions.{version_number}
 use Rattle.cert_scan.specs.Parts.{none_left}
-use Rattle.cert_scan.specs.Pieces.{told_hubs, told_values, told_weights}
+use Rattle.cert_scan.specs.Pieces.{told_hubs, told_mark, told_values, told_weights}
 use Rattle.cert_scan.proofs.Climbs.{Climbs, StartsAt, climbs_from}
-use Rattle.cert_scan.proofs.StagesAt.{text_shape, IsAt, first_commodity}
-use Rattle.cert_scan.specs.declared.items.Version.TheVariants.{First, Second}
-use Rattle.cert_scan.specs.declared.items.Item.TheVariants.{Hub as hub_item, DualPair as pair_item, LeafPair as weight_item}
+use Rattle.cert_scan.proofs.StagesAt.{text_shape, IsAt, first_commodity, first_proved_at}
+use Rattle.cert_scan.specs.declared.items.Version.TheVariants.{First, Second, Third}
+use Rattle.cert_scan.specs.declared.items.Item.TheVariants.{Hub as hub_item, CoreHub as core_item, DualPair as pair_item, LeafPair as weight_item}
 use Rattle.cert_scan.specs.declared.bytes.Move.{Move}
-use Rattle.cert_scan.specs.declared.places.Place.TheVariants.{HubNode, ValueNode, ValueAmount, WeightCut, WeightAmount}
+use Rattle.cert_scan.specs.declared.places.Place.TheVariants.{HubNode, MarkHub, ValueNode, ValueAmount, WeightCut, WeightAmount}
 use Rattle.cert_scan.specs.declared.stages.TreeAt.{TreeAt}
 use Rattle.cert_scan.specs.declared.stages.Stage.TheVariants.{Route}
 use Rattle.cert_scan.specs.declared.items.Version.{Version as TextVersion}
-use Rattle.cert_scan.specs.declared.stages.Run.{Run}
+use Rattle.cert_scan.specs.declared.stages.MarkAt.{MarkAt}
+use Rattle.cert_scan.specs.declared.stages.Subject.{Subject}
 use Rattle.cert_scan.specs.declared.stages.Shape.{Shape}
 use Rattle.cert_scan.proofs.NumberReads.{Reads, allows, does_follow, last_number, next_number, node_back}
 
@@ -49,6 +50,30 @@ reads_hubs sh before k (l ∷ rest) high size h =
     ∙ ap (λ x. hub_move x (k + 1) false) (node_back k))
     refl (reads_hubs sh (k + 1) l rest high size h.2)
 
+-- what a hub of a mark gives, and where it leads to
+abbrev pub mark_move : MarkAt → ℕ → ℕ → Bool → Move
+mark_move at k number last = open_by last (core_item k last) (MarkHub at number) (first_proved_of at.all (at.number - 1))
+
+pub reads_mark : (sh : Shape) (at : MarkAt) (before : ℕ) (k : ℕ) (rest : List ℕ) (high : ℕ) → IsSize sh.n → Climbs (is_hub sh.n) (λ x. x) before (k ∷ rest) high
+    → Reads sh (MarkHub at before) (told_mark (k ∷ rest)) (grammar.want_proved (text_shape sh) at.all (at.number - 1) 0)
+reads_mark sh at before k [] high size h =
+    let few = size.1 in
+    let below : k < sh.n = ltb-true k sh.n h.1 in
+    last_number sh (MarkHub at before) (k + 1) (Some (core_item k true)) (first_proved_of at.all (at.number - 1))
+    (grammar.want_proved (text_shape sh) at.all (at.number - 1) 0)
+    (omega arith)
+    (allows (follows sh.n before (k + 1)) true (mark_move at (k + 1 - 1) (k + 1) true) (does_follow sh.n before (k + 1) (omega (arith, h.0)) (omega arith))
+    ∙ ap (λ x. mark_move at x (k + 1) true) (node_back k))
+    (first_proved_at sh at.all (at.number - 1) size.0)
+reads_mark sh at before k (l ∷ rest) high size h =
+    let few = size.1 in
+    let below : k < sh.n = ltb-true k sh.n h.1 in
+    next_number sh (MarkHub at before) (k + 1) (Some (core_item k false)) (l + 1, Some (core_item l (none_left rest))) (told_mark rest) (MarkHub at (k + 1))
+    (grammar.want_proved (text_shape sh) at.all (at.number - 1) 0) (omega arith)
+    (allows (follows sh.n before (k + 1)) false (mark_move at (k + 1 - 1) (k + 1) false) (does_follow sh.n before (k + 1) (omega (arith, h.0)) (omega arith))
+    ∙ ap (λ x. mark_move at x (k + 1) false) (node_back k))
+    refl (reads_mark sh at (k + 1) l rest high size h.2)
+
 abbrev pub is_value : Shape → ℕ × ℕ → Bool
 is_value sh e = nat_lt e.0 sh.n && (nat_le 1 e.1 && nat_lt e.1 (amount_limit sh.version))
 
@@ -70,37 +95,44 @@ value_is sh e h =
 pub limit_most : (v : TextVersion) → amount_limit v ≤ 10 ^ 33
 limit_most First = omega arith
 limit_most Second = omega arith
+limit_most Third = omega arith
 
 -- what a value gives, and where it leads to
-abbrev pub value_move : Shape → Run → ℕ → ℕ → ℕ → Bool → Move
-value_move sh run k number v last = open_by last (pair_item k v last) (ValueNode run number) (stage_after_dual sh.n run)
+abbrev pub value_move : Shape → Subject → ℕ → ℕ → ℕ → Bool → Move
+value_move sh subject k number v last = open_by last (pair_item k v last) (ValueNode subject number) (stage_after_subject sh.n subject)
 
 -- a value behind its node's number
-pub value_taken : (sh : Shape) (run : Run) (e : ℕ × ℕ) (last : Bool) → ValueIs sh e
-    → taken_by sh (ValueAmount run (e.0 + 1)) e.1 last ≡ value_move sh run e.0 (e.0 + 1) e.1 last
-value_taken sh run e last v =
-    allows (nat_le 1 e.1 && nat_lt e.1 (amount_limit sh.version)) last (value_move sh run (e.0 + 1 - 1) (e.0 + 1) e.1 last)
+pub value_taken : (sh : Shape) (subject : Subject) (e : ℕ × ℕ) (last : Bool) → ValueIs sh e
+    → taken_by sh (ValueAmount subject (e.0 + 1)) e.1 last ≡ value_move sh subject e.0 (e.0 + 1) e.1 last
+value_taken sh subject e last v =
+    allows (nat_le 1 e.1 && nat_lt e.1 (amount_limit sh.version)) last (value_move sh subject (e.0 + 1 - 1) (e.0 + 1) e.1 last)
     (and_from (nat_le 1 e.1) (nat_lt e.1 (amount_limit sh.version)) (le-leb 1 e.1 v.some) (lt-ltb e.1 (amount_limit sh.version) v.short))
-    ∙ ap (λ x. value_move sh run x (e.0 + 1) e.1 last) (node_back e.0)
+    ∙ ap (λ x. value_move sh subject x (e.0 + 1) e.1 last) (node_back e.0)
 
 pub value_fits : (sh : Shape) (e : ℕ × ℕ) → ValueIs sh e → e.1 < 10 ^ 33
 value_fits sh e v = omega (arith, v.short, limit_most sh.version)
 
-pub reads_values : (sh : Shape) (run : Run) (before : ℕ) (e : ℕ × ℕ) (rest : List (ℕ × ℕ)) (high : ℕ) (behind_it : grammar.Stage) → sh.n ≤ most_nodes
-    → IsAt sh (stage_after_dual sh.n run) behind_it → Climbs (is_value sh) node_of before (e ∷ rest) high
-    → Reads sh (ValueNode run before) (told_values (e ∷ rest)) behind_it
-reads_values sh run before e [] high behind_it few at h =
+pub reads_values : (sh : Shape) (subject : Subject) (before : ℕ) (e : ℕ × ℕ) (rest : List (ℕ × ℕ)) (high : ℕ) (behind_it : grammar.Stage) → sh.n ≤ most_nodes
+    → IsAt sh (stage_after_subject sh.n subject) behind_it → Climbs (is_value sh) node_of before (e ∷ rest) high
+    → Reads sh (ValueNode subject before) (told_values (e ∷ rest)) behind_it
+reads_values sh subject before e [] high behind_it few at h =
     let v = value_is sh e h.1 in
-    next_number sh (ValueNode run before) (e.0 + 1) None (e.1, Some (pair_item e.0 e.1 true)) [] (ValueAmount run (e.0 + 1)) behind_it (omega (arith, v.node))
-    (allows (follows sh.n before (e.0 + 1)) false (more_by false (ValueAmount run (e.0 + 1))) (does_follow sh.n before (e.0 + 1) (omega (arith, h.0)) (omega (arith, v.node)))) refl
-    (last_number sh (ValueAmount run (e.0 + 1)) e.1 (Some (pair_item e.0 e.1 true)) (stage_after_dual sh.n run) behind_it (value_fits sh e v)
-    (value_taken sh run e true v) at)
-reads_values sh run before e (f ∷ rest) high behind_it few at h =
+    next_number sh (ValueNode subject before) (e.0 + 1) None (e.1, Some (pair_item e.0 e.1 true)) [] (ValueAmount subject (e.0 + 1)) behind_it
+    (omega (arith, v.node))
+    (allows (follows sh.n before (e.0 + 1)) false (more_by false (ValueAmount subject (e.0 + 1)))
+    (does_follow sh.n before (e.0 + 1) (omega (arith, h.0)) (omega (arith, v.node)))) refl
+    (last_number sh (ValueAmount subject (e.0 + 1)) e.1 (Some (pair_item e.0 e.1 true)) (stage_after_subject sh.n subject) behind_it (value_fits sh e v)
+    (value_taken sh subject e true v) at)
+reads_values sh subject before e (f ∷ rest) high behind_it few at h =
     let v = value_is sh e h.1 in
-    next_number sh (ValueNode run before) (e.0 + 1) None (e.1, Some (pair_item e.0 e.1 false)) (told_values (f ∷ rest)) (ValueAmount run (e.0 + 1)) behind_it (omega (arith, v.node))
-    (allows (follows sh.n before (e.0 + 1)) false (more_by false (ValueAmount run (e.0 + 1))) (does_follow sh.n before (e.0 + 1) (omega (arith, h.0)) (omega (arith, v.node)))) refl
-    (next_number sh (ValueAmount run (e.0 + 1)) e.1 (Some (pair_item e.0 e.1 false)) (f.0 + 1, None) ((f.1, Some (pair_item f.0 f.1 (none_left rest))) ∷ told_values rest)
-    (ValueNode run (e.0 + 1)) behind_it (value_fits sh e v) (value_taken sh run e false v) refl (reads_values sh run (e.0 + 1) f rest high behind_it few at h.2))
+    next_number sh (ValueNode subject before) (e.0 + 1) None (e.1, Some (pair_item e.0 e.1 false)) (told_values (f ∷ rest))
+    (ValueAmount subject (e.0 + 1)) behind_it (omega (arith, v.node))
+    (allows (follows sh.n before (e.0 + 1)) false (more_by false (ValueAmount subject (e.0 + 1)))
+    (does_follow sh.n before (e.0 + 1) (omega (arith, h.0)) (omega (arith, v.node)))) refl
+    (next_number sh (ValueAmount subject (e.0 + 1)) e.1 (Some (pair_item e.0 e.1 false)) (f.0 + 1, None)
+    ((f.1, Some (pair_item f.0 f.1 (none_left rest))) ∷ told_values rest)
+    (ValueNode subject (e.0 + 1)) behind_it (value_fits sh e v) (value_taken sh subject e false v) refl
+    (reads_values sh subject (e.0 + 1) f rest high behind_it few at h.2))
 
 abbrev pub is_weight : ℕ × ℕ → Bool
 is_weight e = nat_le 1 e.0 && (is_short e.0 && (nat_le 1 e.1 && is_short e.1))
@@ -161,6 +193,7 @@ is_short_value e = is_short e.1
 pub amount_below : (v : TextVersion) (a : ℕ) → is_amount a ≡ true → (version_number v ≡ 1 → is_short a ≡ true) → nat_lt a (amount_limit v) ≡ true
 amount_below First a h short = short refl
 amount_below Second a h short = h
+amount_below Third a h short = h
 
 -- in the first version it is short
 pub value_listed : (sh : Shape) (e : ℕ × ℕ) → is_listed sh.n e ≡ true → (version_number sh.version ≡ 1 → is_short_value e ≡ true) → is_value sh e ≡ true

@@ -13,7 +13,7 @@ use Rattle.cert_scan.specs.Scans.{new_shape, new_scan}
 use Rattle.cert_scan.specs.Repeats.{DualSoFar, no_dual}
 use Rattle.cert_scan.proofs.Walks.{Walk, new_walk, scanned, given_all}
 use Rattle.cert_scan.proofs.Repeated.{noted_all, shape_all, repeats_in, repeats_in-append, line_repeats}
-use Rattle.cert_scan.proofs.Tight.{wanted_at, untight, wanted_repeats, wanted_next}
+use Rattle.cert_scan.proofs.Tight.{wanted_at, Agrees, agrees_next, untight, wanted_repeats, wanted_next}
 use Rattle.cert_scan.proofs.Sifted.{shape_told, quiet_front, given_same}
 use Rattle.cert_scan.specs.Parts.{parts_of}
 use Rattle.cert_scan.specs.Pieces.{pieces_of, bytes_of, told_by, whole_within, AreOnTime}
@@ -49,9 +49,9 @@ record LinesPass (sh : Shape) (line : ℕ) (held : DualSoFar) (stage : Stage) (l
   quiet : repeats_in sh held (flat_map parts_of lines) ≡ false
 
 lines_pass : (sh : Shape) (line : ℕ) (held : DualSoFar) (stage : Stage) (lines : List Line) (last : grammar.Stage) → NamesNodes sh stage → IsStage (stage_at sh stage)
-    → Leads (wanted_at sh held stage) lines last → LinesPass sh line held stage lines
-lines_pass sh line held stage [] last names s lead = record { end = state sh line (Start stage); passes = refl; quiet = refl }
-lines_pass sh line held stage (item ∷ lines) last names s lead =
+    → Agrees (stage_at sh stage) held → Leads (wanted_at sh held stage) lines last → LinesPass sh line held stage lines
+lines_pass sh line held stage [] last names s agrees lead = record { end = state sh line (Start stage); passes = refl; quiet = refl }
+lines_pass sh line held stage (item ∷ lines) last names s agrees lead =
     let there = untight sh held stage item lead.0 in
     let ends = accepts sh line stage item names s there in
     let told : shape_all sh (parts_of item) ≡ ends.shape = line_shape sh ends.shape line ends.line stage ends.stage item ends.passes in
@@ -60,18 +60,18 @@ lines_pass sh line held stage (item ∷ lines) last names s lead =
     wanted_next sh ends.shape held stage ends.stage item s there ends.behind in
     let rest = lines_pass ends.shape ends.line next ends.stage lines last ends.behind.names
     (subst IsStage (sym ends.behind.is) (loose_stage (after (stage_at sh stage) item) (stage_after (stage_at sh stage) item s there)))
-    (subst (λ g. Leads g lines last) behind lead.1) in
+    (agrees_next sh ends.shape held stage ends.stage item there agrees ends.behind) (subst (λ g. Leads g lines last) behind lead.1) in
     record {
       end = rest.end;
       passes = pass_all-append (state sh line (Start stage)) (state ends.shape ends.line (Start ends.stage)) rest.end (pieces_of item) (flat_map pieces_of lines) ends.passes rest.passes;
       quiet = repeats_in-append sh held (parts_of item) (flat_map parts_of lines)
-          ∙ (λ i. (line_repeats sh held item ∙ wanted_repeats sh held stage item lead.0) i || repeats_in (told i) next (flat_map parts_of lines))
+          ∙ (λ i. (line_repeats sh held item ∙ wanted_repeats sh held stage item lead.0 agrees) i || repeats_in (told i) next (flat_map parts_of lines))
           ∙ rest.quiet;
     }
 
 -- lines of a text from its first on
 text_passes : (lines : List Line) (stage : grammar.Stage) → Leads want_version lines stage → LinesPass new_shape 1 no_dual Version lines
-text_passes lines stage lead = lines_pass new_shape 1 no_dual Version lines stage tt tt lead
+text_passes lines stage lead = lines_pass new_shape 1 no_dual Version lines stage tt tt tt lead
 
 -- their bytes give their items to a walk
 walk_gives : (lines : List Line) (stage : grammar.Stage) → Leads want_version lines stage → given_all new_walk (flat_map line_bytes lines) ≡ flat_map parts_of lines

@@ -2,7 +2,7 @@
 use Rattle.std.proofs.Common.{◌≡◌, ℕ, ◌+◌, ◌-◌, ◌^◌, ◌&&◌, ◌<◌, ◌≤◌, Bool, true, false, List, length, take, drop, get_or, Option, Some, None, nat_le, nat_lt, refl, sym, ap, ◌∙◌, subst, arith}
 use Rattle.std.proofs.lemmas.List.{length-drop, length-take-le}
 use Rattle.std.proofs.lemmas.Bool.{cond_both, cond-true, cond-false, and_from, le-leb, lt-ltb}
-use Rattle.cert_scan.specs.Moves.{moved_by, taken_by, move, refusal, open_by, amount_limit, stage_after_dual, follows}
+use Rattle.cert_scan.specs.Moves.{moved_by, taken_by, move, refusal, open_by, amount_limit, stage_after_subject, follows}
 use Rattle.cert_scan.specs.Repeats.{noted_by, repeats_by}
 use Rattle.cert_scan.specs.Scans.{shape_by, line_by, put, with_item, sifted, moved}
 use Rattle.cert_scan.specs.Runs.{Runs}
@@ -12,7 +12,7 @@ use Rattle.cert_scan.proofs.Tracks.{open_quiet}
 use Rattle.cert_scan.proofs.LineRuns.{number_goes}
 use Rattle.cert_scan.proofs.Stepping.{HasRun, digits_after, digits_nothing, digits_scanned, digits_give, run_more, run_digits, run_byte, takes_byte, takes_run, run_end, failed_after, failed_nothing}
 use Rattle.cert_scan.specs.declared.items.Version.{Version as TextVersion}
-use Rattle.cert_scan.specs.declared.items.Version.TheVariants.{First, Second}
+use Rattle.cert_scan.specs.declared.items.Version.TheVariants.{First, Second, Third}
 use Rattle.cert_scan.specs.declared.stages.Stage.{Stage}
 use Rattle.cert_scan.specs.declared.items.Item.{Item}
 use Rattle.cert_scan.specs.declared.items.Item.TheVariants.{DualPair as pair_item}
@@ -21,72 +21,77 @@ use Rattle.cert_scan.specs.declared.bytes.Position.{Position}
 use Rattle.cert_scan.specs.declared.bytes.Position.TheVariants.{Number, Failed}
 use Rattle.cert_scan.specs.declared.places.Place.{Place}
 use Rattle.cert_scan.specs.declared.places.Place.TheVariants.{ValueNode, ValueAmount}
-use Rattle.cert_scan.specs.declared.stages.Run.{Run}
+use Rattle.cert_scan.specs.declared.stages.Subject.{Subject}
 use Rattle.cert_scan.specs.declared.stages.Shape.{Shape}
 use Rattle.cert_scan.specs.declared.pairs.Pair.{Pair}
 use Rattle.cert_scan.specs.declared.scanner.Scan.{Scan}
 
 -- the space behind a node's number
-node_goes : (sh : Shape) (before number : ℕ) (run : Run) → before < number → number ≤ sh.n
-    → moved_by sh (Number (ValueNode run before) (Some number)) 32 ≡ move (Number (ValueAmount run number) None) None
-node_goes sh before number run above within =
+node_goes : (sh : Shape) (before number : ℕ) (subject : Subject) → before < number → number ≤ sh.n
+    → moved_by sh (Number (ValueNode subject before) (Some number)) 32 ≡ move (Number (ValueAmount subject number) None) None
+node_goes sh before number subject above within =
     cond-true (follows sh.n before number) _ _ (and_from (nat_lt before number) (nat_le number sh.n) (lt-ltb before number above) (le-leb number sh.n within))
 
 -- where a scan stands, by what was matched
-same_run : (run of : Run) (before other : ℕ) (value : Option ℕ) → Number (ValueNode run before) None ≡ Number (ValueNode of other) value → run ≡ of
-same_run run of before other value e = cc
+same_subject : (subject of : Subject) (before other : ℕ) (value : Option ℕ) → Number (ValueNode subject before) None ≡ Number (ValueNode of other) value
+    → subject ≡ of
+same_subject subject of before other value e = cc
 
-pub stands_at : (position : Position) (run of : Run) (before other : ℕ) (place : Place) (value : Option ℕ) → position ≡ Number (ValueNode run before) None
+pub stands_at : (position : Position) (subject of : Subject) (before other : ℕ) (place : Place) (value : Option ℕ)
+    → position ≡ Number (ValueNode subject before) None
     → position ≡ Number place value → place ≡ ValueNode of other → position ≡ Number (ValueNode of before) None
-stands_at position run of before other place value at is e =
-    at ∙ ap (λ r. Number (ValueNode r before) None) (same_run run of before other value (sym at ∙ is ∙ ap (λ p. Number p value) e))
+stands_at position subject of before other place value at is e =
+    at ∙ ap (λ r. Number (ValueNode r before) None) (same_subject subject of before other value (sym at ∙ is ∙ ap (λ p. Number p value) e))
 
 -- the bytes before the last one of the pair
-pair_front : (old : Scan) (run : Run) (before : ℕ) (bytes : List ℕ) (pair : Pair) → old.position ≡ Number (ValueNode run before) None
+pair_front : (old : Scan) (subject : Subject) (before : ℕ) (bytes : List ℕ) (pair : Pair) → old.position ≡ Number (ValueNode subject before) None
     → IsPairAhead old.shape.n before bytes pair
-    → HasRun old bytes (pair.front + 1 + pair.back) (put old (Number (ValueAmount run pair.number) (Some pair.value)))
-pair_front old run before bytes pair is ahead =
+    → HasRun old bytes (pair.front + 1 + pair.back) (put old (Number (ValueAmount subject pair.number) (Some pair.value)))
+pair_front old subject before bytes pair is ahead =
     let room = ahead.room in
-    let noded = put old (Number (ValueNode run before) (Some pair.number)) in
-    let spaced = put old (Number (ValueAmount run pair.number) None) in
-    let valued = put old (Number (ValueAmount run pair.number) (Some pair.value)) in
+    let noded = put old (Number (ValueNode subject before) (Some pair.number)) in
+    let spaced = put old (Number (ValueAmount subject pair.number) None) in
+    let valued = put old (Number (ValueAmount subject pair.number) (Some pair.value)) in
     let digits = take pair.back (drop (pair.front + 1) bytes) in
-    let first : HasRun old bytes pair.front (put old (Number (ValueNode run before) (Some pair.number))) = record {
+    let first : HasRun old bytes pair.front (put old (Number (ValueNode subject before) (Some pair.number))) = record {
       within = omega arith;
-      after = digits_after old (ValueNode run before) None (Some pair.number) (take pair.front bytes) is ahead.node;
-      nothing = digits_nothing old (ValueNode run before) None (Some pair.number) (take pair.front bytes) is ahead.node;
+      after = digits_after old (ValueNode subject before) None (Some pair.number) (take pair.front bytes) is ahead.node;
+      nothing = digits_nothing old (ValueNode subject before) None (Some pair.number) (take pair.front bytes) is ahead.node;
     } in
-    let node = node_goes old.shape before pair.number run ahead.above ahead.within in
-    let second : HasRun old bytes (pair.front + 1) (put old (Number (ValueAmount run pair.number) None)) =
+    let node = node_goes old.shape before pair.number subject ahead.above ahead.within in
+    let second : HasRun old bytes (pair.front + 1) (put old (Number (ValueAmount subject pair.number) None)) =
     run_byte old noded spaced bytes pair.front 32 None first (omega arith) (sym ahead.space)
-    (sym (quiet_gives noded 32 (Number (ValueAmount run pair.number) None) node)) (sym (quiet_step noded 32 (Number (ValueAmount run pair.number) None) node)) refl in
+    (sym (quiet_gives noded 32 (Number (ValueAmount subject pair.number) None) node))
+    (sym (quiet_step noded 32 (Number (ValueAmount subject pair.number) None) node)) refl in
     run_more old spaced valued bytes (pair.front + 1) pair.back second (omega (arith, room))
-    (sym (digits_scanned old (ValueAmount run pair.number) None digits (Some pair.value) ahead.amount))
-    (digits_give old (ValueAmount run pair.number) None digits (Some pair.value) ahead.amount)
+    (sym (digits_scanned old (ValueAmount subject pair.number) None digits (Some pair.value) ahead.amount))
+    (digits_give old (ValueAmount subject pair.number) None digits (Some pair.value) ahead.amount)
 
 -- what the last byte of the pair moves
-pair_goes : (old : Scan) (run : Run) (before : ℕ) (bytes : List ℕ) (pair : Pair) (next : Move) → IsPairAhead old.shape.n before bytes pair
-    → next ≡ taken_by old.shape (ValueAmount run pair.number) pair.value pair.last
-    → next ≡ moved_by old.shape (Number (ValueAmount run pair.number) (Some pair.value)) (get_or bytes (pair.front + 1 + pair.back) 0)
-pair_goes old run before bytes pair next ahead taken =
-    taken ∙ sym (number_goes old.shape (ValueAmount run pair.number) pair.value (get_or bytes (pair.front + 1 + pair.back) 0) pair.last ahead.line_end ahead.more)
+pair_goes : (old : Scan) (subject : Subject) (before : ℕ) (bytes : List ℕ) (pair : Pair) (next : Move) → IsPairAhead old.shape.n before bytes pair
+    → next ≡ taken_by old.shape (ValueAmount subject pair.number) pair.value pair.last
+    → next ≡ moved_by old.shape (Number (ValueAmount subject pair.number) (Some pair.value)) (get_or bytes (pair.front + 1 + pair.back) 0)
+pair_goes old subject before bytes pair next ahead taken =
+    taken ∙ sym (number_goes old.shape (ValueAmount subject pair.number) pair.value
+    (get_or bytes (pair.front + 1 + pair.back) 0) pair.last ahead.line_end ahead.more)
 
 -- the pair is taken, and gives its item
-pub pair_runs : (old new : Scan) (run : Run) (before : ℕ) (bytes : List ℕ) (pair : Pair) (item : Option Item) (next : Move)
-    → old.position ≡ Number (ValueNode run before) None → IsPairAhead old.shape.n before bytes pair
-    → next ≡ taken_by old.shape (ValueAmount run pair.number) pair.value pair.last → item ≡ (sifted old next).item → new ≡ moved old next
+pub pair_runs : (old new : Scan) (subject : Subject) (before : ℕ) (bytes : List ℕ) (pair : Pair) (item : Option Item) (next : Move)
+    → old.position ≡ Number (ValueNode subject before) None → IsPairAhead old.shape.n before bytes pair
+    → next ≡ taken_by old.shape (ValueAmount subject pair.number) pair.value pair.last → item ≡ (sifted old next).item → new ≡ moved old next
     → (item ≡ None → ⊥) → Runs old bytes (pair.front + 1 + pair.back + 1) item new
-pair_runs old new run before bytes pair item next is ahead taken gives after some =
-    let valued = put old (Number (ValueAmount run pair.number) (Some pair.value)) in
+pair_runs old new subject before bytes pair item next is ahead taken gives after some =
+    let valued = put old (Number (ValueAmount subject pair.number) (Some pair.value)) in
     let byte = get_or bytes (pair.front + 1 + pair.back) 0 in
-    let goes = pair_goes old run before bytes pair next ahead taken in
+    let goes = pair_goes old subject before bytes pair next ahead taken in
     takes_run old new bytes (pair.front + 1 + pair.back + 1) item
-    (takes_byte old valued new bytes (pair.front + 1 + pair.back) byte item (pair_front old run before bytes pair is ahead) ahead.room refl
+    (takes_byte old valued new bytes (pair.front + 1 + pair.back) byte item (pair_front old subject before bytes pair is ahead) ahead.room refl
     (gives ∙ ap (λ m. (sifted old m).item) goes) (after ∙ ap (moved old) goes)) some
 
 limit_least : (v : TextVersion) → 2 ^ 64 ≤ amount_limit v
 limit_least First = omega arith
 limit_least Second = omega arith
+limit_least Third = omega arith
 
 open_given : (last : Bool) (item : Item) (place : Place) (stage : Stage) → (open_by last item place stage).item ≡ None → ⊥
 open_given true item place stage e = cc
@@ -98,15 +103,15 @@ value_fits sh value some few =
     and_from (nat_le 1 value) (nat_lt value (amount_limit sh.version)) (le-leb 1 value some)
     (lt-ltb value (amount_limit sh.version) (omega (arith, few, limit_least sh.version)))
 
-value_given : (sh : Shape) (run : Run) (number value : ℕ) (last : Bool) → 1 ≤ value → value < 2 ^ 64
-    → (taken_by sh (ValueAmount run number) value last).item ≡ None → ⊥
-value_given sh run number value last some few e =
-    open_given last (pair_item (number - 1) value last) (ValueNode run number) (stage_after_dual sh.n run)
+value_given : (sh : Shape) (subject : Subject) (number value : ℕ) (last : Bool) → 1 ≤ value → value < 2 ^ 64
+    → (taken_by sh (ValueAmount subject number) value last).item ≡ None → ⊥
+value_given sh subject number value last some few e =
+    open_given last (pair_item (number - 1) value last) (ValueNode subject number) (stage_after_subject sh.n subject)
     (sym (ap (λ (m : Move). m.item) (cond-true (nat_le 1 value && nat_lt value (amount_limit sh.version)) _ (refusal last) (value_fits sh value some few))) ∙ e)
 
-value_moves : (sh : Shape) (run : Run) (number value : ℕ) → 1 ≤ value → value < 2 ^ 64
-    → taken_by sh (ValueAmount run number) value false ≡ move (Number (ValueNode run number) None) (Some (pair_item (number - 1) value false))
-value_moves sh run number value some few =
+value_moves : (sh : Shape) (subject : Subject) (number value : ℕ) → 1 ≤ value → value < 2 ^ 64
+    → taken_by sh (ValueAmount subject number) value false ≡ move (Number (ValueNode subject number) None) (Some (pair_item (number - 1) value false))
+value_moves sh subject number value some few =
     cond-true (nat_le 1 value && nat_lt value (amount_limit sh.version)) _ (refusal false) (value_fits sh value some few)
 
 -- a move with an item that is not given fails
@@ -116,21 +121,21 @@ sifted_failed s next some none =
     (λ e n. refl) (λ e n. absurd (some n)) none
 
 -- where it gives none, its dual repeats the one before it, and the line was bad
-pub pair_fails : (old new : Scan) (run : Run) (before : ℕ) (bytes : List ℕ) (pair : Pair) (item : Option Item) (next : Move)
-    → old.position ≡ Number (ValueNode run before) None → IsPairAhead old.shape.n before bytes pair
-    → next ≡ taken_by old.shape (ValueAmount run pair.number) pair.value pair.last → item ≡ (sifted old next).item → new ≡ moved old next
+pub pair_fails : (old new : Scan) (subject : Subject) (before : ℕ) (bytes : List ℕ) (pair : Pair) (item : Option Item) (next : Move)
+    → old.position ≡ Number (ValueNode subject before) None → IsPairAhead old.shape.n before bytes pair
+    → next ≡ taken_by old.shape (ValueAmount subject pair.number) pair.value pair.last → item ≡ (sifted old next).item → new ≡ moved old next
     → item ≡ None → Runs old bytes (length bytes) None new
-pair_fails old new run before bytes pair item next is ahead taken gives after none =
-    let valued = put old (Number (ValueAmount run pair.number) (Some pair.value)) in
+pair_fails old new subject before bytes pair item next is ahead taken gives after none =
+    let valued = put old (Number (ValueAmount subject pair.number) (Some pair.value)) in
     let byte = get_or bytes (pair.front + 1 + pair.back) 0 in
-    let goes = pair_goes old run before bytes pair next ahead taken in
+    let goes = pair_goes old subject before bytes pair next ahead taken in
     let count = pair.front + 1 + pair.back + 1 in
     let rest = take (length bytes - count) (take (length bytes - count) (drop count bytes)) in
     let room = ahead.room in
     let some : next.item ≡ None → ⊥ =
-    λ e. value_given old.shape run pair.number pair.value pair.last ahead.some ahead.few (sym (ap (λ (m : Move). m.item) taken) ∙ e) in
+    λ e. value_given old.shape subject pair.number pair.value pair.last ahead.some ahead.few (sym (ap (λ (m : Move). m.item) taken) ∙ e) in
     let failed : new.position ≡ Failed = ap (λ s. s.position) after ∙ sifted_failed old next some (sym gives ∙ none) in
-    let pair_run = run_byte old valued new bytes (pair.front + 1 + pair.back) byte item (pair_front old run before bytes pair is ahead) ahead.room refl
+    let pair_run = run_byte old valued new bytes (pair.front + 1 + pair.back) byte item (pair_front old subject before bytes pair is ahead) ahead.room refl
     (gives ∙ ap (λ m. (sifted old m).item) goes) (after ∙ ap (moved old) goes) none in
     let long : length (take (length bytes - count) (drop count bytes)) ≡ length bytes - count =
     length-take-le (length bytes - count) (drop count bytes) (omega (arith, length-drop count bytes)) in
@@ -140,23 +145,24 @@ pair_fails old new run before bytes pair item next is ahead taken gives after no
     run_end old new bytes (length bytes) (subst (λ k. HasRun old bytes k new) whole all) (omega arith)
 
 -- a pair behind which the line goes on
-pub pair_lists : (old new : Scan) (run : Run) (before : ℕ) (bytes : List ℕ) (pair : Pair) (item : Item)
-    → old.position ≡ Number (ValueNode run before) None → IsPairAhead old.shape.n before bytes pair → pair.last ≡ false
+pub pair_lists : (old new : Scan) (subject : Subject) (before : ℕ) (bytes : List ℕ) (pair : Pair) (item : Item)
+    → old.position ≡ Number (ValueNode subject before) None → IsPairAhead old.shape.n before bytes pair → pair.last ≡ false
     → item ≡ pair_item (pair.number - 1) pair.value false
-    → new ≡ with_item (put old (Number (ValueNode run pair.number) None)) item
+    → new ≡ with_item (put old (Number (ValueNode subject pair.number) None)) item
     → Runs old bytes (pair.front + 1 + pair.back + 1) (Some item) new
-pair_lists old new run before bytes pair item is ahead more given after =
+pair_lists old new subject before bytes pair item is ahead more given after =
     let listed : Item = pair_item (pair.number - 1) pair.value false in
-    let next : Move = move (Number (ValueNode run pair.number) None) (Some (pair_item (pair.number - 1) pair.value false)) in
-    let taken : next ≡ taken_by old.shape (ValueAmount run pair.number) pair.value pair.last =
-    sym (ap (taken_by old.shape (ValueAmount run pair.number) pair.value) more ∙ value_moves old.shape run pair.number pair.value ahead.some ahead.few) in
+    let next : Move = move (Number (ValueNode subject pair.number) None) (Some (pair_item (pair.number - 1) pair.value false)) in
+    let taken : next ≡ taken_by old.shape (ValueAmount subject pair.number) pair.value pair.last =
+    sym (ap (taken_by old.shape (ValueAmount subject pair.number) pair.value) more
+    ∙ value_moves old.shape subject pair.number pair.value ahead.some ahead.few) in
     let kept : sifted old next ≡ next =
     cond-false (repeats_by old.shape.version old.so_far (Some listed)) (refusal true) next (open_quiet old.shape.version old.so_far (Some listed) (refl, tt)) in
-    let there : with_item (put old (Number (ValueNode run pair.number) None)) listed ≡ moved old next = λ i. record {
+    let there : with_item (put old (Number (ValueNode subject pair.number) None)) listed ≡ moved old next = λ i. record {
       shape = shape_by old.shape (sym kept i).item;
       line = line_by old.line (sym kept i).position;
       position = (sym kept i).position;
       so_far = noted_by old.shape.version old.so_far (Some listed);
     } in
-    pair_runs old new run before bytes pair (Some item) next is ahead taken (ap Some given ∙ ap (λ (m : Move). m.item) (sym kept))
-    (after ∙ ap (with_item (put old (Number (ValueNode run pair.number) None))) given ∙ there) (λ e. cc)
+    pair_runs old new subject before bytes pair (Some item) next is ahead taken (ap Some given ∙ ap (λ (m : Move). m.item) (sym kept))
+    (after ∙ ap (with_item (put old (Number (ValueNode subject pair.number) None))) given ∙ there) (λ e. cc)

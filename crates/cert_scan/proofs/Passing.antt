@@ -1,5 +1,5 @@
 -- Pieces of a text that lead a walk on, each giving what it tells with its last byte.
-use Rattle.std.proofs.Common.{◌≡◌, ℕ, ◌+◌, ◌-◌, ◌<◌, ◌≤◌, List, [], ◌∷◌, ◌++◌, length, take, drop, map, flat_map, decimal, nat_eq, nat_le, Option, Some, None, refl, sym, ap, ◌∙◌, subst, append_assoc, append-nil, arith, suc}
+use Rattle.std.proofs.Common.{◌≡◌, ℕ, ◌+◌, ◌-◌, ◌<◌, ◌≤◌, List, [], ◌∷◌, ◌++◌, length, false, take, drop, map, flat_map, codes, decimal, nat_eq, nat_le, Option, Some, None, refl, sym, ap, ◌∙◌, subst, append_assoc, append-nil, arith, suc}
 use Rattle.std.specs.Prelude.{option_to_list}
 use Rattle.std.specs.List.{join_with_byte}
 use Rattle.std.proofs.lemmas.Bool.{cond_both, leb-true, leb-false}
@@ -7,14 +7,16 @@ use Rattle.std.proofs.lemmas.List.{length-append, take_all, take-append-le, take
 use Rattle.std.proofs.lemmas.List.Concat.{flat_map-append}
 use Rattle.hub_spec.specs.Trees.{branch_on, leaf_of, no_hub, no_route, no_count}
 use Rattle.hub_spec.proofs.SumLemmas.{by_test}
-use Rattle.cert_spec.specs.Lines.{Item as Line, says_version, says_size, says_cost, says_bound, says_hubs, says_route, says_cuts, says_cut, says_dual, says_nodes, says_tree, says_end, keyword, numbers, value_numbers, weight_numbers, line_text}
+use Rattle.cert_spec.specs.Lines.{Item as Line, says_version, says_size, says_cost, says_bound, says_hubs, says_route, says_cuts, says_cut, says_marked, says_dual, says_proof, says_nodes, says_tree, says_end, keyword, numbers, node_numbers, value_numbers, way_numbers, weight_numbers, words_behind, line_text}
+use Rattle.core_spec.specs.CoreCuts.{Way}
 use Rattle.cert_spec.specs.Text.{certificate_items, certificate_text, line_bytes}
 use Rattle.cert_scan.proofs.Walks.{Walk, scanned, given_all}
-use Rattle.cert_scan.specs.Parts.{none_left, parts_of, hub_parts, value_parts, weight_parts}
-use Rattle.cert_scan.specs.Pieces.{Piece, told_hubs, told_values, told_weights, told_numbers, told_keyword, word_piece, number_pieces, pieces_of, bytes_of, told_by, PiecesAreText, whole_within}
+use Rattle.cert_scan.specs.Parts.{none_left, parts_of, hub_parts, mark_parts, value_parts, way_parts, weight_parts}
+use Rattle.cert_scan.specs.Pieces.{Piece, told_hubs, told_mark, told_values, told_ways, told_weights, told_numbers, told_keyword, word_piece, number_pieces, mark_pieces, pieces_of, bytes_of, told_by, PiecesAreText, whole_within}
+use Rattle.cert_scan.proofs.LineTexts.{plain_text}
 use Rattle.cert_scan.proofs.Goes.{Goes, goes_append, given_all-append, nil_front}
 use Rattle.cert_scan.specs.declared.items.Item.{Item}
-use Rattle.cert_scan.specs.declared.items.Item.TheVariants.{Hub, DualPair, Dual, Leaf, LeafPair}
+use Rattle.cert_scan.specs.declared.items.Item.TheVariants.{Hub, Cut, CoreHub, DualPair, Dual, Proof, ProofPair, Leaf, LeafPair}
 
 -- the bytes of a piece lead from a to b, and what it tells is given with the last of them
 pub record Passes (a : Walk) (p : Piece) (b : Walk) : Type 0 where
@@ -78,10 +80,20 @@ unfolding numbers_of
 hubs_told [] = refl
 hubs_told (k ∷ rest) = ap (λ l. (k + 1) ∷ l) (hubs_told rest)
 
+mark_told : (hubs : List ℕ) → numbers_of (told_mark hubs) ≡ node_numbers hubs
+unfolding numbers_of
+mark_told [] = refl
+mark_told (k ∷ rest) = ap (λ l. (k + 1) ∷ l) (mark_told rest)
+
 values_told : (u : List (ℕ × ℕ)) → numbers_of (told_values u) ≡ value_numbers u
 unfolding numbers_of
 values_told [] = refl
 values_told (e ∷ rest) = ap (λ l. (e.0 + 1) ∷ e.1 ∷ l) (values_told rest)
+
+ways_told : (ways : List Way) → numbers_of (told_ways ways) ≡ way_numbers ways
+unfolding numbers_of
+ways_told [] = refl
+ways_told (w ∷ rest) = ap (λ l. (w.0 + 1) ∷ (w.1 + 1) ∷ w.2 ∷ l) (ways_told rest)
 
 weights_told : (w : List (ℕ × ℕ)) → numbers_of (told_weights w) ≡ weight_numbers w
 unfolding numbers_of
@@ -99,9 +111,11 @@ numbers_told (says_route commodity route) = refl
 numbers_told (says_cuts all) = refl
 numbers_told (says_cut number None) = refl
 numbers_told (says_cut number (Some part)) = refl
+numbers_told (says_marked number part hubs) = refl
 numbers_told (says_dual commodity run dual) =
     by_test (nat_eq run 1) (λ e. rw e (ap (λ l. (commodity.0 + 1) ∷ (commodity.1 + 1) ∷ dual.a ∷ l) (values_told dual.u)))
     (λ e. rw e (ap (λ l. (commodity.0 + 1) ∷ (commodity.1 + 1) ∷ run ∷ dual.a ∷ l) (values_told dual.u)))
+numbers_told (says_proof proof) = ap (λ l. proof.turns ∷ proof.scale ∷ l) (ways_told proof.ways)
 numbers_told (says_nodes all) = refl
 numbers_told (says_tree (branch_on k)) = refl
 numbers_told (says_tree (leaf_of denom weights)) = ap (λ l. denom ∷ l) (weights_told weights)
@@ -118,18 +132,45 @@ words_text word (t ∷ rest) tells =
     append_assoc word (32 ∷ []) (bytes_of (word_piece (decimal t.0) rest t.1 ∷ number_pieces rest)) ∙ ap (λ l. word ++ 32 ∷ l) (words_text (decimal t.0) rest t.1)
     ∙ sym (append_assoc word (32 ∷ join_with_byte 32 (decimal t.0 ∷ map decimal (numbers_of rest))) (10 ∷ []))
 
-pub line_pieces_text : (line : Line) → bytes_of (pieces_of line) ≡ line_bytes line
+-- a line with no more than a keyword and numbers
+plain_pieces_text : (line : Line) → words_behind line ≡ []
+    → bytes_of (word_piece (keyword line) (told_numbers line) (told_keyword line) ∷ number_pieces (told_numbers line)) ≡ line_bytes line
+plain_pieces_text line none =
+    words_text (keyword line) (told_numbers line) (told_keyword line)
+    ∙ ap (λ l. l ++ 10 ∷ []) (sym (plain_text line (keyword line) (numbers_of (told_numbers line)) refl (sym (numbers_told line)) none))
+
+-- a word in front of a line
+spaced_line : (word line : List ℕ) → (word ++ 32 ∷ []) ++ (line ++ 10 ∷ []) ≡ (word ++ 32 ∷ line) ++ 10 ∷ []
+spaced_line word line = append_assoc word (32 ∷ []) (line ++ 10 ∷ []) ∙ sym (append_assoc word (32 ∷ line) (10 ∷ []))
+
+mark_line_text : (number part : ℕ) (hubs : List ℕ) → bytes_of (pieces_of (says_marked number part hubs)) ≡ line_bytes (says_marked number part hubs)
 unfolding line_text
-line_pieces_text line =
-    words_text (keyword line) (told_numbers line) (told_keyword line) ∙ ap (λ ns. join_with_byte 32 (keyword line ∷ map decimal ns) ++ 10 ∷ []) (numbers_told line)
+mark_line_text number part hubs =
+    let mark = join_with_byte 32 (codes "core" ∷ map decimal (node_numbers hubs)) in
+    let text : bytes_of (mark_pieces hubs) ≡ join_with_byte 32 (codes "core" ∷ map decimal (node_numbers hubs)) ++ 10 ∷ [] =
+    words_text (codes "core") (told_mark hubs) None ∙ ap (λ ns. join_with_byte 32 (codes "core" ∷ map decimal ns) ++ 10 ∷ []) (mark_told hubs) in
+    ap (λ l. codes "cut" ++ 32 ∷ l) (ap (λ l. (decimal number ++ 32 ∷ []) ++ ((decimal part ++ 32 ∷ []) ++ l)) text
+    ∙ ap (λ l. (decimal number ++ 32 ∷ []) ++ l) (spaced_line (decimal part) mark) ∙ spaced_line (decimal number) (decimal part ++ 32 ∷ mark))
+
+pub line_pieces_text : (line : Line) → bytes_of (pieces_of line) ≡ line_bytes line
+line_pieces_text (says_marked number part hubs) = mark_line_text number part hubs
+line_pieces_text line = plain_pieces_text line refl
 
 hubs_tell : (hubs : List ℕ) → told_by (number_pieces (told_hubs hubs)) ≡ hub_parts hubs
 hubs_tell [] = refl
 hubs_tell (k ∷ rest) = ap (λ l. Hub k (none_left rest) ∷ l) (hubs_tell rest)
 
+mark_tell : (hubs : List ℕ) → told_by (number_pieces (told_mark hubs)) ≡ mark_parts hubs
+mark_tell [] = refl
+mark_tell (k ∷ rest) = ap (λ l. CoreHub k (none_left rest) ∷ l) (mark_tell rest)
+
 values_tell : (u : List (ℕ × ℕ)) → told_by (number_pieces (told_values u)) ≡ value_parts u
 values_tell [] = refl
 values_tell (e ∷ rest) = ap (λ l. DualPair e.0 e.1 (none_left rest) ∷ l) (values_tell rest)
+
+ways_tell : (ways : List Way) → told_by (number_pieces (told_ways ways)) ≡ way_parts ways
+ways_tell [] = refl
+ways_tell (w ∷ rest) = ap (λ l. ProofPair w.0 w.1 w.2 (none_left rest) ∷ l) (ways_tell rest)
 
 weights_tell : (w : List (ℕ × ℕ)) → told_by (number_pieces (told_weights w)) ≡ weight_parts w
 weights_tell [] = refl
@@ -145,9 +186,11 @@ line_pieces_tell (says_route commodity route) = refl
 line_pieces_tell (says_cuts all) = refl
 line_pieces_tell (says_cut number None) = refl
 line_pieces_tell (says_cut number (Some part)) = refl
+line_pieces_tell (says_marked number part hubs) = ap (λ l. Cut number part false ∷ l) (mark_tell hubs)
 line_pieces_tell (says_dual commodity run dual) =
     let told : List Item → List Item = λ l. Dual commodity.0 commodity.1 run dual.a (none_left dual.u) ∷ l in
     by_test (nat_eq run 1) (λ e. rw e (ap told (values_tell dual.u))) (λ e. rw e (ap told (values_tell dual.u)))
+line_pieces_tell (says_proof proof) = ap (λ l. Proof proof.turns proof.scale (none_left proof.ways) ∷ l) (ways_tell proof.ways)
 line_pieces_tell (says_nodes all) = refl
 line_pieces_tell (says_tree (branch_on k)) = refl
 line_pieces_tell (says_tree (leaf_of denom weights)) = ap (λ l. Leaf denom (none_left weights) ∷ l) (weights_tell weights)

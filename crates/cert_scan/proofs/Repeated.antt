@@ -6,16 +6,17 @@ use Rattle.std.proofs.lemmas.List.{length-append}
 use Rattle.hub_spec.specs.Limits.{most_nodes}
 use Rattle.hub_spec.specs.Cuts.{Prices}
 use Rattle.hub_spec.specs.Trees.{branch_on, leaf_of, no_hub, no_route, no_count}
-use Rattle.cert_spec.specs.Lines.{Item as Line, says_version, says_size, says_cost, says_bound, says_hubs, says_route, says_cuts, says_cut, says_dual, says_nodes, says_tree, says_end, part_of}
+use Rattle.cert_spec.specs.Lines.{Item as Line, says_version, says_size, says_cost, says_bound, says_hubs, says_route, says_cuts, says_cut, says_marked, says_dual, says_proof, says_nodes, says_tree, says_end, part_of}
+use Rattle.core_spec.specs.CoreCuts.{Way, CoreProof}
 use Rattle.cert_spec.specs.Text.{same_values, same_prices}
 use Rattle.cert_scan.specs.Scans.{shape_by}
-use Rattle.cert_scan.specs.Versions.{version_of}
-use Rattle.cert_scan.specs.Parts.{none_left, parts_of, hub_parts, value_parts, weight_parts}
-use Rattle.cert_scan.specs.Repeats.{DualSoFar, with_price, with_value, left_behind, noted, is_repeated, ends_dual, noted_by, repeats_by}
+use Rattle.cert_scan.specs.Versions.{version_number, version_of}
+use Rattle.cert_scan.specs.Parts.{none_left, parts_of, hub_parts, mark_parts, value_parts, way_parts, weight_parts}
+use Rattle.cert_scan.specs.Repeats.{DualSoFar, with_mark, with_price, with_value, left_behind, noted, is_repeated, ends_dual, ends_repeat, noted_by, repeats_by}
 use Rattle.cert_scan.specs.declared.items.Version.{Version}
-use Rattle.cert_scan.specs.declared.items.Version.TheVariants.{First, Second}
+use Rattle.cert_scan.specs.declared.items.Version.TheVariants.{First, Second, Third}
 use Rattle.cert_scan.specs.declared.items.Item.{Item}
-use Rattle.cert_scan.specs.declared.items.Item.TheVariants.{Version as version_item, Size, Cost, Bound, Hub, Route, Cuts, Cut, Nodes, Branch, Leaf, LeafPair, Empty, Block, Count, End}
+use Rattle.cert_scan.specs.declared.items.Item.TheVariants.{Version as version_item, Size, Cost, Bound, Hub, Route, Cuts, Cut, CoreHub, Dual, DualPair, Proof, ProofPair, Nodes, Branch, Leaf, LeafPair, Empty, Block, Count, End}
 use Rattle.cert_scan.specs.declared.stages.Shape.{Shape}
 
 -- what is held after these items
@@ -67,6 +68,7 @@ or_none false = refl
 pub noted_none : (v : Version) (so_far : DualSoFar) → so_far ≡ noted_by v so_far None
 noted_none First so_far = refl
 noted_none Second so_far = refl
+noted_none Third so_far = refl
 
 pub noted_one : (sh : Shape) (so_far : DualSoFar) (item : Option Item) → noted_all sh so_far (option_to_list item) ≡ noted_by sh.version so_far item
 noted_one sh so_far (Some x) = refl
@@ -75,6 +77,7 @@ noted_one sh so_far None = noted_none sh.version so_far
 pub none_repeats : (v : Version) (so_far : DualSoFar) → repeats_by v so_far None ≡ false
 none_repeats First so_far = refl
 none_repeats Second so_far = refl
+none_repeats Third so_far = refl
 
 pub repeats_one : (sh : Shape) (so_far : DualSoFar) (item : Option Item) → repeats_in sh so_far (option_to_list item) ≡ repeats_by sh.version so_far item
 repeats_one sh so_far (Some x) = or_none (repeats_by sh.version so_far (Some x))
@@ -95,6 +98,7 @@ record IsOther (item : Item) : Type 0 where
 other_item : (v : Version) (so_far : DualSoFar) (item : Item) → IsOther item → (repeats_by v so_far (Some item) ≡ false) × (noted_by v so_far (Some item) ≡ so_far)
 other_item First so_far item h = (refl, refl)
 other_item Second so_far item h = (ap (λ b. b && is_repeated (noted so_far item).left) h.ends, h.same so_far)
+other_item Third so_far item h = (ap (λ b. b && is_repeated (noted so_far item).left) h.ends, h.same so_far)
 
 -- what items leave
 record Leave (sh : Shape) (so_far : DualSoFar) (items : List Item) : Type 0 where
@@ -118,6 +122,16 @@ leave_hubs sh so_far [] = record { quiet = refl; same = refl }
 leave_hubs sh so_far (k ∷ rest) =
     leave_more sh so_far (Hub k (none_left rest)) (hub_parts rest) (record { ends = refl; same = λ s. refl }) (leave_hubs sh so_far rest)
 
+leave_mark : (sh : Shape) (so_far : DualSoFar) (hubs : List ℕ) → Leave sh so_far (mark_parts hubs)
+leave_mark sh so_far [] = record { quiet = refl; same = refl }
+leave_mark sh so_far (k ∷ rest) =
+    leave_more sh so_far (CoreHub k (none_left rest)) (mark_parts rest) (record { ends = refl; same = λ s. refl }) (leave_mark sh so_far rest)
+
+leave_ways : (sh : Shape) (so_far : DualSoFar) (ways : List Way) → Leave sh so_far (way_parts ways)
+leave_ways sh so_far [] = record { quiet = refl; same = refl }
+leave_ways sh so_far (w ∷ rest) =
+    leave_more sh so_far (ProofPair w.0 w.1 w.2 (none_left rest)) (way_parts rest) (record { ends = refl; same = λ s. refl }) (leave_ways sh so_far rest)
+
 leave_weights : (sh : Shape) (so_far : DualSoFar) (w : List (ℕ × ℕ)) → Leave sh so_far (weight_parts w)
 leave_weights sh so_far [] = record { quiet = refl; same = refl }
 leave_weights sh so_far (e ∷ rest) =
@@ -129,10 +143,15 @@ leave_values : (n : ℕ) (so_far : DualSoFar) (u : List (ℕ × ℕ)) → Leave 
 leave_values n so_far [] = record { quiet = refl; same = refl }
 leave_values n so_far (e ∷ rest) = let more = leave_values n so_far rest in record { quiet = more.quiet; same = more.same }
 
--- ---- duals of the second
+-- ---- duals of the later versions
+
+-- the version holds what is given of duals, and tells repeats
+record Counts (v : Version) : Type 0 where
+  notes : (so_far : DualSoFar) (item : Item) → noted_by v so_far (Some item) ≡ noted so_far item
+  tells : (so_far : DualSoFar) (item : Item) → repeats_by v so_far (Some item) ≡ ends_repeat so_far item
 
 -- what is left is these values
-abbrev rest_same : Option (List (ℕ × ℕ)) → List (ℕ × ℕ) → Bool
+abbrev pub rest_same : Option (List (ℕ × ℕ)) → List (ℕ × ℕ) → Bool
 rest_same None u = false
 rest_same (Some xs) u = same_values xs u
 
@@ -146,54 +165,109 @@ rest_tested true true xs u = refl
 rest_tested true false xs u = refl
 rest_tested false b xs u = refl
 
+rest_priced : (a b c : Bool) (xs u : List (ℕ × ℕ)) → rest_same (if a && (b && c) then Some xs else None) u ≡ (a && (b && (c && same_values xs u)))
+rest_priced true b c xs u = rest_tested b c xs u
+rest_priced false b c xs u = refl
+
 rest_behind : (left : Option (List (ℕ × ℕ))) (e : ℕ × ℕ) (u : List (ℕ × ℕ)) → rest_same (left_behind left e) u ≡ rest_same left (e ∷ u)
 rest_behind None e u = refl
 rest_behind (Some []) e u = refl
 rest_behind (Some (f ∷ xs)) e u = rest_tested (nat_eq f.0 e.0) (nat_eq f.1 e.1) xs u
 
--- the shape of a text of the second version
-abbrev second : ℕ → Shape
-second n = record { version = Second; n = n }
+-- items behind the first, which ends no dual
+repeats_behind : (sh : Shape) (so_far : DualSoFar) (item : Item) (items : List Item) → Counts sh.version → ends_dual item ≡ false → shape_by sh (Some item) ≡ sh
+    → repeats_in sh so_far (item ∷ items) ≡ repeats_in sh (noted so_far item) items
+repeats_behind sh so_far item items c goes same =
+    (λ i. c.tells so_far item i || repeats_in (same i) (c.notes so_far item i) items)
+    ∙ ap (λ b. (b && is_repeated (noted so_far item).left) || repeats_in sh (noted so_far item) items) goes
 
-values_repeat : (n : ℕ) (so_far : DualSoFar) (e : ℕ × ℕ) (rest : List (ℕ × ℕ))
-    → repeats_in (second n) so_far (value_parts (e ∷ rest)) ≡ rest_same so_far.left (e ∷ rest)
-values_repeat n so_far e [] = or_none (is_repeated (left_behind so_far.left e)) ∙ rest_none (left_behind so_far.left e) ∙ rest_behind so_far.left e []
-values_repeat n so_far e (f ∷ rest) = values_repeat n (with_value so_far e) f rest ∙ rest_behind so_far.left e (f ∷ rest)
+-- an item alone
+repeats_last : (sh : Shape) (so_far : DualSoFar) (item : Item) → Counts sh.version → ends_dual item ≡ true
+    → repeats_in sh so_far (item ∷ []) ≡ rest_same (noted so_far item).left []
+repeats_last sh so_far item c ends =
+    or_none (repeats_by sh.version so_far (Some item)) ∙ c.tells so_far item ∙ ap (λ b. b && is_repeated (noted so_far item).left) ends
+    ∙ rest_none (noted so_far item).left
+
+values_repeat : (sh : Shape) (so_far : DualSoFar) (e : ℕ × ℕ) (rest : List (ℕ × ℕ)) → Counts sh.version
+    → repeats_in sh so_far (value_parts (e ∷ rest)) ≡ rest_same so_far.left (e ∷ rest)
+values_repeat sh so_far e [] c = repeats_last sh so_far (DualPair e.0 e.1 true) c refl ∙ rest_behind so_far.left e []
+values_repeat sh so_far e (f ∷ rest) c =
+    repeats_behind sh so_far (DualPair e.0 e.1 false) (value_parts (f ∷ rest)) c refl refl ∙ values_repeat sh (with_value so_far e) f rest c
+    ∙ rest_behind so_far.left e (f ∷ rest)
 
 -- the values are held, where there are no more than nodes
-values_held : (n : ℕ) (so_far : DualSoFar) (u : List (ℕ × ℕ)) → length so_far.dual.u + length u ≤ most_nodes
-    → (noted_all (second n) so_far (value_parts u)).dual ≡ record { a = so_far.dual.a; u = so_far.dual.u ++ u }
-values_held n so_far [] few = ap (λ u. record { a = so_far.dual.a; u = u }) (sym (append-nil so_far.dual.u))
-values_held n so_far (e ∷ rest) few =
+values_held : (sh : Shape) (so_far : DualSoFar) (u : List (ℕ × ℕ)) → Counts sh.version → length so_far.dual.u + length u ≤ most_nodes
+    → (noted_all sh so_far (value_parts u)).dual ≡ record { a = so_far.dual.a; u = so_far.dual.u ++ u }
+values_held sh so_far [] c few = ap (λ u. record { a = so_far.dual.a; u = u }) (sym (append-nil so_far.dual.u))
+values_held sh so_far (e ∷ rest) c few =
     let room : length so_far.dual.u < most_nodes = omega arith in
     let more : (if nat_lt (length so_far.dual.u) most_nodes then so_far.dual.u ++ e ∷ [] else so_far.dual.u) ≡ so_far.dual.u ++ e ∷ [] =
     cond-true (nat_lt (length so_far.dual.u) most_nodes) (so_far.dual.u ++ e ∷ []) so_far.dual.u (lt-ltb (length so_far.dual.u) most_nodes room) in
-    values_held n (with_value so_far e) rest (omega (arith, few, ap length more, length-append so_far.dual.u (e ∷ [])))
+    ap (λ s. (noted_all sh s (value_parts rest)).dual) (c.notes so_far (DualPair e.0 e.1 (none_left rest)))
+    ∙ values_held sh (with_value so_far e) rest c (omega (arith, few, ap length more, length-append so_far.dual.u (e ∷ [])))
     ∙ ap (λ u. record { a = so_far.dual.a; u = u }) (ap (λ u. u ++ rest) more ∙ append_assoc so_far.dual.u (e ∷ []) rest)
+
+values_marked : (sh : Shape) (so_far : DualSoFar) (u : List (ℕ × ℕ)) → Counts sh.version → (noted_all sh so_far (value_parts u)).marked ≡ so_far.marked
+values_marked sh so_far [] c = refl
+values_marked sh so_far (e ∷ rest) c =
+    ap (λ s. (noted_all sh s (value_parts rest)).marked) (c.notes so_far (DualPair e.0 e.1 (none_left rest))) ∙ values_marked sh (with_value so_far e) rest c
 
 -- whether a dual of the version repeats the one that is held
 abbrev pub is_repeat : Version → DualSoFar → ℕ → Prices → Bool
 is_repeat First so_far to dual = false
-is_repeat Second so_far to dual = not (nat_eq to 0) && same_prices so_far.dual dual
+is_repeat version so_far to dual = not so_far.marked && (not (nat_eq to 0) && same_prices so_far.dual dual)
 
 -- and a line
 abbrev pub dual_repeats : Version → DualSoFar → Line → Bool
 dual_repeats v so_far (says_dual c run dual) = is_repeat v so_far c.1 dual
 dual_repeats v so_far line = false
 
-second_repeats : (n : ℕ) (so_far : DualSoFar) (c : ℕ × ℕ) (run a : ℕ) (u : List (ℕ × ℕ))
-    → repeats_in (second n) so_far (parts_of (says_dual c run (record { a = a; u = u })))
-    ≡ (not (nat_eq c.1 0) && (nat_eq so_far.dual.a a && same_values so_far.dual.u u))
-second_repeats n so_far c run a [] =
-    let left = (with_price so_far c.1 a).left in
-    or_none (is_repeated left) ∙ rest_none left ∙ rest_tested (not (nat_eq c.1 0)) (nat_eq so_far.dual.a a) so_far.dual.u []
-second_repeats n so_far c run a (e ∷ rest) =
-    values_repeat n (with_price so_far c.1 a) e rest ∙ rest_tested (not (nat_eq c.1 0)) (nat_eq so_far.dual.a a) so_far.dual.u (e ∷ rest)
+later_repeats : (sh : Shape) (so_far : DualSoFar) (c : ℕ × ℕ) (run a : ℕ) (u : List (ℕ × ℕ)) → Counts sh.version
+    → repeats_in sh so_far (parts_of (says_dual c run (record { a = a; u = u })))
+    ≡ (not so_far.marked && (not (nat_eq c.1 0) && (nat_eq so_far.dual.a a && same_values so_far.dual.u u)))
+later_repeats sh so_far c run a [] counts =
+    repeats_last sh so_far (Dual c.0 c.1 run a true) counts refl
+    ∙ rest_priced (not so_far.marked) (not (nat_eq c.1 0)) (nat_eq so_far.dual.a a) so_far.dual.u []
+later_repeats sh so_far c run a (e ∷ rest) counts =
+    repeats_behind sh so_far (Dual c.0 c.1 run a false) (value_parts (e ∷ rest)) counts refl refl ∙ values_repeat sh (with_price so_far c.1 a) e rest counts
+    ∙ rest_priced (not so_far.marked) (not (nat_eq c.1 0)) (nat_eq so_far.dual.a a) so_far.dual.u (e ∷ rest)
+
+counts_second : Counts Second
+counts_second = record { notes = λ so_far item. refl; tells = λ so_far item. refl }
+
+counts_third : Counts Third
+counts_third = record { notes = λ so_far item. refl; tells = λ so_far item. refl }
 
 dual_line_repeats : (v : Version) (n : ℕ) (so_far : DualSoFar) (c : ℕ × ℕ) (run : ℕ) (dual : Prices)
     → repeats_in (record { version = v; n = n }) so_far (parts_of (says_dual c run dual)) ≡ dual_repeats v so_far (says_dual c run dual)
 dual_line_repeats First n so_far c run dual = (leave_values n so_far dual.u).quiet
-dual_line_repeats Second n so_far c run dual = second_repeats n so_far c run dual.a dual.u
+dual_line_repeats Second n so_far c run dual = later_repeats (record { version = Second; n = n }) so_far c run dual.a dual.u counts_second
+dual_line_repeats Third n so_far c run dual = later_repeats (record { version = Third; n = n }) so_far c run dual.a dual.u counts_third
+
+-- ---- the line of a cut
+
+cut_repeats : (v : Version) (so_far : DualSoFar) (x part : ℕ) (last : Bool) → repeats_by v so_far (Some (Cut x part last)) ≡ false
+cut_repeats First so_far x part last = refl
+cut_repeats Second so_far x part last = refl
+cut_repeats Third so_far x part last = refl
+
+cut_quiet : (sh : Shape) (so_far : DualSoFar) (x part : ℕ) (last : Bool) (hubs : List ℕ) → repeats_in sh so_far (Cut x part last ∷ mark_parts hubs) ≡ false
+cut_quiet sh so_far x part last hubs =
+    let behind = noted_by sh.version so_far (Some (Cut x part last)) in
+    (λ i. cut_repeats sh.version so_far x part last i || (leave_mark sh behind hubs).quiet i)
+
+-- a plain cut leaves no mark in a later version, and a marked one leaves one in the third
+pub plain_held : (v : Version) (n : ℕ) (so_far : DualSoFar) (x part : ℕ) → (version_number v ≡ 1 → ⊥)
+    → (noted_all (record { version = v; n = n }) so_far (Cut x part true ∷ [])).marked ≡ false
+plain_held First n so_far x part later = absurd (later refl)
+plain_held Second n so_far x part later = refl
+plain_held Third n so_far x part later = refl
+
+pub mark_held : (v : Version) (n : ℕ) (so_far : DualSoFar) (x part : ℕ) (hubs : List ℕ) → version_number v ≡ 3
+    → (noted_all (record { version = v; n = n }) so_far (parts_of (says_marked x part hubs))).marked ≡ true
+mark_held First n so_far x part hubs third = absurd (omega (arith, third))
+mark_held Second n so_far x part hubs third = absurd (omega (arith, third))
+mark_held Third n so_far x part hubs third = ap (λ (s : DualSoFar). s.marked) (leave_mark (record { version = Third; n = n }) (with_mark so_far true) hubs).same
 
 -- an item of another line
 leaves : (sh : Shape) (so_far : DualSoFar) (item : Item) → ends_dual item ≡ false → ((so_far : DualSoFar) → noted so_far item ≡ so_far) → Leave sh so_far (item ∷ [])
@@ -207,8 +281,12 @@ line_repeats sh so_far (says_bound b) = (leaves sh so_far (Bound b) refl (λ s. 
 line_repeats sh so_far (says_hubs hubs) = (leave_hubs sh so_far hubs).quiet
 line_repeats sh so_far (says_route commodity route) = (leaves sh so_far (Route commodity.0 commodity.1 route.0 route.1) refl (λ s. refl)).quiet
 line_repeats sh so_far (says_cuts all) = (leaves sh so_far (Cuts all) refl (λ s. refl)).quiet
-line_repeats sh so_far (says_cut number part) = (leaves sh so_far (Cut number (part_of part)) refl (λ s. refl)).quiet
+line_repeats sh so_far (says_cut number part) = cut_quiet sh so_far number (part_of part) true []
+line_repeats sh so_far (says_marked number part hubs) = cut_quiet sh so_far number part false hubs
 line_repeats sh so_far (says_dual c run dual) = dual_line_repeats sh.version sh.n so_far c run dual
+line_repeats sh so_far (says_proof proof) =
+    (leave_more sh so_far (Proof proof.turns proof.scale (none_left proof.ways)) (way_parts proof.ways) (record { ends = refl; same = λ s. refl })
+    (leave_ways sh so_far proof.ways)).quiet
 line_repeats sh so_far (says_nodes all) = (leaves sh so_far (Nodes all) refl (λ s. refl)).quiet
 line_repeats sh so_far (says_tree (branch_on k)) = (leaves sh so_far (Branch k) refl (λ s. refl)).quiet
 line_repeats sh so_far (says_tree (leaf_of denom weights)) =
@@ -218,7 +296,33 @@ line_repeats sh so_far (says_tree (no_route commodity)) = (leaves sh so_far (Blo
 line_repeats sh so_far (says_tree no_count) = (leaves sh so_far Count refl (λ s. refl)).quiet
 line_repeats sh so_far says_end = (leaves sh so_far End refl (λ s. refl)).quiet
 
--- behind a dual of the second version it is held
-pub dual_held : (n : ℕ) (so_far : DualSoFar) (c : ℕ × ℕ) (run : ℕ) (dual : Prices) → length dual.u ≤ most_nodes
-    → (noted_all (second n) so_far (parts_of (says_dual c run dual))).dual ≡ dual
-dual_held n so_far c run dual few = values_held n (with_price so_far c.1 dual.a) dual.u (omega (arith, few))
+-- behind a dual of a later version it is held
+dual_is_held : (sh : Shape) (so_far : DualSoFar) (c : ℕ × ℕ) (run : ℕ) (dual : Prices) → Counts sh.version → length dual.u ≤ most_nodes
+    → (noted_all sh so_far (parts_of (says_dual c run dual))).dual ≡ dual
+dual_is_held sh so_far c run dual counts few =
+    ap (λ s. (noted_all sh s (value_parts dual.u)).dual) (counts.notes so_far (Dual c.0 c.1 run dual.a (none_left dual.u)))
+    ∙ values_held sh (with_price so_far c.1 dual.a) dual.u counts (omega (arith, few))
+
+pub dual_held : (v : Version) (n : ℕ) (so_far : DualSoFar) (c : ℕ × ℕ) (run : ℕ) (dual : Prices) → (version_number v ≡ 1 → ⊥) → length dual.u ≤ most_nodes
+    → (noted_all (record { version = v; n = n }) so_far (parts_of (says_dual c run dual))).dual ≡ dual
+dual_held First n so_far c run dual later few = absurd (later refl)
+dual_held Second n so_far c run dual later few = dual_is_held (record { version = Second; n = n }) so_far c run dual counts_second few
+dual_held Third n so_far c run dual later few = dual_is_held (record { version = Third; n = n }) so_far c run dual counts_third few
+
+-- and whether the cut is marked stays
+dual_mark_stays : (sh : Shape) (so_far : DualSoFar) (c : ℕ × ℕ) (run : ℕ) (dual : Prices) → Counts sh.version
+    → (noted_all sh so_far (parts_of (says_dual c run dual))).marked ≡ so_far.marked
+dual_mark_stays sh so_far c run dual counts =
+    ap (λ s. (noted_all sh s (value_parts dual.u)).marked) (counts.notes so_far (Dual c.0 c.1 run dual.a (none_left dual.u)))
+    ∙ values_marked sh (with_price so_far c.1 dual.a) dual.u counts
+
+pub dual_stays : (v : Version) (n : ℕ) (so_far : DualSoFar) (c : ℕ × ℕ) (run : ℕ) (dual : Prices)
+    → (noted_all (record { version = v; n = n }) so_far (parts_of (says_dual c run dual))).marked ≡ so_far.marked
+dual_stays First n so_far c run dual = ap (λ (s : DualSoFar). s.marked) (leave_values n so_far dual.u).same
+dual_stays Second n so_far c run dual = dual_mark_stays (record { version = Second; n = n }) so_far c run dual counts_second
+dual_stays Third n so_far c run dual = dual_mark_stays (record { version = Third; n = n }) so_far c run dual counts_third
+
+pub proof_stays : (sh : Shape) (so_far : DualSoFar) (proof : CoreProof) → noted_all sh so_far (parts_of (says_proof proof)) ≡ so_far
+proof_stays sh so_far proof =
+    (leave_more sh so_far (Proof proof.turns proof.scale (none_left proof.ways)) (way_parts proof.ways) (record { ends = refl; same = λ s. refl })
+    (leave_ways sh so_far proof.ways)).same

@@ -1,20 +1,23 @@
 -- The stages of the grammar that the stages of a scan stand for.
-use Rattle.std.proofs.Common.{◌≡◌, ℕ, ◌+◌, ◌-◌, ◌*◌, ◌/◌, ◌%◌, ◌<◌, ◌≤◌, sym, ap, ◌∙◌, subst, arith, Option, Some, None, nat_lt, nat_eq, inl, inr, mul-le-mul_left}
+use Rattle.std.proofs.Common.{◌≡◌, ℕ, ◌+◌, ◌-◌, ◌*◌, ◌/◌, ◌%◌, ◌<◌, ◌≤◌, refl, sym, ap, ◌∙◌, subst, arith, Option, Some, None, nat_lt, nat_eq, inl, inr, mul-le-mul_left}
 use Rattle.std.proofs.lemmas.Bool.{cond_both, cond-true, cond-false, cases_eq, ltb-true, ltb-false, eq-eqb, ne_eqb}
 use Rattle.std.proofs.lemmas.Nat.{div-mul-add, mod-mul-add}
 use Rattle.hub_spec.specs.Problem.{commodity_at}
 use Rattle.hub_spec.specs.Cuts.{Prices}
 use Rattle.cert_spec.specs.Grammar as grammar
-use Rattle.cert_spec.specs.Grammar.{shape, want_dual}
-use Rattle.cert_spec.proofs.Leads.{after_route-all, after_route-more, after_cut-all, after_cut-more, after_dual-all, after_dual-more, after_tree-all, after_tree-more}
+use Rattle.cert_spec.specs.Grammar.{shape, want_dual, want_proved, want_proof}
+use Rattle.cert_spec.specs.Lines.{says_dual}
+use Rattle.cert_spec.proofs.Leads.{after_route-all, after_route-more, after_cut-all, after_cut-more, after_dual-all, after_dual-more, after_proof-all, after_proof-more, after_tree-all, after_tree-more}
 use Rattle.cert_scan.specs.Versions.{version_number}
-use Rattle.cert_scan.specs.Moves.{commodity_by, next_commodity_of, route_or_cuts, stage_after_route, stage_after_cuts, stage_after_cut, dual_or_cut, stage_after_dual, stage_after_tree}
+use Rattle.cert_scan.specs.Moves.{commodity_by, next_commodity_of, route_or_cuts, stage_after_route, stage_after_cuts, stage_after_cut, dual_or_cut, stage_after_dual, alone, subject_run, stage_after_subject, first_proved_of, proved_or_cut, stage_after_proof, stage_after_tree}
 use Rattle.cert_scan.specs.declared.stages.DualAt.{DualAt}
 use Rattle.cert_scan.specs.declared.stages.Run.{Run}
+use Rattle.cert_scan.specs.declared.stages.Subject.{Subject}
+use Rattle.cert_scan.specs.declared.stages.Subject.TheVariants.{Plain, Proved}
 use Rattle.cert_scan.specs.declared.stages.Shape.{Shape}
 use Rattle.cert_scan.specs.declared.stages.Commodity.{Commodity}
 use Rattle.cert_scan.specs.declared.stages.Stage.{Stage}
-use Rattle.cert_scan.specs.declared.stages.Stage.TheVariants.{Version, Size, Cost, Bound, Hubs, Route, Cuts, Cut, Dual, Nodes, Tree, End, Nothing}
+use Rattle.cert_scan.specs.declared.stages.Stage.TheVariants.{Version, Size, Cost, Bound, Hubs, Route, Cuts, Cut, Dual, ProvedDual, Proof, Nodes, Tree, End, Nothing}
 
 -- the number of a commodity between n nodes
 abbrev pub number_of : ℕ → Commodity → ℕ
@@ -35,6 +38,8 @@ stage_at sh (Route c) = grammar.want_route (text_shape sh) (number_of sh.n c)
 stage_at sh Cuts = grammar.want_cuts (text_shape sh)
 stage_at sh (Cut all before) = grammar.want_cut (text_shape sh) all before
 stage_at sh (Dual at) = want_dual (text_shape sh) at.all at.before (number_of sh.n at.commodity) None
+stage_at sh (ProvedDual at) = want_proved (text_shape sh) at.all at.before (number_of sh.n at.commodity)
+stage_at sh (Proof at) = want_proof (text_shape sh) at.all at.before (number_of sh.n at.commodity)
 stage_at sh Nodes = grammar.want_nodes (text_shape sh)
 stage_at sh (Tree at) = grammar.want_tree (text_shape sh) at.places at.left
 stage_at sh End = grammar.want_end
@@ -54,6 +59,8 @@ pub record IsCommodity (n : ℕ) (c : Commodity) : Type 0 where
 abbrev pub NamesNodes : Shape → Stage → Type 0
 NamesNodes sh (Route c) = IsCommodity sh.n c
 NamesNodes sh (Dual at) = IsCommodity sh.n at.commodity
+NamesNodes sh (ProvedDual at) = IsCommodity sh.n at.commodity
+NamesNodes sh (Proof at) = IsCommodity sh.n at.commodity
 NamesNodes sh stage = Unit {0}
 
 -- the commodity of a number
@@ -151,6 +158,40 @@ pub dual_at : (sh : Shape) (run : Run) (dual : Option Prices) → run.first.befo
 dual_at sh run dual low c h =
     dual_next sh run.first run.length (next_commodity_of sh.n run.length run.first.commodity) dual low
     (next_is sh.n run.length run.first.commodity c h.some h.within)
+
+-- the stage of a dual's line
+abbrev pub stage_of_subject : Subject → Stage
+stage_of_subject (Plain run) = Dual run.first
+stage_of_subject (Proved at) = ProvedDual at
+
+-- the dual of one commodity is of a run
+pub alone_run : (sh : Shape) (d : DualAt) → IsCommodity sh.n d.commodity → IsRunOf sh (alone d)
+alone_run sh d c = let to = c.to in record { some = omega arith; within = omega arith; first = λ e. refl }
+
+pub subject_at : (sh : Shape) (subject : Subject) (c : ℕ × ℕ) (dual : Prices) → (subject_run subject).first.before < (subject_run subject).first.all
+    → IsCommodity sh.n (subject_run subject).first.commodity → IsRunOf sh (subject_run subject)
+    → IsAt sh (stage_after_subject sh.n subject) (grammar.after (stage_at sh (stage_of_subject subject)) (says_dual c (subject_run subject).length dual))
+subject_at sh (Plain run) c dual low nodes h =
+    dual_at sh run (grammar.kept_dual (text_shape sh) (number_of sh.n run.first.commodity + run.length) dual) low nodes h
+subject_at sh (Proved at) c dual low nodes h = record { is = refl; names = nodes }
+
+pub first_proved_at : (sh : Shape) (all before : ℕ) → 1 ≤ sh.n → IsAt sh (first_proved_of all before) (want_proved (text_shape sh) all before 0)
+first_proved_at sh all before some = record { is = ap (want_proved (text_shape sh) all before) (omega arith); names = first_commodity sh.n some }
+
+proved_next : (sh : Shape) (d : DualAt) (next : Option Commodity) → d.before < d.all → NextIs sh.n 1 d.commodity next
+    → IsAt sh (proved_or_cut d next) (grammar.after_proof (text_shape sh) d.all d.before (number_of sh.n d.commodity + 1))
+proved_next sh d (Some next) low h = record {
+  is = ap (want_proved (text_shape sh) d.all d.before) h.0
+      ∙ ap loose (sym (after_proof-more (text_shape sh) d.all d.before (number_of sh.n d.commodity + 1) (λ e. omega (arith, h.2, e))));
+  names = h.1;
+}
+proved_next sh d None low h =
+    let cut = cut_at sh d.all d.before low in
+    record { is = cut.is ∙ ap loose (sym (after_proof-all (text_shape sh) d.all d.before (number_of sh.n d.commodity + 1) h)); names = cut.names }
+
+pub proof_at : (sh : Shape) (d : DualAt) → d.before < d.all → IsCommodity sh.n d.commodity
+    → IsAt sh (stage_after_proof sh.n d) (grammar.after_proof (text_shape sh) d.all d.before (number_of sh.n d.commodity + 1))
+proof_at sh d low c = let to = c.to in proved_next sh d (next_commodity_of sh.n 1 d.commodity) low (next_is sh.n 1 d.commodity c (omega arith) (omega arith))
 
 pub tree_at : (sh : Shape) (places left : ℕ) → IsAt sh (stage_after_tree places left) (grammar.after_tree (text_shape sh) places left)
 tree_at sh places left = elim (cases_eq left 0) [

@@ -20,8 +20,8 @@ use Rattle.cert_scan.specs.Scans.{new_shape, shape_by, line_by, new_scan}
 use Rattle.cert_scan.specs.Repeats.{DualSoFar, no_dual, ends_dual, is_repeated, noted, noted_by, repeats_by}
 use Rattle.cert_scan.proofs.Walks.{Walk, stepped, scanned}
 use Rattle.cert_scan.proofs.Repeated.{noted_all, noted_all-append, shape_all, shape_all-append, repeats_in, repeats_in-append, line_repeats, dual_repeats, noted_one, none_repeats, repeats_one, shape_one}
-use Rattle.cert_scan.proofs.Tight.{wanted_at, untight, tight_wants, wanted_repeats, wanted_stage, wanted_begun, wanted_next}
-use Rattle.cert_scan.specs.Parts.{parts_of, open_hubs, open_values, open_weights}
+use Rattle.cert_scan.proofs.Tight.{wanted_at, Agrees, agrees_next, untight, tight_wants, wanted_repeats, wanted_stage, wanted_begun, wanted_next}
+use Rattle.cert_scan.specs.Parts.{parts_of, open_hubs, open_mark, open_values, open_ways, open_weights}
 use Rattle.cert_scan.specs.Pieces.{pieces_of}
 use Rattle.cert_scan.specs.Given.{IsBegun, IsGiven}
 use Rattle.cert_scan.specs.Scanned.{HasScanned}
@@ -29,17 +29,18 @@ use Rattle.cert_scan.proofs.Goes.{scanned-append, state}
 use Rattle.cert_scan.proofs.StagesAt.{stage_at, NamesNodes}
 use Rattle.cert_scan.proofs.Passing.{pass_all_goes, line_pieces_text}
 use Rattle.cert_scan.proofs.Accepts.{accepts}
-use Rattle.cert_scan.proofs.Here.{begun_none, begun_nothing, described_begun, Here, Whole, Goes_on, AfterAt, After}
+use Rattle.cert_scan.proofs.Here.{begun_none, begun_nothing, described_begun, word_begun, Here, Whole, Goes_on, AfterAt, After}
 use Rattle.cert_scan.proofs.OneByte.{moves}
 use Rattle.cert_scan.specs.declared.items.Item.{Item}
 use Rattle.cert_scan.specs.declared.bytes.Move.{Move}
 use Rattle.cert_scan.specs.declared.bytes.Position.{Position}
 use Rattle.cert_scan.specs.declared.bytes.Position.TheVariants.{Start, Number, Keyword, Spoiled, Failed}
 use Rattle.cert_scan.specs.declared.items.Version.{Version as TextVersion}
-use Rattle.cert_scan.specs.declared.items.Version.TheVariants.{First, Second}
+use Rattle.core_spec.specs.CoreCuts.{Way}
+use Rattle.cert_scan.specs.declared.items.Version.TheVariants.{First, Second, Third}
 use Rattle.cert_scan.specs.declared.stages.Shape.{Shape}
 use Rattle.cert_scan.specs.declared.stages.Stage.{Stage}
-use Rattle.cert_scan.specs.declared.stages.Stage.TheVariants.{Version, Size, Cost, Bound, Hubs, Route, Cuts, Cut, Dual, Nodes, Tree, End, Nothing}
+use Rattle.cert_scan.specs.declared.stages.Stage.TheVariants.{Version, Size, Cost, Bound, Hubs, Route, Cuts, Cut, Dual, ProvedDual, Proof, Nodes, Tree, End, Nothing}
 use Rattle.cert_scan.specs.declared.scanner.Scan.{Scan}
 
 -- bytes without a line feed
@@ -89,6 +90,7 @@ pub record Tracks (bytes : List ℕ) (given : List Item) (sh : Shape) (line : �
   pub more : List Item
   pub lead : Leads want_version lines (wanted_at shape held stage)
   pub names : NamesNodes shape stage
+  pub agrees : Agrees (stage_at shape stage) held
   pub front : bytes ≡ flat_map line_bytes lines ++ sofar
   pub parts : given ≡ flat_map parts_of lines ++ more
   pub begun : IsBegun (wanted_at shape held stage) more
@@ -102,7 +104,7 @@ stage_led first last (item ∷ items) s h = stage_led (after first item) last it
 
 here_begun : (sh : Shape) (stage : Stage) (position : Position) (bytes : List ℕ) (given : List Item) → NamesNodes sh stage → Here sh stage position bytes given → IsBegun (stage_at sh stage) given
 here_begun sh stage (Start at) bytes given names h = begun_nothing sh stage given h.2
-here_begun sh stage (Keyword head matched) bytes given names h = begun_nothing sh stage given h.given_none
+here_begun sh stage (Keyword head matched) bytes given names h = word_begun sh stage head given h.stage_is h.known h.given_is
 here_begun sh stage (Number place value) bytes given names h =
     subst (λ x. IsBegun (stage_at sh x) given) h.stage_is (described_begun sh place h.ns given (subst (NamesNodes sh) (sym h.stage_is) names) h.described)
 here_begun sh stage Spoiled bytes given names h = h
@@ -130,6 +132,7 @@ tracks_new = record {
   more = [];
   lead = refl;
   names = tt;
+  agrees = tt;
   front = refl;
   parts = refl;
   begun = refl;
@@ -193,8 +196,10 @@ line_ended {bytes = bytes} {given = given} {sh = sh} {line = line} {so_far = so_
       sofar = [];
       more = [];
       lead = Leads-append want_version (wanted_at h.shape h.held h.stage) (wanted_at (shape_by sh item) next s) h.lines (w.line ∷ []) h.lead
-          (tight_wants h.shape h.held h.stage w.line w.wanted repeats, behind);
+          (tight_wants h.shape h.held h.stage w.line w.wanted repeats h.agrees, behind);
       names = subst (λ x. NamesNodes x s) told w.behind.names;
+      agrees = subst (λ x. Agrees (stage_at x s) (noted_by sh.version so_far item)) told (subst (Agrees (stage_at (shape_by h.shape item) s)) held
+          (agrees_next h.shape (shape_by h.shape item) h.held h.stage s w.line w.wanted h.agrees w.behind));
       front = snoc_front bytes (flat_map line_bytes h.lines) h.sofar byte h.front ∙ ap (λ t. flat_map line_bytes h.lines ++ t) (w.text ∙ sym (append-nil (line_bytes w.line)))
           ∙ sym (flat_map-append line_bytes h.lines (w.line ∷ [])) ∙ sym (append-nil (flat_map line_bytes (h.lines ++ w.line ∷ [])));
       parts = more_given given (flat_map parts_of h.lines) h.more item h.parts ∙ ap (λ t. flat_map parts_of h.lines ++ t) (w.parts ∙ sym (append-nil (parts_of w.line)))
@@ -223,6 +228,7 @@ stays {bytes = bytes} {given = given} byte item m l next held h line begun now =
   more = h.more ++ option_to_list item;
   lead = h.lead;
   names = h.names;
+  agrees = h.agrees;
   front = snoc_front bytes (flat_map line_bytes h.lines) h.sofar byte h.front;
   parts = more_given given (flat_map parts_of h.lines) h.more item h.parts;
   begun = begun;
@@ -341,6 +347,14 @@ open_values_are : (u : List (ℕ × ℕ)) → AllByRecursion IsOpen (open_values
 open_values_are [] = tt
 open_values_are (e ∷ rest) = (refl, open_values_are rest)
 
+open_mark_are : (hubs : List ℕ) → AllByRecursion IsOpen (open_mark hubs)
+open_mark_are [] = tt
+open_mark_are (k ∷ rest) = (refl, open_mark_are rest)
+
+open_ways_are : (ways : List Way) → AllByRecursion IsOpen (open_ways ways)
+open_ways_are [] = tt
+open_ways_are (w ∷ rest) = (refl, open_ways_are rest)
+
 open_weights_are : (w : List (ℕ × ℕ)) → AllByRecursion IsOpen (open_weights w)
 open_weights_are [] = tt
 open_weights_are (e ∷ rest) = (refl, open_weights_are rest)
@@ -361,7 +375,12 @@ begun_open sh Cost given h = are_open given [] h tt
 begun_open sh Bound given h = are_open given [] h tt
 begun_open sh (Route c) given h = are_open given [] h tt
 begun_open sh Cuts given h = are_open given [] h tt
-begun_open sh (Cut all before) given h = are_open given [] h tt
+begun_open sh (Cut all before) given (inl none) = are_open given [] none tt
+begun_open sh (Cut all before) given (inr h) = subst (AllByRecursion IsOpen) (sym h.are) (refl, open_mark_are h.hubs)
+begun_open sh (ProvedDual d) given (inl none) = are_open given [] none tt
+begun_open sh (ProvedDual d) given (inr h) = subst (AllByRecursion IsOpen) (sym h.are) (refl, open_values_are h.dual.u)
+begun_open sh (Proof d) given (inl none) = are_open given [] none tt
+begun_open sh (Proof d) given (inr h) = subst (AllByRecursion IsOpen) (sym h.are) (refl, open_ways_are h.proof.ways)
 begun_open sh Nodes given h = are_open given [] h tt
 begun_open sh End given h = are_open given [] h tt
 begun_open sh Nothing given h = are_open given [] h tt
@@ -370,6 +389,8 @@ pub open_quiet : (v : TextVersion) (so_far : DualSoFar) (item : Option Item) →
 open_quiet First so_far item h = refl
 open_quiet Second so_far None h = refl
 open_quiet Second so_far (Some x) h = ap (λ b. b && is_repeated (noted so_far x).left) h.0
+open_quiet Third so_far None h = refl
+open_quiet Third so_far (Some x) h = ap (λ b. b && is_repeated (noted so_far x).left) h.0
 
 -- where the line goes on, no dual ends
 goes_quiet : {bytes : List ℕ} {given : List Item} {sh : Shape} {line : ℕ} {position : Position} {so_far : DualSoFar} (byte : ℕ) (item : Option Item) (next : Position)
@@ -395,7 +416,7 @@ repeated_line byte item s h now size repeats w =
       none = λ other line. (let there = untight h.shape h.held h.stage other line.wanted in
           let same : other ≡ w.line = one_item (stage_at h.shape h.stage) (line_text w.line) other w.line size (record { wanted = there; text = line.text })
           (record { wanted = w.wanted; text = refl }) in
-          false≢true (sym (wanted_repeats h.shape h.held h.stage other line.wanted) ∙ ap (dual_repeats h.shape.version h.held) same ∙ is));
+          false≢true (sym (wanted_repeats h.shape h.held h.stage other line.wanted h.agrees) ∙ ap (dual_repeats h.shape.version h.held) same ∙ is));
     }
 
 repeated_at : {bytes : List ℕ} {given : List Item} {sh : Shape} {line : ℕ} {position : Position} {so_far : DualSoFar} (byte : ℕ) (item : Option Item) (next : Position)

@@ -1,23 +1,28 @@
 -- What a scan makes of one byte, by the line that is wanted and the place in it.
 use Rattle.std.specs.Prelude.{ℕ, ◌+◌, ◌-◌, ◌*◌, ◌^◌, Bool, true, false, not, ◌&&◌, ◌||◌, List, length, codes, Option, Some, None, slice_index, nat_eq, nat_lt, nat_le, if◌then◌else◌}
 use Rattle.hub_spec.specs.Limits.{most_nodes, most_part, most_denominator, most_cuts, most_tree_lines}
+use Rattle.core_spec.specs.MarkRanges.{most_turns, most_scale, most_taken}
 use Rattle.cert_spec.specs.Reading.{is_version, is_short}
 use Rattle.cert_scan.specs.Versions.{version_of}
 use Rattle.cert_scan.specs.declared.items.Version.{Version as TextVersion}
-use Rattle.cert_scan.specs.declared.items.Version.TheVariants.{First, Second}
+use Rattle.cert_scan.specs.declared.items.Version.TheVariants.{First, Third}
 use Rattle.cert_scan.specs.declared.items.Item.{Item}
-use Rattle.cert_scan.specs.declared.items.Item.TheVariants.{Version as version_item, Size as size_item, Cost as cost_item, Bound as bound_item, Hub as hub_item, Route as route_item, Cuts as cuts_item, Cut as cut_item, Dual as dual_item, DualPair as pair_item, Nodes as nodes_item, Branch as branch_item, Leaf as leaf_item, LeafPair as weight_item, Empty as empty_item, Block as block_item, Count as count_item, End as end_item}
+use Rattle.cert_scan.specs.declared.items.Item.TheVariants.{Version as version_item, Size as size_item, Cost as cost_item, Bound as bound_item, Hub as hub_item, Route as route_item, Cuts as cuts_item, Cut as cut_item, CoreHub as core_item, Dual as dual_item, DualPair as pair_item, Proof as proof_item, ProofPair as way_item, Nodes as nodes_item, Branch as branch_item, Leaf as leaf_item, LeafPair as weight_item, Empty as empty_item, Block as block_item, Count as count_item, End as end_item}
 use Rattle.cert_scan.specs.declared.stages.Commodity.{Commodity}
 use Rattle.cert_scan.specs.declared.stages.DualAt.{DualAt}
 use Rattle.cert_scan.specs.declared.stages.Run.{Run}
+use Rattle.cert_scan.specs.declared.stages.Subject.{Subject}
+use Rattle.cert_scan.specs.declared.stages.Subject.TheVariants.{Plain, Proved}
+use Rattle.cert_scan.specs.declared.stages.MarkAt.{MarkAt}
+use Rattle.cert_scan.specs.declared.stages.WaysAt.{WaysAt}
 use Rattle.cert_scan.specs.declared.stages.Shape.{Shape}
 use Rattle.cert_scan.specs.declared.stages.TreeAt.{TreeAt}
 use Rattle.cert_scan.specs.declared.stages.Stage.{Stage}
-use Rattle.cert_scan.specs.declared.stages.Stage.TheVariants.{Version, Size, Cost, Bound, Hubs, Route, Cuts, Cut, Dual, Nodes, Tree, End, Nothing}
+use Rattle.cert_scan.specs.declared.stages.Stage.TheVariants.{Version, Size, Cost, Bound, Hubs, Route, Cuts, Cut, Dual, ProvedDual, Proof, Nodes, Tree, End, Nothing}
 use Rattle.cert_scan.specs.declared.heads.Head.{Head}
-use Rattle.cert_scan.specs.declared.heads.Head.TheVariants.{VersionLine, SizeLine, CostLine, BoundLine, HubsLine, RouteLine, CutsLine, CutLine, DualLine, DualsLine, NodesLine, BranchLine, LeafLine, EmptyLine, BlockLine, CountLine, EndLine}
+use Rattle.cert_scan.specs.declared.heads.Head.TheVariants.{VersionLine, SizeLine, CostLine, BoundLine, HubsLine, RouteLine, CutsLine, CutLine, MarkWord, DualLine, DualsLine, ProvedLine, ProofLine, NodesLine, BranchLine, LeafLine, EmptyLine, BlockLine, CountLine, EndLine}
 use Rattle.cert_scan.specs.declared.places.Place.{Place}
-use Rattle.cert_scan.specs.declared.places.Place.TheVariants.{VersionNumber, NodeCount, CandidateCount, CostAmount, BoundAmount, HubNode, RouteFrom, RouteTo, RouteFirst, RouteLast, CutCount, CutNumber, CutPart, DualFrom, DualTo, RunFrom, RunTo, RunLength, DualPrice, ValueNode, ValueAmount, LineCount, BranchNode, BlockFrom, BlockTo, Denominator, WeightCut, WeightAmount}
+use Rattle.cert_scan.specs.declared.places.Place.TheVariants.{VersionNumber, NodeCount, CandidateCount, CostAmount, BoundAmount, HubNode, RouteFrom, RouteTo, RouteFirst, RouteLast, CutCount, CutNumber, CutPart, MarkHub, DualFrom, DualTo, RunFrom, RunTo, RunLength, ProvedFrom, ProvedTo, DualPrice, ValueNode, ValueAmount, ProofTurns, ProofScale, WayFrom, WayTo, WayTaken, LineCount, BranchNode, BlockFrom, BlockTo, Denominator, WeightCut, WeightAmount}
 use Rattle.cert_scan.specs.declared.bytes.Position.{Position}
 use Rattle.cert_scan.specs.declared.bytes.Position.TheVariants.{Start, Keyword, Number, Spoiled, Failed}
 use Rattle.cert_scan.specs.declared.bytes.Move.{Move}
@@ -60,6 +65,32 @@ stage_after_dual n run = dual_or_cut run.first (next_commodity_of n run.length r
 abbrev pub first_dual_of : ℕ → ℕ → Stage
 first_dual_of all before = Dual (record { all = all; before = before; commodity = commodity_by 0 0 })
 
+-- the dual of this commodity alone
+abbrev pub alone : DualAt → Run
+alone at = record { first = at; length = 1 }
+
+-- the commodities that the line of a dual is of
+abbrev pub subject_run : Subject → Run
+subject_run (Plain run) = run
+subject_run (Proved at) = alone at
+
+-- what is wanted behind its line
+abbrev pub stage_after_subject : ℕ → Subject → Stage
+stage_after_subject n (Plain run) = stage_after_dual n run
+stage_after_subject n (Proved at) = Proof at
+
+-- the first dual of the marked cut behind so many others is wanted
+abbrev pub first_proved_of : ℕ → ℕ → Stage
+first_proved_of all before = ProvedDual (record { all = all; before = before; commodity = commodity_by 0 0 })
+
+-- a dual of this commodity is wanted in the same marked cut, or the cut is done
+abbrev pub proved_or_cut : DualAt → Option Commodity → Stage
+proved_or_cut at (Some c) = ProvedDual (record { all = at.all; before = at.before; commodity = c })
+proved_or_cut at None = stage_after_cut at.all at.before
+
+abbrev pub stage_after_proof : ℕ → DualAt → Stage
+stage_after_proof n at = proved_or_cut at (next_commodity_of n 1 at.commodity)
+
 abbrev pub stage_after_tree : ℕ → ℕ → Stage
 stage_after_tree places left = if nat_eq left 0 then End else Tree (record { places = places; left = left })
 
@@ -73,10 +104,10 @@ may_fill at = nat_le (at.places - 1) (at.left - 1) && (not (nat_eq (at.places - 
 
 -- ---- the first word of a line
 
--- a count, which the second version has
+-- a count, which the later versions have
 abbrev pub count_line_of : TextVersion → TreeAt → Option Head
 count_line_of First at = None
-count_line_of Second at = Some (CountLine at)
+count_line_of version at = Some (CountLine at)
 
 -- what the line of a tree is to be that begins with this byte
 abbrev pub tree_head_at : TextVersion → TreeAt → ℕ → Option Head
@@ -96,6 +127,8 @@ head_at version (Route c) byte = Some (RouteLine c)
 head_at version Cuts byte = Some CutsLine
 head_at version (Cut all before) byte = Some (CutLine all before)
 head_at version (Dual at) byte = Some (DualLine at)
+head_at version (ProvedDual at) byte = Some (ProvedLine at)
+head_at version (Proof at) byte = Some (ProofLine at)
 head_at version Nodes byte = Some NodesLine
 head_at version (Tree at) byte = tree_head_at version at byte
 head_at version End byte = Some EndLine
@@ -111,8 +144,11 @@ form_of HubsLine = (codes "hubs", Some (HubNode 0))
 form_of (RouteLine c) = (codes "route", Some (RouteFrom c))
 form_of CutsLine = (codes "cuts", Some CutCount)
 form_of (CutLine all before) = (codes "cut", Some (CutNumber all before))
+form_of (MarkWord at) = (codes "core", Some (MarkHub at 0))
 form_of (DualLine at) = (codes "dual", Some (DualFrom at))
 form_of (DualsLine at) = (codes "duals", Some (RunFrom at))
+form_of (ProvedLine at) = (codes "dual", Some (ProvedFrom at))
+form_of (ProofLine at) = (codes "proof", Some (ProofTurns at))
 form_of NodesLine = (codes "nodes", Some LineCount)
 form_of (BranchLine at) = (codes "branch", Some (BranchNode at))
 form_of (LeafLine at) = (codes "leaf", Some (Denominator at))
@@ -127,14 +163,16 @@ keyword_of head = (form_of head).0
 abbrev pub first_place_of : Head → Option Place
 first_place_of head = (form_of head).1
 
--- the duals of neighbours as one line, which the second version has
+-- the duals of neighbours of a plain cut as one line, which the later versions have
 abbrev pub duals_line_of : TextVersion → Head → Option Head
-duals_line_of Second (DualLine at) = Some (DualsLine at)
+duals_line_of First head = None
+duals_line_of version (DualLine at) = Some (DualsLine at)
 duals_line_of version head = None
 
--- the block of a commodity, which the second version has
+-- the block of a commodity, which the later versions have
 abbrev pub block_line_of : TextVersion → Head → Option Head
-block_line_of Second (BranchLine at) = Some (BlockLine at)
+block_line_of First head = None
+block_line_of version (BranchLine at) = Some (BlockLine at)
 block_line_of version head = None
 
 -- another line, whose first word begins with as many letters of this one's and goes on with the byte
@@ -179,16 +217,25 @@ follows n before value = nat_lt before value && nat_le value n
 -- what an amount of a dual is below
 abbrev pub amount_limit : TextVersion → ℕ
 amount_limit First = 10 ^ 30
-amount_limit Second = 10 ^ 33
+amount_limit version = 10 ^ 33
 
 -- the number of the cut that begins; its part stands behind it, but in the first version, where it is 1
 abbrev pub cut_by : TextVersion → ℕ → ℕ → Bool → Move
-cut_by First all number last = whole_by last (Some (cut_item number 1)) (first_dual_of all (number - 1))
-cut_by Second all number last = more_by last (CutPart all number)
+cut_by First all number last = whole_by last (Some (cut_item number 1 last)) (first_dual_of all (number - 1))
+cut_by version all number last = more_by last (CutPart all number)
 
--- the dual of this commodity alone
-abbrev pub alone : DualAt → Run
-alone at = record { first = at; length = 1 }
+-- the part of a cut, behind which the line ends; in the third version the word of a mark may stand behind it
+abbrev pub part_by : TextVersion → MarkAt → Bool → Move
+part_by Third at false = move (Keyword (MarkWord at) 0) (Some (cut_item at.number at.part false))
+part_by version at last = whole_by last (Some (cut_item at.number at.part last)) (first_dual_of at.all (at.number - 1))
+
+-- behind the way of a proof that has these nodes, which count from 1
+abbrev pub way_behind : DualAt → ℕ → ℕ → WaysAt
+way_behind at from to = record { dual = at; from = from; to = to }
+
+-- the nodes stand behind those of the way before
+abbrev pub is_later_way : WaysAt → ℕ → ℕ → Bool
+is_later_way at from to = nat_lt at.from from || (nat_eq at.from from && nat_lt at.to to)
 
 -- the number at a place of a text of this shape, and behind it the line's end or a space
 abbrev pub taken_by : Shape → Place → ℕ → Bool → Move
@@ -213,24 +260,42 @@ taken_by s CutCount value last =
 taken_by s (CutNumber all before) value last =
     allowed (nat_eq value (before + 1) && nat_le value most_cuts) last (cut_by s.version all value last)
 taken_by s (CutPart all number) value last =
-    allowed (within value most_part) last (whole_by last (Some (cut_item number value)) (first_dual_of all (number - 1)))
+    allowed (within value most_part) last (part_by s.version (record { all = all; number = number; part = value }) last)
+taken_by s (MarkHub at before) value last =
+    allowed (follows s.n before value) last
+    (open_by last (core_item (value - 1) last) (MarkHub at value) (first_proved_of at.all (at.number - 1)))
 taken_by s (DualFrom at) value last = allowed (nat_eq value (at.commodity.from + 1)) last (more_by last (DualTo at))
 taken_by s (DualTo at) value last =
-    allowed (nat_eq value (at.commodity.to + 1)) last (more_by last (DualPrice (alone at)))
+    allowed (nat_eq value (at.commodity.to + 1)) last (more_by last (DualPrice (Plain (alone at))))
 taken_by s (RunFrom at) value last = allowed (nat_eq value (at.commodity.from + 1)) last (more_by last (RunTo at))
 taken_by s (RunTo at) value last = allowed (nat_eq value (at.commodity.to + 1)) last (more_by last (RunLength at))
 taken_by s (RunLength at) value last =
     allowed (nat_le 2 value && nat_le (at.commodity.to + value) s.n) last
-    (more_by last (DualPrice (record { first = at; length = value })))
-taken_by s (DualPrice run) value last =
+    (more_by last (DualPrice (Plain (record { first = at; length = value }))))
+taken_by s (ProvedFrom at) value last = allowed (nat_eq value (at.commodity.from + 1)) last (more_by last (ProvedTo at))
+taken_by s (ProvedTo at) value last =
+    allowed (nat_eq value (at.commodity.to + 1)) last (more_by last (DualPrice (Proved at)))
+taken_by s (DualPrice subject) value last =
+    let run = subject_run subject in
     allowed (nat_lt value (amount_limit s.version)) last
-    (open_by last (dual_item run.first.commodity.from run.first.commodity.to run.length value last) (ValueNode run 0)
-    (stage_after_dual s.n run))
-taken_by s (ValueNode run before) value last =
-    allowed (follows s.n before value) last (more_by last (ValueAmount run value))
-taken_by s (ValueAmount run number) value last =
+    (open_by last (dual_item run.first.commodity.from run.first.commodity.to run.length value last) (ValueNode subject 0)
+    (stage_after_subject s.n subject))
+taken_by s (ValueNode subject before) value last =
+    allowed (follows s.n before value) last (more_by last (ValueAmount subject value))
+taken_by s (ValueAmount subject number) value last =
     allowed (nat_le 1 value && nat_lt value (amount_limit s.version)) last
-    (open_by last (pair_item (number - 1) value last) (ValueNode run number) (stage_after_dual s.n run))
+    (open_by last (pair_item (number - 1) value last) (ValueNode subject number) (stage_after_subject s.n subject))
+taken_by s (ProofTurns at) value last = allowed (nat_le value most_turns) last (more_by last (ProofScale at value))
+taken_by s (ProofScale at turns) value last =
+    allowed (within value most_scale) last
+    (open_by last (proof_item turns value last) (WayFrom (way_behind at 0 0)) (stage_after_proof s.n at))
+taken_by s (WayFrom at) value last = allowed (within value s.n) last (more_by last (WayTo at value))
+taken_by s (WayTo at from) value last =
+    allowed (nat_le from value && (nat_le value s.n && is_later_way at from value)) last
+    (more_by last (WayTaken (way_behind at.dual from value)))
+taken_by s (WayTaken at) value last =
+    allowed (within value most_taken) last
+    (open_by last (way_item (at.from - 1) (at.to - 1) value last) (WayFrom at) (stage_after_proof s.n at.dual))
 taken_by s LineCount value last =
     allowed (within value most_tree_lines) last
     (whole_by last (Some (nodes_item value)) (Tree (record { places = 1; left = value })))

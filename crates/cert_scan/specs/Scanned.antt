@@ -1,6 +1,6 @@
 -- The bytes that have come, the items that were given, and the scan that they leave.
 use Rattle.std.specs.Prelude.{◌≡◌, ℕ, ◌+◌, ◌-◌, ◌^◌, ◌<◌, ◌↔◌, List, length, count_by, nat_eq, Option, None, IfSome, ◌⊎◌}
-use Rattle.hub_spec.specs.Certificates.{Proof}
+use Rattle.cert_spec.specs.Stated.{Stated}
 use Rattle.cert_spec.specs.Text.{Spells}
 use Rattle.cert_spec.specs.Grammar.{TextFault, bad_line, ended, IsTextFault}
 use Rattle.cert_scan.specs.Scans.{new_scan, scanned, given_all}
@@ -30,7 +30,7 @@ fault_of (Ended line) = ended line
 
 -- there is no fault just where the bytes spell a certificate, and a fault is the grammar's
 pub record Tells (bytes : List ℕ) (fault : Option Fault) : Type 0 where
-  pub whole : (fault ≡ None) ↔ ((k : Proof) × Spells bytes k)
+  pub whole : (fault ≡ None) ↔ ((k : Stated) × Spells bytes k)
   pub of_grammar : IfSome fault (λ f. IsTextFault bytes (fault_of f))
 
 -- how many line feeds the bytes have

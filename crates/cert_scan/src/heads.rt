@@ -13,9 +13,9 @@ ghost use Rattle.cert_scan.specs.Moves.{
 
 use crate::items::Version;
 use crate::places::Place;
-use crate::stages::{Commodity, DualAt, Stage, TreeAt};
+use crate::stages::{Commodity, DualAt, MarkAt, Stage, TreeAt};
 
-// What a line is.
+// What a line is, or for a marked cut what stands behind its part.
 #[derive(Clone, Copy)]
 pub(crate) enum Head {
     VersionLine,
@@ -26,8 +26,11 @@ pub(crate) enum Head {
     RouteLine(Commodity),
     CutsLine,
     CutLine(u32, u32),
+    MarkWord(MarkAt),
     DualLine(DualAt),
     DualsLine(DualAt),
+    ProvedLine(DualAt),
+    ProofLine(DualAt),
     NodesLine,
     BranchLine(TreeAt),
     LeafLine(TreeAt),
@@ -51,6 +54,8 @@ pub(crate) fn head_of(version: Version, stage: Stage, byte: u8) -> Option<Head>
         Stage::Cuts => Some(Head::CutsLine),
         Stage::Cut(all, before) => Some(Head::CutLine(all, before)),
         Stage::Dual(at) => Some(Head::DualLine(at)),
+        Stage::ProvedDual(at) => Some(Head::ProvedLine(at)),
+        Stage::Proof(at) => Some(Head::ProofLine(at)),
         Stage::Nodes => Some(Head::NodesLine),
         Stage::Tree(at) => tree_head(version, at, byte),
         Stage::End => Some(Head::EndLine),
@@ -80,7 +85,7 @@ fn count_line(version: Version, at: TreeAt) -> Option<Head>
 {
     match version {
         Version::First => None,
-        Version::Second => Some(Head::CountLine(at)),
+        Version::Second | Version::Third => Some(Head::CountLine(at)),
     }
 }
 
@@ -98,8 +103,11 @@ pub(crate) fn form(head: Head) -> (&'static [u8], Option<Place>)
         Head::RouteLine(commodity) => (b"route", Some(Place::RouteFrom(commodity))),
         Head::CutsLine => (b"cuts", Some(Place::CutCount)),
         Head::CutLine(all, before) => (b"cut", Some(Place::CutNumber(all, before))),
+        Head::MarkWord(at) => (b"core", Some(Place::MarkHub(at, 0))),
         Head::DualLine(at) => (b"dual", Some(Place::DualFrom(at))),
         Head::DualsLine(at) => (b"duals", Some(Place::RunFrom(at))),
+        Head::ProvedLine(at) => (b"dual", Some(Place::ProvedFrom(at))),
+        Head::ProofLine(at) => (b"proof", Some(Place::ProofTurns(at))),
         Head::NodesLine => (b"nodes", Some(Place::LineCount)),
         Head::BranchLine(at) => (b"branch", Some(Place::BranchNode(at))),
         Head::LeafLine(at) => (b"leaf", Some(Place::Denominator(at))),
@@ -146,7 +154,7 @@ fn duals_line(version: Version, head: Head) -> Option<Head>
     ensures { result ≡ duals_line_of version head }
 {
     match (version, head) {
-        (Version::Second, Head::DualLine(at)) => Some(Head::DualsLine(at)),
+        (Version::Second | Version::Third, Head::DualLine(at)) => Some(Head::DualsLine(at)),
         _ => None,
     }
 }
@@ -155,7 +163,7 @@ fn block_line(version: Version, head: Head) -> Option<Head>
     ensures { result ≡ block_line_of version head }
 {
     match (version, head) {
-        (Version::Second, Head::BranchLine(at)) => Some(Head::BlockLine(at)),
+        (Version::Second | Version::Third, Head::BranchLine(at)) => Some(Head::BlockLine(at)),
         _ => None,
     }
 }

@@ -11,6 +11,8 @@ pub enum Version {
     /// A cut says its part, equal duals of neighbours of one origin are one line, and the tree has lines of blocks and of
     /// counts.
     Second,
+    /// Also, a cut may be marked, and then each of its duals is followed by a proof.
+    Third,
 }
 
 impl Version {
@@ -21,6 +23,7 @@ impl Version {
         match self {
             Version::First => 1,
             Version::Second => 2,
+            Version::Third => 3,
         }
     }
 }
@@ -54,10 +57,16 @@ pub enum Item {
     },
     /// The number of cuts.
     Cuts(u32),
-    /// The cut of this number begins, with this part.
+    /// The cut of this number begins, with this part. It is marked where its line goes on.
     Cut {
         x: u32,
         part: u32,
+        last: bool,
+    },
+    /// The next hub of the mark of this cut, above those before it.
+    CoreHub {
+        k: u32,
+        last: bool,
     },
     /// The dual of a run of so many commodities of one origin, of which the first is from `i` to `j`: its price, in
     /// 10^-12.
@@ -72,6 +81,20 @@ pub enum Item {
     DualPair {
         k: u32,
         u: u128,
+        last: bool,
+    },
+    /// The proof of the dual before it begins: how many times over the hubs of the mark count, and the scale.
+    Proof {
+        t: u32,
+        g: u32,
+        last: bool,
+    },
+    /// The next way that this proof lists, behind those before it: its nodes, of which `k` is not above `m`, and how often
+    /// it is taken.
+    ProofPair {
+        k: u32,
+        m: u32,
+        y: u64,
         last: bool,
     },
     /// The number of lines of the tree.

@@ -11,8 +11,9 @@
 //! the first on, and the first items of one more line, of which all that they say is in range.
 //!
 //! The text is defined in the crate `cert_spec`. A line begins at a stage of the text (`stages`), has a keyword
-//! (`heads`) and numbers at places (`places`); what one byte makes of it all is in `bytes`. In the second version no dual
-//! may repeat the one before it in its origin: `repeats` tells that by the items.
+//! (`heads`) and numbers at places (`places`, and `marks` for those of a mark and of a proof); what one byte makes of it
+//! all is in `bytes`. From the second version on no dual of a plain cut may repeat the one before it in its origin, while
+//! one of a marked cut may: `repeats` tells that by the items.
 //!
 //! What stands whole in the bytes at hand is taken at once, which comes to the same as its bytes one by one: the first
 //! word of a line, a short number (`digits`), and a node of a dual with its value (`pairs`). Their digits are read from
@@ -23,6 +24,7 @@ mod bytes;
 mod digits;
 mod heads;
 mod items;
+mod marks;
 mod pairs;
 mod pieces;
 mod places;

@@ -1,6 +1,6 @@
 //! The numbers of a line: where each stands, and what it makes of the line.
 ghost use Rattle.std.specs.Prelude.{◌≡◌, ℕ, ◌+◌, nat_eq};
-ghost use Rattle.cert_spec.specs.Reading.{is_short, is_second};
+ghost use Rattle.cert_spec.specs.Reading.{is_short};
 ghost use Rattle.cert_scan.specs.Moves.{
   refusal,
   more_by,
@@ -36,9 +36,12 @@ ghost use Rattle.cert_scan.specs.declared.places.Place.TheVariants.{
 
 use crate::bytes::{Move, Position};
 use crate::items::{Item, Version};
+use crate::marks::{
+    end_part, take_mark_hub, take_scale, take_taken, take_turns, take_way_from, take_way_to,
+};
 use crate::stages::{
-    Commodity, DualAt, FIRST, Run, Shape, Stage, TreeAt, after_cuts, after_dual, after_filled,
-    after_route, after_tree, first_dual, may_be_filled,
+    Commodity, DualAt, FIRST, MarkAt, Run, Shape, Stage, Subject, TreeAt, WaysAt, after_cuts,
+    after_filled, after_route, after_subject, after_tree, first_dual, may_be_filled, run_of,
 };
 use hub_model::{MOST_CUTS, MOST_DENOMINATOR, MOST_NODES, MOST_TREE_LINES};
 
@@ -72,16 +75,28 @@ pub(crate) enum Place {
     CutNumber(u32, u32),
     // How many cuts there are to be, and the number of this one.
     CutPart(u32, u32),
+    // The hub of the mark before it, 0 for none.
+    MarkHub(MarkAt, u32),
     DualFrom(DualAt),
     DualTo(DualAt),
     RunFrom(DualAt),
     RunTo(DualAt),
     RunLength(DualAt),
-    DualPrice(Run),
+    ProvedFrom(DualAt),
+    ProvedTo(DualAt),
+    DualPrice(Subject),
     // The node before it, 0 for none.
-    ValueNode(Run, u32),
+    ValueNode(Subject, u32),
     // Its node.
-    ValueAmount(Run, u32),
+    ValueAmount(Subject, u32),
+    ProofTurns(DualAt),
+    // The turns.
+    ProofScale(DualAt, u32),
+    WayFrom(WaysAt),
+    // The first node of the way.
+    WayTo(WaysAt, u32),
+    // The nodes are those of the way itself.
+    WayTaken(WaysAt),
     LineCount,
     BranchNode(TreeAt),
     BlockFrom(TreeAt),
@@ -110,7 +125,7 @@ pub(crate) fn refused(last: bool) -> Move
 }
 
 // Another number must stand behind.
-fn more(last: bool, place: Place) -> Move
+pub(crate) fn more(last: bool, place: Place) -> Move
     ensures { result ≡ more_by last place }
 {
     let position = if last {
@@ -125,7 +140,7 @@ fn more(last: bool, place: Place) -> Move
 }
 
 // The line must end here.
-fn whole(last: bool, item: Option<Item>, stage: Stage) -> Move
+pub(crate) fn whole(last: bool, item: Option<Item>, stage: Stage) -> Move
     ensures { result ≡ whole_by last item stage }
 {
     if last {
@@ -142,7 +157,7 @@ fn whole(last: bool, item: Option<Item>, stage: Stage) -> Move
 }
 
 // The line may end here, or go on.
-fn open(last: bool, item: Item, place: Place, stage: Stage) -> Move
+pub(crate) fn open(last: bool, item: Item, place: Place, stage: Stage) -> Move
     ensures { result ≡ open_by last item place stage }
 {
     let position = if last {
@@ -184,20 +199,32 @@ pub(crate) fn take(shape: Shape, place: Place, value: u128, last: bool) -> Move
         Place::CutCount => take_cut_count(shape, value, last),
         Place::CutNumber(all, before) => take_cut(shape, all, before, value, last),
         Place::CutPart(all, number) => take_part(shape, all, number, value, last),
+        Place::MarkHub(at, before) => take_mark_hub(shape, at, before, value, last),
         Place::DualFrom(at) => take_node(at.commodity.from, Place::DualTo(at), value, last),
         Place::DualTo(at) => {
             let alone = Run {
                 first: at,
                 length: 1,
             };
-            take_node(at.commodity.to, Place::DualPrice(alone), value, last)
+            let subject = Subject::Plain(alone);
+            take_node(at.commodity.to, Place::DualPrice(subject), value, last)
         }
         Place::RunFrom(at) => take_node(at.commodity.from, Place::RunTo(at), value, last),
         Place::RunTo(at) => take_node(at.commodity.to, Place::RunLength(at), value, last),
         Place::RunLength(at) => take_run_length(shape, at, value, last),
-        Place::DualPrice(run) => take_price(shape, run, value, last),
-        Place::ValueNode(run, before) => take_value_node(shape, run, before, value, last),
-        Place::ValueAmount(run, number) => take_value(shape, run, number, value, last),
+        Place::ProvedFrom(at) => take_node(at.commodity.from, Place::ProvedTo(at), value, last),
+        Place::ProvedTo(at) => {
+            let subject = Subject::Proved(at);
+            take_node(at.commodity.to, Place::DualPrice(subject), value, last)
+        }
+        Place::DualPrice(subject) => take_price(shape, subject, value, last),
+        Place::ValueNode(subject, before) => take_value_node(shape, subject, before, value, last),
+        Place::ValueAmount(subject, number) => take_value(shape, subject, number, value, last),
+        Place::ProofTurns(at) => take_turns(shape, at, value, last),
+        Place::ProofScale(at, turns) => take_scale(shape, at, turns, value, last),
+        Place::WayFrom(at) => take_way_from(shape, at, value, last),
+        Place::WayTo(at, from) => take_way_to(shape, at, from, value, last),
+        Place::WayTaken(at) => take_taken(shape, at, value, last),
         Place::LineCount => take_line_count(shape, value, last),
         Place::BranchNode(at) => take_branch(shape, at, value, last),
         Place::BlockFrom(at) => take_block_from(shape, at, value, last),
@@ -208,21 +235,17 @@ pub(crate) fn take(shape: Shape, place: Place, value: u128, last: bool) -> Move
     }
 }
 
-// Whether the number is that of the second version.
-fn is_second_version(number: u128) -> bool
-    ensures { result ≡ is_second number }
-{
-    number == 2
-}
-
 fn take_version(shape: Shape, value: u128, last: bool) -> Move
     ensures { result ≡ taken_by shape VersionNumber value last }
 {
     if value == 1 {
         return whole(last, Some(Item::Version(Version::First)), Stage::Size);
     }
-    if is_second_version(value) {
+    if value == 2 {
         return whole(last, Some(Item::Version(Version::Second)), Stage::Size);
+    }
+    if value == 3 {
+        return whole(last, Some(Item::Version(Version::Third)), Stage::Size);
     }
     refused(last)
 }
@@ -333,14 +356,18 @@ fn begin_cut(version: Version, all: u32, number: u32, last: bool) -> Move
 {
     match version {
         Version::First => {
-            let first_cut = Item::Cut { x: number, part: 1 };
+            let first_cut = Item::Cut {
+                x: number,
+                part: 1,
+                last,
+            };
             whole(
                 last,
                 Some(first_cut),
                 first_dual(all, number.saturating_sub(1)),
             )
         }
-        Version::Second => more(last, Place::CutPart(all, number)),
+        Version::Second | Version::Third => more(last, Place::CutPart(all, number)),
     }
 }
 
@@ -350,11 +377,12 @@ fn take_part(shape: Shape, all: u32, number: u32, value: u128, last: bool) -> Mo
     if value < 1 || value > MOST_PART {
         return refused(last);
     }
-    let cut = Item::Cut {
-        x: number,
+    let at = MarkAt {
+        all,
+        number,
         part: value as u32,
     };
-    whole(last, Some(cut), first_dual(all, number.saturating_sub(1)))
+    end_part(shape.version, at, last)
 }
 
 // A run has more than one commodity, all of one origin.
@@ -369,7 +397,7 @@ fn take_run_length(shape: Shape, first: DualAt, value: u128, last: bool) -> Move
         first,
         length: value as u32,
     };
-    more(last, Place::DualPrice(run))
+    more(last, Place::DualPrice(Subject::Plain(run)))
 }
 
 // What an amount of a dual is below.
@@ -378,16 +406,17 @@ fn limit_of_amounts(version: Version) -> u128
 {
     match version {
         Version::First => SHORT_LIMIT,
-        Version::Second => LONG_LIMIT,
+        Version::Second | Version::Third => LONG_LIMIT,
     }
 }
 
-fn take_price(shape: Shape, run: Run, value: u128, last: bool) -> Move
-    ensures { result ≡ taken_by shape (DualPrice run) value last }
+fn take_price(shape: Shape, subject: Subject, value: u128, last: bool) -> Move
+    ensures { result ≡ taken_by shape (DualPrice subject) value last }
 {
     if value >= limit_of_amounts(shape.version) {
         return refused(last);
     }
+    let run = run_of(subject);
     let Commodity { from, to } = run.first.commodity;
     let dual = Item::Dual {
         i: from,
@@ -399,22 +428,28 @@ fn take_price(shape: Shape, run: Run, value: u128, last: bool) -> Move
     open(
         last,
         dual,
-        Place::ValueNode(run, 0),
-        after_dual(shape.n, run),
+        Place::ValueNode(subject, 0),
+        after_subject(shape.n, subject),
     )
 }
 
-fn take_value_node(shape: Shape, run: Run, before: u32, value: u128, last: bool) -> Move
-    ensures { result ≡ taken_by shape (ValueNode run before) value last }
+fn take_value_node(shape: Shape, subject: Subject, before: u32, value: u128, last: bool) -> Move
+    ensures { result ≡ taken_by shape (ValueNode subject before) value last }
 {
     if value <= before as u128 || value > shape.n as u128 {
         return refused(last);
     }
-    more(last, Place::ValueAmount(run, value as u32))
+    more(last, Place::ValueAmount(subject, value as u32))
 }
 
-pub(crate) fn take_value(shape: Shape, run: Run, number: u32, value: u128, last: bool) -> Move
-    ensures { result ≡ taken_by shape (ValueAmount run number) value last }
+pub(crate) fn take_value(
+    shape: Shape,
+    subject: Subject,
+    number: u32,
+    value: u128,
+    last: bool,
+) -> Move
+    ensures { result ≡ taken_by shape (ValueAmount subject number) value last }
 {
     if value < 1 || value >= limit_of_amounts(shape.version) {
         return refused(last);
@@ -427,8 +462,8 @@ pub(crate) fn take_value(shape: Shape, run: Run, number: u32, value: u128, last:
     open(
         last,
         pair,
-        Place::ValueNode(run, number),
-        after_dual(shape.n, run),
+        Place::ValueNode(subject, number),
+        after_subject(shape.n, subject),
     )
 }
 

@@ -1,7 +1,8 @@
-//! Whether a dual repeats the one before it in its origin.
+//! Whether a dual of a plain cut repeats the one before it in its origin.
 ghost use Rattle.std.specs.Prelude.{◌≡◌, ◌&&◌, true, Some};
 ghost use Rattle.cert_scan.specs.Repeats.{
   no_dual,
+  with_mark,
   with_price,
   with_value,
   noted,
@@ -27,6 +28,8 @@ pub(crate) struct DualSoFar {
     // How many pairs the dual before has.
     all: usize,
     repeats: bool,
+    // The cut is marked, so that its duals repeat none.
+    marked: bool,
 }
 
 impl Model for DualSoFar {
@@ -39,6 +42,7 @@ impl Model for DualSoFar {
     ghost view = { λ s. record {
       dual = record { a = s.price; u = take s.come s.pairs };
       left = if s.repeats then Some (drop s.come (take s.all s.pairs)) else None;
+      marked = s.marked;
     } };
 
     ghost invariant = { λ s. (s.come ≤ most_nodes) × (s.all ≤ most_nodes) × (length s.pairs ≡ most_nodes) };
@@ -54,6 +58,7 @@ impl DualSoFar {
             come: 0,
             all: 0,
             repeats: false,
+            marked: false,
         }
     }
 
@@ -65,6 +70,10 @@ impl DualSoFar {
         ensures repeats { result ≡ ends_repeat self.old item }
     {
         match item {
+            Item::Cut { last, .. } => {
+                self.mark(!last);
+                false
+            }
             Item::Dual { j, a, last, .. } => {
                 self.begin(j, a);
                 last && self.is_repeated()
@@ -77,11 +86,18 @@ impl DualSoFar {
         }
     }
 
+    // A cut begins.
+    fn mark(&mut self, marked: bool)
+        ensures { self.new ≡ with_mark self.old marked }
+    {
+        self.marked = marked;
+    }
+
     // A price comes, of a dual of which this is the first destination.
     fn begin(&mut self, to: u32, price: u128)
         ensures { self.new ≡ with_price self.old to price }
     {
-        self.repeats = to != 0 && self.price == price;
+        self.repeats = !self.marked && to != 0 && self.price == price;
         self.price = price;
         self.all = self.come;
         self.come = 0;

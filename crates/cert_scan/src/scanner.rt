@@ -1,6 +1,6 @@
 //! A scan of the bytes of a text.
 ghost use Rattle.std.specs.Prelude.{◌≡◌, ℕ, ◌-◌, ◌++◌, ◌<◌, ◌≤◌, List, [], ◌∷◌, length, take, Some, None, false, IfSome, option_to_list};
-ghost use Rattle.hub_spec.specs.Certificates.{Proof};
+ghost use Rattle.cert_spec.specs.Stated.{Stated};
 ghost use Rattle.cert_spec.specs.Text.{Spells};
 ghost use Rattle.cert_scan.specs.Scans.{
   new_scan,
@@ -27,7 +27,7 @@ ghost use Rattle.cert_scan.specs.declared.items.Item.{Item as ItemOf};
 ghost use Rattle.cert_scan.specs.declared.items.Item.TheVariants.{DualPair};
 ghost use Rattle.cert_scan.specs.declared.bytes.Position.TheVariants.{Number};
 ghost use Rattle.cert_scan.specs.declared.places.Place.TheVariants.{ValueNode};
-ghost use Rattle.cert_scan.specs.declared.stages.Run.{Run as RunOf};
+ghost use Rattle.cert_scan.specs.declared.stages.Subject.{Subject as SubjectOf};
 
 use crate::bytes::{Move, Position, after_byte};
 use crate::digits::{SHORT, more_digits, number_at};
@@ -120,8 +120,8 @@ impl Scan {
     // The node and the value that a dual lists next, where they stand there whole and as wanted.
     #[inline(always)]
     fn pair_ahead(&self, bytes: &[u8]) -> Option<Pair>
-        ensures { IfSome result (λ pair. (run : RunOf) × (before : ℕ)
-            × (self.now.position ≡ Number (ValueNode run before) None) × IsPairAhead self.now.shape.n before bytes.now pair) }
+        ensures { IfSome result (λ pair. (subject : SubjectOf) × (before : ℕ)
+            × (self.now.position ≡ Number (ValueNode subject before) None) × IsPairAhead self.now.shape.n before bytes.now pair) }
     {
         match self.position {
             Position::Number(Place::ValueNode(_, before), None) => pair_ahead(
@@ -137,8 +137,8 @@ impl Scan {
     #[inline(always)]
     fn list_pair(&mut self, pair: Pair) -> Item
         ensures given { result ≡ DualPair (pair.number - 1) pair.value false }
-        ensures after { (run : RunOf) (before : ℕ) → self.old.position ≡ Number (ValueNode run before) None
-            → self.new ≡ with_item (put self.old (Number (ValueNode run pair.number) None)) result }
+        ensures after { (subject : SubjectOf) (before : ℕ) → self.old.position ≡ Number (ValueNode subject before) None
+            → self.new ≡ with_item (put self.old (Number (ValueNode subject pair.number) None)) result }
     {
         // The place is moved first: no other write lies between it and the test of where the scan stands.
         if let Position::Number(Place::ValueNode(_, before), None) = &mut self.position {
@@ -146,8 +146,9 @@ impl Scan {
         }
         let k = pair.number.saturating_sub(1);
         let u = pair.value as u128;
-        if let Version::Second = self.shape.version {
-            self.so_far.list(k, u);
+        match self.shape.version {
+            Version::First => {}
+            Version::Second | Version::Third => self.so_far.list(k, u),
         }
         Item::DualPair { k, u, last: false }
     }
@@ -155,8 +156,8 @@ impl Scan {
     // Takes a pair behind which the line ends. Apart, as what follows: the way of any other pair is to stay short.
     #[inline(never)]
     fn end_dual(&mut self, pair: Pair, bytes: &[u8]) -> (usize, Option<Item>)
-        requires { (run : RunOf) × (before : ℕ)
-            × (self.old.position ≡ Number (ValueNode run before) None) × IsPairAhead self.old.shape.n before bytes.now pair }
+        requires { (subject : SubjectOf) × (before : ℕ)
+            × (self.old.position ≡ Number (ValueNode subject before) None) × IsPairAhead self.old.shape.n before bytes.now pair }
         ensures { Runs self.old bytes.now result.0 result.1 self.new }
     {
         let Position::Number(place, _) = self.position else {
@@ -292,7 +293,7 @@ impl Scan {
         ensures value { result ≡ fault_by self.now }
         ensures tells { (bytes : List ℕ) (given : List ItemOf) → HasScanned bytes given self.now → AreCountable bytes
             → Tells bytes result }
-        ensures items { (bytes : List ℕ) (given : List ItemOf) (k : Proof) → HasScanned bytes given self.now
+        ensures items { (bytes : List ℕ) (given : List ItemOf) (k : Stated) → HasScanned bytes given self.now
             → Spells bytes k → given ≡ items_of k }
     {
         fault_of(self.line, self.position)
@@ -330,11 +331,10 @@ impl Scan {
         match item {
             Item::Version(version) => self.shape.version = version,
             Item::Size { n, .. } => self.shape.n = n,
-            _ => {
-                if let Version::Second = self.shape.version {
-                    return self.so_far.note(item);
-                }
-            }
+            _ => match self.shape.version {
+                Version::First => {}
+                Version::Second | Version::Third => return self.so_far.note(item),
+            },
         }
         false
     }

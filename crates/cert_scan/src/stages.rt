@@ -7,6 +7,10 @@ ghost use Rattle.cert_scan.specs.Moves.{
   stage_after_cut,
   first_dual_of,
   stage_after_dual,
+  first_proved_of,
+  stage_after_proof,
+  subject_run,
+  stage_after_subject,
   stage_after_tree,
   stage_after_filled,
   may_fill,
@@ -43,6 +47,30 @@ pub(crate) struct Run {
     pub length: u32,
 }
 
+// What the line of a dual is of: a run of a cut, or a commodity of a marked cut, whose proof stands on the next line.
+#[derive(Clone, Copy)]
+pub(crate) enum Subject {
+    Plain(Run),
+    Proved(DualAt),
+}
+
+// The cut of this number, of so many in all, has this part and is marked.
+#[derive(Clone, Copy)]
+pub(crate) struct MarkAt {
+    pub all: u32,
+    pub number: u32,
+    pub part: u32,
+}
+
+// The next way of the proof of this dual stands behind the one between these nodes, which count from 1, and are 0 where
+// there is none.
+#[derive(Clone, Copy)]
+pub(crate) struct WaysAt {
+    pub dual: DualAt,
+    pub from: u32,
+    pub to: u32,
+}
+
 // How many places of the tree are still to be filled, and tree lines still to come.
 #[derive(Clone, Copy)]
 pub(crate) struct TreeAt {
@@ -62,6 +90,10 @@ pub(crate) enum Stage {
     // How many cuts there are to be, and stand already.
     Cut(u32, u32),
     Dual(DualAt),
+    // The next dual of a marked cut.
+    ProvedDual(DualAt),
+    // The proof of that dual.
+    Proof(DualAt),
     Nodes,
     Tree(TreeAt),
     End,
@@ -134,7 +166,7 @@ pub(crate) fn first_dual(all: u32, before: u32) -> Stage
     })
 }
 
-pub(crate) fn after_dual(n: u32, run: Run) -> Stage
+fn after_dual(n: u32, run: Run) -> Stage
     ensures { result ≡ stage_after_dual n run }
 {
     let DualAt {
@@ -144,6 +176,54 @@ pub(crate) fn after_dual(n: u32, run: Run) -> Stage
     } = run.first;
     match next_commodity(n, run.length, commodity) {
         Some(commodity) => Stage::Dual(DualAt {
+            all,
+            before,
+            commodity,
+        }),
+        None => after_cut(all, before),
+    }
+}
+
+// The commodities that the line of a dual is of.
+pub(crate) fn run_of(subject: Subject) -> Run
+    ensures { result ≡ subject_run subject }
+{
+    match subject {
+        Subject::Plain(run) => run,
+        Subject::Proved(first) => Run { first, length: 1 },
+    }
+}
+
+pub(crate) fn after_subject(n: u32, subject: Subject) -> Stage
+    ensures { result ≡ stage_after_subject n subject }
+{
+    match subject {
+        Subject::Plain(run) => after_dual(n, run),
+        Subject::Proved(at) => Stage::Proof(at),
+    }
+}
+
+// What is wanted where the duals of a marked cut begin, behind so many other cuts.
+pub(crate) fn first_proved(all: u32, before: u32) -> Stage
+    ensures { result ≡ first_proved_of all before }
+{
+    Stage::ProvedDual(DualAt {
+        all,
+        before,
+        commodity: FIRST,
+    })
+}
+
+pub(crate) fn after_proof(n: u32, at: DualAt) -> Stage
+    ensures { result ≡ stage_after_proof n at }
+{
+    let DualAt {
+        all,
+        before,
+        commodity,
+    } = at;
+    match next_commodity(n, 1, commodity) {
+        Some(commodity) => Stage::ProvedDual(DualAt {
             all,
             before,
             commodity,

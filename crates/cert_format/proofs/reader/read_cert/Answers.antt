@@ -42,12 +42,12 @@ whole c none =
 pub finish-requires-in-None : goal.finish-requires-in-None
 finish-requires-in-None c =
     let r = whole (goal.at.finish-requires-in-None c).After-finish c.in-None.is in
-    (r.proof, r.in_range, r.gathered)
+    (r.stated, r.in_range, r.gathered)
 
 pub returns-in-None-clause-spells : goal.returns-in-None-clause-spells
 returns-in-None-clause-spells c =
     let r = whole (goal.at.returns-in-None-clause-spells c).After-finish c.in-None.is in
-    subst (Spells c.args.bytes.now) (sym (c.finish-in-None.ensures r.proof r.in_range r.gathered)) r.spells
+    subst (Spells c.args.bytes.now) (sym (c.finish-in-None.ensures r.stated r.in_range r.gathered)) r.spells
 
 pub returns-in-Some-clause-fault : goal.returns-in-Some-clause-fault
 returns-in-Some-clause-fault c =

@@ -1,10 +1,7 @@
-use Rattle.std.proofs.Common.{◌+◌, drop, flat_map, rules, sym, ap, ◌∙◌, is_ok, is_err, arith}
+use Rattle.std.proofs.Common.{◌+◌, drop, flat_map, sym, ap, is_ok, is_err, arith}
 use Rattle.cert_spec.specs.Text.{line_bytes}
-use Rattle.hub_model.specs.Amounts.{natural}
 use Rattle.cert_scan.specs.Versions.{version_number}
 use Rattle.cert_format.specs.DualItems.{row_items_from}
-use Rattle.cert_format.proofs.Amounts.{same_amount}
-use Rattle.cert_format.proofs.Written.{values_natural}
 use Rattle.cert_format.proofs.DualRows.{next_stated, no_lines}
 use Rattle.cert_format.proofs.Following.{front_more, front_stop, front_end}
 use Rattle.cert_format.proofs.rows.put_row.Goals as goal
