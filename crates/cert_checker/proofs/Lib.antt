@@ -3,7 +3,10 @@ mod Parts
 mod RunPlaces
 mod RunClaims
 mod FirstFailing
+mod MarkedClaims
 mod DualValues
+mod Ways
+mod CoreDuals
 mod Blocked
 mod Mixing
 mod GainSums

@@ -9,7 +9,7 @@ use Rattle.hub_spec.specs.Problem.{Problem, commodities}
 use Rattle.hub_spec.specs.Plans.{IsRoute, HasRoute, IsHubSet, plan_cost}
 use Rattle.hub_spec.specs.Cuts.{IsDual, Cut, IsCut, IsWithinSums}
 use Rattle.hub_spec.specs.Ranges.{IsCutInRange}
-use Rattle.cert_spec.specs.PartConditions.{first_route_line, last_route_line, first_dual_line, last_dual_line, route_claims, hub_claims, one_cut_claims}
+use Rattle.cert_spec.specs.PartConditions.{first_route_line, last_route_line, first_dual_line, last_dual_line, route_claims, hub_claims}
 use Rattle.cert_spec.specs.Conditions.{AllHold, FailsFirst, Claim, claim, Cost, Sum}
 use Rattle.cert_spec.proofs.Claims.{AllHold-append}
 use Rattle.hub_spec.proofs.Commodities.{length_commodities, commodity_at}
@@ -19,7 +19,7 @@ use Rattle.cert_checker.specs.declared.failures.Failure.TheVariants.{Fails}
 use Rattle.cert_checker.specs.declared.kinds.Kind.TheVariants as code
 use Rattle.cert_checker.specs.Answers.{IsFailure}
 use Rattle.cert_checker.specs.Plans.{set_claims, one_route_claims}
-use Rattle.cert_checker.specs.Duals.{claims_of_duals}
+use Rattle.cert_checker.specs.Duals.{claims_of_duals, unmarked_claims}
 
 -- the conditions of the routes from this place on are those of the first of them, and then those of the others
 route_claims_at : (p : Problem) (hubs : List ℕ) (line : ℕ) (cs rs : List (ℕ × ℕ)) (t : ℕ) → t < length cs → t < length rs
@@ -137,13 +137,16 @@ cut_from_duals p cut range duals sums = record { part_least = range.part_least; 
 abbrev sum_claims : Problem → ℕ → ℕ → Cut → List Claim
 sum_claims p v line cut = claim Sum (last_dual_line v p.size cut line) (IsWithinSums p cut) ∷ []
 
-pub duals_fail : (p : Problem) (v line : ℕ) (cut : Cut) (f : Failure) → IsFailure (claims_of_duals p v (first_dual_line line) cut) f → IsFailure (one_cut_claims p v line cut) f
+pub duals_fail : (p : Problem) (v line : ℕ) (cut : Cut) (f : Failure) → IsFailure (claims_of_duals p v (first_dual_line line) cut) f
+    → IsFailure (unmarked_claims p v line cut) f
 duals_fail p v line cut f h = failure_early (claims_of_duals p v (first_dual_line line) cut) (sum_claims p v line cut) f h
 
-pub sum_fails : (p : Problem) (v line at : ℕ) (cut : Cut) → at ≡ last_dual_line v p.size cut line → AllHold (claims_of_duals p v (first_dual_line line) cut)
-    → (IsWithinSums p cut → ⊥) → FailsFirst (one_cut_claims p v line cut) Sum at
-sum_fails p v line at cut is duals other =
-    failure_later (claims_of_duals p v (first_dual_line line) cut) (sum_claims p v line cut) (Fails code.Sum at) duals (inl (other, refl, sym is))
+pub sum_fails : (p : Problem) (v line at : ℕ) (cut : Cut) (f : Failure) → at ≡ last_dual_line v p.size cut line
+    → AllHold (claims_of_duals p v (first_dual_line line) cut) → IsFailure (claim Sum at (IsWithinSums p cut) ∷ []) f → IsFailure (unmarked_claims p v line cut) f
+sum_fails p v line at cut f is duals h =
+    failure_later (claims_of_duals p v (first_dual_line line) cut) (sum_claims p v line cut) f duals
+    (subst (λ (m : ℕ). IsFailure (claim Sum m (IsWithinSums p cut) ∷ []) f) is h)
 
-pub cut_holds : (p : Problem) (v line : ℕ) (cut : Cut) → AllHold (claims_of_duals p v (first_dual_line line) cut) → IsWithinSums p cut → AllHold (one_cut_claims p v line cut)
+pub cut_holds : (p : Problem) (v line : ℕ) (cut : Cut) → AllHold (claims_of_duals p v (first_dual_line line) cut) → IsWithinSums p cut
+    → AllHold (unmarked_claims p v line cut)
 cut_holds p v line cut duals sums = AllHold-append (claims_of_duals p v (first_dual_line line) cut) (sum_claims p v line cut) duals (sums, tt)

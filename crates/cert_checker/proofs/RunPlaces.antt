@@ -1,7 +1,6 @@
 -- In which run the dual of a commodity stands, and how many runs there are.
-use Rattle.std.proofs.Common.{◌≡◌, ℕ, zero, suc, ◌+◌, ◌-◌, ◌%◌, ◌<◌, ◌≤◌, Bool, true, false, not, ◌&&◌, ◌||◌, IsTrue, ◌↔◌, List, [], ◌∷◌, length, get_or, Option, None, nat_eq, nat_lt, if◌then◌else◌, ⊎_elim, refl, sym, ap, ap₂, ◌∙◌, subst, lt-ltb, le-ltb, ne_eqb, arith}
+use Rattle.std.proofs.Common.{◌≡◌, ℕ, zero, suc, ◌+◌, ◌-◌, ◌%◌, ◌<◌, ◌≤◌, Bool, true, false, not, ◌&&◌, ◌||◌, IsTrue, ◌↔◌, List, [], ◌∷◌, length, get_or, Option, None, nat_eq, nat_lt, if◌then◌else◌, ◌⊎◌, ⊎_elim, refl, sym, ap, ap₂, ◌∙◌, subst, lt-ltb, le-ltb, ne_eqb, arith}
 use Rattle.std.proofs.lemmas.Bool.{cases_lt, false≢true}
-use Rattle.std.proofs.lemmas.List.{get_or_read}
 use Rattle.hub_spec.specs.Cuts.{Prices}
 use Rattle.hub_spec.proofs.SumLemmas.{by_test}
 use Rattle.cert_spec.specs.Runs.{ends_row, joined, runs, spread, AreRuns, before_at}
@@ -12,7 +11,7 @@ use Rattle.cert_spec.proofs.Claims.{spread_dual_runs}
 use Rattle.cert_spec.proofs.Leads.{length-spread}
 use Rattle.cert_scan.specs.Versions.{version_number}
 use Rattle.cert_scan.specs.declared.items.Version.{Version}
-use Rattle.cert_scan.specs.declared.items.Version.TheVariants.{First, Second}
+use Rattle.cert_scan.specs.declared.items.Version.TheVariants.{First, Second, Third}
 use Rattle.cert_checker.specs.Runs.{place_of, no_dual, begins_run, begun}
 
 -- ---- what tests say
@@ -180,10 +179,11 @@ pub first_version : (version : Version) (n : ℕ) (duals : List Prices) (t : ℕ
 first_version version n duals t is within =
     sym (place_single duals t within) ∙ ap (λ (v : Version). place_of (dual_runs (version_number v) n duals) t) (sym is)
 
-pub second_version : (version : Version) (n : ℕ) (duals : List Prices) (t count : ℕ) → version ≡ Second → t < length duals → count ≡ begun n duals t
-    → count ≡ place_of (dual_runs (version_number version) n duals) t
-second_version version n duals t count is within e =
-    e ∙ sym (place_begun n duals t within) ∙ ap (λ (v : Version). place_of (dual_runs (version_number v) n duals) t) (sym is)
+pub later_version : (version : Version) (n : ℕ) (duals : List Prices) (t count : ℕ) → (version ≡ Second) ⊎ (version ≡ Third) → t < length duals
+    → count ≡ begun n duals t → count ≡ place_of (dual_runs (version_number version) n duals) t
+later_version version n duals t count later within e =
+    let place = λ (v : Version). place_of (dual_runs (version_number v) n duals) t in
+    e ∙ sym (place_begun n duals t within) ∙ ⊎_elim (λ second. ap place (sym second)) (λ third. ap place (sym third)) later
 
 -- a run begins where the origin does not, by the test of two duals
 pub begins_by : (n t : ℕ) (duals : List Prices) (told : Bool) → (t % n ≡ 0 → ⊥)

@@ -1,42 +1,72 @@
 -- What a certificate shows that holds.
-use Rattle.std.proofs.Common.{◌≡◌, ℕ, ◌≤◌, List, length, refl, subst, ◌∙◌}
+use Rattle.std.proofs.Common.{◌≡◌, ℕ, ◌≤◌, List, [], ◌∷◌, length, zip, Option, Some, Contains, inl, inr, refl, subst, ◌∙◌}
+use Rattle.std.specs.List.{AllZip}
 use Rattle.hub_spec.specs.Problem.{Problem, IsProblem}
 use Rattle.hub_spec.specs.Plans.{NoPlanBelow, IsOptimal}
-use Rattle.hub_spec.specs.Certificates.{Proof, Holds}
-use Rattle.hub_spec.specs.Ranges.{IsInRange}
+use Rattle.cert_spec.specs.Stated.{Stated, IsStatedInRange, IsAsMarked, IsStatedOf}
 use Rattle.cert_spec.specs.Text.{Spells}
 use Rattle.cert_spec.specs.Conditions.{Kind, AllHold, FailsFirst, conditions}
 use Rattle.cert_spec.specs.PartConditions.{claims}
 use Rattle.cert_spec.specs.Verdicts.{certificate_limit, Why}
 use Rattle.cert_spec.proofs.Claims.{holds_exactly_by_claims}
 use Rattle.cert_spec.proofs.ByLines.{conditions_of_lines}
+use Rattle.cert_spec.proofs.OneText.{one_certificate_lem}
 use Rattle.hub_spec.proofs.WeakDuality.{no_plan_below_bound}
+use Rattle.hub_spec.specs.Cuts.{Cut}
+use Rattle.hub_spec.proofs.Decisions.{Contains-cases, Contains-none}
+use Rattle.core_spec.specs.CoreCuts.{Mark}
+use Rattle.core_spec.proofs.Undominated.{core_is_undominated}
 use Rattle.cert_checker.specs.declared.kinds.Verdict as answer
-use Rattle.cert_checker.specs.Answers.{IsVerdict, ShowsBound}
-use Rattle.cert_checker.specs.Shows.{verdict_on}
+use Rattle.cert_checker.specs.Marks.{AreUndominated}
+use Rattle.cert_checker.specs.Answers.{IsVerdict, ShowsBound, ShowsMarks}
+use Rattle.cert_checker.specs.Shows.{verdict_on, ProvesMarks}
 
-pub shown_bound : (p : Problem) (k : Proof) → IsProblem p → IsInRange k → AllHold (claims p k) → Holds p k × NoPlanBelow p k.bound
+pub shown_bound : (p : Problem) (k : Stated) → IsProblem p → IsStatedInRange k → AllHold (claims p k) → IsStatedOf p k × NoPlanBelow p k.proof.bound
 shown_bound p k ok range h =
-    let holds = (holds_exactly_by_claims p k range).0 h in (holds, no_plan_below_bound p k ok holds)
+    let holds = (holds_exactly_by_claims p k range).0 h in (holds, no_plan_below_bound p k.proof ok holds.holds)
 
-pub shown_optimal : (p : Problem) (k : Proof) → IsProblem p → IsInRange k → AllHold (claims p k) → k.bound ≡ k.cost → IsOptimal p k.plan
+pub shown_optimal : (p : Problem) (k : Stated) → IsProblem p → IsStatedInRange k → AllHold (claims p k) → k.proof.bound ≡ k.proof.cost
+    → IsOptimal p k.proof.plan
 shown_optimal p k ok range h same =
     let shown = shown_bound p k ok range h in
-    record { is_plan = shown.0.plan; wanted = shown.0.wanted; least = subst (NoPlanBelow p) (same ∙ shown.0.cost) shown.1 }
+    record { is_plan = shown.0.holds.plan; wanted = shown.0.holds.wanted; least = subst (NoPlanBelow p) (same ∙ shown.0.holds.cost) shown.1 }
+
+-- what holds of each cut and its mark holds of these
+as_marked : (p : Problem) (cuts : List Cut) (marks : List (Option Mark)) (x : Cut) (mark : Option Mark) → AllZip (IsAsMarked p) cuts marks
+    → Contains (zip cuts marks) (x, mark) → IsAsMarked p x mark
+as_marked p [] marks x mark all among = absurd (Contains-none (x, mark) among)
+as_marked p (cut ∷ cuts) [] x mark all among = absurd (Contains-none (x, mark) among)
+as_marked p (cut ∷ cuts) (m ∷ marks) x mark all among = elim (Contains-cases (cut, m) (zip cuts marks) (x, mark) among) [
+  | inl same ↦ subst (λ (t : Cut × Option Mark). IsAsMarked p t.0 t.1) same all.0
+  | inr later ↦ as_marked p cuts marks x mark all.1 later
+]
+
+pub shown_marks : (p : Problem) (k : Stated) → IsProblem p → IsStatedOf p k → AreUndominated p k
+shown_marks p k ok holds x y mark among is_cut tight =
+    core_is_undominated p x y mark ok (as_marked p k.proof.cuts k.marks x (Some mark) holds.marks among) is_cut tight
 
 -- ---- by the lines
 
-pub lines_hold : (p : Problem) (k : Proof) → IsInRange k → AllHold (claims p k) → AllHold (conditions p k)
+pub lines_hold : (p : Problem) (k : Stated) → IsStatedInRange k → AllHold (claims p k) → AllHold (conditions p k)
 lines_hold p k range h = (conditions_of_lines p k range).hold.0 h
 
-pub lines_fail : (p : Problem) (k : Proof) (kind : Kind) (line : ℕ) → IsInRange k → FailsFirst (claims p k) kind line → FailsFirst (conditions p k) kind line
+pub lines_fail : (p : Problem) (k : Stated) (kind : Kind) (line : ℕ) → IsStatedInRange k → FailsFirst (claims p k) kind line
+    → FailsFirst (conditions p k) kind line
 lines_fail p k kind line range h = ((conditions_of_lines p k range).fail kind line).0 h
 
 -- bytes that spell the certificate have the verdict on it
-pub why_by : (p : Problem) (bytes : List ℕ) (k : Proof) (v : answer.Verdict) → length bytes ≤ certificate_limit → Spells bytes k → IsVerdict p k v → ShowsBound p k v
-    → Why p bytes (verdict_on k v)
+pub why_by : (p : Problem) (bytes : List ℕ) (k : Stated) (v : answer.Verdict) → length bytes ≤ certificate_limit → Spells bytes k → IsVerdict p k v
+    → ShowsBound p k v → Why p bytes (verdict_on k v)
 why_by p bytes k answer.TheVariants.Optimal short spells is shows =
     record { not_too_long = short; certificate = (k, spells, shows.0, is.1, refl) }
 why_by p bytes k answer.TheVariants.Bounds short spells is shows =
     (is.1, record { not_too_long = short; certificate = (k, spells, shows.0, refl, refl) })
 why_by p bytes k (answer.TheVariants.No kind line) short spells is shows = (short, (k, spells, is))
+
+-- and what their marked cuts say
+pub marks_by : (p : Problem) (bytes : List ℕ) (k : Stated) (v : answer.Verdict) → Spells bytes k → ShowsMarks p k v → ProvesMarks p bytes (verdict_on k v)
+marks_by p bytes k answer.TheVariants.Optimal spells shows = λ m x y mark other among.
+    subst (AreUndominated p) (one_certificate_lem bytes k m spells other) shows x y mark among
+marks_by p bytes k answer.TheVariants.Bounds spells shows = λ m x y mark other among.
+    subst (AreUndominated p) (one_certificate_lem bytes k m spells other) shows x y mark among
+marks_by p bytes k (answer.TheVariants.No kind line) spells shows = tt

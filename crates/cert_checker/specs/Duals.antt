@@ -1,18 +1,23 @@
 -- The conditions on a dual whose values are listed by node, and the sums of a cut.
-use Rattle.std.specs.Prelude.{◌≡◌, ℕ, true, ◌+◌, ◌*◌, ◌<◌, ◌≤◌, List, length, slice_index, slice_index_or, Option, All, ◌⊎◌}
+use Rattle.std.specs.Prelude.{◌≡◌, ℕ, true, ◌+◌, ◌*◌, ◌<◌, ◌≤◌, List, [], ◌∷◌, ◌++◌, length, slice_index, slice_index_or, Option, All, ◌⊎◌}
 use Rattle.std.specs.Option.{MatchOption}
 use Rattle.hub_spec.specs.Limits.{most_part}
 use Rattle.hub_spec.specs.Problem.{Problem, commodity_at, route_cost, is_allowed}
-use Rattle.hub_spec.specs.Cuts.{Prices, value_at, IsDual, Cut, total, load}
+use Rattle.hub_spec.specs.Cuts.{Prices, value_at, IsDual, Cut, total, load, IsWithinSums}
 use Rattle.hub_spec.specs.Ranges.{IsDualInRange}
 use Rattle.cert_spec.specs.Text.{dual_runs}
-use Rattle.cert_spec.specs.Conditions.{Claim}
-use Rattle.cert_spec.specs.PartConditions.{dual_claims}
+use Rattle.cert_spec.specs.Conditions.{Claim, claim, Sum}
+use Rattle.cert_spec.specs.PartConditions.{first_dual_line, last_dual_line, dual_claims}
 use Rattle.cert_checker.specs.Runs.{no_dual}
 
 -- the conditions of the duals of a cut, run by run from this line on
 abbrev pub claims_of_duals : Problem → ℕ → ℕ → Cut → List Claim
 claims_of_duals p v line cut = dual_claims p cut.part line 0 (dual_runs v p.size cut.duals)
+
+-- those of a cut with no mark, which stands at this line
+abbrev pub unmarked_claims : Problem → ℕ → ℕ → Cut → List Claim
+unmarked_claims p v line cut =
+    claims_of_duals p v (first_dual_line line) cut ++ claim Sum (last_dual_line v p.size cut line) (IsWithinSums p cut) ∷ []
 
 -- each node's value is that of the dual
 abbrev pub AreValues : List (ℕ × ℕ) → List ℕ → Type 0

@@ -1,3 +1,4 @@
+pub mod Marks
 pub mod Answers
 pub mod Plans
 pub mod Runs

@@ -1,12 +1,12 @@
 //! The check of a certificate.
 
-ghost use Rattle.std.specs.Prelude.{◌≡◌, ◌↔◌, [], ◌∷◌, length, IsTrue, IfOk, IfErr, OnOk, All};
+ghost use Rattle.std.specs.Prelude.{◌≡◌, ◌↔◌, true, [], ◌∷◌, length, IsTrue, IfOk, IfErr, OnOk, All};
 ghost use Rattle.hub_spec.specs.Problem.{IsProblem};
 ghost use Rattle.hub_spec.specs.Cuts.{IsCut};
-ghost use Rattle.hub_spec.specs.Ranges.{IsInRange};
+ghost use Rattle.cert_spec.specs.Stated.{IsStatedInRange};
 ghost use Rattle.cert_spec.specs.Conditions.{AllHold};
 ghost use Rattle.cert_spec.specs.PartConditions.{size_claim, size_claims, all_cut_claims, all_tree_claims, claims};
-ghost use Rattle.cert_checker.specs.Answers.{IsFailure, IsOfSize, hub_claims_of, IsVerdict, ShowsBound, ShowsOptimal};
+ghost use Rattle.cert_checker.specs.Answers.{IsFailure, IsOfSize, hub_claims_of, IsVerdict, ShowsBound, ShowsOptimal, ShowsMarks};
 
 use crate::cuts::check_each_cut;
 use crate::failures::Failure;
@@ -22,7 +22,7 @@ use std::thread::Threads;
 
 /// What the certificate shows of its plan for the instance.
 ///
-/// The conditions are tried in order: size, bound and cost, plan, cuts, tree. Lines are those of the certificate's
+/// The conditions are tried in order: size, bound and cost, plan, cuts and their marks, tree. Lines are those of the certificate's
 /// text, counted from 1. The duals of a large cut are tried side by side. The only error is want of memory.
 pub fn check<R: Threads + Sync>(
     rt: &R,
@@ -33,6 +33,7 @@ pub fn check<R: Threads + Sync>(
     ensures verdict { IfOk result (IsVerdict instance.now certificate.now) }
     ensures bound { IfOk result (ShowsBound instance.now certificate.now) }
     ensures optimal { IfOk result (ShowsOptimal instance.now certificate.now) }
+    ensures marks { IfOk result (ShowsMarks instance.now certificate.now) }
 {
     match check_all(rt, alloc, instance, certificate) {
         Ok(()) => Ok(verdict_of(instance, certificate)),
@@ -44,11 +45,12 @@ pub fn check<R: Threads + Sync>(
 /// The verdict where all conditions hold.
 fn verdict_of(instance: &Instance, certificate: &Certificate) -> Verdict
     requires problem { IsProblem instance.now }
-    requires in_range { IsInRange certificate.now }
+    requires in_range { IsStatedInRange certificate.now }
     requires holds { AllHold (claims instance.now certificate.now) }
     ensures verdict { IsVerdict instance.now certificate.now result }
     ensures bound { ShowsBound instance.now certificate.now result }
     ensures optimal { ShowsOptimal instance.now certificate.now result }
+    ensures marks { ShowsMarks instance.now certificate.now result }
 {
     if certificate.bound() == certificate.cost() {
         return Verdict::Optimal;
@@ -64,7 +66,7 @@ fn check_all<R: Threads + Sync>(
     certificate: &Certificate,
 ) -> Result<(), Failure>
     ensures problem { IsProblem instance.now }
-    ensures in_range { IsInRange certificate.now }
+    ensures in_range { IsStatedInRange certificate.now }
     ensures holds { OnOk result (AllHold (claims instance.now certificate.now)) }
     ensures fails { IfErr result (IsFailure (claims instance.now certificate.now)) }
 {
@@ -78,9 +80,9 @@ fn check_all<R: Threads + Sync>(
 /// Tries the conditions that speak of neither plan, cuts nor tree.
 fn check_sizes(instance: &Instance, certificate: &Certificate) -> Result<(), Failure>
     ensures problem { IsProblem instance.now }
-    ensures in_range { IsInRange certificate.now }
-    ensures holds { OnOk result (AllHold (size_claims instance.now certificate.now)) }
-    ensures fails { IfErr result (IsFailure (size_claims instance.now certificate.now)) }
+    ensures in_range { IsStatedInRange certificate.now }
+    ensures holds { OnOk result (AllHold (size_claims instance.now certificate.now.proof)) }
+    ensures fails { IfErr result (IsFailure (size_claims instance.now certificate.now.proof)) }
 {
     check_size(instance, certificate)?;
     if certificate.bound() > certificate.cost() {
@@ -95,9 +97,9 @@ fn check_sizes(instance: &Instance, certificate: &Certificate) -> Result<(), Fai
 /// Tries whether the certificate's numbers of nodes and candidates are the instance's.
 pub(crate) fn check_size(instance: &Instance, certificate: &Certificate) -> Result<(), Failure>
     ensures problem { IsProblem instance.now }
-    ensures in_range { IsInRange certificate.now }
-    ensures holds { OnOk result (IsOfSize instance.now certificate.now) }
-    ensures fails { IfErr result (IsFailure (size_claim instance.now certificate.now ∷ [])) }
+    ensures in_range { IsStatedInRange certificate.now }
+    ensures holds { OnOk result (IsOfSize instance.now certificate.now.proof) }
+    ensures fails { IfErr result (IsFailure (size_claim instance.now certificate.now.proof ∷ [])) }
 {
     if !is_of_size(instance, certificate) {
         return Err(Failure::Fails {
@@ -110,17 +112,17 @@ pub(crate) fn check_size(instance: &Instance, certificate: &Certificate) -> Resu
 
 fn is_of_size(instance: &Instance, certificate: &Certificate) -> bool
     ensures problem { IsProblem instance.now }
-    ensures in_range { IsInRange certificate.now }
-    ensures is { IsTrue result ↔ IsOfSize instance.now certificate.now }
+    ensures in_range { IsStatedInRange certificate.now }
+    ensures is { IsTrue result ↔ IsOfSize instance.now certificate.now.proof }
 {
     certificate.size() == instance.size()
         && certificate.candidates() as usize == instance.candidates().len()
 }
 
 fn check_plan_of(instance: &Instance, certificate: &Certificate) -> Result<(), Failure>
-    requires { certificate.now.size ≡ instance.now.size }
-    ensures holds { OnOk result (AllHold (hub_claims_of instance.now certificate.now)) }
-    ensures fails { IfErr result (IsFailure (hub_claims_of instance.now certificate.now)) }
+    requires { certificate.now.proof.size ≡ instance.now.size }
+    ensures holds { OnOk result (AllHold (hub_claims_of instance.now certificate.now.proof)) }
+    ensures fails { IfErr result (IsFailure (hub_claims_of instance.now certificate.now.proof)) }
 {
     check_plan(
         instance,
@@ -136,15 +138,23 @@ fn check_cuts_of<'a, R: Threads + Sync>(
     instance: &Instance,
     certificate: &'a Certificate,
 ) -> Result<Vec<SummedCut<'a>>, Failure>
-    requires { certificate.now.size ≡ instance.now.size }
-    ensures same { IfOk result (λ cuts. cuts.items ≡ certificate.now.cuts) }
-    ensures holds { OnOk result (AllHold (all_cut_claims instance.now certificate.now)) }
+    requires { certificate.now.proof.size ≡ instance.now.size }
+    ensures same { IfOk result (λ cuts. cuts.items ≡ certificate.now.proof.cuts) }
+    ensures holds { OnOk result (AllHold (all_cut_claims instance.now true certificate.now)) }
     ensures are_cuts { IfOk result (λ cuts. All (IsCut instance.now) cuts.items) }
-    ensures fails { IfErr result (IsFailure (all_cut_claims instance.now certificate.now)) }
+    ensures fails { IfErr result (IsFailure (all_cut_claims instance.now true certificate.now)) }
 {
     let version = certificate.version();
     let first = first_cut_line(instance.size());
-    check_each_cut(rt, alloc, instance, version, first, certificate.cuts())
+    check_each_cut(
+        rt,
+        alloc,
+        instance,
+        version,
+        first,
+        certificate.cuts(),
+        certificate.marks(),
+    )
 }
 
 fn check_tree_of(
@@ -153,15 +163,20 @@ fn check_tree_of(
     certificate: &Certificate,
     cuts: &[SummedCut<'_>],
 ) -> Result<(), Failure>
-    requires size { certificate.now.size ≡ instance.now.size }
-    requires same { cuts.now ≡ certificate.now.cuts }
+    requires size { certificate.now.proof.size ≡ instance.now.size }
+    requires same { cuts.now ≡ certificate.now.proof.cuts }
     requires are_cuts { All (IsCut instance.now) cuts.now }
     ensures holds { OnOk result (AllHold (all_tree_claims instance.now certificate.now)) }
     ensures fails { IfErr result (IsFailure (all_tree_claims instance.now certificate.now)) }
 {
     let lines = certificate.tree();
     let version = certificate.version();
-    let first = first_tree_line(version, instance.size(), certificate.cuts());
+    let first = first_tree_line(
+        version,
+        instance.size(),
+        certificate.cuts(),
+        certificate.marks(),
+    );
     let target = unsigned(certificate.bound());
     check_tree(alloc, instance, cuts, target, first, lines)
 }

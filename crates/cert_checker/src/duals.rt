@@ -25,7 +25,7 @@ use std::thread::Threads;
 const DUALS_OF_A_THREAD: usize = 512;
 
 /// Room for a value of each node.
-const ROOM: usize = MOST_NODES as usize;
+pub(crate) const ROOM: usize = MOST_NODES as usize;
 
 /// Tries the duals of a cut, whose lines are those of their runs in this version; the first of them stands at this line.
 pub(crate) fn check_duals<R: Threads + Sync>(
@@ -52,7 +52,11 @@ pub(crate) fn check_duals<R: Threads + Sync>(
 }
 
 /// The number of the first commodity whose dual is not feasible. The duals are tried side by side, also those behind it.
-fn first_failing<R: Threads + Sync>(rt: &R, instance: &Instance, cut: &StatedCut) -> Option<u32>
+pub(crate) fn first_failing<R: Threads + Sync>(
+    rt: &R,
+    instance: &Instance,
+    cut: &StatedCut,
+) -> Option<u32>
     requires part { cut.now.part ≤ most_part }
     requires one_for_each { length cut.now.duals ≡ instance.now.size * instance.now.size }
     requires duals { All (IsDualInRange instance.now.size) cut.now.duals }
@@ -268,7 +272,7 @@ pub(crate) fn times(part: u32, cost: u128) -> u128
 }
 
 /// Puts the values that the dual lists at their nodes.
-fn spread(dual: &StatedDual<'_>, values: &mut [u128])
+pub(crate) fn spread(dual: &StatedDual<'_>, values: &mut [u128])
     requires dual { IsDualInRange (length values.old) dual.now }
     requires cleared { AreValues [] values.old }
     ensures values { AreValues dual.now.u values.new }

@@ -4,8 +4,9 @@ ghost use Rattle.std.specs.Prelude.{◌≡◌};
 ghost use Rattle.cert_checker.specs.Answers.{kind_of, kind_name};
 
 /// What a condition is about. `BoundOverCost` fails where the bound is above the cost, `Number` where the plan has not
-/// as many hubs as are wanted, `Length` where a route is not allowed, `Block` where a commodity has a route, and
-/// `Count` where a leaf has no room for the wanted hubs, or a line says so of a branch that has.
+/// as many hubs as are wanted, `Length` where a route is not allowed, `Core` where a marked cut is no core cut, `Block`
+/// where a commodity has a route, and `Count` where a leaf has no room for the wanted hubs, or a line says so of a branch
+/// that has.
 #[derive(Clone, Copy, Debug, PartialEq, Eq)]
 pub enum Kind {
     Size,
@@ -17,6 +18,7 @@ pub enum Kind {
     Cost,
     Dual,
     Sum,
+    Core,
     Branch,
     Empty,
     Block,
@@ -42,6 +44,7 @@ impl Kind {
             Kind::Cost => "Cost",
             Kind::Dual => "Dual",
             Kind::Sum => "Sum",
+            Kind::Core => "Core",
             Kind::Branch => "Branch",
             Kind::Empty => "Empty",
             Kind::Block => "Block",

@@ -3,6 +3,7 @@
 //! `check` tries the conditions on a certificate in the order in which they are defined, and answers that the plan is
 //! optimal, that it stands with a lower bound, or the first condition that fails, with its line in the text.
 //! `check_text` reads bytes as a certificate and checks it: its verdict is the one that the definitions give the bytes.
+//! A marked cut is to be a core cut by its mark; then no cut that is tight at the hubs of the mark dominates it.
 //!
 //! Of an older certificate, whose cuts a search is to begin with, `check_cuts` tries its size and its cuts for the present
 //! instance, and nothing else. `read_older` reads bytes as such a certificate, and gives it where it serves.
@@ -18,6 +19,7 @@ mod plans;
 // The cuts.
 mod cuts;
 mod duals;
+mod marks;
 mod runs;
 mod sums;
 

@@ -1,9 +1,9 @@
 //! An older certificate, whose cuts are to be given to a search.
 
-ghost use Rattle.std.specs.Prelude.{◌≡◌, IfOk, IfErr, OnOk};
+ghost use Rattle.std.specs.Prelude.{◌≡◌, false, IfOk, IfErr, OnOk};
 ghost use Rattle.std.specs.Option.{IfSome, IfNone, IsNone};
 ghost use Rattle.hub_spec.specs.Certificates.{HasCutsOf};
-ghost use Rattle.hub_spec.specs.Ranges.{IsInRange};
+ghost use Rattle.cert_spec.specs.Stated.{IsStatedInRange};
 ghost use Rattle.cert_spec.specs.Conditions.{AllHold, FailsFirst};
 ghost use Rattle.cert_spec.specs.PartConditions.{all_cut_claims, older_claims};
 ghost use Rattle.cert_spec.specs.Verdicts.{IsOlder};
@@ -37,7 +37,7 @@ pub enum Older {
 }
 
 /// What is said of the bytes of an older certificate. They are read as a certificate, whose size and cuts are then tried:
-/// its bound, plan and tree may be of another instance. The only error is want of memory.
+/// its bound, plan and tree may be of another instance, and its marks are passed over. The only error is want of memory.
 pub fn read_older<R: Threads + Sync>(
     rt: &R,
     alloc: Global,
@@ -70,8 +70,8 @@ fn older_by(certificate: Certificate, failing: Option<(Kind, u64)>) -> Older
     }
 }
 
-/// What is asked of an older certificate whose cuts are to be given: its size, and its cuts. The answer is the first
-/// condition that fails, with its line in the certificate's text, counted from 1, or `None`.
+/// What is asked of an older certificate whose cuts are to be given: its size, and its cuts, whatever their marks. The
+/// answer is the first condition that fails, with its line in the certificate's text, counted from 1, or `None`.
 ///
 /// The duals of a large cut are tried side by side. The only error is want of memory.
 pub fn check_cuts<R: Threads + Sync>(
@@ -81,8 +81,8 @@ pub fn check_cuts<R: Threads + Sync>(
     certificate: &Certificate,
 ) -> Result<Option<(Kind, u64)>, AllocError>
     ensures fails { IfOk result (λ o. IfSome o (λ f. FailsFirst (older_claims instance.now certificate.now) (kind_of f.0) f.1)) }
-    ensures holds { IfOk result (λ o. IfNone o (HasCutsOf instance.now certificate.now)) }
-    ensures only { HasCutsOf instance.now certificate.now → IfOk result IsNone }
+    ensures holds { IfOk result (λ o. IfNone o (HasCutsOf instance.now certificate.now.proof)) }
+    ensures only { HasCutsOf instance.now certificate.now.proof → IfOk result IsNone }
 {
     match check_size_and_cuts(rt, alloc, instance, certificate) {
         Ok(()) => Ok(None),
@@ -97,7 +97,7 @@ fn check_size_and_cuts<R: Threads + Sync>(
     instance: &Instance,
     certificate: &Certificate,
 ) -> Result<(), Failure>
-    ensures in_range { IsInRange certificate.now }
+    ensures in_range { IsStatedInRange certificate.now }
     ensures holds { OnOk result (AllHold (older_claims instance.now certificate.now)) }
     ensures fails { IfErr result (IsFailure (older_claims instance.now certificate.now)) }
 {
@@ -112,11 +112,19 @@ fn try_cuts_of<R: Threads + Sync>(
     instance: &Instance,
     certificate: &Certificate,
 ) -> Result<(), Failure>
-    requires { certificate.now.size ≡ instance.now.size }
-    ensures holds { OnOk result (AllHold (all_cut_claims instance.now certificate.now)) }
-    ensures fails { IfErr result (IsFailure (all_cut_claims instance.now certificate.now)) }
+    requires { certificate.now.proof.size ≡ instance.now.size }
+    ensures holds { OnOk result (AllHold (all_cut_claims instance.now false certificate.now)) }
+    ensures fails { IfErr result (IsFailure (all_cut_claims instance.now false certificate.now)) }
 {
     let version = certificate.version();
     let first = first_cut_line(instance.size());
-    try_each_cut(rt, alloc, instance, version, first, certificate.cuts())
+    try_each_cut(
+        rt,
+        alloc,
+        instance,
+        version,
+        first,
+        certificate.cuts(),
+        certificate.marks(),
+    )
 }

@@ -60,7 +60,7 @@ fn check_hubs(instance: &Instance, hubs: &[u32]) -> Result<(), Failure>
     Ok(())
 }
 
-fn are_candidates(instance: &Instance, nodes: &[u32]) -> bool
+pub(crate) fn are_candidates(instance: &Instance, nodes: &[u32]) -> bool
     ensures { IsTrue result ↔ All (Contains instance.now.candidates) nodes.now }
 {
     are_among(instance.candidates(), nodes)

@@ -1,5 +1,5 @@
-//! The runs of a cut's duals, each of which is a line: in the second version equal neighbours of one origin, and in the
-//! first each dual alone.
+//! The runs of a cut's duals, each of which is a line: from the second version on equal neighbours of one origin, and in
+//! the first each dual alone.
 
 ghost use Rattle.std.specs.Prelude.{◌≡◌, ◌+◌, ◌*◌, ◌^◌, ◌<◌, ◌≤◌, length};
 ghost use Rattle.hub_spec.specs.Limits.{most_nodes};
@@ -31,7 +31,7 @@ pub(crate) fn run_place(version: Version, n: u32, cut: &StatedCut, t: u32) -> u6
 {
     match version {
         Version::First => t as u64,
-        Version::Second => runs_begun(n, cut, t),
+        Version::Second | Version::Third => runs_begun(n, cut, t),
     }
 }
 

@@ -2,7 +2,7 @@
 
 ghost use Rattle.std.specs.Prelude.{◌≡◌, IfOk};
 ghost use Rattle.cert_spec.specs.Verdicts.{Why};
-ghost use Rattle.cert_checker.specs.Shows.{verdict_of, verdict_on, Proves};
+ghost use Rattle.cert_checker.specs.Shows.{verdict_of, verdict_on, Proves, ProvesMarks};
 
 use crate::checks::check;
 use crate::kinds::{Kind, Verdict};
@@ -41,6 +41,7 @@ pub fn check_text<R: Threads + Sync>(
 ) -> Result<Ending, AllocError>
     ensures why { IfOk result (λ e. Why instance.now bytes.now (verdict_of e)) }
     ensures proves { IfOk result (λ e. Proves instance.now bytes.now (verdict_of e)) }
+    ensures marks { IfOk result (λ e. ProvesMarks instance.now bytes.now (verdict_of e)) }
 {
     if bytes.len() > MOST_CERTIFICATE_BYTES {
         return Ok(Ending::TooLong);

@@ -1,15 +1,15 @@
 -- How many lines there are at a stage, and the number of the next.
-use Rattle.std.proofs.Common.{◌≡◌, ℕ, ◌+◌, ◌-◌, ◌*◌, ◌^◌, ◌<◌, ◌≤◌, Bool, true, false, cond, nat_eq, List, [], ◌∷◌, ◌++◌, length, replicate, Option, refl, sym, subst, mul-pos, arith, ⊎_elim}
+use Rattle.std.proofs.Common.{◌≡◌, ℕ, ◌+◌, ◌-◌, ◌*◌, ◌^◌, ◌<◌, ◌≤◌, Bool, true, false, ◌&&◌, is_none, cond, List, [], ◌∷◌, ◌++◌, length, replicate, Option, refl, sym, subst, mul-pos, arith, ⊎_elim}
 use Rattle.std.proofs.lemmas.Bool.{cases_eq}
 use Rattle.std.proofs.Math.Nat.{mul-le-mul}
 use Rattle.hub_spec.specs.Limits.{most_cuts, most_tree_lines}
 use Rattle.hub_spec.specs.Problem.{Problem}
 use Rattle.hub_spec.specs.Cuts.{Prices}
-use Rattle.cert_spec.specs.Lines.{Item as Line, says_version, says_size, says_cost, says_bound, says_hubs, says_route, says_cuts, says_cut, says_dual, says_nodes, says_tree, says_end}
-use Rattle.cert_spec.specs.Grammar.{Shape, Stage, want_version, want_size, want_end, want_nothing, want_cost, want_bound, want_hubs, want_cuts, want_nodes, want_route, want_cut, want_dual, want_tree, Wants, places_after, after_route, after_cut, kept_dual, after_dual, after_tree, after, Leads}
-use Rattle.cert_spec.proofs.Leads.{after_route-all, after_route-more, after_cut-all, after_cut-more, after_dual-all, after_dual-more, after_tree-all, after_tree-more}
+use Rattle.cert_spec.specs.Lines.{Item as Line, says_version, says_size, says_cost, says_bound, says_hubs, says_route, says_cuts, says_cut, says_marked, says_dual, says_proof, says_nodes, says_tree, says_end}
+use Rattle.cert_spec.specs.Grammar.{Shape, Stage, want_version, want_size, want_end, want_nothing, want_cost, want_bound, want_hubs, want_cuts, want_nodes, want_route, want_cut, want_dual, want_proved, want_proof, want_tree, Wants, places_after, after_route, after_cut, kept_dual, after_dual, after_proof, after_tree, after, Leads}
+use Rattle.cert_spec.proofs.Leads.{after_route-all, after_route-more, after_cut-all, after_cut-more, after_dual-all, after_dual-more, after_proof-all, after_proof-more, after_tree-all, after_tree-more}
 use Rattle.cert_spec.proofs.Stages.{run_within}
-use Rattle.cert_spec.specs.Progress.{Progress, after_line, after_lines}
+use Rattle.cert_spec.specs.Progress.{Progress, is_whole, after_line, after_lines}
 
 -- ---- a stage by its cases
 
@@ -28,6 +28,12 @@ dual_cases P s all x t before whole more =
     ⊎_elim (λ e. subst P (sym (after_dual-all s all x t before e)) (whole e))
     (λ n. subst P (sym (after_dual-more s all x t before n)) (more n)) (cases_eq t (s.size * s.size))
 
+pub proof_cases : (P : Stage → Type 0) (s : Shape) (all x t : ℕ) → (t ≡ s.size * s.size → P (after_cut s all (x + 1)))
+    → ((t ≡ s.size * s.size → ⊥) → P (want_proved s all x t)) → P (after_proof s all x t)
+proof_cases P s all x t whole more =
+    ⊎_elim (λ e. subst P (sym (after_proof-all s all x t e)) (whole e)) (λ n. subst P (sym (after_proof-more s all x t n)) (more n))
+    (cases_eq t (s.size * s.size))
+
 pub tree_cases : (P : Stage → Type 0) (s : Shape) (places left : ℕ) → P want_end → (0 < left → P (want_tree s places left)) → P (after_tree s places left)
 tree_cases P s places left all more =
     ⊎_elim (λ e. subst P (sym (after_tree-all s places left e)) all) (λ n. let some : 0 < left = omega arith in subst P (sym (after_tree-more s places left some)) (more some)) (cases_eq left 0)
@@ -38,9 +44,9 @@ tree_cases P s places left all more =
 abbrev most_first : ℕ
 most_first = 5 + 40000
 
--- of a cut
+-- of a cut, which has two for each dual where it is marked
 abbrev most_cut_lines : ℕ
-most_cut_lines = 1 + 40000
+most_cut_lines = 1 + 2 * 40000
 
 -- there are no more lines than this stage allows
 abbrev pub IsAt : Stage → ℕ → Type 0
@@ -54,6 +60,10 @@ IsAt (want_cuts s) c = (1 ≤ s.size) × (s.size * s.size ≤ 40000) × (c ≤ m
 IsAt (want_cut s all x) c = (1 ≤ s.size) × (s.size * s.size ≤ 40000) × (x < all) × (all ≤ most_cuts) × (c ≤ most_first + 1 + x * most_cut_lines)
 IsAt (want_dual s all x t before) c =
     (1 ≤ s.size) × (s.size * s.size ≤ 40000) × (x < all) × (all ≤ most_cuts) × (t < s.size * s.size) × (c ≤ most_first + 2 + x * most_cut_lines + t)
+IsAt (want_proved s all x t) c =
+    (1 ≤ s.size) × (s.size * s.size ≤ 40000) × (x < all) × (all ≤ most_cuts) × (t < s.size * s.size) × (c ≤ most_first + 2 + x * most_cut_lines + 2 * t)
+IsAt (want_proof s all x t) c =
+    (1 ≤ s.size) × (s.size * s.size ≤ 40000) × (x < all) × (all ≤ most_cuts) × (t < s.size * s.size) × (c ≤ most_first + 3 + x * most_cut_lines + 2 * t)
 IsAt (want_nodes s) c = c ≤ most_first + 1 + most_cuts * most_cut_lines
 IsAt (want_tree s places left) c = (1 ≤ left) × (c + left ≤ most_first + 2 + most_cuts * most_cut_lines + most_tree_lines)
 IsAt want_end c = c ≤ most_first + 2 + most_cuts * most_cut_lines + most_tree_lines
@@ -75,6 +85,12 @@ at_after (want_route s t) (says_route k r) c h at =
     route_cases (λ g. IsAt g (c + 1)) s (t + 1) (λ e. (at.0, at.1, omega arith)) (λ n. (at.0, at.1, omega arith, omega arith))
 at_after (want_cuts s) (says_cuts all) c h at = at_cut s all 0 (c + 1) at.0 at.1 (omega arith) h (omega arith)
 at_after (want_cut s all x) (says_cut number part) c h at = let some : 1 ≤ s.size * s.size = mul-pos at.0 at.0 in (at.0, at.1, at.2, at.3, omega arith, omega arith)
+at_after (want_cut s all x) (says_marked number part hubs) c h at =
+    let some : 1 ≤ s.size * s.size = mul-pos at.0 at.0 in (at.0, at.1, at.2, at.3, omega arith, omega arith)
+at_after (want_proved s all x t) (says_dual k run dual) c h at = (at.0, at.1, at.2, at.3, at.4, omega arith)
+at_after (want_proof s all x t) (says_proof proof) c h at =
+    proof_cases (λ g. IsAt g (c + 1)) s all x (t + 1) (λ e. at_cut s all (x + 1) (c + 1) at.0 at.1 (omega arith) at.3 (omega arith))
+    (λ n. (at.0, at.1, at.2, at.3, omega arith, omega arith))
 at_after (want_dual s all x t before) (says_dual k run dual) c h at =
     let most = run_within s.size t run at.4 h.1.1 in
     dual_cases (λ g. IsAt g (c + 1)) s all x (t + run) (kept_dual s (t + run) dual)
@@ -105,6 +121,8 @@ few_at (want_route s t) c at = omega arith
 few_at (want_cuts s) c at = omega arith
 few_at (want_cut s all x) c at = omega arith
 few_at (want_dual s all x t before) c at = omega arith
+few_at (want_proved s all x t) c at = omega arith
+few_at (want_proof s all x t) c at = omega arith
 few_at (want_nodes s) c at = omega arith
 few_at (want_tree s places left) c at = omega arith
 few_at want_end c at = omega arith
@@ -129,7 +147,9 @@ line-after p s (says_hubs hubs) = refl
 line-after p s (says_route c r) = refl
 line-after p s (says_cuts all) = refl
 line-after p s (says_cut number part) = refl
-line-after p s (says_dual c run dual) = line_both (nat_eq (length (s.duals ++ replicate run dual)) (s.size * s.size)) _ _ (s.line + 1) refl refl
+line-after p s (says_marked number part hubs) = refl
+line-after p s (says_dual c run dual) = line_both (is_none s.mark && is_whole s (s.duals ++ replicate run dual)) _ _ (s.line + 1) refl refl
+line-after p s (says_proof proof) = line_both (is_whole s s.duals) _ _ (s.line + 1) refl refl
 line-after p s (says_nodes all) = refl
 line-after p s (says_tree l) = refl
 line-after p s says_end = refl

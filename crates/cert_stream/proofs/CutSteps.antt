@@ -1,5 +1,5 @@
 -- The items of the cuts.
-use Rattle.std.proofs.Common.{◌≡◌, ◌≢◌, ℕ, ◌+◌, ◌*◌, ◌/◌, ◌%◌, ◌<◌, ◌≤◌, List, [], ◌∷◌, ◌++◌, length, replicate, get_or, nat_eq, Option, None, All, Contains, sum_by, refl, sym, ap, ap₂, subst, ◌∙◌, mul-pos, div-add-mod', length-append, arith, ⊎_elim, eq-eqb, ne_eqb}
+use Rattle.std.proofs.Common.{◌≡◌, ◌≢◌, ℕ, ◌+◌, ◌*◌, ◌/◌, ◌%◌, ◌<◌, ◌≤◌, List, [], ◌∷◌, ◌++◌, length, replicate, get_or, nat_eq, is_none, ◌&&◌, Option, None, All, Contains, sum_by, refl, sym, ap, ap₂, subst, ◌∙◌, mul-pos, div-add-mod', length-append, arith, ⊎_elim, eq-eqb, ne_eqb}
 use Rattle.std.proofs.lemmas.Bool.{eqb-true, cases_eq, cases_lt, cond-true, cond-false, cond_both}
 use Rattle.std.proofs.lemmas.List.{length-replicate, get_or_past}
 use Rattle.std.proofs.lemmas.List.Folds.{sum_by-replicate}
@@ -13,14 +13,15 @@ use Rattle.hub_spec.specs.Cuts.{Prices, Cut, value_at, IsDual, load, IsWithinSum
 use Rattle.hub_spec.proofs.Decisions.{decided_contains}
 use Rattle.cert_spec.specs.Lines.{part_of, says_cuts, says_cut, says_dual}
 use Rattle.cert_spec.specs.Grammar.{Shape, Stage, want_cuts, want_cut, want_dual, IsRun, kept_dual, after_dual}
-use Rattle.cert_spec.specs.Conditions.{claim, AllHold, Dual, Sum, IsDualOfRun, if_time}
-use Rattle.cert_spec.specs.Progress.{Progress, with_duals}
+use Rattle.cert_spec.specs.Conditions.{claim, AllHold, Dual, Sum, IsDualOfRun, if_time, line_conditions}
+use Rattle.cert_spec.specs.Progress.{Progress, is_whole, with_cut, with_duals}
 use Rattle.cert_spec.proofs.Leads.{after_dual-all, after_dual-more}
 use Rattle.cert_spec.proofs.Stages.{run_within}
+use Rattle.cert_checker.specs.declared.kinds.Kind as code
 use Rattle.dual_lines.specs.Lines.{ListedDual}
 use Rattle.cert_stream.specs.Sums.{CutTally, IsNoDual, IsRunAdded, AreSumsOf, AreWithin, last_of}
-use Rattle.cert_stream.specs.Steps.{ended, CutTaken, cut_with, IsDualOfEach, DualEnds, dual_with}
-use Rattle.cert_stream.specs.Taken.{Part, nothing, some_values, StandsFirm, AreSumsOfCut, AreCutSums, Lists, Keeps}
+use Rattle.cert_stream.specs.Steps.{Tried, ended, CutTaken, cut_with, IsDualOfEach, DualEnds, dual_with}
+use Rattle.cert_stream.specs.Taken.{Part, nothing, some_values, StandsFirm, AreSumsOfCut, AreCutSums, Lists, Cutted, DualsKept, Keeps}
 use Rattle.cert_stream.specs.declared.checks.Checks.{Checks}
 use Rattle.cert_stream.proofs.Loads.{last_of-last}
 use Rattle.cert_stream.proofs.Counting.{cut_cases}
@@ -36,14 +37,14 @@ close_cuts c s sh all new st k h = record {
   same = refl;
   line_is = refl;
   tried = tt;
-  keeps = λ held. (st, cut_cases (λ g. Keeps c (record s { line = s.line + 1 }) g nothing) sh all 0 (λ e. k) (λ n. k));
+  keeps = λ held. (st, cut_cases (λ g. Keeps c (record s { line = s.line + 1 }) g nothing) sh all 0 (λ e. k) (λ n. (k.0, k.1, tt)));
 }
 
 -- a cut with this part and these duals
-abbrev cut_of : ℕ → List Prices → Cut
+abbrev pub cut_of : ℕ → List Prices → Cut
 cut_of part duals = record { part = part; duals = duals }
 
-no_sums_yet : (n part : ℕ) (sums : CutTally) → IsNoDual n part sums → AreSumsOf n (cut_of part []) sums
+pub no_sums_yet : (n part : ℕ) (sums : CutTally) → IsNoDual n part sums → AreSumsOf n (cut_of part []) sums
 no_sums_yet n part sums h =
     record { part_is = h.part_is; count_is = h.count_is; total_is = h.total_is; long = h.long; loads_are = h.loads_are }
 
@@ -61,20 +62,23 @@ close_cut c s sh all x number part new st k h =
       keeps = λ held. (
         st,
         (
-          k.0,
-          record {
-            front = c.cuts;
-            last = h.sums;
-            split = refl;
-            front_are = k.1.sums_are;
-            last_is = subst (λ (ds : List Prices). AreSumsOf p.size (cut_of (part_of part) ds) h.sums) (sym k.1.no_dual)
-                (no_sums_yet p.size (part_of part) h.sums h.none);
-            candidates = subst (All (λ (d : Prices). All (λ (e : ℕ × ℕ). Contains p.candidates e.0) d.u)) (sym k.1.no_dual)
-                (All-nil (λ (d : Prices). All (λ (e : ℕ × ℕ). Contains p.candidates e.0) d.u));
-            count = ap length k.1.no_dual;
-            more = mul-pos st.problem.some_node st.problem.some_node;
-          },
-          tt,
+          (
+            k.0,
+            record {
+              front = c.cuts;
+              last = h.sums;
+              split = refl;
+              front_are = k.1.sums_are;
+              last_is = subst (λ (ds : List Prices). AreSumsOf p.size (cut_of (part_of part) ds) h.sums) (sym k.1.no_dual)
+                  (no_sums_yet p.size (part_of part) h.sums h.none);
+              candidates = subst (All (λ (d : Prices). All (λ (e : ℕ × ℕ). Contains p.candidates e.0) d.u)) (sym k.1.no_dual)
+                  (All-nil (λ (d : Prices). All (λ (e : ℕ × ℕ). Contains p.candidates e.0) d.u));
+              count = ap length k.1.no_dual;
+            },
+            tt,
+            mul-pos st.problem.some_node st.problem.some_node,
+          ),
+          k.1.no_mark,
         ),
       );
     }
@@ -87,6 +91,7 @@ pub dual_firm : (c : Checks) (s : Progress) (listed : ListedDual) → StandsFirm
 dual_firm c s listed st same = record {
   problem = st.problem;
   dual_is = same ∙ st.dual_is;
+  proof_is = st.proof_is;
   size_is = st.size_is;
   candidates_are = st.candidates_are;
   long = st.long;
@@ -95,18 +100,20 @@ dual_firm c s listed st same = record {
   short = st.short;
 }
 
-pub grow_dual : (c : Checks) (s : Progress) (sh : Shape) (all x t : ℕ) (before : Option Prices) (commodity : ℕ × ℕ) (run : ℕ) (dual : Prices)
-    (listed : ListedDual) (new : Checks) → StandsFirm c s → (part : Part) → Keeps c s (want_dual sh all x t before) part
+-- at a stage of duals
+pub grow_dual : (c : Checks) (s : Progress) (sh : Shape) (at : Stage) (t : ℕ) (commodity : ℕ × ℕ) (run : ℕ) (dual : Prices) (listed : ListedDual)
+    (new : Checks) (part : Part) → StandsFirm c s → DualsKept c s sh t part
+    → (DualsKept (dual_with c listed) s sh t (some_values commodity run dual) → Keeps (dual_with c listed) s at (some_values commodity run dual))
     → listed.problem ≡ c.dual.problem → Lists listed s.part commodity run dual → new ≡ dual_with c listed
-    → Grown c s (want_dual sh all x t before) (some_values commodity run dual) new
-grow_dual c s sh all x t before commodity run dual listed new st part k same lists h =
-    subst (λ (n : Checks). Grown c s (want_dual sh all x t before) (some_values commodity run dual) n) (sym h)
+    → Grown c s at (some_values commodity run dual) new
+grow_dual c s sh at t commodity run dual listed new part st k into same lists h =
+    subst (λ (n : Checks). Grown c s at (some_values commodity run dual) n) (sym h)
     (record {
       same = refl;
       line_is = refl;
       failure_is = refl;
       firm = dual_firm c s listed st same;
-      keeps = (k.0, k.1, lists);
+      keeps = into (k.0, k.1, lists, k.3);
     })
 
 -- ---- the sums of a cut
@@ -126,7 +133,7 @@ sums_more n part duals run dual sums later h a = record {
 }
 
 -- each node that a dual lists is a candidate
-abbrev ListsCandidates : Problem → Prices → Type 0
+abbrev pub ListsCandidates : Problem → Prices → Type 0
 ListsCandidates p d = All (λ (e : ℕ × ℕ). Contains p.candidates e.0) d.u
 
 no_value : (p : Problem) (u : List (ℕ × ℕ)) (k : ℕ) → (Contains p.candidates k → ⊥) → All (λ (e : ℕ × ℕ). Contains p.candidates e.0) u → value_at u k ≡ 0
@@ -205,27 +212,42 @@ listed_is d p part t run dual same h =
 
 -- ---- the end of a dual
 
-whole_duals : (s : Progress) (duals : List Prices) → length duals ≡ s.size * s.size
-    → with_duals s duals ≡ record s { line = s.line + 1; cuts = s.cuts ++ cut_of s.part duals ∷ []; part = 1; duals = [] }
-whole_duals s duals e =
-    cond-true (nat_eq (length duals) (s.size * s.size)) (record s { line = s.line + 1; cuts = s.cuts ++ cut_of s.part duals ∷ []; part = 1; duals = [] })
-    (record s { line = s.line + 1; duals = duals }) (eq-eqb (length duals) (s.size * s.size) e)
+whole_duals : (s : Progress) (duals : List Prices) → s.mark ≡ None → length duals ≡ s.size * s.size → with_duals s duals ≡ with_cut s duals
+whole_duals s duals none e =
+    cond-true (is_none s.mark && is_whole s duals) (with_cut s duals) (record s { line = s.line + 1; duals = duals })
+    (ap (λ (m : Option (List ℕ)). is_none m && is_whole s duals) none ∙ eq-eqb (length duals) (s.size * s.size) e)
 
-more_duals : (s : Progress) (duals : List Prices) → length duals ≢ s.size * s.size → with_duals s duals ≡ record s { line = s.line + 1; duals = duals }
-more_duals s duals n =
-    cond-false (nat_eq (length duals) (s.size * s.size)) (record s { line = s.line + 1; cuts = s.cuts ++ cut_of s.part duals ∷ []; part = 1; duals = [] })
-    (record s { line = s.line + 1; duals = duals }) (ne_eqb (length duals) (s.size * s.size) n)
+more_duals : (s : Progress) (duals : List Prices) → s.mark ≡ None → length duals ≢ s.size * s.size
+    → with_duals s duals ≡ record s { line = s.line + 1; duals = duals }
+more_duals s duals none n =
+    cond-false (is_none s.mark && is_whole s duals) (with_cut s duals) (record s { line = s.line + 1; duals = duals })
+    (ap (λ (m : Option (List ℕ)). is_none m && is_whole s duals) none ∙ ne_eqb (length duals) (s.size * s.size) n)
 
-pub close_dual : (c : Checks) (s : Progress) (sh : Shape) (all x t : ℕ) (before : Option Prices) (commodity : ℕ × ℕ) (run : ℕ) (dual : Prices)
-    (new : Checks) → c.line ≡ s.line → commodity ≡ commodity_at sh.size t → IsRun sh t run → StandsFirm c s
-    → Keeps c s (want_dual sh all x t before) (some_values commodity run dual) → DualEnds c new
-    → Closed c s (want_dual sh all x t before) (says_dual commodity run dual) new
-close_dual c s sh all x t before commodity run dual new e at is_run st k h =
+-- what the end of a run's dual leaves, whether its cut is marked or not: the sums of the cut with it, and what was found of
+-- its line
+pub record EndedDual (c : Checks) (s : Progress) (t run : ℕ) (commodity : ℕ × ℕ) (dual : Prices) (cuts : List CutTally)
+    (found : Option code.Kind) : Type 0 where
+  pub front : List CutTally
+  pub later : CutTally
+  pub split : cuts ≡ front ++ later ∷ []
+  pub front_are : AreCutSums c.instance.now s.cuts front
+  pub sums : AreSumsOf c.instance.now.size (cut_of s.part (s.duals ++ replicate run dual)) later
+  pub count : length (s.duals ++ replicate run dual) ≡ t + run
+  pub most : t + run ≤ c.instance.now.size * c.instance.now.size
+  pub tried : Tried (line_conditions c.instance.now s (says_dual commodity run dual)) found c.line
+  pub candidates : AllHold (line_conditions c.instance.now s (says_dual commodity run dual))
+      → All (ListsCandidates c.instance.now) (s.duals ++ replicate run dual)
+  pub within : AllHold (line_conditions c.instance.now s (says_dual commodity run dual))
+      → length (s.duals ++ replicate run dual) ≡ s.size * s.size → AreWithin later
+
+pub ended_dual : (c : Checks) (s : Progress) (sh : Shape) (t : ℕ) (commodity : ℕ × ℕ) (run : ℕ) (dual : Prices) (new : Checks) → c.line ≡ s.line
+    → commodity ≡ commodity_at sh.size t → IsRun sh t run → StandsFirm c s → DualsKept c s sh t (some_values commodity run dual)
+    → (h : DualEnds c new) → EndedDual c s t run commodity dual h.cuts h.ends.found
+ended_dual c s sh t commodity run dual new e at is_run st k h =
     let p = c.instance.now in
     let d = k.1 in
     let w = h.added d.front d.last d.split in
     let later = w.0 in
-    let kept = cut_with c h.cuts in
     let part = s.part in
     let place = length s.duals in
     let duals = s.duals ++ replicate run dual in
@@ -234,12 +256,11 @@ close_dual c s sh all x t before commodity run dual new e at is_run st k h =
     sums_more p.size part s.duals run dual d.last later d.last_is
     (subst (λ (y : Prices). IsRunAdded d.last run y later) k.2.dual_is (subst (λ r. IsRunAdded d.last r c.dual.dual later) k.2.run_is w.1)) in
     let last_is : last_of h.cuts ≡ later = ap last_of w.2 ∙ last_of-last d.front later in
-    let count : length duals ≡ t + run = omega (arith, length-append s.duals (replicate run dual), length-replicate run dual, d.count) in
     let sizes : p.size * p.size ≡ s.size * s.size = ap (λ n. n * n) (sym k.0.said_is) in
     let square : sh.size * sh.size ≡ p.size * p.size = ap (λ n. n * n) k.0.wanted_is in
     let fits : place % p.size + run ≤ p.size =
     subst (λ n. place % n + run ≤ n) k.0.wanted_is (subst (λ y. y % sh.size + run ≤ sh.size) (sym d.count) is_run.1) in
-    let most : t + run ≤ sh.size * sh.size = run_within sh.size t run (omega (arith, d.more, square)) is_run.1 in
+    let within_run : t + run ≤ sh.size * sh.size = run_within sh.size t run (omega (arith, k.3, square)) is_run.1 in
     let first : commodity ≡ commodity_at p.size place = at ∙ ap₂ commodity_at k.0.wanted_is (sym d.count) in
     let listed : c.dual ≡ listed_at p part place run dual =
     listed_is c.dual p part place run dual st.dual_is (subst (λ y. Lists c.dual part y run dual) first k.2) in
@@ -251,14 +272,14 @@ close_dual c s sh all x t before commodity run dual new e at is_run st k h =
     (All-replicate (ListsCandidates p) run dual (is.each 0 is_run.0).are_candidates) in
     let within : IsDualOfRun p part place (run, dual) → IsWithinSums p cut → AreWithin later =
     λ is y. within_sums p p.size part duals later sums (are is) y in
-    let Q : Progress → Stage → Type 0 = λ after_it g. StandsFirm kept after_it × Keeps kept after_it g nothing in
-    let last = kept_dual sh (t + run) dual in
     record {
-      kept = kept;
-      found = h.ends.found;
-      is = h.ends.is;
-      same = refl;
-      line_is = refl;
+      front = d.front;
+      later = later;
+      split = w.2;
+      front_are = d.front_are;
+      sums = sums;
+      count = omega (arith, length-append s.duals (replicate run dual), length-replicate run dual, d.count);
+      most = omega (arith, within_run, square);
       tried = tried_cons Dual c.line s.line c.line (IsDualOfEach c.dual) (IsDualOfRun p part place (run, dual))
           (if_time (nat_eq (last_of h.cuts).count (p.size * p.size)) (claim Sum c.line (AreWithin (last_of h.cuts))))
           (if_time (nat_eq (length duals) (s.size * s.size)) (claim Sum s.line (IsWithinSums p cut)))
@@ -269,38 +290,65 @@ close_dual c s sh all x t before commodity run dual new e at is_run st k h =
           (λ whole y. within_cut p p.size cut later sums (subst AreWithin last_is y))
           (λ whole y. subst AreWithin (sym last_is) (within is y)))
           h.ends.tried;
+      candidates = λ held. are held.0;
+      within = λ held whole. within held.0
+          (subst (λ b. AllHold (if_time b (claim Sum s.line (IsWithinSums p cut)))) (eq-eqb (length duals) (s.size * s.size) whole) held.1).0;
+    }
+
+pub close_dual : (c : Checks) (s : Progress) (sh : Shape) (all x t : ℕ) (before : Option Prices) (commodity : ℕ × ℕ) (run : ℕ) (dual : Prices)
+    (new : Checks) → c.line ≡ s.line → commodity ≡ commodity_at sh.size t → IsRun sh t run → StandsFirm c s
+    → Keeps c s (want_dual sh all x t before) (some_values commodity run dual) → DualEnds c new
+    → Closed c s (want_dual sh all x t before) (says_dual commodity run dual) new
+close_dual c s sh all x t before commodity run dual new e at is_run st k h =
+    let p = c.instance.now in
+    let sized = k.0.0 in
+    let r = ended_dual c s sh t commodity run dual new e at is_run st k.0 h in
+    let kept = cut_with c h.cuts in
+    let duals = s.duals ++ replicate run dual in
+    let cut = cut_of s.part duals in
+    let sizes : p.size * p.size ≡ s.size * s.size = ap (λ n. n * n) (sym sized.said_is) in
+    let square : sh.size * sh.size ≡ p.size * p.size = ap (λ n. n * n) sized.wanted_is in
+    let Q : Progress → Stage → Type 0 = λ after_it g. StandsFirm kept after_it × Keeps kept after_it g nothing in
+    let last = kept_dual sh (t + run) dual in
+    record {
+      kept = kept;
+      found = h.ends.found;
+      is = h.ends.is;
+      same = refl;
+      line_is = refl;
+      tried = r.tried;
       keeps = λ held. ⊎_elim
           (λ (whole : length duals ≡ s.size * s.size).
-          let all_are : t + run ≡ sh.size * sh.size = sym count ∙ whole ∙ sym sizes ∙ sym square in
-          let tested : IsWithinSums p cut =
-          (subst (λ b. AllHold (if_time b (claim Sum s.line (IsWithinSums p cut)))) (eq-eqb (length duals) (s.size * s.size) whole) held.1).0 in
+          let all_are : t + run ≡ sh.size * sh.size = sym r.count ∙ whole ∙ sym sizes ∙ sym square in
           let cuts : AreCutSums p (s.cuts ++ cut ∷ []) h.cuts =
-          subst (AreCutSums p (s.cuts ++ cut ∷ [])) (sym w.2)
-          (all_zipped_more (AreSumsOfCut p) s.cuts d.front cut later d.front_are (record { are = sums; within = within held.0 tested })) in
-          let after_it : Progress = record s { line = s.line + 1; cuts = s.cuts ++ cut ∷ []; part = 1; duals = [] } in
-          subst (λ y. Q y (after_dual sh all x (t + run) last)) (sym (whole_duals s duals whole))
-          (subst (Q after_it) (sym (after_dual-all sh all x (t + run) last all_are))
-          (cut_cases (Q after_it) sh all (x + 1) (λ y. (st, (k.0, record { sums_are = cuts; no_dual = refl })))
-          (λ y. (st, (k.0, record { sums_are = cuts; no_dual = refl }))))))
+          subst (AreCutSums p (s.cuts ++ cut ∷ [])) (sym r.split)
+          (all_zipped_more (AreSumsOfCut p) s.cuts r.front cut r.later r.front_are (record { are = r.sums; within = r.within held whole })) in
+          let stand : Cutted kept (with_cut s duals) = record { sums_are = cuts; no_mark = refl; no_dual = refl } in
+          subst (λ y. Q y (after_dual sh all x (t + run) last)) (sym (whole_duals s duals k.1 whole))
+          (subst (Q (with_cut s duals)) (sym (after_dual-all sh all x (t + run) last all_are))
+          (cut_cases (Q (with_cut s duals)) sh all (x + 1) (λ y. (st, (sized, stand))) (λ y. (st, (sized, stand, tt))))))
           (λ (some : length duals ≢ s.size * s.size).
-          let not_all : t + run ≢ sh.size * sh.size = λ y. some (count ∙ y ∙ square ∙ sizes) in
+          let not_all : t + run ≢ sh.size * sh.size = λ y. some (r.count ∙ y ∙ square ∙ sizes) in
           let after_it : Progress = record s { line = s.line + 1; duals = duals } in
-          subst (λ y. Q y (after_dual sh all x (t + run) last)) (sym (more_duals s duals some))
+          subst (λ y. Q y (after_dual sh all x (t + run) last)) (sym (more_duals s duals k.1 some))
           (subst (Q after_it) (sym (after_dual-more sh all x (t + run) last not_all)) (
             st,
             (
-              k.0,
-              record {
-                front = d.front;
-                last = later;
-                split = w.2;
-                front_are = d.front_are;
-                last_is = sums;
-                candidates = are held.0;
-                count = count;
-                more = omega (arith, most, not_all, square);
-              },
-              tt,
+              (
+                sized,
+                record {
+                  front = r.front;
+                  last = r.later;
+                  split = r.split;
+                  front_are = r.front_are;
+                  last_is = r.sums;
+                  candidates = r.candidates held;
+                  count = r.count;
+                },
+                tt,
+                omega (arith, r.most, not_all, square),
+              ),
+              k.1,
             ),
           )))
           (cases_eq (length duals) (s.size * s.size));

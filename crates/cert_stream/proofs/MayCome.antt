@@ -10,12 +10,12 @@ use Rattle.hub_spec.specs.Cuts.{Prices}
 use Rattle.hub_spec.specs.Trees.{leaf_of}
 use Rattle.hub_spec.specs.Ranges.{IsShort, IsDualInRange, IsLineInRange}
 use Rattle.cert_spec.specs.Lines.{part_of}
-use Rattle.cert_spec.specs.Grammar.{Shape, want_hubs, want_route, want_dual, want_tree, IsPart, IsRun}
+use Rattle.cert_spec.specs.Grammar.{Shape, want_hubs, want_route, want_tree, IsPart, IsRun}
 use Rattle.cert_spec.proofs.Stages.{run_within}
 use Rattle.cert_spec.specs.Progress.{Progress}
 use Rattle.cert_stream.specs.Sums.{CutTally, most_duals, last_of}
 use Rattle.cert_stream.specs.Steps.{MayHub, MayRoute, MayCut, MayEndDual, MayDual, MayValue, MayBlock, MayEndLeaf, MayAdd, MayWeight}
-use Rattle.cert_stream.specs.Taken.{Part, nothing, some_hubs, some_values, StandsFirm, AreSumsOfCut, DualsStand, Keeps}
+use Rattle.cert_stream.specs.Taken.{Part, nothing, some_hubs, some_values, StandsFirm, AreSumsOfCut, DualsStand, DualsKept, Keeps}
 use Rattle.cert_stream.specs.declared.checks.Checks.{Checks}
 use Rattle.cert_stream.proofs.Lists.{all_last, ascend_last, not_nil}
 use Rattle.cert_stream.proofs.Loads.{last_of-last}
@@ -48,25 +48,24 @@ may_route c s sh t commodity route keeps at first last =
     }
 
 may_end_dual : (c : Checks) (s : Progress) (sh : Shape) (t run : ℕ) → StandsFirm c s → sh.size ≡ c.instance.now.size → IsRun sh t run
-    → DualsStand c.instance.now s.cuts s.part s.duals c.cuts t → MayEndDual c run
-may_end_dual c s sh t run st size is_run d =
+    → DualsStand c.instance.now s.cuts s.part s.duals c.cuts t → t < c.instance.now.size * c.instance.now.size → MayEndDual c run
+may_end_dual c s sh t run st size is_run d more =
     let p = c.instance.now in
     let is : last_of c.cuts ≡ d.last = ap last_of d.split ∙ last_of-last d.front d.last in
     let square : p.size * p.size ≤ 200 * 200 = mul-le-mul st.problem.size_limit st.problem.size_limit in
     let wanted : sh.size * sh.size ≡ p.size * p.size = ap (λ n. n * n) size in
-    let within : t + run ≤ sh.size * sh.size = run_within sh.size t run (omega (arith, d.more, wanted)) is_run.1 in
+    let within : t + run ≤ sh.size * sh.size = run_within sh.size t run (omega (arith, more, wanted)) is_run.1 in
     record {
       stands = λ e. not_nil d.front d.last (sym d.split ∙ e);
       few = subst (λ (x : CutTally). x.count + run ≤ most_duals) (sym is) (omega (arith, d.last_is.count_is, d.count, within, square, wanted));
       long = ap (λ (x : CutTally). length x.loads) is ∙ d.last_is.long ∙ sym (ap (λ (q : Problem). q.size) st.dual_is);
     }
 
-pub may_dual : (c : Checks) (s : Progress) (sh : Shape) (all x t : ℕ) (before : Option Prices) (commodity : ℕ × ℕ) (run a : ℕ) (part : Part)
-    → StandsFirm c s → Keeps c s (want_dual sh all x t before) part → commodity ≡ commodity_at sh.size t → IsRun sh t run → a < 10 ^ 33
-    → MayDual c commodity run a
-may_dual c s sh all x t before commodity run a part st keeps at is_run short =
+pub may_dual : (c : Checks) (s : Progress) (sh : Shape) (t : ℕ) (commodity : ℕ × ℕ) (run a : ℕ) (part : Part) → StandsFirm c s
+    → DualsKept c s sh t part → commodity ≡ commodity_at sh.size t → IsRun sh t run → a < 10 ^ 33 → MayDual c commodity run a
+may_dual c s sh t commodity run a part st keeps at is_run short =
     let n = c.instance.now.size in
-    let next = next_commodity n sh.size t commodity keeps.0.wanted_is keeps.1.more at in
+    let next = next_commodity n sh.size t commodity keeps.0.wanted_is keeps.3 at in
     let size : c.dual.problem.size ≡ n = ap (λ (q : Problem). q.size) st.dual_is in
     let column : commodity.1 ≡ t % sh.size = ap (λ (k : ℕ × ℕ). k.1) at in
     record {
@@ -74,7 +73,7 @@ may_dual c s sh all x t before commodity run a part st keeps at is_run short =
       to = omega (arith, column, is_run.1, size, keeps.0.wanted_is);
       some = is_run.0;
       short = short;
-      may_end = may_end_dual c s sh t run st keeps.0.wanted_is is_run keeps.1;
+      may_end = may_end_dual c s sh t run st keeps.0.wanted_is is_run keeps.1 keeps.3;
     }
 
 -- the part of a cut's line, which the version says or not
@@ -88,11 +87,10 @@ keys_below (e ∷ u) k h =
     All-cons (λ (e : ℕ × ℕ). e.0 < k) e u (All-head (λ (m : ℕ). m < k) e.0 (map (λ (e : ℕ × ℕ). e.0) u) h)
     (keys_below u k (All-tail (λ (m : ℕ). m < k) e.0 (map (λ (e : ℕ × ℕ). e.0) u) h))
 
-pub may_value : (c : Checks) (s : Progress) (sh : Shape) (all x t : ℕ) (before : Option Prices) (commodity : ℕ × ℕ) (run a : ℕ)
-    (front : List (ℕ × ℕ)) (e : ℕ × ℕ) → StandsFirm c s
-    → Keeps c s (want_dual sh all x t before) (some_values commodity run (record { a = a; u = front })) → IsRun sh t run
+pub may_value : (c : Checks) (s : Progress) (sh : Shape) (t : ℕ) (commodity : ℕ × ℕ) (run a : ℕ) (front : List (ℕ × ℕ)) (e : ℕ × ℕ)
+    → StandsFirm c s → DualsKept c s sh t (some_values commodity run (record { a = a; u = front })) → IsRun sh t run
     → IsDualInRange sh.size (record { a = a; u = front ++ e ∷ [] }) → MayValue c e.0 e.1
-may_value c s sh all x t before commodity run a front e st keeps is_run range =
+may_value c s sh t commodity run a front e st keeps is_run range =
     let one = all_last (λ (e : ℕ × ℕ). (e.0 < sh.size) × (1 ≤ e.1) × (e.1 < 10 ^ 33)) front e range.each in
     let size : c.dual.problem.size ≡ c.instance.now.size = ap (λ (q : Problem). q.size) st.dual_is in
     let node : e.0 < sh.size = one.0 in
@@ -103,7 +101,7 @@ may_value c s sh all x t before commodity run a front e st keeps is_run range =
           (subst IsStrictlyIncreasing (map-append (λ (x : ℕ × ℕ). x.0) front (e ∷ [])) range.ascend)));
       least = one.1;
       short = one.2;
-      may_end = subst (MayEndDual c) (sym keeps.2.run_is) (may_end_dual c s sh t run st keeps.0.wanted_is is_run keeps.1);
+      may_end = subst (MayEndDual c) (sym keeps.2.run_is) (may_end_dual c s sh t run st keeps.0.wanted_is is_run keeps.1 keeps.3);
     }
 
 pub may_fill : (c : Checks) (s : Progress) (sh : Shape) (places left : ℕ) (part : Part) → Keeps c s (want_tree sh places left) part → c.path.pending ≢ []

@@ -1,28 +1,40 @@
 -- Where the last item of some stands: in a line that goes on, or at the end of one.
-use Rattle.std.proofs.Common.{◌≡◌, ℕ, ◌<◌, ◌≤◌, ◌^◌, true, false, List, [], ◌∷◌, ◌++◌, length, map, flat_map, Option, All, ◌⊎◌, inl, inr, refl, sym, ap, subst, ◌∙◌, append_assoc, append-nil, arith}
+use Rattle.std.proofs.Common.{◌≡◌, ℕ, ◌<◌, ◌≤◌, ◌^◌, true, false, List, [], ◌∷◌, ◌++◌, length, get_or, map, flat_map, All, ◌⊎◌, inl, inr, refl, sym, ap, subst, ◌∙◌, length-append, append_assoc, append-nil, arith}
+use Rattle.std.specs.List.{AllPairs}
 use Rattle.std.specs.List.Sorted.{IsStrictlyIncreasing}
+use Rattle.std.proofs.Math.ListN.{get_or-append}
 use Rattle.std.proofs.lemmas.List.{same_from_push, map-append}
 use Rattle.std.proofs.lemmas.List.Concat.{flat_map-append}
-use Rattle.hub_spec.specs.Problem.{commodity_at}
-use Rattle.hub_spec.specs.Cuts.{Prices}
 use Rattle.hub_spec.specs.Trees.{branch_on, leaf_of, no_hub, no_route, no_count}
 use Rattle.hub_spec.specs.Ranges.{IsDualInRange, IsLineInRange}
-use Rattle.cert_spec.specs.Lines.{part_of, Item as Line, says_version, says_size, says_cost, says_bound, says_hubs, says_route, says_cuts, says_cut, says_dual, says_nodes, says_tree, says_end}
-use Rattle.cert_spec.specs.Grammar.{Shape, Stage, want_version, want_size, want_end, want_cost, want_bound, want_hubs, want_cuts, want_nodes, want_route, want_cut, want_dual, want_tree, Wants, IsRun, after, Leads}
+use Rattle.core_spec.specs.CoreCuts.{Way, CoreProof}
+use Rattle.core_spec.specs.MarkRanges.{IsWayBefore, IsWayInRange, IsProofInRange}
+use Rattle.cert_spec.specs.Lines.{part_of, Item as Line, says_version, says_size, says_cost, says_bound, says_hubs, says_route, says_cuts, says_cut, says_marked, says_dual, says_proof, says_nodes, says_tree, says_end}
+use Rattle.cert_spec.specs.Grammar.{Shape, Stage, want_version, want_size, want_end, want_cost, want_bound, want_hubs, want_cuts, want_nodes, want_route, want_cut, want_dual, want_proved, want_proof, want_tree, Wants, after, Leads}
 use Rattle.cert_scan.specs.Versions.{version_of}
-use Rattle.cert_scan.specs.Parts.{parts_of, none_left, hub_parts, value_parts, weight_parts, open_hubs, open_values, open_weights}
+use Rattle.cert_scan.specs.Parts.{parts_of, none_left, hub_parts, mark_parts, value_parts, way_parts, weight_parts, open_hubs, open_mark, open_values, open_ways, open_weights}
 use Rattle.cert_scan.specs.declared.items.Item.{Item}
-use Rattle.cert_scan.specs.declared.items.Item.TheVariants.{Version, Size, Cost, Bound, Hub, Route, Cuts, Cut, Dual, DualPair, Nodes, Branch, Leaf, LeafPair, Empty, Block, Count, End}
-use Rattle.cert_stream.specs.Taken.{Part, nothing, some_hubs, some_values, some_weights, part_items, IsPart}
+use Rattle.cert_scan.specs.declared.items.Item.TheVariants.{Version, Size, Cost, Bound, Hub, Route, Cuts, Cut, CoreHub, Dual, DualPair, Proof, ProofPair, Nodes, Branch, Leaf, LeafPair, Empty, Block, Count, End}
+use Rattle.cert_stream.specs.Taken.{Part, nothing, some_hubs, some_mark, some_values, some_ways, some_weights, part_items, IsPart}
 use Rattle.cert_stream.proofs.Lists.{by_last, ascend_front, not_nil, all_front}
+
+-- the proof with these ways in place of its own
+abbrev pub by_ways : CoreProof → List Way → CoreProof
+by_ways proof ways = record { turns = proof.turns; scale = proof.scale; ways = ways }
 
 -- the item makes this part of what was before it
 abbrev pub Growing : Part → Part → Item → Type 0
 Growing nothing before i = ⊥
 Growing (some_hubs hubs) before i = (front : List ℕ) × (k : ℕ) × (hubs ≡ front ++ k ∷ []) × (before ≡ some_hubs front) × (i ≡ Hub k false)
+Growing (some_mark number part hubs) before i =
+    ((hubs ≡ []) × (before ≡ nothing) × (i ≡ Cut number part false))
+    ⊎ ((front : List ℕ) × (k : ℕ) × (hubs ≡ front ++ k ∷ []) × (before ≡ some_mark number part front) × (i ≡ CoreHub k false))
 Growing (some_values c run dual) before i =
     ((dual.u ≡ []) × (before ≡ nothing) × (i ≡ Dual c.0 c.1 run dual.a false))
     ⊎ ((front : List (ℕ × ℕ)) × (e : ℕ × ℕ) × (dual.u ≡ front ++ e ∷ []) × (before ≡ some_values c run (record { a = dual.a; u = front })) × (i ≡ DualPair e.0 e.1 false))
+Growing (some_ways proof) before i =
+    ((proof.ways ≡ []) × (before ≡ nothing) × (i ≡ Proof proof.turns proof.scale false))
+    ⊎ ((front : List Way) × (w : Way) × (proof.ways ≡ front ++ w ∷ []) × (before ≡ some_ways (by_ways proof front)) × (i ≡ ProofPair w.0 w.1 w.2 false))
 Growing (some_weights denom weights) before i =
     ((weights ≡ []) × (before ≡ nothing) × (i ≡ Leaf denom false))
     ⊎ ((front : List (ℕ × ℕ)) × (e : ℕ × ℕ) × (weights ≡ front ++ e ∷ []) × (before ≡ some_weights denom front) × (i ≡ LeafPair e.0 e.1 false))
@@ -36,10 +48,15 @@ Closing (says_bound b) before i = (before ≡ nothing) × (i ≡ Bound b)
 Closing (says_hubs hubs) before i = (front : List ℕ) × (k : ℕ) × (hubs ≡ front ++ k ∷ []) × (before ≡ some_hubs front) × (i ≡ Hub k true)
 Closing (says_route c r) before i = (before ≡ nothing) × (i ≡ Route c.0 c.1 r.0 r.1)
 Closing (says_cuts all) before i = (before ≡ nothing) × (i ≡ Cuts all)
-Closing (says_cut number part) before i = (before ≡ nothing) × (i ≡ Cut number (part_of part))
+Closing (says_cut number part) before i = (before ≡ nothing) × (i ≡ Cut number (part_of part) true)
+Closing (says_marked number part hubs) before i =
+    (front : List ℕ) × (k : ℕ) × (hubs ≡ front ++ k ∷ []) × (before ≡ some_mark number part front) × (i ≡ CoreHub k true)
 Closing (says_dual c run dual) before i =
     ((dual.u ≡ []) × (before ≡ nothing) × (i ≡ Dual c.0 c.1 run dual.a true))
     ⊎ ((front : List (ℕ × ℕ)) × (e : ℕ × ℕ) × (dual.u ≡ front ++ e ∷ []) × (before ≡ some_values c run (record { a = dual.a; u = front })) × (i ≡ DualPair e.0 e.1 true))
+Closing (says_proof proof) before i =
+    ((proof.ways ≡ []) × (before ≡ nothing) × (i ≡ Proof proof.turns proof.scale true))
+    ⊎ ((front : List Way) × (w : Way) × (proof.ways ≡ front ++ w ∷ []) × (before ≡ some_ways (by_ways proof front)) × (i ≡ ProofPair w.0 w.1 w.2 true))
 Closing (says_nodes all) before i = (before ≡ nothing) × (i ≡ Nodes all)
 Closing (says_tree (branch_on k)) before i = (before ≡ nothing) × (i ≡ Branch k)
 Closing (says_tree (leaf_of denom weights)) before i =
@@ -71,10 +88,20 @@ hub_parts-last [] k = refl
 hub_parts-last (m ∷ []) k = refl
 hub_parts-last (m ∷ n ∷ front) k = ap (λ l. Hub m false ∷ l) (hub_parts-last (n ∷ front) k)
 
+pub mark_parts-last : (front : List ℕ) (k : ℕ) → mark_parts (front ++ k ∷ []) ≡ open_mark front ++ CoreHub k true ∷ []
+mark_parts-last [] k = refl
+mark_parts-last (m ∷ []) k = refl
+mark_parts-last (m ∷ n ∷ front) k = ap (λ l. CoreHub m false ∷ l) (mark_parts-last (n ∷ front) k)
+
 value_parts-last : (front : List (ℕ × ℕ)) (e : ℕ × ℕ) → value_parts (front ++ e ∷ []) ≡ open_values front ++ DualPair e.0 e.1 true ∷ []
 value_parts-last [] e = refl
 value_parts-last (m ∷ []) e = refl
 value_parts-last (m ∷ n ∷ front) e = ap (λ l. DualPair m.0 m.1 false ∷ l) (value_parts-last (n ∷ front) e)
+
+way_parts-last : (front : List Way) (w : Way) → way_parts (front ++ w ∷ []) ≡ open_ways front ++ ProofPair w.0 w.1 w.2 true ∷ []
+way_parts-last [] w = refl
+way_parts-last (m ∷ []) w = refl
+way_parts-last (m ∷ n ∷ front) w = ap (λ l. ProofPair m.0 m.1 m.2 false ∷ l) (way_parts-last (n ∷ front) w)
 
 weight_parts-last : (front : List (ℕ × ℕ)) (e : ℕ × ℕ) → weight_parts (front ++ e ∷ []) ≡ open_weights front ++ LeafPair e.0 e.1 true ∷ []
 weight_parts-last [] e = refl
@@ -113,6 +140,22 @@ leaf_front n denom front e h = (
   },
 )
 
+pairs_front : {X : Type 0} (R : X → X → Type 0) (front : List X) (x : X) → AllPairs R (front ++ x ∷ []) → AllPairs R front
+pairs_front R front x each i j d less within =
+    let long = length-append front (x ∷ []) in
+    subst (λ a. R a (get_or front j d)) (get_or-append front (x ∷ []) d i (omega arith))
+    (subst (R (get_or (front ++ x ∷ []) i d)) (get_or-append front (x ∷ []) d j within) (each i j d less (omega arith)))
+
+pub proof_front : (n : ℕ) (proof : CoreProof) (front : List Way) (w : Way) → IsProofInRange n (by_ways proof (front ++ w ∷ []))
+    → IsProofInRange n (by_ways proof front)
+proof_front n proof front w h = record {
+  turns = h.turns;
+  some_scale = h.some_scale;
+  scale = h.scale;
+  ascend = pairs_front IsWayBefore front w h.ascend;
+  each = all_front (IsWayInRange n) front w h.each;
+}
+
 -- ---- the last item of a line
 
 whole : (stage : Stage) (l : Line) (i : Item) → IsPart stage nothing → parts_of l ≡ i ∷ [] → Closing l nothing i → Closes stage l i
@@ -140,15 +183,37 @@ ends_hubs s hubs some up nodes =
           )
     ]
 
-ends_dual : (s : Shape) (all x t : ℕ) (prior : Option Prices) (c : ℕ × ℕ) (run a : ℕ) (u : List (ℕ × ℕ)) → c ≡ commodity_at s.size t → IsRun s t run
-    → IsDualInRange s.size (record { a = a; u = u }) → Ending (want_dual s all x t prior) (says_dual c run (record { a = a; u = u }))
-ends_dual s all x t prior c run a u at is_run range =
-    elim (by_last u) as (λ v. Ending (want_dual s all x t prior) (says_dual c run (record { a = a; u = u }))) [
+ends_mark : (s : Shape) (all x number part : ℕ) (hubs : List ℕ) → Wants (want_cut s all x) (says_marked number part hubs)
+    → Ending (want_cut s all x) (says_marked number part hubs)
+ends_mark s all x number part hubs h =
+    let range = h.1.3 in
+    elim (by_last hubs) as (λ v. Ending (want_cut s all x) (says_marked number part hubs)) [
+      | inl none ↦ absurd (let e = ap length none in omega (arith, e, range.some))
+      | inr g ↦
+          let front = g.0 in
+          let k = g.1 in
+          let r = hubs_front s.size front k (subst IsStrictlyIncreasing g.2 range.ascend, subst (All (λ (m : ℕ). m < s.size)) g.2 range.nodes) in (
+            CoreHub k true,
+            record {
+              before = some_mark number part front;
+              may = (h.0, h.1.1, h.1.2, r.0, r.1);
+              items = ap (λ l. Cut number part false ∷ l) (ap mark_parts g.2 ∙ mark_parts-last front k);
+              closing = (front, k, g.2, refl, refl);
+            },
+          )
+    ]
+
+-- a dual at a stage at which what comes of it may stand
+ends_dual : (stage : Stage) (n : ℕ) (c : ℕ × ℕ) (run a : ℕ) (u : List (ℕ × ℕ)) → IsPart stage nothing
+    → ((v : List (ℕ × ℕ)) → IsDualInRange n (record { a = a; u = v }) → IsPart stage (some_values c run (record { a = a; u = v })))
+    → IsDualInRange n (record { a = a; u = u }) → Ending stage (says_dual c run (record { a = a; u = u }))
+ends_dual stage n c run a u none_may may range =
+    elim (by_last u) as (λ v. Ending stage (says_dual c run (record { a = a; u = u }))) [
       | inl none ↦ (
         Dual c.0 c.1 run a true,
         record {
           before = nothing;
-          may = tt;
+          may = none_may;
           items = ap (λ (l : List (ℕ × ℕ)). Dual c.0 c.1 run a (none_left l) ∷ value_parts l) none;
           closing = inl (none, refl, refl);
         },
@@ -159,11 +224,40 @@ ends_dual s all x t prior c run a u at is_run range =
             DualPair e.0 e.1 true,
             record {
               before = some_values c run (record { a = a; u = front });
-              may = (at, is_run, dual_front s.size a front e (subst (λ (l : List (ℕ × ℕ)). IsDualInRange s.size (record { a = a; u = l })) h.2 range));
+              may = may front (dual_front n a front e (subst (λ (l : List (ℕ × ℕ)). IsDualInRange n (record { a = a; u = l })) h.2 range));
               items = ap (λ (l : List (ℕ × ℕ)). Dual c.0 c.1 run a (none_left l) ∷ value_parts l) h.2
                   ∙ ap (λ b. Dual c.0 c.1 run a b ∷ value_parts (front ++ e ∷ [])) (none_left-push front e)
                   ∙ ap (λ l. Dual c.0 c.1 run a false ∷ l) (value_parts-last front e);
               closing = inr (front, e, h.2, refl, refl);
+            },
+          )
+    ]
+
+ends_proof : (s : Shape) (all x t turns scale : ℕ) (ways : List Way) → IsProofInRange s.size (record { turns = turns; scale = scale; ways = ways })
+    → Ending (want_proof s all x t) (says_proof (record { turns = turns; scale = scale; ways = ways }))
+ends_proof s all x t turns scale ways range =
+    let proof : CoreProof = record { turns = turns; scale = scale; ways = ways } in
+    elim (by_last ways) as (λ v. Ending (want_proof s all x t) (says_proof proof)) [
+      | inl none ↦ (
+        Proof turns scale true,
+        record {
+          before = nothing;
+          may = tt;
+          items = ap (λ (l : List Way). Proof turns scale (none_left l) ∷ way_parts l) none;
+          closing = inl (none, refl, refl);
+        },
+      )
+      | inr h ↦
+          let front = h.0 in
+          let w = h.1 in (
+            ProofPair w.0 w.1 w.2 true,
+            record {
+              before = some_ways (by_ways proof front);
+              may = proof_front s.size proof front w (subst (λ (l : List Way). IsProofInRange s.size (by_ways proof l)) h.2 range);
+              items = ap (λ (l : List Way). Proof turns scale (none_left l) ∷ way_parts l) h.2
+                  ∙ ap (λ b. Proof turns scale b ∷ way_parts (front ++ w ∷ [])) (none_left-push front w)
+                  ∙ ap (λ l. Proof turns scale false ∷ l) (way_parts-last front w);
+              closing = inr (front, w, h.2, refl, refl);
             },
           )
     ]
@@ -208,8 +302,13 @@ each_ends (want_route s t) (says_route c r) h =
     (Route c.0 c.1 r.0 r.1, whole (want_route s t) (says_route c r) (Route c.0 c.1 r.0 r.1) tt refl (refl, refl))
 each_ends (want_cuts s) (says_cuts all) h = (Cuts all, whole (want_cuts s) (says_cuts all) (Cuts all) tt refl (refl, refl))
 each_ends (want_cut s all x) (says_cut number part) h =
-    (Cut number (part_of part), whole (want_cut s all x) (says_cut number part) (Cut number (part_of part)) tt refl (refl, refl))
-each_ends (want_dual s all x t prior) (says_dual c run dual) h = ends_dual s all x t prior c run dual.a dual.u h.0 h.1 h.2
+    (Cut number (part_of part) true, whole (want_cut s all x) (says_cut number part) (Cut number (part_of part) true) tt refl (refl, refl))
+each_ends (want_cut s all x) (says_marked number part hubs) h = ends_mark s all x number part hubs h
+each_ends (want_dual s all x t prior) (says_dual c run dual) h =
+    ends_dual (want_dual s all x t prior) s.size c run dual.a dual.u tt (λ v range. (h.0, h.1, range)) h.2
+each_ends (want_proved s all x t) (says_dual c run dual) h =
+    ends_dual (want_proved s all x t) s.size c run dual.a dual.u tt (λ v range. (h.0, h.1, range)) h.2
+each_ends (want_proof s all x t) (says_proof proof) h = ends_proof s all x t proof.turns proof.scale proof.ways h
 each_ends (want_nodes s) (says_nodes all) h = (Nodes all, whole (want_nodes s) (says_nodes all) (Nodes all) tt refl (refl, refl))
 each_ends (want_tree s places left) (says_tree (branch_on k)) h =
     (Branch k, whole (want_tree s places left) (says_tree (branch_on k)) (Branch k) tt refl (refl, refl))
@@ -245,15 +344,46 @@ grown_hubs s hubs may =
           )
     ]
 
-grown_values : (s : Shape) (all x t : ℕ) (prior : Option Prices) (c : ℕ × ℕ) (run a : ℕ) (u : List (ℕ × ℕ))
-    → IsPart (want_dual s all x t prior) (some_values c run (record { a = a; u = u })) → Grown (want_dual s all x t prior) (some_values c run (record { a = a; u = u }))
-grown_values s all x t prior c run a u may =
-    elim (by_last u) as (λ v. Grown (want_dual s all x t prior) (some_values c run (record { a = a; u = u }))) [
+grown_mark : (s : Shape) (all x number part : ℕ) (hubs : List ℕ) → IsPart (want_cut s all x) (some_mark number part hubs)
+    → Grown (want_cut s all x) (some_mark number part hubs)
+grown_mark s all x number part hubs may =
+    elim (by_last hubs) as (λ v. Grown (want_cut s all x) (some_mark number part hubs)) [
+      | inl none ↦ inr (
+        Cut number part false,
+        record {
+          before = nothing;
+          may = tt;
+          items = ap (λ (l : List ℕ). Cut number part false ∷ open_mark l) none;
+          growing = inl (none, refl, refl);
+        },
+      )
+      | inr h ↦
+          let front = h.0 in
+          let k = h.1 in
+          let r = hubs_front s.size front k (subst IsStrictlyIncreasing h.2 may.3, subst (All (λ (m : ℕ). m < s.size)) h.2 may.4) in
+          inr (
+            CoreHub k false,
+            record {
+              before = some_mark number part front;
+              may = (may.0, may.1, may.2, r.0, r.1);
+              items = ap (λ (l : List ℕ). Cut number part false ∷ open_mark l) h.2
+                  ∙ ap (λ l. Cut number part false ∷ l) (map-append (λ (k : ℕ). CoreHub k false) front (k ∷ []));
+              growing = inr (front, k, h.2, refl, refl);
+            },
+          )
+    ]
+
+-- a dual at a stage at which what comes of it may stand
+grown_values : (stage : Stage) (n : ℕ) (c : ℕ × ℕ) (run a : ℕ) (u : List (ℕ × ℕ)) → IsPart stage nothing
+    → ((v : List (ℕ × ℕ)) → IsDualInRange n (record { a = a; u = v }) → IsPart stage (some_values c run (record { a = a; u = v })))
+    → IsDualInRange n (record { a = a; u = u }) → Grown stage (some_values c run (record { a = a; u = u }))
+grown_values stage n c run a u none_may may range =
+    elim (by_last u) as (λ v. Grown stage (some_values c run (record { a = a; u = u }))) [
       | inl none ↦ inr (
         Dual c.0 c.1 run a false,
         record {
           before = nothing;
-          may = tt;
+          may = none_may;
           items = ap (λ (l : List (ℕ × ℕ)). Dual c.0 c.1 run a false ∷ open_values l) none;
           growing = inl (none, refl, refl);
         },
@@ -265,10 +395,40 @@ grown_values s all x t prior c run a u may =
             DualPair e.0 e.1 false,
             record {
               before = some_values c run (record { a = a; u = front });
-              may = (may.0, may.1, dual_front s.size a front e (subst (λ (l : List (ℕ × ℕ)). IsDualInRange s.size (record { a = a; u = l })) h.2 may.2));
+              may = may front (dual_front n a front e (subst (λ (l : List (ℕ × ℕ)). IsDualInRange n (record { a = a; u = l })) h.2 range));
               items = ap (λ (l : List (ℕ × ℕ)). Dual c.0 c.1 run a false ∷ open_values l) h.2
                   ∙ ap (λ l. Dual c.0 c.1 run a false ∷ l) (map-append (λ (e : ℕ × ℕ). DualPair e.0 e.1 false) front (e ∷ []));
               growing = inr (front, e, h.2, refl, refl);
+            },
+          )
+    ]
+
+grown_ways : (s : Shape) (all x t turns scale : ℕ) (ways : List Way)
+    → IsPart (want_proof s all x t) (some_ways (record { turns = turns; scale = scale; ways = ways }))
+    → Grown (want_proof s all x t) (some_ways (record { turns = turns; scale = scale; ways = ways }))
+grown_ways s all x t turns scale ways may =
+    let proof : CoreProof = record { turns = turns; scale = scale; ways = ways } in
+    elim (by_last ways) as (λ v. Grown (want_proof s all x t) (some_ways proof)) [
+      | inl none ↦ inr (
+        Proof turns scale false,
+        record {
+          before = nothing;
+          may = tt;
+          items = ap (λ (l : List Way). Proof turns scale false ∷ open_ways l) none;
+          growing = inl (none, refl, refl);
+        },
+      )
+      | inr h ↦
+          let front = h.0 in
+          let w = h.1 in
+          inr (
+            ProofPair w.0 w.1 w.2 false,
+            record {
+              before = some_ways (by_ways proof front);
+              may = proof_front s.size proof front w (subst (λ (l : List Way). IsProofInRange s.size (by_ways proof l)) h.2 may);
+              items = ap (λ (l : List Way). Proof turns scale false ∷ open_ways l) h.2
+                  ∙ ap (λ l. Proof turns scale false ∷ l) (map-append (λ (w : Way). ProofPair w.0 w.1 w.2 false) front (w ∷ []));
+              growing = inr (front, w, h.2, refl, refl);
             },
           )
     ]
@@ -303,7 +463,12 @@ grown_weights s places left denom weights may =
 
 pub each_grown : (stage : Stage) (part : Part) → IsPart stage part → Grown stage part
 each_grown (want_hubs s) (some_hubs hubs) may = grown_hubs s hubs may
-each_grown (want_dual s all x t prior) (some_values c run dual) may = grown_values s all x t prior c run dual.a dual.u may
+each_grown (want_cut s all x) (some_mark number part hubs) may = grown_mark s all x number part hubs may
+each_grown (want_dual s all x t prior) (some_values c run dual) may =
+    grown_values (want_dual s all x t prior) s.size c run dual.a dual.u tt (λ v range. (may.0, may.1, range)) may.2
+each_grown (want_proved s all x t) (some_values c run dual) may =
+    grown_values (want_proved s all x t) s.size c run dual.a dual.u tt (λ v range. (may.0, may.1, range)) may.2
+each_grown (want_proof s all x t) (some_ways proof) may = grown_ways s all x t proof.turns proof.scale proof.ways may
 each_grown (want_tree s places left) (some_weights denom weights) may = grown_weights s places left denom weights may
 each_grown stage nothing may = inl refl
 each_grown stage part may = absurd may

@@ -53,6 +53,7 @@ close_cost c s sh v new st k h = record {
     record {
       problem = st.problem;
       dual_is = st.dual_is;
+      proof_is = st.proof_is;
       size_is = st.size_is;
       candidates_are = st.candidates_are;
       long = st.long;
@@ -81,6 +82,7 @@ close_bound c s sh v new e short st k h = record {
     record {
       problem = st.problem;
       dual_is = st.dual_is;
+      proof_is = st.proof_is;
       size_is = st.size_is;
       candidates_are = st.candidates_are;
       long = st.long;

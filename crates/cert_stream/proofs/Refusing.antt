@@ -1,25 +1,28 @@
--- A check asks for memory where a cut begins, and no cut begins behind the number of the tree's lines.
-use Rattle.std.proofs.Common.{◌≡◌, ℕ, ◌-◌, List, [], ◌∷◌, ◌++◌, length, take, drop, flat_map, false, Option, Some, nat_eq, ◌⊎◌, inl, inr, refl, sym, ap, subst, ◌∙◌, append_assoc, append-nil, arith}
-use Rattle.std.specs.Prelude.{All, Contains, Result, Ok, Err, OnErr}
+-- A check asks for memory where a line that begins a cut ends, and none does behind the number of the tree's lines.
+use Rattle.std.proofs.Common.{◌≡◌, ℕ, ◌+◌, ◌-◌, List, [], ◌∷◌, ◌++◌, length, take, drop, flat_map, true, false, Some, nat_eq, ◌⊎◌, inl, inr, refl, sym, ap, subst, ◌∙◌, append_assoc, append-nil, arith}
+use Rattle.std.specs.Prelude.{IsTrue, All, Contains, Result, Ok, Err, OnErr}
 use Rattle.std.proofs.lemmas.Bool.{cond_both}
 use Rattle.std.proofs.lemmas.List.{take-append-drop, take_rest}
 use Rattle.std.proofs.lemmas.List.Elements.{All-nil, All-cons, All-head, All-tail, All-append, All-map, All-weaker, All-contains, Contains-append_right, Contains-append_cases}
+use Rattle.core_spec.specs.CoreCuts.{Way}
 use Rattle.hub_spec.specs.Problem.{commodity_at}
 use Rattle.hub_spec.specs.Trees.{TreeLine, branch_on, leaf_of, no_hub, no_route, no_count}
-use Rattle.cert_spec.specs.Lines.{Item as Line, says_version, says_size, says_cost, says_bound, says_hubs, says_route, says_cuts, says_cut, says_dual, says_nodes, says_tree, says_end}
-use Rattle.cert_spec.specs.Grammar.{Shape, Stage, want_version, want_end, want_nothing, want_hubs, want_nodes, want_dual, want_tree, Wants, places_after, after, after_tree, Leads}
+use Rattle.cert_spec.specs.Lines.{part_of, Item as Line, says_version, says_size, says_cost, says_bound, says_hubs, says_route, says_cuts, says_cut, says_marked, says_dual, says_proof, says_nodes, says_tree, says_end}
+use Rattle.cert_spec.specs.Grammar.{Shape, Stage, want_version, want_end, want_nothing, want_hubs, want_cut, want_nodes, want_dual, want_proved, want_proof, want_tree, Wants, places_after, after, after_tree, Leads}
 use Rattle.cert_scan.specs.Scans.{new_scan, scanned, given_all}
 use Rattle.cert_scan.specs.Versions.{version_of}
-use Rattle.cert_scan.specs.Parts.{parts_of, hub_parts, value_parts, weight_parts, tree_parts, none_left, open_values, open_weights}
+use Rattle.cert_scan.specs.Parts.{parts_of, hub_parts, mark_parts, value_parts, way_parts, weight_parts, tree_parts, none_left, open_mark, open_values, open_ways, open_weights}
 use Rattle.cert_scan.specs.Given.{IsBegun}
 use Rattle.cert_scan.specs.Runs.{Runs}
 use Rattle.cert_scan.specs.declared.items.Item.{Item}
-use Rattle.cert_scan.specs.declared.items.Item.TheVariants.{Version, Size, Cost, Bound, Hub, Route, Cuts, Cut, Dual, DualPair, Nodes, Branch, Leaf, LeafPair, Empty, Block, Count, End}
+use Rattle.cert_scan.specs.declared.items.Item.TheVariants.{Version, Size, Cost, Bound, Hub, Route, Cuts, Cut, CoreHub, Dual, DualPair, Proof, ProofPair, Nodes, Branch, Leaf, LeafPair, Empty, Block, Count, End}
 use Rattle.cert_scan.specs.declared.scanner.Scan.{Scan}
 use Rattle.cert_scan.proofs.ScanBytes.{scanned-append, given_all-append}
 use Rattle.cert_scan.proofs.Tracks.{scanned_given}
 use Rattle.cert_stream.specs.Steps.{IsCut}
-use Rattle.cert_stream.specs.Fed.{BeginsCut}
+use Rattle.cert_stream.specs.Fed.{BeginsCut, IsCutLine}
+use Rattle.cert_stream.proofs.Lists.{by_last}
+use Rattle.cert_stream.proofs.Parting.{mark_parts-last}
 
 -- what holds, holds where an error is returned
 pub on_err : {X Y : Type 0} (r : Result X Y) (P : Type 0) → P → OnErr r P
@@ -49,17 +52,22 @@ IsNoCut i = IsCut i → ⊥
 abbrev IsNoCount : Item → Type 0
 IsNoCount i = IsCount i → ⊥
 
--- it is one of a line that lists
+-- it is one of a line that lists, and ends none that begins a cut
 abbrev IsOfList : Item → Type 0
 IsOfList (Hub k last) = Unit {0}
+IsOfList (Cut number part last) = IsTrue last → ⊥
+IsOfList (CoreHub k last) = IsTrue last → ⊥
 IsOfList (Dual i j run a last) = Unit {0}
 IsOfList (DualPair k u last) = Unit {0}
+IsOfList (Proof turns scale last) = Unit {0}
+IsOfList (ProofPair k m often last) = Unit {0}
 IsOfList (Leaf denom last) = Unit {0}
 IsOfList (LeafPair c w last) = Unit {0}
 IsOfList other = ⊥
 
 list_no_cut : (i : Item) → IsOfList i → IsNoCut i
-list_no_cut (Cut number part) h = λ is. h
+list_no_cut (Cut number part last) h = h
+list_no_cut (CoreHub k last) h = h
 list_no_cut other h = λ is. is
 
 list_no_count : (i : Item) → IsOfList i → IsNoCount i
@@ -80,18 +88,47 @@ values_of_list : (u : List (ℕ × ℕ)) → All IsOfList (value_parts u)
 values_of_list [] = All-nil IsOfList
 values_of_list (e ∷ rest) = All-cons IsOfList (DualPair e.0 e.1 (none_left rest)) (value_parts rest) tt (values_of_list rest)
 
+ways_of_list : (ways : List Way) → All IsOfList (way_parts ways)
+ways_of_list [] = All-nil IsOfList
+ways_of_list (w ∷ rest) = All-cons IsOfList (ProofPair w.0 w.1 w.2 (none_left rest)) (way_parts rest) tt (ways_of_list rest)
+
+-- an item that goes on ends no line
+goes_on : IsTrue false → ⊥
+goes_on e = cc
+
+marks_of_list : (hubs : List ℕ) → All IsOfList (open_mark hubs)
+marks_of_list hubs = All-map IsOfList (λ (k : ℕ). CoreHub k false) hubs (each (λ (k : ℕ). IsOfList (CoreHub k false)) (λ k. goes_on) hubs)
+
+marks_no_count : (hubs : List ℕ) → All IsNoCount (mark_parts hubs)
+marks_no_count [] = All-nil IsNoCount
+marks_no_count (k ∷ rest) = All-cons IsNoCount (CoreHub k (none_left rest)) (mark_parts rest) (λ is. is) (marks_no_count rest)
+
 weights_of_list : (weights : List (ℕ × ℕ)) → All IsOfList (weight_parts weights)
 weights_of_list [] = All-nil IsOfList
 weights_of_list (e ∷ rest) = All-cons IsOfList (LeafPair e.0 e.1 (none_left rest)) (weight_parts rest) tt (weights_of_list rest)
+
+dual_of_list : (c : ℕ × ℕ) (run a : ℕ) (u : List (ℕ × ℕ)) → All IsOfList (Dual c.0 c.1 run a false ∷ open_values u)
+dual_of_list c run a u =
+    All-cons IsOfList (Dual c.0 c.1 run a false) (open_values u) tt
+    (All-map IsOfList (λ (e : ℕ × ℕ). DualPair e.0 e.1 false) u (each (λ (e : ℕ × ℕ). IsOfList (DualPair e.0 e.1 false)) (λ e. tt) u))
 
 -- what is given of a line whose end has not come is of a list
 begun_of_list : (stage : Stage) (given : List Item) → IsBegun stage given → All IsOfList given
 begun_of_list (want_hubs s) given h =
     subst (All IsOfList) (sym h.are) (All-map IsOfList (λ (k : ℕ). Hub k false) h.hubs (each (λ (k : ℕ). IsOfList (Hub k false)) (λ k. tt) h.hubs))
+begun_of_list (want_cut s all x) given (inl none) = subst (All IsOfList) (sym none) (All-nil IsOfList)
+begun_of_list (want_cut s all x) given (inr h) =
+    subst (All IsOfList) (sym h.are) (All-cons IsOfList (Cut (x + 1) h.part false) (open_mark h.hubs) goes_on (marks_of_list h.hubs))
+begun_of_list (want_proved s all x t) given (inl none) = subst (All IsOfList) (sym none) (All-nil IsOfList)
+begun_of_list (want_proved s all x t) given (inr h) = subst (All IsOfList) (sym h.are) (dual_of_list (commodity_at s.size t) 1 h.dual.a h.dual.u)
+begun_of_list (want_proof s all x t) given (inl none) = subst (All IsOfList) (sym none) (All-nil IsOfList)
+begun_of_list (want_proof s all x t) given (inr h) =
+    subst (All IsOfList) (sym h.are) (All-cons IsOfList (Proof h.proof.turns h.proof.scale false) (open_ways h.proof.ways) tt
+    (All-map IsOfList (λ (w : Way). ProofPair w.0 w.1 w.2 false) h.proof.ways
+    (each (λ (w : Way). IsOfList (ProofPair w.0 w.1 w.2 false)) (λ w. tt) h.proof.ways)))
 begun_of_list (want_dual s all x t before) given (inl none) = subst (All IsOfList) (sym none) (All-nil IsOfList)
 begun_of_list (want_dual s all x t before) given (inr h) =
-    subst (All IsOfList) (sym h.are) (All-cons IsOfList (Dual (commodity_at s.size t).0 (commodity_at s.size t).1 h.run h.dual.a false) (open_values h.dual.u) tt
-    (All-map IsOfList (λ (e : ℕ × ℕ). DualPair e.0 e.1 false) h.dual.u (each (λ (e : ℕ × ℕ). IsOfList (DualPair e.0 e.1 false)) (λ e. tt) h.dual.u)))
+    subst (All IsOfList) (sym h.are) (dual_of_list (commodity_at s.size t) h.run h.dual.a h.dual.u)
 begun_of_list (want_tree s places left) given (inl none) = subst (All IsOfList) (sym none) (All-nil IsOfList)
 begun_of_list (want_tree s places left) given (inr h) =
     subst (All IsOfList) (sym h.are) (All-cons IsOfList (Leaf h.denom false) (open_weights h.weights) tt
@@ -109,8 +146,36 @@ tree_no_cut no_hub = All-cons IsNoCut Empty [] (λ is. is) (All-nil IsNoCut)
 tree_no_cut (no_route commodity) = All-cons IsNoCut (Block commodity.0 commodity.1) [] (λ is. is) (All-nil IsNoCut)
 tree_no_cut no_count = All-cons IsNoCut Count [] (λ is. is) (All-nil IsNoCut)
 
+-- a line that begins a cut, whose last item ends it
+pub record EndsCut (line : Line) : Type 0 where
+  pub is_cut : IsCutLine line
+  pub front : List Item
+  pub last : Item
+  pub parts : parts_of line ≡ front ++ last ∷ []
+  pub none : All IsNoCut front
+  pub ends : IsCut last
+
+mark_or_none : (number part : ℕ) (hubs : List ℕ) → EndsCut (says_marked number part hubs) ⊎ All IsNoCut (parts_of (says_marked number part hubs))
+mark_or_none number part hubs =
+    elim (by_last hubs) as (λ v. EndsCut (says_marked number part hubs) ⊎ All IsNoCut (parts_of (says_marked number part hubs))) [
+      | inl none ↦ inr (All-cons IsNoCut (Cut number part false) (mark_parts hubs) goes_on
+          (subst (λ l. All IsNoCut (mark_parts l)) (sym none) (All-nil IsNoCut)))
+      | inr h ↦
+          let front = h.0 in
+          let k = h.1 in
+          inl (record {
+            is_cut = tt;
+            front = Cut number part false ∷ open_mark front;
+            last = CoreHub k true;
+            parts = ap (λ l. Cut number part false ∷ l) (ap mark_parts h.2 ∙ mark_parts-last front k);
+            none = All-cons IsNoCut (Cut number part false) (open_mark front) goes_on
+                (All-weaker IsOfList IsNoCut list_no_cut (open_mark front) (marks_of_list front));
+            ends = refl;
+          })
+    ]
+
 -- a line begins a cut, or none of its items does
-pub cut_or_none : (line : Line) → ((number : ℕ) × (part : Option ℕ) × (line ≡ says_cut number part)) ⊎ All IsNoCut (parts_of line)
+pub cut_or_none : (line : Line) → EndsCut line ⊎ All IsNoCut (parts_of line)
 cut_or_none (says_version v) = inr (All-cons IsNoCut (Version (version_of v)) [] (λ is. is) (All-nil IsNoCut))
 cut_or_none (says_size n q) = inr (All-cons IsNoCut (Size n q) [] (λ is. is) (All-nil IsNoCut))
 cut_or_none (says_cost c) = inr (All-cons IsNoCut (Cost c) [] (λ is. is) (All-nil IsNoCut))
@@ -119,10 +184,15 @@ cut_or_none (says_hubs hubs) = inr (All-weaker IsOfList IsNoCut list_no_cut (hub
 cut_or_none (says_route commodity route) =
     inr (All-cons IsNoCut (Route commodity.0 commodity.1 route.0 route.1) [] (λ is. is) (All-nil IsNoCut))
 cut_or_none (says_cuts all) = inr (All-cons IsNoCut (Cuts all) [] (λ is. is) (All-nil IsNoCut))
-cut_or_none (says_cut number part) = inl (number, part, refl)
+cut_or_none (says_cut number part) =
+    inl (record { is_cut = tt; front = []; last = Cut number (part_of part) true; parts = refl; none = All-nil IsNoCut; ends = refl })
+cut_or_none (says_marked number part hubs) = mark_or_none number part hubs
 cut_or_none (says_dual commodity run dual) =
     inr (All-cons IsNoCut (Dual commodity.0 commodity.1 run dual.a (none_left dual.u)) (value_parts dual.u) (λ is. is)
     (All-weaker IsOfList IsNoCut list_no_cut (value_parts dual.u) (values_of_list dual.u)))
+cut_or_none (says_proof proof) =
+    inr (All-cons IsNoCut (Proof proof.turns proof.scale (none_left proof.ways)) (way_parts proof.ways) (λ is. is)
+    (All-weaker IsOfList IsNoCut list_no_cut (way_parts proof.ways) (ways_of_list proof.ways)))
 cut_or_none (says_nodes all) = inr (All-cons IsNoCut (Nodes all) [] (λ is. is) (All-nil IsNoCut))
 cut_or_none (says_tree line) = inr (tree_no_cut line)
 cut_or_none says_end = inr (All-cons IsNoCut End [] (λ is. is) (All-nil IsNoCut))
@@ -186,7 +256,9 @@ line_in_turn (says_hubs hubs) stage rest w h none = list_in_turn (hub_parts hubs
 line_in_turn (says_route commodity route) stage rest w h none = ((λ is. absurd is), h)
 line_in_turn (says_cuts all) stage rest w h none = ((λ is. absurd is), h)
 line_in_turn (says_cut number part) stage rest w h none = ((λ is. absurd is), h)
+line_in_turn (says_marked number part hubs) stage rest w h none = ((λ is. absurd is), in_turn-append (mark_parts hubs) rest (marks_no_count hubs) h)
 line_in_turn (says_dual commodity run dual) stage rest w h none = ((λ is. absurd is), list_in_turn (value_parts dual.u) rest (values_of_list dual.u) h)
+line_in_turn (says_proof proof) stage rest w h none = ((λ is. absurd is), list_in_turn (way_parts proof.ways) rest (ways_of_list proof.ways) h)
 line_in_turn (says_nodes all) (want_nodes s) rest w h none = ((λ is. none tt), h)
 line_in_turn (says_nodes all) stage rest w h none = absurd w
 line_in_turn (says_tree line) stage rest w h none = tree_in_turn line rest h
@@ -200,13 +272,13 @@ lines_in_turn stage (line ∷ lines) last more lead begun =
     (line_in_turn line stage (flat_map parts_of lines ++ more) lead.0 (lines_in_turn (after stage line) lines last more lead.1 begun)
     (λ h. tree_lines_no_cut (after stage line) lines last more h lead.1 begun))
 
-no_cut_behind : (xs ys : List Item) (all number part : ℕ) → InTurn (xs ++ ys) → Contains xs (Nodes all) → Contains ys (Cut number part) → ⊥
-no_cut_behind [] ys all number part h counts cut = absurd (omega (arith, counts.1))
-no_cut_behind (x ∷ xs) ys all number part h counts cut =
-    let behind : IsNoCount x = λ is. All-contains IsNoCut (xs ++ ys) (Cut number part) (h.0 is) (Contains-append_right xs ys (Cut number part) cut) tt in
+no_cut_behind : (xs ys : List Item) (all : ℕ) (i : Item) → InTurn (xs ++ ys) → Contains xs (Nodes all) → Contains ys i → IsCut i → ⊥
+no_cut_behind [] ys all i h counts cut is = absurd (omega (arith, counts.1))
+no_cut_behind (x ∷ xs) ys all i h counts cut is =
+    let behind : IsNoCount x = λ counts_it. All-contains IsNoCut (xs ++ ys) i (h.0 counts_it) (Contains-append_right xs ys i cut) is in
     elim (Contains-append_cases (x ∷ []) xs (Nodes all) counts) [
       | inl here ↦ All-contains IsNoCount (x ∷ []) (Nodes all) (All-cons IsNoCount x [] behind (All-nil IsNoCount)) here tt
-      | inr later ↦ no_cut_behind xs ys all number part h.1 later cut
+      | inr later ↦ no_cut_behind xs ys all i h.1 later cut is
     ]
 
 -- once the number of the tree's lines has come, no piece begins a cut
@@ -214,23 +286,17 @@ pub no_cut_once_counted : (bytes piece : List ℕ) → CountsTree (items_in byte
 no_cut_once_counted bytes piece counts cut =
     let all = scanned_given (bytes ++ piece) (given_all new_scan (bytes ++ piece)) (scanned new_scan (bytes ++ piece)) (record { reached = refl; gives = refl }) in
     let in_turn : InTurn (given_all new_scan (bytes ++ piece)) = subst InTurn (sym all.are) (lines_in_turn want_version all.lines all.stage all.more all.lead all.begun) in
-    no_cut_behind (items_in bytes) (items_behind bytes piece) counts.0 cut.0 cut.1 (subst InTurn (given_all-append new_scan bytes piece) in_turn) counts.1 cut.2
+    no_cut_behind (items_in bytes) (items_behind bytes piece) counts.0 cut.0 (subst InTurn (given_all-append new_scan bytes piece) in_turn) counts.1 cut.1 cut.2
 
 -- ---- the item that is refused
-
-cut_numbers : (i : Item) → IsCut i → (number part : ℕ) × (i ≡ Cut number part)
-cut_numbers (Cut number part) h = (number, part, refl)
-cut_numbers other h = absurd h
 
 -- it is one that the bytes give
 pub run_begins_cut : (old new : Scan) (bytes : List ℕ) (taken : ℕ) (i : Item) → Runs old bytes taken (Some i) new → IsCut i → BeginsCut (given_all old bytes)
 run_begins_cut old new bytes taken i r is =
-    let cut = cut_numbers i is in
     let later = given_all (scanned old (take taken bytes)) (drop taken bytes) in
-    let all : given_all old bytes ≡ Cut cut.0 cut.1 ∷ later =
-    ap (given_all old) (sym (take-append-drop taken bytes)) ∙ given_all-append old (take taken bytes) (drop taken bytes)
-    ∙ ap (λ g. g ++ later) (r.given ∙ ap (λ x. x ∷ []) cut.2) in
-    (cut.0, cut.1, subst (λ g. Contains g (Cut cut.0 cut.1)) (sym all) (0, omega arith, refl))
+    let all : given_all old bytes ≡ i ∷ later =
+    ap (given_all old) (sym (take-append-drop taken bytes)) ∙ given_all-append old (take taken bytes) (drop taken bytes) ∙ ap (λ g. g ++ later) r.given in
+    (i, subst (λ g. Contains g i) (sym all) (0, omega arith, refl), is)
 
 -- and so one that the whole piece gives
 pub later_begins_cut : (bytes piece : List ℕ) (at : ℕ) (old now : Scan) → scanned new_scan bytes ≡ old → scanned new_scan (bytes ++ take at piece) ≡ now
@@ -241,4 +307,4 @@ later_begins_cut bytes piece at old now first second cut =
     let all : given_all old piece ≡ given_all old (take at piece) ++ given_all now rest =
     ap (given_all old) (sym (take-append-drop at piece)) ∙ given_all-append old (take at piece) (drop at piece)
     ∙ (λ i. given_all old (take at piece) ++ given_all (there i) (sym (take_rest piece at) i)) in
-    (cut.0, cut.1, subst (λ g. Contains g (Cut cut.0 cut.1)) (sym all) (Contains-append_right (given_all old (take at piece)) (given_all now rest) (Cut cut.0 cut.1) cut.2))
+    (cut.0, subst (λ g. Contains g cut.0) (sym all) (Contains-append_right (given_all old (take at piece)) (given_all now rest) cut.0 cut.1), cut.2)

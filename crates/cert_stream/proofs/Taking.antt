@@ -1,27 +1,33 @@
 -- One item of any line.
-use Rattle.std.proofs.Common.{◌≡◌, ℕ, ◌-◌, true, false, List, [], ◌∷◌, ◌++◌, Option, None, inl, inr, refl, sym, ap, subst, ◌∙◌}
+use Rattle.std.proofs.Common.{◌≡◌, ℕ, ◌-◌, ◌%◌, ◌<◌, ◌≤◌, All, arith, true, false, List, [], ◌∷◌, ◌++◌, None, inl, inr, refl, sym, ap, subst, ◌∙◌}
+use Rattle.std.specs.List.Sorted.{IsStrictlyIncreasing}
+use Rattle.std.proofs.Math.Nat.{mod-lt}
 use Rattle.hub_spec.specs.Cuts.{Prices}
+use Rattle.core_spec.specs.CoreCuts.{Way, CoreProof}
+use Rattle.core_spec.specs.MarkRanges.{IsProofInRange}
 use Rattle.hub_spec.specs.Trees.{branch_on, leaf_of, no_hub, no_route, no_count}
 use Rattle.hub_spec.specs.Problem.{commodity_at}
 use Rattle.hub_spec.specs.Ranges.{IsDualInRange, IsLineInRange}
-use Rattle.cert_spec.specs.Lines.{part_of, Item as Line, says_version, says_size, says_cost, says_bound, says_hubs, says_route, says_cuts, says_cut, says_dual, says_nodes, says_tree, says_end}
-use Rattle.cert_spec.specs.Grammar.{Shape, Stage, want_version, want_size, want_end, want_cost, want_bound, want_hubs, want_cuts, want_nodes, want_route, want_cut, want_dual, want_tree, IsRun, IsOpen, Wants}
+use Rattle.cert_spec.specs.Lines.{part_of, Item as Line, says_version, says_size, says_cost, says_bound, says_hubs, says_route, says_cuts, says_cut, says_marked, says_dual, says_proof, says_nodes, says_tree, says_end}
+use Rattle.cert_spec.specs.Grammar.{Shape, Stage, want_version, want_size, want_end, want_cost, want_bound, want_hubs, want_cuts, want_nodes, want_route, want_cut, want_dual, want_proved, want_proof, want_tree, IsRun, IsOpen, Wants}
 use Rattle.cert_spec.specs.Progress.{Progress}
 use Rattle.dual_lines.specs.Lines.{ListedDual}
 use Rattle.cert_scan.specs.Versions.{version_of}
 use Rattle.cert_scan.specs.declared.items.Item.{Item}
-use Rattle.cert_scan.specs.declared.items.Item.TheVariants.{Version, Size, Cost, Bound, Hub, Route, Cuts, Cut, Dual, DualPair, Nodes, Branch, Leaf, LeafPair, Empty, Block, Count, End}
-use Rattle.cert_stream.specs.Steps.{IsTaken, MayCome, begun_dual, with_value, dual_with, leaf_with, LeafEnds}
-use Rattle.cert_stream.specs.Taken.{Part, nothing, some_hubs, some_values, some_weights, IsPart, StandsFirm, Lists, Keeps}
+use Rattle.cert_scan.specs.declared.items.Item.TheVariants.{Version, Size, Cost, Bound, Hub, Route, Cuts, Cut, CoreHub, Dual, DualPair, Proof, ProofPair, Nodes, Branch, Leaf, LeafPair, Empty, Block, Count, End}
+use Rattle.cert_stream.specs.Steps.{IsTaken, MayCome, begun_dual, with_value, dual_with, DualEnds, proof_with, leaf_with, LeafEnds}
+use Rattle.cert_stream.specs.Taken.{Part, nothing, some_hubs, some_mark, some_values, some_ways, some_weights, IsPart, StandsFirm, Lists, Marked, DualsKept, Keeps}
 use Rattle.cert_stream.specs.declared.checks.Checks.{Checks}
 use Rattle.cert_stream.specs.Sums.{CutTally, last_of}
 use Rattle.cert_stream.proofs.Loads.{last_of-last}
-use Rattle.cert_stream.proofs.Parting.{Growing, Closing}
+use Rattle.cert_stream.proofs.Parting.{by_ways, Growing, Closing}
 use Rattle.cert_stream.proofs.Kept.{Closed, Grown}
 use Rattle.cert_stream.proofs.PlanSteps.{close_version, close_size, close_cost, close_bound, grow_hub, close_hubs, close_route}
 use Rattle.cert_stream.proofs.CutSteps.{close_cuts, close_cut, dual_firm, grow_dual, close_dual}
+use Rattle.cert_stream.proofs.MarkSteps.{grow_cut, grow_mark, close_mark, close_proved, begun_proof, more_ways, close_proof}
 use Rattle.cert_stream.proofs.TreeSteps.{close_nodes, close_end, close_branch, close_empty, close_block, close_count, begun_leaf, weighed_as, weighed_leaf, close_leaf}
 use Rattle.cert_stream.proofs.MayCome.{may_hub, may_route, may_cut, may_dual, may_value, may_fill, may_block, may_end_leaf, may_weight}
+use Rattle.cert_stream.proofs.MayProve.{may_mark_hub, may_proof, may_way}
 
 -- what an item is for a check that keeps what it should: it may come, and so it leaves the check
 pub record IsSafe (c : Checks) (i : Item) (After : Checks → Type 0) : Type 0 where
@@ -63,9 +69,9 @@ more_listed d part commodity run a front e h = record {
 }
 
 -- the dual of a run that begins
-begun_listed : (c : Checks) (s : Progress) (sh : Shape) (all x t : ℕ) (before : Option Prices) (part : Part) (commodity : ℕ × ℕ) (run a : ℕ)
-    → Keeps c s (want_dual sh all x t before) part → Lists (begun_dual c commodity run a) s.part commodity run (record { a = a; u = [] })
-begun_listed c s sh all x t before part commodity run a keeps =
+begun_listed : (c : Checks) (s : Progress) (sh : Shape) (t : ℕ) (part : Part) (commodity : ℕ × ℕ) (run a : ℕ) → DualsKept c s sh t part
+    → Lists (begun_dual c commodity run a) s.part commodity run (record { a = a; u = [] })
+begun_listed c s sh t part commodity run a keeps =
     let d = keeps.1 in
     record {
       commodity_is = refl;
@@ -74,32 +80,88 @@ begun_listed c s sh all x t before part commodity run a keeps =
       dual_is = refl;
     }
 
-grows_dual : (c : Checks) (s : Progress) (sh : Shape) (all x t : ℕ) (prior : Option Prices) (commodity : ℕ × ℕ) (run a : ℕ) (u : List (ℕ × ℕ))
-    (before : Part) (i : Item) → commodity ≡ commodity_at sh.size t → IsRun sh t run → IsDualInRange sh.size (record { a = a; u = u })
-    → Growing (some_values commodity run (record { a = a; u = u })) before i → StandsFirm c s → Keeps c s (want_dual sh all x t prior) before
-    → IsSafe c i (Grown c s (want_dual sh all x t prior) (some_values commodity run (record { a = a; u = u })))
-grows_dual c s sh all x t prior commodity run a u before i at is_run range (inl g) st keeps =
-    let stage = want_dual sh all x t prior in
-    let D : List (ℕ × ℕ) → Prices = λ l. record { a = a; u = l } in
-    by_item c i (Dual commodity.0 commodity.1 run a false) (Grown c s stage (some_values commodity run (D u))) g.2
+grows_mark : (c : Checks) (s : Progress) (sh : Shape) (all x number part : ℕ) (hubs : List ℕ) (before : Part) (i : Item)
+    → IsPart (want_cut sh all x) (some_mark number part hubs) → Growing (some_mark number part hubs) before i → StandsFirm c s
+    → Keeps c s (want_cut sh all x) before → IsSafe c i (Grown c s (want_cut sh all x) (some_mark number part hubs))
+grows_mark c s sh all x number part hubs before i may (inl g) st keeps =
+    let at = want_cut sh all x in
+    by_item c i (Cut number part false) (Grown c s at (some_mark number part hubs)) g.2
     (record {
-      may = may_dual c s sh all x t prior commodity run a before st keeps at is_run range.a;
-      leaves = λ new h. subst (λ l. Grown c s stage (some_values commodity run (D l)) new) (sym g.0)
-          (grow_dual c s sh all x t prior commodity run (D []) (begun_dual c commodity run a) new st before keeps refl
-          (begun_listed c s sh all x t prior before commodity run a keeps) h);
+      may = record { least = may.1; most = may.2 };
+      leaves = λ new h. subst (λ l. Grown c s at (some_mark number part l) new) (sym g.0)
+          (grow_cut c s sh all x number part new st (keeps_at c s at before nothing g.1 keeps) h);
     })
-grows_dual c s sh all x t prior commodity run a u before i at is_run range (inr g) st keeps =
-    let stage = want_dual sh all x t prior in
+grows_mark c s sh all x number part hubs before i may (inr g) st keeps =
+    let at = want_cut sh all x in
+    let front = g.0 in
+    let k = g.1 in
+    let kept = keeps_at c s at before (some_mark number part front) g.3 keeps in
+    by_item c i (CoreHub k false) (Grown c s at (some_mark number part hubs)) g.4
+    (record {
+      may = may_mark_hub c s sh all x number part front k st kept (subst IsStrictlyIncreasing g.2 may.3) (subst (All (λ (m : ℕ). m < sh.size)) g.2 may.4);
+      leaves = λ new h. subst (λ l. Grown c s at (some_mark number part l) new) (sym g.2) (grow_mark c s sh all x number part front k new st kept h);
+    })
+
+-- a dual that grows at a stage of duals, whether the cut is marked or not; what is known of the mark is M
+grows_dual : (c : Checks) (s : Progress) (sh : Shape) (at : Stage) (t : ℕ) (commodity : ℕ × ℕ) (run a : ℕ) (u : List (ℕ × ℕ)) (before : Part) (i : Item)
+    (M : Type 0) → ((listed : ListedDual) (part : Part) → DualsKept (dual_with c listed) s sh t part × M → Keeps (dual_with c listed) s at part)
+    → ((part : Part) → Keeps c s at part → DualsKept c s sh t part × M) → commodity ≡ commodity_at sh.size t → IsRun sh t run
+    → IsDualInRange sh.size (record { a = a; u = u }) → Growing (some_values commodity run (record { a = a; u = u })) before i → StandsFirm c s
+    → Keeps c s at before → IsSafe c i (Grown c s at (some_values commodity run (record { a = a; u = u })))
+grows_dual c s sh at t commodity run a u before i M into from place is_run range (inl g) st keeps =
+    let D : List (ℕ × ℕ) → Prices = λ l. record { a = a; u = l } in
+    let k = from before keeps in
+    let listed = begun_dual c commodity run a in
+    by_item c i (Dual commodity.0 commodity.1 run a false) (Grown c s at (some_values commodity run (D u))) g.2
+    (record {
+      may = may_dual c s sh t commodity run a before st k.0 place is_run range.a;
+      leaves = λ new h. subst (λ l. Grown c s at (some_values commodity run (D l)) new) (sym g.0)
+          (grow_dual c s sh at t commodity run (D []) listed new before st k.0 (λ d. into listed (some_values commodity run (D [])) (d, k.1)) refl
+          (begun_listed c s sh t before commodity run a k.0) h);
+    })
+grows_dual c s sh at t commodity run a u before i M into from place is_run range (inr g) st keeps =
     let D : List (ℕ × ℕ) → Prices = λ l. record { a = a; u = l } in
     let front = g.0 in
     let e = g.1 in
-    let kept = keeps_at c s stage before (some_values commodity run (D front)) g.3 keeps in
-    by_item c i (DualPair e.0 e.1 false) (Grown c s stage (some_values commodity run (D u))) g.4
+    let part = some_values commodity run (D front) in
+    let more = some_values commodity run (D (front ++ e ∷ [])) in
+    let listed = with_value c.dual e in
+    let k = from part (keeps_at c s at before part g.3 keeps) in
+    by_item c i (DualPair e.0 e.1 false) (Grown c s at (some_values commodity run (D u))) g.4
     (record {
-      may = may_value c s sh all x t prior commodity run a front e st kept is_run (subst (λ l. IsDualInRange sh.size (D l)) g.2 range);
-      leaves = λ new h. subst (λ l. Grown c s stage (some_values commodity run (D l)) new) (sym g.2)
-          (grow_dual c s sh all x t prior commodity run (D (front ++ e ∷ [])) (with_value c.dual e) new st before keeps refl
-          (more_listed c.dual s.part commodity run a front e kept.2) h);
+      may = may_value c s sh t commodity run a front e st k.0 is_run (subst (λ l. IsDualInRange sh.size (D l)) g.2 range);
+      leaves = λ new h. subst (λ l. Grown c s at (some_values commodity run (D l)) new) (sym g.2)
+          (grow_dual c s sh at t commodity run (D (front ++ e ∷ [])) listed new part st k.0 (λ d. into listed more (d, k.1)) refl
+          (more_listed c.dual s.part commodity run a front e k.0.2) h);
+    })
+
+grows_ways : (c : Checks) (s : Progress) (sh : Shape) (all x t : ℕ) (proof : CoreProof) (before : Part) (i : Item) → IsProofInRange sh.size proof
+    → Growing (some_ways proof) before i → StandsFirm c s → Keeps c s (want_proof sh all x t) before
+    → IsSafe c i (Grown c s (want_proof sh all x t) (some_ways proof))
+grows_ways c s sh all x t proof before i range (inl g) st keeps =
+    let at = want_proof sh all x t in
+    by_item c i (Proof proof.turns proof.scale false) (Grown c s at (some_ways proof)) g.2
+    (record {
+      may = may_proof c s sh all x t proof.turns proof.scale proof.ways before st keeps range;
+      leaves = λ new h.
+          let r = begun_proof c s sh all x t proof.turns proof.scale h.proof st (keeps_at c s at before nothing g.1 keeps) h.begun in
+          subst (λ (l : List Way). Grown c s at (some_ways (by_ways proof l)) new) (sym g.0)
+          (subst (λ n. Grown c s at (some_ways (by_ways proof [])) n) (sym h.goes)
+          (record { same = refl; line_is = refl; failure_is = refl; firm = r.0; keeps = r.1 }));
+    })
+grows_ways c s sh all x t proof before i range (inr g) st keeps =
+    let at = want_proof sh all x t in
+    let front = g.0 in
+    let w = g.1 in
+    let kept = keeps_at c s at before (some_ways (by_ways proof front)) g.3 keeps in
+    by_item c i (ProofPair w.0 w.1 w.2 false) (Grown c s at (some_ways proof)) g.4
+    (record {
+      may = may_way c s sh all x t proof front w st kept (subst (λ (l : List Way). IsProofInRange sh.size (by_ways proof l)) g.2 range);
+      leaves = λ new h.
+          let r = more_ways c s sh all x t proof front w h.proof st kept h.added in
+          subst (λ (l : List Way). Grown c s at (some_ways (by_ways proof l)) new) (sym g.2)
+          (subst (λ n. Grown c s at (some_ways (by_ways proof (front ++ w ∷ []))) n) (sym h.goes)
+          (record { same = refl; line_is = refl; failure_is = refl; firm = r.0; keeps = r.1 }));
     })
 
 grows_leaf : (c : Checks) (s : Progress) (sh : Shape) (places left denom : ℕ) (weights : List (ℕ × ℕ)) (before : Part) (i : Item)
@@ -134,11 +196,25 @@ grows_leaf c s sh places left denom weights before i range (inr g) st keeps =
           (record { same = refl; line_is = refl; failure_is = refl; firm = r.0; keeps = r.1 }));
     })
 
+-- a dual of a marked cut is a run of one
+proved_run : (c : Checks) (s : Progress) (sh : Shape) (all x t : ℕ) (part : Part) (run : ℕ) → StandsFirm c s → Keeps c s (want_proved sh all x t) part
+    → run ≡ 1 → IsRun sh t run
+proved_run c s sh all x t part run st keeps one =
+    let some : 1 ≤ sh.size = omega (arith, st.problem.some_node, keeps.0.0.wanted_is) in
+    let column : t % sh.size < sh.size = mod-lt t some in
+    (omega (arith, one), omega (arith, one, column), λ first. one)
+
 pub grows : (at : Stage) (part before : Part) (i : Item) (c : Checks) (s : Progress) → IsPart at part → Growing part before i → StandsFirm c s
     → Keeps c s at before → IsSafe c i (Grown c s at part)
 grows (want_hubs sh) (some_hubs hubs) before i c s may g st keeps = grows_hubs c s sh hubs before i may g st keeps
+grows (want_cut sh all x) (some_mark number part hubs) before i c s may g st keeps = grows_mark c s sh all x number part hubs before i may g st keeps
 grows (want_dual sh all x t prior) (some_values commodity run dual) before i c s may g st keeps =
-    grows_dual c s sh all x t prior commodity run dual.a dual.u before i may.0 may.1 may.2 g st keeps
+    grows_dual c s sh (want_dual sh all x t prior) t commodity run dual.a dual.u before i (s.mark ≡ None) (λ listed part k. k) (λ part k. k)
+    may.0 may.1 may.2 g st keeps
+grows (want_proved sh all x t) (some_values commodity run dual) before i c s may g st keeps =
+    grows_dual c s sh (want_proved sh all x t) t commodity run dual.a dual.u before i (Marked c s) (λ listed part k. k) (λ part k. k)
+    may.0 (proved_run c s sh all x t before run st keeps may.1) may.2 g st keeps
+grows (want_proof sh all x t) (some_ways proof) before i c s may g st keeps = grows_ways c s sh all x t proof before i may g st keeps
 grows (want_tree sh places left) (some_weights denom weights) before i c s may g st keeps =
     grows_leaf c s sh places left denom weights before i may g st keeps
 grows at nothing before i c s may g st keeps = absurd g
@@ -160,35 +236,79 @@ closes_hubs c s sh hubs before i e wants g st keeps =
       leaves = λ new h. close_hubs c s sh front k new e st kept h;
     }) wants)
 
-closes_dual : (c : Checks) (s : Progress) (sh : Shape) (all x t : ℕ) (prior : Option Prices) (commodity : ℕ × ℕ) (run a : ℕ) (u : List (ℕ × ℕ))
-    (before : Part) (i : Item) → c.line ≡ s.line → commodity ≡ commodity_at sh.size t → IsRun sh t run
+closes_mark : (c : Checks) (s : Progress) (sh : Shape) (all x number part : ℕ) (hubs : List ℕ) (before : Part) (i : Item) → c.line ≡ s.line
+    → Wants (want_cut sh all x) (says_marked number part hubs) → Closing (says_marked number part hubs) before i → StandsFirm c s
+    → Keeps c s (want_cut sh all x) before → IsSafe c i (Closed c s (want_cut sh all x) (says_marked number part hubs))
+closes_mark c s sh all x number part hubs before i e wants g st keeps =
+    let at = want_cut sh all x in
+    let front = g.0 in
+    let k = g.1 in
+    let kept = keeps_at c s at before (some_mark number part front) g.3 keeps in
+    by_item c i (CoreHub k true) (Closed c s at (says_marked number part hubs)) g.4
+    (subst (λ hs. Wants at (says_marked number part hs) → IsSafe c (CoreHub k true) (Closed c s at (says_marked number part hs))) (sym g.2)
+    (λ w. record {
+      may = may_mark_hub c s sh all x number part front k st kept w.1.3.ascend w.1.3.nodes;
+      leaves = λ new h. close_mark c s sh all x number part front k new e w st kept h;
+    }) wants)
+
+-- a dual that ends at a stage of duals, whether the cut is marked or not; what is known of the mark is M
+closes_dual : (c : Checks) (s : Progress) (sh : Shape) (at : Stage) (t : ℕ) (commodity : ℕ × ℕ) (run a : ℕ) (u : List (ℕ × ℕ)) (before : Part)
+    (i : Item) (M : Type 0) → ((part : Part) → Keeps c s at part → DualsKept c s sh t part × M)
+    → ((listed : ListedDual) (dual : Prices) (new : Checks) → StandsFirm (dual_with c listed) s
+    → DualsKept (dual_with c listed) s sh t (some_values commodity run dual) × M → DualEnds (dual_with c listed) new
+    → Closed c s at (says_dual commodity run dual) new) → commodity ≡ commodity_at sh.size t → IsRun sh t run
     → IsDualInRange sh.size (record { a = a; u = u }) → Closing (says_dual commodity run (record { a = a; u = u })) before i → StandsFirm c s
-    → Keeps c s (want_dual sh all x t prior) before
-    → IsSafe c i (Closed c s (want_dual sh all x t prior) (says_dual commodity run (record { a = a; u = u })))
-closes_dual c s sh all x t prior commodity run a u before i line at is_run range (inl g) st keeps =
-    let stage = want_dual sh all x t prior in
+    → Keeps c s at before → IsSafe c i (Closed c s at (says_dual commodity run (record { a = a; u = u })))
+closes_dual c s sh at t commodity run a u before i M from close place is_run range (inl g) st keeps =
     let D : List (ℕ × ℕ) → Prices = λ l. record { a = a; u = l } in
     let listed = begun_dual c commodity run a in
-    by_item c i (Dual commodity.0 commodity.1 run a true) (Closed c s stage (says_dual commodity run (D u))) g.2
+    let k = from before keeps in
+    by_item c i (Dual commodity.0 commodity.1 run a true) (Closed c s at (says_dual commodity run (D u))) g.2
     (record {
-      may = may_dual c s sh all x t prior commodity run a before st keeps at is_run range.a;
-      leaves = λ new h. subst (λ l. Closed c s stage (says_dual commodity run (D l)) new) (sym g.0)
-          (close_dual (dual_with c listed) s sh all x t prior commodity run (D []) new line at is_run (dual_firm c s listed st refl)
-          (keeps.0, keeps.1, begun_listed c s sh all x t prior before commodity run a keeps) h);
+      may = may_dual c s sh t commodity run a before st k.0 place is_run range.a;
+      leaves = λ new h. subst (λ l. Closed c s at (says_dual commodity run (D l)) new) (sym g.0)
+          (close listed (D []) new (dual_firm c s listed st refl) ((k.0.0, k.0.1, begun_listed c s sh t before commodity run a k.0, k.0.3), k.1) h);
     })
-closes_dual c s sh all x t prior commodity run a u before i line at is_run range (inr g) st keeps =
-    let stage = want_dual sh all x t prior in
+closes_dual c s sh at t commodity run a u before i M from close place is_run range (inr g) st keeps =
     let D : List (ℕ × ℕ) → Prices = λ l. record { a = a; u = l } in
     let front = g.0 in
     let e = g.1 in
+    let part = some_values commodity run (D front) in
     let listed = with_value c.dual e in
-    let kept = keeps_at c s stage before (some_values commodity run (D front)) g.3 keeps in
-    by_item c i (DualPair e.0 e.1 true) (Closed c s stage (says_dual commodity run (D u))) g.4
+    let k = from part (keeps_at c s at before part g.3 keeps) in
+    by_item c i (DualPair e.0 e.1 true) (Closed c s at (says_dual commodity run (D u))) g.4
     (record {
-      may = may_value c s sh all x t prior commodity run a front e st kept is_run (subst (λ l. IsDualInRange sh.size (D l)) g.2 range);
-      leaves = λ new h. subst (λ l. Closed c s stage (says_dual commodity run (D l)) new) (sym g.2)
-          (close_dual (dual_with c listed) s sh all x t prior commodity run (D (front ++ e ∷ [])) new line at is_run (dual_firm c s listed st refl)
-          (kept.0, kept.1, more_listed c.dual s.part commodity run a front e kept.2) h);
+      may = may_value c s sh t commodity run a front e st k.0 is_run (subst (λ l. IsDualInRange sh.size (D l)) g.2 range);
+      leaves = λ new h. subst (λ l. Closed c s at (says_dual commodity run (D l)) new) (sym g.2)
+          (close listed (D (front ++ e ∷ [])) new (dual_firm c s listed st refl)
+          ((k.0.0, k.0.1, more_listed c.dual s.part commodity run a front e k.0.2, k.0.3), k.1) h);
+    })
+
+closes_proof : (c : Checks) (s : Progress) (sh : Shape) (all x t : ℕ) (proof : CoreProof) (before : Part) (i : Item) → c.line ≡ s.line
+    → IsProofInRange sh.size proof → Closing (says_proof proof) before i → StandsFirm c s → Keeps c s (want_proof sh all x t) before
+    → IsSafe c i (Closed c s (want_proof sh all x t) (says_proof proof))
+closes_proof c s sh all x t proof before i line range (inl g) st keeps =
+    let at = want_proof sh all x t in
+    by_item c i (Proof proof.turns proof.scale true) (Closed c s at (says_proof proof)) g.2
+    (record {
+      may = may_proof c s sh all x t proof.turns proof.scale proof.ways before st keeps range;
+      leaves = λ new h.
+          let r = begun_proof c s sh all x t proof.turns proof.scale h.proof st (keeps_at c s at before nothing g.1 keeps) h.begun in
+          subst (λ (l : List Way). Closed c s at (says_proof (by_ways proof l)) new) (sym g.0)
+          (close_proof (proof_with c h.proof) s sh all x t (by_ways proof []) new line range.some_scale r.0 r.1 h.goes);
+    })
+closes_proof c s sh all x t proof before i line range (inr g) st keeps =
+    let at = want_proof sh all x t in
+    let front = g.0 in
+    let w = g.1 in
+    let kept = keeps_at c s at before (some_ways (by_ways proof front)) g.3 keeps in
+    by_item c i (ProofPair w.0 w.1 w.2 true) (Closed c s at (says_proof proof)) g.4
+    (record {
+      may = may_way c s sh all x t proof front w st kept (subst (λ (l : List Way). IsProofInRange sh.size (by_ways proof l)) g.2 range);
+      leaves = λ new h.
+          let r = more_ways c s sh all x t proof front w h.proof st kept h.added in
+          subst (λ (l : List Way). Closed c s at (says_proof (by_ways proof l)) new) (sym g.2)
+          (close_proof (proof_with c h.proof) s sh all x t (by_ways proof (front ++ w ∷ [])) new line range.some_scale r.0 r.1 h.goes);
     })
 
 closes_leaf : (c : Checks) (s : Progress) (sh : Shape) (places left denom : ℕ) (weights : List (ℕ × ℕ)) (before : Part) (i : Item) → c.line ≡ s.line
@@ -250,13 +370,21 @@ closes (want_cuts sh) (says_cuts all) before i c s e w g st keeps =
     by_item c i (Cuts all) (Closed c s (want_cuts sh) (says_cuts all)) g.1
     (record { may = tt; leaves = λ new h. close_cuts c s sh all new st (keeps_at c s (want_cuts sh) before nothing g.0 keeps) h })
 closes (want_cut sh all x) (says_cut number part) before i c s e w g st keeps =
-    by_item c i (Cut number (part_of part)) (Closed c s (want_cut sh all x) (says_cut number part)) g.1
+    by_item c i (Cut number (part_of part) true) (Closed c s (want_cut sh all x) (says_cut number part)) g.1
     (record {
       may = may_cut sh.version part w.1;
       leaves = λ new h. close_cut c s sh all x number part new st (keeps_at c s (want_cut sh all x) before nothing g.0 keeps) h;
     })
+closes (want_cut sh all x) (says_marked number part hubs) before i c s e w g st keeps =
+    closes_mark c s sh all x number part hubs before i e w g st keeps
 closes (want_dual sh all x t prior) (says_dual commodity run dual) before i c s e w g st keeps =
-    closes_dual c s sh all x t prior commodity run dual.a dual.u before i e w.0 w.1 w.2 g st keeps
+    closes_dual c s sh (want_dual sh all x t prior) t commodity run dual.a dual.u before i (s.mark ≡ None) (λ part k. k)
+    (λ listed d new firm k h. close_dual (dual_with c listed) s sh all x t prior commodity run d new e w.0 w.1 firm k h) w.0 w.1 w.2 g st keeps
+closes (want_proved sh all x t) (says_dual commodity run dual) before i c s e w g st keeps =
+    let is_run = proved_run c s sh all x t before run st keeps w.1 in
+    closes_dual c s sh (want_proved sh all x t) t commodity run dual.a dual.u before i (Marked c s) (λ part k. k)
+    (λ listed d new firm k h. close_proved (dual_with c listed) s sh all x t commodity run d new e w.0 is_run w.1 firm k h) w.0 is_run w.2 g st keeps
+closes (want_proof sh all x t) (says_proof proof) before i c s e w g st keeps = closes_proof c s sh all x t proof before i e w g st keeps
 closes (want_nodes sh) (says_nodes all) before i c s e w g st keeps =
     by_item c i (Nodes all) (Closed c s (want_nodes sh) (says_nodes all)) g.1
     (record { may = tt; leaves = λ new h. close_nodes c s sh all new st (keeps_at c s (want_nodes sh) before nothing g.0 keeps) h })

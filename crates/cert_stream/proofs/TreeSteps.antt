@@ -346,6 +346,7 @@ leaf_firm : (c : Checks) (s : Progress) (sums : Tally) (failure : Option code.Ki
 leaf_firm c s sums failure st long = record {
   problem = st.problem;
   dual_is = st.dual_is;
+  proof_is = st.proof_is;
   size_is = st.size_is;
   candidates_are = st.candidates_are;
   long = long ∙ st.long;

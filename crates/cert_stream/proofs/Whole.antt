@@ -1,15 +1,15 @@
 -- A check as the items that have come make it, with one more.
-use Rattle.std.proofs.Common.{◌≡◌, ◌≢◌, ℕ, ◌+◌, ◌-◌, ◌*◌, ◌^◌, ◌<◌, Bool, true, false, cond, nat_eq, List, [], ◌∷◌, ◌++◌, length, replicate, flat_map, Option, Some, None, ◌⊎◌, inl, inr, refl, sym, ap, subst, ◌∙◌, append-nil, arith, ⊎_elim}
-use Rattle.hub_spec.specs.Problem.{Problem, commodity_at}
-use Rattle.hub_spec.specs.Certificates.{Proof}
-use Rattle.hub_spec.specs.Ranges.{IsInRange}
-use Rattle.cert_spec.specs.Lines.{Item as Line, says_version, says_size, says_cost, says_bound, says_hubs, says_route, says_cuts, says_cut, says_dual, says_nodes, says_tree, says_end}
+use Rattle.std.proofs.Common.{◌≡◌, ◌≢◌, ℕ, ◌+◌, ◌-◌, ◌*◌, ◌^◌, ◌<◌, Bool, true, false, ◌&&◌, is_none, cond, nat_eq, List, [], ◌∷◌, ◌++◌, length, replicate, flat_map, Option, Some, None, ◌⊎◌, inl, inr, refl, sym, ap, subst, ◌∙◌, append-nil, arith, ⊎_elim}
+use Rattle.hub_spec.specs.Problem.{Problem, IsProblem, commodity_at}
+use Rattle.hub_spec.specs.Cuts.{Prices}
+use Rattle.cert_spec.specs.Stated.{Stated, IsStatedInRange}
+use Rattle.cert_spec.specs.Lines.{Item as Line, says_version, says_size, says_cost, says_bound, says_hubs, says_route, says_cuts, says_cut, says_marked, says_dual, says_proof, says_nodes, says_tree, says_end}
 use Rattle.hub_spec.specs.Trees.{branch_on, leaf_of, no_hub, no_route, no_count}
-use Rattle.cert_spec.specs.Grammar.{Shape, Stage, want_version, want_size, want_end, want_nothing, want_cost, want_bound, want_hubs, want_cuts, want_nodes, want_route, want_cut, want_dual, want_tree, Wants, places_after, kept_dual, after_cut, after, shape, Leads}
+use Rattle.cert_spec.specs.Grammar.{Shape, Stage, want_version, want_size, want_end, want_nothing, want_cost, want_bound, want_hubs, want_cuts, want_nodes, want_route, want_cut, want_dual, want_proved, want_proof, want_tree, Wants, places_after, kept_dual, after_cut, after, shape, Leads}
 use Rattle.cert_spec.specs.Conditions.{Claim, Kind, AllHold, FailsFirst, ComesToTheSame, line_conditions, conditions_from}
 use Rattle.cert_spec.specs.PartConditions.{claims}
 use Rattle.cert_spec.specs.Text.{certificate_items}
-use Rattle.cert_spec.specs.Progress.{Progress, at_start, after_line, after_lines}
+use Rattle.cert_spec.specs.Progress.{Progress, is_whole, with_cut, with_duals, next_line, at_start, after_line, after_lines}
 use Rattle.cert_spec.proofs.Leads.{each_text_leads_lem}
 use Rattle.cert_spec.proofs.ByLines.{conditions_of_lines}
 use Rattle.std.proofs.lemmas.List.Elements.{All-nil}
@@ -20,7 +20,7 @@ use Rattle.cert_scan.specs.Parts.{parts_of, items_of}
 use Rattle.cert_scan.specs.Given.{IsGiven, IsBegun}
 use Rattle.cert_scan.specs.declared.items.Item.{Item}
 use Rattle.cert_stream.specs.Steps.{Tried, ended, ends, failed_at, Steps, MayTake}
-use Rattle.cert_stream.specs.Taken.{Part, nothing, some_hubs, some_values, some_weights, part_items, IsPart, StandsFirm, Keeps, Stands, HasTaken, TellsFirst}
+use Rattle.cert_stream.specs.Taken.{Part, nothing, some_hubs, some_mark, some_values, some_ways, some_weights, part_items, IsPart, StandsFirm, Keeps, Stands, HasTaken, TellsFirst}
 use Rattle.cert_stream.specs.declared.checks.Checks.{Checks}
 use Rattle.cert_stream.proofs.Parting.{Growing, Closing, Coming, goes_on, ends as ends_line, coming}
 use Rattle.cert_stream.proofs.Counting.{few_lines, line-after, line-after_lines, after_lines-append}
@@ -57,9 +57,14 @@ empty_keeps : (c : Checks) (s : Progress) (stage : Stage) (part : Part) → IsPa
 empty_keeps c s (want_hubs sh) (some_hubs []) may none k = k
 empty_keeps c s (want_hubs sh) (some_hubs (x ∷ hubs)) may none k = cc
 empty_keeps c s (want_hubs sh) nothing may none k = absurd may
+empty_keeps c s (want_hubs sh) (some_mark number part hubs) may none k = absurd may
 empty_keeps c s (want_hubs sh) (some_values commodity run dual) may none k = absurd may
+empty_keeps c s (want_hubs sh) (some_ways proof) may none k = absurd may
 empty_keeps c s (want_hubs sh) (some_weights denom weights) may none k = absurd may
+empty_keeps c s (want_cut sh all x) (some_mark number part hubs) may none k = cc
 empty_keeps c s (want_dual sh all x t before) (some_values commodity run dual) may none k = cc
+empty_keeps c s (want_proved sh all x t) (some_values commodity run dual) may none k = cc
+empty_keeps c s (want_proof sh all x t) (some_ways proof) may none k = cc
 empty_keeps c s (want_tree sh places left) (some_weights denom weights) may none k = cc
 empty_keeps c s stage nothing may none k = k
 empty_keeps c s stage part may none k = absurd may
@@ -69,8 +74,12 @@ empty_keeps c s stage part may none k = absurd may
 grown_goes : (part before : Part) (i : Item) → Growing part before i → ends i ≡ false
 grown_goes nothing before i g = absurd g
 grown_goes (some_hubs hubs) before i g = ap ends g.4
+grown_goes (some_mark number part hubs) before i (inl g) = ap ends g.2
+grown_goes (some_mark number part hubs) before i (inr g) = ap ends g.4
 grown_goes (some_values c run dual) before i (inl g) = ap ends g.2
 grown_goes (some_values c run dual) before i (inr g) = ap ends g.4
+grown_goes (some_ways proof) before i (inl g) = ap ends g.2
+grown_goes (some_ways proof) before i (inr g) = ap ends g.4
 grown_goes (some_weights denom weights) before i (inl g) = ap ends g.2
 grown_goes (some_weights denom weights) before i (inr g) = ap ends g.4
 
@@ -83,8 +92,11 @@ closed_ends (says_hubs hubs) before i g = ap ends g.4
 closed_ends (says_route c r) before i g = ap ends g.1
 closed_ends (says_cuts all) before i g = ap ends g.1
 closed_ends (says_cut number part) before i g = ap ends g.1
+closed_ends (says_marked number part hubs) before i g = ap ends g.4
 closed_ends (says_dual c run dual) before i (inl g) = ap ends g.2
 closed_ends (says_dual c run dual) before i (inr g) = ap ends g.4
+closed_ends (says_proof proof) before i (inl g) = ap ends g.2
+closed_ends (says_proof proof) before i (inr g) = ap ends g.4
 closed_ends (says_nodes all) before i g = ap ends g.1
 closed_ends (says_tree (branch_on k)) before i g = ap ends g.1
 closed_ends (says_tree (leaf_of denom weights)) before i (inl g) = ap ends g.2
@@ -107,6 +119,12 @@ pub record AreParted (given : List Item) : Type 0 where
 
 begun_part : (stage : Stage) (more : List Item) → IsBegun stage more → (part : Part) × IsPart stage part × (more ≡ part_items part)
 begun_part (want_hubs s) more h = (some_hubs h.hubs, (h.ascend, h.nodes), h.are)
+begun_part (want_cut s all x) more (inl e) = (nothing, tt, e)
+begun_part (want_cut s all x) more (inr h) = (some_mark (x + 1) h.part h.hubs, (refl, h.some, h.most, h.ascend, h.nodes), h.are)
+begun_part (want_proved s all x t) more (inl e) = (nothing, tt, e)
+begun_part (want_proved s all x t) more (inr h) = (some_values (commodity_at s.size t) 1 h.dual, (refl, refl, h.in_range), h.are)
+begun_part (want_proof s all x t) more (inl e) = (nothing, tt, e)
+begun_part (want_proof s all x t) more (inr h) = (some_ways h.proof, h.in_range, h.are)
 begun_part (want_dual s all x t before) more (inl e) = (nothing, tt, e)
 begun_part (want_dual s all x t before) more (inr h) =
     (some_values (commodity_at s.size t) h.run h.dual, (refl, h.is_run, h.in_range), h.are)
@@ -118,7 +136,6 @@ begun_part (want_cost s) more h = (nothing, tt, h)
 begun_part (want_bound s) more h = (nothing, tt, h)
 begun_part (want_route s t) more h = (nothing, tt, h)
 begun_part (want_cuts s) more h = (nothing, tt, h)
-begun_part (want_cut s all x) more h = (nothing, tt, h)
 begun_part (want_nodes s) more h = (nothing, tt, h)
 begun_part want_end more h = (nothing, tt, h)
 begun_part want_nothing more h = (nothing, tt, h)
@@ -272,6 +289,8 @@ empty_part (want_route s t) = (nothing, tt, refl)
 empty_part (want_cuts s) = (nothing, tt, refl)
 empty_part (want_cut s all x) = (nothing, tt, refl)
 empty_part (want_dual s all x t before) = (nothing, tt, refl)
+empty_part (want_proved s all x t) = (nothing, tt, refl)
+empty_part (want_proof s all x t) = (nothing, tt, refl)
 empty_part (want_nodes s) = (nothing, tt, refl)
 empty_part (want_tree s places left) = (nothing, tt, refl)
 empty_part want_end = (nothing, tt, refl)
@@ -282,12 +301,13 @@ pub record TellsWhole (c : Checks) (lines : List Line) : Type 0 where
   pub tells : TellsFirst (conditions_from c.instance.now at_start lines) c.failure
   pub cost_is : c.failure ≡ None → c.cost ≡ (after_lines c.instance.now at_start lines).cost
   pub bound_is : c.failure ≡ None → c.bound ≡ (after_lines c.instance.now at_start lines).bound
+  pub problem : c.failure ≡ None → IsProblem c.instance.now
 
 pub tells_whole : (c : Checks) (lines : List Line) (stage : Stage) → Leads want_version lines stage → HasTaken (flat_map parts_of lines) c → TellsWhole c lines
 tells_whole c lines stage lead has =
     let e = empty_part stage in
     let st = has lines stage e.0 lead (sym (ap (λ x. flat_map parts_of lines ++ x) e.2 ∙ append-nil (flat_map parts_of lines))) e.1 in
-    record { tells = st.tells; cost_is = λ n. (st.standing n).cost_is; bound_is = λ n. (st.standing n).bound_is }
+    record { tells = st.tells; cost_is = λ n. (st.standing n).cost_is; bound_is = λ n. (st.standing n).bound_is; problem = λ n. (st.standing n).problem }
 
 -- ---- the check of which no item has come
 
@@ -318,7 +338,7 @@ told_same : (xs ys : List Claim) (o : Option (code.Kind × ℕ)) → ComesToTheS
 told_same xs ys None same h = same.hold.1 h
 told_same xs ys (Some f) same h = (same.fail (kind_of f.0) f.1).1 h
 
-pub tells_certificate : (c : Checks) (k : Proof) → IsInRange k → HasTaken (items_of k) c → TellsFirst (claims c.instance.now k) c.failure
+pub tells_certificate : (c : Checks) (k : Stated) → IsStatedInRange k → HasTaken (items_of k) c → TellsFirst (claims c.instance.now k) c.failure
 tells_certificate c k range has =
     let lead = each_text_leads_lem k range in
     let h = (tells_whole c (certificate_items k) _ lead has).tells in
@@ -350,6 +370,10 @@ past_after (want_cut s all x) (says_cut number part) h w = tt
 past_after (want_dual s all x t before) (says_dual c run dual) h w =
     past_both (nat_eq (t + run) (s.size * s.size)) (after_cut s all (x + 1)) (want_dual s all x (t + run) (kept_dual s (t + run) dual))
     (past_cut s all (x + 1)) tt
+past_after (want_cut s all x) (says_marked number part hubs) h w = tt
+past_after (want_proved s all x t) (says_dual c run dual) h w = tt
+past_after (want_proof s all x t) (says_proof proof) h w =
+    past_both (nat_eq (t + 1) (s.size * s.size)) (after_cut s all (x + 1)) (want_proved s all x (t + 1)) (past_cut s all (x + 1)) tt
 past_after (want_nodes s) (says_nodes all) h w = tt
 past_after (want_tree s places left) (says_tree line) h w =
     past_both (nat_eq (left - 1) 0) want_end (want_tree s (places_after places line) (left - 1)) tt tt
@@ -368,16 +392,20 @@ said_both : (b : Bool) (x y s : Progress) → said x ≡ said s → said y ≡ s
 said_both true x y s h k = h
 said_both false x y s h k = k
 
+said_duals : (s : Progress) (duals : List Prices) → said (with_duals s duals) ≡ said s
+said_duals s duals =
+    said_both (is_none s.mark && is_whole s duals) (with_cut s duals) (record s { line = s.line + 1; duals = duals }) s refl refl
+
 said_after : (p : Problem) (s : Progress) (stage : Stage) (l : Line) → IsPastBound stage → Wants stage l → said (after_line p s l) ≡ said s
 said_after p s (want_hubs sh) (says_hubs hubs) h w = refl
 said_after p s (want_route sh t) (says_route c r) h w = refl
 said_after p s (want_cuts sh) (says_cuts all) h w = refl
 said_after p s (want_cut sh all x) (says_cut number part) h w = refl
-said_after p s (want_dual sh all x t before) (says_dual c run dual) h w =
-    let duals = s.duals ++ replicate run dual in
-    said_both (nat_eq (length duals) (s.size * s.size))
-    (record s { line = s.line + 1; cuts = s.cuts ++ record { part = s.part; duals = duals } ∷ []; part = 1; duals = [] })
-    (record s { line = s.line + 1; duals = duals }) s refl refl
+said_after p s (want_cut sh all x) (says_marked number part hubs) h w = refl
+said_after p s (want_dual sh all x t before) (says_dual c run dual) h w = said_duals s (s.duals ++ replicate run dual)
+said_after p s (want_proved sh all x t) (says_dual c run dual) h w = said_duals s (s.duals ++ replicate run dual)
+said_after p s (want_proof sh all x t) (says_proof proof) h w =
+    said_both (is_whole s s.duals) (with_cut s s.duals) (next_line s) s refl refl
 said_after p s (want_nodes sh) (says_nodes all) h w = refl
 said_after p s (want_tree sh places left) (says_tree line) h w = refl
 said_after p s want_end says_end h w = refl
@@ -404,11 +432,13 @@ abbrev others : List Line → List Line
 others [] = []
 others (l ∷ lines) = lines
 
-said_certificate : (p : Problem) (k : Proof) → IsInRange k → said (after_lines p at_start (certificate_items k)) ≡ (k.cost, k.bound)
+said_certificate : (p : Problem) (k : Stated) → IsStatedInRange k → said (after_lines p at_start (certificate_items k)) ≡ (k.proof.cost, k.proof.bound)
 said_certificate p k range =
-    said_lines p k.version k.size k.candidates k.cost k.bound (others (others (others (others (certificate_items k))))) want_nothing (each_text_leads_lem k range)
+    said_lines p k.proof.version k.proof.size k.proof.candidates k.proof.cost k.proof.bound (others (others (others (others (certificate_items k)))))
+    want_nothing (each_text_leads_lem k range)
 
-pub said_by : (c : Checks) (k : Proof) → IsInRange k → HasTaken (items_of k) c → AllHold (claims c.instance.now k) → (c.cost ≡ k.cost) × (c.bound ≡ k.bound)
+pub said_by : (c : Checks) (k : Stated) → IsStatedInRange k → HasTaken (items_of k) c → AllHold (claims c.instance.now k)
+    → (c.cost ≡ k.proof.cost) × (c.bound ≡ k.proof.bound)
 said_by c k range has all =
     let p = c.instance.now in
     let t = tells_whole c (certificate_items k) want_nothing (each_text_leads_lem k range) has in
@@ -416,3 +446,9 @@ said_by c k range has all =
     let none = none_failed (claims p k) c.failure told all in
     let s = said_certificate p k range in
     (t.cost_is none ∙ ap (λ (x : ℕ × ℕ). x.0) s, t.bound_is none ∙ ap (λ (x : ℕ × ℕ). x.1) s)
+
+-- the instance of a check that took a certificate whose conditions hold is a problem
+pub problem_by : (c : Checks) (k : Stated) → IsStatedInRange k → HasTaken (items_of k) c → AllHold (claims c.instance.now k) → IsProblem c.instance.now
+problem_by c k range has all =
+    (tells_whole c (certificate_items k) want_nothing (each_text_leads_lem k range) has).problem
+    (none_failed (claims c.instance.now k) c.failure (tells_certificate c k range has) all)

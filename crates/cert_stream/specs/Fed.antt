@@ -1,12 +1,12 @@
 -- A stream as the bytes that were fed make it.
-use Rattle.std.specs.Prelude.{◌≡◌, ℕ, ◌+◌, ◌<◌, Bool, true, false, List, [], ◌∷◌, ◌++◌, length, flat_map, Option, Contains}
+use Rattle.std.specs.Prelude.{◌≡◌, ℕ, ◌+◌, ◌<◌, Bool, true, false, List, [], ◌∷◌, ◌++◌, length, flat_map, Contains}
 use Rattle.cert_spec.specs.Verdicts.{certificate_limit}
-use Rattle.cert_spec.specs.Lines.{Item as Line, says_cut, says_nodes}
+use Rattle.cert_spec.specs.Lines.{Item as Line, says_cut, says_marked, says_nodes}
 use Rattle.cert_spec.specs.Text.{line_bytes}
 use Rattle.cert_spec.specs.Grammar.{Stage, want_version, Leads}
 use Rattle.cert_scan.specs.Scanned.{HasScanned}
 use Rattle.cert_scan.specs.declared.items.Item.{Item}
-use Rattle.cert_scan.specs.declared.items.Item.TheVariants.{Cut}
+use Rattle.cert_stream.specs.Steps.{IsCut}
 use Rattle.cert_stream.specs.Taken.{HasTaken}
 use Rattle.cert_stream.specs.declared.streams.Stream.{Stream}
 
@@ -26,9 +26,15 @@ HasFed bytes s = HasFedUnless s.is_too_long bytes s
 
 -- ---- where memory may be wanting
 
--- one of the items begins a cut
+-- one of the items ends a line that begins a cut
 abbrev pub BeginsCut : List Item → Type 0
-BeginsCut items = (number part : ℕ) × Contains items (Cut number part)
+BeginsCut items = (i : Item) × Contains items i × IsCut i
+
+-- the line begins a cut, marked or not
+abbrev pub IsCutLine : Line → Type 0
+IsCutLine (says_cut number part) = Unit {0}
+IsCutLine (says_marked number part hubs) = Unit {0}
+IsCutLine line = ⊥
 
 -- the bytes begin with lines that may stand so from the first on, the last of which is this
 pub record HasLine (bytes : List ℕ) (line : Line) : Type 0 where
@@ -40,9 +46,9 @@ pub record HasLine (bytes : List ℕ) (line : Line) : Type 0 where
 
 -- a line that begins a cut ends with one of the bytes of the piece, which comes behind these bytes
 pub record EndsCutLine (bytes piece : List ℕ) : Type 0 where
-  pub number : ℕ
-  pub part : Option ℕ
-  pub line : HasLine (bytes ++ piece) (says_cut number part)
+  pub cut : Line
+  pub is_cut : IsCutLine cut
+  pub line : HasLine (bytes ++ piece) cut
   pub ends : length line.rest < length piece
 
 -- the line has come that tells how many lines the tree has; no cut begins behind it

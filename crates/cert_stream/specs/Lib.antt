@@ -1,4 +1,5 @@
 pub mod Sums
+pub mod Marks
 pub mod Steps
 pub mod Taken
 pub mod Fed

@@ -1,12 +1,16 @@
 -- What an item makes of a check.
 use Rattle.std.specs.Prelude.{◌≡◌, ◌≢◌, ℕ, ◌+◌, ◌-◌, ◌*◌, ◌^◌, ◌<◌, ◌≤◌, ◌↔◌, Bool, true, false, IsTrue, List, [], ◌∷◌, ◌++◌, length, Option, Some, None, MatchOption, nat_eq, All, Contains, ◌⊎◌, if◌then◌else◌}
 use Rattle.hub_spec.specs.Limits.{most_part, most_denominator}
-use Rattle.hub_spec.specs.Problem.{is_allowed}
-use Rattle.hub_spec.specs.Plans.{HasWanted}
+use Rattle.hub_spec.specs.Problem.{is_allowed, commodity_at}
+use Rattle.hub_spec.specs.Plans.{IsCandidateSet, HasWanted}
 use Rattle.hub_spec.specs.Cuts.{IsDual}
 use Rattle.hub_spec.specs.Trees.{Closes, IsClosed, IsBlocked, HasRoom, LacksRoom, open_child, closed_child}
 use Rattle.hub_spec.specs.Ranges.{IsShort, IsAmount}
-use Rattle.cert_spec.specs.Conditions.{Claim, claim, Size, BoundOverCost, Hubs, Number, Route, Length, Cost, Dual, Sum, Empty, Block, Count, Leaf, AllHold, FailsFirst, if_time}
+use Rattle.cert_spec.specs.Conditions.{Claim, claim, Size, BoundOverCost, Hubs, Number, Route, Length, Cost, Dual, Sum, Core, Empty, Block, Count, Leaf, AllHold, FailsFirst, if_time, MayMark}
+use Rattle.core_spec.specs.CoreCuts.{Way}
+use Rattle.core_spec.specs.MarkRanges.{most_turns, most_scale, most_taken}
+use Rattle.core_lines.specs.Tallies.{ProofTally, most_ways, IsNoWay, IsWayAdded}
+use Rattle.core_lines.specs.Tests.{IsListed, Proves}
 use Rattle.cert_checker.specs.Answers.{kind_of}
 use Rattle.cert_checker.specs.declared.kinds.Kind as code
 use Rattle.cert_scan.specs.declared.items.Item as item
@@ -21,15 +25,20 @@ use Rattle.cert_stream.specs.declared.checks.Checks.{Checks}
 -- the item is the last of its line
 abbrev pub ends : item.Item → Bool
 ends (item.TheVariants.Hub k last) = last
+ends (item.TheVariants.Cut number part last) = last
+ends (item.TheVariants.CoreHub k last) = last
 ends (item.TheVariants.Dual i j run a last) = last
 ends (item.TheVariants.DualPair k u last) = last
+ends (item.TheVariants.Proof turns scale last) = last
+ends (item.TheVariants.ProofPair k m often last) = last
 ends (item.TheVariants.Leaf denom last) = last
 ends (item.TheVariants.LeafPair c w last) = last
 ends other = true
 
--- it begins a cut
+-- it ends a line that begins a cut
 abbrev pub IsCut : item.Item → Type 0
-IsCut (item.TheVariants.Cut number part) = Unit {0}
+IsCut (item.TheVariants.Cut number part last) = IsTrue last
+IsCut (item.TheVariants.CoreHub k last) = IsTrue last
 IsCut other = ⊥
 
 -- of these conditions all hold, or what was found is the first to fail
@@ -93,6 +102,32 @@ pub record CutTaken (old : Checks) (part : ℕ) (new : Checks) : Type 0 where
   pub none : IsNoDual old.instance.now.size part sums
   pub is : new ≡ ended (record old { cuts = old.cuts ++ sums ∷ [] }) None
 
+-- the mark of a cut with this part begins, as yet without hubs
+abbrev pub mark_begun : Checks → ℕ → Checks
+mark_begun c part = record c { mark = record c.mark { part = part; hubs = [] } }
+
+-- the line of the cut ends here, or goes on with its mark
+abbrev pub CutGoesOn : Bool → Checks → ℕ → Checks → Type 0
+CutGoesOn true old part new = CutTaken old part new
+CutGoesOn false old part new = new ≡ mark_begun old part
+
+-- with a hub more in the mark
+abbrev pub mark_with : Checks → ℕ → Checks
+mark_with c k = record c { mark = record c.mark { hubs = c.mark.hubs ++ k ∷ [] } }
+
+abbrev pub mark_tests : Checks → List Claim
+mark_tests c = claim Core c.line (MayMark c.instance.now c.mark.hubs) ∷ []
+
+-- with the last hub of its mark the cut begins
+pub record MarkTaken (old : Checks) (k : ℕ) (new : Checks) : Type 0 where
+  pub sums : CutTally
+  pub none : IsNoDual old.instance.now.size old.mark.part sums
+  pub ends : Ends (mark_tests (mark_with old k)) (record (mark_with old k) { cuts = old.cuts ++ sums ∷ [] }) new
+
+abbrev pub MarkGoesOn : Bool → Checks → ℕ → Checks → Type 0
+MarkGoesOn true old k new = MarkTaken old k new
+MarkGoesOn false old k new = new ≡ mark_with old k
+
 -- the dual that is listed is feasible, with its part, for each commodity of its run
 abbrev pub IsDualOfEach : ListedDual → Type 0
 IsDualOfEach d = (s : ℕ) → s < d.run → IsDual d.problem d.part (d.commodity.0, d.commodity.1 + s) d.dual
@@ -137,6 +172,40 @@ with_value d e = record d { dual = record { a = d.dual.a; u = d.dual.u ++ e ∷ 
 -- with this dual listed
 abbrev pub dual_with : Checks → ListedDual → Checks
 dual_with c listed = record c { dual = listed }
+
+-- ---- the proofs of a marked cut's duals
+
+-- with this proof, as far as its ways have come
+abbrev pub proof_with : Checks → ProofTally → Checks
+proof_with c proof = record c { mark = record c.mark { proof = proof } }
+
+-- the dual that is listed, with these values by node, is a core dual by the proof
+abbrev pub proof_tests : Checks → List ℕ → List Claim
+proof_tests c row =
+    claim Core c.line (Proves c.mark.hubs (last_of c.cuts).part c.dual.dual.a row c.mark.proof) ∷ []
+
+pub record ProofEnds (kept new : Checks) : Type 0 where
+  pub row : List ℕ
+  pub listed : IsListed kept.dual.dual kept.dual.dual.a row
+  pub ends : Ends (proof_tests kept row) kept new
+
+abbrev pub ProofGoesOn : Bool → Checks → Checks → Type 0
+ProofGoesOn true kept new = ProofEnds kept new
+ProofGoesOn false kept new = new ≡ kept
+
+-- the commodity of the last dual of the cut that stands
+abbrev pub proved_commodity : Checks → ℕ × ℕ
+proved_commodity c = commodity_at c.instance.now.size ((last_of c.cuts).count - 1)
+
+pub record ProofTaken (old : Checks) (turns scale : ℕ) (last : Bool) (new : Checks) : Type 0 where
+  pub proof : ProofTally
+  pub begun : IsNoWay old.mark.proof.problem (proved_commodity old) turns scale proof
+  pub goes : ProofGoesOn last (proof_with old proof) new
+
+pub record WayTaken (old : Checks) (way : Way) (last : Bool) (new : Checks) : Type 0 where
+  pub proof : ProofTally
+  pub added : IsWayAdded old.mark.proof way proof
+  pub goes : ProofGoesOn last (proof_with old proof) new
 
 -- ---- the tree
 
@@ -237,10 +306,13 @@ IsTaken old (item.TheVariants.Hub k last) new = HubTaken old k last new
 IsTaken old (item.TheVariants.Route i j k m) new =
     Ends (route_tests (routed old (i, j) (k, m)) (i, j) (k, m)) (routed old (i, j) (k, m)) new
 IsTaken old (item.TheVariants.Cuts all) new = new ≡ ended old None
-IsTaken old (item.TheVariants.Cut number part) new = CutTaken old part new
+IsTaken old (item.TheVariants.Cut number part last) new = CutGoesOn last old part new
+IsTaken old (item.TheVariants.CoreHub k last) new = MarkGoesOn last old k new
 IsTaken old (item.TheVariants.Dual i j run a last) new =
     DualGoesOn last (dual_with old (begun_dual old (i, j) run a)) new
 IsTaken old (item.TheVariants.DualPair k u last) new = DualGoesOn last (dual_with old (with_value old.dual (k, u))) new
+IsTaken old (item.TheVariants.Proof turns scale last) new = ProofTaken old turns scale last new
+IsTaken old (item.TheVariants.ProofPair k m often last) new = WayTaken old (k, m, often) last new
 IsTaken old (item.TheVariants.Nodes all) new = new ≡ ended (rooted old) None
 IsTaken old (item.TheVariants.Branch k) new = BranchTaken old k new
 IsTaken old (item.TheVariants.Leaf denom last) new = LeafTaken old denom last new
@@ -281,6 +353,11 @@ pub record MayCut (part : ℕ) : Type 0 where
   pub least : 1 ≤ part
   pub most : part ≤ most_part
 
+-- a hub of a mark above those before it
+pub record MayMarkHub (c : Checks) (k : ℕ) : Type 0 where
+  pub node : k < c.mark.proof.problem.size
+  pub above : All (λ (m : ℕ). m < k) c.mark.hubs
+
 -- a cut stands to which so many duals may be added
 pub record MayEndDual (c : Checks) (run : ℕ) : Type 0 where
   pub stands : c.cuts ≢ []
@@ -301,6 +378,30 @@ pub record MayValue (c : Checks) (k u : ℕ) : Type 0 where
   pub least : 1 ≤ u
   pub short : IsAmount u
   pub may_end : MayEndDual c c.dual.run
+
+-- a cut stands that may be marked with these hubs
+pub record MayEndProof (c : Checks) : Type 0 where
+  pub stands : c.cuts ≢ []
+  pub any_length : c.mark.proof.problem.longest ≡ None
+  pub set : IsCandidateSet c.mark.proof.problem c.mark.hubs
+  pub nodes : c.dual.problem.size ≡ c.mark.proof.problem.size
+
+-- the proof of the last dual of a cut
+pub record MayProof (c : Checks) (turns scale : ℕ) : Type 0 where
+  pub some_dual : 1 ≤ (last_of c.cuts).count
+  pub few_duals : (last_of c.cuts).count ≤ c.instance.now.size * c.instance.now.size
+  pub nodes : c.mark.proof.problem.size ≡ c.instance.now.size
+  pub turns_limit : turns ≤ most_turns
+  pub some_scale : 1 ≤ scale
+  pub scale_limit : scale ≤ most_scale
+  pub may_end : MayEndProof c
+
+pub record MayWay (c : Checks) (way : Way) : Type 0 where
+  pub first : way.0 < c.mark.proof.problem.size
+  pub last : way.1 < c.mark.proof.problem.size
+  pub often : way.2 ≤ most_taken
+  pub few : c.mark.proof.count < most_ways
+  pub may_end : MayEndProof c
 
 -- a branch is to be filled, and the commodity is one of the instance's
 pub record MayBlock (c : Checks) (commodity : ℕ × ℕ) : Type 0 where
@@ -329,9 +430,12 @@ pub record MayWeight (c : Checks) (number : ℕ) : Type 0 where
 abbrev pub MayCome : Checks → item.Item → Type 0
 MayCome c (item.TheVariants.Hub k last) = MayHub c k
 MayCome c (item.TheVariants.Route i j k m) = MayRoute c (i, j) (k, m)
-MayCome c (item.TheVariants.Cut number part) = MayCut part
+MayCome c (item.TheVariants.Cut number part last) = MayCut part
+MayCome c (item.TheVariants.CoreHub k last) = MayMarkHub c k
 MayCome c (item.TheVariants.Dual i j run a last) = MayDual c (i, j) run a
 MayCome c (item.TheVariants.DualPair k u last) = MayValue c k u
+MayCome c (item.TheVariants.Proof turns scale last) = MayProof c turns scale
+MayCome c (item.TheVariants.ProofPair k m often last) = MayWay c (k, m, often)
 MayCome c (item.TheVariants.Branch k) = c.path.pending ≢ []
 MayCome c (item.TheVariants.Leaf denom last) = (denom ≤ most_denominator) × MayEndLeaf c
 MayCome c (item.TheVariants.LeafPair number w last) = MayWeight c number

@@ -1,29 +1,35 @@
 -- A check as the items that have come make it.
-use Rattle.std.specs.Prelude.{◌≡◌, ℕ, ◌*◌, ◌<◌, ◌≤◌, ◌↔◌, Bool, false, IsTrue, List, [], ◌∷◌, ◌++◌, length, flat_map, Option, Some, None, All, Contains}
+use Rattle.std.specs.Prelude.{◌≡◌, ℕ, ◌+◌, ◌*◌, ◌<◌, ◌≤◌, ◌↔◌, Bool, false, IsTrue, List, [], ◌∷◌, ◌++◌, length, slice_index_or, flat_map, Option, Some, None, All, Contains}
 use Rattle.std.specs.List.{AllZip}
 use Rattle.std.specs.List.Sorted.{IsStrictlyIncreasing}
+use Rattle.hub_spec.specs.Limits.{most_part}
 use Rattle.hub_spec.specs.Problem.{Problem, IsProblem, commodity_at}
+use Rattle.hub_spec.specs.Plans.{IsCandidateSet}
 use Rattle.hub_spec.specs.Cuts.{Prices, Cut}
 use Rattle.hub_spec.specs.Trees.{Branching, IsBranch, IsMultiple, leaf_of, weight_sum}
 use Rattle.hub_spec.specs.Ranges.{IsShort, IsDualInRange, IsLineInRange}
+use Rattle.core_spec.specs.CoreCuts.{CoreProof, MayBeMarked}
+use Rattle.core_spec.specs.MarkRanges.{IsProofInRange}
 use Rattle.cert_spec.specs.Lines.{Item as Line}
-use Rattle.cert_spec.specs.Grammar.{Shape, Stage, want_version, want_size, want_cost, want_bound, want_hubs, want_route, want_cuts, want_cut, want_dual, want_nodes, want_tree, IsRun, Leads}
+use Rattle.cert_spec.specs.Grammar.{Shape, Stage, want_version, want_size, want_cost, want_bound, want_hubs, want_route, want_cuts, want_cut, want_dual, want_proved, want_proof, want_nodes, want_tree, IsRun, Leads}
 use Rattle.cert_spec.specs.Conditions.{Claim, AllHold, FailsFirst, conditions_from}
 use Rattle.cert_spec.specs.PartConditions.{claims}
 use Rattle.cert_spec.specs.Progress.{Progress, at_start, after_lines}
 use Rattle.cert_checker.specs.declared.texts.Ending.{Ending}
 use Rattle.cert_checker.specs.declared.texts.Ending.TheVariants.{Optimal, Bounds, No}
 use Rattle.hub_model.specs.Amounts.{natural}
-use Rattle.hub_spec.specs.Certificates.{Proof}
+use Rattle.cert_spec.specs.Stated.{Stated}
 use Rattle.cert_checker.specs.Answers.{kind_of}
 use Rattle.cert_checker.specs.declared.kinds.Kind as code
-use Rattle.cert_scan.specs.Parts.{parts_of, open_hubs, open_values, open_weights}
+use Rattle.cert_scan.specs.Parts.{parts_of, open_hubs, open_mark, open_values, open_ways, open_weights}
 use Rattle.cert_scan.specs.declared.items.Item.{Item}
-use Rattle.cert_scan.specs.declared.items.Item.TheVariants.{Dual, Leaf}
+use Rattle.cert_scan.specs.declared.items.Item.TheVariants.{Cut as cut_item, Dual, Proof, Leaf}
 use Rattle.plan_lines.specs.Tallies.{PlanTally, IsTallyOf, no_plan}
 use Rattle.dual_lines.specs.Lines.{ListedDual}
+use Rattle.core_lines.specs.Tallies.{ProofTally, IsTallyOf as IsProofTallyOf}
 use Rattle.tree_lines.specs.Tallies.{Tally, AreSumsOf as AreLeafSumsOf}
-use Rattle.cert_stream.specs.Sums.{CutTally, AreSumsOf, AreWithin}
+use Rattle.cert_stream.specs.Sums.{CutTally, AreSumsOf, AreWithin, last_of}
+use Rattle.cert_stream.specs.Marks.{MarkTally}
 use Rattle.cert_stream.specs.declared.checks.Checks.{Checks}
 
 -- of these conditions all hold, or this is the first to fail, with its line
@@ -35,32 +41,42 @@ TellsFirst cs (Some failure) = FailsFirst cs (kind_of failure.0) failure.1
 pub data Part : Type 0 where
   nothing : Part
   some_hubs : List ℕ → Part
+  some_mark : (number part : ℕ) → List ℕ → Part
   some_values : ℕ × ℕ → (run : ℕ) → Prices → Part
+  some_ways : CoreProof → Part
   some_weights : ℕ → List (ℕ × ℕ) → Part
 
 -- the items of it
 abbrev pub part_items : Part → List Item
 part_items nothing = []
 part_items (some_hubs hubs) = open_hubs hubs
+part_items (some_mark number part hubs) = cut_item number part false ∷ open_mark hubs
 part_items (some_values commodity run dual) = Dual commodity.0 commodity.1 run dual.a false ∷ open_values dual.u
+part_items (some_ways proof) = Proof proof.turns proof.scale false ∷ open_ways proof.ways
 part_items (some_weights denom weights) = Leaf denom false ∷ open_weights weights
 
 -- it may stand at this stage
 abbrev pub IsPart : Stage → Part → Type 0
 IsPart (want_hubs s) (some_hubs hubs) = IsStrictlyIncreasing hubs × All (λ k. k < s.size) hubs
 IsPart (want_hubs s) other = ⊥
+IsPart (want_cut s all x) (some_mark number part hubs) =
+    (number ≡ x + 1) × (1 ≤ part) × (part ≤ most_part) × IsStrictlyIncreasing hubs × All (λ k. k < s.size) hubs
 IsPart (want_dual s all x t before) (some_values commodity run dual) =
     (commodity ≡ commodity_at s.size t) × IsRun s t run × IsDualInRange s.size dual
+IsPart (want_proved s all x t) (some_values commodity run dual) =
+    (commodity ≡ commodity_at s.size t) × (run ≡ 1) × IsDualInRange s.size dual
+IsPart (want_proof s all x t) (some_ways proof) = IsProofInRange s.size proof
 IsPart (want_tree s places left) (some_weights denom weights) = IsLineInRange s.size (leaf_of denom weights)
 IsPart stage nothing = Unit {0}
 IsPart stage other = ⊥
 
--- what is kept whatever line comes next: the dual, the path, the leaf's sums and what was said are those of the
--- instance and the lines
-pub record Standing (p : Problem) (dual_problem : Problem) (path_size : ℕ) (path_candidates : List ℕ) (loads : List ℕ)
+-- what is kept whatever line comes next: the dual, the proof, the path, the leaf's sums and what was said are those of
+-- the instance and the lines
+pub record Standing (p : Problem) (dual_problem proof_problem : Problem) (path_size : ℕ) (path_candidates : List ℕ) (loads : List ℕ)
     (cost bound said_cost said_bound : ℕ) : Type 0 where
   pub problem : IsProblem p
   pub dual_is : dual_problem ≡ p
+  pub proof_is : proof_problem ≡ p
   pub size_is : path_size ≡ p.size
   pub candidates_are : path_candidates ≡ p.candidates
   pub long : length loads ≡ p.size
@@ -69,7 +85,8 @@ pub record Standing (p : Problem) (dual_problem : Problem) (path_size : ℕ) (pa
   pub short : IsShort said_bound
 
 abbrev pub StandsFirm : Checks → Progress → Type 0
-StandsFirm c s = Standing c.instance.now c.dual.problem c.path.size c.path.candidates c.leaf.loads c.cost c.bound s.cost s.bound
+StandsFirm c s =
+    Standing c.instance.now c.dual.problem c.mark.proof.problem c.path.size c.path.candidates c.leaf.loads c.cost c.bound s.cost s.bound
 
 -- the size that was said, and that of the text's shape, are the instance's
 pub record IsSized (n said shape_size : ℕ) : Type 0 where
@@ -106,10 +123,22 @@ pub record RoutesStand (p : Problem) (hubs : List ℕ) (routes : List (ℕ × �
   pub count : length routes ≡ t
   pub more : t < p.size * p.size
 
--- whole cuts have come, and no dual of another
-pub record CutsStand (p : Problem) (cuts : List Cut) (duals : List Prices) (sums : List CutTally) : Type 0 where
+-- whole cuts have come, and no mark and no dual of another
+pub record CutsStand (p : Problem) (cuts : List Cut) (mark : Option (List ℕ)) (duals : List Prices) (sums : List CutTally) : Type 0 where
   pub sums_are : AreCutSums p cuts sums
+  pub no_mark : mark ≡ None
   pub no_dual : duals ≡ []
+
+-- the part of the next cut and the hubs of its mark are kept as far as they have come
+abbrev pub MarkStands : MarkTally → Part → Type 0
+MarkStands mark (some_mark number part hubs) = (mark.part ≡ part) × (mark.hubs ≡ hubs)
+MarkStands mark other = Unit {0}
+
+-- the cut is marked with these hubs, as it may be
+pub record IsMarked (p : Problem) (mark : Option (List ℕ)) (hubs : List ℕ) : Type 0 where
+  pub mark_is : mark ≡ Some hubs
+  pub may : MayBeMarked p
+  pub set : IsCandidateSet p hubs
 
 -- whole cuts have come, and so many duals of another, with this part
 pub record DualsStand (p : Problem) (cuts : List Cut) (part : ℕ) (duals : List Prices) (sums : List CutTally)
@@ -121,7 +150,6 @@ pub record DualsStand (p : Problem) (cuts : List Cut) (part : ℕ) (duals : List
   pub last_is : AreSumsOf p.size (record { part = part; duals = duals }) last
   pub candidates : All (λ (d : Prices). All (λ (e : ℕ × ℕ). Contains p.candidates e.0) d.u) duals
   pub count : length duals ≡ t
-  pub more : t < p.size * p.size
 
 -- this dual of a run is listed, with the part of its cut
 pub record Lists (listed : ListedDual) (part : ℕ) (commodity : ℕ × ℕ) (run : ℕ) (dual : Prices) : Type 0 where
@@ -134,6 +162,24 @@ pub record Lists (listed : ListedDual) (part : ℕ) (commodity : ℕ × ℕ) (ru
 abbrev pub DualStands : ListedDual → ℕ → Part → Type 0
 DualStands listed cut_part (some_values commodity run dual) = Lists listed cut_part commodity run dual
 DualStands listed cut_part other = Unit {0}
+
+-- so many duals and one more have come, whose proof is next: this dual is listed, and with the last one the sums of the
+-- cut are within their limits
+pub record LastStands (p : Problem) (duals : List Prices) (dual : Prices) (sums : CutTally) (t : ℕ) : Type 0 where
+  pub more : t < p.size * p.size
+  pub last_is : slice_index_or duals t (record { a = 0; u = [] }) ≡ dual
+  pub within : t + 1 ≡ p.size * p.size → AreWithin sums
+
+-- the ways of this proof of a commodity are added up
+pub record WaysStand (commodity : ℕ × ℕ) (proof : CoreProof) (tally : ProofTally) : Type 0 where
+  pub commodity_is : tally.commodity ≡ commodity
+  pub tally_is : IsProofTallyOf proof tally
+  pub count : tally.count ≡ length proof.ways
+
+-- as far as they have come
+abbrev pub ProofStands : ℕ → ProofTally → ℕ → Part → Type 0
+ProofStands n tally t (some_ways proof) = WaysStand (commodity_at n t) proof tally
+ProofStands n tally t other = Unit {0}
 
 -- so many branches are to be filled, and the path has them
 pub record TreeStands (p : Problem) (pending on_path : List Branching) (places : ℕ) : Type 0 where
@@ -174,7 +220,16 @@ abbrev pub PlanAbsent : Checks → Progress → Type 0
 PlanAbsent c s = NoPlanYet c.instance.now s.hubs s.routes c.plan c.are_candidates
 
 abbrev pub Cutted : Checks → Progress → Type 0
-Cutted c s = CutsStand c.instance.now s.cuts s.duals c.cuts
+Cutted c s = CutsStand c.instance.now s.cuts s.mark s.duals c.cuts
+
+-- so many duals of a cut have come, and not all of them
+abbrev pub DualsKept : Checks → Progress → Shape → ℕ → Part → Type 0
+DualsKept c s shape t part =
+    Sized c s shape × DualsStand c.instance.now s.cuts s.part s.duals c.cuts t × DualStands c.dual s.part part
+    × (t < c.instance.now.size * c.instance.now.size)
+
+abbrev pub Marked : Checks → Progress → Type 0
+Marked c s = IsMarked c.instance.now s.mark c.mark.hubs
 
 -- what is kept at a stage, where a part of the next line has come
 abbrev pub Keeps : Checks → Progress → Stage → Part → Type 0
@@ -186,9 +241,13 @@ Keeps c s (want_hubs shape) part =
     Sized c s shape × HubsStand c.instance.now (hubs_of part) s.routes c.plan c.are_candidates × Cutted c s
 Keeps c s (want_route shape t) part = Sized c s shape × RoutesStand c.instance.now s.hubs s.routes c.plan t × Cutted c s
 Keeps c s (want_cuts shape) part = Sized c s shape × Cutted c s
-Keeps c s (want_cut shape all x) part = Sized c s shape × Cutted c s
-Keeps c s (want_dual shape all x t before) part =
-    Sized c s shape × DualsStand c.instance.now s.cuts s.part s.duals c.cuts t × DualStands c.dual s.part part
+Keeps c s (want_cut shape all x) part = Sized c s shape × Cutted c s × MarkStands c.mark part
+Keeps c s (want_dual shape all x t before) part = DualsKept c s shape t part × (s.mark ≡ None)
+Keeps c s (want_proved shape all x t) part = DualsKept c s shape t part × Marked c s
+Keeps c s (want_proof shape all x t) part =
+    Sized c s shape × DualsStand c.instance.now s.cuts s.part s.duals c.cuts (t + 1)
+    × LastStands c.instance.now s.duals c.dual.dual (last_of c.cuts) t × Marked c s
+    × ProofStands c.instance.now.size c.mark.proof t part
 Keeps c s (want_nodes shape) part = Sized c s shape × Cutted c s
 Keeps c s (want_tree shape places left) part =
     Sized c s shape × Cutted c s × TreeStands c.instance.now s.pending c.path.pending places
@@ -208,8 +267,9 @@ HasTaken given c = (lines : List Line) (stage : Stage) (part : Part) → Leads w
     → given ≡ flat_map parts_of lines ++ part_items part → IsPart stage part → Stands c lines stage part
 
 -- the ending is that of this certificate
-abbrev pub EndsAs : Problem → Proof → Ending → Type 0
-EndsAs p k (Optimal cost) = AllHold (claims p k) × (k.bound ≡ k.cost) × (natural cost ≡ k.cost)
-EndsAs p k (Bounds bound cost) = AllHold (claims p k) × (k.bound < k.cost) × (natural bound ≡ k.bound) × (natural cost ≡ k.cost)
+abbrev pub EndsAs : Problem → Stated → Ending → Type 0
+EndsAs p k (Optimal cost) = AllHold (claims p k) × (k.proof.bound ≡ k.proof.cost) × (natural cost ≡ k.proof.cost)
+EndsAs p k (Bounds bound cost) =
+    AllHold (claims p k) × (k.proof.bound < k.proof.cost) × (natural bound ≡ k.proof.bound) × (natural cost ≡ k.proof.cost)
 EndsAs p k (No kind line) = FailsFirst (claims p k) (kind_of kind) line
 EndsAs p k other = ⊥

@@ -6,8 +6,7 @@ ghost use Rattle.cert_spec.specs.Grammar.{Stage, Leads, want_version};
 ghost use Rattle.cert_spec.specs.Conditions.{AllHold, conditions_from};
 ghost use Rattle.cert_spec.specs.PartConditions.{claims};
 ghost use Rattle.cert_spec.specs.Progress.{at_start, after_lines};
-ghost use Rattle.hub_spec.specs.Certificates.{Proof};
-ghost use Rattle.hub_spec.specs.Ranges.{IsInRange};
+ghost use Rattle.cert_spec.specs.Stated.{Stated, IsStatedInRange};
 ghost use Rattle.cert_scan.specs.Given.{IsGiven};
 ghost use Rattle.cert_scan.specs.Parts.{parts_of, items_of};
 ghost use Rattle.cert_scan.specs.declared.items.Item.{Item as ItemOf};
@@ -15,6 +14,7 @@ ghost use Rattle.cert_stream.specs.Steps.{IsCut};
 ghost use Rattle.cert_stream.specs.Taken.{HasTaken, TellsFirst};
 
 use crate::cut_lists::CutList;
+use crate::marks::MarkLine;
 use cert_checker::Kind;
 use cert_scan::Item;
 use dual_lines::DualLine;
@@ -37,6 +37,8 @@ pub struct Checks<'a> {
     // Those of the whole cuts, and while a cut stands, its own behind them, each with its part.
     pub(crate) cuts: CutList,
     pub(crate) dual: DualLine<'a>,
+    // The mark of the cut that stands or begins, if it is marked, and the proof of its last dual.
+    pub(crate) mark: MarkLine<'a>,
     pub(crate) path: TreePath,
     pub(crate) leaf: LeafSums,
     // What fails of the leaf's weights so far: their cuts' numbers, or else the multiples of parts, or else their sum.
@@ -62,6 +64,7 @@ impl<'a> Checks<'a> {
             are_candidates: true,
             cuts: CutList::new(alloc),
             dual: DualLine::new(alloc, instance)?,
+            mark: MarkLine::new(alloc, instance)?,
             path: TreePath::new(alloc, instance)?,
             leaf: LeafSums::new(alloc, instance)?,
             leaf_failure: None,
@@ -69,7 +72,8 @@ impl<'a> Checks<'a> {
         })
     }
 
-    /// Takes the next item. Only a `Cut` takes memory, room for that cut's sums; where there is none, nothing changes.
+    /// Takes the next item. Only the last one of a line that begins a cut takes memory, room for that cut's sums; where
+    /// there is none, nothing changes.
     ///
     /// The items with this one are as a scan gives them.
     pub fn take(&mut self, alloc: Global, item: Item) -> Result<(), AllocError>
@@ -88,7 +92,7 @@ impl<'a> Checks<'a> {
         ensures lines { (lines : List LineOf) (stage : Stage) → Leads want_version lines stage
             → HasTaken (flat_map parts_of lines) self.now
             → TellsFirst (conditions_from self.now.instance.now at_start lines) result }
-        ensures certificate { (k : Proof) → IsInRange k → HasTaken (items_of k) self.now
+        ensures certificate { (k : Stated) → IsStatedInRange k → HasTaken (items_of k) self.now
             → TellsFirst (claims self.now.instance.now k) result }
     {
         self.failure
@@ -99,8 +103,8 @@ impl<'a> Checks<'a> {
         ensures lines { (lines : List LineOf) (stage : Stage) → Leads want_version lines stage
             → HasTaken (flat_map parts_of lines) self.now → AllHold (conditions_from self.now.instance.now at_start lines)
             → result ≡ (after_lines self.now.instance.now at_start lines).bound }
-        ensures certificate { (k : Proof) → IsInRange k → HasTaken (items_of k) self.now
-            → AllHold (claims self.now.instance.now k) → result ≡ k.bound }
+        ensures certificate { (k : Stated) → IsStatedInRange k → HasTaken (items_of k) self.now
+            → AllHold (claims self.now.instance.now k) → result ≡ k.proof.bound }
     {
         self.bound
     }
@@ -110,8 +114,8 @@ impl<'a> Checks<'a> {
         ensures lines { (lines : List LineOf) (stage : Stage) → Leads want_version lines stage
             → HasTaken (flat_map parts_of lines) self.now → AllHold (conditions_from self.now.instance.now at_start lines)
             → result ≡ (after_lines self.now.instance.now at_start lines).cost }
-        ensures certificate { (k : Proof) → IsInRange k → HasTaken (items_of k) self.now
-            → AllHold (claims self.now.instance.now k) → result ≡ k.cost }
+        ensures certificate { (k : Stated) → IsStatedInRange k → HasTaken (items_of k) self.now
+            → AllHold (claims self.now.instance.now k) → result ≡ k.proof.cost }
     {
         self.cost
     }

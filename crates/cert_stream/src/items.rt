@@ -20,11 +20,18 @@ impl<'a> Checks<'a> {
             self.pass_over(item);
             return Ok(());
         }
-        if let Item::Cut { part, .. } = item {
-            return self.take_cut(alloc, part);
+        match item {
+            Item::Cut {
+                part,
+                last: true,
+                ..
+            } => self.take_cut(alloc, part),
+            Item::CoreHub { k, last: true } => self.take_mark(alloc, k),
+            _ => {
+                self.try_item(item);
+                Ok(())
+            }
         }
-        self.try_item(item);
-        Ok(())
     }
 
     // An item that takes no memory, where no condition failed before.
@@ -41,8 +48,16 @@ impl<'a> Checks<'a> {
             Item::Bound(bound) => self.take_bound(bound),
             Item::Hub { k, last } => self.take_hub(k, last),
             Item::Route { i, j, k, m } => self.take_route((i, j), (k, m)),
+            Item::Cut {
+                part,
+                last: false,
+                ..
+            } => self.begin_mark(part),
+            Item::CoreHub { k, last: false } => self.take_mark_hub(k),
             Item::Dual { i, j, run, a, last } => self.take_dual((i, j), run, a, last),
             Item::DualPair { k, u, last } => self.take_value(k, u, last),
+            Item::Proof { t, g, last } => self.take_proof(t, g, last),
+            Item::ProofPair { k, m, y, last } => self.take_way((k, m, y), last),
             Item::Nodes(_) => self.take_nodes(),
             Item::Branch(k) => self.take_branch(k),
             Item::Leaf { denom, last } => self.take_leaf(denom, last),
@@ -50,7 +65,11 @@ impl<'a> Checks<'a> {
             Item::Empty => self.take_empty(),
             Item::Block { i, j } => self.take_block((i, j)),
             Item::Count => self.take_count(),
-            Item::Version(_) | Item::Cuts(_) | Item::Cut { .. } | Item::End => self.end_line(None),
+            Item::Version(_)
+            | Item::Cuts(_)
+            | Item::Cut { .. }
+            | Item::CoreHub { .. }
+            | Item::End => self.end_line(None),
         }
     }
 
@@ -90,8 +109,12 @@ fn ends_line(item: Item) -> bool
 {
     match item {
         Item::Hub { last, .. }
+        | Item::Cut { last, .. }
+        | Item::CoreHub { last, .. }
         | Item::Dual { last, .. }
         | Item::DualPair { last, .. }
+        | Item::Proof { last, .. }
+        | Item::ProofPair { last, .. }
         | Item::Leaf { last, .. }
         | Item::LeafPair { last, .. } => last,
         _ => true,

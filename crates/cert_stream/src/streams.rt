@@ -2,10 +2,9 @@
 
 ghost use Rattle.std.specs.Prelude.{◌≡◌, ℕ, ◌≤◌, ◌<◌, ◌++◌, List, [], length, take, IfOk, IsOk, OnErr};
 ghost use Rattle.cert_spec.specs.Verdicts.{Why, certificate_limit};
-ghost use Rattle.cert_checker.specs.Shows.{verdict_of};
+ghost use Rattle.cert_checker.specs.Shows.{verdict_of, ProvesMarks};
 ghost use Rattle.cert_scan.specs.declared.items.Item.{Item as ItemOf};
-ghost use Rattle.hub_spec.specs.Certificates.{Proof};
-ghost use Rattle.hub_spec.specs.Ranges.{IsInRange};
+ghost use Rattle.cert_spec.specs.Stated.{Stated, IsStatedInRange};
 ghost use Rattle.cert_scan.specs.Parts.{items_of};
 ghost use Rattle.cert_scan.specs.Scans.{given_all};
 ghost use Rattle.cert_stream.specs.Taken.{HasTaken, EndsAs};
@@ -110,7 +109,9 @@ impl<'a> Stream<'a> {
     /// How the check of all bytes that were fed ends, however they were cut into pieces.
     pub fn finish(&self) -> Ending
         requires { (bytes : List ℕ) × HasFed bytes self.now }
-        ensures { (bytes : List ℕ) → HasFed bytes self.now → Why self.now.checks.instance.now bytes (verdict_of result) }
+        ensures why { (bytes : List ℕ) → HasFed bytes self.now → Why self.now.checks.instance.now bytes (verdict_of result) }
+        ensures marked { (bytes : List ℕ) → HasFed bytes self.now
+            → ProvesMarks self.now.checks.instance.now bytes (verdict_of result) }
     {
         if self.is_too_long {
             return Ending::TooLong;
@@ -125,8 +126,8 @@ impl<'a> Stream<'a> {
 
 // How the check of a whole certificate ends.
 fn ending_of(checks: &Checks<'_>) -> Ending
-    requires { (k : Proof) × IsInRange k × HasTaken (items_of k) checks.now }
-    ensures { (k : Proof) → IsInRange k → HasTaken (items_of k) checks.now → EndsAs checks.now.instance.now k result }
+    requires { (k : Stated) × IsStatedInRange k × HasTaken (items_of k) checks.now }
+    ensures { (k : Stated) → IsStatedInRange k → HasTaken (items_of k) checks.now → EndsAs checks.now.instance.now k result }
 {
     if let Some((kind, line)) = checks.first_failure() {
         return Ending::No { kind, line };

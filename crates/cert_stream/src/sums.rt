@@ -107,7 +107,7 @@ fn are_loads_within(loads: &[u128], most: u128) -> bool
 }
 
 // Adds the values to the loads of their nodes, each so many times.
-fn add_values(loads: &mut [u128], run: u128, values: &[(u32, u128)])
+pub(crate) fn add_values(loads: &mut [u128], run: u128, values: &[(u32, u128)])
     requires few { run ≤ most_duals }
     requires dual { IsDualInRange (length loads.old) (record { a = 0; u = values.now }) }
     requires most { All (λ (load : ℕ). load ≤ most_load) loads.old }

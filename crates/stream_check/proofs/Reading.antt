@@ -10,6 +10,7 @@ use Rattle.cert_checker.specs.Shows.{verdict_of}
 use Rattle.cert_checker.specs.declared.texts.Ending.{Ending}
 use Rattle.stream_check.specs.declared.endings.NoEnding.{NoEnding}
 use Rattle.stream_check.specs.Held.{IsVerdictOnHeld, EndsFor, EndsOver}
+use Rattle.cert_stream.proofs.Ends.{marks_shown}
 use Rattle.stream_check.proofs.Shown.{shown}
 use Rattle.stream_check.proofs.TooLong.{too_long_held}
 
@@ -41,6 +42,7 @@ verdict_at_end p held name first last bytes verdict ok starts read end why = rec
   are_held = all_read held name first last bytes starts read end;
   why = why;
   proves = shown p bytes verdict ok why;
+  marks = marks_shown p bytes verdict ok why;
 }
 
 -- where one byte more than the limit was read, the rest is left

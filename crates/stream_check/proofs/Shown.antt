@@ -9,20 +9,20 @@ use Rattle.cert_checker.specs.Shows.{Proves, ProvesOptimal, ProvesBound}
 certifies_bound : (p : Problem) (bytes : List ℕ) (bound cost : ℕ) → IsProblem p → Certifies p bytes bound cost → ProvesBound p bytes bound cost
 certifies_bound p bytes bound cost ok c =
     let k = c.certificate.0 in
-    let holds = c.certificate.2 in
+    let holds = c.certificate.2.holds in
     record {
       certificate = k;
       spelled = c.certificate.1;
       plan = holds.plan;
       stated = c.certificate.4;
       paid = sym holds.cost ∙ c.certificate.4;
-      below = subst (NoPlanBelow p) c.certificate.3 (no_plan_below_bound p k ok holds);
+      below = subst (NoPlanBelow p) c.certificate.3 (no_plan_below_bound p k.proof ok holds);
     }
 
 certifies_optimal : (p : Problem) (bytes : List ℕ) (cost : ℕ) → IsProblem p → Certifies p bytes cost cost → ProvesOptimal p bytes cost
 certifies_optimal p bytes cost ok c =
     let k = c.certificate.0 in
-    let holds = c.certificate.2 in
+    let holds = c.certificate.2.holds in
     record {
       certificate = k;
       spelled = c.certificate.1;
@@ -31,7 +31,7 @@ certifies_optimal p bytes cost ok c =
       optimal = record {
         is_plan = holds.plan;
         wanted = holds.wanted;
-        least = subst (NoPlanBelow p) (c.certificate.3 ∙ sym c.certificate.4 ∙ holds.cost) (no_plan_below_bound p k ok holds);
+        least = subst (NoPlanBelow p) (c.certificate.3 ∙ sym c.certificate.4 ∙ holds.cost) (no_plan_below_bound p k.proof ok holds);
       };
     }
 

@@ -13,5 +13,5 @@ bytes_over limit = (replicate (limit + 1) 0, (let e = length-replicate {A = ℕ}
 pub too_long_held : (p : Problem) (held : Option Files) (name : List ℕ) → HoldsMore held name certificate_limit → IsVerdictOnHeld p held name too_long
 too_long_held p None name more =
     let some = bytes_over certificate_limit in
-    record { bytes = some.0; are_held = tt; why = some.1; proves = tt }
-too_long_held p (Some files) name more = record { bytes = more.0; are_held = more.1; why = more.2; proves = tt }
+    record { bytes = some.0; are_held = tt; why = some.1; proves = tt; marks = tt }
+too_long_held p (Some files) name more = record { bytes = more.0; are_held = more.1; why = more.2; proves = tt; marks = tt }

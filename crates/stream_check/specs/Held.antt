@@ -4,7 +4,7 @@ use Rattle.std.specs.Io.KnownBytes.{Consumes, IsAtEnd}
 use Rattle.hub_io.specs.Outside.{Files, Holds}
 use Rattle.hub_spec.specs.Problem.{Problem}
 use Rattle.cert_spec.specs.Verdicts.{Verdict, too_long, Why, certificate_limit}
-use Rattle.cert_checker.specs.Shows.{Proves}
+use Rattle.cert_checker.specs.Shows.{Proves, ProvesMarks}
 
 -- the verdict is the one on the bytes that are held under the name
 pub record IsVerdictOnHeld (p : Problem) (held : Option Files) (name : List ℕ) (verdict : Verdict) : Type 0 where
@@ -12,6 +12,7 @@ pub record IsVerdictOnHeld (p : Problem) (held : Option Files) (name : List ℕ)
   pub are_held : Holds held name bytes
   pub why : Why p bytes verdict
   pub proves : Proves p bytes verdict
+  pub marks : ProvesMarks p bytes verdict
 
 -- all bytes came, within the limit, and the verdict is the one on them; or one byte more came than the limit
 abbrev pub EndsFor : Problem → Option (List ℕ) → List ℕ → Verdict → Type 0

@@ -8,19 +8,19 @@ use Rattle.cert_checker.proofs.checks.check_plan_of.Goals as goal
 use Rattle.cert_checker.proofs.checks.check_plan_of.Goals.{After-check_plan}
 
 pub check_plan-requires-clause-ascend : goal.check_plan-requires-clause-ascend
-check_plan-requires-clause-ascend c = subst IsStrictlyIncreasing (sym c.hubs.ensures) c.routes.ensures.in_range.hubs_ascend
+check_plan-requires-clause-ascend c = subst IsStrictlyIncreasing (sym c.hubs.ensures) c.routes.ensures.in_range.proof.hubs_ascend
 
 pub check_plan-requires-clause-one_route_each : goal.check_plan-requires-clause-one_route_each
 check_plan-requires-clause-one_route_each c =
-    ap length c.routes.ensures.value ∙ c.routes.ensures.in_range.one_route_each ∙ ap (λ n. n * n) c.requires
+    ap length c.routes.ensures.value ∙ c.routes.ensures.in_range.proof.one_route_each ∙ ap (λ n. n * n) c.requires
 
 -- the conditions that were tried are those of the certificate
 tried : (c : After-check_plan)
     → hub_claims c.args.instance.now c.args.instance.now.size c.unsigned.result c.hubs.result.now c.routes.result.now
-    ≡ hub_claims_of c.args.instance.now c.args.certificate.now
+    ≡ hub_claims_of c.args.instance.now c.args.certificate.now.proof
 tried c =
     let p = c.args.instance.now in
-    let k = c.args.certificate.now in
+    let k = c.args.certificate.now.proof in
     let stated : c.unsigned.result ≡ k.cost = omega (arith, ints, c.unsigned.ensures.same, c.cost.ensures) in
     ap (λ n. hub_claims p n c.unsigned.result c.hubs.result.now c.routes.result.now) (sym c.requires)
     ∙ ap (λ x. hub_claims p k.size x c.hubs.result.now c.routes.result.now) stated

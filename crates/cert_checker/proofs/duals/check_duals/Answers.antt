@@ -1,5 +1,4 @@
-use Rattle.std.proofs.Common.{◌≡◌, ℕ, ◌+◌, List, Option, ap, sym, subst, ◌∙◌}
-use Rattle.hub_spec.specs.Cuts.{Prices}
+use Rattle.std.proofs.Common.{◌≡◌, ℕ, ◌+◌, Option, ap, sym, subst, ◌∙◌}
 use Rattle.cert_spec.specs.Text.{dual_runs}
 use Rattle.cert_spec.specs.Conditions.{Dual, FailsFirst}
 use Rattle.cert_spec.specs.PartConditions.{dual_claims}

@@ -71,6 +71,6 @@ returns-then-count-eq0-clause-ended g c =
       ends = inl (
         omega (arith, more, none, inv.0.2, c.loop-room-test.true),
         e.end none,
-        subst (λ (p : Problem). Why p bytes (verdict_of c.finish.result)) same (c.finish.ensures bytes (e.fed inv.0.0 inv.0.1)),
+        subst (λ (p : Problem). Why p bytes (verdict_of c.finish.result)) same (c.finish.ensures.why bytes (e.fed inv.0.0 inv.0.1)),
       );
     }

@@ -13,16 +13,17 @@ returns c = record {
     firm = record {
       problem = c.size-nodes.ensures.problem;
       dual_is = ap (λ (d : ListedDual). d.problem) c.in_ok-new-2.ensures;
-      size_is = ap (λ (d : Pending). d.size) c.in_ok-new-3.ensures;
-      candidates_are = ap (λ (d : Pending). d.candidates) c.in_ok-new-3.ensures;
-      long = c.in_ok-new-4.ensures.count;
+      proof_is = c.in_ok-new-3.ensures;
+      size_is = ap (λ (d : Pending). d.size) c.in_ok-new-4.ensures;
+      candidates_are = ap (λ (d : Pending). d.candidates) c.in_ok-new-4.ensures;
+      long = c.in_ok-new-5.ensures.count;
       cost_is = refl;
       bound_is = refl;
       short = omega arith;
     };
     keeps = (
       record { no_hub = refl; no_route = refl; tally = c.in_ok-new.ensures; known = refl },
-      record { sums_are = subst (AreCutSums c.args.instance.now []) (sym c.new-2.ensures) tt; no_dual = refl },
+      record { sums_are = subst (AreCutSums c.args.instance.now []) (sym c.new-2.ensures) tt; no_mark = refl; no_dual = refl },
     );
   });
   instance = refl;
