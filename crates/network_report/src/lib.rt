@@ -30,8 +30,8 @@ pub fn report<K: Sink>(
     certificate: &Certificate,
     sink: &mut K,
 ) -> Result<(), Failed>
-    requires { Holds instance.now certificate.now }
-    ensures { Puts K.taken K.faults sink.old sink.new result (report_text instance.now certificate.now) }
+    requires { Holds instance.now certificate.now.proof }
+    ensures { Puts K.taken K.faults sink.old sink.new result (report_text instance.now certificate.now.proof) }
 {
     let mut buffer = Buffer::new();
     put_report(instance, certificate, &mut buffer, sink)?;
@@ -44,9 +44,9 @@ fn put_report<K: Sink>(
     buffer: &mut Buffer,
     sink: &mut K,
 ) -> Result<(), Failed>
-    requires { Holds instance.now certificate.now }
+    requires { Holds instance.now certificate.now.proof }
     ensures { PutsThrough K.taken K.faults sink.old sink.new buffer.old buffer.new result
-        (report_text instance.now certificate.now) }
+        (report_text instance.now certificate.now.proof) }
 {
     let plan = certificate.plan();
     put_status(is_optimal(certificate), buffer, sink)?;
@@ -59,7 +59,7 @@ fn put_report<K: Sink>(
 
 // Where the certificate holds, its plan is optimal if no plan costs less than the bound, and the bound is the cost.
 fn is_optimal(certificate: &Certificate) -> bool
-    ensures { result ≡ nat_eq certificate.now.bound certificate.now.cost }
+    ensures { result ≡ nat_eq certificate.now.proof.bound certificate.now.proof.cost }
 {
     certificate.bound() == certificate.cost()
 }

@@ -96,9 +96,9 @@ pub(crate) fn put_totals<K: Sink>(
     buffer: &mut Buffer,
     sink: &mut K,
 ) -> Result<(), Failed>
-    requires { Holds instance.now certificate.now }
+    requires { Holds instance.now certificate.now.proof }
     ensures { PutsThrough K.taken K.faults sink.old sink.new buffer.old buffer.new result
-        (total_lines instance.now certificate.now) }
+        (total_lines instance.now certificate.now.proof) }
 {
     let fixed = instance.opening_cost(certificate.hubs());
     let total = unsigned(certificate.cost());

@@ -2,6 +2,7 @@
 use Rattle.std.specs.Prelude.{◌≡◌, ℕ, ◌<◌, ◌≤◌, List, [], ◌∷◌, length}
 use Rattle.hub_spec.specs.Problem.{Problem}
 use Rattle.hub_spec.specs.Certificates.{Proof}
+use Rattle.cert_spec.specs.Stated.{Stated}
 use Rattle.cert_spec.specs.Text.{Spells}
 use Rattle.cert_spec.specs.Conditions.{FailsFirst}
 use Rattle.cert_spec.specs.PartConditions.{size_claim}
@@ -15,15 +16,15 @@ pub record IsOfSize (p : Problem) (k : Proof) : Type 0 where
 
 -- they serve where they spell a certificate of the problem's size
 abbrev pub IsSized : Problem → List ℕ → Older → Type 0
-IsSized p bytes (serves k) = (length bytes ≤ certificate_limit) × Spells bytes k × IsOfSize p k
+IsSized p bytes (serves k) = (length bytes ≤ certificate_limit) × Spells bytes k × IsOfSize p k.proof
 IsSized p bytes (serves_not kind line) =
-    (length bytes ≤ certificate_limit) × ((k : Proof) × Spells bytes k × FailsFirst (size_claim p k ∷ []) kind line)
+    (length bytes ≤ certificate_limit) × ((k : Stated) × Spells bytes k × FailsFirst (size_claim p k.proof ∷ []) kind line)
 IsSized p bytes (unread fault) = (length bytes ≤ certificate_limit) × IsTextFault bytes fault
 IsSized p bytes over_limit = certificate_limit < length bytes
 
 -- what is said of bytes that spell this certificate: it serves, or its size line is the one that fails
-abbrev pub IsSizedAs : Problem → Proof → Older → Type 0
-IsSizedAs p k (serves m) = (m ≡ k) × IsOfSize p k
-IsSizedAs p k (serves_not kind line) = FailsFirst (size_claim p k ∷ []) kind line
+abbrev pub IsSizedAs : Problem → Stated → Older → Type 0
+IsSizedAs p k (serves m) = (m ≡ k) × IsOfSize p k.proof
+IsSizedAs p k (serves_not kind line) = FailsFirst (size_claim p k.proof ∷ []) kind line
 IsSizedAs p k (unread fault) = ⊥
 IsSizedAs p k over_limit = ⊥

@@ -13,8 +13,8 @@ use std::alloc::{AllocError, Global};
 /// The line of a certificate that tells its size, counted from 1.
 const SIZE_LINE: u64 = 2;
 
-/// What is said of the bytes of an older certificate for the instance, of which the text and the size line alone are tried. The
-/// only error is want of memory.
+/// What is said of the bytes of an older certificate for the instance, of which the text and the size line alone are tried;
+/// marks are passed over. The only error is want of memory.
 pub fn read_sized(alloc: Global, instance: &Instance, bytes: &[u8]) -> Result<Older, AllocError>
     ensures { IfOk result (λ said. IsSized instance.now bytes.now (older_of said)) }
 {
@@ -44,7 +44,7 @@ fn by_size(instance: &Instance, certificate: Certificate) -> Older
 
 fn is_of_size(instance: &Instance, certificate: &Certificate) -> bool
     ensures problem { IsProblem instance.now }
-    ensures is { IsTrue result ↔ IsOfSize instance.now certificate.now }
+    ensures is { IsTrue result ↔ IsOfSize instance.now certificate.now.proof }
 {
     certificate.size() == instance.size()
         && certificate.candidates() as usize == instance.candidates().len()

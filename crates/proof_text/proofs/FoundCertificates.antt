@@ -1,18 +1,19 @@
 -- A finding as a certificate of the parts that are made of it.
-use Rattle.std.proofs.Common.{◌≡◌, ℕ, ℤ, pos, List, map, sym, subst, ap, ◌∙◌}
+use Rattle.std.proofs.Common.{◌≡◌, ℕ, ℤ, pos, List, length, map, replicate, Option, None, sym, subst, ap, ◌∙◌}
 use Rattle.hub_spec.specs.Problem.{Problem}
 use Rattle.hub_spec.specs.Plans.{Plan}
 use Rattle.hub_spec.specs.Cuts.{Cut}
 use Rattle.hub_spec.specs.Trees.{Tree, empty, preorder}
-use Rattle.hub_spec.specs.Certificates.{Proof}
-use Rattle.hub_spec.specs.Ranges.{IsInRange}
+use Rattle.core_spec.specs.CoreCuts.{Mark}
+use Rattle.cert_spec.specs.Stated.{Stated, unmarked, IsStatedInRange}
+use Rattle.cert_spec.proofs.Unmarked.{unmarked_in_range}
 use Rattle.hub_model.specs.Amounts.{natural, IsNatural}
 use Rattle.plan_model.specs.Lines.{tree_line_of}
 use Rattle.plan_model.specs.declared.tree_lines.TreeLine.{TreeLine}
 use Rattle.kept_cuts.specs.Kept.{kept_cuts}
 use Rattle.kept_cuts.specs.declared.found.Found.{Found}
 use Rattle.kept_cuts.specs.Findings.{lines_of, IsVersionFor, IsProved, proof_of as found_proof}
-use Rattle.cert_format.specs.Parts.{proof_of as text_proof, AreCertificateParts, IsHeadingOf}
+use Rattle.cert_format.specs.Parts.{proof_of as text_proof, stated_of, AreCertificateParts, IsHeadingOf}
 use Rattle.cert_format.specs.Growing.{tree_of}
 use Rattle.cert_format.specs.Codes.{tree_of-preorder}
 use Rattle.cert_format.specs.declared.headings.Heading.{Heading}
@@ -20,20 +21,23 @@ use Rattle.cert_format.proofs.Amounts.{natural_pos}
 use Rattle.proof_text.specs.Certificates.{IsCertificateOf}
 
 -- the parts that a certificate is made of are those of the finding
-pub record AreParts (v : ℕ) (p : Problem) (found : Found) (heading : Heading) (plan : Plan) (cuts : List Cut) (lines : List TreeLine) : Type 0 where
+pub record AreParts (v : ℕ) (p : Problem) (found : Found) (heading : Heading) (plan : Plan) (cuts : List Cut) (marks : List (Option Mark))
+    (lines : List TreeLine) : Type 0 where
   pub heading_is : IsHeadingOf heading (found_proof v p found empty)
   pub plan_is : plan ≡ found.plan
   pub cuts_are : cuts ≡ kept_cuts p found.cuts.cuts
+  pub marks_are : marks ≡ replicate (length cuts) None
   pub lines_are : lines ≡ found.tree.items
 
 same_tree : (found : Found) (tree : Tree) (lines : List TreeLine) → lines ≡ found.tree.items → lines_of found.tree.items ≡ preorder tree
     → tree_of (map tree_line_of lines) ≡ tree
 same_tree found tree lines are is = ap (λ ls. tree_of (map tree_line_of ls)) are ∙ ap tree_of is ∙ tree_of-preorder tree
 
-same_proof : (v : ℕ) (p : Problem) (found : Found) (heading : Heading) (plan : Plan) (cuts : List Cut) (lines : List TreeLine) (tree : Tree)
-    → AreParts v p found heading plan cuts lines → lines_of found.tree.items ≡ preorder tree
+same_proof : (v : ℕ) (p : Problem) (found : Found) (heading : Heading) (plan : Plan) (cuts : List Cut) (marks : List (Option Mark))
+    (lines : List TreeLine) (tree : Tree)
+    → AreParts v p found heading plan cuts marks lines → lines_of found.tree.items ≡ preorder tree
     → text_proof heading plan cuts lines ≡ found_proof v p found tree
-same_proof v p found heading plan cuts lines tree e is = λ t. record {
+same_proof v p found heading plan cuts marks lines tree e is = λ t. record {
   version = e.heading_is.version t;
   size = e.heading_is.size t;
   candidates = e.heading_is.candidates t;
@@ -44,19 +48,29 @@ same_proof v p found heading plan cuts lines tree e is = λ t. record {
   tree = same_tree found tree lines e.lines_are is t;
 }
 
+-- with no mark
+same_stated : (v : ℕ) (p : Problem) (found : Found) (heading : Heading) (plan : Plan) (cuts : List Cut) (marks : List (Option Mark))
+    (lines : List TreeLine) (tree : Tree)
+    → AreParts v p found heading plan cuts marks lines → lines_of found.tree.items ≡ preorder tree
+    → stated_of heading plan cuts marks lines ≡ unmarked (found_proof v p found tree)
+same_stated v p found heading plan cuts marks lines tree e is =
+    ap (λ (ms : List (Option Mark)). stated_of heading plan cuts ms lines) e.marks_are
+    ∙ ap unmarked (same_proof v p found heading plan cuts marks lines tree e is)
+
 pub least : (z : ℤ) (n : ℕ) → z ≡ pos n → IsNatural z
 least z n e = subst (λ (x : ℤ). IsNatural x) (sym e) (natural_pos n)
 
-pub certificate_parts : (v : ℕ) (p : Problem) (found : Found) (heading : Heading) (plan : Plan) (cuts : List Cut)
-    (lines : List TreeLine) → IsVersionFor p found.cuts.cuts v → IsProved p found → AreParts v p found heading plan cuts lines
-    → AreCertificateParts heading plan cuts lines
-certificate_parts v p found heading plan cuts lines there h e = record {
-  in_range = subst (λ (k : Proof). IsInRange k) (sym (same_proof v p found heading plan cuts lines h.tree e h.lines)) (h.in_range v there);
+pub certificate_parts : (v : ℕ) (p : Problem) (found : Found) (heading : Heading) (plan : Plan) (cuts : List Cut) (marks : List (Option Mark))
+    (lines : List TreeLine) → IsVersionFor p found.cuts.cuts v → IsProved p found → AreParts v p found heading plan cuts marks lines
+    → AreCertificateParts heading plan cuts marks lines
+certificate_parts v p found heading plan cuts marks lines there h e = record {
+  in_range = subst IsStatedInRange (sym (same_stated v p found heading plan cuts marks lines h.tree e h.lines))
+      (unmarked_in_range (found_proof v p found h.tree) (h.in_range v there));
   one_tree = ap preorder (same_tree found h.tree lines e.lines_are h.lines) ∙ sym h.lines ∙ sym (ap (map tree_line_of) e.lines_are);
   cost_least = least heading.cost found.cost e.heading_is.cost;
   bound_least = least heading.bound found.bound e.heading_is.bound;
 }
 
-pub found_certificate : (v : ℕ) (p : Problem) (found : Found) (heading : Heading) (plan : Plan) (cuts : List Cut) (lines : List TreeLine) (k : Proof)
-    → AreParts v p found heading plan cuts lines → k ≡ text_proof heading plan cuts lines → IsCertificateOf v p found k
-found_certificate v p found heading plan cuts lines k e is = λ tree has. is ∙ same_proof v p found heading plan cuts lines tree e has
+pub found_certificate : (v : ℕ) (p : Problem) (found : Found) (heading : Heading) (plan : Plan) (cuts : List Cut) (marks : List (Option Mark))
+    (lines : List TreeLine) (k : Stated) → AreParts v p found heading plan cuts marks lines → k ≡ stated_of heading plan cuts marks lines → IsCertificateOf v p found k
+found_certificate v p found heading plan cuts marks lines k e is = λ tree has. is ∙ same_stated v p found heading plan cuts marks lines tree e has

@@ -1,5 +1,5 @@
 -- The lines of a finding's cuts by places are those of the cuts in order.
-use Rattle.std.proofs.Common.{◌≡◌, ℕ, zero, suc, ◌+◌, ◌*◌, ◌<◌, ◌≤◌, Bool, false, nat_eq, List, [], ◌∷◌, ◌++◌, length, take, flat_map, get_or, All, if◌then◌else◌, refl, sym, ap, ap₂, subst, ◌∙◌, suc-mul, ne_eqb, arith}
+use Rattle.std.proofs.Common.{◌≡◌, ℕ, zero, suc, ◌+◌, ◌*◌, ◌<◌, ◌≤◌, Bool, false, nat_eq, List, [], ◌∷◌, ◌++◌, length, take, flat_map, get_or, All, if◌then◌else◌, Option, None, refl, sym, ap, ap₂, subst, ◌∙◌, suc-mul, ne_eqb, arith}
 use Rattle.std.specs.List.{range_with_len}
 use Rattle.std.proofs.lemmas.List.{flat_map_more, take_all, take_more}
 use Rattle.std.proofs.lemmas.List.Concat.{flat_map-append}
@@ -8,14 +8,15 @@ use Rattle.std.proofs.lemmas.List.FromFn.{get_or-range_with_len}
 use Rattle.std.proofs.lemmas.Nat.{div-mul-add, mod-mul-add}
 use Rattle.hub_spec.specs.Problem.{Problem}
 use Rattle.hub_spec.specs.Cuts.{Cut, cut_by}
+use Rattle.core_spec.specs.CoreCuts.{Mark}
 use Rattle.cert_spec.specs.Lines.{Item, says_cut}
-use Rattle.cert_spec.specs.Text.{line_bytes, part_said, cut_items, cuts_items}
+use Rattle.cert_spec.specs.Text.{line_bytes, part_said, cut_items_as, cut_items}
 use Rattle.cert_format.specs.DualItems.{dual_items_from}
 use Rattle.cert_format.proofs.Joined.{texts_joined}
 use Rattle.cert_format.proofs.CutLines.{cut_text}
-use Rattle.kept_cuts.specs.Kept.{Kept, by_set, kept_cut, kept_cuts, kept_part, kept_at, IsKeptFor}
+use Rattle.kept_cuts.specs.Kept.{Kept, by_set, kept_cut, kept_part, kept_at, IsKeptFor}
 use Rattle.dual_lender.specs.Lenders.{kept_dual}
-use Rattle.proof_text.specs.Texts.{head_items, origin_items, place_items, stretch_items}
+use Rattle.proof_text.specs.Texts.{head_items, origin_items, place_items, stretch_items, kept_items}
 use Rattle.proof_text.proofs.FoundLines.{numbered, length_numbered, same_place, kept_cut_at, kept_cut_text}
 use Rattle.proof_text.proofs.Ranges.{joined, same_each, shifted}
 
@@ -40,7 +41,7 @@ first_other head f g (suc n) some first later =
     ap₂ (λ (xs ys : List Item). xs ++ ys) first (same_each f g (0 + 1) n (λ i low high. later i (omega (arith, low))))
 
 cut_origins : (v : ℕ) (p : Problem) (c : ℕ) (kept : Kept) → 1 ≤ p.size → IsKeptFor p kept
-    → flat_map line_bytes (flat_map (origin_items v p c kept) (range_with_len 0 p.size)) ≡ cut_text v p.size (c, kept_cut p kept)
+    → flat_map line_bytes (flat_map (origin_items v p c kept) (range_with_len 0 p.size)) ≡ flat_map line_bytes (cut_items_as v p.size c (kept_cut p kept) None)
 cut_origins v p c kept some fits =
     let duals = dual_items_from v p.size (kept_dual p kept) in
     ap (flat_map line_bytes)
@@ -67,7 +68,7 @@ cut_places v p cuts m =
     ∙ same_each (λ i. place (m * p.size + i)) (origin_items v p (m + 1) (kept_at cuts (m + 1))) 0 p.size
     (λ i low high. place_at v p cuts m i (omega (arith, high)))
 
-one_cut : (v : ℕ) (p : Problem) (cuts : List Kept) (m : ℕ) (d : ℕ × Cut) → 1 ≤ p.size → All (IsKeptFor p) cuts → m < length cuts
+one_cut : (v : ℕ) (p : Problem) (cuts : List Kept) (m : ℕ) (d : ℕ × (Cut × Option Mark)) → 1 ≤ p.size → All (IsKeptFor p) cuts → m < length cuts
     → flat_map line_bytes (stretch_items v p cuts (m * p.size) p.size) ≡ cut_text v p.size (get_or (numbered p cuts) m d)
 one_cut v p cuts m d some fit less =
     let one = kept_at cuts (m + 1) in
@@ -84,7 +85,7 @@ first_places v p cuts zero some fit few =
     let none : 0 * p.size ≡ 0 = omega arith in
     ap (λ (k : ℕ). flat_map line_bytes (stretch_items v p cuts 0 k)) none
 first_places v p cuts (suc m) some fit few =
-    let d : ℕ × Cut = (0, cut_by []) in
+    let d : ℕ × (Cut × Option Mark) = (0, (cut_by [], None)) in
     let n = p.size in
     let all = numbered p cuts in
     let before = stretch_items v p cuts 0 (m * n) in
@@ -100,7 +101,7 @@ first_places v p cuts (suc m) some fit few =
     ∙ ap (λ (k : ℕ). flat_map (cut_text v n) (take k all)) (sym next)
 
 pub all_places : (v : ℕ) (p : Problem) (cuts : List Kept) → 1 ≤ p.size → All (IsKeptFor p) cuts
-    → flat_map line_bytes (stretch_items v p cuts 0 (length cuts * p.size)) ≡ flat_map line_bytes (cuts_items v p.size 1 (kept_cuts p cuts))
+    → flat_map line_bytes (stretch_items v p cuts 0 (length cuts * p.size)) ≡ flat_map line_bytes (kept_items v p cuts)
 all_places v p cuts some fit =
     first_places v p cuts (length cuts) some fit (omega arith)
     ∙ ap (flat_map (cut_text v p.size)) (take_all (length cuts) (numbered p cuts) (omega (arith, length_numbered p cuts)))

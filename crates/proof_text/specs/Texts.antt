@@ -1,8 +1,11 @@
 -- The text of the certificate of what a search found, in a version: its lines in order, the tree's as they were found.
-use Rattle.std.specs.Prelude.{◌≡◌, ℕ, ◌+◌, ◌/◌, ◌%◌, List, [], ◌∷◌, ◌++◌, length, flat_map, nat_eq, if◌then◌else◌}
+use Rattle.std.specs.Prelude.{◌≡◌, ℕ, ◌+◌, ◌/◌, ◌%◌, List, [], ◌∷◌, ◌++◌, length, flat_map, zip, replicate, nat_eq, if◌then◌else◌, Option, None}
 use Rattle.std.specs.List.{range_with_len}
 use Rattle.hub_spec.specs.Problem.{Problem}
 use Rattle.hub_spec.specs.Trees.{Tree, preorder}
+use Rattle.hub_spec.specs.Cuts.{Cut}
+use Rattle.core_spec.specs.CoreCuts.{Mark}
+use Rattle.cert_spec.specs.Stated.{unmarked}
 use Rattle.cert_spec.specs.Lines.{Item, says_cut}
 use Rattle.cert_spec.specs.Text.{top_items, cuts_items, tree_items, part_said, line_bytes, certificate_text}
 use Rattle.cert_format.specs.DualItems.{dual_items_from, all_dual_items}
@@ -35,6 +38,14 @@ stretch_items version p cuts first count = flat_map (place_items version p cuts)
 
 -- ---- all lines
 
+-- the cuts, none of which is marked
+abbrev pub unmarked_cuts : List Cut → List (Cut × Option Mark)
+unmarked_cuts cuts = zip cuts (replicate (length cuts) None)
+
+-- the lines of the kept cuts
+abbrev pub kept_items : ℕ → Problem → List Kept → List Item
+kept_items version p cuts = cuts_items version p.size 1 (unmarked_cuts (kept_cuts p cuts))
+
 -- the lines up to the number of cuts
 abbrev pub found_top_items : ℕ → Problem → Found → List Item
 found_top_items version p found =
@@ -44,14 +55,14 @@ found_top_items version p found =
 abbrev pub found_items : ℕ → Problem → Found → List Item
 found_items version p found =
     found_top_items version p found
-    ++ (cuts_items version p.size 1 (kept_cuts p found.cuts.cuts) ++ tree_items (lines_of found.tree.items))
+    ++ (kept_items version p found.cuts.cuts ++ tree_items (lines_of found.tree.items))
 
 -- the text
 unfoldable pub found_text : ℕ → Problem → Found → List ℕ
 found_text version p found = flat_map line_bytes (found_items version p found)
 
--- it is the text of the certificate with each tree that has the found lines
+-- it is the text of the certificate with each tree that has the found lines, and no mark
 abbrev pub FoundTextIsCertificate : Type 0
 FoundTextIsCertificate =
     (version : ℕ) (p : Problem) (found : Found) (tree : Tree) → lines_of found.tree.items ≡ preorder tree
-    → found_text version p found ≡ certificate_text (proof_of version p found tree)
+    → found_text version p found ≡ certificate_text (unmarked (proof_of version p found tree))

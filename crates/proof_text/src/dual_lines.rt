@@ -57,7 +57,7 @@ pub(crate) fn put_origin<K: Sink>(
     lender.work_out(instance, kept, i);
     match version {
         Version::First => put_each(instance, kept, i, lender, buffer, sink),
-        Version::Second => put_runs(instance, kept, i, lender, buffer, sink),
+        Version::Second | Version::Third => put_runs(instance, kept, i, lender, buffer, sink),
     }
 }
 

@@ -3,8 +3,8 @@
 //! A search keeps of each cut what its duals can be made from anew, and a `DualLender` of `dual_lender` lends them one at
 //! a time. [`write_found`] puts the text: on one thread through the lender that it is given, or by workers with lenders of
 //! their own, of which each works out the texts of some origins of some cuts. [`certificate_of`] makes the whole
-//! certificate with all duals, for those that read it again. Both are for each version of the text: in the second equal
-//! neighbours of one origin are one line. [`found_text_is_certificate`] says that the text that is put is that
+//! certificate with all duals, for those that read it again. Both are for each version of the text, with no mark: from the second on
+//! equal neighbours of one origin are one line. [`found_text_is_certificate`] says that the text that is put is that
 //! certificate's. Costs are in 10^-12.
 //!
 //! In order: `dual_runs` and `dual_lines` (the lines of a cut's duals), `places` (the lines of one origin of one cut),

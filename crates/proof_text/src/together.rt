@@ -2,12 +2,11 @@
 
 ghost use Rattle.std.specs.Prelude.{◌≤◌, flat_map};
 ghost use Rattle.hub_io.specs.Outside.{PutsThrough};
-ghost use Rattle.cert_spec.specs.Text.{cuts_items};
 ghost use Rattle.cert_scan.specs.Versions.{version_number};
 ghost use Rattle.cert_format.specs.Puts.{PutsLines};
-ghost use Rattle.kept_cuts.specs.Kept.{kept_cuts};
 ghost use Rattle.dual_lender.specs.Lenders.{IsLenderFor};
 ghost use Rattle.proof_text.specs.Places.{AreLines};
+ghost use Rattle.proof_text.specs.Texts.{kept_items};
 ghost use Rattle.proof_text.specs.Stretches.{IsStretch, items_along};
 
 use crate::places::CutLines;
@@ -38,7 +37,7 @@ pub(crate) fn put_cuts_together<'a, R: Threads + Sync, K: Sink>(
     requires lender { IsLenderFor lines.now.instance.now lender.old }
     ensures lender { IsLenderFor lines.now.instance.now lender.new }
     ensures lines { PutsLines K.taken K.faults sink.old sink.new buffer.old buffer.new result
-        (cuts_items (version_number lines.now.version) lines.now.instance.now.size 1 (kept_cuts lines.now.instance.now lines.now.cuts.now.cuts)) }
+        (kept_items (version_number lines.now.version) lines.now.instance.now lines.now.cuts.now.cuts) }
 {
     let places = lines.places();
     let most = stretch_length(lines.instance.size());

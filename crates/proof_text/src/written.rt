@@ -1,15 +1,15 @@
 //! The text of the certificate of what a search found, put part by part.
 
-ghost use Rattle.std.specs.Prelude.{◌≡◌, ◌≤◌, All};
-ghost use Rattle.cert_spec.specs.Text.{cut_items, cuts_items};
+ghost use Rattle.std.specs.Prelude.{◌≡◌, ◌≤◌, All, None};
+ghost use Rattle.cert_spec.specs.Text.{cut_items_as};
 ghost use Rattle.hub_io.specs.Outside.{Puts};
 ghost use Rattle.cert_scan.specs.Versions.{version_number};
 ghost use Rattle.cert_format.specs.Puts.{PutsLines};
-ghost use Rattle.kept_cuts.specs.Kept.{kept_of, kept_cut, kept_cuts, IsKeptFor};
+ghost use Rattle.kept_cuts.specs.Kept.{kept_of, kept_cut, IsKeptFor};
 ghost use Rattle.kept_cuts.specs.Findings.{IsProved};
 ghost use Rattle.dual_lender.specs.Lenders.{IsLenderFor};
 ghost use Rattle.proof_text.specs.Places.{AreLines};
-ghost use Rattle.proof_text.specs.Texts.{found_top_items, found_items, found_text};
+ghost use Rattle.proof_text.specs.Texts.{kept_items, found_top_items, found_items, found_text};
 
 use crate::dual_lines::put_kept_duals;
 use crate::headings::heading_of;
@@ -23,7 +23,8 @@ use kept_cuts::{Found, KeptCut, KeptCuts};
 use std::alloc::Global;
 use std::thread::Threads;
 
-/// Writes the certificate of what a search of the instance found, in this version. It fails only where a put does.
+/// Writes the certificate of what a search of the instance found, in this version and with no mark. It fails only where a
+/// put does.
 ///
 /// Each dual is made anew: by the lender, which is for the instance, or by so many workers, 1 to 64, each in a thread of its
 /// own where one can be made. The text is the same for every number of workers. One worker takes no memory, and where
@@ -102,7 +103,7 @@ fn put_cuts<'a, R: Threads + Sync, K: Sink>(
     requires lender { IsLenderFor lines.now.instance.now lender.old }
     ensures lender { IsLenderFor lines.now.instance.now lender.new }
     ensures lines { PutsLines K.taken K.faults sink.old sink.new buffer.old buffer.new result
-        (cuts_items (version_number lines.now.version) lines.now.instance.now.size 1 (kept_cuts lines.now.instance.now lines.now.cuts.now.cuts)) }
+        (kept_items (version_number lines.now.version) lines.now.instance.now lines.now.cuts.now.cuts) }
 {
     if workers > 1 {
         return put_cuts_together(rt, alloc, lines, workers, lender, buffer, sink);
@@ -148,7 +149,7 @@ fn put_kept_cuts<K: Sink>(
     requires fit { All (IsKeptFor instance.now) cuts.now.cuts }
     ensures lender { IsLenderFor instance.now lender.new }
     ensures lines { PutsLines K.taken K.faults sink.old sink.new buffer.old buffer.new result
-        (cuts_items (version_number version) instance.now.size 1 (kept_cuts instance.now cuts.now.cuts)) }
+        (kept_items (version_number version) instance.now cuts.now.cuts) }
 {
     for place in 0..cuts.len() {
         let c = place + 1;
@@ -172,7 +173,7 @@ fn put_kept_cut<K: Sink>(
     requires fits { IsKeptFor instance.now (kept_of kept.now) }
     ensures lender { IsLenderFor instance.now lender.new }
     ensures lines { PutsLines K.taken K.faults sink.old sink.new buffer.old buffer.new result
-        (cut_items (version_number version) instance.now.size (c, kept_cut instance.now (kept_of kept.now))) }
+        (cut_items_as (version_number version) instance.now.size c (kept_cut instance.now (kept_of kept.now)) None) }
 {
     put_cut(version, c, kept.part(), buffer, sink)?;
     put_kept_duals(version, instance, kept, lender, buffer, sink)

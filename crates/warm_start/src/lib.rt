@@ -15,8 +15,8 @@ use search_core::Start;
 
 /// What a search begins again with: the cuts of an older certificate in order, and its hubs. No dual is copied.
 pub fn start_of(certificate: Certificate) -> Start
-    ensures start { start_seen result ≡ start_of certificate }
-    ensures is_start { (p : Problem) → HasCutsOf p certificate → IsStartOf p (start_seen result) }
+    ensures start { start_seen result ≡ start_of certificate.proof }
+    ensures is_start { (p : Problem) → HasCutsOf p certificate.proof → IsStartOf p (start_seen result) }
 {
     let (cuts, hubs) = certificate.into_start();
     Start { cuts, hubs }

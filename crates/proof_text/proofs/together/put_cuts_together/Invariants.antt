@@ -1,11 +1,10 @@
 use Rattle.std.proofs.Common.{◌≤◌, ◌-◌, flat_map}
-use Rattle.cert_spec.specs.Text.{line_bytes, cuts_items}
+use Rattle.cert_spec.specs.Text.{line_bytes}
 use Rattle.cert_scan.specs.Versions.{version_number}
 use Rattle.cert_format.proofs.Following.{HasPutFront}
-use Rattle.kept_cuts.specs.Kept.{kept_cuts}
 use Rattle.dual_lender.specs.Lenders.{IsLenderFor}
 use Rattle.proof_text.specs.Places.{place_count}
-use Rattle.proof_text.specs.Texts.{stretch_items}
+use Rattle.proof_text.specs.Texts.{stretch_items, kept_items}
 use Rattle.proof_text.proofs.together.put_cuts_together.Given as goal
 
 abbrev pub invariant-loop-first : goal.invariant-loop-first
@@ -19,7 +18,7 @@ invariant-loop-first g l =
       within : l.first ≤ place_count l.lines;
       put : HasPutFront s.taken s.faults l.initial.sink l.sink l.initial.buffer l.buffer
           (flat_map line_bytes (stretch_items v p cuts l.first (place_count l.lines - l.first)))
-          (flat_map line_bytes (cuts_items v p.size 1 (kept_cuts p cuts)));
+          (flat_map line_bytes (kept_items v p cuts));
     }
 
 abbrev pub decreases-loop-first : goal.decreases-loop-first

@@ -1,4 +1,4 @@
-use Rattle.std.proofs.Common.{[], ap, is_ok, is_err, sym, subst, ◌∙◌, arith}
+use Rattle.std.proofs.Common.{[], None, ap, is_ok, is_err, sym, subst, ◌∙◌, arith}
 use Rattle.std.proofs.lemmas.List.Elements.{All-get_or}
 use Rattle.hub_spec.specs.Cuts.{cut_by}
 use Rattle.cert_spec.specs.Text.{cut_items}
@@ -24,9 +24,10 @@ returns-in_err-put_kept_cut-clause-lines g c =
     let p = c.args.instance.now in
     let kept = c.args.cuts.now.cuts in
     as_text (texts_joined (cut_items (version_number c.args.version) p.size) (numbered p kept))
-    (list_stop (0, cut_by []) c.loop-place.invariant.put c.put_kept_cut.ensures.lines (ap is_err c.in_err-put_kept_cut.was) c.from_residual.ensures.0
+    (list_stop (0, (cut_by [], None)) c.loop-place.invariant.put c.put_kept_cut.ensures.lines (ap is_err c.in_err-put_kept_cut.was) c.from_residual.ensures.0
     (omega (arith, length_numbered p kept, c.len-place-end.ensures))
-    (kept_cut_at (version_number c.args.version) p kept c.loop-place.place (0, cut_by []) (kept_of c.cut.result.now) (omega (arith, c.len-place-end.ensures)) c.cut.ensures))
+    (kept_cut_at (version_number c.args.version) p kept c.loop-place.place (0, (cut_by [], None)) (kept_of c.cut.result.now)
+    (omega (arith, c.len-place-end.ensures)) c.cut.ensures))
 
 pub loop-place-preserved : goal.loop-place-preserved
 loop-place-preserved g c =
@@ -34,9 +35,10 @@ loop-place-preserved g c =
     let kept = c.args.cuts.now.cuts in
     record {
       lender = c.put_kept_cut.ensures.lender;
-      put = list_more (0, cut_by []) c.loop-place.invariant.put c.put_kept_cut.ensures.lines (ap is_ok c.in_ok-put_kept_cut.was)
+      put = list_more (0, (cut_by [], None)) c.loop-place.invariant.put c.put_kept_cut.ensures.lines (ap is_ok c.in_ok-put_kept_cut.was)
           (omega (arith, length_numbered p kept, c.len-place-end.ensures))
-          (kept_cut_at (version_number c.args.version) p kept c.loop-place.place (0, cut_by []) (kept_of c.cut.result.now) (omega (arith, c.len-place-end.ensures)) c.cut.ensures);
+          (kept_cut_at (version_number c.args.version) p kept c.loop-place.place (0, (cut_by [], None)) (kept_of c.cut.result.now)
+          (omega (arith, c.len-place-end.ensures)) c.cut.ensures);
     }
 
 pub returns-clause-lender : goal.returns-clause-lender
