@@ -8,7 +8,8 @@ use Rattle.hub_spec.specs.Problem.{Problem}
 use Rattle.hub_spec.specs.Plans.{Plan, IsPlan}
 use Rattle.hub_spec.specs.Lacking.{lacking}
 use Rattle.hub_spec.specs.Certificates.{Proof}
-use Rattle.cert_spec.specs.Text.{Spells}
+use Rattle.cert_spec.specs.Text.{SpellsUnmarked}
+use Rattle.cert_spec.specs.Stated.{Stated}
 use Rattle.cert_spec.specs.Verdicts.{Verdict, optimal, bounds, fails, misread, too_long, Why, Older, serves, serves_not, unread, over_limit, IsOlder}
 use Rattle.cert_spec.proofs.OlderTexts.{one_older_from}
 use Rattle.cert_spec.proofs.OneText.{one_certificate_lem}
@@ -125,11 +126,11 @@ pub solve_status_is : (files : Files) (x : Solving) (rule : SearchRule) (p : Pro
     → Answers (solve x rule) status (Some files) text → status ≡ solve_status p (method_by x rule)
 solve_status_is files x rule p Done text instance h =
     let m = method_by x rule in
-    solves_status h.problem m (Spells text) h.solves ∙ served_status h.problem m h.solves.certificate.plan h.solves.finds.holds.plan
+    solves_status h.problem m (SpellsUnmarked text) h.solves ∙ served_status h.problem m h.solves.certificate.plan h.solves.finds.holds.plan
     ∙ ap (λ q. solve_status q m) (one_instance files x.source h.problem p h.instance instance)
 solve_status_is files x rule p Stopped text instance h =
     let m = method_by x rule in
-    stops_status h.problem m (Spells text) h.stops ∙ served_status h.problem m h.stops.certificate.plan h.stops.finds.holds.plan
+    stops_status h.problem m (SpellsUnmarked text) h.stops ∙ served_status h.problem m h.stops.certificate.plan h.stops.finds.holds.plan
     ∙ ap (λ q. solve_status q m) (one_instance files x.source h.problem p h.instance instance)
 solve_status_is files x rule p No text instance h = absurd h
 solve_status_is files x rule p Usage text instance h = absurd h
@@ -195,8 +196,8 @@ refused_older p search (serves_not kind line) text e = refl
 refused_older p search (unread fault) text e = refl
 refused_older p search over_limit text e = refl
 
-served_older : (p : Problem) (search : Search) (older : Proof) (said : Older) (status : Status) → serves older ≡ said
-    → status ≡ rule_status p (again_method search older) → status ≡ older_status p search said
+served_older : (p : Problem) (search : Search) (older : Stated) (said : Older) (status : Status) → serves older ≡ said
+    → status ≡ rule_status p (again_method search older.proof) → status ≡ older_status p search said
 unfolding older_status
 served_older p search older said status same is = subst (λ (o : Older). status ≡ older_status p search o) same is
 
@@ -206,13 +207,13 @@ pub resolve_status_is : (files : Files) (x : Resolving) (p : Problem) (bytes : L
 resolve_status_is files x p bytes said Done text instance held is h =
     let same : h.problem ≡ p = one_instance files x.source h.problem p h.instance instance in
     served_older p x.search h.older said Done (older_is files x p h.problem bytes said (serves h.older) same held is h.older_held)
-    (subst (λ (q : Problem). Done ≡ rule_status q (again_method x.search h.older)) same
-    (solves_status h.problem (again_method x.search h.older) (Spells text) h.solves))
+    (subst (λ (q : Problem). Done ≡ rule_status q (again_method x.search h.older.proof)) same
+    (solves_status h.problem (again_method x.search h.older.proof) (SpellsUnmarked text) h.solves))
 resolve_status_is files x p bytes said Stopped text instance held is h =
     let same : h.problem ≡ p = one_instance files x.source h.problem p h.instance instance in
     served_older p x.search h.older said Stopped (older_is files x p h.problem bytes said (serves h.older) same held is h.older_held)
-    (subst (λ (q : Problem). Stopped ≡ rule_status q (again_method x.search h.older)) same
-    (stops_status h.problem (again_method x.search h.older) (Spells text) h.stops))
+    (subst (λ (q : Problem). Stopped ≡ rule_status q (again_method x.search h.older.proof)) same
+    (stops_status h.problem (again_method x.search h.older.proof) (SpellsUnmarked text) h.stops))
 resolve_status_is files x p bytes said No text instance held is h =
     let k = h.refuses in
     let same : k.problem ≡ p = one_instance files x.source k.problem p k.instance instance in
@@ -226,7 +227,7 @@ resolve_status_is files x p bytes said Write text instance held is h = absurd h
 resolve_status_is files x p bytes said Lacking text instance held is h = absurd h
 
 -- where the older certificate serves, it has one of two statuses
-pub resolve_served : (files : Files) (x : Resolving) (p : Problem) (bytes : List ℕ) (older : Proof) (status : Status) (text : List ℕ)
+pub resolve_served : (files : Files) (x : Resolving) (p : Problem) (bytes : List ℕ) (older : Stated) (status : Status) (text : List ℕ)
     → HoldsInstance files x.source p → files x.older ≡ Some bytes → IsOlder p bytes (serves older) → Answers (resolve x) status (Some files) text
     → (status ≡ Done) ⊎ (status ≡ Stopped)
 resolve_served files x p bytes older Done text instance held is h = inl refl
@@ -244,7 +245,7 @@ resolve_served files x p bytes older Write text instance held is h = absurd h
 resolve_served files x p bytes older Lacking text instance held is h = absurd h
 
 -- and one alone where as many nodes are allowed as a whole tree has
-pub resolve_enough : (files : Files) (x : Resolving) (p : Problem) (bytes : List ℕ) (older : Proof) (status : Status) (text : List ℕ)
+pub resolve_enough : (files : Files) (x : Resolving) (p : Problem) (bytes : List ℕ) (older : Stated) (status : Status) (text : List ℕ)
     → HoldsInstance files x.source p → files x.older ≡ Some bytes → IsOlder p bytes (serves older) → IsEnoughFor p x.search.nodes
     → Answers (resolve x) status (Some files) text → status ≡ Done
 resolve_enough files x p bytes older Done text instance held is enough h = refl
@@ -457,15 +458,15 @@ below_or_same a b h = ⊎_elim (λ less. inl less) (λ not. inr (omega (arith, h
 pub certified_verdict : (files : Files) (s : Source) (file text : List ℕ) (h : ReportsFile (Some files) s file text)
     → (v : Verdict) × Why h.problem h.bytes v × (report_status v ≡ Done)
 certified_verdict files s file text h =
-    let k = h.proof in
+    let k = h.stated.proof in
     ⊎_elim
     (λ (gap : k.bound < k.cost). (
       bounds k.bound k.cost,
-      (gap, record { not_too_long = h.not_too_long; certificate = (k, h.spelled, h.holds, refl, refl) }),
+      (gap, record { not_too_long = h.not_too_long; certificate = (h.stated, h.spelled, h.holds, refl, refl) }),
       refl,
     ))
-    (λ (e : k.bound ≡ k.cost). (optimal k.cost, record { not_too_long = h.not_too_long; certificate = (k, h.spelled, h.holds, e, refl) }, refl))
-    (below_or_same k.bound k.cost h.holds.bound)
+    (λ (e : k.bound ≡ k.cost). (optimal k.cost, record { not_too_long = h.not_too_long; certificate = (h.stated, h.spelled, h.holds, e, refl) }, refl))
+    (below_or_same k.bound k.cost h.holds.holds.bound)
 
 pub report_status_is : (files : Files) (s : Source) (file : List ℕ) (p : Problem) (bytes : List ℕ) (v : Verdict) (status : Status) (text : List ℕ)
     → HoldsInstance files s p → files file ≡ Some bytes → Why p bytes v → Answers (report s file) status (Some files) text → status ≡ report_status v

@@ -9,12 +9,12 @@ use Rattle.file_spec.specs.Files.{HasContents}
 use Rattle.file_spec.specs.Instances as whole
 use Rattle.file_spec.specs.Options.{HubNumber, Options}
 use Rattle.file_spec.specs.Instances.{made, wanted_hubs}
-use Rattle.hub_words.specs.Requests.{Source, Resolving}
+use Rattle.hub_words.specs.Requests.{Source}
 use Rattle.hub_top.specs.declared.halts.Halt.{Halt}
 use Rattle.hub_top.specs.declared.halts.Halt.TheVariants as halts
 use Rattle.hub_top.specs.Blames.{blame_of}
 use Rattle.hub_model.specs.Faults.{fault_of}
-use Rattle.hub_top.specs.Commands.{WhereTold, Blame, on_instance, on_costs, HoldsFault, alone, together, HoldsCosts, HoldsContents, HoldsCostFault, HoldsInstance, LacksSource, no_file, no_costs, LacksCertificate, LacksOlder}
+use Rattle.hub_top.specs.Commands.{WhereTold, Blame, on_instance, on_costs, HoldsFault, alone, together, HoldsCosts, HoldsContents, HoldsCostFault, HoldsInstance, LacksSource, no_file, no_costs, LacksCertificate}
 use Rattle.hub_top.specs.Outcomes.{FailsFor, StaysShelf}
 use Rattle.hub_top.specs.Building.{IsBuilt, KeepsLimits}
 use Rattle.hub_top.specs.Halts.{Halts, IsTooLong, IsOfToken, IsOfWhole, IsOfCosts, IsOfCostTokens, HasCostsFault, LacksCosts, IsOfSource}

@@ -85,7 +85,7 @@ resolved_checked_of : (asked : Option Request) (held : Option Files) (quiet : Ty
 resolved_checked_of asked held quiet status complete before files r t certificate text told asks h short same there calm =
     complete.judged files t certificate h.problem text (optimal h.solves.certificate.cost) told asks
     (held_again before files r.source t h.problem h.instance same) there
-    (solved_verdict h.problem (again_method r.search h.older) text h.solves short).0 calm
+    (solved_verdict h.problem (again_method r.search h.older.proof) text h.solves short).0 calm
 
 -- a check of a text that optimizes the same instance
 optimum_checked : (asked : Option Request) (held : Option Files) (quiet : Type 0) (status : Status) → Completeness asked held quiet status

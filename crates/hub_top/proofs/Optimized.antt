@@ -12,7 +12,8 @@ use Rattle.hub_spec.proofs.Preorders.{length-preorder}
 use Rattle.hub_spec.proofs.WeakDuality.{no_plan_below_bound}
 use Rattle.plan_model.specs.Lines.{tree_line_of}
 use Rattle.search_spec.specs.Findings.{AreWithin, IsSpent, IsEnough}
-use Rattle.cert_spec.specs.Text.{Spells}
+use Rattle.cert_spec.specs.Text.{SpellsUnmarked}
+use Rattle.cert_spec.proofs.Unmarked.{unmarked_in_range}
 use Rattle.kept_cuts.specs.declared.found.Found.{Found}
 use Rattle.kept_cuts.specs.Findings.{AreOwn, IsProved, IsVersionFor, proof_of, lines_of}
 use Rattle.proof_text.specs.Texts.{found_text}
@@ -55,13 +56,13 @@ lines_long found tree lines =
     sym (length-map found.tree.items tree_line_of) ∙ ap length lines ∙ length-preorder tree
 
 optimum_finds : (m : Method) (gap : ℕ) (p : Problem) (found : Found) (h : IsClosed p m.nodes gap found) → IsVersionFor p found.cuts.cuts m.version
-    → Finds p m (Spells (found_text m.version p found)) (proof_of m.version p found h.proved.tree)
+    → Finds p m (SpellsUnmarked (found_text m.version p found)) (proof_of m.version p found h.proved.tree)
 optimum_finds m gap p found h version =
     let proved = h.proved in
     let k = proof_of m.version p found proved.tree in
     let holds = proved.holds m.version in
     record {
-      told = record { in_range = proved.in_range m.version version; text = found_text_certificate m.version p found proved.tree proved.lines };
+      told = record { in_range = unmarked_in_range k (proved.in_range m.version version); text = found_text_certificate m.version p found proved.tree proved.lines };
       version = refl;
       holds = holds;
       paid = sym holds.cost;

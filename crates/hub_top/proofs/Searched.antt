@@ -12,7 +12,9 @@ use Rattle.hub_spec.proofs.Preorders.{length-preorder}
 use Rattle.plan_model.specs.Lines.{tree_line_of}
 use Rattle.search_spec.specs.Findings.{certificate_of}
 use Rattle.search_spec.proofs.FoundProofs.{certificate_in_range_lem}
-use Rattle.cert_spec.specs.Text.{certificate_text, Spells}
+use Rattle.cert_spec.specs.Stated.{unmarked}
+use Rattle.cert_spec.specs.Text.{certificate_text, SpellsUnmarked}
+use Rattle.cert_spec.proofs.Unmarked.{unmarked_in_range}
 use Rattle.kept_cuts.specs.declared.found.Found.{Found}
 use Rattle.kept_cuts.specs.Findings.{IsVersionFor, IsProved, AreOwn, proof_of}
 use Rattle.kept_cuts.proofs.Versions.{has_text}
@@ -77,17 +79,18 @@ by_status p m found P h closed gap =
 
 -- its text is that of the rule's certificate, in a version that can say it
 pub spells_rule : (p : Problem) (m : Method) (found : Found) → IsVersionOf (proof_of m.version p found (found_from p m.nodes m.course).tree)
-    → IsSearched p m.nodes m.course found → Spells (found_text m.version p found) (rule_certificate p m)
+    → IsSearched p m.nodes m.course found → SpellsUnmarked (found_text m.version p found) (rule_certificate p m)
 spells_rule p m found version h =
     let g = found_from p m.nodes m.course in
     let k = rule_certificate p m in
     let is = rule_is_certificate p m (searchable h) in
     let same : proof_of m.version p found g.tree ≡ k = h.certificate m.version in
     record {
-      in_range = certificate_in_range_lem p m.version g k h.problem (found_searched p m.nodes m.course (searchable h)).proof is
+      in_range = unmarked_in_range k
+          (certificate_in_range_lem p m.version g k h.problem (found_searched p m.nodes m.course (searchable h)).proof is
           (subst IsVersionOf same version)
-          (omega (arith, ap length is.cuts, h.finding.few_cuts)) (omega (arith, ap line_count is.tree, h.finding.few_lines));
-      text = found_text_certificate m.version p found g.tree h.finding.lines ∙ ap certificate_text same;
+          (omega (arith, ap length is.cuts, h.finding.few_cuts)) (omega (arith, ap line_count is.tree, h.finding.few_lines)));
+      text = found_text_certificate m.version p found g.tree h.finding.lines ∙ ap (λ c. certificate_text (unmarked c)) same;
     }
 
 -- `solve` answers so, in a version that there is for the instance
@@ -101,14 +104,14 @@ solve_answers held s rule p found version instance h =
     let spelled = spells_rule p m found
     (has_text p found (found_from p m.nodes m.course).tree m.version h.problem h.proved.fit searched.first version) h in
     by_status p m found (λ x. Answers (solve s rule) x held text) h
-    (λ closed. record { problem = p; instance = instance; solves = rule_solves p m (Spells text) (searchable h) spelled closed })
-    (λ gap. record { problem = p; instance = instance; stops = rule_stops p m (Spells text) (searchable h) spelled gap })
+    (λ closed. record { problem = p; instance = instance; solves = rule_solves p m (SpellsUnmarked text) (searchable h) spelled closed })
+    (λ gap. record { problem = p; instance = instance; stops = rule_stops p m (SpellsUnmarked text) (searchable h) spelled gap })
 
 -- `resolve` answers so, in the second version
 pub resolve_answers : (held : Option Files) (r : Resolving) (p : Problem) (found : Found) → IsResolution held r p found
     → Answers (resolve r) (finding_status found) held (found_text 2 p found)
 resolve_answers held r p found h =
-    let m = again_method r.search h.older in
+    let m = again_method r.search h.older.proof in
     let text = found_text 2 p found in
     let spelled = spells_rule p m found (inr refl) h.searched in
     by_status p m found (λ x. Answers (resolve r) x held text) h.searched
@@ -117,14 +120,14 @@ resolve_answers held r p found h =
       instance = h.instance;
       older = h.older;
       older_held = h.older_held;
-      solves = rule_solves p m (Spells text) (searchable h.searched) spelled closed;
+      solves = rule_solves p m (SpellsUnmarked text) (searchable h.searched) spelled closed;
     })
     (λ gap. record {
       problem = p;
       instance = h.instance;
       older = h.older;
       older_held = h.older_held;
-      stops = rule_stops p m (Spells text) (searchable h.searched) spelled gap;
+      stops = rule_stops p m (SpellsUnmarked text) (searchable h.searched) spelled gap;
     })
 
 -- a line of what was found for each of the rule's tree

@@ -9,8 +9,8 @@ use Rattle.hub_top.specs.Commands.{HoldsOlder, HoldsSized}
 use Rattle.hub_top.specs.Judging.{IsVerdictOn}
 
 pub verdict_on_held : (p : Problem) (held : Option Files) (file : List ℕ) (verdict : Verdict) → IsVerdictOnHeld p held file verdict → IsVerdictOn p held file verdict
-verdict_on_held p None file verdict v = record { bytes = v.bytes; bytes_held = tt; why = v.why; proves = v.proves }
-verdict_on_held p (Some files) file verdict v = record { bytes = v.bytes; bytes_held = v.are_held; why = v.why; proves = v.proves }
+verdict_on_held p None file verdict v = record { bytes = v.bytes; bytes_held = tt; why = v.why; proves = v.proves; marks = v.marks }
+verdict_on_held p (Some files) file verdict v = record { bytes = v.bytes; bytes_held = v.are_held; why = v.why; proves = v.proves; marks = v.marks }
 
 pub too_long_verdict : (p : Problem) (held : Option Files) (file : List ℕ) → HoldsMore held file certificate_limit → IsVerdictOn p held file too_long
 too_long_verdict p held file more = verdict_on_held p held file too_long (too_long_held p held file more)

@@ -43,7 +43,7 @@ solve_status p m = if is_some (lacking p p.candidates) then Lacking else rule_st
 
 -- of `resolve`, where all candidates together lack no commodity: 2 where the older certificate does not serve
 unfoldable pub older_status : Problem → Search → Older → Status
-older_status p search (serves older) = rule_status p (again_method search older)
+older_status p search (serves older) = rule_status p (again_method search older.proof)
 older_status p search said = No
 
 -- ---- answers

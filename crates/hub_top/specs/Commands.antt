@@ -10,7 +10,8 @@ use Rattle.hub_spec.specs.Certificates.{Proof, Holds}
 use Rattle.search_spec.specs.States.{Grown}
 use Rattle.search_spec.specs.Findings.{AreWithin, IsSpent, IsEnough, certificate_of}
 use Rattle.search_spec.specs.Again.{Start, start_of}
-use Rattle.cert_spec.specs.Text.{Spells}
+use Rattle.cert_spec.specs.Stated.{Stated, IsStatedOf}
+use Rattle.cert_spec.specs.Text.{Spells, SpellsUnmarked}
 use Rattle.cert_spec.specs.Verdicts.{Verdict, Why, Older, serves, IsOlder, certificate_limit}
 use Rattle.file_spec.specs.Limits.{file_limit}
 use Rattle.file_spec.specs.Faults.{Fault}
@@ -23,7 +24,7 @@ use Rattle.closing_search.specs.Gaps.{IsWithinGap}
 use Rattle.network_report.specs.Texts.{report_text}
 use Rattle.hub_words.specs.Requests as words
 use Rattle.hub_words.specs.Requests.{Source, Search, Solving, SearchRule, Resolving, Request, solve, optimize, resolve, check, report, make, demo}
-use Rattle.cert_checker.specs.Shows.{Proves}
+use Rattle.cert_checker.specs.Shows.{Proves, ProvesMarks}
 use Rattle.old_duals.specs.Sized.{IsSized}
 
 -- a fact about the files, where they are told
@@ -172,13 +173,13 @@ pub record Stops (p : Problem) (m : Method) (tells : Proof → Type 0) : Type 0 
 pub record SolvesInstance (held : Option Files) (s : Solving) (rule : SearchRule) (text : List ℕ) : Type 0 where
   pub problem : Problem
   pub instance : WhereTold held (λ files. HoldsInstance files s.source problem)
-  pub solves : Solves problem (method_by s rule) (Spells text)
+  pub solves : Solves problem (method_by s rule) (SpellsUnmarked text)
 
 -- the files give an instance, for which the text stops by the rule
 pub record StopsInstance (held : Option Files) (s : Solving) (rule : SearchRule) (text : List ℕ) : Type 0 where
   pub problem : Problem
   pub instance : WhereTold held (λ files. HoldsInstance files s.source problem)
-  pub stops : Stops problem (method_by s rule) (Spells text)
+  pub stops : Stops problem (method_by s rule) (SpellsUnmarked text)
 
 -- the files give an instance whose candidates lack this commodity, all of them together, and none before it: there is no plan
 pub record LacksNetwork (held : Option Files) (s : Source) (commodity : ℕ × ℕ) : Type 0 where
@@ -199,17 +200,17 @@ pub record HoldsOlder (held : Option Files) (p : Problem) (older : List ℕ) (sa
 pub record ResolvesInstance (held : Option Files) (r : Resolving) (text : List ℕ) : Type 0 where
   pub problem : Problem
   pub instance : WhereTold held (λ files. HoldsInstance files r.source problem)
-  pub older : Proof
+  pub older : Stated
   pub older_held : HoldsOlder held problem r.older (serves older)
-  pub solves : Solves problem (again_method r.search older) (Spells text)
+  pub solves : Solves problem (again_method r.search older.proof) (SpellsUnmarked text)
 
 -- they do, and the text stops
 pub record StopsAgain (held : Option Files) (r : Resolving) (text : List ℕ) : Type 0 where
   pub problem : Problem
   pub instance : WhereTold held (λ files. HoldsInstance files r.source problem)
-  pub older : Proof
+  pub older : Stated
   pub older_held : HoldsOlder held problem r.older (serves older)
-  pub stops : Stops problem (again_method r.search older) (Spells text)
+  pub stops : Stops problem (again_method r.search older.proof) (SpellsUnmarked text)
 
 -- the files give an instance whose candidates together lack no commodity, and bytes that do not serve as an older certificate,
 -- for this reason
@@ -230,7 +231,7 @@ pub record HoldsSized (held : Option Files) (p : Problem) (older : List ℕ) (sa
 -- no older certificate is named, or its file holds one of the instance's size
 abbrev pub MayBegin : Option Files → Problem → Option (List ℕ) → Type 0
 MayBegin held p None = Unit {0}
-MayBegin held p (Some older) = (k : Proof) × HoldsSized held p older (serves k)
+MayBegin held p (Some older) = (k : Stated) × HoldsSized held p older (serves k)
 
 -- the files give an instance, for which that is so
 pub record BeginsInstance (held : Option Files) (s : Source) (from : Option (List ℕ)) : Type 0 where
@@ -258,7 +259,7 @@ IsAtMostAll p k = p.wanted ≡ None → (cost : ℕ) → IsSetCost p p.candidate
 -- allowed routes costs less
 pub record Optimizes (p : Problem) (m : Method) (text : List ℕ) : Type 0 where
   pub certificate : Proof
-  pub finds : Finds p m (Spells text) certificate
+  pub finds : Finds p m (SpellsUnmarked text) certificate
   pub no_gap : certificate.bound ≡ certificate.cost
   pub optimal : IsOptimal p certificate.plan
 
@@ -266,7 +267,7 @@ pub record Optimizes (p : Problem) (m : Method) (text : List ℕ) : Type 0 where
 -- gap, in thousandths of a per cent of the cost; where any number of hubs will do it costs at most what all candidates as hubs cost
 pub record Bounds (p : Problem) (m : Method) (allowed : ℕ) (text : List ℕ) : Type 0 where
   pub certificate : Proof
-  pub finds : Finds p m (Spells text) certificate
+  pub finds : Finds p m (SpellsUnmarked text) certificate
   pub gap : certificate.bound < certificate.cost
   pub reason : (IsSpent m.nodes (line_count certificate.tree) × (IsEnoughFor p m.nodes → ⊥))
       ⊎ IsWithinGap allowed certificate.bound certificate.cost
@@ -294,6 +295,7 @@ pub record JudgesFile (held : Option Files) (s : Source) (certificate : List ℕ
   pub bytes_held : WhereTold held (λ files. files certificate ≡ Some bytes)
   pub why : Why problem bytes verdict
   pub proves : Proves problem bytes verdict
+  pub marks : ProvesMarks problem bytes verdict
 
 -- the files give an instance and the bytes of a certificate that holds for it, of which the text is the report
 pub record ReportsFile (held : Option Files) (s : Source) (certificate text : List ℕ) : Type 0 where
@@ -302,10 +304,10 @@ pub record ReportsFile (held : Option Files) (s : Source) (certificate text : Li
   pub bytes : List ℕ
   pub bytes_held : WhereTold held (λ files. files certificate ≡ Some bytes)
   pub not_too_long : length bytes ≤ certificate_limit
-  pub proof : Proof
-  pub spelled : Spells bytes proof
-  pub holds : Holds problem proof
-  pub text_is : text ≡ report_text problem proof
+  pub stated : Stated
+  pub spelled : Spells bytes stated
+  pub holds : IsStatedOf problem stated
+  pub text_is : text ≡ report_text problem stated.proof
 
 -- ---- what is not held
 

@@ -2,7 +2,7 @@
 use Rattle.std.specs.Prelude.{◌≡◌, ℕ, List, Option, Some, None, ◌⊎◌}
 use Rattle.hub_io.specs.Outside.{Files}
 use Rattle.hub_spec.specs.Problem.{Problem, IsSameNetwork}
-use Rattle.hub_spec.specs.Certificates.{Proof}
+use Rattle.cert_spec.specs.Stated.{Stated}
 use Rattle.hub_spec.specs.Lacking.{lacking}
 use Rattle.cert_spec.specs.Verdicts.{Verdict, Why, Certifies, Older, serves, IsOlder}
 use Rattle.file_spec.specs.Faults.{Fault}
@@ -47,7 +47,7 @@ pub record Completeness (asked : Option Request) (held : Option Files) (quiet : 
       → HoldsInstance files r.source p → lacking p p.candidates ≡ None → files r.older ≡ Some bytes → IsOlder p bytes said → quiet
       → EndsWith (older_status p r.search said) status
   -- and with one that serves and as many nodes as a whole tree has it is solved
-  pub resolved_whole : (files : Files) (r : Resolving) (p : Problem) (bytes : List ℕ) (older : Proof) → held ≡ Some files
+  pub resolved_whole : (files : Files) (r : Resolving) (p : Problem) (bytes : List ℕ) (older : Stated) → held ≡ Some files
       → asked ≡ Some (resolve r) → HoldsInstance files r.source p → lacking p p.candidates ≡ None → files r.older ≡ Some bytes
       → IsOlder p bytes (serves older) → IsEnoughFor p r.search.nodes → quiet → EndsWith Done status
   -- one that certifies for an instance that differs in fixed costs and numbers of hubs alone serves

@@ -2,10 +2,10 @@
 use Rattle.std.specs.Prelude.{◌≡◌, ℕ, List, Option}
 use Rattle.hub_io.specs.Outside.{Files}
 use Rattle.hub_spec.specs.Problem.{Problem}
-use Rattle.hub_spec.specs.Certificates.{Holds}
+use Rattle.cert_spec.specs.Stated.{IsStatedOf}
 use Rattle.cert_spec.specs.Text.{Spells}
 use Rattle.cert_spec.specs.Verdicts.{Why}
-use Rattle.cert_checker.specs.Shows.{Proves, verdict_of}
+use Rattle.cert_checker.specs.Shows.{Proves, ProvesMarks, verdict_of}
 use Rattle.hub_words.specs.Requests.{Source}
 use Rattle.hub_top.specs.declared.status.Status.TheVariants.{No}
 use Rattle.hub_top.specs.declared.answers.Answer.{Answer}
@@ -19,8 +19,10 @@ use Rattle.hub_top.specs.Judging.{IsVerdictOn, IsCertified}
 
 -- the bytes spell the certificate, which holds; or they do not certify, for this reason
 abbrev pub IsReading : Problem → List ℕ → Reading → Type 0
-IsReading p bytes (Certified certificate) = Spells bytes certificate × Holds p certificate
-IsReading p bytes (Refused ending) = Why p bytes (verdict_of ending) × Proves p bytes (verdict_of ending) × (verdict_status (verdict_of ending) ≡ No)
+IsReading p bytes (Certified certificate) = Spells bytes certificate × IsStatedOf p certificate
+IsReading p bytes (Refused ending) =
+    Why p bytes (verdict_of ending) × Proves p bytes (verdict_of ending) × ProvesMarks p bytes (verdict_of ending)
+    × (verdict_status (verdict_of ending) ≡ No)
 
 -- so it is with the bytes of the file
 abbrev pub IsReadingOf : Problem → Option Files → List ℕ → Reading → Type 0

@@ -6,7 +6,7 @@ use Rattle.hub_spec.specs.Problem.{Problem, IsProblem, commodities}
 use Rattle.hub_spec.specs.Plans.{IsHubSet, IsSetCost, IsLeastRoute}
 use Rattle.search_spec.specs.Findings.{AreWithin, IsSpent, certificate_of}
 use Rattle.search_spec.specs.Again.{start_of, IsStartOf}
-use Rattle.hub_spec.specs.Certificates.{Proof}
+use Rattle.cert_spec.specs.Stated.{Stated}
 use Rattle.cert_spec.specs.Verdicts.{Older, serves}
 use Rattle.cert_checker.specs.Shows.{verdict_of}
 use Rattle.kept_cuts.specs.Findings.{IsProved, AreOwn, proof_of}
@@ -77,9 +77,9 @@ pub record IsSolution (held : Option Files) (s : Source) (nodes : Option ℕ) (r
 -- it is what the rule finds for the instance of the source from an older certificate, which serves
 pub record IsResolution (held : Option Files) (r : Resolving) (p : Problem) (found : finding.Found) : Type 0 where
   pub instance : ToldInstance held r.source p
-  pub older : Proof
+  pub older : Stated
   pub older_held : HoldsOlder held p r.older (serves older)
-  pub searched : IsSearched p r.search.nodes (again (start_of older)) found
+  pub searched : IsSearched p r.search.nodes (again (start_of older.proof)) found
 
 -- it is a proved network of the problem, with least routes, that costs at most what all candidates do where any number of hubs will
 -- do, with no more nodes than are allowed and than a whole tree has; its bound is below its cost, and not within the gap, only where two

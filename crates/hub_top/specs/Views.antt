@@ -1,6 +1,6 @@
 -- What a run of the code came to, as contracts see it.
 use Rattle.std.specs.Prelude.{ℕ, ◌≤◌, List, length, nat_eq, if◌then◌else◌, Result, Ok, Err}
-use Rattle.hub_spec.specs.Certificates.{Holds}
+use Rattle.cert_spec.specs.Stated.{IsStatedOf}
 use Rattle.hub_spec.specs.Ranges.{IsShort}
 use Rattle.hub_model.specs.Faults.{fault_of}
 use Rattle.hub_words.specs.Limits.{most_workers}
@@ -48,7 +48,7 @@ answer_status (Demonstrated size found) = finding_status found
 -- its text
 abbrev pub answer_text : Answer → List ℕ
 answer_text (Judged ending) = verdict_text (verdict_of ending)
-answer_text (Reported instance certificate) = report_text instance certificate
+answer_text (Reported instance certificate) = report_text instance certificate.proof
 answer_text (Made text) = text.items
 answer_text (Demonstrated size found) =
     demo_text size found.cost found.bound found.plan.hubs (length found.tree.items)
@@ -61,7 +61,7 @@ pub record HasAmounts (found : Finding) : Type 0 where
 -- a report is of a certificate that holds, and five lines are of amounts
 abbrev pub IsWritable : Answer → Type 0
 IsWritable (Judged ending) = Unit {0}
-IsWritable (Reported instance certificate) = Holds instance certificate
+IsWritable (Reported instance certificate) = IsStatedOf instance certificate
 IsWritable (Made text) = Unit {0}
 IsWritable (Demonstrated size found) = HasAmounts found
 

@@ -40,7 +40,7 @@ pub enum Settled {
     Answered(Answer),
     /// What `solve`, `resolve` or `optimize` found for the instance, whose certificate is wanted so.
     Found(Instance, Found, Writing),
-    /// `solve`, `resolve`: all candidates together lack the commodity from `i` to `j`.
+    /// `solve`, `optimize`, `resolve`: all candidates together lack the commodity from `i` to `j`.
     NoNetwork { i: u32, j: u32 },
     /// The words are no command.
     Usage,

@@ -12,7 +12,7 @@ pub enum Status {
     /// `solve`, `resolve`, `optimize`, `demo`: the bound is below the cost, since two nodes more were not allowed, or for
     /// `optimize` since it is within the gap. `check`: the bytes certify a plan, with a bound below its cost.
     Stopped,
-    /// `check`, `report`: the bytes do not certify. `resolve`: those of the older certificate do not serve.
+    /// `check`, `report`: the bytes do not certify. `resolve`, `optimize`: those of the older certificate do not serve.
     No,
     /// The words are no command.
     Usage,

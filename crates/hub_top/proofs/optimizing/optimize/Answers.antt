@@ -4,7 +4,6 @@ use Rattle.std.proofs.lemmas.Result.{err_from_is_err_and}
 use Rattle.hub_spec.specs.Problem.{IsProblem}
 use Rattle.hub_words.specs.Views.{source_of}
 use Rattle.hub_top.specs.Commands.{LacksFirst}
-use Rattle.hub_top.specs.Solving.{BeginsAs}
 use Rattle.hub_top.proofs.Halting.{source_halts}
 use Rattle.hub_top.proofs.Networks.{told_of_all, network_when, no_plan_when}
 use Rattle.hub_top.proofs.optimizing.optimize.Goals as goal
