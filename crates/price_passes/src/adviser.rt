@@ -72,7 +72,7 @@ impl Adviser {
             guess: Guess::new(alloc, places, lengths.wanted())?,
             lengths,
             progress: Progress::new(alloc)?,
-            bench: Bench::new(alloc, places)?,
+            bench: Bench::new(alloc, size, places)?,
             search: LocalSearch::new(alloc, size, places)?,
             tightening: Tightening::new(alloc, size, places)?,
             memories: Memories::new(alloc),

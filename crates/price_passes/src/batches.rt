@@ -2,6 +2,7 @@
 
 use crate::origins::{OriginScratch, Start};
 use crate::rows::row;
+use crate::schedule::{ScheduledOrigin, origin_at};
 use crate::waits::{Gain, Quote};
 use crew::Job;
 use std::alloc::{AllocError, Global};
@@ -15,11 +16,11 @@ pub(crate) struct OriginDuals {
     pub(crate) added: Vec<i64>,
 }
 
-/// The origins of a batch, and the prices and values of all commodities: block e is the origin at e after the first.
+/// The origins of a batch, and the prices and values of all commodities: each origin is a block.
 #[derive(Drop)]
 pub(crate) struct Batch<'a> {
     pub(crate) start: Start<'a>,
-    pub(crate) first: usize,
+    pub(crate) origins: &'a [ScheduledOrigin],
     pub(crate) quotes: &'a [Quote],
     pub(crate) values: &'a [u32],
 }
@@ -43,7 +44,7 @@ impl<'a> Job<OriginDuals> for Batch<'a> {
         scratch: &mut OriginScratch,
         block: u32,
     ) -> Result<OriginDuals, AllocError> {
-        let i = self.first.wrapping_add(block as usize);
+        let i = origin_at(self.origins, block as usize);
         let lengths = self.start.lengths;
         let mut quotes = row(self.quotes, i, lengths.size()).to_vec(alloc)?;
         let mut values = row(self.values, i, lengths.origin_values()).to_vec(alloc)?;

@@ -16,7 +16,7 @@
 //!
 //! In the order of reading: `units` and `lengths` (the instance in 32 bits), `rows` (lists and tables), `ramps`
 //! (prices and orders by loads), `places` (a commodity's legs and values), `network` and `oracle` (the best values at
-//! prices), `mixing` (a step), `waits` (who waits), `origins` (the duals of one origin), `batches` (origins side by side),
+//! prices), `mixing` (a step), `waits` (who waits), `origins` (the duals of one origin), `schedule` and `batches` (origins side by side),
 //! `state`, `starts` and `passes` (all duals, what they begin with, and one pass), `routes` (shortest routes over a hub
 //! set), `tight` and `tightening` (duals tight at a set, of one origin and of all), `moves` (a local search over sets),
 //! `node`, `guess`, `progress` and `memory` (what is known at a node, and at nodes before), `adviser` (what callers use).
@@ -39,6 +39,7 @@ mod progress;
 mod ramps;
 mod routes;
 mod rows;
+mod schedule;
 mod starts;
 mod state;
 mod tight;

@@ -20,6 +20,11 @@ pub(crate) const LONG_WAIT: Wait = Wait {
 };
 
 impl Wait {
+    /// Tells whether the next pass leaves the commodity out.
+    pub(crate) fn goes_on(self) -> bool {
+        self.left > 0
+    }
+
     /// Lets a pass go by, and tells whether it leaves the commodity out.
     pub(crate) fn leaves_out(&mut self) -> bool {
         let waits = self.left > 0;
