@@ -10,9 +10,12 @@ from dataclasses import dataclass, field
 NUMBER = re.compile(rb"0|[1-9][0-9]{0,32}")
 MOST_CUTS, MOST_TREE_LINES, MOST_PARTS = 67_108_864, 268_435_456, 1_000_000
 MOST_NODES, MOST_SUM, MOST_CUT_PART = 200, 10**29, 1000
+MOST_TURNS, MOST_SCALE, MOST_TAKEN, MOST_BY_FLOW = 1000, 10**9, 10**12, 10**20
 SHORT, LONG = 10**30 - 1, 10**33 - 1
 Dual = tuple[int, int, int, int, int, list[tuple[int, int]]]
 """Line, i, j, run, price, values: the dual of the commodities from i to j, to j + 1, .., as many as the run has."""
+Proof = tuple[int, int, int, list[tuple[int, int, int]]]
+"""Line, turns, scale, ways: two nodes each, and how often."""
 
 
 @dataclass(frozen=True)
@@ -107,6 +110,17 @@ def ascends(numbers: list[int], most: int) -> bool:
 
 
 @dataclass
+class Cut:
+    """A cut, its line, its part and its duals; where it is marked the hubs of its mark, and a proof for each dual."""
+
+    line: int
+    part: int
+    duals: list[Dual]
+    hubs: list[int] | None = None
+    proofs: list[Proof] = field(default_factory=list)
+
+
+@dataclass
 class Certificate:
     """What a text spells; each part with the line where it stands."""
 
@@ -116,8 +130,7 @@ class Certificate:
     hubs: list[int]
     routes: list[tuple[int, int, int, int, int]] = field(default_factory=list)
     """Line, i, j, k, m."""
-    cuts: list[tuple[int, list[Dual]]] = field(default_factory=list)
-    """Of each cut its part and its duals."""
+    cuts: list[Cut] = field(default_factory=list)
     tree: list[tuple[int, bytes, list[int]]] = field(default_factory=list)
     """Line, word, numbers."""
 
@@ -126,7 +139,7 @@ def spelled(text: bytes) -> Certificate:
     """The certificate that a text spells."""
     lines = Lines(text)
     first = lines.next()
-    lines.want(first in ([b"HUBCERT", b"1"], [b"HUBCERT", b"2"]))
+    lines.want(first in ([b"HUBCERT", b"1"], [b"HUBCERT", b"2"], [b"HUBCERT", b"3"]))
     version = int(first[1])
     size = lines.numbers(b"size")
     lines.want(len(size) == 2 and 1 <= size[0] <= MOST_NODES and 1 <= size[1] <= size[0])
@@ -149,27 +162,54 @@ def spelled(text: bytes) -> Certificate:
     return found
 
 
-def read_cut(lines: Lines, version: int, number: int, n: int) -> tuple[int, list[Dual]]:
-    """The lines of the cut of this number: its part and its duals."""
-    said = lines.numbers(b"cut")
-    lines.want(len(said) == version and said[0] == number)
-    part = said[1] if version == 2 else 1
-    lines.want(1 <= part <= MOST_CUT_PART)
-    duals: list[Dual] = []
+def read_cut(lines: Lines, version: int, number: int, n: int) -> Cut:
+    """The lines of the cut of this number."""
+    first, *rest = lines.next()
+    is_marked = version == 3 and rest[2:3] == [b"core"]
+    behind = rest[3:] if is_marked else []
+    rest = rest[:2] if is_marked else rest
+    lines.want(first == b"cut" and all(map(NUMBER.fullmatch, [*rest, *behind])))
+    said = [int(digits) for digits in rest]
+    lines.want(len(said) == min(version, 2) and said[0] == number)
+    cut = Cut(lines.number, said[1] if version > 1 else 1, [])
+    lines.want(1 <= cut.part <= MOST_CUT_PART)
+    if is_marked:
+        cut.hubs = [int(digits) for digits in behind]
+        lines.want(cut.hubs != [] and ascends(cut.hubs, n))
+        read_proved(lines, cut, n)
+        return cut
     for i in range(1, n + 1):
         j, before = 1, None
         while j <= n:
             dual = read_dual(lines, version, i, j, n)
             lines.want(version == 1 or dual[4:] != before)
-            duals.append(dual)
+            cut.duals.append(dual)
             j, before = j + dual[3], dual[4:]
-    return part, duals
+    return cut
+
+
+def read_proved(lines: Lines, cut: Cut, n: int) -> None:
+    """The duals of a marked cut, each on a line of its own, with the line of its proof behind it."""
+    for i in range(1, n + 1):
+        for j in range(1, n + 1):
+            # Only the first version has no word for a run, and it has less room for numbers.
+            dual = read_dual(lines, 2, i, j, n)
+            lines.want(dual[3] == 1)
+            cut.duals.append(dual)
+            numbers = lines.numbers(b"proof")
+            lines.want(len(numbers) >= 2 and len(numbers) % 3 == 2)
+            turns, scale, *told = numbers
+            lines.want(turns <= MOST_TURNS and 1 <= scale <= MOST_SCALE)
+            ways = list(zip(told[::3], told[1::3], told[2::3]))
+            lines.want(all(1 <= k <= m <= n and 1 <= often <= MOST_TAKEN for k, m, often in ways))
+            lines.want(all(way[:2] < later[:2] for way, later in zip(ways, ways[1:])))
+            cut.proofs.append((lines.number, turns, scale, ways))
 
 
 def read_dual(lines: Lines, version: int, i: int, j: int, n: int) -> Dual:
     """The next line, of a dual or of a run of equal ones, the first of them that of the commodity from i to j."""
     word, *rest = lines.next()
-    lines.want(word in (b"dual", b"duals")[:version] and all(map(NUMBER.fullmatch, rest)))
+    lines.want(word in (b"dual", b"duals")[: min(version, 2)] and all(map(NUMBER.fullmatch, rest)))
     numbers = [int(digits) for digits in rest]
     lines.want(len(numbers) >= (3 if word == b"dual" else 4) and numbers[:2] == [i, j])
     run = 1 if word == b"dual" else numbers.pop(2)
@@ -220,7 +260,7 @@ def holds(problem: Problem, found: Certificate) -> None:
         fail_unless(problem.allowed(i, j, k, m), "Length", line)
     cost = sum(problem.fixed[k - 1] for k in found.hubs) + sum(problem.route(*route[1:]) for route in found.routes)
     fail_unless(found.cost == cost, "Cost", found.routes[-1][0])
-    sums = [sums_of(problem, cut) for cut in found.cuts]
+    sums = [sums_of(problem, cut, True) for cut in found.cuts]
     closed_or_open: list[dict[int, bool]] = [{}]
     for line, word, numbers in found.tree:
         path = closed_or_open.pop()
@@ -239,11 +279,15 @@ def holds(problem: Problem, found: Certificate) -> None:
             try_leaf(problem, found.bound, sums, path, line, numbers)
 
 
-def sums_of(problem: Problem, cut: tuple[int, list[Dual]]) -> tuple[int, int, dict[int, int]]:
-    """The part of a cut, its prices together, and each candidate's values together."""
-    part, duals = cut
+def sums_of(problem: Problem, cut: Cut, marks: bool) -> tuple[int, int, dict[int, int]]:
+    """The part of a cut, its prices together, and each candidate's values together, its mark tried too if marks are asked."""
+    part, total = cut.part, 0
     loads = dict.fromkeys(problem.candidates, 0)
-    for line, i, j, run, price, pairs in duals:
+    asked = marks and cut.hubs is not None
+    if asked:
+        may = problem.longest is None and problem.wanted is None and 3 <= len(loads) <= 20
+        fail_unless(may and set(cut.hubs) <= set(loads), "Core", cut.line)
+    for at, (line, i, j, run, price, pairs) in enumerate(cut.duals):
         values = dict.fromkeys(problem.candidates, 0)
         fail_unless(all(k in values for k, _ in pairs), "Dual", line)
         values.update(pairs)
@@ -254,9 +298,32 @@ def sums_of(problem: Problem, cut: tuple[int, list[Dual]]) -> tuple[int, int, di
                     if problem.allowed(i, to, k, m):
                         fail_unless(price <= part * problem.route(i, to, k, m) + by_both, "Dual", line)
             loads[k] += run * values[k]
-    total = sum(run * price for _, _, _, run, price, _ in duals)
-    fail_unless(max(total, *loads.values()) <= part * MOST_SUM, "Sum", duals[-1][0])
+        total += run * price
+        if at + 1 == len(cut.duals):
+            fail_unless(max(total, *loads.values()) <= part * MOST_SUM, "Sum", line)
+        if asked:
+            proof = cut.proofs[at]
+            fail_unless(is_core(problem, cut, i, j, price, values, proof), "Core", proof[0])
     return part, total, loads
+
+
+def is_core(problem: Problem, cut: Cut, i: int, j: int, price: int, values: dict[int, int], proof: Proof) -> bool:
+    """Whether the dual of the commodity from i to j is a core dual at the hubs of the mark, by this proof."""
+    _, turns, scale, ways = proof
+    flow = problem.flows[i - 1][j - 1]
+    least = min(problem.route(i, j, k, m) for k in cut.hubs for m in cut.hubs)
+    taken = sum(often for _, _, often in ways)
+    through = {node: sum(often for k, m, often in ways if node in (k, m)) for node in values}
+    costs = sum(often * min(problem.route(i, j, k, m), problem.route(i, j, m, k)) for k, m, often in ways)
+    return (
+        all(k in values and m in values for k, m, _ in ways)
+        and all(amount % flow == 0 if flow else amount == 0 for amount in (price, *values.values()))
+        and all(amount <= MOST_BY_FLOW * flow for amount in (price, *values.values()))
+        and price == cut.part * least + sum(values[k] for k in cut.hubs)
+        and taken >= scale * (2 + 2 * turns)
+        and all(through[k] <= scale * (1 + 2 * turns if k in cut.hubs else 1) for k in values)
+        and scale * (2 * price + 2 * turns * cut.part * least) == cut.part * costs + scale * sum(values.values())
+    )
 
 
 def try_leaf(
@@ -310,7 +377,7 @@ def older_line(problem: Problem, text: bytes, cuts: bool = True) -> str | None:
         found = spelled(text)
         fail_unless(found.size == (len(problem.flows), len(problem.candidates)), "Size", 2)
         for cut in found.cuts if cuts else ():
-            sums_of(problem, cut)
+            sums_of(problem, cut, False)
     except (Bad, Fails) as no:
         kind, line = no.args
         return f"no {kind} {line}"
