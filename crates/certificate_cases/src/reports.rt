@@ -55,7 +55,7 @@ fn put(
     call: u64,
     count: usize,
 ) -> io::Result<()>
-    requires { Holds instance.now certificate.now }
+    requires { Holds instance.now certificate.now.proof }
 {
     let mut sink = sink(alloc, call, count)?;
     let is_done = network_report::report(instance, certificate, &mut sink).is_ok();
