@@ -59,14 +59,18 @@ all_asked p hubs ok may set =
     All-weaker (λ (c : ℕ × ℕ). (c.0 < p.size) × (c.1 < p.size)) (IsAsked p hubs) (λ c nodes. asked_of p hubs c.0 c.1 ok may set nodes.0 nodes.1)
     (commodities p.size) (commodities_are_nodes p.size)
 
+-- what follows for each of the second list, where each of the first has a property
+pub zipped_all : {A B : Type 0} (P : A → Type 0) (R : A → B → Type 0) (Q : B → Type 0) → ((x : A) (y : B) → P x → R x y → Q y)
+    → (xs : List A) (ys : List B) → All P xs → AllZip R xs ys → All Q ys
+zipped_all P R Q follows [] [] all are = All-nil Q
+zipped_all P R Q follows [] (y ∷ ys) all are = absurd are
+zipped_all P R Q follows (x ∷ xs) [] all are = absurd are
+zipped_all P R Q follows (x ∷ xs) (y ∷ ys) all are =
+    All-cons Q y ys (follows x y (All-head P x xs all) are.0) (zipped_all P R Q follows xs ys (All-tail P x xs all) are.1)
+
 pub all_sound : (p : Problem) (hubs : List ℕ) (cs : List (ℕ × ℕ)) (fs : List FoundDual) → All (IsAsked p hubs) cs → AllZip (IsFound p hubs) cs fs
     → All (IsSoundFound p) fs
-all_sound p hubs [] [] asked are = All-nil (IsSoundFound p)
-all_sound p hubs [] (f ∷ fs) asked are = absurd are
-all_sound p hubs (c ∷ cs) [] asked are = absurd are
-all_sound p hubs (c ∷ cs) (f ∷ fs) asked are =
-    All-cons (IsSoundFound p) f fs (found_sound p hubs c f (All-head (IsAsked p hubs) c cs asked) are.0)
-    (all_sound p hubs cs fs (All-tail (IsAsked p hubs) c cs asked) are.1)
+all_sound p hubs cs fs asked are = zipped_all (IsAsked p hubs) (IsFound p hubs) (IsSoundFound p) (λ c f. found_sound p hubs c f) cs fs asked are
 
 pub founds_long : (p : Problem) (hubs : List ℕ) (fs : List FoundDual) → AllZip (IsFound p hubs) (commodities p.size) fs → length fs ≡ p.size * p.size
 founds_long p hubs fs are = AllZip-long (IsFound p hubs) (commodities p.size) fs are ∙ length_commodities p.size

@@ -62,3 +62,12 @@ width_last p hubs c asked =
       length-map p.candidates (value_column (core_edges p c) hubs (length p.candidates)),
       length-map (core_edges p c) (λ (e : ℕ × ℕ). pos (edge_right p c e)),
     )
+
+-- as many rows as constraints, and the objective row
+pub rows_last : (p : Problem) (hubs : List ℕ) (c : ℕ × ℕ) → IsAsked p hubs c → length (core_run p hubs c).table.rows ≡ length (core_run p hubs c).table.basis + 1
+unfolding core_run core_table
+rows_last p hubs c asked =
+    let narrow = core_is_narrow p hubs c asked.problem asked.may.any_length asked.from asked.to in
+    let first = first_is_table (core_columns p hubs c) (core_rights p c) narrow.columns narrow.rights in
+    let start_is : IsPivotal (core_table p hubs c) = record { table = first.table; basic = first.basic; of_objective = first.of_objective } in
+    (pivotal_last (core_table p hubs c) start_is).table.one_objective

@@ -12,3 +12,11 @@ pub mod CommonParts
 pub mod FoundSounds
 pub mod CoredCuts
 pub mod TimesDuals
+pub mod FirstNumbers
+pub mod LastRatios
+pub mod FoundTests
+pub mod FoundFunctions
+pub mod CutTests
+pub mod FoundLists
+pub mod CoredFunctions
+pub mod ServingCuts

@@ -6,6 +6,7 @@ use Rattle.hub_spec.specs.Limits.{most_part, most_denominator}
 use Rattle.hub_spec.specs.Problem.{Problem, flow, commodities}
 use Rattle.hub_spec.specs.Cuts.{Prices, Cut, IsWithinSums}
 use Rattle.core_spec.specs.CoreCuts.{CoreProof, Mark, MayBeMarked}
+use Rattle.marked_cuts.specs.MarkedCuts.{MarkedCut}
 use Rattle.core_cuts.specs.Readings.{most_units, FoundDual, IsFound, IsNotFound}
 
 -- every part divides the number; and it is the least that they all divide
@@ -59,11 +60,6 @@ pub record IsFitCut (p : Problem) (cut : Cut) : Type 0 where
   pub part_divides : cut.part ∣ most_denominator
   pub duals : AllZip (IsFitDual p) (commodities p.size) cut.duals
   pub sums : IsWithinSums p cut
-
--- a cut with its mark
-pub record MarkedCut : Type 0 where
-  pub cut : Cut
-  pub mark : Mark
 
 -- the cut of the hub set, where cuts may be marked and it is fit
 pub record IsCored (p : Problem) (hubs : List ℕ) (x : MarkedCut) : Type 0 where

@@ -6,13 +6,15 @@ ghost use Rattle.hub_spec.specs.Plans.{IsHubSet};
 ghost use Rattle.core_spec.specs.CoreCuts.{MayBeMarked};
 ghost use Rattle.frac_rows.specs.declared.ended.Ended.TheVariants.{Best};
 ghost use Rattle.core_runs.specs.CoreTables.{core_edges};
+ghost use Rattle.core_cuts.specs.Finding.{core_found};
 ghost use Rattle.core_cuts.specs.Readings.{core_run, proof_of, IsReading, IsFit, IsFound, IsNotFound};
 
-use crate::dual_proofs::DualProof;
 use crate::edges::{core_edges, least_right};
 use crate::problems::first_table;
 use crate::readings::least_reading;
+use crate::table_proofs::TableProof;
 use crate::unit_prices::UnitPrices;
+use core_marks::DualProof;
 use frac_rows::{Ended, Rows};
 use hub_model::Instance;
 use plan_model::{Dual, HubSet};
@@ -50,7 +52,9 @@ pub fn core_dual(
     requires set { IsHubSet instance.now hubs.now }
     ensures found { IfOk result (λ found. IfSome found (λ d. IsFound instance.now hubs.now (i, j) d)) }
     ensures none { IfOk result (λ found. found ≡ None → IsNotFound instance.now hubs.now (i, j)) }
+    ensures is { IfOk result (λ found. found ≡ core_found instance.now hubs.now (i, j)) }
 {
+    let _ = instance.size();
     found_at(alloc, instance, i, j, hubs.members())
 }
 
@@ -102,7 +106,7 @@ fn found_in(
     let candidates = instance.candidates();
     match least_reading(alloc, instance, rows)? {
         Some(prices) => {
-            let proof = DualProof::of(alloc, candidates, rows, edges)?;
+            let proof = TableProof::of(alloc, candidates, rows, edges)?;
             found_by(alloc, instance, i, j, hubs, &prices, proof)
         }
         None => Ok(None),
@@ -117,7 +121,7 @@ fn found_by(
     j: u32,
     hubs: &[u32],
     prices: &UnitPrices,
-    proof: DualProof,
+    proof: TableProof,
 ) -> Result<Option<CoreDual>, AllocError>
     requires from { i < instance.now.size }
     requires to { j < instance.now.size }
@@ -136,7 +140,7 @@ fn found_by(
     Ok(Some(CoreDual {
         part: prices.part(),
         dual,
-        proof,
+        proof: proof.into_short(),
     }))
 }
 
@@ -147,7 +151,7 @@ fn is_fit(
     j: u32,
     hubs: &[u32],
     prices: &UnitPrices,
-    proof: &DualProof,
+    proof: &TableProof,
 ) -> bool
     requires from { i < instance.now.size }
     requires to { j < instance.now.size }

@@ -6,35 +6,19 @@ ghost use Rattle.hub_spec.specs.Limits.{most_part};
 ghost use Rattle.hub_spec.specs.Plans.{IsHubSet};
 ghost use Rattle.hub_spec.specs.Problem.{IsProblem, commodities};
 ghost use Rattle.core_spec.specs.CoreCuts.{MayBeMarked};
+ghost use Rattle.core_cuts.specs.Finding.{core_marked};
 ghost use Rattle.core_cuts.specs.FoundCuts.{parts_of, IsLeastCommonPart, IsCored, IsPlain};
 ghost use Rattle.core_cuts.specs.Readings.{IsFound};
 
 use crate::brought_cuts::fit_cut;
 use crate::common_parts::common_part;
 use crate::core_duals::CoreDual;
-use crate::dual_proofs::DualProof;
 use crate::found_duals::{found_duals, may_be_marked, proofs_of};
+use core_marks::Mark;
 use hub_model::Instance;
+use marked_cuts::MarkedCut;
 use plan_model::HubSet;
-use stated_cuts::StatedCut;
 use std::alloc::{AllocError, Global};
-use std::marker::Model;
-
-/// A cut whose duals are core duals, brought to one part, with its hubs and what proves each dual.
-#[derive(Drop)]
-pub struct CoreCut {
-    pub cut: StatedCut,
-    pub hubs: HubSet,
-    pub proofs: Vec<DualProof>,
-}
-
-impl Model for CoreCut {
-    ghost use Rattle.core_cuts.specs.FoundCuts.{MarkedCut};
-
-    ghost Value = { MarkedCut };
-
-    ghost view = { λ s. record { cut = s.cut; mark = record { hubs = s.hubs; proofs = s.proofs.items } } };
-}
 
 /// The core cut of this hub set. There is none where cuts may not be marked, where a commodity has no core dual, or where the
 /// cut is not within the limits of a certificate.
@@ -42,10 +26,11 @@ pub fn core_cut(
     alloc: Global,
     instance: &Instance,
     set: &HubSet,
-) -> Result<Option<CoreCut>, AllocError>
+) -> Result<Option<MarkedCut>, AllocError>
     requires set { IsHubSet instance.now set.now }
     ensures core { IfOk result (λ found. IfSome found (λ x. IsCored instance.now set.now x)) }
     ensures plain { IfOk result (λ found. found ≡ None → IsPlain instance.now set.now) }
+    ensures is { IfOk result (λ found. found ≡ core_marked instance.now set.now) }
 {
     if !may_be_marked(instance) {
         return Ok(None);
@@ -62,7 +47,7 @@ fn cut_by(
     instance: &Instance,
     set: &HubSet,
     founds: Vec<CoreDual>,
-) -> Result<Option<CoreCut>, AllocError>
+) -> Result<Option<MarkedCut>, AllocError>
     requires problem { IsProblem instance.now }
     requires may { MayBeMarked instance.now }
     requires set { IsHubSet instance.now set.now }
@@ -83,7 +68,7 @@ fn cut_with(
     set: &HubSet,
     part: u32,
     founds: Vec<CoreDual>,
-) -> Result<Option<CoreCut>, AllocError>
+) -> Result<Option<MarkedCut>, AllocError>
     requires problem { IsProblem instance.now }
     requires may { MayBeMarked instance.now }
     requires set { IsHubSet instance.now set.now }
@@ -94,11 +79,11 @@ fn cut_with(
     ensures plain { IfOk result (λ found. found ≡ None → IsPlain instance.now set.now) }
 {
     match fit_cut(alloc, instance, part, &founds)? {
-        Some(cut) => Ok(Some(CoreCut {
-            cut,
-            hubs: set.copy(alloc)?,
-            proofs: proofs_of(alloc, founds)?,
-        })),
+        Some(cut) => {
+            let hubs = set.members().to_vec(alloc)?;
+            let mark = Mark::new(hubs, proofs_of(alloc, founds)?);
+            Ok(Some(MarkedCut { cut, mark }))
+        }
         None => Ok(None),
     }
 }

@@ -9,7 +9,7 @@ ghost use Rattle.core_cuts.specs.FoundCuts.{proofs_of};
 ghost use Rattle.core_cuts.specs.Readings.{IsFound, IsNotFound};
 
 use crate::core_duals::{CoreDual, core_dual};
-use crate::dual_proofs::DualProof;
+use core_marks::DualProof;
 use hub_model::Instance;
 use plan_model::HubSet;
 use std::alloc::{AllocError, Global};

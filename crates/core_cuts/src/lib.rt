@@ -5,7 +5,7 @@
 //! The modules build on one another in this order: `edges` (the ways of a commodity, and what they cost), `tables` and
 //! `problems` (the table before the first pivot), `ratios` (the basic solution of the last table), `least_parts` (the part that
 //! makes it whole), `unit_prices` (price and values by unit of flow, times the part), `readings` (these of a table), `taken_ways`
-//! and `dual_proofs` (what proves the dual), `core_duals`; and for a cut `found_duals` (the core duals of all commodities),
+//! and `table_proofs` (what proves the dual), `core_duals`; and for a cut `found_duals` (the core duals of all commodities),
 //! `common_parts` (the least part that they have in common), `brought_duals` (one of them with that part), `brought_cuts` (all of
 //! them, within the limits of a certificate), `found_cuts`. The functions below are empty: the contract of each is a theorem on
 //! what is found.
@@ -15,7 +15,6 @@ mod brought_cuts;
 mod brought_duals;
 mod common_parts;
 mod core_duals;
-mod dual_proofs;
 mod edges;
 mod found_cuts;
 mod found_duals;
@@ -23,15 +22,15 @@ mod least_parts;
 mod problems;
 mod ratios;
 mod readings;
+mod table_proofs;
 mod tables;
 mod taken_ways;
 mod unit_prices;
 
-ghost use Rattle.core_cuts.specs.Theorems.{FoundIsCore, FoundIsOne, FoundOrNot, FoundInOrder, CoredIsCore};
+ghost use Rattle.core_cuts.specs.Theorems.{FoundIsCore, FoundIsOne, FoundOrNot, FoundIsFunction, FoundInOrder, CoredIsCore, CoredIsFunction, CoredServes};
 
 pub use core_duals::{CoreDual, core_dual};
-pub use dual_proofs::DualProof;
-pub use found_cuts::{CoreCut, core_cut};
+pub use found_cuts::core_cut;
 
 /// What is found is feasible, and a core dual by its proof.
 pub fn found_is_core()
@@ -48,6 +47,11 @@ pub fn found_or_not()
     ensures { FoundOrNot }
 {}
 
+/// What is found is what a function of the instance, the hubs and the commodity gives.
+pub fn found_is_function()
+    ensures { FoundIsFunction }
+{}
+
 /// The ways of what is found stand as in the line of a proof.
 pub fn found_in_order()
     ensures { FoundInOrder }
@@ -56,4 +60,14 @@ pub fn found_in_order()
 /// The cut that is found for a hub set is a core cut by its mark.
 pub fn cored_is_core()
     ensures { CoredIsCore }
+{}
+
+/// The cut of a hub set is what a function of the instance and the hubs gives.
+pub fn cored_is_function()
+    ensures { CoredIsFunction }
+{}
+
+/// The cut that is found for a hub set is within the ranges of a certificate, and tight at the hubs.
+pub fn cored_serves()
+    ensures { CoredServes }
 {}

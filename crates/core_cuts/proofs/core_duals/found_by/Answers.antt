@@ -12,5 +12,5 @@ returns-clause-found c =
       r,
       c.requires.reading,
       c.is_fit.ensures.0 c.if-not-is_fit.false,
-      ap (λ (n : ℕ). found n c.in_ok-dual.dual c.args.proof) c.part.ensures ∙ ap₂ (found r.part) c.in_ok-dual.ensures c.requires.proof,
+      ap (λ (n : ℕ). found n c.in_ok-dual.dual c.into_short.result) c.part.ensures ∙ ap₂ (found r.part) c.in_ok-dual.ensures (c.into_short.ensures ∙ c.requires.proof),
     )

@@ -1,0 +1,4 @@
+pub mod ReducedRows
+pub mod FlatTables
+pub mod Choices
+pub mod PlainStarts

@@ -1,0 +1,5 @@
+use Rattle.plain_rows.specs.Flat.{AreAfter}
+use Rattle.plain_rows.proofs.pivots.next_rows.Given as goal
+
+abbrev pub invariant-loop-i : goal.invariant-loop-i
+invariant-loop-i l = AreAfter l.width l.numbers l.r l.c l.i l.spare
