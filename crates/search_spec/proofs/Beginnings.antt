@@ -9,6 +9,7 @@ use Rattle.std.proofs.lemmas.List.Elements.{All-nil, All-cons, All-append}
 use Rattle.hub_spec.specs.Problem.{Problem, IsProblem, commodities}
 use Rattle.hub_spec.specs.Plans.{HasRoute, HasWanted, IsHubSet}
 use Rattle.hub_spec.specs.Cuts.{Cut, cut_by, IsCut}
+use Rattle.core_spec.specs.CoreCuts.{Mark}
 use Rattle.hub_spec.specs.Trees.{cut_at}
 use Rattle.hub_spec.specs.Certificates.{Proof, HasCutsOf}
 use Rattle.hub_spec.specs.Ranges.{IsCutInRange, IsInRange}
@@ -178,7 +179,8 @@ unfolding with_given
 given_none s =
     let sets = append-nil s.sets in
     let cuts = append-nil s.cuts in
-    λ i. record s { sets = sets i; cuts = cuts i }
+    let marks = append-nil s.marks in
+    λ i. record s { sets = sets i; cuts = cuts i; marks = marks i }
 
 -- hubs that are tried are not in the pool
 known : (p : Problem) (s : State) (hubs : List ℕ) → is_tried p s hubs ≡ true → not (is_some (number_in_pool s hubs)) ≡ true
@@ -208,7 +210,9 @@ unfolding with_given
 one_by_one cuts cut s =
     let sets = append_assoc s.sets (map (λ (c : Cut). None) cuts) (None ∷ []) ∙ ap (λ (os : List (Option (List ℕ))). s.sets ++ os) (sym (map-append (λ (c : Cut). None) cuts (cut ∷ []))) in
     let all = append_assoc s.cuts cuts (cut ∷ []) in
-    λ i. record s { sets = sets i; cuts = all i }
+    let marks = append_assoc s.marks (map (λ (c : Cut). None) cuts) (None ∷ [])
+    ∙ ap (λ (ms : List (Option Mark)). s.marks ++ ms) (sym (map-append (λ (c : Cut). None) cuts (cut ∷ []))) in
+    λ i. record s { sets = sets i; cuts = all i; marks = marks i }
 
 -- ---- nothing but sets
 

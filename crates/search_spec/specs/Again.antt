@@ -29,9 +29,13 @@ pub record IsStartOf (p : Problem) (start : Start) : Type 0 where
   pub some_hub : 1 ≤ length start.hubs
   pub ascend : IsStrictlyIncreasing start.hubs
 
--- the state with these cuts after its own, as the next numbers; they are of no set
+-- the state with these cuts after its own, as the next numbers; they are of no set, and not marked
 unfoldable pub with_given : List Cut → State → State
-with_given cuts s = record s { sets = s.sets ++ map (λ cut. None) cuts; cuts = s.cuts ++ cuts }
+with_given cuts s = record s {
+  sets = s.sets ++ map (λ cut. None) cuts;
+  cuts = s.cuts ++ cuts;
+  marks = s.marks ++ map (λ cut. None) cuts;
+}
 
 -- there are as many hubs as are wanted, if a number is
 abbrev pub has_wanted : Option ℕ → List ℕ → Bool
