@@ -1,7 +1,7 @@
 -- The cut to which an index leads.
 use Rattle.std.proofs.Common.{◌≡◌, ℕ, ◌<◌, List, Some, None, true, is_some, length, map, get_or, ap, sym, ◌∙◌, arith}
 use Rattle.std.proofs.lemmas.List.{length-map}
-use Rattle.kept_cuts.specs.Kept.{Kept, by_values, by_set, given, kept_of, kept_set}
+use Rattle.kept_cuts.specs.Kept.{Kept, by_values, by_set, cored, given, kept_of, kept_set}
 use Rattle.kept_cuts.specs.declared.kept.KeptCut.{KeptCut}
 use Rattle.cut_pool.specs.Kept.{IsOfSet, sets_of}
 use Rattle.cut_pool.specs.Ordered.{IsIndex}
@@ -11,6 +11,7 @@ use Rattle.cut_pool.proofs.Indexes.{has_below, place_has}
 of_set : (k : Kept) → is_some (kept_set k) ≡ true → IsOfSet k
 of_set (by_values rows) h = cc
 of_set (by_set hubs order) h = tt
+of_set (cored x) h = tt
 of_set (given cut) h = cc
 
 module _ (cuts : List KeptCut) (ks : List Kept) (index : List ℕ) (i place : ℕ) (x : KeptCut) (same : map kept_of cuts ≡ ks)

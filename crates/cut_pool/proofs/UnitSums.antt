@@ -6,9 +6,10 @@ use Rattle.std.proofs.Math.Nat.{div-one}
 use Rattle.std.proofs.lemmas.Bool.Decides.{nat_tests}
 use Rattle.std.proofs.lemmas.List.{map_push}
 use Rattle.std.proofs.lemmas.List.Elements.{All-push, All-cons, All-head, All-tail}
-use Rattle.kept_cuts.specs.Kept.{KeptList}
-use Rattle.cut_pool.specs.Entries.{Entry, entry_part, unit_totals, unit_loads, most_unit, kept_most, most_given}
+use Rattle.kept_cuts.specs.Kept.{Kept, by_values, by_set, cored, given, kept_part, KeptList}
+use Rattle.cut_pool.specs.Entries.{Entry, entry_part, unit_totals, unit_loads, most_unit, kept_most, most_stated}
 use Rattle.cut_pool.specs.Shorts.{unit_row}
+use Rattle.cut_pool.specs.Stated.{IsStated}
 use Rattle.cut_pool.specs.Units.{Units, units_of, whole_of, with_unit, AreWhole, AreUnitsIfKept, IsEntered}
 use Rattle.cut_pool.proofs.Columns.{AreColumns}
 
@@ -92,6 +93,12 @@ pub most_unit_push : (part : ℕ) (us : List ℕ) (u : ℕ) → most_unit part (
 most_unit_push part [] u = omega arith
 most_unit_push part (x ∷ us) u = let rest = most_unit_push part us u in omega (arith, rest)
 
-pub most_more : (es : List Entry) (e : Entry) → most_given (es ++ e ∷ []) ≡ max (most_given es) (kept_most e.cut e.loads)
+pub most_more : (es : List Entry) (e : Entry) → most_stated (es ++ e ∷ []) ≡ max (most_stated es) (kept_most e.cut e.loads)
 most_more [] e = omega arith
 most_more (x ∷ es) e = let rest = most_more es e in omega (arith, rest)
+
+pub stated_most : (k : Kept) (loads : List ℕ) → IsStated k → kept_most k loads ≡ most_unit (kept_part k) loads
+stated_most (by_values rows) loads is = absurd is
+stated_most (by_set hubs order) loads is = absurd is
+stated_most (cored x) loads is = refl
+stated_most (given cut) loads is = refl

@@ -1,6 +1,6 @@
 -- What stands side by side in a pool, one item a cut.
 use Rattle.std.specs.Prelude.{◌≡◌, ℕ, ◌<◌, List, [], ◌∷◌, Option, Some, None, map, slice_index_or}
-use Rattle.kept_cuts.specs.Kept.{Kept, by_set, kept_set}
+use Rattle.kept_cuts.specs.Kept.{Kept, by_set, cored, kept_set}
 use Rattle.cut_pool.specs.Entries.{Entry}
 
 -- the most cuts of a pool: their numbers are below 2 ^ 32
@@ -10,6 +10,7 @@ most_kept = 4294967295
 -- a kept cut is of a hub set
 abbrev pub IsOfSet : Kept → Type 0
 IsOfSet (by_set hubs order) = Unit {0}
+IsOfSet (cored x) = Unit {0}
 IsOfSet _ = ⊥
 
 -- the hub set of each kept cut that is of one

@@ -1,7 +1,7 @@
 -- The fields of a pool.
 use Rattle.std.specs.Prelude.{◌≡◌, ℕ, ◌-◌, ◌≤◌, min, length}
 use Rattle.kept_cuts.specs.StoreParts.{free}
-use Rattle.cut_pool.specs.Entries.{PoolState, most_given}
+use Rattle.cut_pool.specs.Entries.{PoolState, most_stated}
 use Rattle.cut_pool.specs.Kept.{most_kept, sets_of, entries_of, AreDistinct}
 use Rattle.cut_pool.specs.Ordered.{IsIndex}
 use Rattle.cut_pool.specs.Shorts.{AreShortIfKept}
@@ -20,7 +20,7 @@ state_of s = record {
 }
 
 -- each cut has its sums, no set stands twice, the index has each, the loads in 32 bits and the sums for one unit are those of
--- the entries, and so is the greatest load of a given cut
+-- the entries, and so is the greatest load of a cut that is kept with its duals
 pub record IsPool (s : Inside) : Type 0 where
   pub most : length s.cuts.kept.cuts ≤ most_kept
   pub totals : length s.cuts.kept.totals ≡ length s.cuts.kept.cuts
@@ -29,4 +29,4 @@ pub record IsPool (s : Inside) : Type 0 where
   pub index : IsIndex (sets_of s.cuts.kept.cuts) s.by_set.items
   pub short : AreShortIfKept (state_of s).entries s.short
   pub units : AreUnitsIfKept (state_of s).entries s.units
-  pub greatest : s.most_load ≡ most_given (state_of s).entries
+  pub greatest : s.most_load ≡ most_stated (state_of s).entries

@@ -1,20 +1,22 @@
 //! Cuts under their numbers.
 
-ghost use Rattle.std.specs.Prelude.{◌≡◌, ℕ, ◌+◌, ◌<◌, ◌≤◌, [], ◌∷◌, ◌++◌, length, map, pos, slice_index, IfSome, IfNone, IsOk, IfOk, OnOk, OnErr, IfErr};
+ghost use Rattle.std.specs.Prelude.{◌≡◌, ℕ, ◌+◌, ◌<◌, ◌≤◌, List, [], ◌∷◌, ◌++◌, Some, length, map, pos, slice_index, IfSome, IfNone, IsOk, IfOk, OnOk, OnErr, IfErr};
 ghost use Rattle.hub_spec.specs.Limits.{most_nodes};
 ghost use Rattle.hub_spec.specs.Ranges.{IsCutInRange};
-ghost use Rattle.kept_cuts.specs.Kept.{kept_of};
-ghost use Rattle.cut_pool.specs.Entries.{entry_of, given_entry, entry_at, entry_part, unit_totals, unit_loads, most_given, IsNumber, IsNumberOf, Lacks};
+ghost use Rattle.kept_cuts.specs.Kept.{kept_of, kept_set, kept_part};
+ghost use Rattle.cut_pool.specs.Entries.{entry_of, core_entry, given_entry, entry_at, entry_part, unit_totals, unit_loads, most_stated, IsNumber, IsNumberOf, Lacks};
 ghost use Rattle.cut_pool.specs.Shorts.{AreShortLoads};
+ghost use Rattle.cut_pool.specs.Stated.{IsStated};
 ghost use Rattle.cut_pool.specs.Units.{AreWhole};
 
-use crate::places::place_of;
-use crate::set_cuts::set_of;
+use crate::places::{index_next, place_of};
+use crate::set_cuts::hubs_of;
 use crate::short_loads::{reserve_kept, with_cut};
-use crate::unit_columns::{UnitColumns, enter, most_per_unit, per_unit};
+use crate::stated_sums::StatedSums;
+use crate::unit_columns::{UnitColumns, enter};
 use crate::{CutSums, ShortLoads};
-use hub_model::signed;
-use kept_cuts::{CutStore, KeptCut, KeptCuts, signed_row};
+use kept_cuts::{CutStore, KeptCut, KeptCuts};
+use marked_cuts::MarkedCut;
 use plan_model::HubSet;
 use stated_cuts::StatedCut;
 use std::alloc::{AllocError, Global};
@@ -23,20 +25,20 @@ use std::marker::Model;
 // The most cuts of a pool: their numbers are below 2^32.
 const MOST_KEPT: u64 = 4_294_967_295;
 
-/// The cuts of a search, numbered from 1 in the order in which they were added: separated cuts, no two of one hub set, and
-/// cuts that were given with their duals, which are of no hub set.
+/// The cuts of a search, numbered from 1 in the order in which they were added: separated cuts and core cuts, no two of one
+/// hub set, and cuts that were given with their duals, which are of no hub set.
 ///
 /// A pool is seen as its entries, with how many more can be added for certain.
 #[derive(Drop)]
 pub struct Pool {
     cuts: CutStore,
-    // The places of the separated cuts, from 0, in the order of the members of their hub sets.
+    // The places of the cuts that are of hub sets, from 0, in the order of the members of these.
     by_set: Vec<u32>,
     // The loads in 32 bits, until they are given up.
     short: Option<ShortLoads>,
     // Totals and loads for one unit of each cut's part, once a part is above 1.
     units: Option<UnitColumns>,
-    // The greatest load of a given cut for one unit of its part.
+    // The greatest load of a cut that is kept with its duals, for one unit of its part.
     most_load: u128,
 }
 
@@ -123,7 +125,7 @@ impl Pool {
             return None;
         }
         let place = self.by_set[at];
-        if set_of(&self.cuts.cuts()[place as usize]).members() != hubs {
+        if hubs_of(&self.cuts.cuts()[place as usize]) != hubs {
             return None;
         }
         Some(u64::from(place) + 1)
@@ -153,14 +155,37 @@ impl Pool {
         if enter(alloc, &mut self.units, &self.cuts, 1, total, loads).is_err() {
             return Err(Refused { cut, order });
         }
-        let place = self.cuts.len() as u32;
-        let at = place_of(self.cuts.cuts(), &self.by_set, cut.set().members());
-        // It succeeds, since there is room.
-        let _ = self.by_set.insert(at, place);
+        let place = self.cuts.len();
         let (set, total, loads) = cut.into_parts();
+        let kept = KeptCut::Set(set, order);
+        index_next(self.cuts.cuts(), &mut self.by_set, &kept);
         self.short = with_cut(self.short.take(), place == 0, &loads);
-        self.cuts.put(KeptCut::Set(set, order), total, loads);
-        Ok(u64::from(place) + 1)
+        self.cuts.put(kept, total, loads);
+        Ok(place as u64 + 1)
+    }
+
+    /// Adds the core cut of a hub set that has no cut yet, between `size` nodes, and gives its number, the next one.
+    ///
+    /// The cut comes back where memory is wanting, or where the pool has all the cuts that it can number, and its cuts stay
+    /// as they were.
+    pub fn add_core(&mut self, alloc: Global, size: u32, cut: MarkedCut) -> Result<u64, MarkedCut>
+        requires first_time { Lacks self.old.entries cut.mark.hubs }
+        requires size { size ≤ most_nodes }
+        requires duals { IsCutInRange size cut.cut }
+        ensures number { IfOk result (λ c. c ≡ length self.old.entries + 1) }
+        ensures added { OnOk result (self.new.entries ≡ self.old.entries ++ core_entry size cut ∷ []) }
+        ensures spare { OnOk result (self.old.spare ≤ self.new.spare + 1) }
+        ensures refused { OnErr result (self.new.entries ≡ self.old.entries) }
+        ensures given_back { IfErr result (λ back. back ≡ cut) }
+    {
+        let Ok(sums) = StatedSums::of(alloc, size, &cut.cut) else {
+            return Err(cut);
+        };
+        match self.add_stated(alloc, KeptCut::Core(cut), sums) {
+            Ok(number) => Ok(number),
+            Err(KeptCut::Core(cut)) => Err(cut),
+            Err(_) => unreachable!(),
+        }
     }
 
     /// Adds a cut that was given with its duals, between `size` nodes, and gives its number, the next one. No hub set finds
@@ -176,18 +201,40 @@ impl Pool {
         ensures spare { OnOk result (self.old.spare ≤ self.new.spare + 1) }
         ensures refused { OnErr result (self.new.entries ≡ self.old.entries) }
     {
-        let part = cut.part();
-        let total = cut.total();
-        let loads = cut.loads(alloc, size)?;
-        let row = signed_row(alloc, &loads)?;
-        let units = per_unit(alloc, part, &loads)?;
-        self.reserve(1)?;
-        let unit_total = signed(total / u128::from(part));
-        enter(alloc, &mut self.units, &self.cuts, part, unit_total, &units)?;
+        let sums = StatedSums::of(alloc, size, &cut)?;
+        match self.add_stated(alloc, KeptCut::Given(cut), sums) {
+            Ok(number) => Ok(number),
+            Err(_) => Err(AllocError),
+        }
+    }
+
+    // Adds a cut that is kept with its duals, with its sums, under the next number. Where it is of a hub set, that has no
+    // cut yet.
+    //
+    // The cut comes back where it is not added, and the cuts stay as they were.
+    fn add_stated(&mut self, alloc: Global, cut: KeptCut, sums: StatedSums) -> Result<u64, KeptCut>
+        requires stated { IsStated (kept_of cut) }
+        requires part { sums.part ≡ kept_part (kept_of cut) }
+        requires first_time { (hubs : List ℕ) → kept_set (kept_of cut) ≡ Some hubs → Lacks self.old.entries hubs }
+        ensures number { IfOk result (λ c. c ≡ length self.old.entries + 1) }
+        ensures added { OnOk result (self.new.entries
+            ≡ self.old.entries ++ record { cut = kept_of cut; total = sums.total; loads = sums.loads } ∷ []) }
+        ensures spare { OnOk result (self.old.spare ≤ self.new.spare + 1) }
+        ensures refused { OnErr result (self.new.entries ≡ self.old.entries) }
+        ensures given_back { IfErr result (λ back. kept_of back ≡ kept_of cut) }
+    {
+        let Ok(()) = self.reserve(1) else {
+            return Err(cut);
+        };
+        let (part, total, loads) = (sums.part, sums.unit_total, &sums.unit_loads);
+        if enter(alloc, &mut self.units, &self.cuts, part, total, loads).is_err() {
+            return Err(cut);
+        }
         let place = self.cuts.len();
-        self.short = with_cut(self.short.take(), place == 0, &units);
-        self.most_load = self.most_load.max(most_per_unit(part, &loads));
-        self.cuts.put(KeptCut::Given(cut), signed(total), row);
+        index_next(self.cuts.cuts(), &mut self.by_set, &cut);
+        self.short = with_cut(self.short.take(), place == 0, loads);
+        self.most_load = self.most_load.max(sums.most);
+        self.cuts.put(cut, sums.total, sums.loads);
         Ok(place as u64 + 1)
     }
 
@@ -223,7 +270,7 @@ impl Pool {
         &self.cuts.cuts()[(c - 1) as usize]
     }
 
-    /// The part of each cut, in the order of their numbers: 1 but for given cuts.
+    /// The part of each cut, in the order of their numbers: 1 but for core cuts and given ones.
     pub fn parts(&self) -> &[u32]
         ensures { result.now ≡ map entry_part self.now.entries }
     {
@@ -264,9 +311,9 @@ impl Pool {
         }
     }
 
-    /// The greatest load of a given cut for one unit of its part, in 10^-12, rounded down: 0 if none was given.
-    pub fn most_given(&self) -> u128
-        ensures { result ≡ most_given self.now.entries }
+    /// The greatest load of a core cut or a given one for one unit of its part, in 10^-12, rounded down: 0 if there is none.
+    pub fn most_stated(&self) -> u128
+        ensures { result ≡ most_stated self.now.entries }
     {
         self.most_load
     }

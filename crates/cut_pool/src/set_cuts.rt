@@ -1,19 +1,29 @@
 //! The hub set of a kept cut.
 
-ghost use Rattle.std.specs.Prelude.{◌≡◌, Some};
+ghost use Rattle.std.specs.Prelude.{◌≡◌, Some, option_map};
 ghost use Rattle.kept_cuts.specs.Kept.{kept_of, kept_set};
 ghost use Rattle.cut_pool.specs.Kept.{IsOfSet};
 
 use kept_cuts::KeptCut;
-use plan_model::HubSet;
 
-/// The hub set of a cut that is of one.
-pub(crate) fn set_of(cut: &KeptCut) -> &HubSet
+/// The hubs of the set of a cut, if it is of one.
+pub(crate) fn hubs_if_any(cut: &KeptCut) -> Option<&[u32]>
+    ensures { option_map (λ hubs. hubs.now) result ≡ kept_set (kept_of cut.now) }
+{
+    match cut {
+        KeptCut::Set(set, _) => Some(set.members()),
+        KeptCut::Core(marked) => Some(marked.mark.hubs()),
+        _ => None,
+    }
+}
+
+/// The hubs of the set of a cut that is of one.
+pub(crate) fn hubs_of(cut: &KeptCut) -> &[u32]
     requires { IsOfSet (kept_of cut.now) }
     ensures { kept_set (kept_of cut.now) ≡ Some result.now }
 {
-    match cut {
-        KeptCut::Set(set, _) => set,
-        _ => unreachable!(),
+    match hubs_if_any(cut) {
+        Some(hubs) => hubs,
+        None => unreachable!(),
     }
 }

@@ -6,7 +6,7 @@ use Rattle.hub_spec.specs.Certificates.{Proof, Holds}
 use Rattle.hub_spec.specs.Ranges.{IsSecond, IsInRange}
 use Rattle.plan_model.specs.declared.tree_lines.TreeLine as model
 use Rattle.plan_model.specs.Lines.{tree_line_of}
-use Rattle.kept_cuts.specs.Kept.{Kept, kept_cuts, IsOwn, IsKeptFor}
+use Rattle.kept_cuts.specs.Kept.{Kept, kept_cuts, IsRemade, IsKeptFor}
 use Rattle.kept_cuts.specs.declared.found.Found.{Found}
 
 -- the lines that these stand for
@@ -31,14 +31,14 @@ pub record IsUnlimited (p : Problem) : Type 0 where
   pub any_length : p.longest ≡ None
   pub any_number : p.wanted ≡ None
 
--- each cut of the finding is the search's own: none was given
-abbrev pub AreOwn : Found → Type 0
-AreOwn found = All IsOwn found.cuts.cuts
+-- each cut of the finding is made anew: none is a core cut, and none was given
+abbrev pub AreRemade : Found → Type 0
+AreRemade found = All IsRemade found.cuts.cuts
 
 -- a version that has a text for each finding of the problem with these cuts: the second, and where the problem is unlimited and
--- no cut was given the first too
+-- each cut is made anew the first too
 abbrev pub IsVersionFor : Problem → List Kept → ℕ → Type 0
-IsVersionFor p cuts version = ((version ≡ 1) × IsUnlimited p × All IsOwn cuts) ⊎ IsSecond version
+IsVersionFor p cuts version = ((version ≡ 1) × IsUnlimited p × All IsRemade cuts) ⊎ IsSecond version
 
 -- its cuts fit, and its lines are those of a tree with which it is a certificate of the problem, and in each of these
 -- versions within the ranges of a certificate

@@ -6,31 +6,44 @@ use Rattle.hub_spec.specs.Plans.{IsHubSet}
 use Rattle.hub_spec.specs.Cuts.{Cut, total, load, IsCut}
 use Rattle.hub_spec.specs.Ranges.{IsCutInRange}
 use Rattle.hub_spec.specs.Separation.{IsOrder, set_cut}
+use Rattle.core_spec.specs.CoreCuts.{Mark, IsCoreCut}
+use Rattle.core_spec.specs.MarkRanges.{IsMarkInRange}
+use Rattle.marked_cuts.specs.MarkedCuts.{MarkedCut}
 use Rattle.value_cuts.specs.Values.{ValueRows, AreValuesFor, value_cut}
 use Rattle.kept_cuts.specs.declared.kept.KeptCut.{KeptCut}
-use Rattle.kept_cuts.specs.declared.kept.KeptCut.TheVariants.{Values, Set, Given}
+use Rattle.kept_cuts.specs.declared.kept.KeptCut.TheVariants.{Values, Set, Core, Given}
 
--- values of the candidates, or a hub set and an order of the other candidates, or a cut that was given with its duals
+-- values of the candidates, or a hub set and an order of the other candidates, or a core cut with its mark, or a cut that was
+-- given with its duals
 pub data Kept : Type 0 where
   by_values : ValueRows → Kept
   by_set : (hubs order : List ℕ) → Kept
+  cored : MarkedCut → Kept
   given : Cut → Kept
 
 -- what the code keeps stands for
 abbrev pub kept_of : KeptCut → Kept
 kept_of (Values rows) = by_values rows
 kept_of (Set hubs order) = by_set hubs order.items
+kept_of (Core x) = cored x
 kept_of (Given cut) = given cut
 
 -- the hub set that a kept cut is of, if it is of one
 abbrev pub kept_set : Kept → Option (List ℕ)
 kept_set (by_set hubs order) = Some hubs
+kept_set (cored x) = Some x.mark.hubs
 kept_set _ = None
 
--- it is a search's own: it was not given
-abbrev pub IsOwn : Kept → Type 0
-IsOwn (given cut) = ⊥
-IsOwn _ = Unit {0}
+-- the mark of the cut, if it has one
+abbrev pub kept_mark : Kept → Option Mark
+kept_mark (cored x) = Some x.mark
+kept_mark _ = None
+
+-- its duals are made anew, with the part 1: it is no core cut, and was not given
+abbrev pub IsRemade : Kept → Type 0
+IsRemade (cored x) = ⊥
+IsRemade (given cut) = ⊥
+IsRemade _ = Unit {0}
 
 -- it was separated for a hub set, or given
 abbrev pub IsPooled : Kept → Type 0
@@ -41,6 +54,7 @@ IsPooled _ = Unit {0}
 abbrev pub kept_cut : Problem → Kept → Cut
 kept_cut p (by_values rows) = value_cut p rows
 kept_cut p (by_set hubs order) = set_cut p hubs order
+kept_cut p (cored x) = x.cut
 kept_cut p (given cut) = cut
 
 abbrev pub kept_cuts : Problem → List Kept → List Cut
@@ -50,12 +64,14 @@ kept_cuts p kept = map (kept_cut p) kept
 abbrev pub kept_part : Kept → ℕ
 kept_part (by_values rows) = 1
 kept_part (by_set hubs order) = 1
+kept_part (cored x) = x.cut.part
 kept_part (given cut) = cut.part
 
 -- it fits the problem
 abbrev pub IsKeptFor : Problem → Kept → Type 0
 IsKeptFor p (by_values rows) = AreValuesFor p rows
 IsKeptFor p (by_set hubs order) = IsHubSet p hubs × IsOrder p hubs order
+IsKeptFor p (cored x) = IsCoreCut p x.cut x.mark × IsCutInRange p.size x.cut × IsMarkInRange p.size x.mark
 IsKeptFor p (given cut) = IsCut p cut × IsCutInRange p.size cut
 
 -- kept cuts, the total of each, and its load of each node

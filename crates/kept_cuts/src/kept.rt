@@ -1,11 +1,13 @@
 //! Cuts under their numbers.
 
-ghost use Rattle.std.specs.Prelude.{◌≡◌, ◌+◌, ◌-◌, ◌^◌, ◌<◌, ◌≤◌, [], ◌∷◌, ◌++◌, length, map, pos, slice_index, All, IfOk, OnOk, OnErr};
+ghost use Rattle.std.specs.Prelude.{◌≡◌, ◌+◌, ◌-◌, ◌^◌, ◌<◌, ◌≤◌, [], ◌∷◌, ◌++◌, length, map, pos, slice_index, option_map, All, IfOk, OnOk, OnErr};
 ghost use Rattle.hub_spec.specs.Limits.{most_cost};
-ghost use Rattle.kept_cuts.specs.Kept.{kept_of, kept_at, kept_part};
+ghost use Rattle.kept_cuts.specs.Kept.{kept_of, kept_at, kept_part, kept_mark};
 
 use crate::{CutStore, PackedValues};
+use core_marks::Mark;
 use hub_model::signed;
+use marked_cuts::MarkedCut;
 use plan_model::HubSet;
 use stated_cuts::StatedCut;
 use std::alloc::{AllocError, Global};
@@ -18,6 +20,8 @@ pub enum KeptCut {
     Values(PackedValues),
     /// A hub set and an order of the other candidates.
     Set(HubSet, Vec<u32>),
+    /// A core cut of a hub set, with its mark.
+    Core(MarkedCut),
     /// A cut that was given with its duals.
     Given(StatedCut),
 }
@@ -30,7 +34,18 @@ impl KeptCut {
         match self {
             KeptCut::Values(_) => 1,
             KeptCut::Set(_, _) => 1,
+            KeptCut::Core(marked) => marked.cut.part(),
             KeptCut::Given(cut) => cut.part(),
+        }
+    }
+
+    /// The mark of the cut, if it has one.
+    pub fn mark(&self) -> Option<&Mark>
+        ensures { option_map (λ m. m.now) result ≡ kept_mark (kept_of self.now) }
+    {
+        match self {
+            KeptCut::Core(marked) => Some(&marked.mark),
+            _ => None,
         }
     }
 }

@@ -1,6 +1,6 @@
 //! What holds of kept cuts.
 
-ghost use Rattle.kept_cuts.specs.Theorems.{KeptCutIsCut, KeptCutIsInRange, KeptCutIsFirst, KeptPartIsPart};
+ghost use Rattle.kept_cuts.specs.Theorems.{KeptCutIsCut, KeptCutIsInRange, KeptCutIsFirst, KeptPartIsPart, KeptMarkIsMark};
 
 /// A kept cut is a cut of the problem.
 pub fn kept_cut_is_cut()
@@ -12,7 +12,7 @@ pub fn kept_cut_is_in_range()
     ensures { KeptCutIsInRange }
 {}
 
-/// A certificate of the first version may list it too, where it was not given.
+/// A certificate of the first version may list it too, where it is made anew.
 pub fn kept_cut_is_first()
     ensures { KeptCutIsFirst }
 {}
@@ -20,4 +20,9 @@ pub fn kept_cut_is_first()
 /// Its part is known without the problem.
 pub fn kept_part_is_part()
     ensures { KeptPartIsPart }
+{}
+
+/// By its mark, if it has one, it is a core cut, and a certificate may list the mark.
+pub fn kept_mark_is_mark()
+    ensures { KeptMarkIsMark }
 {}

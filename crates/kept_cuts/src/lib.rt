@@ -1,10 +1,10 @@
 //! The cuts that a search keeps, and what it found with them.
 //!
-//! A [`KeptCut`] is what the duals of a cut can be made from anew: values of the candidates, or a hub set with an order of
-//! the others; or a cut that was given with its duals. A [`CutStore`] has them side by side with the part, the total and the loads of each, and says how many more
-//! it has room for. [`KeptCuts`] numbers them from 1, and leaves the room out of sight. [`PackedValues`] are values of
-//! which those above 0 alone take memory. A [`Found`] is a plan with the cuts and the tree that bound what any plan costs.
-//! Costs are in 10^-12; nodes are `u32`, counted from 0.
+//! A [`KeptCut`] is what the duals of a cut can be made from anew, values of the candidates or a hub set with an order of the
+//! others; or it is a core cut with its mark, or a cut that was given, with all of their duals. A [`CutStore`] has them side by
+//! side with the part, the total and the loads of each, and says how many more it has room for. [`KeptCuts`] numbers them
+//! from 1, and leaves the room out of sight. [`PackedValues`] are values of which those above 0 alone take memory. A [`Found`]
+//! is a plan with the cuts and the tree that bound what any plan costs. Costs are in 10^-12; nodes are `u32`, counted from 0.
 #![tactic(auto)]
 
 mod found;
@@ -15,6 +15,8 @@ mod store;
 
 pub use found::Found;
 pub use kept::{KeptCut, KeptCuts, signed_row};
-pub use laws::{kept_cut_is_cut, kept_cut_is_first, kept_cut_is_in_range, kept_part_is_part};
+pub use laws::{
+    kept_cut_is_cut, kept_cut_is_first, kept_cut_is_in_range, kept_mark_is_mark, kept_part_is_part,
+};
 pub use packed::PackedValues;
 pub use store::CutStore;

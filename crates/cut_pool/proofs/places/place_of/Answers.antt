@@ -10,8 +10,8 @@ use Rattle.cut_pool.proofs.Indexes.{search_above, search_below, tested}
 use Rattle.cut_pool.proofs.places.place_of.Goals as goal
 use Rattle.cut_pool.proofs.places.place_of.Goals.{After-is_lt}
 
-pub set_of-requires : goal.set_of-requires
-set_of-requires c =
+pub hubs_of-members-requires : goal.hubs_of-members-requires
+hubs_of-members-requires c =
     let index = c.args.by_set.now in
     let middle = c.loop-low.low + (c.loop-low.high - c.loop-low.low) / 2 in
     let within : middle < length index = omega (arith, c.loop-low.invariant.most) in
@@ -33,9 +33,9 @@ told c =
     let within : middle < length index = omega (arith, c.loop-low.invariant.most) in
     let there =
     set_indexed c.args.cuts.now ks index middle (get_or index middle 0) x refl c.requires within
-    (get_or_default index middle 0 (get_or index middle 0) within) c.index-cuts-by_set.is _ c.set_of.ensures in
+    (get_or_default index middle 0 (get_or index middle 0) within) c.index-cuts-by_set.is _ c.hubs_of-members.ensures in
     c.is_lt.ensures ∙ ap is_lt c.cmp.ensures
-    ∙ tested (sets_of ks) index c.args.hubs.now middle _ _ there c.members-members.ensures.value
+    ∙ tested (sets_of ks) index c.args.hubs.now middle _ _ there refl
 
 pub loop-low-preserved-then-is_lt : goal.loop-low-preserved-then-is_lt
 loop-low-preserved-then-is_lt c =

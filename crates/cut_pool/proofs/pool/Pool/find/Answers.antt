@@ -23,8 +23,8 @@ returns-then-at-len-clause-none c =
     subst (λ (p : PoolState). Lacks p.entries c.args.set.now) c.self.view_is
     (lacks_entries s c.self.invariant c.args.set.now c.place_of-at.result split none)
 
-pub set_of-requires : goal.set_of-requires
-set_of-requires c =
+pub hubs_of-requires : goal.hubs_of-requires
+hubs_of-requires c =
     let s = c.self.inside in
     let below : c.place_of-at.result < length s.by_set.items =
     omega (arith, c.place_of-at.ensures.within, c.if-at-len.false, c.len.ensures, c.deref.ensures.len, s.by_set.ok.0) in
@@ -36,12 +36,12 @@ at_below : (c : After-ne) → c.place_of-at.result < length c.self.inside.by_set
 at_below c = omega (arith, c.place_of-at.ensures.within, c.if-at-len.false, c.len.ensures, c.deref.ensures.len, c.self.inside.by_set.ok.0)
 
 -- the hub set that was compared stands in the pool at the place that the index has
-there : (c : After-ne) → get_or (sets_of c.self.inside.cuts.kept.cuts) c.index-place.result.now None ≡ Some c.members.result.now
+there : (c : After-ne) → get_or (sets_of c.self.inside.cuts.kept.cuts) c.index-place.result.now None ≡ Some c.hubs_of.result.now
 there c =
     let s = c.self.inside in
     set_indexed c.cuts-2.result.now s.cuts.kept.cuts s.by_set.items c.place_of-at.result c.index-place.result.now c.index-cuts-place.result
-    c.cuts-2.ensures.value c.self.invariant.index (at_below c) c.index-place.ensures c.index-cuts-place.is c.members.result.now
-    (c.set_of.ensures ∙ ap Some (sym c.members.ensures.value))
+    c.cuts-2.ensures.value c.self.invariant.index (at_below c) c.index-place.ensures c.index-cuts-place.is c.hubs_of.result.now
+    c.hubs_of.ensures
 
 pub returns-then-ne-clause-none : goal.returns-then-ne-clause-none
 returns-then-ne-clause-none c =
@@ -50,15 +50,15 @@ returns-then-ne-clause-none c =
     let split = rw (c.cuts.ensures.value, c.deref.ensures.value, c.members-hubs.ensures.value) at c.place_of-at.ensures in
     let none : c.place_of-at.result < length s.by_set.items → set_at sets s.by_set.items c.place_of-at.result ≢ c.args.set.now =
     λ below same.
-    other_members c.members.result.now c.members-hubs.result.now c.ne.result c.ne.ensures c.if-ne.true
+    other_members c.hubs_of.result.now c.members-hubs.result.now c.ne.result c.ne.ensures c.if-ne.true
     (sym
-    (read_at sets s.by_set.items c.place_of-at.result c.index-place.result.now c.members.result.now below c.index-place.ensures
+    (read_at sets s.by_set.items c.place_of-at.result c.index-place.result.now c.hubs_of.result.now below c.index-place.ensures
     (there (goal.at.returns-then-ne-clause-none c).After-ne))
     ∙ same ∙ sym c.members-hubs.ensures.value) in
     subst (λ (p : PoolState). Lacks p.entries c.args.set.now) c.self.view_is
     (lacks_entries s c.self.invariant c.args.set.now c.place_of-at.result split none)
 
-found : (c : After-from) → get_or (sets_of c.self.inside.cuts.kept.cuts) c.index-place.result.now None ≡ Some c.members.result.now
+found : (c : After-from) → get_or (sets_of c.self.inside.cuts.kept.cuts) c.index-place.result.now None ≡ Some c.hubs_of.result.now
     → IsNumberOf (state_of c.self.inside).entries c.args.set.now (c.from.result + 1)
 found c stands =
     let s = c.self.inside in
@@ -73,7 +73,7 @@ found c stands =
       number = number_of s c.self.invariant c.from.result below;
       has_hubs = set_of_number s c.self.invariant c.from.result below
           ∙ ap (λ (place : ℕ). get_or sets place None) c.from.ensures ∙ stands
-          ∙ ap Some (same_members c.members.result.now c.members-hubs.result.now c.ne.result c.ne.ensures c.if-ne.false ∙ c.members-hubs.ensures.value);
+          ∙ ap Some (same_members c.hubs_of.result.now c.members-hubs.result.now c.ne.result c.ne.ensures c.if-ne.false ∙ c.members-hubs.ensures.value);
     }
 
 pub returns-clause-some : goal.returns-clause-some
