@@ -5,11 +5,12 @@ ghost use Rattle.hub_spec.specs.Plans.{IsHubSet};
 ghost use Rattle.hub_spec.specs.Separation.{IsOrder};
 ghost use Rattle.cut_pool.specs.Entries.{entry_of};
 ghost use Rattle.search_steps.specs.Pools.{IsSumsOf};
+ghost use Rattle.separators.specs.Kinds.{minimal};
 
 use cut_pool::CutSums;
 use hub_model::Instance;
 use plan_model::HubSet;
-use separators::Separator;
+use separators::{Separated, Separator};
 use std::alloc::{AllocError, Global};
 
 /// Separates by a closure, which may start threads.
@@ -25,6 +26,8 @@ pub struct Crew<F: Drop> {
 
 impl<F: Fn(Global, &Instance, HubSet, &[u32]) -> Result<CutSums, AllocError> + Drop> Separator
     for Crew<F> {
+    ghost kind = { minimal };
+
     ghost ready = { λ s. ((a : _) (i : _) (h : _) (o : _) → IsHubSet i.now h → IsOrder i.now h o.now → F.pre s.cut a i h o)
         × ((a : _) (i : _) (h : _) (o : _) (r : _) → F.post s.cut a i h o r → IfOk r (λ c. c.hubs ≡ h))
         × ((a : _) (i : _) (h : _) (o : _) (r : _) → F.post s.cut a i h o r → IfOk r (λ c. IsSumsOf i.now (entry_of c o.now))) };
@@ -35,7 +38,7 @@ impl<F: Fn(Global, &Instance, HubSet, &[u32]) -> Result<CutSums, AllocError> + D
         instance: &Instance,
         set: HubSet,
         order: &[u32],
-    ) -> Result<CutSums, AllocError> {
-        (self.cut)(alloc, instance, set, order)
+    ) -> Result<Separated, AllocError> {
+        Ok(Separated::Sums((self.cut)(alloc, instance, set, order)?))
     }
 }

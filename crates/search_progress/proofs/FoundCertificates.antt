@@ -10,22 +10,20 @@ use Rattle.hub_spec.specs.Ranges.{IsFirstLine}
 use Rattle.hub_spec.proofs.SumLemmas.{by_test}
 use Rattle.plan_model.specs.Lines.{tree_line_of}
 use Rattle.search_spec.specs.States.{State, Grown, is_stopped, answer}
-use Rattle.search_spec.specs.Steps.{searched}
 use Rattle.search_spec.specs.Laws.{IsStart}
-use Rattle.search_spec.specs.Choices.{begun_for, rule}
-use Rattle.search_spec.specs.Again.{Start, IsStartOf, begun_again, rule_again}
-use Rattle.search_spec.specs.Findings.{AreOfSets, IsProof, AreWithin, IsSpent, IsEnough, IsCounted, StopsForNodes, IsCertificateOf, certificate_of}
-use Rattle.search_spec.proofs.WholeSearches.{begun_by, search_proof, search_counted, search_stopped, enough_nodes}
-use Rattle.search_spec.proofs.Beginnings.{again_start, rule_of_sets}
+use Rattle.search_spec.specs.Choices.{begun_for}
+use Rattle.search_spec.specs.Findings.{IsProof, AreWithin, IsSpent, IsEnough, IsCounted, IsCertificateOf, certificate_of}
+use Rattle.search_spec.proofs.WholeSearches.{begun_by}
 use Rattle.search_spec.proofs.FoundProofs.{certificate_holds_lem, certificate_in_range_lem, answer_bounds_lem}
 use Rattle.search_spec.proofs.LeastRoutes.{certificate_is_one_lem}
 use Rattle.search_steps.specs.Advising.{parts_of}
 use Rattle.search_steps.proofs.RuleChoices.{parts_sound}
-use Rattle.kept_cuts.specs.Findings.{proof_of, IsUnlimited, AreOwn, IsProved}
+use Rattle.separators.specs.Kinds.{CutKind, parts_for}
+use Rattle.separators.proofs.KindCuts.{kind_is_sound}
+use Rattle.kept_cuts.specs.Findings.{proof_of, IsUnlimited, IsProved}
 use Rattle.kept_cuts.specs.declared.found.Found.{Found}
 use Rattle.kept_cuts.proofs.Versions.{has_text}
 use Rattle.search_progress.specs.Findings.{IsFound}
-use Rattle.search_progress.proofs.KeptPools.{own_by_sets}
 
 -- the state that a search begins with
 abbrev pub start_of : Problem → State
@@ -38,6 +36,13 @@ pub record IsSearchable (p : Problem) : Type 0 where
 
 pub start_is : (p : Problem) → IsSearchable p → IsStart p (start_of p)
 start_is p ok = begun_by p (parts_of p) p.wanted ok.problem ok.lacks_none (parts_sound p ok.problem) refl
+
+-- the state that a search by cuts of this kind begins with
+abbrev pub start_for : CutKind → Problem → State
+start_for kind p = begun_for p (parts_for kind p) p.wanted
+
+pub start_for_is : (kind : CutKind) (p : Problem) → IsSearchable p → IsStart p (start_for kind p)
+start_for_is kind p ok = begun_by p (parts_for kind p) p.wanted ok.problem ok.lacks_none (kind_is_sound kind p ok.problem) refl
 
 -- ---- what a search comes to
 

@@ -1,12 +1,13 @@
 -- The cuts of a pool as a finding keeps them.
-use Rattle.std.proofs.Common.{◌≡◌, ℕ, List, [], ◌∷◌, map, All, Option, IsSome, true≢false, refl, sym, ap, ap₂, subst, ◌∙◌}
+use Rattle.std.proofs.Common.{◌≡◌, ℕ, List, [], ◌∷◌, map, All, Option, IsSome, IsNone, true≢false, refl, sym, ap, ap₂, subst, ◌∙◌}
 use Rattle.std.proofs.lemmas.List.Elements.{All-nil, All-cons, All-head, All-tail}
 use Rattle.hub_spec.specs.Problem.{Problem}
 use Rattle.hub_spec.specs.Cuts.{Cut, total}
+use Rattle.core_spec.specs.CoreCuts.{Mark}
 use Rattle.cut_pool.specs.Entries.{Entry}
-use Rattle.kept_cuts.specs.Kept.{Kept, by_values, by_set, given, kept_set, kept_cuts, IsOwn, KeptList, IsKeptFor, node_loads, AreKeptFor}
+use Rattle.kept_cuts.specs.Kept.{Kept, by_values, by_set, cored, given, kept_set, kept_cuts, kept_mark, IsRemade, KeptList, IsKeptFor, node_loads, AreKeptFor}
 use Rattle.kept_cuts.proofs.NodeLoads.{loads_are}
-use Rattle.search_steps.specs.Pools.{entry_cut, IsSumsOf, IsPoolOf, pool_sets, pool_cuts}
+use Rattle.search_steps.specs.Pools.{entry_cut, IsSumsOf, IsPoolOf, pool_sets, pool_cuts, pool_marks}
 
 -- the columns are those of the entries
 pub record AreColumnsOf (entries : List Entry) (k : KeptList) : Type 0 where
@@ -22,22 +23,31 @@ pub kept_pool_cuts : (p : Problem) (entries : List Entry) → kept_cuts p (map (
 kept_pool_cuts p [] = refl
 kept_pool_cuts p (e ∷ es) = ap (λ (xs : List Cut). entry_cut p e ∷ xs) (kept_pool_cuts p es)
 
+pub kept_pool_marks : (entries : List Entry) → map kept_mark (map (λ e. e.cut) entries) ≡ pool_marks entries
+kept_pool_marks [] = refl
+kept_pool_marks (e ∷ es) = ap (λ (xs : List (Option Mark)). kept_mark e.cut ∷ xs) (kept_pool_marks es)
+
 fit : (p : Problem) (entries : List Entry) → IsPoolOf p entries → All (IsKeptFor p) (map (λ e. e.cut) entries)
 fit p [] are = All-nil (IsKeptFor p)
 fit p (e ∷ es) are =
     All-cons (IsKeptFor p) e.cut (map (λ x. x.cut) es) (All-head (IsSumsOf p) e es are).fits (fit p es (All-tail (IsSumsOf p) e es are))
 
--- a cut that has a set was not given
-pub own_by_sets : (kept : List Kept) → All (λ (set : Option (List ℕ)). IsSome set) (map kept_set kept) → All IsOwn kept
-own_by_sets [] are = All-nil IsOwn
-own_by_sets (k ∷ ks) are =
-    All-cons IsOwn k ks (own k (All-head (λ (set : Option (List ℕ)). IsSome set) (kept_set k) (map kept_set ks) are))
-    (own_by_sets ks (All-tail (λ (set : Option (List ℕ)). IsSome set) (kept_set k) (map kept_set ks) are))
+-- a cut that has a set and no mark is made anew
+pub own_by_sets : (kept : List Kept) → All (λ (set : Option (List ℕ)). IsSome set) (map kept_set kept)
+    → All (λ (mark : Option Mark). IsNone mark) (map kept_mark kept) → All IsRemade kept
+own_by_sets [] are unmarked = All-nil IsRemade
+own_by_sets (k ∷ ks) are unmarked =
+    All-cons IsRemade k ks
+    (own k (All-head (λ (set : Option (List ℕ)). IsSome set) (kept_set k) (map kept_set ks) are)
+    (All-head (λ (mark : Option Mark). IsNone mark) (kept_mark k) (map kept_mark ks) unmarked))
+    (own_by_sets ks (All-tail (λ (set : Option (List ℕ)). IsSome set) (kept_set k) (map kept_set ks) are)
+    (All-tail (λ (mark : Option Mark). IsNone mark) (kept_mark k) (map kept_mark ks) unmarked))
   where
-    own : (k : Kept) → IsSome (kept_set k) → IsOwn k
-    own (by_values rows) some = tt
-    own (by_set hubs order) some = tt
-    own (given cut) some = absurd (true≢false (sym some))
+    own : (k : Kept) → IsSome (kept_set k) → IsNone (kept_mark k) → IsRemade k
+    own (by_values rows) some none = tt
+    own (by_set hubs order) some none = tt
+    own (cored x) some none = absurd (true≢false none)
+    own (given cut) some none = absurd (true≢false (sym some))
 
 totals : (p : Problem) (entries : List Entry) → IsPoolOf p entries → map (λ e. e.total) entries ≡ map total (pool_cuts p entries)
 totals p [] are = refl

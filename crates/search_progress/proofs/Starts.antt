@@ -1,44 +1,35 @@
 -- The start of a search.
-use Rattle.std.proofs.Common.{◌≡◌, ◌≢◌, ℕ, ◌≤◌, true, false, not, nat_eq, List, [], ◌∷◌, ◌++◌, length, take, map, filter, All, Option, Some, None, Vec, Global, refl, ap, ap₂, sym, subst, ◌∙◌, arith}
-use Rattle.std.specs.List.{AllZip}
+use Rattle.std.proofs.Common.{◌≡◌, ◌≢◌, ℕ, ◌≤◌, true, false, not, nat_eq, List, [], ◌∷◌, ◌++◌, length, take, filter, All, Option, Some, None, refl, ap, ap₂, sym, subst, ◌∙◌, arith}
 use Rattle.std.proofs.lemmas.List.{length-map, length-take-le}
 use Rattle.std.proofs.lemmas.List.Elements.{All-nil, All-cons, All-head, All-tail}
 use Rattle.std.proofs.lemmas.Bool.{eqb-false}
 use Rattle.std.proofs.lemmas.Option.{same_Some, none-some}
 use Rattle.std.specs.Prelude.{IfSome}
 use Rattle.hub_spec.proofs.SumLemmas.{by_test}
-use Rattle.hub_spec.specs.Limits.{most_cost, most_tree_lines}
-use Rattle.hub_spec.specs.Problem.{Problem, IsProblem, commodities}
-use Rattle.hub_spec.specs.Plans.{Plan, IsHubSet, IsLeastRoute}
-use Rattle.hub_spec.specs.Cuts.{Cut}
+use Rattle.hub_spec.specs.Limits.{most_cost}
+use Rattle.hub_spec.specs.Problem.{Problem, IsProblem}
+use Rattle.hub_spec.specs.Plans.{IsHubSet}
 use Rattle.hub_spec.specs.Separation.{IsOrder}
-use Rattle.hub_spec.specs.Trees.{preorder}
 use Rattle.hub_spec.proofs.Limits.{plan_cost_limit}
 use Rattle.hub_spec.proofs.Sets.{filter_same}
-use Rattle.plan_model.specs.declared.tree_lines.TreeLine as model
-use Rattle.plan_model.specs.Lines.{tree_line_of}
 use Rattle.cut_pool.specs.Entries.{Entry, Lacks}
-use Rattle.search_spec.specs.States.{State, Grown, lesser, answer}
-use Rattle.search_spec.specs.Steps.{begun, searched}
-use Rattle.search_spec.specs.Choices.{others, has_node, begun_for, rule}
-use Rattle.search_spec.specs.Again.{Start, begun_again, rule_again}
+use Rattle.search_spec.specs.States.{State}
+use Rattle.search_spec.specs.Steps.{begun}
+use Rattle.search_spec.specs.Choices.{others, has_node, begun_for}
 use Rattle.search_spec.proofs.RuleParts.{has_when}
-use Rattle.search_steps.specs.Pools.{entry_cut, IsSumsOf, pool_sets, pool_cuts, state_by}
+use Rattle.search_steps.specs.Pools.{IsSumsOf, pool_sets, pool_cuts, pool_marks, state_by}
 use Rattle.search_core.specs.declared.tasks.Task.{Task}
 use Rattle.search_progress.specs.declared.progress.Progress.{Progress}
-use Rattle.kept_cuts.specs.Kept.{kept_set, kept_cuts}
-use Rattle.kept_cuts.specs.Findings.{lines_of}
-use Rattle.kept_cuts.specs.declared.found.Found.{Found}
-use Rattle.search_progress.specs.Findings.{IsFound}
+use Rattle.kept_cuts.specs.Kept.{kept_set}
 use Rattle.search_steps.specs.Advising.{parts_of}
+use Rattle.separators.specs.Kinds.{CutKind, minimal, parts_for}
 use Rattle.search_progress.specs.Progressing.{state_of, IsGoing}
 use Rattle.search_progress.specs.Separating.{HasCut}
 use Rattle.search_steps.specs.Starts.{least_wanted, first_set}
 use Rattle.search_steps.proofs.RuleChoices.{parts_sound}
-use Rattle.search_progress.proofs.FoundCertificates.{IsSearchable, start_is, few_lines_of}
-use Rattle.search_progress.proofs.KeptPools.{AreColumnsOf, kept_pool_sets, kept_pool_cuts, kept_pool}
+use Rattle.search_progress.proofs.FoundCertificates.{IsSearchable, start_for_is}
 use Rattle.search_progress.proofs.Orders.{parts_ascending}
-use Rattle.search_progress.proofs.AddedCuts.{more_sets, more_cuts, more_pool, more_long, HasSameTree, cut_going}
+use Rattle.search_progress.proofs.AddedCuts.{more_sets, more_cuts, more_marks, more_pool, more_long, HasSameTree, cut_going}
 
 -- ---- the start
 
@@ -60,29 +51,32 @@ pub all_candidates : (p : Problem) (set : List ℕ) → IsHubSet p p.candidates 
 all_candidates p set all same = subst (IsHubSet p) (sym same) all
 
 -- the first cut is that of all candidates
-pub first_state : (p : Problem) (more : List Entry) (hubs set order : List ℕ) (price : ℕ) → HasCut p [] more set order price
-    → hubs ≡ p.candidates → set ≡ p.candidates → order ≡ [] → state_by p more hubs price 1 None ≡ begun p (parts_of p)
+pub first_state : (kind : CutKind) (p : Problem) (more : List Entry) (hubs set order : List ℕ) (price : ℕ) → IsProblem p → IsHubSet p set
+    → HasCut kind p [] more set order price → hubs ≡ p.candidates → set ≡ p.candidates → order ≡ []
+    → state_by p more hubs price 1 None ≡ begun p (parts_for kind p)
 unfolding begun
-first_state p more hubs set order price cut same all none =
-    let sets = more_sets p [] more set order price cut ∙ ap (λ (x : List ℕ). Some x ∷ []) all in
-    let ascending : order ≡ (parts_of p).ascending p.candidates = none ∙ sym (parts_ascending p p.candidates ∙ none_outside p) in
-    let cuts = more_cuts p [] more set order price cut ∙ ap₂ (λ (x y : List ℕ). (parts_of p).cut x y ∷ []) all ascending in
-    let costs = cut.cost ∙ ap (parts_of p).cost all in
-    λ i. record { sets = sets i; cuts = cuts i; hubs = same i; cost = costs i; made = 1; stop = None }
+first_state kind p more hubs set order price ok is_set cut same all none =
+    let parts = parts_for kind p in
+    let sets = more_sets kind p [] more set order price ok is_set cut ∙ ap (λ (x : List ℕ). Some x ∷ []) all in
+    let ascending : order ≡ parts.ascending p.candidates = none ∙ sym (parts_ascending p p.candidates ∙ none_outside p) in
+    let cuts = more_cuts kind p [] more set order price ok is_set cut ∙ ap₂ (λ (x y : List ℕ). parts.cut x y ∷ []) all ascending in
+    let marks = more_marks kind p [] more set order price ok is_set cut ∙ ap (λ (x : List ℕ). parts.mark x ∷ []) all in
+    let costs = cut.cost ∙ ap parts.cost all in
+    λ i. record { sets = sets i; cuts = cuts i; marks = marks i; hubs = same i; cost = costs i; made = 1; stop = None }
 
 cost_limit : (p : Problem) (set : List ℕ) → IsProblem p → IsHubSet p set → (parts_of p).cost set ≤ most_cost
 cost_limit p set ok is_set =
     let least = ((parts_sound p ok).cost set is_set).reached in
     omega (arith, plan_cost_limit p least.0 ok least.1, least.3)
 
-pub first_going : (t : Task) (after : Progress) (set order : List ℕ) → IsProblem t.instance.now
-    → HasCut t.instance.now [] after.pool.entries set order after.cost → IsHubSet t.instance.now set → IsHubSet t.instance.now after.hubs
+pub first_going : (kind : CutKind) (t : Task) (after : Progress) (set order : List ℕ) → IsProblem t.instance.now
+    → HasCut kind t.instance.now [] after.pool.entries set order after.cost → IsHubSet t.instance.now set → IsHubSet t.instance.now after.hubs
     → after.lines.items ≡ [] → after.made ≡ 1 → IsGoing t after
-first_going t after set order ok cut is_set hubs none one =
+first_going kind t after set order ok cut is_set hubs none one =
     let p = t.instance.now in record {
       problem = ok;
-      pool = more_pool p [] after.pool.entries set order after.cost cut (All-nil (IsSumsOf p));
-      few_cuts = omega (arith, more_long p [] after.pool.entries set order after.cost cut);
+      pool = more_pool kind p [] after.pool.entries set order after.cost cut (All-nil (IsSumsOf p));
+      few_cuts = omega (arith, more_long kind p [] after.pool.entries set order after.cost cut);
       few_lines = omega (arith, ap length none);
       hubs = hubs;
       cost = omega (arith, cut.cost, cost_limit p set ok is_set);
@@ -108,53 +102,60 @@ least_is p set told = by p.wanted refl told
         (λ t. record { n = n; wanted = e; part = t; is = same_Some set (take n p.candidates) (rw t at told) })
 
 -- the state that a search begins with, where there is one
-start_least : (p : Problem) (set : List ℕ) (least : IsLeast p set) → begun_for p (parts_of p) p.wanted ≡ record (begun p (parts_of p)) {
-  sets = Some p.candidates ∷ Some (take least.n p.candidates) ∷ [];
-  cuts = (parts_of p).cut p.candidates ((parts_of p).ascending p.candidates)
-      ∷ (parts_of p).cut (take least.n p.candidates) ((parts_of p).ascending (take least.n p.candidates)) ∷ [];
-  hubs = take least.n p.candidates;
-  cost = (parts_of p).cost (take least.n p.candidates);
-}
+start_least : (kind : CutKind) (p : Problem) (set : List ℕ) (least : IsLeast p set)
+    → begun_for p (parts_for kind p) p.wanted ≡ record (begun p (parts_for kind p)) {
+      sets = Some p.candidates ∷ Some (take least.n p.candidates) ∷ [];
+      cuts = (parts_for kind p).cut p.candidates ((parts_for kind p).ascending p.candidates)
+          ∷ (parts_for kind p).cut (take least.n p.candidates) ((parts_for kind p).ascending (take least.n p.candidates)) ∷ [];
+      marks = (parts_for kind p).mark p.candidates ∷ (parts_for kind p).mark (take least.n p.candidates) ∷ [];
+      hubs = take least.n p.candidates;
+      cost = (parts_for kind p).cost (take least.n p.candidates);
+    }
 unfolding begun_for
-start_least p set least =
+start_least kind p set least =
     let part = least.part in
-    ap (λ (o : Option ℕ). begun_for p (parts_of p) o) least.wanted ∙ rw part refl
+    ap (λ (o : Option ℕ). begun_for p (parts_for kind p) o) least.wanted ∙ rw part refl
 
 -- and where there is none
-pub begun_alone : (p : Problem) → None ≡ first_set p → begun p (parts_of p) ≡ begun_for p (parts_of p) p.wanted
+pub begun_alone : (kind : CutKind) (p : Problem) → None ≡ first_set p → begun p (parts_for kind p) ≡ begun_for p (parts_for kind p) p.wanted
 unfolding begun_for
-begun_alone p told = by p.wanted refl told
+begun_alone kind p told = by p.wanted refl told
   where
-    whole : (n : ℕ) → nat_eq n (length p.candidates) ≡ true → begun p (parts_of p) ≡ begun_for p (parts_of p) (Some n)
+    whole : (n : ℕ) → nat_eq n (length p.candidates) ≡ true → begun p (parts_for kind p) ≡ begun_for p (parts_for kind p) (Some n)
     whole n t = rw t refl
 
-    by : (wanted : Option ℕ) → p.wanted ≡ wanted → None ≡ least_wanted wanted p.candidates → begun p (parts_of p) ≡ begun_for p (parts_of p) p.wanted
-    by None e told = ap (λ (o : Option ℕ). begun_for p (parts_of p) o) (sym e)
+    by : (wanted : Option ℕ) → p.wanted ≡ wanted → None ≡ least_wanted wanted p.candidates
+        → begun p (parts_for kind p) ≡ begun_for p (parts_for kind p) p.wanted
+    by None e told = ap (λ (o : Option ℕ). begun_for p (parts_for kind p) o) (sym e)
     by (Some n) e told =
-        by_test (nat_eq n (length p.candidates)) (λ t. whole n t ∙ ap (λ (o : Option ℕ). begun_for p (parts_of p) o) (sym e))
+        by_test (nat_eq n (length p.candidates)) (λ t. whole n t ∙ ap (λ (o : Option ℕ). begun_for p (parts_for kind p) o) (sym e))
         (λ t. absurd (none-some (take n p.candidates) (rw t at told)))
 
 pub first_is_set : (p : Problem) (set : List ℕ) → IsSearchable p → Some set ≡ first_set p → IsHubSet p set
 first_is_set p set ok told =
     let least = least_is p set told in
     subst (IsHubSet p) (sym least.is)
-    (subst (λ (s : State). IsHubSet p s.hubs) (start_least p set least) (start_is p ok).state.hubs.is_set)
+    (subst (λ (s : State). IsHubSet p s.hubs) (start_least minimal p set least) (start_for_is minimal p ok).state.hubs.is_set)
 
-pub second_state : (p : Problem) (kept more : List Entry) (set order hubs old : List ℕ) (price cost made : ℕ) (stop : Option ℕ)
-    → state_by p kept old cost made stop ≡ begun p (parts_of p) → HasCut p kept more set order price → Some set ≡ first_set p → order ≡ others p set
-    → hubs ≡ set → state_by p more hubs price made stop ≡ begun_for p (parts_of p) p.wanted
+pub second_state : (kind : CutKind) (p : Problem) (kept more : List Entry) (set order hubs old : List ℕ) (price cost made : ℕ) (stop : Option ℕ)
+    → IsProblem p → IsHubSet p set → state_by p kept old cost made stop ≡ begun p (parts_for kind p) → HasCut kind p kept more set order price
+    → Some set ≡ first_set p → order ≡ others p set → hubs ≡ set
+    → state_by p more hubs price made stop ≡ begun_for p (parts_for kind p) p.wanted
 unfolding begun
-second_state p kept more set order hubs old price cost made stop start cut told outside same =
-    let parts = parts_of p in
+second_state kind p kept more set order hubs old price cost made stop ok is_set start cut told outside same =
+    let parts = parts_for kind p in
     let least = least_is p set told in
     let first = take least.n p.candidates in
     let sets : pool_sets more ≡ Some p.candidates ∷ Some first ∷ [] =
-    more_sets p kept more set order price cut ∙ ap (λ (s : State). s.sets ++ Some set ∷ []) start
+    more_sets kind p kept more set order price ok is_set cut ∙ ap (λ (s : State). s.sets ++ Some set ∷ []) start
     ∙ ap (λ (x : List ℕ). Some p.candidates ∷ Some x ∷ []) least.is in
     let ascending : order ≡ parts.ascending first = outside ∙ sym (parts_ascending p set) ∙ ap parts.ascending least.is in
     let cuts : pool_cuts p more ≡ parts.cut p.candidates (parts.ascending p.candidates) ∷ parts.cut first (parts.ascending first) ∷ [] =
-    more_cuts p kept more set order price cut ∙ ap (λ (s : State). s.cuts ++ parts.cut set order ∷ []) start
+    more_cuts kind p kept more set order price ok is_set cut ∙ ap (λ (s : State). s.cuts ++ parts.cut set order ∷ []) start
     ∙ ap₂ (λ (x y : List ℕ). parts.cut p.candidates (parts.ascending p.candidates) ∷ parts.cut x y ∷ []) least.is ascending in
+    let marks : pool_marks more ≡ parts.mark p.candidates ∷ parts.mark first ∷ [] =
+    more_marks kind p kept more set order price ok is_set cut ∙ ap (λ (s : State). s.marks ++ parts.mark set ∷ []) start
+    ∙ ap (λ (x : List ℕ). parts.mark p.candidates ∷ parts.mark x ∷ []) least.is in
     let best = same ∙ least.is in
     let costs = cut.cost ∙ ap parts.cost least.is in
     let one = ap (λ (s : State). s.made) start in
@@ -162,10 +163,11 @@ second_state p kept more set order hubs old price cost made stop start cut told 
     let now : state_by p more hubs price made stop ≡ record (begun p parts) {
       sets = Some p.candidates ∷ Some first ∷ [];
       cuts = parts.cut p.candidates (parts.ascending p.candidates) ∷ parts.cut first (parts.ascending first) ∷ [];
+      marks = parts.mark p.candidates ∷ parts.mark first ∷ [];
       hubs = first;
       cost = parts.cost first;
-    } = λ i. record { sets = sets i; cuts = cuts i; hubs = best i; cost = costs i; made = one i; stop = going i } in
-    now ∙ sym (start_least p set least)
+    } = λ i. record { sets = sets i; cuts = cuts i; marks = marks i; hubs = best i; cost = costs i; made = one i; stop = going i } in
+    now ∙ sym (start_least kind p set least)
 
 lacks_by : (entries : List Entry) (set : List ℕ) → All (λ (s : Option (List ℕ)). s ≢ Some set) (pool_sets entries) → Lacks entries set
 lacks_by [] set apart = All-nil (λ (e : Entry). kept_set e.cut ≢ Some set)
@@ -175,10 +177,10 @@ lacks_by (e ∷ es) set apart =
     (lacks_by es set (All-tail (λ (s : Option (List ℕ)). s ≢ Some set) (kept_set e.cut) (pool_sets es) apart))
 
 -- it has no cut yet
-pub first_is_new : (p : Problem) (entries : List Entry) (set old : List ℕ) (cost made : ℕ) (stop : Option ℕ) → IsProblem p → Some set ≡ first_set p
-    → state_by p entries old cost made stop ≡ begun p (parts_of p) → Lacks entries set
+pub first_is_new : (kind : CutKind) (p : Problem) (entries : List Entry) (set old : List ℕ) (cost made : ℕ) (stop : Option ℕ) → IsProblem p → Some set ≡ first_set p
+    → state_by p entries old cost made stop ≡ begun p (parts_for kind p) → Lacks entries set
 unfolding begun
-first_is_new p entries set old cost made stop ok told start =
+first_is_new kind p entries set old cost made stop ok told start =
     let least = least_is p set told in
     let limit = subst (λ (o : Option ℕ). IfSome o (λ n. (1 ≤ n) × (n ≤ length p.candidates))) least.wanted ok.wanted_limit in
     let many = length-take-le least.n p.candidates limit.1 in
@@ -188,12 +190,13 @@ first_is_new p entries set old cost made stop ok told start =
     (sym many ∙ sym (ap length (same_Some p.candidates set same ∙ least.is))))
     (All-nil (λ (s : Option (List ℕ)). s ≢ Some set))))
 
-pub second_going : (t : Task) (before after : Progress) (set order : List ℕ) → IsGoing t before → state_of t.instance.now before ≡ begun t.instance.now (parts_of t.instance.now)
-    → HasCut t.instance.now before.pool.entries after.pool.entries set order after.cost → HasSameTree before after → IsHubSet t.instance.now set
+pub second_going : (kind : CutKind) (t : Task) (before after : Progress) (set order : List ℕ) → IsGoing t before
+    → state_of t.instance.now before ≡ begun t.instance.now (parts_for kind t.instance.now)
+    → HasCut kind t.instance.now before.pool.entries after.pool.entries set order after.cost → HasSameTree before after → IsHubSet t.instance.now set
     → after.hubs ≡ set → IsGoing t after
 unfolding begun
-second_going t before after set order going start cut same is_set best =
+second_going kind t before after set order going start cut same is_set best =
     let p = t.instance.now in
     let one : length before.pool.entries ≡ 1 = sym (length-map before.pool.entries (λ (e : Entry). kept_set e.cut)) ∙ ap (λ (s : State). length s.sets) start in
-    cut_going t before after set order after.cost going (omega (arith, one)) cut same (subst (IsHubSet p) (sym best) is_set)
+    cut_going kind t before after set order after.cost going (omega (arith, one)) cut same (subst (IsHubSet p) (sym best) is_set)
     (omega (arith, cut.cost, cost_limit p set going.problem is_set))

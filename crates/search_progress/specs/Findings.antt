@@ -6,12 +6,12 @@ use Rattle.hub_spec.specs.Problem.{Problem, commodities}
 use Rattle.hub_spec.specs.Plans.{IsLeastRoute}
 use Rattle.hub_spec.specs.Trees.{preorder, line_count}
 use Rattle.search_spec.specs.States.{Grown, answer}
-use Rattle.kept_cuts.specs.Kept.{kept_set, kept_cuts, AreKeptFor}
+use Rattle.kept_cuts.specs.Kept.{kept_set, kept_cuts, kept_mark, AreKeptFor}
 use Rattle.kept_cuts.specs.Findings.{lines_of}
 use Rattle.kept_cuts.specs.declared.found.Found.{Found}
 
--- the code's finding is this one: what is kept of its cuts are the hub sets that were separated, with their orders, and the cuts
--- that were given
+-- the code's finding is this one: what is kept of its cuts are the hub sets that were separated, with their orders or as core
+-- cuts with their marks, and the cuts that were given
 pub record IsFound (p : Problem) (g : Grown) (found : Found) : Type 0 where
   pub cost : found.cost ≡ g.state.cost
   pub bound : found.bound ≡ answer g.state
@@ -20,6 +20,7 @@ pub record IsFound (p : Problem) (g : Grown) (found : Found) : Type 0 where
   pub kept : AreKeptFor p found.cuts
   pub sets : map kept_set found.cuts.cuts ≡ g.state.sets
   pub cuts : kept_cuts p found.cuts.cuts ≡ g.state.cuts
+  pub marks : map kept_mark found.cuts.cuts ≡ g.state.marks
   pub lines : lines_of found.tree.items ≡ preorder g.tree
   pub few_cuts : length g.state.cuts ≤ most_cuts
   pub few_lines : line_count g.tree ≤ most_tree_lines

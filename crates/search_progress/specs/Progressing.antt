@@ -1,5 +1,5 @@
 -- What the code of a search has at each step, as the definition's state, and what came of a step that adds no line.
-use Rattle.std.specs.Prelude.{◌≡◌, ℕ, ◌≤◌, length}
+use Rattle.std.specs.Prelude.{◌≡◌, ◌≤◌, length}
 use Rattle.hub_spec.specs.Limits.{most_cost, most_cuts, most_tree_lines}
 use Rattle.hub_spec.specs.Problem.{Problem, IsProblem}
 use Rattle.hub_spec.specs.Plans.{IsHubSet}

@@ -3,7 +3,7 @@
 //!
 //! [`Progress`] is the state of a search's definition (`search_spec`), with the lines of the tree that are finished.
 //! [`begin`] separates the sets with which a rule begins, [`separate`] a set, whose cut becomes the next of the pool
-//! ([`keep`] does the same where the sums are there already), and [`stopped_leaf`] makes a leaf of a branch at a stop;
+//! ([`keep`] does the same where the cut is there already), and [`stopped_leaf`] makes a leaf of a branch at a stop;
 //! each leaves the state that the step of its name leaves. What
 //! [`finish`] gives is what is found where the state is that of the definition at its end and the lines are those of its
 //! tree in preorder.

@@ -4,7 +4,7 @@ ghost use Rattle.std.specs.Prelude.{◌≡◌, [], Some, IfOk, OnOk};
 ghost use Rattle.hub_spec.specs.Plans.{IsHubSet};
 ghost use Rattle.search_spec.specs.Steps.{begun};
 ghost use Rattle.search_spec.specs.Choices.{begun_for};
-ghost use Rattle.search_steps.specs.Advising.{parts_of};
+ghost use Rattle.separators.specs.Kinds.{parts_for};
 ghost use Rattle.search_steps.specs.Starts.{first_set};
 ghost use Rattle.kept_cuts.specs.Findings.{lines_of};
 ghost use Rattle.search_progress.specs.Progressing.{state_of, IsGoing};
@@ -32,7 +32,7 @@ pub fn begin<R: Rule, S: Separator>(
     requires ready { S.ready separator.old }
     ensures ready { S.ready separator.new }
     ensures begun { let p = task.now.instance.now in
-        IfOk result (λ s. state_of p s ≡ begun_for p (parts_of p) p.wanted) }
+        IfOk result (λ s. state_of p s ≡ begun_for p (parts_for S.kind p) p.wanted) }
     ensures no_line { IfOk result (λ s. lines_of s.lines.items ≡ []) }
     ensures going { IfOk result (IsGoing task.now) }
 {
@@ -52,7 +52,7 @@ fn begin_with_all<S: Separator>(
     requires lacks_none { IsHubSet task.now.instance.now task.now.instance.now.candidates }
     requires ready { S.ready separator.old }
     ensures ready { S.ready separator.new }
-    ensures begun { let p = task.now.instance.now in IfOk result (λ s. state_of p s ≡ begun p (parts_of p)) }
+    ensures begun { let p = task.now.instance.now in IfOk result (λ s. state_of p s ≡ begun p (parts_for S.kind p)) }
     ensures no_line { IfOk result (λ s. lines_of s.lines.items ≡ []) }
     ensures going { IfOk result (IsGoing task.now) }
 {
@@ -83,12 +83,12 @@ fn take_first<S: Separator>(
 ) -> Result<(), AllocError>
     requires lacks_none { IsHubSet task.now.instance.now task.now.instance.now.candidates }
     requires ready { S.ready separator.old }
-    requires begun { let p = task.now.instance.now in state_of p progress.old ≡ begun p (parts_of p) }
+    requires begun { let p = task.now.instance.now in state_of p progress.old ≡ begun p (parts_for S.kind p) }
     requires going { IsGoing task.now progress.old }
     requires first { Some hubs.now ≡ first_set task.now.instance.now }
     ensures ready { S.ready separator.new }
     ensures begun { let p = task.now.instance.now in
-        OnOk result (state_of p progress.new ≡ begun_for p (parts_of p) p.wanted) }
+        OnOk result (state_of p progress.new ≡ begun_for p (parts_for S.kind p) p.wanted) }
     ensures lines { progress.new.lines ≡ progress.old.lines }
     ensures going { OnOk result (IsGoing task.now progress.new) }
 {

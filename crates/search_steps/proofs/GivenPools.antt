@@ -10,7 +10,7 @@ use Rattle.hub_spec.specs.Problem.{Problem}
 use Rattle.hub_spec.specs.Cuts.{Cut}
 use Rattle.leaf_bound.specs.Bounds.{AreMultiples}
 use Rattle.leaf_bound.specs.Numbers.{naturals}
-use Rattle.kept_cuts.specs.Kept.{by_set, kept_set}
+use Rattle.kept_cuts.specs.Kept.{by_set, kept_set, kept_mark}
 use Rattle.search_spec.specs.States.{is_of, number_in_pool}
 use Rattle.search_spec.specs.Again.{with_given}
 use Rattle.search_spec.proofs.Separated.{of_set}
@@ -56,7 +56,8 @@ unfolding with_given
 added_is_given p entries cut hubs cost made stop =
     let sets = map-append (λ (e : Entry). kept_set e.cut) entries (given_entry p.size cut ∷ []) in
     let cuts = map-append (entry_cut p) entries (given_entry p.size cut ∷ []) in
-    λ i. record { sets = sets i; cuts = cuts i; hubs = hubs; cost = cost; made = made; stop = stop }
+    let marks = map-append (λ (e : Entry). kept_mark e.cut) entries (given_entry p.size cut ∷ []) in
+    λ i. record { sets = sets i; cuts = cuts i; marks = marks i; hubs = hubs; cost = cost; made = made; stop = stop }
 
 -- ---- the number that is found for a set
 

@@ -22,7 +22,7 @@ use Rattle.frac_master.specs.Theorems.{IsMaster, IsMixed}
 use Rattle.frac_master.proofs.Scalings.{loads_below as loads_under}
 use Rattle.frac_master.proofs.MasterTables.{weights_are_a_mix}
 use Rattle.search_spec.specs.States.{denominator}
-use Rattle.cut_pool.specs.Entries.{Entry, entry_part, unit_totals, unit_loads, most_given}
+use Rattle.cut_pool.specs.Entries.{Entry, entry_part, unit_totals, unit_loads, most_stated}
 use Rattle.cut_pool.specs.Shorts.{unit_row}
 use Rattle.search_core.proofs.Weightings.{below_size}
 use Rattle.search_steps.specs.Pools.{IsPoolOf, pool_cuts, state_by}
@@ -69,7 +69,7 @@ numbers_serve p entries cost totals loads fixed are = record {
 }
 
 pub within_totals : (p : Problem) (entries : List Entry) (cost : ℕ) (totals : List ℤ) (loads : List (List ℤ)) (fixed : List ℕ)
-    → AreMasters p entries cost totals loads fixed → AreWithinTotals (most_given entries) totals loads
+    → AreMasters p entries cost totals loads fixed → AreWithinTotals (most_stated entries) totals loads
 within_totals p entries cost totals loads fixed are =
     rw (are.are_totals, are.are_loads) (loads_below p entries are.problem are.pool)
 
@@ -98,7 +98,7 @@ masters_same p entries cost totals loads fixed are =
     ap₂ of (ap naturals are.are_totals ∙ naturals_unit_totals p entries are.pool) (ap (map naturals) are.are_loads ∙ naturals_unit_loads p entries are.pool)
     ∙ ap (λ (f : List ℕ). record (master_numbers p (pool_cuts p entries) cost) { fixed = f }) are.costs
 
--- the greatest load of the given cuts is not above the greatest number of the master
+-- the greatest load of the cuts that are kept with their duals is not above the greatest number of the master
 candidate_there : (p : Problem) (b : Branching) (k : ℕ) → IsBranch p b → Contains p.candidates k → Contains (candidates_of b) k
 candidate_there p b k is c = elim (is.all k c) [
   | inl inside ↦ Contains-append_left b.inside (b.outside ++ b.free) k inside
@@ -116,7 +116,7 @@ at_candidates p b m rows is low =
     (λ k c. All-contains (λ k. slice_index row k ≤ m) (candidates_of b) k all (candidate_there p b k is c))) rows low
 
 pub most_serves : (p : Problem) (entries : List Entry) (cost : ℕ) (totals : List ℤ) (loads : List (List ℤ)) (fixed : List ℕ) (b : Branching)
-    → AreMasters p entries cost totals loads fixed → IsBranch p b → most_given entries ≤ greatest_number (master_of totals loads fixed) b
+    → AreMasters p entries cost totals loads fixed → IsBranch p b → most_stated entries ≤ greatest_number (master_of totals loads fixed) b
 most_serves p entries cost totals loads fixed b are is =
     let m = master_of totals loads fixed in
     let g = greatest_number m b in

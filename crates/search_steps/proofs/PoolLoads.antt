@@ -14,11 +14,11 @@ use Rattle.hub_spec.proofs.SetCutFunction.{set_cut_is_one_lem}
 use Rattle.hub_spec.proofs.SetCuts as sets
 use Rattle.hub_spec.proofs.SetCuts.{loads_within, set_cut_is_cut}
 use Rattle.hub_spec.proofs.SumLemmas.{by_test}
-use Rattle.kept_cuts.specs.Kept.{Kept, by_values, by_set, given, kept_cut, kept_part, IsKeptFor, IsPooled}
+use Rattle.kept_cuts.specs.Kept.{Kept, by_values, by_set, cored, given, kept_cut, kept_part, IsKeptFor, IsPooled}
 use Rattle.search_spec.specs.Choices.{has_node}
 use Rattle.search_spec.proofs.RuleParts.{has_when, in_when}
 use Rattle.search_spec.proofs.Loads.{no_load_off}
-use Rattle.cut_pool.specs.Entries.{Entry, entry_part, unit_loads, most_unit, kept_most, most_given}
+use Rattle.cut_pool.specs.Entries.{Entry, entry_part, unit_loads, most_unit, kept_most, most_stated}
 use Rattle.search_steps.specs.Pools.{entry_cut, IsSumsOf, IsPoolOf}
 
 -- ---- the cut of a hub set over an order
@@ -42,6 +42,7 @@ kept_is_cut : (p : Problem) (kept : Kept) → IsProblem p → IsPooled kept → 
 kept_is_cut p (by_values rows) ok pooled fits = absurd pooled
 kept_is_cut p (by_set hubs order) ok pooled fits =
     set_cut_is_cut p hubs order (set_cut p hubs order) ok fits.0 fits.1 (is_minimal p hubs order ok fits.0 fits.1)
+kept_is_cut p (cored x) ok pooled fits = fits.0.is_cut
 kept_is_cut p (given cut) ok pooled fits = fits.0
 
 pub entry_is_cut : (p : Problem) (e : Entry) → IsProblem p → IsSumsOf p e → IsCut p (entry_cut p e)
@@ -51,6 +52,7 @@ part_of : (p : Problem) (kept : Kept) → IsPooled kept → kept_part kept ≡ (
 unfolding set_cut
 part_of p (by_values rows) pooled = absurd pooled
 part_of p (by_set hubs order) pooled = refl
+part_of p (cored x) pooled = refl
 part_of p (given cut) pooled = refl
 
 -- the part of an entry is that of its cut
@@ -82,7 +84,7 @@ entry_load p e k ok is node =
     let limit = cut_load p (entry_cut p e) k (entry_is_cut p e ok is) in
     rw (is.are_loads k node, part_is p e is) limit
 
--- ---- loads within totals and the greatest load of the given cuts
+-- ---- loads within totals and the greatest load of the cuts that are kept with their duals
 
 unit_below : (part m : ℕ) (us : List ℕ) → most_unit part us ≤ m → All (λ u. u / part ≤ m) us
 unit_below part m [] low = All-nil (λ u. u / part ≤ m)
@@ -101,13 +103,14 @@ kept_within p (by_set hubs order) t m loads ok pooled fits is_total long are low
     let within = load_below p hubs order k ok fits.0 fits.1 in
     let less = unit_less 1 (get_or loads k 0) t (omega arith) (omega (arith, is_total, within, are k (omega (arith, below, long)))) in
     omega (arith, less))
+kept_within p (cored x) t m loads ok pooled fits is_total long are low = unit_below x.cut.part (max (t / x.cut.part) m) loads (omega (arith, low))
 kept_within p (given cut) t m loads ok pooled fits is_total long are low = unit_below cut.part (max (t / cut.part) m) loads (omega (arith, low))
 
 -- no load of the entry is, for one unit of its part, above both its total and this number
 abbrev pub IsWithinUnits : ℕ → Entry → Type 0
 IsWithinUnits most e = All (λ u. u / entry_part e ≤ max (e.total / entry_part e) most) e.loads
 
-all_within : (p : Problem) (es : List Entry) (m : ℕ) → IsProblem p → IsPoolOf p es → most_given es ≤ m → All (IsWithinUnits m) es
+all_within : (p : Problem) (es : List Entry) (m : ℕ) → IsProblem p → IsPoolOf p es → most_stated es ≤ m → All (IsWithinUnits m) es
 all_within p [] m ok are low = All-nil (IsWithinUnits m)
 all_within p (e ∷ es) m ok are low =
     let is = All-head (IsSumsOf p) e es are in
@@ -115,11 +118,12 @@ all_within p (e ∷ es) m ok are low =
     (kept_within p e.cut e.total m e.loads ok is.pooled is.fits is.is_total is.one_load_each is.are_loads (omega (arith, low)))
     (all_within p es m ok (All-tail (IsSumsOf p) e es are) (omega (arith, low)))
 
--- no load of a pool's entries is above both its total and the greatest load of the given cuts
-pub loads_within_units : (p : Problem) (es : List Entry) → IsProblem p → IsPoolOf p es → All (IsWithinUnits (most_given es)) es
-loads_within_units p es ok are = all_within p es (most_given es) ok are (omega arith)
+-- no load of a pool's entries is above both its total and the greatest load of the cuts that are kept with
+-- their duals
+pub loads_within_units : (p : Problem) (es : List Entry) → IsProblem p → IsPoolOf p es → All (IsWithinUnits (most_stated es)) es
+loads_within_units p es ok are = all_within p es (most_stated es) ok are (omega arith)
 
--- ---- the greatest load of the given cuts is a candidate's
+-- ---- the greatest load of the cuts that are kept with their duals is a candidate's
 
 -- no candidate has a load above this number
 abbrev pub AreAtMost : Problem → ℕ → List (List ℕ) → Type 0
@@ -132,10 +136,10 @@ units_at_most part m (u ∷ us) low =
     let rest = units_at_most part m us (λ k below. low (suc k) (omega (arith, below))) in
     omega (arith, here, rest)
 
-given_at_most : (p : Problem) (cut : Cut) (m : ℕ) (loads : List ℕ) → IsCut p cut → length loads ≡ p.size
+stated_at_most : (p : Problem) (cut : Cut) (m : ℕ) (loads : List ℕ) → IsCut p cut → length loads ≡ p.size
     → ((k : ℕ) → k < p.size → slice_index loads k ≡ load cut k)
     → All (λ k. slice_index (map (λ u. u / cut.part) loads) k ≤ m) p.candidates → most_unit cut.part loads ≤ m
-given_at_most p cut m loads is long are low =
+stated_at_most p cut m loads is long are low =
     units_at_most cut.part m loads (λ k below.
     by_test (has_node p.candidates k)
     (λ e. let most = All-contains (λ (k : ℕ). slice_index (map (λ u. u / cut.part) loads) k ≤ m) p.candidates k low (in_when p.candidates k e) in
@@ -149,10 +153,11 @@ kept_at_most : (p : Problem) (kept : Kept) (m : ℕ) (loads : List ℕ) → IsPo
     → All (λ k. slice_index (map (λ u. u / kept_part kept) loads) k ≤ m) p.candidates → kept_most kept loads ≤ m
 kept_at_most p (by_values rows) m loads pooled fits long are low = absurd pooled
 kept_at_most p (by_set hubs order) m loads pooled fits long are low = omega arith
-kept_at_most p (given cut) m loads pooled fits long are low = given_at_most p cut m loads fits.0 long are low
+kept_at_most p (cored x) m loads pooled fits long are low = stated_at_most p x.cut m loads fits.0.is_cut long are low
+kept_at_most p (given cut) m loads pooled fits long are low = stated_at_most p cut m loads fits.0 long are low
 
 -- it is not above what no candidate's load is above
-pub most_reached : (p : Problem) (es : List Entry) (m : ℕ) → IsPoolOf p es → AreAtMost p m (unit_loads es) → most_given es ≤ m
+pub most_reached : (p : Problem) (es : List Entry) (m : ℕ) → IsPoolOf p es → AreAtMost p m (unit_loads es) → most_stated es ≤ m
 most_reached p [] m are low = omega arith
 most_reached p (e ∷ es) m are low =
     let is = All-head (IsSumsOf p) e es are in

@@ -14,7 +14,7 @@ use Rattle.hub_model.proofs.Signs.{natural-pos, pos_least}
 use Rattle.leaf_bound.specs.Numbers.{naturals, IsSumOf, AreSumsOf}
 use Rattle.leaf_bound.specs.Theorems.{AreLoadsOf}
 use Rattle.frac_master.specs.Masters.{AreShortRows, AreWithinTotals, halved}
-use Rattle.cut_pool.specs.Entries.{Entry, entry_part, unit_totals, unit_loads, most_given}
+use Rattle.cut_pool.specs.Entries.{Entry, entry_part, unit_totals, unit_loads, most_stated}
 use Rattle.cut_pool.specs.Shorts.{Shorts, AreShortLoads, unit_row}
 use Rattle.search_steps.specs.Pools.{entry_cut, IsSumsOf, IsPoolOf, pool_cuts}
 use Rattle.search_steps.specs.Advising.{unit_total, unit_node_loads}
@@ -67,10 +67,10 @@ within_each most (e ∷ entries) are =
       within_each most entries (All-tail (IsWithinUnits most) e entries are),
     )
 
--- no load is above both its cut's total and the greatest load of the given cuts
+-- no load is above both its cut's total and the greatest load of the cuts that are kept with their duals
 pub loads_below : (p : Problem) (entries : List Entry) → IsProblem p → IsPoolOf p entries
-    → AreWithinTotals (most_given entries) (lent_unit_totals entries) (lent_unit_loads entries)
-loads_below p entries ok are = within_each (most_given entries) entries (loads_within_units p entries ok are)
+    → AreWithinTotals (most_stated entries) (lent_unit_totals entries) (lent_unit_loads entries)
+loads_below p entries ok are = within_each (most_stated entries) entries (loads_within_units p entries ok are)
 
 is_sum : (part n : ℕ) → n ≤ part * most_cost → IsSumOf part (pos n)
 is_sum part n low = (omega (arith, ints), omega (arith, ints, low))

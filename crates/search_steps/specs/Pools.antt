@@ -3,7 +3,8 @@ use Rattle.std.specs.Prelude.{◌≡◌, ℕ, ◌<◌, List, ◌++◌, map, leng
 use Rattle.hub_spec.specs.Problem.{Problem}
 use Rattle.hub_spec.specs.Cuts.{Cut, total, load}
 use Rattle.search_spec.specs.States.{State}
-use Rattle.kept_cuts.specs.Kept.{kept_set, kept_cut, IsKeptFor, IsPooled}
+use Rattle.core_spec.specs.CoreCuts.{Mark}
+use Rattle.kept_cuts.specs.Kept.{kept_set, kept_cut, kept_mark, IsKeptFor, IsPooled}
 use Rattle.cut_pool.specs.Entries.{Entry}
 
 -- the cut of the entry
@@ -35,11 +36,16 @@ pool_sets entries = map (λ e. kept_set e.cut) entries
 abbrev pub pool_cuts : Problem → List Entry → List Cut
 pool_cuts p entries = map (entry_cut p) entries
 
+-- their marks
+abbrev pub pool_marks : List Entry → List (Option Mark)
+pool_marks entries = map (λ e. kept_mark e.cut) entries
+
 -- the state with these entries, and with this incumbent, its cost, these nodes made and this stop
 abbrev pub state_by : Problem → List Entry → List ℕ → ℕ → ℕ → Option ℕ → State
 state_by p entries hubs cost made stop = record {
   sets = pool_sets entries;
   cuts = pool_cuts p entries;
+  marks = pool_marks entries;
   hubs = hubs;
   cost = cost;
   made = made;

@@ -48,7 +48,7 @@ pub fn node_advice<R: Rule>(
         pool.unit_totals(),
         pool.unit_loads(),
         short_rows(pool),
-        pool.most_given(),
+        pool.most_stated(),
         fixed,
         branch,
     )?;

@@ -1,1 +1,2 @@
+pub mod KindCuts
 pub mod WholeCuts

@@ -2,8 +2,13 @@
 
 ghost use Rattle.std.specs.Prelude.{◌≡◌, IfOk};
 ghost use Rattle.hub_spec.specs.Problem.{IsProblem};
+ghost use Rattle.hub_spec.specs.Plans.{IsHubSet};
+ghost use Rattle.hub_spec.specs.Separation.{IsOrder};
+ghost use Rattle.cut_pool.specs.Entries.{entry_of};
+ghost use Rattle.search_steps.specs.Pools.{IsSumsOf};
+ghost use Rattle.separators.specs.Kinds.{minimal};
 
-use crate::{Separator, kept_sums};
+use crate::{Separated, Separator, kept_sums};
 use cut_pool::CutSums;
 use hub_model::Instance;
 use pareto_cuts::{Scratch, cut_sums};
@@ -45,9 +50,33 @@ impl Solo {
             loads: Vec::with_capacity(alloc, room as usize)?,
         })
     }
+
+    /// The sums of the cut of minimal duals of the hub set over this order of the candidates outside it, in 10^-12.
+    pub fn sums(
+        &mut self,
+        alloc: Global,
+        instance: &Instance,
+        set: HubSet,
+        order: &[u32],
+    ) -> Result<CutSums, AllocError>
+        requires set { IsHubSet instance.now set }
+        requires order { IsOrder instance.now set order.now }
+        ensures hubs { IfOk result (λ s. s.hubs ≡ set) }
+        ensures sums { IfOk result (λ s. IsSumsOf instance.now (entry_of s order.now)) }
+    {
+        let nodes = instance.size();
+        if self.room < nodes {
+            *self = Solo::new(alloc, instance)?;
+        }
+        self.loads.resize(nodes as usize, 0)?;
+        let total = cut_sums(&mut self.scratch, instance, &set, order, &mut self.loads);
+        kept_sums(alloc, set, total, &self.loads)
+    }
 }
 
 impl Separator for Solo {
+    ghost kind = { minimal };
+
     ghost ready = { λ s. Unit {0} };
 
     fn separate(
@@ -56,13 +85,7 @@ impl Separator for Solo {
         instance: &Instance,
         set: HubSet,
         order: &[u32],
-    ) -> Result<CutSums, AllocError> {
-        let nodes = instance.size();
-        if self.room < nodes {
-            *self = Solo::new(alloc, instance)?;
-        }
-        self.loads.resize(nodes as usize, 0)?;
-        let total = cut_sums(&mut self.scratch, instance, &set, order, &mut self.loads);
-        kept_sums(alloc, set, total, &self.loads)
+    ) -> Result<Separated, AllocError> {
+        Ok(Separated::Sums(self.sums(alloc, instance, set, order)?))
     }
 }

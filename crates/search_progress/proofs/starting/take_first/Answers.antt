@@ -30,7 +30,7 @@ pub add_cut-requires-clause-first_time : goal.add_cut-requires-clause-first_time
 add_cut-requires-clause-first_time g c =
     let p = c.args.task.now.instance.now in
     let before = c.args.progress.now in
-    first_is_new p before.pool.entries c.in_ok-set.set before.hubs before.cost before.made before.stop c.requires.going.problem
+    first_is_new g.S.Separator.kind p before.pool.entries c.in_ok-set.set before.hubs before.cost before.made before.stop c.requires.going.problem
     (told_as p c.args.hubs.now c.in_ok-set.set (c.in_ok-set.ensures ∙ c.in_ok-hubs.ensures) c.requires.first) c.requires.begun
 
 pub returns-clause-begun : goal.returns-clause-begun
@@ -38,8 +38,11 @@ returns-clause-begun g c =
     let p = c.args.task.now.instance.now in
     let before = c.args.progress.now in
     let set = c.in_ok-set.set in
-    second_state p before.pool.entries c.add_cut.new.pool.entries set c.in_ok-order.order.items c.in_ok-hubs.hubs before.hubs c.in_ok-progress.field-0
-    before.cost before.made before.stop c.requires.begun c.in_ok-progress.ensures.cut
+    let is_set =
+    subst (IsHubSet p) (sym (c.in_ok-set.ensures ∙ c.in_ok-hubs.ensures))
+    (first_is_set p c.args.hubs.now (record { problem = c.requires.going.problem; lacks_none = c.requires.lacks_none }) c.requires.first) in
+    second_state g.S.Separator.kind p before.pool.entries c.add_cut.new.pool.entries set c.in_ok-order.order.items c.in_ok-hubs.hubs before.hubs c.in_ok-progress.field-0
+    before.cost before.made before.stop c.requires.going.problem is_set c.requires.begun c.in_ok-progress.ensures.cut
     (told_as p c.args.hubs.now set (c.in_ok-set.ensures ∙ c.in_ok-hubs.ensures) c.requires.first)
     (outside_is p set c.in_ok-order.order.items c.requires.going.problem c.in_ok-order.ensures.order c.in_ok-order.ensures.ascend) (sym c.in_ok-set.ensures)
 
@@ -47,7 +50,7 @@ pub returns-clause-going : goal.returns-clause-going
 returns-clause-going g c =
     let p = c.args.task.now.instance.now in
     let set = c.in_ok-set.set in
-    second_going c.args.task.now c.args.progress.now _ set c.in_ok-order.order.items c.requires.going c.requires.begun c.in_ok-progress.ensures.cut
+    second_going g.S.Separator.kind c.args.task.now c.args.progress.now _ set c.in_ok-order.order.items c.requires.going c.requires.begun c.in_ok-progress.ensures.cut
     (record { lines = refl; made = refl; stop = refl })
     (subst (IsHubSet p) (sym (c.in_ok-set.ensures ∙ c.in_ok-hubs.ensures))
     (first_is_set p c.args.hubs.now (record { problem = c.requires.going.problem; lacks_none = c.requires.lacks_none }) c.requires.first)) (sym c.in_ok-set.ensures)

@@ -1,10 +1,9 @@
-use Rattle.std.proofs.Common.{◌≡◌, ℕ, List, [], ◌∷◌, Result, Ok, Err, OnOk, ap, sym, refl, ◌∙◌, FitsSigned, rules}
+use Rattle.std.proofs.Common.{ℕ, [], ◌∷◌, Result, Ok, Err, OnOk, ap, sym, refl, ◌∙◌, FitsSigned, rules}
 use Rattle.std.specs.Int.{w128}
 use Rattle.std.proofs.lemmas.Int.{to_z-of_z}
 use Rattle.std.proofs.lemmas.Result.{IfOk-weaker}
 use Rattle.hub_spec.specs.Trees.{TreeLine, preorder}
 use Rattle.search_spec.specs.States.{Grown, lesser, rounded_up}
-use Rattle.search_spec.specs.Steps.{stopped_leaf}
 use Rattle.search_steps.specs.Weights.{pairs_of}
 use Rattle.search_steps.proofs.GivenPools.{grown_same}
 use Rattle.search_progress.specs.Progressing.{state_of}

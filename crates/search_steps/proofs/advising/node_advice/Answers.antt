@@ -37,14 +37,14 @@ advise_by_totals-requires-clause-nodes g c =
 
 pub advise_by_totals-requires-clause-within : goal.advise_by_totals-requires-clause-within
 advise_by_totals-requires-clause-within g c =
-    rw c.most_given.ensures
+    rw c.most_stated.ensures
     (within_totals c.args.instance.now c.args.pool.now.entries c.args.cost c.unit_totals.result.now (map (λ (v : Vec ℤ Global). v.items) c.unit_loads.result.now)
     c.in_ok-fixed.fixed.now (lent g (goal.at.advise_by_totals-requires-clause-within g c).After-short_rows))
 
 pub advise_by_totals-requires-clause-reached : goal.advise_by_totals-requires-clause-reached
 advise_by_totals-requires-clause-reached g c =
     let loads = map (λ (v : Vec ℤ Global). v.items) c.unit_loads.result.now in
-    subst (λ (m : ℕ). m ≤ greatest_number (master_of c.unit_totals.result.now loads c.in_ok-fixed.fixed.now) c.args.branch.now) (sym c.most_given.ensures)
+    subst (λ (m : ℕ). m ≤ greatest_number (master_of c.unit_totals.result.now loads c.in_ok-fixed.fixed.now) c.args.branch.now) (sym c.most_stated.ensures)
     (most_serves c.args.instance.now c.args.pool.now.entries c.args.cost c.unit_totals.result.now loads
     c.in_ok-fixed.fixed.now c.args.branch.now (lent g (goal.at.advise_by_totals-requires-clause-reached g c).After-short_rows) c.requires.branch)
 
