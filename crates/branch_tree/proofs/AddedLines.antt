@@ -1,12 +1,9 @@
 -- One more line: the search goes on, and the line is that of a tree.
-use Rattle.std.proofs.Common.{◌≡◌, ℕ, ◌+◌, ◌≤◌, List, [], ◌∷◌, ◌++◌, length, Option, ap, sym, subst, ◌∙◌, arith}
-use Rattle.std.proofs.lemmas.List.{length-map, length_push}
+use Rattle.std.proofs.Common.{◌≡◌, ℕ, ◌≤◌, List, [], ◌∷◌, ◌++◌, length, Option, ap, sym, subst, ◌∙◌, arith}
 use Rattle.hub_spec.specs.Limits.{most_tree_lines}
 use Rattle.hub_spec.specs.Problem.{Problem}
 use Rattle.hub_spec.specs.Plans.{IsHubSet}
 use Rattle.hub_spec.specs.Trees.{Branching, IsBranch, HasRoom, Tree, TreeLine, preorder}
-use Rattle.plan_model.specs.declared.tree_lines.TreeLine as model
-use Rattle.plan_model.specs.Lines.{tree_line_of}
 use Rattle.search_spec.specs.States.{State, Grown}
 use Rattle.search_steps.specs.Pools.{IsPoolOf, HasGrown, state_by}
 use Rattle.search_steps.proofs.GivenPools.{grown_same, grown_twice}

@@ -22,6 +22,7 @@ use Rattle.search_spec.proofs.RuleParts.{has_when, in_when}
 use Rattle.search_spec.proofs.Beginnings.{one_by_one}
 use Rattle.cut_pool.specs.Entries.{given_entry}
 use Rattle.search_steps.specs.Advising.{parts_of}
+use Rattle.separators.specs.Kinds.{CutKind, parts_for}
 use Rattle.search_steps.specs.Pools.{IsSumsOf, IsPoolOf, state_by}
 use Rattle.search_steps.proofs.GivenPools.{grown_same, grown_twice, added_is_given}
 use Rattle.search_core.specs.declared.tasks.Task.{Task}
@@ -74,7 +75,8 @@ unfolding with_given
 given_none s =
     let sets = append-nil s.sets in
     let cuts = append-nil s.cuts in
-    λ i. record s { sets = sets i; cuts = cuts i }
+    let marks = append-nil s.marks in
+    λ i. record s { sets = sets i; cuts = cuts i; marks = marks i }
 
 -- no cut was given yet
 pub given_none_at : (t : Task) (s : Progress) → IsGoing t s → IsAt t s s (with_given [] (state_of t.instance.now s))
@@ -160,33 +162,33 @@ unfolding is_tried
 by_number p s hubs first second third = rw (first, second, third) refl
 
 -- the hubs are not to be tried: nothing changes
-pub not_tried : (t : Task) (s : Progress) (set hubs : List ℕ) → IsGoing t s → set ≡ hubs → is_tried t.instance.now (state_of t.instance.now s) set ≡ false
-    → IsAt t s s (tried t.instance.now (parts_of t.instance.now) hubs (state_of t.instance.now s))
+pub not_tried : (kind : CutKind) (t : Task) (s : Progress) (set hubs : List ℕ) → IsGoing t s → set ≡ hubs → is_tried t.instance.now (state_of t.instance.now s) set ≡ false
+    → IsAt t s s (tried t.instance.now (parts_for kind t.instance.now) hubs (state_of t.instance.now s))
 unfolding tried
-not_tried t s set hubs going same not_to =
+not_tried kind t s set hubs going same not_to =
     let p = t.instance.now in
     let no : is_tried p (state_of p s) hubs ≡ false = ap (is_tried p (state_of p s)) (sym same) ∙ not_to in
     record { state = rw no refl; lines = refl; going = going; kept = grown_same s.pool.entries }
 
 -- they are: their cut is the next
-pub tried_at : (t : Task) (before after : Progress) (set hubs order : List ℕ) → set ≡ hubs
+pub tried_at : (kind : CutKind) (t : Task) (before after : Progress) (set hubs order : List ℕ) → set ≡ hubs
     → is_tried t.instance.now (state_of t.instance.now before) set ≡ true → order ≡ others t.instance.now set
-    → IsAt t before after (separated (parts_of t.instance.now) set order (state_of t.instance.now before))
-    → IsAt t before after (tried t.instance.now (parts_of t.instance.now) hubs (state_of t.instance.now before))
+    → IsAt t before after (separated (parts_for kind t.instance.now) set order (state_of t.instance.now before))
+    → IsAt t before after (tried t.instance.now (parts_for kind t.instance.now) hubs (state_of t.instance.now before))
 unfolding tried
-tried_at t before after set hubs order same to ascends at =
+tried_at kind t before after set hubs order same to ascends at =
     let p = t.instance.now in
     let s = state_of p before in
     let yes : is_tried p s hubs ≡ true = ap (is_tried p s) (sym same) ∙ to in
     let ascending : order ≡ (parts_of p).ascending set = ascends ∙ sym (parts_ascending p set) in
-    let as_tried : separated (parts_of p) set order s ≡ separated (parts_of p) hubs ((parts_of p).ascending hubs) s =
-    ap (λ (o : List ℕ). separated (parts_of p) set o s) ascending ∙ ap (λ (hs : List ℕ). separated (parts_of p) hs ((parts_of p).ascending hs) s) same in
+    let as_tried : separated (parts_for kind p) set order s ≡ separated (parts_for kind p) hubs ((parts_of p).ascending hubs) s =
+    ap (λ (o : List ℕ). separated (parts_for kind p) set o s) ascending ∙ ap (λ (hs : List ℕ). separated (parts_for kind p) hs ((parts_of p).ascending hs) s) same in
     record { state = at.state ∙ as_tried ∙ rw yes refl; lines = at.lines; going = at.going; kept = at.kept }
 
 -- ---- the whole start
 
-pub begun_is : (p : Problem) (start : Start) (s given after : State) → s ≡ begun_for p (parts_of p) p.wanted → given ≡ with_given start.cuts s
-    → after ≡ tried p (parts_of p) start.hubs given → after ≡ begun_again p (parts_of p) start
+pub begun_is : (kind : CutKind) (p : Problem) (start : Start) (s given after : State) → s ≡ begun_for p (parts_for kind p) p.wanted → given ≡ with_given start.cuts s
+    → after ≡ tried p (parts_for kind p) start.hubs given → after ≡ begun_again p (parts_for kind p) start
 unfolding begun_again
-begun_is p start s given after first second third =
-    third ∙ ap (tried p (parts_of p) start.hubs) (second ∙ ap (with_given start.cuts) first)
+begun_is kind p start s given after first second third =
+    third ∙ ap (tried p (parts_for kind p) start.hubs) (second ∙ ap (with_given start.cuts) first)

@@ -9,9 +9,10 @@ use Rattle.hub_spec.specs.Ranges.{IsFirstLine}
 use Rattle.hub_spec.proofs.SumLemmas.{by_test}
 use Rattle.search_spec.specs.States.{denominator, State, Advice, Parts, Grown, Handling, whole_on, number_in_pool, is_stopped}
 use Rattle.search_spec.specs.Steps.{closes_at, full_by, full_on, may_split, two_more, stopped_leaf, Round, round, rounds, Side, stays_open, stays_closed, child_on, fixings, unless_ended, on_set, ended, halved, parted, beside, with_leaf, fixed, after_rounds, explored, handled, node, searched}
-use Rattle.search_spec.specs.Choices.{all_closed, barren_end, begun_for, rule}
+use Rattle.search_spec.specs.Choices.{all_closed, barren_end, begun_for}
 use Rattle.kept_cuts.specs.Findings.{IsUnlimited}
 use Rattle.search_steps.specs.Advising.{parts_of}
+use Rattle.separators.specs.Kinds.{CutKind, parts_for}
 use Rattle.search_steps.proofs.OpenBranches.{never_blocked}
 use Rattle.search_steps.proofs.RuleChoices.{barren_is, some_open}
 use Rattle.branch_tree.specs.Findings.{found_by}
@@ -145,18 +146,17 @@ none_told : (o : Option Tree) → None ≡ option_map preorder o → o ≡ None
 none_told None is = refl
 none_told (Some t) is = absurd (none-some (preorder t) is)
 
-ends_first : (p : Problem) → IsProblem p → IsUnlimited p → EndsFirst (parts_of p)
-ends_first p ok any = record {
+ends_first : (kind : CutKind) (p : Problem) → IsProblem p → IsUnlimited p → EndsFirst (parts_for kind p)
+ends_first kind p ok any = record {
   barren = λ b t is. closed_first b t (barren_is p None b any.any_number ∙ is);
   blocked = λ b barren. none_told ((parts_of p).blocked b) (never_blocked p b any.any_length (some_open p b ok barren));
 }
 
 -- whatever the search begins with
-pub first_from : (p : Problem) (n : Option ℕ) (s : State) → IsProblem p → IsUnlimited p
-    → All IsFirstLine (preorder (searched p (parts_of p) n s).tree)
+pub first_from : (kind : CutKind) (p : Problem) (n : Option ℕ) (s : State) → IsProblem p → IsUnlimited p
+    → All IsFirstLine (preorder (searched p (parts_for kind p) n s).tree)
 unfolding searched
-first_from p n s ok any = node_first (length p.candidates + 1) p (parts_of p) n (ends_first p ok any) (root p) [] s
+first_from kind p n s ok any = node_first (length p.candidates + 1) p (parts_for kind p) n (ends_first kind p ok any) (root p) [] s
 
-pub found_first : (p : Problem) (n : Option ℕ) → IsProblem p → IsUnlimited p → All IsFirstLine (preorder (found_by p n).tree)
-unfolding rule
-found_first p n ok any = first_from p n (begun_for p (parts_of p) p.wanted) ok any
+pub found_first : (kind : CutKind) (p : Problem) (n : Option ℕ) → IsProblem p → IsUnlimited p → All IsFirstLine (preorder (found_by kind p n).tree)
+found_first kind p n ok any = first_from kind p n (begun_for p (parts_for kind p) p.wanted) ok any

@@ -1,4 +1,5 @@
 pub mod FirstLines
+pub mod Unmarked
 pub mod RuleFindings
 pub mod AddedLines
 pub mod LeafSteps

@@ -1,13 +1,8 @@
 -- What the rule does at a branch, by the tests that the code makes.
-use Rattle.std.proofs.Common.{◌≡◌, ℕ, zero, suc, ◌+◌, ◌-◌, ◌≤◌, true, false, List, [], ◌∷◌, length, Contains, Option, Some, None, is_some, Vec, Global, refl, ap, ap₂, sym, ◌∙◌, arith}
-use Rattle.std.specs.Prelude.{option_map}
-use Rattle.std.proofs.lemmas.Option.{same_Some, none-some}
+use Rattle.std.proofs.Common.{◌≡◌, ℕ, zero, suc, ◌+◌, ◌-◌, ◌≤◌, true, false, List, [], ◌∷◌, length, Contains, Option, Some, None, is_some, refl, ap, ap₂, sym, ◌∙◌, arith}
 use Rattle.hub_spec.specs.Problem.{Problem, IsProblem}
-use Rattle.hub_spec.specs.Plans.{IsHubSet}
-use Rattle.hub_spec.specs.Trees.{Branching, root, open_child, closed_child, IsBranch, HasRoom, Tree, branch, TreeLine, preorder}
+use Rattle.hub_spec.specs.Trees.{Branching, root, open_child, closed_child, IsBranch, HasRoom, Tree, branch}
 use Rattle.hub_spec.proofs.SumLemmas.{by_test}
-use Rattle.plan_model.specs.declared.tree_lines.TreeLine as model
-use Rattle.plan_model.specs.Lines.{tree_line_of}
 use Rattle.search_spec.specs.States.{State, Advice, Parts, Handling, is_stopped}
 use Rattle.search_spec.specs.Steps as steps
 use Rattle.search_spec.specs.Steps.{bound_at, closes_at, may_split, two_more, child_on, with_leaf, stopped_leaf, full_on, ended, halved, fixed, parted, handled, round, rounds, after_rounds, node, searched, stays_open, stays_closed}
@@ -18,7 +13,9 @@ use Rattle.search_steps.specs.Pools.{InEachStateAt}
 use Rattle.search_core.specs.declared.tasks.Task.{Task}
 use Rattle.search_progress.specs.declared.progress.Progress.{Progress}
 use Rattle.search_steps.specs.Advising.{parts_of}
-use Rattle.search_steps.proofs.RuleChoices.{parts_sound, room_when}
+use Rattle.separators.specs.Kinds.{CutKind, parts_for}
+use Rattle.separators.proofs.KindCuts.{goes_on_for}
+use Rattle.search_steps.proofs.RuleChoices.{parts_sound}
 use Rattle.branch_tree.specs.Lines.{handling}
 use Rattle.search_progress.specs.Progressing.{state_of}
 
@@ -35,68 +32,68 @@ child_room p stays_closed b k ok is_branch room only free = ((parts_sound p ok).
 
 -- ---- a branch whose children are handled
 
-node_at : (t : Task) (depth : ℕ) (b : Branching) (w : List (ℕ × ℕ)) (s : State) → 1 ≤ depth
-    → handled t.instance.now (parts_of t.instance.now) t.nodes (handling t (depth - 1)) b w s ≡ handling t depth b w s
-node_at t zero b w s some = absurd (omega arith)
-node_at t (suc d) b w s some =
+node_at : (kind : CutKind) (t : Task) (depth : ℕ) (b : Branching) (w : List (ℕ × ℕ)) (s : State) → 1 ≤ depth
+    → handled t.instance.now (parts_for kind t.instance.now) t.nodes (handling kind t (depth - 1)) b w s ≡ handling kind t depth b w s
+node_at kind t zero b w s some = absurd (omega arith)
+node_at kind t (suc d) b w s some =
     let less : suc d - 1 ≡ d = omega arith in
-    rw less (sym (node_is d t.instance.now (parts_of t.instance.now) t.nodes b w s))
+    rw less (sym (node_is d t.instance.now (parts_for kind t.instance.now) t.nodes b w s))
 
-pub node_ended : (t : Task) (depth : ℕ) (b : Branching) (w : List (ℕ × ℕ)) (s : State) (tree : Tree) → 1 ≤ depth
-    → (parts_of t.instance.now).barren b ≡ Some tree → record { state = s; tree = tree } ≡ handling t depth b w s
-node_ended t depth b w s tree some barren =
+pub node_ended : (kind : CutKind) (t : Task) (depth : ℕ) (b : Branching) (w : List (ℕ × ℕ)) (s : State) (tree : Tree) → 1 ≤ depth
+    → (parts_for kind t.instance.now).barren b ≡ Some tree → record { state = s; tree = tree } ≡ handling kind t depth b w s
+node_ended kind t depth b w s tree some barren =
     let p = t.instance.now in
-    sym (handled_barren p (parts_of p) t.nodes (handling t (depth - 1)) b w s tree barren) ∙ node_at t depth b w s some
+    sym (handled_barren p (parts_for kind p) t.nodes (handling kind t (depth - 1)) b w s tree barren) ∙ node_at kind t depth b w s some
 
-pub node_stopped : (t : Task) (depth : ℕ) (b : Branching) (w : List (ℕ × ℕ)) (s : State) → 1 ≤ depth
-    → (parts_of t.instance.now).barren b ≡ None → is_stopped s ≡ true → stopped_leaf t.instance.now b w s ≡ handling t depth b w s
-node_stopped t depth b w s some barren stopped =
+pub node_stopped : (kind : CutKind) (t : Task) (depth : ℕ) (b : Branching) (w : List (ℕ × ℕ)) (s : State) → 1 ≤ depth
+    → (parts_for kind t.instance.now).barren b ≡ None → is_stopped s ≡ true → stopped_leaf t.instance.now b w s ≡ handling kind t depth b w s
+node_stopped kind t depth b w s some barren stopped =
     let p = t.instance.now in
-    sym (handled_stopped p (parts_of p) t.nodes (handling t (depth - 1)) b w s barren stopped) ∙ node_at t depth b w s some
+    sym (handled_stopped p (parts_for kind p) t.nodes (handling kind t (depth - 1)) b w s barren stopped) ∙ node_at kind t depth b w s some
 
-pub node_blocked : (t : Task) (depth : ℕ) (b : Branching) (w : List (ℕ × ℕ)) (s : State) (tree : Tree) → 1 ≤ depth
-    → (parts_of t.instance.now).barren b ≡ None → is_stopped s ≡ false → (parts_of t.instance.now).blocked b ≡ Some tree
-    → record { state = s; tree = tree } ≡ handling t depth b w s
-node_blocked t depth b w s tree some barren going blocked =
+pub node_blocked : (kind : CutKind) (t : Task) (depth : ℕ) (b : Branching) (w : List (ℕ × ℕ)) (s : State) (tree : Tree) → 1 ≤ depth
+    → (parts_for kind t.instance.now).barren b ≡ None → is_stopped s ≡ false → (parts_for kind t.instance.now).blocked b ≡ Some tree
+    → record { state = s; tree = tree } ≡ handling kind t depth b w s
+node_blocked kind t depth b w s tree some barren going blocked =
     let p = t.instance.now in
-    sym (handled_blocked p (parts_of p) t.nodes (handling t (depth - 1)) b w s tree barren going blocked) ∙ node_at t depth b w s some
+    sym (handled_blocked p (parts_for kind p) t.nodes (handling kind t (depth - 1)) b w s tree barren going blocked) ∙ node_at kind t depth b w s some
 
-pub node_full : (t : Task) (depth : ℕ) (b : Branching) (w : List (ℕ × ℕ)) (s : State) (set : List ℕ) → 1 ≤ depth
-    → (parts_of t.instance.now).barren b ≡ None → is_stopped s ≡ false → (parts_of t.instance.now).blocked b ≡ None
-    → (parts_of t.instance.now).only b ≡ Some set → full_on (parts_of t.instance.now) set s ≡ handling t depth b w s
-node_full t depth b w s set some barren going blocked only =
+pub node_full : (kind : CutKind) (t : Task) (depth : ℕ) (b : Branching) (w : List (ℕ × ℕ)) (s : State) (set : List ℕ) → 1 ≤ depth
+    → (parts_for kind t.instance.now).barren b ≡ None → is_stopped s ≡ false → (parts_for kind t.instance.now).blocked b ≡ None
+    → (parts_for kind t.instance.now).only b ≡ Some set → full_on (parts_for kind t.instance.now) set s ≡ handling kind t depth b w s
+node_full kind t depth b w s set some barren going blocked only =
     let p = t.instance.now in
-    sym (handled_full p (parts_of p) t.nodes (handling t (depth - 1)) b w s set barren going blocked only)
-    ∙ node_at t depth b w s some
+    sym (handled_full p (parts_for kind p) t.nodes (handling kind t (depth - 1)) b w s set barren going blocked only)
+    ∙ node_at kind t depth b w s some
 
 -- and what is left after its rounds is searched
-pub node_explored : (t : Task) (depth : ℕ) (b : Branching) (w : List (ℕ × ℕ)) (s : State) (r : steps.Round) → 1 ≤ depth
+pub node_explored : (kind : CutKind) (t : Task) (depth : ℕ) (b : Branching) (w : List (ℕ × ℕ)) (s : State) (r : steps.Round) → 1 ≤ depth
     → GoesOn (parts_of t.instance.now) b → is_stopped s ≡ false
-    → r ≡ rounds 2 t.instance.now (parts_of t.instance.now) b (round t.instance.now (parts_of t.instance.now) b w s)
-    → after_rounds t.instance.now (parts_of t.instance.now) t.nodes (handling t (depth - 1)) b r ≡ handling t depth b w s
-node_explored t depth b w s r some on going is =
+    → r ≡ rounds 2 t.instance.now (parts_for kind t.instance.now) b (round t.instance.now (parts_for kind t.instance.now) b w s)
+    → after_rounds t.instance.now (parts_for kind t.instance.now) t.nodes (handling kind t (depth - 1)) b r ≡ handling kind t depth b w s
+node_explored kind t depth b w s r some on going is =
     let p = t.instance.now in
-    let go = handling t (depth - 1) in
-    ap (after_rounds p (parts_of p) t.nodes go b) is
-    ∙ sym (handled_on p (parts_of p) t.nodes go b w s going on ∙ explored_is p (parts_of p) t.nodes go b w s)
-    ∙ node_at t depth b w s some
+    let go = handling kind t (depth - 1) in
+    ap (after_rounds p (parts_for kind p) t.nodes go b) is
+    ∙ sym (handled_on p (parts_for kind p) t.nodes go b w s going (goes_on_for kind p b on) ∙ explored_is p (parts_for kind p) t.nodes go b w s)
+    ∙ node_at kind t depth b w s some
 
 -- ---- the end of a branch
 
-pub ended_line : (p : Problem) (b : Branching) (s : State) (set : List ℕ) (tree : Tree) → (parts_of p).barren b ≡ Some tree
-    → record { state = s; tree = tree } ≡ ended (parts_of p) b s set
+pub ended_line : (kind : CutKind) (p : Problem) (b : Branching) (s : State) (set : List ℕ) (tree : Tree) → (parts_for kind p).barren b ≡ Some tree
+    → record { state = s; tree = tree } ≡ ended (parts_for kind p) b s set
 unfolding ended
-ended_line p b s set tree barren = rw barren refl
+ended_line kind p b s set tree barren = rw barren refl
 
-pub ended_blocked : (p : Problem) (b : Branching) (s : State) (set : List ℕ) (tree : Tree) → (parts_of p).barren b ≡ None
-    → (parts_of p).blocked b ≡ Some tree → record { state = s; tree = tree } ≡ ended (parts_of p) b s set
+pub ended_blocked : (kind : CutKind) (p : Problem) (b : Branching) (s : State) (set : List ℕ) (tree : Tree) → (parts_for kind p).barren b ≡ None
+    → (parts_for kind p).blocked b ≡ Some tree → record { state = s; tree = tree } ≡ ended (parts_for kind p) b s set
 unfolding ended
-ended_blocked p b s set tree barren blocked = rw (barren, blocked) refl
+ended_blocked kind p b s set tree barren blocked = rw (barren, blocked) refl
 
-pub ended_full : (p : Problem) (b : Branching) (s : State) (set : List ℕ) → (parts_of p).barren b ≡ None → (parts_of p).blocked b ≡ None
-    → full_on (parts_of p) set s ≡ ended (parts_of p) b s set
+pub ended_full : (kind : CutKind) (p : Problem) (b : Branching) (s : State) (set : List ℕ) → (parts_for kind p).barren b ≡ None → (parts_for kind p).blocked b ≡ None
+    → full_on (parts_for kind p) set s ≡ ended (parts_for kind p) b s set
 unfolding ended
-ended_full p b s set barren blocked = rw (barren, blocked) refl
+ended_full kind p b s set barren blocked = rw (barren, blocked) refl
 
 -- ---- fixings and children
 
@@ -107,51 +104,51 @@ unfolding closes_at bound_at
 open_in_each p s b w is = λ hubs made stop. is
 
 -- a set is left alone
-pub fixed_alone : (t : Task) (go : Handling) (advice : Advice) (fs : List (ℕ × steps.Side)) (b : Branching) (w : List (ℕ × ℕ)) (s : State) (set : List ℕ)
-    → (parts_of t.instance.now).only b ≡ Some set
-    → ended (parts_of t.instance.now) b s set ≡ fixed t.instance.now (parts_of t.instance.now) t.nodes go advice fs b w s
-fixed_alone t go advice [] b w s set only =
+pub fixed_alone : (kind : CutKind) (t : Task) (go : Handling) (advice : Advice) (fs : List (ℕ × steps.Side)) (b : Branching) (w : List (ℕ × ℕ)) (s : State) (set : List ℕ)
+    → (parts_for kind t.instance.now).only b ≡ Some set
+    → ended (parts_for kind t.instance.now) b s set ≡ fixed t.instance.now (parts_for kind t.instance.now) t.nodes go advice fs b w s
+fixed_alone kind t go advice [] b w s set only =
     let p = t.instance.now in
-    sym (fixed_none p (parts_of p) t.nodes go advice b w s ∙ parted_only p (parts_of p) t.nodes go advice b w s set only)
-fixed_alone t go advice (f ∷ rest) b w s set only =
+    sym (fixed_none p (parts_for kind p) t.nodes go advice b w s ∙ parted_only p (parts_for kind p) t.nodes go advice b w s set only)
+fixed_alone kind t go advice (f ∷ rest) b w s set only =
     let p = t.instance.now in
-    sym (fixed_only p (parts_of p) t.nodes go advice f rest b w s (ap (λ (o : Option (List ℕ)). is_some o) only)
-    ∙ parted_only p (parts_of p) t.nodes go advice b w s set only)
+    sym (fixed_only p (parts_for kind p) t.nodes go advice f rest b w s (ap (λ (o : Option (List ℕ)). is_some o) only)
+    ∙ parted_only p (parts_for kind p) t.nodes go advice b w s set only)
 
 -- no two nodes more are allowed
-pub fixed_stopped : (t : Task) (go : Handling) (advice : Advice) (fs : List (ℕ × steps.Side)) (b : Branching) (w : List (ℕ × ℕ)) (s : State)
-    → (parts_of t.instance.now).only b ≡ None → may_split t.nodes s ≡ false
-    → stopped_leaf t.instance.now b w s ≡ fixed t.instance.now (parts_of t.instance.now) t.nodes go advice fs b w s
-fixed_stopped t go advice [] b w s only full =
+pub fixed_stopped : (kind : CutKind) (t : Task) (go : Handling) (advice : Advice) (fs : List (ℕ × steps.Side)) (b : Branching) (w : List (ℕ × ℕ)) (s : State)
+    → (parts_for kind t.instance.now).only b ≡ None → may_split t.nodes s ≡ false
+    → stopped_leaf t.instance.now b w s ≡ fixed t.instance.now (parts_for kind t.instance.now) t.nodes go advice fs b w s
+fixed_stopped kind t go advice [] b w s only full =
     let p = t.instance.now in
-    sym (fixed_none p (parts_of p) t.nodes go advice b w s ∙ parted_full p (parts_of p) t.nodes go advice b w s only full)
-fixed_stopped t go advice (f ∷ rest) b w s only full =
+    sym (fixed_none p (parts_for kind p) t.nodes go advice b w s ∙ parted_full p (parts_for kind p) t.nodes go advice b w s only full)
+fixed_stopped kind t go advice (f ∷ rest) b w s only full =
     let p = t.instance.now in
-    sym (fixed_full p (parts_of p) t.nodes go advice f rest b w s (ap (λ (o : Option (List ℕ)). is_some o) only) full)
+    sym (fixed_full p (parts_for kind p) t.nodes go advice f rest b w s (ap (λ (o : Option (List ℕ)). is_some o) only) full)
 
-nearest_is : (p : Problem) (a : Advice) (b : Branching) → (parts_of p).nearest a b ≡ nearest_half a b
+nearest_is : (kind : CutKind) (p : Problem) (a : Advice) (b : Branching) → (parts_for kind p).nearest a b ≡ nearest_half a b
 unfolding rule_parts
-nearest_is p a b = refl
+nearest_is kind p a b = refl
 
 -- no fixing is left
-pub fixed_halved : (t : Task) (go : Handling) (advice : Advice) (fs : List (ℕ × steps.Side)) (b : Branching) (w : List (ℕ × ℕ)) (s : State)
-    → (parts_of t.instance.now).only b ≡ None → may_split t.nodes s ≡ true → fs ≡ []
-    → halved go (nearest_half advice b) b w s ≡ fixed t.instance.now (parts_of t.instance.now) t.nodes go advice fs b w s
-fixed_halved t go advice fs b w s only room none =
+pub fixed_halved : (kind : CutKind) (t : Task) (go : Handling) (advice : Advice) (fs : List (ℕ × steps.Side)) (b : Branching) (w : List (ℕ × ℕ)) (s : State)
+    → (parts_for kind t.instance.now).only b ≡ None → may_split t.nodes s ≡ true → fs ≡ []
+    → halved go (nearest_half advice b) b w s ≡ fixed t.instance.now (parts_for kind t.instance.now) t.nodes go advice fs b w s
+fixed_halved kind t go advice fs b w s only room none =
     let p = t.instance.now in
-    ap (λ (k : ℕ). halved go k b w s) (sym (nearest_is p advice b))
-    ∙ sym (fixed_none p (parts_of p) t.nodes go advice b w s ∙ parted_split p (parts_of p) t.nodes go advice b w s only room)
-    ∙ ap (λ (fs : List (ℕ × steps.Side)). fixed p (parts_of p) t.nodes go advice fs b w s) (sym none)
+    ap (λ (k : ℕ). halved go k b w s) (sym (nearest_is kind p advice b))
+    ∙ sym (fixed_none p (parts_for kind p) t.nodes go advice b w s ∙ parted_split p (parts_for kind p) t.nodes go advice b w s only room)
+    ∙ ap (λ (fs : List (ℕ × steps.Side)). fixed p (parts_for kind p) t.nodes go advice fs b w s) (sym none)
 
-pub fixed_next : (t : Task) (go : Handling) (advice : Advice) (f : ℕ × steps.Side) (rest all : List (ℕ × steps.Side)) (b child : Branching) (w : List (ℕ × ℕ))
-    (s next : State) → (parts_of t.instance.now).only b ≡ None → all ≡ f ∷ rest → may_split t.nodes s ≡ true → child ≡ child_on f.1 b f.0 → next ≡ two_more s
-    → with_leaf f w (fixed t.instance.now (parts_of t.instance.now) t.nodes go advice rest child w next)
-    ≡ fixed t.instance.now (parts_of t.instance.now) t.nodes go advice all b w s
-fixed_next t go advice f rest all b child w s next only are room is_child is_next =
+pub fixed_next : (kind : CutKind) (t : Task) (go : Handling) (advice : Advice) (f : ℕ × steps.Side) (rest all : List (ℕ × steps.Side)) (b child : Branching) (w : List (ℕ × ℕ))
+    (s next : State) → (parts_for kind t.instance.now).only b ≡ None → all ≡ f ∷ rest → may_split t.nodes s ≡ true → child ≡ child_on f.1 b f.0 → next ≡ two_more s
+    → with_leaf f w (fixed t.instance.now (parts_for kind t.instance.now) t.nodes go advice rest child w next)
+    ≡ fixed t.instance.now (parts_for kind t.instance.now) t.nodes go advice all b w s
+fixed_next kind t go advice f rest all b child w s next only are room is_child is_next =
     let p = t.instance.now in
-    ap₂ (λ (x : Branching) (y : State). with_leaf f w (fixed p (parts_of p) t.nodes go advice rest x w y)) is_child is_next
-    ∙ sym (fixed_one p (parts_of p) t.nodes go advice f rest b w s (ap (λ (o : Option (List ℕ)). is_some o) only) room)
-    ∙ ap (λ (fs : List (ℕ × steps.Side)). fixed p (parts_of p) t.nodes go advice fs b w s) (sym are)
+    ap₂ (λ (x : Branching) (y : State). with_leaf f w (fixed p (parts_for kind p) t.nodes go advice rest x w y)) is_child is_next
+    ∙ sym (fixed_one p (parts_for kind p) t.nodes go advice f rest b w s (ap (λ (o : Option (List ℕ)). is_some o) only) room)
+    ∙ ap (λ (fs : List (ℕ × steps.Side)). fixed p (parts_for kind p) t.nodes go advice fs b w s) (sym are)
 
 pub halved_both : (go : Handling) (b first second : Branching) (w : List (ℕ × ℕ)) (s next : State) (k near : ℕ) → k ≡ near
     → first ≡ open_child b k → second ≡ closed_child b k → next ≡ two_more s
@@ -184,7 +181,7 @@ two_rounds p parts b r = by_test r.again
 -- ---- the root
 
 -- the handling of the root from there
-pub handled_root : (p : Problem) (n : Option ℕ) (depth : ℕ) (b : Branching) (s : State) → depth ≡ length p.candidates + 1
-    → b ≡ root p → node depth p (parts_of p) n b [] s ≡ searched p (parts_of p) n s
+pub handled_root : (kind : CutKind) (p : Problem) (n : Option ℕ) (depth : ℕ) (b : Branching) (s : State) → depth ≡ length p.candidates + 1
+    → b ≡ root p → node depth p (parts_for kind p) n b [] s ≡ searched p (parts_for kind p) n s
 unfolding searched
-handled_root p n depth b s deep is = λ i. node (deep i) p (parts_of p) n (is i) [] s
+handled_root kind p n depth b s deep is = λ i. node (deep i) p (parts_for kind p) n (is i) [] s

@@ -7,6 +7,7 @@ use Rattle.search_spec.specs.Steps.{better, closes_at, separated, round, rounds}
 use Rattle.search_spec.specs.Choices.{rule_parts, order_by_point, by_falling, others}
 use Rattle.search_spec.proofs.StepCases.{round_over, round_new}
 use Rattle.search_steps.specs.Advising.{master_advising, parts_of}
+use Rattle.separators.specs.Kinds.{CutKind, parts_for}
 use Rattle.search_core.specs.declared.tasks.Task.{Task}
 use Rattle.search_progress.specs.declared.progress.Progress.{Progress}
 use Rattle.branch_tree.specs.declared.rounds.RoundEnd.{RoundEnd}
@@ -33,17 +34,17 @@ unfolding rule_parts order_by_point
 falling_is p a set = refl
 
 -- the weights close, or the set is known
-pub round_ends : (p : Problem) (b : Branching) (w : List (ℕ × ℕ)) (s : State) (a : Advice) (best : List (ℕ × ℕ)) → IsTaken p b w s a best
+pub round_ends : (kind : CutKind) (p : Problem) (b : Branching) (w : List (ℕ × ℕ)) (s : State) (a : Advice) (best : List (ℕ × ℕ)) → IsTaken p b w s a best
     → (closes_at p s b best ≡ true) ⊎ (is_some (number_in_pool s ((parts_of p).pick a b)) ≡ true)
-    → record { state = s; weights = best; advice = a; again = false } ≡ round p (parts_of p) b w s
-round_ends p b w s a best taken over =
+    → record { state = s; weights = best; advice = a; again = false } ≡ round p (parts_for kind p) b w s
+round_ends kind p b w s a best taken over =
     let advice : a ≡ (parts_of p).advice s b = taken.advice ∙ sym (advice_is p s b) in
     let weights : best ≡ better p s b w ((parts_of p).advice s b).weights = taken.weights ∙ ap (λ (x : Advice). better p s b w x.weights) advice in
     let set : (parts_of p).pick a b ≡ (parts_of p).pick ((parts_of p).advice s b) b = ap (λ (x : Advice). (parts_of p).pick x b) advice in
     let both : record { state = s; weights = best; advice = a; again = false }
     ≡ record { state = s; weights = better p s b w ((parts_of p).advice s b).weights; advice = (parts_of p).advice s b; again = false }
     = λ i. record { state = s; weights = weights i; advice = advice i; again = false } in
-    both ∙ sym (round_over p (parts_of p) b w s (ends over weights set))
+    both ∙ sym (round_over p (parts_for kind p) b w s (ends over weights set))
   where
     ends : (closes_at p s b best ≡ true) ⊎ (is_some (number_in_pool s ((parts_of p).pick a b)) ≡ true)
         → best ≡ better p s b w ((parts_of p).advice s b).weights → (parts_of p).pick a b ≡ (parts_of p).pick ((parts_of p).advice s b) b
@@ -58,12 +59,12 @@ round_ends p b w s a best taken over =
         (sym (ap (λ (x : List ℕ). is_some (number_in_pool s x)) set) ∙ known)
 
 -- the set is separated
-pub round_goes : (p : Problem) (b : Branching) (w : List (ℕ × ℕ)) (s : State) (a : Advice) (best : List (ℕ × ℕ)) (set order : List ℕ) (next : State)
+pub round_goes : (kind : CutKind) (p : Problem) (b : Branching) (w : List (ℕ × ℕ)) (s : State) (a : Advice) (best : List (ℕ × ℕ)) (set order : List ℕ) (next : State)
     → IsTaken p b w s a best → closes_at p s b best ≡ false → set ≡ (parts_of p).pick a b → is_some (number_in_pool s set) ≡ false
-    → order ≡ by_falling a.point (others p set) → next ≡ separated (parts_of p) set order s
-    → record { state = next; weights = best; advice = a; again = true } ≡ round p (parts_of p) b w s
-round_goes p b w s a best set order next taken open_still picks unknown falls after =
-    let parts = parts_of p in
+    → order ≡ by_falling a.point (others p set) → next ≡ separated (parts_for kind p) set order s
+    → record { state = next; weights = best; advice = a; again = true } ≡ round p (parts_for kind p) b w s
+round_goes kind p b w s a best set order next taken open_still picks unknown falls after =
+    let parts = parts_for kind p in
     let advice : a ≡ parts.advice s b = taken.advice ∙ sym (advice_is p s b) in
     let weights : best ≡ better p s b w (parts.advice s b).weights = taken.weights ∙ ap (λ (x : Advice). better p s b w x.weights) advice in
     let is_set : set ≡ parts.pick (parts.advice s b) b = picks ∙ ap (λ (x : Advice). (parts_of p).pick x b) advice in
@@ -85,8 +86,8 @@ round_goes p b w s a best set order next taken open_still picks unknown falls af
     both ∙ sym (round_new p parts b w s test)
 
 -- a round after another, by what the task is then
-pub next_by : (t u : Task) (before after : Progress) (b : Branching) (last r : RoundEnd) → u ≡ t
-    → IsRound u before after r (rounds 1 u.instance.now (parts_of u.instance.now) b (round_as u.instance.now before last))
-    → IsRound t before after r (rounds 1 t.instance.now (parts_of t.instance.now) b (round_as t.instance.now before last))
-next_by t u before after b last r same is =
-    subst (λ (x : Task). IsRound x before after r (rounds 1 x.instance.now (parts_of x.instance.now) b (round_as x.instance.now before last))) same is
+pub next_by : (kind : CutKind) (t u : Task) (before after : Progress) (b : Branching) (last r : RoundEnd) → u ≡ t
+    → IsRound u before after r (rounds 1 u.instance.now (parts_for kind u.instance.now) b (round_as u.instance.now before last))
+    → IsRound t before after r (rounds 1 t.instance.now (parts_for kind t.instance.now) b (round_as t.instance.now before last))
+next_by kind t u before after b last r same is =
+    subst (λ (x : Task). IsRound x before after r (rounds 1 x.instance.now (parts_for kind x.instance.now) b (round_as x.instance.now before last))) same is

@@ -1,26 +1,16 @@
 -- The lines of a branch and of its children, and the fixings that are still to be made.
-use Rattle.std.proofs.Common.{◌≡◌, ◌≢◌, ℕ, ◌+◌, ◌-◌, ◌<◌, ◌≤◌, List, [], ◌∷◌, ◌++◌, length, get_or, take, drop, All, Contains, Option, refl, ap, sym, ◌∙◌, append_assoc, arith}
-use Rattle.std.specs.List.Sorted.{IsStrictlyIncreasing}
-use Rattle.std.proofs.lemmas.List.{take_all}
-use Rattle.std.proofs.lemmas.List.Elements.{All-head, All-tail}
+use Rattle.std.proofs.Common.{◌≡◌, ℕ, ◌+◌, List, [], ◌∷◌, ◌++◌, Option, ap, ◌∙◌, append_assoc}
 use Rattle.hub_spec.specs.Problem.{Problem}
-use Rattle.hub_spec.specs.Cuts.{Cut}
-use Rattle.hub_spec.specs.Trees.{Branching, branch, leaf, TreeLine, branch_on, preorder}
-use Rattle.hub_fixing.specs.declared.sides.Side as code
-use Rattle.hub_fixing.specs.declared.sides.Side.TheVariants.{In}
-use Rattle.hub_spec.proofs.Ascending.{without_keeps}
-use Rattle.search_spec.specs.States.{denominator, State, Grown}
-use Rattle.search_spec.specs.Steps.{two_more, Side, stays_open, stays_closed, child_on, fixings, with_leaf}
-use Rattle.search_spec.proofs.Fixings.{AreFixings, fixings_are}
+use Rattle.hub_spec.specs.Trees.{branch, leaf, TreeLine, branch_on, preorder}
+use Rattle.search_spec.specs.States.{denominator, Grown}
+use Rattle.search_spec.specs.Steps.{two_more, stays_open, stays_closed, with_leaf}
 use Rattle.search_steps.specs.Pools.{HasGrown}
-use Rattle.search_steps.specs.Weights.{side_as, sides_as}
 use Rattle.search_steps.proofs.GivenPools.{grown_twice}
 use Rattle.search_core.specs.declared.tasks.Task.{Task}
 use Rattle.search_progress.specs.declared.progress.Progress.{Progress}
 use Rattle.kept_cuts.specs.Findings.{lines_of}
 use Rattle.search_progress.specs.Progressing.{state_of}
 use Rattle.branch_tree.specs.Lines.{HasLine, IsDone}
-use Rattle.search_progress.specs.FixingsLeft.{AreOnFree}
 use Rattle.branch_tree.proofs.AddedLines.{line_kept, line_state}
 
 -- ---- lines

@@ -7,13 +7,13 @@ use Rattle.search_spec.specs.Steps.{node}
 use Rattle.search_steps.specs.Pools.{HasGrown}
 use Rattle.search_core.specs.declared.tasks.Task.{Task}
 use Rattle.kept_cuts.specs.Findings.{lines_of}
-use Rattle.search_steps.specs.Advising.{parts_of}
+use Rattle.separators.specs.Kinds.{CutKind, parts_for}
 use Rattle.search_progress.specs.declared.progress.Progress.{Progress}
 use Rattle.search_progress.specs.Progressing.{state_of, IsGoing}
 
--- how the rule handles a branch with fewer free nodes than this depth
-abbrev pub handling : Task → ℕ → Handling
-handling t depth = node depth t.instance.now (parts_of t.instance.now) t.nodes
+-- how the rule by these cuts handles a branch with fewer free nodes than this depth
+abbrev pub handling : CutKind → Task → ℕ → Handling
+handling kind t depth = node depth t.instance.now (parts_for kind t.instance.now) t.nodes
 
 -- one line was added, with so many nodes made and this stop; cuts and incumbent are the same
 pub record HasLine (before after : Progress) (line : TreeLine) (count : ℕ) (stopped : Option ℕ) : Type 0 where

@@ -9,7 +9,7 @@ ghost use Rattle.search_spec.specs.Again.{IsStartOf, with_given, has_wanted, is_
 ghost use Rattle.search_spec.specs.Findings.{certificate_of, AreWithin, IsSpent, IsEnough};
 ghost use Rattle.search_core.specs.Starts.{start_seen};
 ghost use Rattle.cut_pool.specs.Entries.{Lacks};
-ghost use Rattle.search_steps.specs.Advising.{parts_of};
+ghost use Rattle.separators.specs.Kinds.{parts_for};
 ghost use Rattle.kept_cuts.specs.Findings.{lines_of, proof_of, IsProved};
 ghost use Rattle.search_progress.specs.Progressing.{state_of, IsGoing, IsAt};
 ghost use Rattle.branch_tree.specs.Findings.{found_again};
@@ -38,7 +38,7 @@ use std::alloc::{AllocError, Global};
 /// lack no commodity.
 ///
 /// Only where two nodes more are not allowed the search stops, and then the bound is below the cost. Else both are equal
-/// and the plan is optimal. The finding is the same whatever the separator is.
+/// and the plan is optimal. The finding is the same for every separator of the same kind of cuts.
 ///
 /// The answer is `AllocError` where memory runs out, and for a search that would have more cuts or tree lines than a
 /// certificate's text can have, 67,108,864 and 268,435,456.
@@ -55,8 +55,8 @@ pub fn search_from<R: Rule, S: Separator>(
     requires ready { S.ready separator.old }
     requires start { IsStartOf instance.now (start_seen start) }
     ensures ready { S.ready separator.new }
-    ensures found { IfOk result (IsFound instance.now (found_again instance.now nodes (start_seen start))) }
-    ensures certificate { let g = found_again instance.now nodes (start_seen start) in
+    ensures found { IfOk result (IsFound instance.now (found_again S.kind instance.now nodes (start_seen start))) }
+    ensures certificate { let g = found_again S.kind instance.now nodes (start_seen start) in
         IfOk result (λ found. (v : ℕ) → proof_of v instance.now found g.tree ≡ certificate_of instance.now v g) }
     ensures proved { IfOk result (IsProved instance.now) }
     ensures paid { IfOk result (λ found. found.cost ≡ plan_cost instance.now found.plan) }
@@ -86,7 +86,7 @@ fn begin_from<R: Rule, S: Separator>(
     requires start { IsStartOf task.now.instance.now (start_seen start) }
     ensures ready { S.ready separator.new }
     ensures begun { let p = task.now.instance.now in
-        IfOk result (λ s. state_of p s ≡ begun_again p (parts_of p) (start_seen start)) }
+        IfOk result (λ s. state_of p s ≡ begun_again p (parts_for S.kind p) (start_seen start)) }
     ensures no_line { IfOk result (λ s. lines_of s.lines.items ≡ []) }
     ensures going { IfOk result (IsGoing task.now) }
 {
@@ -151,7 +151,7 @@ fn try_hubs<S: Separator>(
     requires ascend { IsStrictlyIncreasing hubs.now }
     ensures ready { S.ready separator.new }
     ensures at { let p = task.now.instance.now in
-        OnOk result (IsAt task.now progress.old progress.new (tried p (parts_of p) hubs.now (state_of p progress.old))) }
+        OnOk result (IsAt task.now progress.old progress.new (tried p (parts_for S.kind p) hubs.now (state_of p progress.old))) }
 {
     let set = HubSet::of(alloc, hubs)?;
     if !is_tried(task, progress, &set) {

@@ -1,6 +1,6 @@
 //! What holds of what a search finds.
 
-ghost use Rattle.branch_tree.specs.Findings.{SearchIsProved, AgainIsProved, UnlimitedIsFirst};
+ghost use Rattle.branch_tree.specs.Findings.{SearchIsProved, AgainIsProved, UnlimitedIsFirst, WithoutCoreCuts};
 
 /// What the rule finds is proved by its certificate, which is within the ranges of a certificate's text, where all
 /// candidates together lack no commodity.
@@ -17,4 +17,9 @@ pub fn again_is_proved()
 /// a certificate spells.
 pub fn unlimited_is_first()
     ensures { UnlimitedIsFirst }
+{}
+
+/// What is found without core cuts is what the search's definition has as the rule.
+pub fn without_core_cuts()
+    ensures { WithoutCoreCuts }
 {}

@@ -8,6 +8,7 @@ ghost use Rattle.search_spec.specs.States.{denominator};
 ghost use Rattle.search_spec.specs.Steps.{full_on, stopped_leaf, ended};
 ghost use Rattle.search_steps.specs.Weights.{AreNodeWeights, pairs_of};
 ghost use Rattle.search_steps.specs.Advising.{parts_of};
+ghost use Rattle.separators.specs.Kinds.{parts_for};
 ghost use Rattle.search_progress.specs.Progressing.{state_of, IsGoing};
 ghost use Rattle.branch_tree.specs.Lines.{IsDone};
 
@@ -81,7 +82,7 @@ impl<R: Rule> Walk<'_, R> {
         ensures serves { R.serves self.new.rule.now self.new.task.now.instance.now }
         ensures full { let p = self.old.task.now.instance.now in
             OnOk result (IsDone self.old.task.now self.old.progress self.new.progress
-            (full_on (parts_of p) hubs.now (state_of p self.old.progress))) }
+            (full_on (parts_for S.kind p) hubs.now (state_of p self.old.progress))) }
     {
         let set = HubSet::of(self.alloc, hubs)?;
         if let Some(number) = number_of(&self.progress, &set) {
@@ -111,7 +112,7 @@ impl<R: Rule> Walk<'_, R> {
         ensures serves { R.serves self.new.rule.now self.new.task.now.instance.now }
         ensures ended { let p = self.old.task.now.instance.now in
             OnOk result (IsDone self.old.task.now self.old.progress self.new.progress
-            (ended (parts_of p) branch.now (state_of p self.old.progress) hubs.now)) }
+            (ended (parts_for S.kind p) branch.now (state_of p self.old.progress) hubs.now)) }
     {
         if let Some(line) = self.rule.end(branch) {
             return add_line(&mut self.progress, line);

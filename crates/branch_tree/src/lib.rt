@@ -26,5 +26,5 @@ mod walking;
 mod weighing;
 
 pub use again::search_from;
-pub use laws::{again_is_proved, search_is_proved, unlimited_is_first};
+pub use laws::{again_is_proved, search_is_proved, unlimited_is_first, without_core_cuts};
 pub use searching::search;

@@ -6,6 +6,7 @@ ghost use Rattle.search_spec.specs.Laws.{GoesOn};
 ghost use Rattle.search_spec.specs.Steps.{round, rounds};
 ghost use Rattle.search_steps.specs.Weights.{AreNodeWeights, pairs_of};
 ghost use Rattle.search_steps.specs.Advising.{parts_of};
+ghost use Rattle.separators.specs.Kinds.{parts_for};
 ghost use Rattle.search_progress.specs.Progressing.{state_of, IsGoing};
 ghost use Rattle.branch_tree.specs.Rounding.{round_as, IsRound};
 
@@ -44,7 +45,7 @@ impl<R: Rule> Walk<'_, R> {
         ensures ready { S.ready separator.new }
         ensures same { self.new.task.now ≡ self.old.task.now }
         ensures serves { R.serves self.new.rule.now self.new.task.now.instance.now }
-        ensures rounds { let p = self.old.task.now.instance.now in let parts = parts_of p in
+        ensures rounds { let p = self.old.task.now.instance.now in let parts = parts_for S.kind p in
             IfOk result (λ r. IsRound self.old.task.now self.old.progress self.new.progress r
             (rounds 2 p parts branch.now (round p parts branch.now (pairs_of weights.now) (state_of p self.old.progress)))) }
     {
@@ -71,7 +72,7 @@ impl<R: Rule> Walk<'_, R> {
         ensures serves { R.serves self.new.rule.now self.new.task.now.instance.now }
         ensures round { let p = self.old.task.now.instance.now in
             IfOk result (λ r. IsRound self.old.task.now self.old.progress self.new.progress r
-            (rounds 1 p (parts_of p) branch.now (round_as p self.old.progress last))) }
+            (rounds 1 p (parts_for S.kind p) branch.now (round_as p self.old.progress last))) }
     {
         if !last.again {
             return Ok(last);
@@ -98,7 +99,7 @@ impl<R: Rule> Walk<'_, R> {
         ensures serves { R.serves self.new.rule.now self.new.task.now.instance.now }
         ensures round { let p = self.old.task.now.instance.now in
             IfOk result (λ r. IsRound self.old.task.now self.old.progress self.new.progress r
-            (round p (parts_of p) branch.now (pairs_of weights.now) (state_of p self.old.progress))) }
+            (round p (parts_for S.kind p) branch.now (pairs_of weights.now) (state_of p self.old.progress))) }
     {
         let advice = node_advice(
             self.rule,

@@ -6,11 +6,11 @@ ghost use Rattle.hub_spec.specs.Trees.{preorder};
 ghost use Rattle.search_spec.specs.States.{Grown};
 ghost use Rattle.search_spec.specs.Steps.{searched};
 ghost use Rattle.search_spec.specs.Findings.{certificate_of, AreWithin, IsSpent, IsEnough};
-ghost use Rattle.kept_cuts.specs.Findings.{lines_of, proof_of, AreOwn, IsProved};
+ghost use Rattle.kept_cuts.specs.Findings.{lines_of, proof_of, AreRemade, IsProved};
 ghost use Rattle.search_progress.specs.Progressing.{state_of, IsGoing};
 ghost use Rattle.branch_tree.specs.Findings.{found_by};
 ghost use Rattle.search_progress.specs.Findings.{IsFound};
-ghost use Rattle.search_steps.specs.Advising.{parts_of};
+ghost use Rattle.separators.specs.Kinds.{minimal, parts_for};
 
 use crate::walk::Walk;
 use hub_model::Instance;
@@ -27,7 +27,7 @@ use std::alloc::{AllocError, Global};
 /// them; with `None` they are not limited. All candidates together lack no commodity.
 ///
 /// Only where two nodes more are not allowed the search stops, and then the bound is below the cost. Else both are equal
-/// and the plan is optimal. The finding is the same whatever the separator is.
+/// and the plan is optimal. The finding is the same for every separator of the same kind of cuts.
 ///
 /// The answer is `AllocError` where memory runs out, and for a search that would have more cuts or tree lines than a
 /// certificate's text can have, 67,108,864 and 268,435,456.
@@ -42,11 +42,11 @@ pub fn search<R: Rule, S: Separator>(
     requires lacks_none { IsHubSet instance.now instance.now.candidates }
     requires ready { S.ready separator.old }
     ensures ready { S.ready separator.new }
-    ensures found { IfOk result (IsFound instance.now (found_by instance.now nodes)) }
-    ensures certificate { let g = found_by instance.now nodes in
+    ensures found { IfOk result (IsFound instance.now (found_by S.kind instance.now nodes)) }
+    ensures certificate { let g = found_by S.kind instance.now nodes in
         IfOk result (λ found. (v : ℕ) → proof_of v instance.now found g.tree ≡ certificate_of instance.now v g) }
     ensures proved { IfOk result (IsProved instance.now) }
-    ensures own { IfOk result AreOwn }
+    ensures remade { S.kind ≡ minimal → IfOk result AreRemade }
     ensures paid { IfOk result (λ found. found.cost ≡ plan_cost instance.now found.plan) }
     ensures below { IfOk result (λ found. NoPlanBelow instance.now found.bound) }
     ensures within { IfOk result (λ found. found.bound ≤ found.cost) }
@@ -74,7 +74,7 @@ pub(crate) fn search_on<R: Rule, S: Separator>(
     requires no_line { lines_of progress.lines.items ≡ [] }
     ensures ready { S.ready separator.new }
     ensures found { let p = task.now.instance.now in
-        IfOk result (IsFound p (searched p (parts_of p) task.now.nodes (state_of p progress))) }
+        IfOk result (IsFound p (searched p (parts_for S.kind p) task.now.nodes (state_of p progress))) }
 {
     let mut walk = Walk {
         alloc,

@@ -5,7 +5,7 @@ ghost use Rattle.hub_spec.specs.Plans.{IsHubSet};
 ghost use Rattle.hub_spec.specs.Separation.{IsOrder};
 ghost use Rattle.cut_pool.specs.Entries.{Lacks};
 ghost use Rattle.search_spec.specs.Steps.{separated};
-ghost use Rattle.search_steps.specs.Advising.{parts_of};
+ghost use Rattle.separators.specs.Kinds.{parts_for};
 ghost use Rattle.search_progress.specs.Progressing.{state_of, IsGoing, IsAt};
 
 use crate::walk::Walk;
@@ -36,7 +36,7 @@ impl<R: Rule> Walk<'_, R> {
         ensures serves { R.serves self.new.rule.now self.new.task.now.instance.now }
         ensures at { let p = self.old.task.now.instance.now in
             OnOk result (IsAt self.old.task.now self.old.progress self.new.progress
-            (separated (parts_of p) set order.items (state_of p self.old.progress))) }
+            (separated (parts_for S.kind p) set order.items (state_of p self.old.progress))) }
     {
         separate(
             self.alloc,

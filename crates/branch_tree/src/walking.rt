@@ -5,7 +5,8 @@ ghost use Rattle.hub_spec.specs.Trees.{IsBranch, HasRoom};
 ghost use Rattle.frac_master.specs.Advice.{advice_of_code};
 ghost use Rattle.search_spec.specs.Choices.{nearest_half};
 ghost use Rattle.search_spec.specs.Steps.{fixed, halved};
-ghost use Rattle.search_steps.specs.Advising.{told_by, parts_of};
+ghost use Rattle.search_steps.specs.Advising.{told_by};
+ghost use Rattle.separators.specs.Kinds.{parts_for};
 ghost use Rattle.search_steps.specs.Weights.{AreNodeWeights, pairs_of, sides_as};
 ghost use Rattle.branch_tree.specs.Lines.{handling, IsDone};
 ghost use Rattle.search_progress.specs.Progressing.{state_of, IsGoing};
@@ -41,7 +42,7 @@ impl<R: Rule> Walk<'_, R> {
         ensures same { self.new.task.now ≡ self.old.task.now }
         ensures serves { R.serves self.new.rule.now self.new.task.now.instance.now }
         ensures done { let t = self.old.task.now in OnOk result (IsDone t self.old.progress self.new.progress
-            (handling t depth branch.now (pairs_of weights.now) (state_of t.instance.now self.old.progress))) }
+            (handling S.kind t depth branch.now (pairs_of weights.now) (state_of t.instance.now self.old.progress))) }
     {
         if let Some(line) = self.rule.end(branch) {
             return add_line(&mut self.progress, line);
@@ -88,7 +89,7 @@ impl<R: Rule> Walk<'_, R> {
         ensures serves { R.serves self.new.rule.now self.new.task.now.instance.now }
         ensures done { let t = self.old.task.now in let p = t.instance.now in
             OnOk result (IsDone t self.old.progress self.new.progress
-            (fixed p (parts_of p) t.nodes (handling t depth) (told_by (advice_of_code round.now.advice))
+            (fixed p (parts_for S.kind p) t.nodes (handling S.kind t depth) (told_by (advice_of_code round.now.advice))
             (sides_as fixings.now) branch.now (pairs_of round.now.weights.items) (state_of p self.old.progress))) }
     {
         let instance = self.task.instance;
@@ -139,7 +140,7 @@ impl<R: Rule> Walk<'_, R> {
         ensures done { let t = self.old.task.now in let p = t.instance.now in
             let k = nearest_half (told_by (advice_of_code round.now.advice)) branch.now in
             OnOk result (IsDone t self.old.progress self.new.progress
-            (halved (handling t depth) k branch.now (pairs_of round.now.weights.items) (state_of p self.old.progress))) }
+            (halved (handling S.kind t depth) k branch.now (pairs_of round.now.weights.items) (state_of p self.old.progress))) }
     {
         let k = nearest(&round.advice, branch);
         split_on(&mut self.progress, k)?;

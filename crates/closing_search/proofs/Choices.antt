@@ -14,7 +14,7 @@ use Rattle.search_spec.specs.States.{denominator, whole_on, lesser, rounded_up}
 use Rattle.search_spec.proofs.Bounds.{rounded_closes}
 use Rattle.search_spec.proofs.Keeping.{closes_less}
 use Rattle.tree_walks.specs.Walks.{IsSoundLine}
-use Rattle.kept_cuts.specs.Kept.{Kept, kept_cut, kept_cuts, IsOwn}
+use Rattle.kept_cuts.specs.Kept.{Kept, kept_cut, kept_cuts, IsRemade}
 use Rattle.closing_search.specs.declared.leaves.Choice.{Choice}
 use Rattle.closing_search.specs.SingleCuts.{cut_bound, weights_on, IsChoice}
 use Rattle.closing_search.proofs.KeptSums.{kept_are_whole}
@@ -94,7 +94,7 @@ weights_in_range cuts (Some c) few is = record {
 }
 
 pub leaf_sound : (p : Problem) (kept : List Kept) (target : ℕ) (b : Branching) (number : Option ℕ) (line : TreeLine)
-    → HasRoom p.wanted b → All IsOwn kept → IsNumber (kept_cuts p kept) number → line ≡ leaf_of denominator (weights_on number)
+    → HasRoom p.wanted b → All IsRemade kept → IsNumber (kept_cuts p kept) number → line ≡ leaf_of denominator (weights_on number)
     → Closes denominator target (leaf_bound p (kept_cuts p kept) denominator (weights_on number) b)
     → IsSoundLine p (kept_cuts p kept) target b line
 leaf_sound p kept target b number line room own is same closes =

@@ -22,9 +22,9 @@ use Rattle.search_spec.specs.Findings.{AreWithin, IsSpent, IsEnough}
 use Rattle.search_spec.proofs.Invariants.{lesser_least}
 use Rattle.tree_walks.specs.Walks.{Walks}
 use Rattle.tree_walks.proofs.Walking.{is_tree}
-use Rattle.kept_cuts.specs.Kept.{Kept, kept_cut, kept_cuts, IsOwn, IsKeptFor}
+use Rattle.kept_cuts.specs.Kept.{Kept, kept_cut, kept_cuts, IsRemade, IsKeptFor}
 use Rattle.kept_cuts.specs.declared.found.Found.{Found}
-use Rattle.kept_cuts.specs.Findings.{lines_of, proof_of, IsUnlimited, AreOwn, IsVersionFor, IsProved}
+use Rattle.kept_cuts.specs.Findings.{lines_of, proof_of, IsUnlimited, AreRemade, IsVersionFor, IsProved}
 use Rattle.kept_cuts.proofs.KeptCutLaws.{kept_is_cut, kept_in_range}
 use Rattle.kept_cuts.proofs.Versions.{has_text}
 use Rattle.closing_search.specs.declared.task.Task.{Task}
@@ -73,7 +73,7 @@ module _ (t : Task) (s : Progress) (found : Found) (over : IsOver t s) (is : IsF
   found_kept : All (IsKeptFor t.instance.now) found.cuts.cuts
   found_kept = rw is.cuts over.going.kept.fit
 
-  pub found_own : AreOwn found
+  pub found_own : AreRemade found
   found_own = rw is.cuts over.going.own
 
   pub found_within : found.bound ≤ found.cost
@@ -190,7 +190,7 @@ begun_going t s ok gap cuts lines first is_cost made stopped left =
     record {
       problem = ok;
       kept = rw cuts (record { fit = All-nil (IsKeptFor p); are_totals = refl; are_loads = refl });
-      own = rw cuts (All-nil IsOwn);
+      own = rw cuts (All-nil IsRemade);
       few_cuts = rw cuts (omega arith);
       few_lines = rw lines (omega arith);
       in_range = rw lines (All-nil (IsLineInRange p.size));

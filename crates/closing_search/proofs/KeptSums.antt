@@ -8,7 +8,7 @@ use Rattle.hub_spec.specs.Problem.{Problem, IsProblem}
 use Rattle.hub_spec.specs.Cuts.{Cut, cut_by, total, load, IsCut}
 use Rattle.hub_spec.specs.Trees.{cut_at}
 use Rattle.hub_spec.proofs.Mixes.{AreWhole}
-use Rattle.kept_cuts.specs.Kept.{Kept, by_values, by_set, given, kept_cut, kept_cuts, kept_part, IsOwn, IsKeptFor, KeptList, node_loads, AreKeptFor}
+use Rattle.kept_cuts.specs.Kept.{Kept, by_values, by_set, cored, given, kept_cut, kept_cuts, kept_part, IsRemade, IsKeptFor, KeptList, node_loads, AreKeptFor}
 use Rattle.kept_cuts.proofs.KeptCutLaws.{kept_is_cut, kept_part_is}
 use Rattle.kept_cuts.proofs.NodeLoads.{loads_are}
 use Rattle.closing_search.specs.SingleCuts.{AreLoads, AreLentOf}
@@ -21,25 +21,26 @@ one_item xs i d low =
     let one : i + 1 - i ≡ 1 = omega arith in
     ap (λ (n : ℕ). take n (drop i xs)) one ∙ ap (take 1) (drop-cons xs i d low)
 
--- ---- the part of a cut that was not given
+-- ---- the part of a cut that is made anew
 
-part_is_one : (k : Kept) → IsOwn k → kept_part k ≡ 1
+part_is_one : (k : Kept) → IsRemade k → kept_part k ≡ 1
 part_is_one (by_values rows) own = refl
 part_is_one (by_set hubs order) own = refl
+part_is_one (cored x) own = absurd own
 part_is_one (given cut) own = absurd own
 
-pub kept_whole : (p : Problem) (k : Kept) → IsOwn k → (kept_cut p k).part ≡ 1
+pub kept_whole : (p : Problem) (k : Kept) → IsRemade k → (kept_cut p k).part ≡ 1
 kept_whole p k own = kept_part_is p k ∙ part_is_one k own
 
-pub kept_are_whole : (p : Problem) (kept : List Kept) → All IsOwn kept → AreWhole (kept_cuts p kept)
+pub kept_are_whole : (p : Problem) (kept : List Kept) → All IsRemade kept → AreWhole (kept_cuts p kept)
 kept_are_whole p [] own = All-nil (λ (cut : Cut). cut.part ≡ 1)
 kept_are_whole p (k ∷ ks) own =
-    All-cons (λ (cut : Cut). cut.part ≡ 1) (kept_cut p k) (kept_cuts p ks) (kept_whole p k (All-head IsOwn k ks own))
-    (kept_are_whole p ks (All-tail IsOwn k ks own))
+    All-cons (λ (cut : Cut). cut.part ≡ 1) (kept_cut p k) (kept_cuts p ks) (kept_whole p k (All-head IsRemade k ks own))
+    (kept_are_whole p ks (All-tail IsRemade k ks own))
 
 -- ---- the numbers of a kept cut
 
-pub kept_at_number : (p : Problem) (k : KeptList) (c : ℕ) → IsProblem p → AreKeptFor p k → All IsOwn k.cuts → 1 ≤ c → c ≤ length k.cuts
+pub kept_at_number : (p : Problem) (k : KeptList) (c : ℕ) → IsProblem p → AreKeptFor p k → All IsRemade k.cuts → 1 ≤ c → c ≤ length k.cuts
     → AreLentOf p (cut_at (kept_cuts p k.cuts) c) (slice_range (map pos k.totals) (c - 1) (c - 1 + 1))
     (slice_range (map (λ xs. map pos xs) k.loads) (c - 1) (c - 1 + 1))
     (slice_range (map kept_part k.cuts) (c - 1) (c - 1 + 1))
@@ -72,7 +73,7 @@ kept_at_number p k c ok are own least most =
           ∙ ap (λ (zs : List ℤ). zs ∷ []) (get_or-map (λ xs. map pos xs) k.loads i [] [] rows_long);
       parts_are = one_item (map kept_part k.cuts) i 0 (omega (arith, length-map k.cuts kept_part, here))
           ∙ ap (λ (e : ℕ). e ∷ [])
-          (get_or-map kept_part k.cuts i (by_set [] []) 0 here ∙ part_is_one (get_or k.cuts i (by_set [] [])) (All-get_or IsOwn k.cuts i (by_set [] []) here own));
+          (get_or-map kept_part k.cuts i (by_set [] []) 0 here ∙ part_is_one (get_or k.cuts i (by_set [] [])) (All-get_or IsRemade k.cuts i (by_set [] []) here own));
     }
 
 -- ---- one cut more

@@ -17,7 +17,7 @@ use Rattle.search_spec.proofs.Leaves.{double}
 use Rattle.search_spec.proofs.Parting.{length-without}
 use Rattle.tree_walks.specs.Walks.{IsSoundLine, filled, Walks}
 use Rattle.tree_walks.proofs.Walking.{goes_on, stays}
-use Rattle.kept_cuts.specs.Kept.{Kept, kept_cut, IsOwn, IsKeptFor, AreKeptFor}
+use Rattle.kept_cuts.specs.Kept.{Kept, kept_cut, IsRemade, IsKeptFor, AreKeptFor}
 use Rattle.kept_cuts.specs.Findings.{lines_of, IsUnlimited}
 use Rattle.closing_search.specs.Ends.{IsEndLine}
 use Rattle.closing_search.specs.declared.task.Task.{Task}
@@ -214,7 +214,7 @@ pub record HasCut (before after : Progress) (cut : Kept) (sum : ℕ) (loads : Li
   pub left : after.left ≡ before.left
 
 pub cut_at_step : (t : Task) (before after : Progress) (cut : Kept) (sum : ℕ) (loads : List ℕ) → IsGoing t before → HasCut before after cut sum loads
-    → IsOwn cut → IsKeptFor t.instance.now cut → AreLoads t.instance.now (kept_cut t.instance.now cut) sum loads → length before.cuts.cuts < most_cuts
+    → IsRemade cut → IsKeptFor t.instance.now cut → AreLoads t.instance.now (kept_cut t.instance.now cut) sum loads → length before.cuts.cuts < most_cuts
     → IsAt t before after
 cut_at_step t before after cut sum loads going has own fits sums few =
     let p = t.instance.now in
@@ -222,7 +222,7 @@ cut_at_step t before after cut sum loads going has own fits sums few =
       going = record {
         problem = going.problem;
         kept = kept_more p before.cuts after.cuts cut sum loads going.kept fits sums has.cuts;
-        own = rw has.cuts (All-push IsOwn before.cuts.cuts cut going.own own);
+        own = rw has.cuts (All-push IsRemade before.cuts.cuts cut going.own own);
         few_cuts = rw has.cuts (omega (arith, length_push before.cuts.cuts cut, few));
         few_lines = rw has.lines going.few_lines;
         in_range = rw has.lines going.in_range;

@@ -9,7 +9,7 @@ use Rattle.hub_spec.specs.Ranges.{IsFirstLine, IsLineInRange}
 use Rattle.search_spec.specs.States.{lesser}
 use Rattle.search_spec.specs.Findings.{AreWithin, IsSpent, IsEnough}
 use Rattle.tree_walks.specs.Walks.{Walks}
-use Rattle.kept_cuts.specs.Kept.{kept_cuts, IsOwn, AreKeptFor}
+use Rattle.kept_cuts.specs.Kept.{kept_cuts, IsRemade, AreKeptFor}
 use Rattle.kept_cuts.specs.Findings.{lines_of, IsUnlimited}
 use Rattle.closing_search.specs.declared.task.Task.{Task}
 use Rattle.closing_search.specs.Gaps.{most_gap, IsWithinGap}
@@ -33,13 +33,13 @@ pub record AreFirstHubs (p : Problem) (hubs : List ℕ) : Type 0 where
   pub wanted : HasWanted p hubs
   pub all : p.wanted ≡ None → hubs ≡ p.candidates
 
--- what holds at each step: of the task, of the cuts, none of which was given, the lines, which each version spells where nothing
+-- what holds at each step: of the task, of the cuts, each of which is made anew, the lines, which each version spells where nothing
 -- is limited, and the incumbent, which has as many hubs as are wanted, or else costs at most what all candidates cost, of the
 -- nodes, and of the gap: unless the search stopped, what its leaves close is within it
 pub record IsGoing (t : Task) (s : Progress) : Type 0 where
   pub problem : IsProblem t.instance.now
   pub kept : AreKeptFor t.instance.now s.cuts
-  pub own : All IsOwn s.cuts.cuts
+  pub own : All IsRemade s.cuts.cuts
   pub few_cuts : length s.cuts.cuts ≤ most_cuts
   pub few_lines : length s.lines.items ≤ most_tree_lines
   pub in_range : All (IsLineInRange t.instance.now.size) (lines_of s.lines.items)

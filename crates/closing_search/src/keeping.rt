@@ -2,7 +2,7 @@
 
 ghost use Rattle.std.specs.Prelude.{◌≡◌, ◌≤◌, length, IfOk, OnOk};
 ghost use Rattle.hub_spec.specs.Trees.{cut_at};
-ghost use Rattle.kept_cuts.specs.Kept.{kept_of, kept_cut, IsOwn, IsKeptFor};
+ghost use Rattle.kept_cuts.specs.Kept.{kept_of, kept_cut, IsRemade, IsKeptFor};
 ghost use Rattle.closing_search.specs.SingleCuts.{AreLoads};
 ghost use Rattle.closing_search.specs.Progressing.{cuts_of, IsGoing, IsAt};
 ghost use Rattle.closing_search.specs.Walking.{IsSameWalk};
@@ -18,7 +18,7 @@ impl Walk<'_> {
     /// The answer is `AllocError` also where there are as many cuts as a certificate can have.
     pub(crate) fn keep(&mut self, cut: KeptCut, total: u128) -> Result<u64, AllocError>
         requires going { IsGoing self.old.task.now self.old.progress }
-        requires own { IsOwn (kept_of cut) }
+        requires own { IsRemade (kept_of cut) }
         requires fit { IsKeptFor self.old.task.now.instance.now (kept_of cut) }
         requires sums { let p = self.old.task.now.instance.now in AreLoads p (kept_cut p (kept_of cut)) total self.old.bench.loads }
         ensures same { IsSameWalk self.old self.new }

@@ -6,7 +6,7 @@ ghost use Rattle.hub_spec.specs.Problem.{IsProblem, commodities};
 ghost use Rattle.hub_spec.specs.Plans.{IsHubSet, IsSetCost, IsLeastRoute, NoPlanBelow};
 ghost use Rattle.hub_spec.specs.Trees.{root};
 ghost use Rattle.search_spec.specs.Findings.{AreWithin, IsSpent, IsEnough};
-ghost use Rattle.kept_cuts.specs.Findings.{AreOwn, IsProved};
+ghost use Rattle.kept_cuts.specs.Findings.{AreRemade, IsProved};
 ghost use Rattle.closing_search.specs.Gaps.{most_gap, IsWithinGap};
 ghost use Rattle.closing_search.specs.Progressing.{AreFirstHubs, IsGoing, IsDone, IsOver};
 
@@ -46,7 +46,7 @@ pub fn optimize<R: Threads + Sync, A: Advice + Drop>(
 ) -> Result<Found, AllocError>
     requires lacks_none { IsHubSet instance.now instance.now.candidates }
     ensures proved { IfOk result (IsProved instance.now) }
-    ensures own { IfOk result AreOwn }
+    ensures own { IfOk result AreRemade }
     ensures routes { IfOk result (λ found. AllZip (IsLeastRoute instance.now found.plan.hubs) (commodities instance.now.size) found.plan.routes) }
     ensures at_most { instance.now.wanted ≡ None
         → IfOk result (λ found. (cost : ℕ) → IsSetCost instance.now instance.now.candidates cost → found.cost ≤ cost) }
@@ -81,7 +81,7 @@ pub fn optimize_within<R: Threads + Sync, A: Advice + Drop>(
     requires gap { task.now.gap ≤ most_gap }
     requires workers { (1 ≤ task.now.workers) × (task.now.workers ≤ 64) }
     ensures proved { IfOk result (IsProved task.now.instance.now) }
-    ensures own { IfOk result AreOwn }
+    ensures own { IfOk result AreRemade }
     ensures routes { IfOk result (λ found. AllZip (IsLeastRoute task.now.instance.now found.plan.hubs) (commodities task.now.instance.now.size) found.plan.routes) }
     ensures at_most { task.now.instance.now.wanted ≡ None
         → IfOk result (λ found. (cost : ℕ) → IsSetCost task.now.instance.now task.now.instance.now.candidates cost → found.cost ≤ cost) }
@@ -171,7 +171,7 @@ fn first_hubs(instance: &Instance) -> &[u32]
 fn finish(alloc: Global, task: &Task, progress: Progress) -> Result<Found, AllocError>
     requires { IsOver task.now progress }
     ensures proved { IfOk result (IsProved task.now.instance.now) }
-    ensures own { IfOk result AreOwn }
+    ensures own { IfOk result AreRemade }
     ensures routes { let p = task.now.instance.now in
         IfOk result (λ found. AllZip (IsLeastRoute p found.plan.hubs) (commodities p.size) found.plan.routes) }
     ensures at_most { let p = task.now.instance.now in p.wanted ≡ None

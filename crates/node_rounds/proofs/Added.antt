@@ -1,26 +1,21 @@
 -- What is added to a front, and the cases of a split in code.
-use Rattle.std.proofs.Common.{◌≡◌, ◌≢◌, ℕ, ◌+◌, ◌-◌, ◌<◌, ◌≤◌, if◌then◌else◌, List, [], ◌∷◌, ◌++◌, length, map, get_or, take, drop, All, Contains, refl, ap, sym, subst, ◌∙◌, Bool, true, false, nat_eq, Option, None, is_some, append_assoc, arith}
-use Rattle.std.proofs.lemmas.List.{map-append, take_all}
-use Rattle.std.proofs.lemmas.List.Elements.{All-push, All-weaker, All-head, All-tail}
+use Rattle.std.proofs.Common.{◌≡◌, ℕ, ◌+◌, ◌≤◌, if◌then◌else◌, List, [], ◌∷◌, ◌++◌, length, map, All, refl, ap, sym, subst, ◌∙◌, Bool, true, false, nat_eq, Option, None, is_some, append_assoc, arith}
+use Rattle.std.proofs.lemmas.List.{map-append}
+use Rattle.std.proofs.lemmas.List.Elements.{All-push, All-weaker}
 use Rattle.hub_spec.specs.Limits.{most_tree_lines}
 use Rattle.hub_spec.specs.Problem.{Problem}
 use Rattle.hub_spec.specs.Trees.{Branching, open_child, closed_child, Tree, TreeLine, branch_on, leaf_of, HasRoom, preorder}
-use Rattle.hub_spec.proofs.Ascending.{without_keeps}
-use Rattle.hub_fixing.specs.declared.sides.Side as code
-use Rattle.hub_fixing.specs.declared.sides.Side.TheVariants.{In}
 use Rattle.cut_pool.specs.Entries.{Entry}
 use Rattle.search_spec.specs.States.{denominator, State, Advice, Parts}
-use Rattle.search_spec.specs.Steps.{may_split, two_more, Side, stays_open, stays_closed, child_on}
+use Rattle.search_spec.specs.Steps.{may_split, two_more, Side, stays_open, stays_closed}
 use Rattle.search_spec.specs.Choices.{rule_parts, nearest_half}
 use Rattle.search_steps.specs.Advising.{parts_of}
 use Rattle.search_steps.specs.Pools.{HasGrown}
-use Rattle.search_steps.specs.Weights.{side_as, sides_as}
 use Rattle.search_steps.proofs.GivenPools.{grown_same, grown_twice, weights_stay}
 use Rattle.search_steps.proofs.RuleChoices.{decided_alone, none_alone}
 use Rattle.search_core.specs.declared.tasks.Task.{Task}
 use Rattle.search_progress.specs.declared.progress.Progress.{Progress}
 use Rattle.search_progress.specs.Progressing.{state_of, IsGoing, IsAt}
-use Rattle.search_progress.specs.FixingsLeft.{AreOnFree}
 use Rattle.rounds_spec.specs.Places as places
 use Rattle.rounds_spec.specs.Turns.{fresh, halved, split_up, with_set, taken}
 use Rattle.rounds_spec.proofs.StepCases.{halved_both, split_one}

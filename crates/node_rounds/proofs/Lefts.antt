@@ -1,5 +1,5 @@
 -- What is left of the tree, by its marks and its nodes.
-use Rattle.std.proofs.Common.{◌≡◌, ℕ, Bool, false, nat_eq, true≢false, ◌+◌, ◌≤◌, List, [], ◌∷◌, ◌++◌, length, map, All, refl, ap, sym, subst, ◌∙◌, append_assoc, arith}
+use Rattle.std.proofs.Common.{◌≡◌, Bool, false, nat_eq, true≢false, ◌+◌, ◌≤◌, List, [], ◌∷◌, ◌++◌, length, map, All, refl, ap, sym, subst, ◌∙◌, append_assoc, arith}
 use Rattle.std.proofs.lemmas.List.Elements.{All-nil, All-cons, All-head, All-tail}
 use Rattle.std.proofs.lemmas.List.{map-append, length_push}
 use Rattle.plan_model.specs.declared.tree_lines.TreeLine as model
@@ -8,7 +8,6 @@ use Rattle.kept_cuts.specs.Findings.{lines_of}
 use Rattle.rounds_spec.specs.Places as places
 use Rattle.node_rounds.specs.declared.outcomes.Pending.{Pending}
 use Rattle.node_rounds.specs.declared.fronts.Place.{Place}
-use Rattle.node_rounds.specs.declared.fronts.Place.TheVariants as place
 use Rattle.node_rounds.specs.declared.left.Mark.{Mark}
 use Rattle.node_rounds.specs.declared.left.Mark.TheVariants.{Line, Node}
 use Rattle.node_rounds.specs.Outcomes.{pending_of}

@@ -1,12 +1,13 @@
 -- What the rule by rounds finds.
-use Rattle.std.proofs.Common.{◌≡◌, ℕ, ◌^◌, List, All, Option, IsSome, refl, ap, sym, subst}
+use Rattle.std.proofs.Common.{◌≡◌, ℕ, List, All, Option, IsSome, IsNone, ap, sym, subst}
 use Rattle.hub_spec.specs.Problem.{Problem, IsProblem}
 use Rattle.search_spec.specs.States.{State}
 use Rattle.search_spec.specs.Laws.{IsStart}
 use Rattle.search_spec.specs.Choices.{begun_for}
 use Rattle.search_steps.specs.Advising.{parts_of}
+use Rattle.separators.specs.Kinds.{CutKind, minimal, parts_for}
 use Rattle.search_steps.proofs.RuleChoices.{parts_sound}
-use Rattle.kept_cuts.specs.Findings.{AreOwn}
+use Rattle.kept_cuts.specs.Findings.{AreRemade}
 use Rattle.kept_cuts.specs.declared.found.Found.{Found}
 use Rattle.search_progress.specs.Findings.{IsFound}
 use Rattle.search_progress.proofs.KeptPools.{own_by_sets}
@@ -14,7 +15,7 @@ use Rattle.search_progress.proofs.FoundCertificates.{start_of, IsSearchable, sta
 use Rattle.rounds_spec.specs.Lasting.{searched_by_rounds, rule_by_rounds}
 use Rattle.rounds_spec.proofs.WholeRounds.{search_proof, search_counted, search_stopped, enough_nodes}
 use Rattle.node_rounds.specs.Findings.{found_by_rounds}
-use Rattle.node_rounds.proofs.OfSets.{rule_rounds_of_sets}
+use Rattle.node_rounds.proofs.OfSets.{rule_rounds_own}
 use Rattle.node_rounds.proofs.FirstPlaces.{rounds_first}
 
 -- so it is from any start
@@ -36,11 +37,17 @@ pub rounds_searched : (p : Problem) (n : Option ℕ) → IsSearchable p → IsSe
 unfolding rule_by_rounds
 rounds_searched p n ok = rounds_from p n (start_of p) ok.problem (start_is p ok)
 
--- each cut that is found is of a set
-pub rounds_own : (p : Problem) (n : Option ℕ) (found : Found) → IsSearchable p → IsFound p (found_by_rounds p n) found → AreOwn found
-rounds_own p n found ok is =
-    own_by_sets found.cuts.cuts
-    (subst (All (λ (set : Option (List ℕ)). IsSome set)) (sym is.sets) (rule_rounds_of_sets p n ok.problem ok.lacks_none))
+-- each cut that is found is made anew: it is of a set, and not marked
+pub rounds_remade : (p : Problem) (n : Option ℕ) (found : Found) → IsSearchable p → IsFound p (found_by_rounds p n) found → AreRemade found
+rounds_remade p n found ok is =
+    let own = rule_rounds_own p n in
+    own_by_sets found.cuts.cuts (subst (All (λ (set : Option (List ℕ)). IsSome set)) (sym is.sets) own.0)
+    (subst (All (λ mark. IsNone mark)) (sym is.marks) own.1)
+
+-- the rule begins so without core cuts
+pub begun_minimal : (p : Problem) (s : State) (kind : CutKind) → kind ≡ minimal → s ≡ begun_for p (parts_for kind p) p.wanted
+    → s ≡ begun_for p (parts_of p) p.wanted
+begun_minimal p s kind is begun = subst (λ (k : CutKind). s ≡ begun_for p (parts_for k p) p.wanted) is begun
 
 -- what is found from the state with which the rule begins
 pub found_from : (p : Problem) (n : Option ℕ) (s : State) → s ≡ begun_for p (parts_of p) p.wanted → searched_by_rounds p (parts_of p) n s ≡ found_by_rounds p n

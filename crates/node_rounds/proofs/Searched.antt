@@ -1,13 +1,11 @@
 -- All rounds of a search, by what the code has.
-use Rattle.std.proofs.Common.{◌≡◌, ℕ, ◌+◌, ◌^◌, ◌<◌, ◌≤◌, Bool, true, false, not, ◌&&◌, nat_eq, List, [], ◌∷◌, ◌++◌, map, length, All, Option, is_some, IsSome, IsNone, refl, ap, sym, subst, ◌∙◌, arith}
+use Rattle.std.proofs.Common.{◌≡◌, ℕ, ◌<◌, ◌≤◌, Bool, true, false, not, ◌&&◌, List, [], ◌∷◌, ◌++◌, map, length, All, Option, refl, ap, sym, subst, ◌∙◌, arith}
 use Rattle.hub_spec.specs.Problem.{Problem, IsProblem}
-use Rattle.hub_spec.specs.Plans.{IsHubSet}
-use Rattle.hub_spec.specs.Trees.{Branching, root, TreeLine, preorder}
-use Rattle.plan_model.specs.declared.tree_lines.TreeLine as model
+use Rattle.hub_spec.specs.Trees.{root, TreeLine, preorder}
 use Rattle.plan_model.specs.Lines.{tree_line_of}
 use Rattle.kept_cuts.specs.Findings.{lines_of}
-use Rattle.search_spec.specs.States.{State, Parts, Grown, is_stopped}
-use Rattle.search_spec.specs.Laws.{AreSound, IsStart}
+use Rattle.search_spec.specs.States.{State, is_stopped}
+use Rattle.search_spec.specs.Laws.{IsStart}
 use Rattle.search_steps.specs.Advising.{parts_of}
 use Rattle.search_steps.proofs.RuleChoices.{parts_sound}
 use Rattle.search_core.specs.declared.tasks.Task.{Task}

@@ -1,20 +1,14 @@
 -- What a turn comes to, by the tests that the code makes.
 use Rattle.std.proofs.Common.{◌≡◌, ℕ, ◌≤◌, ◌<◌, Bool, true, false, not, ◌&&◌, nat_lt, ltb-true, List, [], ◌∷◌, length, get_or, map, Option, Some, None, is_some, if◌then◌else◌, refl, ap, sym, ◌∙◌, arith}
-use Rattle.std.specs.List.Sorted.{IsStrictlyIncreasing}
 use Rattle.std.proofs.lemmas.Bool.{and_parts}
 use Rattle.std.proofs.lemmas.List.{length-append}
-use Rattle.hub_spec.specs.Problem.{Problem, IsProblem}
-use Rattle.hub_spec.specs.Plans.{IsHubSet}
-use Rattle.hub_spec.specs.Cuts.{Cut}
-use Rattle.hub_spec.specs.Trees.{Branching, IsBranch, Tree, branch, leaf, empty, block, count, TreeLine, leaf_of, no_hub, preorder}
+use Rattle.hub_spec.specs.Problem.{Problem}
+use Rattle.hub_spec.specs.Trees.{Tree, branch, leaf, empty, block, count, TreeLine, leaf_of, no_hub, preorder}
 use Rattle.search_spec.specs.States.{denominator, State, Advice, Parts, whole_on, number_in_pool}
 use Rattle.search_spec.specs.Steps.{closes_at, better, Side, fixings}
 use Rattle.search_spec.specs.Laws.{GoesOn}
 use Rattle.search_spec.specs.Choices.{rule_parts, order_by_point, by_falling, others}
-use Rattle.search_spec.proofs.Fixings.{AreFixings, fixings_are}
 use Rattle.search_steps.specs.Advising.{master_advising, parts_of}
-use Rattle.search_steps.proofs.RuleChoices.{parts_sound, room_when}
-use Rattle.search_progress.specs.FixingsLeft.{AreOnFree}
 use Rattle.search_progress.proofs.ToldChoices.{HasEnd}
 use Rattle.rounds_spec.specs.Places.{line, lines_of, Pending, Outcome, ends, asks, splits}
 use Rattle.rounds_spec.specs.Turns.{most_waits, turn, turn_alone, turn_advised}

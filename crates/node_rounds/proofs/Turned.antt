@@ -1,5 +1,5 @@
 -- A round: what is taken of the outcomes of the first nodes that are left.
-use Rattle.std.proofs.Common.{◌≡◌, ℕ, zero, suc, ◌+◌, ◌<◌, ◌≤◌, min, true, false, List, [], ◌∷◌, ◌++◌, map, length, All, Option, is_some, refl, ap, ap₂, sym, subst, ◌∙◌, append_assoc, append-nil, arith}
+use Rattle.std.proofs.Common.{◌≡◌, ℕ, zero, suc, ◌+◌, ◌≤◌, min, false, List, [], ◌∷◌, ◌++◌, map, length, All, Option, refl, ap, ap₂, sym, subst, ◌∙◌, append_assoc, arith}
 use Rattle.std.specs.List.{AllZip}
 use Rattle.std.proofs.lemmas.List.{length_push, same_from_push}
 use Rattle.std.proofs.lemmas.List.Elements.{All-weaker, All-nil}
@@ -9,17 +9,16 @@ use Rattle.hub_spec.proofs.SumLemmas.{by_test}
 use Rattle.plan_model.specs.declared.tree_lines.TreeLine as model
 use Rattle.plan_model.specs.Lines.{tree_line_of}
 use Rattle.kept_cuts.specs.Findings.{lines_of}
-use Rattle.cut_pool.specs.Entries.{Entry}
 use Rattle.search_spec.specs.States.{State, Parts, is_stopped}
 use Rattle.search_steps.specs.Advising.{parts_of}
 use Rattle.search_steps.specs.Pools.{HasGrown}
 use Rattle.search_steps.proofs.GivenPools.{grown_same, grown_twice}
 use Rattle.search_core.specs.declared.tasks.Task.{Task}
 use Rattle.search_progress.specs.declared.progress.Progress.{Progress}
-use Rattle.search_progress.specs.Progressing.{state_of, IsGoing}
+use Rattle.search_progress.specs.Progressing.{state_of}
 use Rattle.rounds_spec.specs.Places as places
 use Rattle.rounds_spec.specs.Places.{line, open_at, Standing}
-use Rattle.rounds_spec.specs.Turns.{turn, taken, turns_taken, next_round, most_turns}
+use Rattle.rounds_spec.specs.Turns.{taken, turns_taken, next_round, most_turns}
 use Rattle.rounds_spec.proofs.StepCases.{turned_lines, turned_stopped, turned_none, turned_first}
 use Rattle.node_rounds.specs.declared.outcomes.Pending.{Pending}
 use Rattle.node_rounds.specs.declared.outcomes.Outcome.{Outcome}

@@ -1,7 +1,6 @@
 -- What the rule by rounds finds.
 use Rattle.std.specs.Prelude.{ℕ, Option}
-use Rattle.hub_spec.specs.Problem.{Problem, IsProblem}
-use Rattle.hub_spec.specs.Plans.{IsHubSet}
+use Rattle.hub_spec.specs.Problem.{Problem}
 use Rattle.search_spec.specs.States.{Grown}
 use Rattle.search_steps.specs.Advising.{master_advising}
 use Rattle.rounds_spec.specs.Lasting.{rule_by_rounds}

@@ -9,7 +9,8 @@ ghost use Rattle.hub_spec.specs.Trees.{root, preorder};
 ghost use Rattle.search_spec.specs.Laws.{IsStart};
 ghost use Rattle.search_spec.specs.Findings.{certificate_of, AreWithin, IsSpent, IsEnough};
 ghost use Rattle.search_steps.specs.Advising.{parts_of};
-ghost use Rattle.kept_cuts.specs.Findings.{lines_of, proof_of, AreOwn, IsProved};
+ghost use Rattle.separators.specs.Kinds.{minimal};
+ghost use Rattle.kept_cuts.specs.Findings.{lines_of, proof_of, AreRemade, IsProved};
 ghost use Rattle.search_progress.specs.Progressing.{state_of, IsGoing};
 ghost use Rattle.search_progress.specs.Findings.{IsFound};
 ghost use Rattle.rounds_spec.specs.Places.{open_at};
@@ -57,8 +58,9 @@ pub(crate) struct Workers<'a, R, G> {
 /// many workers, 1 to 64, each in a thread of its own where one can be made, and a worker passes the gate once for each
 /// node that it draws, before the node's turn.
 ///
-/// Only where two nodes more are not allowed the search stops. Else cost and bound are equal and the plan is optimal. The
-/// finding is the same whatever the separator, the number of workers, their schedule and the gate are.
+/// The separator works out cuts of minimal duals. Only where two nodes more are not allowed the search stops. Else cost and
+/// bound are equal and the plan is optimal. The finding is the same whatever the separator, the number of workers, their
+/// schedule and the gate are.
 ///
 /// The answer is `AllocError` where memory runs out, and for a search that would have more cuts or tree lines than a
 /// certificate's text can have, 67,108,864 and 268,435,456.
@@ -73,6 +75,7 @@ pub fn search_rounds<R: Threads + Sync, S: Separator, G: Gate>(
 ) -> Result<Found, AllocError>
     requires plain { instance.now.wanted ≡ None }
     requires lacks_none { IsHubSet instance.now instance.now.candidates }
+    requires minimal { S.kind ≡ minimal }
     requires ready { S.ready separator.old }
     requires workers { (1 ≤ workers) × (workers ≤ 64) }
     ensures ready { S.ready separator.new }
@@ -80,7 +83,7 @@ pub fn search_rounds<R: Threads + Sync, S: Separator, G: Gate>(
     ensures certificate { let g = found_by_rounds instance.now nodes in
         IfOk result (λ found. (v : ℕ) → proof_of v instance.now found g.tree ≡ certificate_of instance.now v g) }
     ensures proved { IfOk result (IsProved instance.now) }
-    ensures own { IfOk result AreOwn }
+    ensures remade { IfOk result AreRemade }
     ensures paid { IfOk result (λ found. found.cost ≡ plan_cost instance.now found.plan) }
     ensures below { IfOk result (λ found. NoPlanBelow instance.now found.bound) }
     ensures within { IfOk result (λ found. found.bound ≤ found.cost) }
@@ -119,6 +122,7 @@ fn all_rounds<R: Threads + Sync, S: Separator, G: Gate>(
     requires workers { (1 ≤ workers.now.count) × (workers.now.count ≤ 64) }
     requires plain { task.now.instance.now.wanted ≡ None }
     requires lacks_none { IsHubSet task.now.instance.now task.now.instance.now.candidates }
+    requires minimal { S.kind ≡ minimal }
     requires ready { S.ready separator.old }
     requires going { IsGoing task.now progress }
     requires start { IsStart task.now.instance.now (state_of task.now.instance.now progress) }
@@ -177,6 +181,7 @@ fn one_round<R: Threads + Sync, S: Separator, G: Gate>(
 ) -> Result<(), AllocError>
     requires workers { (1 ≤ workers.now.count) × (workers.now.count ≤ 64) }
     requires plain { task.now.instance.now.wanted ≡ None }
+    requires minimal { S.kind ≡ minimal }
     requires ready { S.ready separator.old }
     requires left { IsLeft task.now front.old.progress left.old }
     requires no_place { front.old.places.items ≡ [] }
@@ -230,6 +235,7 @@ fn take_all<S: Separator>(
     mut outcomes: Vec<Outcome>,
 ) -> Result<(), AllocError>
     requires plain { task.now.instance.now.wanted ≡ None }
+    requires minimal { S.kind ≡ minimal }
     requires ready { S.ready separator.old }
     requires left { IsLeft task.now front.old.progress left.old }
     requires no_place { front.old.places.items ≡ [] }

@@ -5,6 +5,7 @@ ghost use Rattle.hub_spec.specs.Plans.{IsHubSet};
 ghost use Rattle.hub_spec.specs.Separation.{IsOrder};
 ghost use Rattle.hub_spec.specs.Trees.{IsBranch};
 ghost use Rattle.search_steps.specs.Advising.{parts_of};
+ghost use Rattle.separators.specs.Kinds.{minimal};
 ghost use Rattle.search_progress.specs.Progressing.{state_of, IsGoing, IsAt};
 ghost use Rattle.rounds_spec.specs.Turns.{with_set, taken};
 ghost use Rattle.node_rounds.specs.Outcomes.{pending_of, outcome_of, AreSumsOver, IsOutcomeOf};
@@ -17,7 +18,7 @@ use cut_pool::CutSums;
 use plan_model::HubSet;
 use search_core::Task;
 use search_progress::{Progress, keep, number_of, separate};
-use separators::Separator;
+use separators::{Separated, Separator};
 use std::alloc::{AllocError, Global};
 
 /// Takes the outcome of a node: what comes in the node's place is added to the front.
@@ -30,6 +31,7 @@ pub(crate) fn take<S: Separator>(
     outcome: Outcome,
 ) -> Result<(), AllocError>
     requires plain { task.now.instance.now.wanted ≡ None }
+    requires minimal { S.kind ≡ minimal }
     requires ready { S.ready separator.old }
     requires front { IsFront task.now front.old }
     requires branch { IsBranch task.now.instance.now node.branch }
@@ -87,6 +89,7 @@ fn with_set<S: Separator>(
     order: Vec<u32>,
     sums: Option<CutSums>,
 ) -> Result<(), AllocError>
+    requires minimal { S.kind ≡ minimal }
     requires ready { S.ready separator.old }
     requires going { IsGoing task.now progress.old }
     requires set { IsHubSet task.now.instance.now set }
@@ -100,7 +103,7 @@ fn with_set<S: Separator>(
         return Ok(());
     }
     match sums {
-        Some(sums) => keep(alloc, task, progress, sums, order),
+        Some(sums) => keep(alloc, task, progress, Separated::Sums(sums), order),
         None => separate(alloc, task, progress, separator, set, order),
     }
 }

@@ -22,7 +22,7 @@ use pareto_cuts::order_of;
 use plan_model::{Branch, HubSet};
 use search_core::whole_leaf;
 use search_steps::{NodeWeights, Plain, Rule, closes, is_better, leaf_line, node_advice};
-use separators::{Separator, Solo};
+use separators::Solo;
 use std::alloc::{AllocError, Global};
 
 // How often a node may ask for a set by its advice.
@@ -86,7 +86,7 @@ pub(crate) fn turn_ahead(
             sums: _,
         } => {
             let asked = set.copy(alloc)?;
-            let sums = solo.separate(alloc, instance, asked, &order)?;
+            let sums = solo.sums(alloc, instance, asked, &order)?;
             Ok(Outcome::Ask {
                 set,
                 order,

@@ -13,13 +13,14 @@ pub returns : goal.returns
 returns g c =
     let p = c.args.instance.now in
     let n = c.args.nodes in
+    let kind = g.S.Separator.kind in
     let start = start_seen c.args.start in
     let all : IsSearchable p = record { problem = c.in_ok-progress.ensures.going.problem; lacks_none = c.requires.lacks_none } in
-    let grown = found_again p n start in
+    let grown = found_again kind p n start in
     let is = IfOk-weaker c.search_on.result _ (IsFound p grown)
-    (λ found is. subst (λ (x : Grown). IsFound p x found) (again_from p n start _ c.in_ok-progress.ensures.begun) is) c.search_on.ensures.found in
+    (λ found is. subst (λ (x : Grown). IsFound p x found) (again_from kind p n start _ c.in_ok-progress.ensures.begun) is) c.search_on.ensures.found in
     let told = IfOk-weaker c.search_on.result (IsFound p grown) (IsToldOf p n grown)
-    (λ found is. told_of p n grown found (again_searched p n start all c.requires.start) is) is in
+    (λ found is. told_of p n grown found (again_searched kind p n start all c.requires.start) is) is in
     record {
       ready = c.search_on.ensures.ready;
       found = is;

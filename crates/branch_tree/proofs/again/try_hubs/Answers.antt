@@ -9,7 +9,7 @@ use Rattle.branch_tree.proofs.again.try_hubs.Goals as goal
 
 pub returns-then-not-is_tried-clause-at : goal.returns-then-not-is_tried-clause-at
 returns-then-not-is_tried-clause-at g c =
-    not_tried c.args.task.now c.args.progress.now c.in_ok-set.set c.args.hubs.now c.requires.going c.in_ok-set.ensures
+    not_tried g.S.Separator.kind c.args.task.now c.args.progress.now c.in_ok-set.set c.args.hubs.now c.requires.going c.in_ok-set.ensures
     (sym c.is_tried.ensures.is ∙ c.if-not-is_tried.true)
 
 pub separate-requires-clause-set : goal.separate-requires-clause-set
@@ -25,7 +25,7 @@ returns-clause-at g c =
     let set = c.in_ok-set.set in
     let order = c.in_ok-order.order.items in
     on_ok_weaker c.separate.result
-    (λ at. tried_at t c.args.progress.now c.separate.new.progress set c.args.hubs.now order c.in_ok-set.ensures
+    (λ at. tried_at g.S.Separator.kind t c.args.progress.now c.separate.new.progress set c.args.hubs.now order c.in_ok-set.ensures
     (sym c.is_tried.ensures.is ∙ c.if-not-is_tried.false)
     (outside_is t.instance.now set order c.requires.going.problem c.in_ok-order.ensures.order c.in_ok-order.ensures.ascend) at)
     c.separate.ensures.at

@@ -4,5 +4,5 @@ use Rattle.branch_tree.proofs.RuleFindings.{again_searched}
 use Rattle.branch_tree.proofs.laws.again_is_proved.Goals as goal
 
 pub returns : goal.returns
-returns c = λ p n start found ok all may is.
-    (told_of p n (found_again p n start) found (again_searched p n start (record { problem = ok; lacks_none = all }) may) is).proved
+returns c = λ kind p n start found ok all may is.
+    (told_of p n (found_again kind p n start) found (again_searched kind p n start (record { problem = ok; lacks_none = all }) may) is).proved

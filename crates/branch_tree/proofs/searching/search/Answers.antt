@@ -4,7 +4,7 @@ use Rattle.search_spec.specs.States.{Grown}
 use Rattle.branch_tree.specs.Findings.{found_by}
 use Rattle.search_progress.specs.Findings.{IsFound}
 use Rattle.search_progress.proofs.FoundCertificates.{IsSearchable, IsToldOf, told_of}
-use Rattle.branch_tree.proofs.RuleFindings.{rule_searched, found_own}
+use Rattle.branch_tree.proofs.RuleFindings.{rule_searched, found_remade}
 use Rattle.branch_tree.proofs.WholeSearch.{found_from}
 use Rattle.branch_tree.proofs.searching.search.Goals as goal
 
@@ -12,18 +12,19 @@ pub returns : goal.returns
 returns g c =
     let p = c.args.instance.now in
     let n = c.args.nodes in
+    let kind = g.S.Separator.kind in
     let all : IsSearchable p = record { problem = c.in_ok-progress.ensures.going.problem; lacks_none = c.requires.lacks_none } in
-    let grown = found_by p n in
+    let grown = found_by kind p n in
     let is = IfOk-weaker c.search_on.result _ (IsFound p grown)
-    (λ found is. subst (λ (x : Grown). IsFound p x found) (found_from p n _ c.in_ok-progress.ensures.begun) is) c.search_on.ensures.found in
+    (λ found is. subst (λ (x : Grown). IsFound p x found) (found_from kind p n _ c.in_ok-progress.ensures.begun) is) c.search_on.ensures.found in
     let told = IfOk-weaker c.search_on.result (IsFound p grown) (IsToldOf p n grown)
-    (λ found is. told_of p n grown found (rule_searched p n all) is) is in
+    (λ found is. told_of p n grown found (rule_searched kind p n all) is) is in
     record {
       ready = c.search_on.ensures.ready;
       found = is;
       certificate = IfOk-weaker c.search_on.result _ _ (λ f t. t.certificate) told;
       proved = IfOk-weaker c.search_on.result _ _ (λ f t. t.proved) told;
-      own = IfOk-weaker c.search_on.result _ _ (λ f is. found_own p n f all is) is;
+      remade = λ is_minimal. IfOk-weaker c.search_on.result _ _ (λ f is. found_remade kind p n f all is_minimal is) is;
       paid = IfOk-weaker c.search_on.result _ _ (λ f t. t.paid) told;
       below = IfOk-weaker c.search_on.result _ _ (λ f t. t.below) told;
       within = IfOk-weaker c.search_on.result _ _ (λ f t. t.within) told;

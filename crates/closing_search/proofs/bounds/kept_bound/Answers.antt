@@ -4,7 +4,7 @@ use Rattle.std.specs.Int.{w128}
 use Rattle.std.proofs.lemmas.Int.{to_z-of_z}
 use Rattle.hub_spec.specs.Problem.{Problem, IsProblem}
 use Rattle.hub_spec.specs.Trees.{cut_at}
-use Rattle.kept_cuts.specs.Kept.{KeptList, kept_cuts, kept_part, IsOwn, AreKeptFor}
+use Rattle.kept_cuts.specs.Kept.{KeptList, kept_cuts, kept_part, IsRemade, AreKeptFor}
 use Rattle.search_core.proofs.Weightings.{branch_below}
 use Rattle.closing_search.specs.Progressing.{cuts_of}
 use Rattle.closing_search.specs.SingleCuts.{AreLentOf, IsOnCut}
@@ -14,7 +14,7 @@ use Rattle.closing_search.proofs.bounds.kept_bound.Goals as goal
 use Rattle.closing_search.proofs.bounds.kept_bound.Goals.{After-cut_weighting-weighting}
 
 numbers : (p : Problem) (k : KeptList) (n : ℕ) (totals : List ℤ) (loads : List (Vec ℤ Global)) (parts : List ℕ)
-    → IsProblem p → AreKeptFor p k → All IsOwn k.cuts → 1 ≤ n → n ≤ length k.cuts → totals ≡ map pos k.totals
+    → IsProblem p → AreKeptFor p k → All IsRemade k.cuts → 1 ≤ n → n ≤ length k.cuts → totals ≡ map pos k.totals
     → map (λ v. v.items) loads ≡ map (λ xs. map pos xs) k.loads → parts ≡ map kept_part k.cuts
     → AreLentOf p (cut_at (kept_cuts p k.cuts) n) (slice_range totals (n - 1) (n - 1 + 1))
     (map (λ v. v.items) (slice_range loads (n - 1) (n - 1 + 1))) (slice_range parts (n - 1) (n - 1 + 1))

@@ -1,4 +1,4 @@
-use Rattle.std.proofs.Common.{◌≡◌, ◌++◌, length}
+use Rattle.std.proofs.Common.{length}
 use Rattle.node_rounds.proofs.Closed.{IsClosing}
 use Rattle.node_rounds.proofs.closing.close_up.Given as goal
 

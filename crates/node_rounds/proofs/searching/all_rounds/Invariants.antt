@@ -1,4 +1,3 @@
-use Rattle.std.proofs.Common.{◌≡◌}
 use Rattle.search_steps.specs.Advising.{parts_of}
 use Rattle.search_progress.specs.Progressing.{state_of}
 use Rattle.rounds_spec.specs.Lasting.{turns_left}

@@ -1,4 +1,4 @@
-use Rattle.std.proofs.Common.{ℤ, List, [], ◌∷◌, ◌++◌, All, sym, subst, ap, ◌∙◌, rules, arith}
+use Rattle.std.proofs.Common.{List, [], ◌∷◌, ◌++◌, All, sym, subst, ap, ◌∙◌, rules, arith}
 use Rattle.std.proofs.lemmas.List.Elements.{All-nil, All-cons}
 use Rattle.hub_spec.specs.Trees.{IsBranch}
 use Rattle.hub_spec.proofs.ChildLists.{root_branch}

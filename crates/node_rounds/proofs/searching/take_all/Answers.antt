@@ -1,4 +1,4 @@
-use Rattle.std.proofs.Common.{◌≡◌, true, false, List, [], ◌∷◌, ◌++◌, is_some, refl, ap, sym, ◌∙◌, true≢false, rules, arith}
+use Rattle.std.proofs.Common.{◌≡◌, true, false, [], ◌∷◌, ◌++◌, is_some, refl, ap, sym, ◌∙◌, true≢false, rules, arith}
 use Rattle.node_rounds.specs.declared.left.Mark.{Mark}
 use Rattle.node_rounds.specs.Outcomes.{IsPendingOf}
 use Rattle.node_rounds.proofs.Added.{outcome_kept}

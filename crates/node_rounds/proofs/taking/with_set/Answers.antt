@@ -1,10 +1,11 @@
-use Rattle.std.proofs.Common.{ℕ, List, Option, is_some, ap, sym, subst, ◌∙◌}
+use Rattle.std.proofs.Common.{ℕ, List, Option, is_some, refl, ap, sym, subst, ◌∙◌}
 use Rattle.std.specs.Prelude.{IfSome}
 use Rattle.std.proofs.lemmas.Result.{on_ok_weaker}
 use Rattle.hub_spec.specs.Plans.{IsHubSet}
 use Rattle.cut_pool.specs.Entries.{Sums, Lacks}
 use Rattle.search_spec.specs.Steps.{separated}
 use Rattle.search_steps.specs.Advising.{parts_of}
+use Rattle.separators.specs.Kinds.{CutKind, minimal, parts_for}
 use Rattle.search_progress.specs.Progressing.{state_of, IsAt}
 use Rattle.rounds_spec.proofs.StepCases.{with_known, with_new}
 use Rattle.node_rounds.specs.Outcomes.{AreSumsOver}
@@ -52,7 +53,7 @@ returns-in-Some-clause-at g c =
     (λ at. subst (IsAt t before c.keep.new.progress)
     (ap (λ (ks : List ℕ). separated (parts_of p) ks c.args.order.items (state_of p before)) are.hubs
     ∙ with_new (parts_of p) c.args.set c.args.order.items (state_of p before) unknown) at)
-    c.keep.ensures
+    (c.keep.ensures minimal (record { kept = refl; sums = are.is }))
 
 pub returns-in-None-clause-at : goal.returns-in-None-clause-at
 returns-in-None-clause-at g c =
@@ -61,5 +62,6 @@ returns-in-None-clause-at g c =
     let before = c.args.progress.now in
     let unknown = ap (λ (o : Option ℕ). is_some o) (sym (c.number_of.ensures.number p)) ∙ sym c.is_some.ensures ∙ c.if-is_some.false in
     on_ok_weaker c.separate.result
-    (λ at. subst (IsAt t before c.separate.new.progress) (with_new (parts_of p) c.args.set c.args.order.items (state_of p before) unknown) at)
+    (λ at. subst (IsAt t before c.separate.new.progress) (ap (λ (k : CutKind). separated (parts_for k p) c.args.set c.args.order.items (state_of p before)) c.requires.minimal
+    ∙ with_new (parts_of p) c.args.set c.args.order.items (state_of p before) unknown) at)
     c.separate.ensures.at

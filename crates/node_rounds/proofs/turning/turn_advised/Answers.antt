@@ -1,4 +1,4 @@
-use Rattle.std.proofs.Common.{[], None, false, ℤ, pos, List, slice_index_or, subst, ap, sym, ◌∙◌}
+use Rattle.std.proofs.Common.{[], None, ℤ, pos, List, slice_index_or, subst, ap, sym, ◌∙◌}
 use Rattle.hub_spec.specs.Trees.{TreeLine, leaf_of}
 use Rattle.frac_master.specs.Advice.{advice_of_code}
 use Rattle.search_spec.specs.States.{denominator}

@@ -6,14 +6,14 @@ use Rattle.search_steps.specs.Pools.{IsSumsOf}
 use Rattle.node_rounds.specs.Outcomes.{IsTurnOf, IsOutcomeOf}
 use Rattle.node_rounds.proofs.turning.turn_ahead.Goals as goal
 
-pub separate-requires-clause-set : goal.separate-requires-clause-set
-separate-requires-clause-set c =
+pub sums-requires-clause-set : goal.sums-requires-clause-set
+sums-requires-clause-set c =
     let p = c.args.instance.now in
     let outcome = subst (IsOutcomeOf p c.args.pool.now.entries c.args.node.now) c.in-Ask.is c.in_ok-outcome.ensures.sound in
     subst (IsHubSet p) (sym c.in_ok-asked-in-Ask.ensures) outcome.0
 
-pub separate-requires-clause-order : goal.separate-requires-clause-order
-separate-requires-clause-order c =
+pub sums-requires-clause-order : goal.sums-requires-clause-order
+sums-requires-clause-order c =
     let p = c.args.instance.now in
     let outcome = subst (IsOutcomeOf p c.args.pool.now.entries c.args.node.now) c.in-Ask.is c.in_ok-outcome.ensures.sound in
     subst (λ (ks : List ℕ). IsOrder p ks c.deref.result.now) (sym c.in_ok-asked-in-Ask.ensures)

@@ -12,6 +12,7 @@ use Rattle.search_spec.specs.Laws.{GoesOn}
 use Rattle.search_spec.proofs.StepCases.{after_closed, after_open}
 use Rattle.search_spec.proofs.Parting.{length-without}
 use Rattle.search_steps.specs.Advising.{told_by, parts_of}
+use Rattle.separators.specs.Kinds.{parts_for}
 use Rattle.search_steps.specs.Weights.{pairs_of, side_as, sides_as, AreNodeWeights}
 use Rattle.search_steps.proofs.GivenPools.{weights_stay, grown_twice}
 use Rattle.search_steps.proofs.RuleChoices.{room_when}
@@ -40,25 +41,27 @@ fixed-end_branch-requires-clause-alone g t c =
 pub fixed-returns-in-Some-clause-done : goal.fixed-returns-in-Some-clause-done
 fixed-returns-in-Some-clause-done g t c =
     let task = c.args.self.now.task.now in
+    let kind = g.S.Separator.kind in
     let p = task.instance.now in
     let before = c.args.self.now.progress in
     let b = c.args.branch.now in
     let alone = told_alone ((parts_of p).only b) c.in_ok-hubs.field-0 c.in-Some.hubs c.in_ok-hubs.ensures c.in-Some.is
     ∙ ap (λ (ks : List ℕ). Some ks) (sym c.deref.ensures.value) in
-    let is = fixed_alone task (handling task c.args.depth) (told_by (advice_of_code c.args.round.now.advice)) (sides_as c.args.fixings.now) b
+    let is = fixed_alone kind task (handling kind task c.args.depth) (told_by (advice_of_code c.args.round.now.advice)) (sides_as c.args.fixings.now) b
     (pairs_of c.args.round.now.weights.items) (state_of p before) c.deref.result.now alone in
     on_ok_weaker c.end_branch.result (λ done. done_as task before c.end_branch.new.self.progress _ _ is done) c.end_branch.ensures.ended
 
 pub fixed-returns-then-not-may_split-clause-done : goal.fixed-returns-then-not-may_split-clause-done
 fixed-returns-then-not-may_split-clause-done g t c =
     let task = c.args.self.now.task.now in
+    let kind = g.S.Separator.kind in
     let p = task.instance.now in
     let before = c.args.self.now.progress in
     let b = c.args.branch.now in
     let s = state_of p before in
     let only = told_none_alone ((parts_of p).only b) c.in_ok-hubs.field-0 c.in_ok-hubs.ensures c.in_default.is in
     let is = ap (λ (ws : List ℤ). stopped_leaf p b (pairs_of ws) s) c.deref-then-not-may_split.ensures.value
-    ∙ fixed_stopped task (handling task c.args.depth) (told_by (advice_of_code c.args.round.now.advice)) (sides_as c.args.fixings.now) b
+    ∙ fixed_stopped kind task (handling kind task c.args.depth) (told_by (advice_of_code c.args.round.now.advice)) (sides_as c.args.fixings.now) b
     (pairs_of c.args.round.now.weights.items) s only (sym c.may_split.ensures ∙ c.if-not-may_split.true) in
     on_ok_weaker c.stopped_leaf.result (λ done. done_as task before c.stopped_leaf.new.self.progress _ _ is done) c.stopped_leaf.ensures.stopped
 
@@ -98,11 +101,12 @@ fixed-halved-requires g t c κs within =
 pub fixed-returns-in-empty-clause-done : goal.fixed-returns-in-empty-clause-done
 fixed-returns-in-empty-clause-done g t c =
     let task = c.args.self.now.task.now in
+    let kind = g.S.Separator.kind in
     let p = task.instance.now in
     let before = c.args.self.now.progress in
     let b = c.args.branch.now in
     let only = told_none_alone ((parts_of p).only b) c.in_ok-hubs.field-0 c.in_ok-hubs.ensures c.in_default.is in
-    let is = fixed_halved task (handling task c.args.depth) (told_by (advice_of_code c.args.round.now.advice)) (sides_as c.args.fixings.now) b
+    let is = fixed_halved kind task (handling kind task c.args.depth) (told_by (advice_of_code c.args.round.now.advice)) (sides_as c.args.fixings.now) b
     (pairs_of c.args.round.now.weights.items) (state_of p before) only (sym c.may_split.ensures ∙ c.if-not-may_split.false)
     (none_left c.args.fixings.now c.in-empty.len_below) in
     on_ok_weaker c.halved.result (λ done. done_as task before c.halved.new.self.progress _ _ is done) c.halved.ensures.done
@@ -220,12 +224,13 @@ fixed-fixed-requires-in-Out g t c κs within =
 pub fixed-returns-in_ok-fixed-in-In-clause-done : goal.fixed-returns-in_ok-fixed-in-In-clause-done
 fixed-returns-in_ok-fixed-in-In-clause-done g t c =
     let task = c.args.self.now.task.now in
+    let kind = g.S.Separator.kind in
     let p = task.instance.now in
     let before = c.args.self.now.progress in
     let begun = c.split_on.new.progress in
     let middle = c.fixed.new.self.progress in
     let after = c.add_leaf.new.self.progress in
-    let go = handling task c.args.depth in
+    let go = handling kind task c.args.depth in
     let a = told_by (advice_of_code c.args.round.now.advice) in
     let w = pairs_of c.args.round.now.weights.items in
     let b = c.args.branch.now in
@@ -236,9 +241,9 @@ fixed-returns-in_ok-fixed-in-In-clause-done g t c =
     let all = sides_split c.args.fixings.now c.in-len1-up.len_at_least in
     let only = told_none_alone ((parts_of p).only b) c.in_ok-hubs.field-0 c.in_ok-hubs.ensures c.in_default.is in
     let on_side = all ∙ ap (λ (x : code.Side). (k, side_as x) ∷ rest) c.in-In.is in
-    let kept = fixed p (parts_of p) task.nodes go a rest c.in_ok-child-in-In.child w (state_of p begun) in
+    let kept = fixed p (parts_for kind p) task.nodes go a rest c.in_ok-child-in-In.child w (state_of p begun) in
     let next = begun_state p before begun k c.in_ok-split_on.ensures.line in
-    let is = fixed_next task go a (k, stays_open) rest (sides_as c.args.fixings.now) b c.in_ok-child-in-In.child w s (state_of p begun)
+    let is = fixed_next kind task go a (k, stays_open) rest (sides_as c.args.fixings.now) b c.in_ok-child-in-In.child w s (state_of p begun)
     only on_side (sym c.may_split.ensures ∙ c.if-not-may_split.false) c.in_ok-child-in-In.ensures next in
     on_ok_weaker c.add_leaf.result
     (λ done. done_as task before after _ _ is
@@ -253,12 +258,13 @@ fixed-returns-in_ok-fixed-in-In-clause-done g t c =
 pub fixed-returns-in_ok-add_leaf-in-Out-clause-done : goal.fixed-returns-in_ok-add_leaf-in-Out-clause-done
 fixed-returns-in_ok-add_leaf-in-Out-clause-done g t c =
     let task = c.args.self.now.task.now in
+    let kind = g.S.Separator.kind in
     let p = task.instance.now in
     let before = c.args.self.now.progress in
     let begun = c.split_on.new.progress in
     let middle = c.add_leaf-in-Out.new.self.progress in
     let after = c.fixed-in-Out.new.self.progress in
-    let go = handling task c.args.depth in
+    let go = handling kind task c.args.depth in
     let a = told_by (advice_of_code c.args.round.now.advice) in
     let w = pairs_of c.args.round.now.weights.items in
     let b = c.args.branch.now in
@@ -269,18 +275,18 @@ fixed-returns-in_ok-add_leaf-in-Out-clause-done g t c =
     let all = sides_split c.args.fixings.now c.in-len1-up.len_at_least in
     let only = told_none_alone ((parts_of p).only b) c.in_ok-hubs.field-0 c.in_ok-hubs.ensures c.in_default.is in
     let on_side = all ∙ ap (λ (x : code.Side). (k, side_as x) ∷ rest) c.in-Out.is in
-    let kept = fixed p (parts_of p) task.nodes go a rest c.in_ok-child-in-Out.child w (state_of p middle) in
+    let kept = fixed p (parts_for kind p) task.nodes go a rest c.in_ok-child-in-Out.child w (state_of p middle) in
     let leaf_added = done_as task begun middle _ _
     (ap (λ (ws : List ℤ). record { state = state_of p begun; tree = leaf denominator (pairs_of ws) }) c.deref-in-Out.ensures.value)
     c.in_ok-add_leaf-in-Out.ensures.added in
     let next = leaf_added.state ∙ begun_state p before begun k c.in_ok-split_on.ensures.line in
-    let is = fixed_next task go a (k, stays_closed) rest (sides_as c.args.fixings.now) b c.in_ok-child-in-Out.child w s (state_of p middle)
+    let is = fixed_next kind task go a (k, stays_closed) rest (sides_as c.args.fixings.now) b c.in_ok-child-in-Out.child w s (state_of p middle)
     only on_side (sym c.may_split.ensures ∙ c.if-not-may_split.false) c.in_ok-child-in-Out.ensures next in
     on_ok_weaker c.fixed-in-Out.result
     (λ done. done_as task before after _ _ is
     (closed_done task before begun middle after k (before.made + 2) before.stop w kept c.in_ok-split_on.ensures.line leaf_added
     (done_by task c.add_leaf-in-Out.new.self.task.now middle after
-    (λ x. fixed x.instance.now (parts_of x.instance.now) x.nodes (handling x c.args.depth) a rest c.in_ok-child-in-Out.child w (state_of x.instance.now middle))
+    (λ x. fixed x.instance.now (parts_for kind x.instance.now) x.nodes (handling kind x c.args.depth) a rest c.in_ok-child-in-Out.child w (state_of x.instance.now middle))
     c.in_ok-add_leaf-in-Out.ensures.same done)))
     c.fixed-in-Out.ensures.done
 
@@ -289,12 +295,13 @@ fixed-returns-in_ok-add_leaf-in-Out-clause-done g t c =
 pub node-returns-in-Some-clause-done : goal.node-returns-in-Some-clause-done
 node-returns-in-Some-clause-done g t c =
     let task = c.args.self.now.task.now in
+    let kind = g.S.Separator.kind in
     let p = task.instance.now in
     let b = c.args.branch.now in
     let before = c.args.self.now.progress in
     let after = c.add_line.new.progress in
     let end = told_end ((parts_of p).barren b) c.end.result c.in-Some.line (c.end.ensures p c.requires.serves) c.in-Some.is in
-    let is = node_ended task c.args.depth b (pairs_of c.args.weights.now) (state_of p before) end.tree (omega (arith, c.requires.deep)) end.is in
+    let is = node_ended kind task c.args.depth b (pairs_of c.args.weights.now) (state_of p before) end.tree (omega (arith, c.requires.deep)) end.is in
     on_ok_weaker c.add_line.result
     (λ has. done_as task before after _ _ is
     (line_done task before after end.tree (tree_line_of c.in-Some.line) before.made before.stop c.requires.going end.one c.requires.going.made has))
@@ -309,11 +316,12 @@ node-stopped_leaf-requires-clause-room g t c =
 pub node-returns-then-is_some-clause-done : goal.node-returns-then-is_some-clause-done
 node-returns-then-is_some-clause-done g t c =
     let task = c.args.self.now.task.now in
+    let kind = g.S.Separator.kind in
     let p = task.instance.now in
     let b = c.args.branch.now in
     let before = c.args.self.now.progress in
     let barren = told_no_end ((parts_of p).barren b) c.end.result (c.end.ensures p c.requires.serves) c.in_default.is in
-    let is = node_stopped task c.args.depth b (pairs_of c.args.weights.now) (state_of p before)
+    let is = node_stopped kind task c.args.depth b (pairs_of c.args.weights.now) (state_of p before)
     (omega (arith, c.requires.deep)) barren (sym c.is_some.ensures ∙ c.if-is_some.true) in
     on_ok_weaker c.stopped_leaf.result (λ done. done_as task before c.stopped_leaf.new.self.progress _ _ is done) c.stopped_leaf.ensures.stopped
 
@@ -325,13 +333,14 @@ node-blocked-requires-clause-no_end g t c =
 pub node-returns-in-Some-2-clause-done : goal.node-returns-in-Some-2-clause-done
 node-returns-in-Some-2-clause-done g t c =
     let task = c.args.self.now.task.now in
+    let kind = g.S.Separator.kind in
     let p = task.instance.now in
     let b = c.args.branch.now in
     let before = c.args.self.now.progress in
     let after = c.add_line-in-Some-2.new.progress in
     let barren = told_no_end ((parts_of p).barren b) c.end.result (c.end.ensures p c.requires.serves) c.in_default.is in
     let end = told_end ((parts_of p).blocked b) c.in_ok-line.field-0 c.in-Some-2.line c.in_ok-line.ensures c.in-Some-2.is in
-    let is = node_blocked task c.args.depth b (pairs_of c.args.weights.now) (state_of p before) end.tree (omega (arith, c.requires.deep)) barren
+    let is = node_blocked kind task c.args.depth b (pairs_of c.args.weights.now) (state_of p before) end.tree (omega (arith, c.requires.deep)) barren
     (sym c.is_some.ensures ∙ c.if-is_some.false) end.is in
     on_ok_weaker c.add_line-in-Some-2.result
     (λ has. done_as task before after _ _ is
@@ -351,13 +360,14 @@ node-full_leaf-requires-clause-set g t c =
 pub node-returns-in-Some-3-clause-done : goal.node-returns-in-Some-3-clause-done
 node-returns-in-Some-3-clause-done g t c =
     let task = c.args.self.now.task.now in
+    let kind = g.S.Separator.kind in
     let p = task.instance.now in
     let b = c.args.branch.now in
     let before = c.args.self.now.progress in
     let barren = told_no_end ((parts_of p).barren b) c.end.result (c.end.ensures p c.requires.serves) c.in_default.is in
     let alone = told_alone ((parts_of p).only b) c.in_ok-hubs.field-0 c.in-Some-3.hubs c.in_ok-hubs.ensures c.in-Some-3.is
     ∙ ap (λ (ks : List ℕ). Some ks) (sym c.deref.ensures.value) in
-    let is = node_full task c.args.depth b (pairs_of c.args.weights.now) (state_of p before) c.deref.result.now (omega (arith, c.requires.deep)) barren
+    let is = node_full kind task c.args.depth b (pairs_of c.args.weights.now) (state_of p before) c.deref.result.now (omega (arith, c.requires.deep)) barren
     (sym c.is_some.ensures ∙ c.if-is_some.false) (told_no_end ((parts_of p).blocked b) c.in_ok-line.field-0 c.in_ok-line.ensures c.in_default-2.is) alone in
     on_ok_weaker c.full_leaf.result (λ done. done_as task before c.full_leaf.new.self.progress _ _ is done) c.full_leaf.ensures.full
 
@@ -372,13 +382,14 @@ node-rounds-requires-clause-goes_on g t c =
 pub node-returns-then-closes_cost-clause-done : goal.node-returns-then-closes_cost-clause-done
 node-returns-then-closes_cost-clause-done g t c =
     let task = c.args.self.now.task.now in
+    let kind = g.S.Separator.kind in
     let p = task.instance.now in
     let b = c.args.branch.now in
     let before = c.args.self.now.progress in
     let middle = c.rounds.new.self.progress in
     let after = c.add_leaf.new.self.progress in
     let s = state_of p before in
-    let go = handling task (c.args.depth - 1) in
+    let go = handling kind task (c.args.depth - 1) in
     let on = goes_on p b (told_no_end ((parts_of p).barren b) c.end.result (c.end.ensures p c.requires.serves) c.in_default.is)
     (told_no_end ((parts_of p).blocked b) c.in_ok-line.field-0 c.in_ok-line.ensures c.in_default-2.is)
     (told_none_alone ((parts_of p).only b) c.in_ok-hubs.field-0 c.in_ok-hubs.ensures c.in_default-3.is) in
@@ -389,8 +400,8 @@ node-returns-then-closes_cost-clause-done g t c =
     ∙ ap (λ (x : Task). steps.closes_at x.instance.now (state_of x.instance.now middle) b (pairs_of c.deref-2.result.now)) same
     ∙ ap (λ (ws : List ℤ). steps.closes_at p (state_of p middle) b (pairs_of ws)) c.deref-2.ensures.value in
     let is = ap (λ (ws : List ℤ). record { state = state_of p middle; tree = leaf denominator (pairs_of ws) }) c.deref-then-closes_cost.ensures.value
-    ∙ sym (after_closed p (parts_of p) task.nodes go b r (sym closes ∙ c.if-closes_cost.true))
-    ∙ node_explored task c.args.depth b (pairs_of c.args.weights.now) s r (omega (arith, c.requires.deep)) on
+    ∙ sym (after_closed p (parts_for kind p) task.nodes go b r (sym closes ∙ c.if-closes_cost.true))
+    ∙ node_explored kind task c.args.depth b (pairs_of c.args.weights.now) s r (omega (arith, c.requires.deep)) on
     (sym c.is_some.ensures ∙ c.if-is_some.false) left.is in
     on_ok_weaker c.add_leaf.result
     (λ done. done_as task before after _ _ is (later_done task before middle after _ left.lines left.kept
@@ -460,13 +471,14 @@ node-fixed-requires g t c κs within =
 pub node-returns-clause-done : goal.node-returns-clause-done
 node-returns-clause-done g t c =
     let task = c.args.self.now.task.now in
+    let kind = g.S.Separator.kind in
     let p = task.instance.now in
     let b = c.args.branch.now in
     let before = c.args.self.now.progress in
     let middle = c.rounds.new.self.progress in
     let after = c.fixed.new.self.progress in
     let s = state_of p before in
-    let go = handling task (c.args.depth - 1) in
+    let go = handling kind task (c.args.depth - 1) in
     let on = goes_on p b (told_no_end ((parts_of p).barren b) c.end.result (c.end.ensures p c.requires.serves) c.in_default.is)
     (told_no_end ((parts_of p).blocked b) c.in_ok-line.field-0 c.in_ok-line.ensures c.in_default-2.is)
     (told_none_alone ((parts_of p).only b) c.in_ok-hubs.field-0 c.in_ok-hubs.ensures c.in_default-3.is) in
@@ -479,14 +491,14 @@ node-returns-clause-done g t c =
     let closes = c.closes_cost.ensures
     ∙ ap (λ (x : Task). steps.closes_at x.instance.now (state_of x.instance.now middle) b (pairs_of c.deref-2.result.now)) same
     ∙ ap (λ (ws : List ℤ). steps.closes_at p (state_of p middle) b (pairs_of ws)) c.deref-2.ensures.value in
-    let is = ap (λ (fs : List (ℕ × steps.Side)). fixed p (parts_of p) task.nodes go r.advice fs b r.weights r.state) are
-    ∙ sym (after_open p (parts_of p) task.nodes go b r (sym closes ∙ c.if-closes_cost.false))
-    ∙ node_explored task c.args.depth b (pairs_of c.args.weights.now) s r (omega (arith, c.requires.deep)) on
+    let is = ap (λ (fs : List (ℕ × steps.Side)). fixed p (parts_for kind p) task.nodes go r.advice fs b r.weights r.state) are
+    ∙ sym (after_open p (parts_for kind p) task.nodes go b r (sym closes ∙ c.if-closes_cost.false))
+    ∙ node_explored kind task c.args.depth b (pairs_of c.args.weights.now) s r (omega (arith, c.requires.deep)) on
     (sym c.is_some.ensures ∙ c.if-is_some.false) left.is in
     on_ok_weaker c.fixed.result
     (λ done. done_as task before after _ _ is (later_done task before middle after _ left.lines left.kept
     (done_by task c.rounds.new.self.task.now middle after
-    (λ x. fixed x.instance.now (parts_of x.instance.now) x.nodes (handling x (c.args.depth - 1)) r.advice (sides_as c.deref-4.result.now) b r.weights
+    (λ x. fixed x.instance.now (parts_for kind x.instance.now) x.nodes (handling kind x (c.args.depth - 1)) r.advice (sides_as c.deref-4.result.now) b r.weights
     (state_of x.instance.now middle)) same done)))
     c.fixed.ensures.done
 
@@ -578,12 +590,13 @@ halved-node-requires-2 g t c κs within =
 pub halved-returns-clause-done : goal.halved-returns-clause-done
 halved-returns-clause-done g t c =
     let task = c.args.self.now.task.now in
+    let kind = g.S.Separator.kind in
     let p = task.instance.now in
     let before = c.args.self.now.progress in
     let begun = c.split_on.new.progress in
     let middle = c.node.new.self.progress in
     let after = c.node-2.new.self.progress in
-    let go = handling task c.args.depth in
+    let go = handling kind task c.args.depth in
     let w = pairs_of c.args.round.now.weights.items in
     let b = c.args.branch.now in
     let first = c.in_ok-opened.opened in
@@ -601,5 +614,5 @@ halved-returns-clause-done g t c =
     (done_as task middle after _ _
     (ap (λ (ws : List ℤ). go second (pairs_of ws) (state_of p middle)) c.deref-2.ensures.value ∙ ap (λ (x : State). go second w x) opened.state)
     (done_by task c.node.new.self.task.now middle after
-    (λ x. handling x c.args.depth second (pairs_of c.deref-2.result.now) (state_of x.instance.now middle)) c.in_ok-node.ensures.same done))))
+    (λ x. handling kind x c.args.depth second (pairs_of c.deref-2.result.now) (state_of x.instance.now middle)) c.in_ok-node.ensures.same done))))
     c.node-2.ensures.done

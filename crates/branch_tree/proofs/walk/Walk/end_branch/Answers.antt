@@ -1,4 +1,3 @@
-use Rattle.std.proofs.Common.{arith}
 use Rattle.std.proofs.lemmas.Result.{on_ok_weaker}
 use Rattle.plan_model.specs.Lines.{tree_line_of}
 use Rattle.search_steps.specs.Advising.{parts_of}
@@ -17,7 +16,7 @@ returns-in-Some-clause-ended g c =
     let b = c.args.branch.now in
     let end = told_end ((parts_of p).barren b) c.end.result c.in-Some.line (c.end.ensures p c.requires.serves) c.in-Some.is in
     on_ok_weaker c.add_line.result
-    (λ has. done_as t before c.add_line.new.progress _ _ (ended_line p b (state_of p before) c.args.hubs.now end.tree end.is)
+    (λ has. done_as t before c.add_line.new.progress _ _ (ended_line g.S.Separator.kind p b (state_of p before) c.args.hubs.now end.tree end.is)
     (line_done t before c.add_line.new.progress end.tree (tree_line_of c.in-Some.line) before.made before.stop c.requires.going end.one c.requires.going.made has))
     c.add_line.ensures
 
@@ -35,7 +34,7 @@ returns-in-Some-2-clause-ended g c =
     let barren = told_no_end ((parts_of p).barren b) c.end.result (c.end.ensures p c.requires.serves) c.in_default.is in
     let end = told_end ((parts_of p).blocked b) c.in_ok-line.field-0 c.in-Some-2.line c.in_ok-line.ensures c.in-Some-2.is in
     on_ok_weaker c.add_line-in-Some-2.result
-    (λ has. done_as t before c.add_line-in-Some-2.new.progress _ _ (ended_blocked p b (state_of p before) c.args.hubs.now end.tree barren end.is)
+    (λ has. done_as t before c.add_line-in-Some-2.new.progress _ _ (ended_blocked g.S.Separator.kind p b (state_of p before) c.args.hubs.now end.tree barren end.is)
     (line_done t before c.add_line-in-Some-2.new.progress end.tree (tree_line_of c.in-Some-2.line) before.made before.stop c.requires.going end.one c.requires.going.made has))
     c.add_line-in-Some-2.ensures
 
@@ -56,5 +55,5 @@ returns-clause-ended g c =
     let barren = told_no_end ((parts_of p).barren b) c.end.result (c.end.ensures p c.requires.serves) c.in_default.is in
     let blocked = told_no_end ((parts_of p).blocked b) c.in_ok-line.field-0 c.in_ok-line.ensures c.in_default-2.is in
     on_ok_weaker c.full_leaf.result
-    (λ done. done_as t before c.full_leaf.new.self.progress _ _ (ended_full p b (state_of p before) c.args.hubs.now barren blocked) done)
+    (λ done. done_as t before c.full_leaf.new.self.progress _ _ (ended_full g.S.Separator.kind p b (state_of p before) c.args.hubs.now barren blocked) done)
     c.full_leaf.ensures.full

@@ -32,7 +32,7 @@ returns-then-closes_cost-clause-round g c =
     } in
     let closes = c.closes_cost.ensures ∙ ap (λ (ws : List ℤ). closes_at p s b (pairs_of ws)) c.deref-2.ensures.value in
     record {
-      is = round_ends p b w s a best taken (inl (sym closes ∙ c.if-closes_cost.true));
+      is = round_ends g.S.Separator.kind p b w s a best taken (inl (sym closes ∙ c.if-closes_cost.true));
       lines = refl;
       going = c.requires.going;
       kept = grown_same before.pool.entries;
@@ -57,7 +57,7 @@ returns-then-is_some-clause-round g c =
     let known : is_some (number_in_pool s c.in_ok-set.set) ≡ true =
     ap (λ (o : Option ℕ). is_some o) (sym (c.number_of.ensures.number p)) ∙ sym c.is_some.ensures ∙ c.if-is_some.true in
     record {
-      is = round_ends p b w s a best taken (inr (ap (λ (x : List ℕ). is_some (number_in_pool s x)) (sym set) ∙ known));
+      is = round_ends g.S.Separator.kind p b w s a best taken (inr (ap (λ (x : List ℕ). is_some (number_in_pool s x)) (sym set) ∙ known));
       lines = refl;
       going = c.requires.going;
       kept = grown_same before.pool.entries;
@@ -85,7 +85,7 @@ returns-clause-round g c =
     ∙ ap (λ (point : List ℤ). by_falling (λ k. get_or point k (pos 0)) (others p c.in_ok-set.set)) c.deref-3.ensures.value in
     let at = c.in_ok-separate.ensures.at in
     record {
-      is = round_goes p b w s a best c.in_ok-set.set c.in_ok-order.order.items (state_of p c.separate.new.self.progress) taken
+      is = round_goes g.S.Separator.kind p b w s a best c.in_ok-set.set c.in_ok-order.order.items (state_of p c.separate.new.self.progress) taken
           (sym closes ∙ c.if-closes_cost.false) set unknown order at.state;
       lines = at.lines;
       going = at.going;
