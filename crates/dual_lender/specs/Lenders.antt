@@ -6,7 +6,7 @@ use Rattle.hub_spec.specs.Separation.{minimal_dual}
 use Rattle.value_cuts.specs.Values.{ValueRows, row_for, value_dual}
 use Rattle.value_cuts.specs.Prices.{ArePricesFrom}
 use Rattle.pareto_cuts.specs.Scratches.{ScratchParts, IsReadyFor, HasDualsFrom}
-use Rattle.kept_cuts.specs.Kept.{Kept, by_values, by_set, given}
+use Rattle.kept_cuts.specs.Kept.{Kept, by_values, by_set, cored, given}
 use Rattle.kept_cuts.specs.Packed.{AreRowsFrom}
 
 -- the dual of the commodity by its row of the values
@@ -25,6 +25,7 @@ stated_dual cut t = slice_index_or cut.duals t no_dual
 abbrev pub kept_dual : Problem → Kept → ℕ × ℕ → Prices
 kept_dual p (by_values rows) c = commodity_dual p rows c
 kept_dual p (by_set hubs order) c = minimal_dual p hubs order c
+kept_dual p (cored x) c = stated_dual x.cut (c.0 * p.size + c.1)
 kept_dual p (given cut) c = stated_dual cut (c.0 * p.size + c.1)
 
 -- ---- duals by values
@@ -44,12 +45,12 @@ pub record HasPricesFrom (p : Problem) (w : ValueRows) (i : ℕ) (s : RoomState)
 
 -- ---- duals of any kept cut
 
--- room for duals by values, and for those of a hub set, the dual that was made last of a given cut, and the dual that is
--- held beside the one that was made last
+-- room for duals by values, and for those of a hub set, the dual that was made last of a cut that is kept with its duals, and
+-- the dual that is held beside the one that was made last
 pub record LenderState : Type 0 where
   pub values : RoomState
   pub sets : ScratchParts
-  pub given : Prices
+  pub stated : Prices
   pub held : Prices
 
 -- the lender is for this problem
@@ -60,6 +61,7 @@ IsLenderFor p s = s.values.problem ≡ p
 abbrev pub HasLegsOf : Problem → Kept → LenderState → Type 0
 HasLegsOf p (by_values rows) s = Unit {0}
 HasLegsOf p (by_set hubs order) s = IsReadyFor p hubs order s.sets
+HasLegsOf p (cored x) s = Unit {0}
 HasLegsOf p (given cut) s = Unit {0}
 
 -- the lender is for the problem, and ready for the cut
@@ -71,6 +73,7 @@ pub record IsReady (p : Problem) (kept : Kept) (s : LenderState) : Type 0 where
 abbrev pub HasRowOf : Problem → Kept → ℕ → LenderState → Type 0
 HasRowOf p (by_values rows) i s = HasPricesFrom p rows i s.values
 HasRowOf p (by_set hubs order) i s = HasDualsFrom p hubs order i s.sets
+HasRowOf p (cored x) i s = Unit {0}
 HasRowOf p (given cut) i s = Unit {0}
 
 -- the lender is for the problem, and ready for the duals of the cut from i
@@ -82,4 +85,5 @@ pub record HasDuals (p : Problem) (kept : Kept) (i : ℕ) (s : LenderState) : Ty
 abbrev pub made_dual : Kept → LenderState → Prices
 made_dual (by_values rows) s = s.values.dual
 made_dual (by_set hubs order) s = s.sets.dual
-made_dual (given cut) s = s.given
+made_dual (cored x) s = s.stated
+made_dual (given cut) s = s.stated

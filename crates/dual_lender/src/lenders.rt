@@ -2,29 +2,33 @@
 
 ghost use Rattle.std.specs.Prelude.{◌≡◌, ◌+◌, ◌*◌, ◌<◌, ◌≤◌, ◌↔◌, pos, length, IfOk, IsTrue};
 ghost use Rattle.hub_spec.specs.Problem.{IsProblem};
+ghost use Rattle.hub_spec.specs.Ranges.{IsCutInRange};
 ghost use Rattle.hub_spec.specs.Separation.{AreListedValues};
 ghost use Rattle.plan_model.specs.Prices.{signed_values};
 ghost use Rattle.kept_cuts.specs.Kept.{kept_of, IsKeptFor};
-ghost use Rattle.dual_lender.specs.Lenders.{kept_dual, IsLenderFor, IsReady, HasDuals, made_dual};
+ghost use Rattle.dual_lender.specs.Lenders.{stated_dual, kept_dual, IsLenderFor, IsReady, HasDuals, made_dual};
+ghost use Rattle.dual_lender.specs.LenderParts.{lender_with};
 
 use crate::held_duals::HeldDual;
 use crate::value_rooms::ValueRoom;
 use hub_model::Instance;
 use kept_cuts::KeptCut;
 use pareto_cuts::Scratch;
+use stated_cuts::StatedCut;
 use std::alloc::{AllocError, Global};
 use std::marker::Model;
 
 /// Room to make the duals of an instance's kept cuts in, taken once, from which one dual at a time is lent.
 ///
-/// It is told the cut first, then an origin, then each destination. The dual of a cut that was given is unpacked when it is
-/// made. A second dual can be held, so that the one made last is compared with it. No call takes memory.
+/// It is told the cut first, then an origin, then each destination. The dual of a cut that is kept with its duals, a core cut
+/// or a given one, is unpacked when it is made. A second dual can be held, so that the one made last is compared with it. No
+/// call takes memory.
 #[derive(Drop)]
 pub struct DualLender<'a> {
     values: ValueRoom<'a>,
     sets: Scratch,
-    // The dual that was made last of a given cut.
-    given: HeldDual,
+    // The dual that was made last of a cut that is kept with its duals.
+    stated: HeldDual,
     held: HeldDual,
 }
 
@@ -34,9 +38,9 @@ impl<'a> Model for DualLender<'a> {
 
     ghost Value = { LenderState };
 
-    ghost view = { λ s. record { values = s.values; sets = s.sets; given = s.given.dual; held = s.held.dual } };
+    ghost view = { λ s. record { values = s.values; sets = s.sets; stated = s.stated.dual; held = s.held.dual } };
 
-    ghost invariant = { λ s. (s.values.problem.size ≤ s.sets.room) × (s.values.problem.size ≤ s.given.room) × (s.values.problem.size ≤ s.held.room) };
+    ghost invariant = { λ s. (s.values.problem.size ≤ s.sets.room) × (s.values.problem.size ≤ s.stated.room) × (s.values.problem.size ≤ s.held.room) };
 }
 
 impl<'a> DualLender<'a> {
@@ -46,11 +50,11 @@ impl<'a> DualLender<'a> {
     {
         let values = ValueRoom::new(alloc, instance)?;
         let sets = Scratch::new(alloc, instance)?;
-        let (given, held) = two_copies(alloc, instance.size() as usize)?;
+        let (stated, held) = two_copies(alloc, instance.size() as usize)?;
         Ok(DualLender {
             values,
             sets,
-            given,
+            stated,
             held,
         })
     }
@@ -62,9 +66,8 @@ impl<'a> DualLender<'a> {
         ensures ready { IsReady instance.now (kept_of kept.now) self.new }
     {
         match kept {
-            KeptCut::Values(_) => {}
             KeptCut::Set(set, order) => self.sets.prepare(instance, set, order),
-            KeptCut::Given(_) => {}
+            KeptCut::Values(_) | KeptCut::Core(_) | KeptCut::Given(_) => {}
         }
     }
 
@@ -78,7 +81,7 @@ impl<'a> DualLender<'a> {
         match kept {
             KeptCut::Values(values) => self.values.set_prices(values, i),
             KeptCut::Set(set, order) => self.sets.work_out(instance, set, order, i),
-            KeptCut::Given(_) => {}
+            KeptCut::Core(_) | KeptCut::Given(_) => {}
         }
     }
 
@@ -95,10 +98,8 @@ impl<'a> DualLender<'a> {
         match kept {
             KeptCut::Values(values) => self.values.make_dual(values, i, j),
             KeptCut::Set(set, order) => self.sets.make_dual(instance, set, order, i, j),
-            KeptCut::Given(cut) => {
-                let number = commodity_number(instance, i, j);
-                self.given.unpack(&cut.dual(number));
-            }
+            KeptCut::Core(marked) => unpack_dual(instance, &marked.cut, i, j, &mut self.stated),
+            KeptCut::Given(cut) => unpack_dual(instance, cut, i, j, &mut self.stated),
         }
     }
 
@@ -108,11 +109,7 @@ impl<'a> DualLender<'a> {
         ensures values { result.1.now ≡ signed_values (made_dual (kept_of kept.now) self.now).u }
         ensures listed { AreListedValues (made_dual (kept_of kept.now) self.now).u }
     {
-        match kept {
-            KeptCut::Values(_) => self.values.dual(),
-            KeptCut::Set(..) => self.sets.dual(),
-            KeptCut::Given(_) => self.given.dual(),
-        }
+        last_made(&self.values, &self.sets, &self.stated, kept)
     }
 
     /// Holds the dual that was made last of the cut, in place of the one that was held.
@@ -120,20 +117,8 @@ impl<'a> DualLender<'a> {
         requires few { length (made_dual (kept_of kept.now) self.old).u ≤ self.old.values.problem.size }
         ensures { self.new ≡ record self.old { held = made_dual (kept_of kept.now) self.old } }
     {
-        match kept {
-            KeptCut::Values(_) => {
-                let (a, u) = self.values.dual();
-                self.held.copy(a, u);
-            }
-            KeptCut::Set(..) => {
-                let (a, u) = self.sets.dual();
-                self.held.copy(a, u);
-            }
-            KeptCut::Given(_) => {
-                let (a, u) = self.given.dual();
-                self.held.copy(a, u);
-            }
-        }
+        let (a, u) = last_made(&self.values, &self.sets, &self.stated, kept);
+        self.held.copy(a, u);
     }
 
     /// Tells whether the dual that was made last of the cut is the one that is held.
@@ -151,6 +136,38 @@ impl<'a> DualLender<'a> {
     {
         self.held.dual()
     }
+}
+
+// The price of the dual that was made last of the cut, and its nodes with their values: by the values, by the hub set, or as
+// it was unpacked.
+fn last_made<'d>(
+    values: &'d ValueRoom,
+    sets: &'d Scratch,
+    stated: &'d HeldDual,
+    kept: &'d KeptCut,
+) -> (i128, &'d [(u32, i128)])
+    ensures price { result.0 ≡ pos (made_dual (kept_of kept.now) (lender_with values.now sets.now stated.now.dual)).a }
+    ensures values { result.1.now ≡ signed_values (made_dual (kept_of kept.now) (lender_with values.now sets.now stated.now.dual)).u }
+    ensures listed { AreListedValues (made_dual (kept_of kept.now) (lender_with values.now sets.now stated.now.dual)).u }
+{
+    match kept {
+        KeptCut::Values(_) => values.dual(),
+        KeptCut::Set(..) => sets.dual(),
+        KeptCut::Core(_) | KeptCut::Given(_) => stated.dual(),
+    }
+}
+
+// Unpacks the dual of the commodity from `i` to `j` of the cut.
+fn unpack_dual(instance: &Instance, cut: &StatedCut, i: u32, j: u32, dual: &mut HeldDual)
+    requires cut { IsCutInRange instance.now.size cut.now }
+    requires origin { i < instance.now.size }
+    requires destination { j < instance.now.size }
+    requires room { instance.now.size ≤ dual.old.room }
+    ensures room { dual.new.room ≡ dual.old.room }
+    ensures dual { dual.new.dual ≡ stated_dual cut.now (i * instance.now.size + j) }
+{
+    let number = commodity_number(instance, i, j);
+    dual.unpack(&cut.dual(number));
 }
 
 // Room for two copies of duals, of so many values each.

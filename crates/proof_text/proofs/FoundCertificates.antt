@@ -1,12 +1,11 @@
 -- A finding as a certificate of the parts that are made of it.
-use Rattle.std.proofs.Common.{◌≡◌, ℕ, ℤ, pos, List, length, map, replicate, Option, None, sym, subst, ap, ◌∙◌}
+use Rattle.std.proofs.Common.{◌≡◌, ℕ, ℤ, pos, List, map, Option, sym, subst, ap, ◌∙◌}
 use Rattle.hub_spec.specs.Problem.{Problem}
 use Rattle.hub_spec.specs.Plans.{Plan}
 use Rattle.hub_spec.specs.Cuts.{Cut}
 use Rattle.hub_spec.specs.Trees.{Tree, empty, preorder}
 use Rattle.core_spec.specs.CoreCuts.{Mark}
-use Rattle.cert_spec.specs.Stated.{Stated, unmarked, IsStatedInRange}
-use Rattle.cert_spec.proofs.Unmarked.{unmarked_in_range}
+use Rattle.cert_spec.specs.Stated.{Stated, as_second, IsStatedInRange}
 use Rattle.hub_model.specs.Amounts.{natural, IsNatural}
 use Rattle.plan_model.specs.Lines.{tree_line_of}
 use Rattle.plan_model.specs.declared.tree_lines.TreeLine.{TreeLine}
@@ -18,7 +17,8 @@ use Rattle.cert_format.specs.Growing.{tree_of}
 use Rattle.cert_format.specs.Codes.{tree_of-preorder}
 use Rattle.cert_format.specs.declared.headings.Heading.{Heading}
 use Rattle.cert_format.proofs.Amounts.{natural_pos}
-use Rattle.proof_text.specs.Certificates.{IsCertificateOf}
+use Rattle.proof_text.specs.Certificates.{mark_said, stated_by, IsCertificateOf}
+use Rattle.proof_text.proofs.StatedFindings.{stated_in_range}
 
 -- the parts that a certificate is made of are those of the finding
 pub record AreParts (v : ℕ) (p : Problem) (found : Found) (heading : Heading) (plan : Plan) (cuts : List Cut) (marks : List (Option Mark))
@@ -26,7 +26,7 @@ pub record AreParts (v : ℕ) (p : Problem) (found : Found) (heading : Heading) 
   pub heading_is : IsHeadingOf heading (found_proof v p found empty)
   pub plan_is : plan ≡ found.plan
   pub cuts_are : cuts ≡ kept_cuts p found.cuts.cuts
-  pub marks_are : marks ≡ replicate (length cuts) None
+  pub marks_are : marks ≡ map (mark_said v) found.cuts.cuts
   pub lines_are : lines ≡ found.tree.items
 
 same_tree : (found : Found) (tree : Tree) (lines : List TreeLine) → lines ≡ found.tree.items → lines_of found.tree.items ≡ preorder tree
@@ -48,24 +48,22 @@ same_proof v p found heading plan cuts marks lines tree e is = λ t. record {
   tree = same_tree found tree lines e.lines_are is t;
 }
 
--- with no mark
 same_stated : (v : ℕ) (p : Problem) (found : Found) (heading : Heading) (plan : Plan) (cuts : List Cut) (marks : List (Option Mark))
     (lines : List TreeLine) (tree : Tree)
     → AreParts v p found heading plan cuts marks lines → lines_of found.tree.items ≡ preorder tree
-    → stated_of heading plan cuts marks lines ≡ unmarked (found_proof v p found tree)
+    → stated_of heading plan cuts marks lines ≡ stated_by v p found tree
 same_stated v p found heading plan cuts marks lines tree e is =
-    ap (λ (ms : List (Option Mark)). stated_of heading plan cuts ms lines) e.marks_are
-    ∙ ap unmarked (same_proof v p found heading plan cuts marks lines tree e is)
+    λ t. record { proof = same_proof v p found heading plan cuts marks lines tree e is t; marks = e.marks_are t }
 
 pub least : (z : ℤ) (n : ℕ) → z ≡ pos n → IsNatural z
 least z n e = subst (λ (x : ℤ). IsNatural x) (sym e) (natural_pos n)
 
 pub certificate_parts : (v : ℕ) (p : Problem) (found : Found) (heading : Heading) (plan : Plan) (cuts : List Cut) (marks : List (Option Mark))
-    (lines : List TreeLine) → IsVersionFor p found.cuts.cuts v → IsProved p found → AreParts v p found heading plan cuts marks lines
+    (lines : List TreeLine) → IsVersionFor p found.cuts.cuts (as_second v) → IsProved p found → AreParts v p found heading plan cuts marks lines
     → AreCertificateParts heading plan cuts marks lines
 certificate_parts v p found heading plan cuts marks lines there h e = record {
   in_range = subst IsStatedInRange (sym (same_stated v p found heading plan cuts marks lines h.tree e h.lines))
-      (unmarked_in_range (found_proof v p found h.tree) (h.in_range v there));
+      (stated_in_range v p found h.tree h h.lines there);
   one_tree = ap preorder (same_tree found h.tree lines e.lines_are h.lines) ∙ sym h.lines ∙ sym (ap (map tree_line_of) e.lines_are);
   cost_least = least heading.cost found.cost e.heading_is.cost;
   bound_least = least heading.bound found.bound e.heading_is.bound;

@@ -3,5 +3,8 @@ pub mod FoundCertificates
 pub mod CutRows
 pub mod RowLines
 pub mod Ranges
+pub mod ProvedLines
+pub mod SaidMarks
+pub mod StatedFindings
 pub mod PlaceLines
 pub mod PlaceCuts

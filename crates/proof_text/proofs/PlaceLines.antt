@@ -9,14 +9,13 @@ use Rattle.std.proofs.lemmas.Nat.{div-mul-add, mod-mul-add}
 use Rattle.hub_spec.specs.Problem.{Problem}
 use Rattle.hub_spec.specs.Cuts.{Cut, cut_by}
 use Rattle.core_spec.specs.CoreCuts.{Mark}
-use Rattle.cert_spec.specs.Lines.{Item, says_cut}
-use Rattle.cert_spec.specs.Text.{line_bytes, part_said, cut_items_as, cut_items}
-use Rattle.cert_format.specs.DualItems.{dual_items_from}
+use Rattle.cert_spec.specs.Lines.{Item}
+use Rattle.cert_spec.specs.Text.{line_bytes, cut_items_as, cut_items}
 use Rattle.cert_format.proofs.Joined.{texts_joined}
 use Rattle.cert_format.proofs.CutLines.{cut_text}
-use Rattle.kept_cuts.specs.Kept.{Kept, by_set, kept_cut, kept_part, kept_at, IsKeptFor}
-use Rattle.dual_lender.specs.Lenders.{kept_dual}
-use Rattle.proof_text.specs.Texts.{head_items, origin_items, place_items, stretch_items, kept_items}
+use Rattle.kept_cuts.specs.Kept.{Kept, by_set, kept_cut, kept_at, IsKeptFor}
+use Rattle.proof_text.specs.Certificates.{mark_said}
+use Rattle.proof_text.specs.Texts.{head_item, head_items, duals_with, origin_items, place_items, stretch_items, kept_items}
 use Rattle.proof_text.proofs.FoundLines.{numbered, length_numbered, same_place, kept_cut_at, kept_cut_text}
 use Rattle.proof_text.proofs.Ranges.{joined, same_each, shifted}
 
@@ -26,13 +25,13 @@ use Rattle.proof_text.proofs.Ranges.{joined, same_each, shifted}
 pub no_head : (v c : ℕ) (kept : Kept) (i : ℕ) → 1 ≤ i → [] ≡ head_items v c kept i
 no_head v c kept i some =
     let apart : nat_eq i 0 ≡ false = ne_eqb i 0 (λ none. absurd (omega (arith, none, some))) in
-    sym (ap (λ (b : Bool). if b then says_cut c (part_said v (kept_part kept)) ∷ [] else []) apart)
+    sym (ap (λ (b : Bool). if b then head_item v c kept (mark_said v kept) ∷ [] else []) apart)
 
 -- the line of the cut, if there is one, and then those of the duals
 pub origin_text : (v : ℕ) (p : Problem) (c : ℕ) (kept : Kept) (i : ℕ)
-    → flat_map line_bytes (head_items v c kept i) ++ flat_map line_bytes (dual_items_from v p.size (kept_dual p kept) i)
+    → flat_map line_bytes (head_items v c kept i) ++ flat_map line_bytes (duals_with v p kept (mark_said v kept) i)
     ≡ flat_map line_bytes (origin_items v p c kept i)
-origin_text v p c kept i = sym (flat_map-append line_bytes (head_items v c kept i) (dual_items_from v p.size (kept_dual p kept) i))
+origin_text v p c kept i = sym (flat_map-append line_bytes (head_items v c kept i) (duals_with v p kept (mark_said v kept) i))
 
 first_other : (head : Item) (f g : ℕ → List Item) (n : ℕ) → 1 ≤ n → f 0 ≡ head ∷ g 0 → ((i : ℕ) → 1 ≤ i → f i ≡ g i)
     → flat_map f (range_with_len 0 n) ≡ head ∷ flat_map g (range_with_len 0 n)
@@ -41,13 +40,14 @@ first_other head f g (suc n) some first later =
     ap₂ (λ (xs ys : List Item). xs ++ ys) first (same_each f g (0 + 1) n (λ i low high. later i (omega (arith, low))))
 
 cut_origins : (v : ℕ) (p : Problem) (c : ℕ) (kept : Kept) → 1 ≤ p.size → IsKeptFor p kept
-    → flat_map line_bytes (flat_map (origin_items v p c kept) (range_with_len 0 p.size)) ≡ flat_map line_bytes (cut_items_as v p.size c (kept_cut p kept) None)
+    → flat_map line_bytes (flat_map (origin_items v p c kept) (range_with_len 0 p.size))
+    ≡ flat_map line_bytes (cut_items_as v p.size c (kept_cut p kept) (mark_said v kept))
 cut_origins v p c kept some fits =
-    let duals = dual_items_from v p.size (kept_dual p kept) in
+    let duals = duals_with v p kept (mark_said v kept) in
     ap (flat_map line_bytes)
-    (first_other (says_cut c (part_said v (kept_part kept))) (origin_items v p c kept) duals p.size some refl
+    (first_other (head_item v c kept (mark_said v kept)) (origin_items v p c kept) duals p.size some refl
     (λ i behind. ap (λ (items : List Item). items ++ duals i) (sym (no_head v c kept i behind))))
-    ∙ kept_cut_text v p c (kept_part kept) kept some fits refl
+    ∙ kept_cut_text v p c kept some fits
 
 -- ---- the places of a cut
 
@@ -69,7 +69,7 @@ cut_places v p cuts m =
     (λ i low high. place_at v p cuts m i (omega (arith, high)))
 
 one_cut : (v : ℕ) (p : Problem) (cuts : List Kept) (m : ℕ) (d : ℕ × (Cut × Option Mark)) → 1 ≤ p.size → All (IsKeptFor p) cuts → m < length cuts
-    → flat_map line_bytes (stretch_items v p cuts (m * p.size) p.size) ≡ cut_text v p.size (get_or (numbered p cuts) m d)
+    → flat_map line_bytes (stretch_items v p cuts (m * p.size) p.size) ≡ cut_text v p.size (get_or (numbered v p cuts) m d)
 one_cut v p cuts m d some fit less =
     let one = kept_at cuts (m + 1) in
     let fits = subst (IsKeptFor p) (sym (same_place cuts m)) (All-get_or (IsKeptFor p) cuts m (by_set [] []) less fit) in
@@ -80,14 +80,14 @@ one_cut v p cuts m d some fit less =
 -- ---- the places of all cuts
 
 first_places : (v : ℕ) (p : Problem) (cuts : List Kept) (m : ℕ) → 1 ≤ p.size → All (IsKeptFor p) cuts → m ≤ length cuts
-    → flat_map line_bytes (stretch_items v p cuts 0 (m * p.size)) ≡ flat_map (cut_text v p.size) (take m (numbered p cuts))
+    → flat_map line_bytes (stretch_items v p cuts 0 (m * p.size)) ≡ flat_map (cut_text v p.size) (take m (numbered v p cuts))
 first_places v p cuts zero some fit few =
     let none : 0 * p.size ≡ 0 = omega arith in
     ap (λ (k : ℕ). flat_map line_bytes (stretch_items v p cuts 0 k)) none
 first_places v p cuts (suc m) some fit few =
     let d : ℕ × (Cut × Option Mark) = (0, (cut_by [], None)) in
     let n = p.size in
-    let all = numbered p cuts in
+    let all = numbered v p cuts in
     let before = stretch_items v p cuts 0 (m * n) in
     let from : 0 + m * n ≡ m * n = omega arith in
     let next : suc m ≡ m + 1 = omega arith in
@@ -97,15 +97,15 @@ first_places v p cuts (suc m) some fit few =
     ∙ flat_map-append line_bytes before (stretch_items v p cuts (m * n) n)
     ∙ ap₂ (λ (xs ys : List ℕ). xs ++ ys) (first_places v p cuts m some fit (omega (arith, few))) (one_cut v p cuts m d some fit (omega (arith, few)))
     ∙ flat_map_more (cut_text v n) [] (take m all) (get_or all m d)
-    ∙ ap (flat_map (cut_text v n)) (sym (take_more all m d (omega (arith, few, length_numbered p cuts))))
+    ∙ ap (flat_map (cut_text v n)) (sym (take_more all m d (omega (arith, few, length_numbered v p cuts))))
     ∙ ap (λ (k : ℕ). flat_map (cut_text v n) (take k all)) (sym next)
 
 pub all_places : (v : ℕ) (p : Problem) (cuts : List Kept) → 1 ≤ p.size → All (IsKeptFor p) cuts
     → flat_map line_bytes (stretch_items v p cuts 0 (length cuts * p.size)) ≡ flat_map line_bytes (kept_items v p cuts)
 all_places v p cuts some fit =
     first_places v p cuts (length cuts) some fit (omega arith)
-    ∙ ap (flat_map (cut_text v p.size)) (take_all (length cuts) (numbered p cuts) (omega (arith, length_numbered p cuts)))
-    ∙ texts_joined (cut_items v p.size) (numbered p cuts)
+    ∙ ap (flat_map (cut_text v p.size)) (take_all (length cuts) (numbered v p cuts) (omega (arith, length_numbered v p cuts)))
+    ∙ texts_joined (cut_items v p.size) (numbered v p cuts)
 
 -- ---- stretches
 

@@ -1,4 +1,4 @@
+pub mod Certificates
 pub mod Texts
 pub mod Places
 pub mod Stretches
-pub mod Certificates

@@ -1,6 +1,7 @@
 //! The certificate of what a search found, with all of its duals.
 
-ghost use Rattle.std.specs.Prelude.{◌≡◌, replicate, None, IfOk, All};
+ghost use Rattle.std.specs.Prelude.{◌≡◌, IfOk, All};
+ghost use Rattle.cert_spec.specs.Stated.{as_second};
 ghost use Rattle.cert_scan.specs.Versions.{version_number};
 ghost use Rattle.kept_cuts.specs.Kept.{kept_of, kept_cut, kept_cuts, IsKeptFor};
 ghost use Rattle.kept_cuts.specs.Findings.{IsProved, IsVersionFor};
@@ -8,8 +9,8 @@ ghost use Rattle.proof_text.specs.Certificates.{IsCertificateOf};
 ghost use Rattle.dual_lender.specs.Lenders.{IsLenderFor, made_dual};
 
 use crate::headings::heading_of;
+use crate::marks::said_marks;
 use cert_format::{Certificate, Version};
-use core_marks::Mark;
 use dual_lender::DualLender;
 use hub_model::Instance;
 use kept_cuts::{Found, KeptCut, KeptCuts};
@@ -18,35 +19,25 @@ use stated_cuts::StatedCut;
 use std::alloc::{AllocError, Global};
 
 /// The certificate of what a search of the instance found in this version, with the duals of each cut made anew, and
-/// those of a cut that was given copied. No cut is marked. The first version is for instances in which no length is limited and no number
-/// of hubs is wanted, and for findings with no given cut: it has no lines for these.
+/// those of a core cut or one that was given copied. In the third version core cuts are marked. The first version is for
+/// instances in which no length is limited and no number of hubs is wanted, and for findings whose cuts are all made anew: it
+/// has no lines for others.
 pub fn certificate_of(
     alloc: Global,
     instance: &Instance,
     found: &Found,
     version: Version,
 ) -> Result<Certificate, AllocError>
-    requires version { IsVersionFor instance.now found.now.cuts.cuts (version_number version) }
+    requires version { IsVersionFor instance.now found.now.cuts.cuts (as_second (version_number version)) }
     requires proved { IsProved instance.now found.now }
     ensures { IfOk result (IsCertificateOf (version_number version) instance.now found.now) }
 {
     let heading = heading_of(instance, found, version);
     let plan = plan_again(alloc, &found.plan)?;
     let cuts = stated_cuts(alloc, instance, &found.cuts)?;
-    let marks = no_marks(alloc, cuts.len())?;
+    let marks = said_marks(alloc, version, &found.cuts)?;
     let tree = lines_again(alloc, &found.tree)?;
     Ok(Certificate::new(heading, plan, cuts, marks, tree))
-}
-
-// For so many cuts no mark.
-fn no_marks(alloc: Global, count: usize) -> Result<Vec<Option<Mark>>, AllocError>
-    ensures { IfOk result (λ marks. marks.items ≡ replicate count None) }
-{
-    let mut marks = Vec::with_capacity(alloc, count)?;
-    for _ in 0..count {
-        marks.push(None)?;
-    }
-    Ok(marks)
 }
 
 // Each cut, with its duals.

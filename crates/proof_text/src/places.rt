@@ -8,8 +8,8 @@ ghost use Rattle.dual_lender.specs.Lenders.{IsLenderFor, IsReady};
 ghost use Rattle.proof_text.specs.Texts.{head_items, origin_items};
 ghost use Rattle.proof_text.specs.Places.{AreLines, place_count, cut_of, items_of};
 
-use crate::dual_lines::put_origin;
-use cert_format::{Version, put_cut};
+use crate::dual_lines::{put_cut_line, put_origin};
+use cert_format::Version;
 use dual_lender::DualLender;
 use hub_io::{Buffer, Failed, Sink};
 use hub_model::Instance;
@@ -137,5 +137,5 @@ fn put_head<K: Sink>(
     if i > 0 {
         return Ok(());
     }
-    put_cut(version, c, kept.part(), buffer, sink)
+    put_cut_line(version, c, kept, buffer, sink)
 }

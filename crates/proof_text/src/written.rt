@@ -1,6 +1,6 @@
 //! The text of the certificate of what a search found, put part by part.
 
-ghost use Rattle.std.specs.Prelude.{◌≡◌, ◌≤◌, All, None};
+ghost use Rattle.std.specs.Prelude.{◌≡◌, ◌≤◌, All};
 ghost use Rattle.cert_spec.specs.Text.{cut_items_as};
 ghost use Rattle.hub_io.specs.Outside.{Puts};
 ghost use Rattle.cert_scan.specs.Versions.{version_number};
@@ -8,14 +8,15 @@ ghost use Rattle.cert_format.specs.Puts.{PutsLines};
 ghost use Rattle.kept_cuts.specs.Kept.{kept_of, kept_cut, IsKeptFor};
 ghost use Rattle.kept_cuts.specs.Findings.{IsProved};
 ghost use Rattle.dual_lender.specs.Lenders.{IsLenderFor};
+ghost use Rattle.proof_text.specs.Certificates.{mark_said};
 ghost use Rattle.proof_text.specs.Places.{AreLines};
 ghost use Rattle.proof_text.specs.Texts.{kept_items, found_top_items, found_items, found_text};
 
-use crate::dual_lines::put_kept_duals;
+use crate::dual_lines::{put_cut_line, put_kept_duals};
 use crate::headings::heading_of;
 use crate::places::CutLines;
 use crate::together::put_cuts_together;
-use cert_format::{Version, put_cut, put_top, put_tree};
+use cert_format::{Version, put_top, put_tree};
 use dual_lender::DualLender;
 use hub_io::{Buffer, Failed, Sink};
 use hub_model::Instance;
@@ -23,8 +24,8 @@ use kept_cuts::{Found, KeptCut, KeptCuts};
 use std::alloc::Global;
 use std::thread::Threads;
 
-/// Writes the certificate of what a search of the instance found, in this version and with no mark. It fails only where a
-/// put does.
+/// Writes the certificate of what a search of the instance found, in this version; in the third, core cuts are marked. It fails
+/// only where a put does.
 ///
 /// Each dual is made anew: by the lender, which is for the instance, or by so many workers, 1 to 64, each in a thread of its
 /// own where one can be made. The text is the same for every number of workers. One worker takes no memory, and where
@@ -172,9 +173,10 @@ fn put_kept_cut<K: Sink>(
     requires lender { IsLenderFor instance.now lender.old }
     requires fits { IsKeptFor instance.now (kept_of kept.now) }
     ensures lender { IsLenderFor instance.now lender.new }
-    ensures lines { PutsLines K.taken K.faults sink.old sink.new buffer.old buffer.new result
-        (cut_items_as (version_number version) instance.now.size c (kept_cut instance.now (kept_of kept.now)) None) }
+    ensures lines { let v = version_number version in let k = kept_of kept.now in
+        PutsLines K.taken K.faults sink.old sink.new buffer.old buffer.new result
+        (cut_items_as v instance.now.size c (kept_cut instance.now k) (mark_said v k)) }
 {
-    put_cut(version, c, kept.part(), buffer, sink)?;
+    put_cut_line(version, c, kept, buffer, sink)?;
     put_kept_duals(version, instance, kept, lender, buffer, sink)
 }

@@ -1,4 +1,4 @@
-use Rattle.std.proofs.Common.{◌≡◌, ℕ, length, replicate, None, ap, ◌∙◌, rules}
+use Rattle.std.proofs.Common.{◌∙◌}
 use Rattle.hub_spec.specs.Trees.{empty}
 use Rattle.cert_scan.specs.Versions.{version_number}
 use Rattle.proof_text.proofs.FoundCertificates.{AreParts, certificate_parts, found_certificate}
@@ -8,12 +8,11 @@ use Rattle.proof_text.proofs.certificates.certificate_of.Goals.{In_ok-tree}
 parts : (c : In_ok-tree) → AreParts (version_number c.args.version) c.args.instance.now c.args.found.now c.heading_of-heading.result
     c.in_ok-plan.plan c.in_ok-cuts.cuts.items c.in_ok-marks.marks.items c.in_ok-tree.tree.items
 parts c =
-    let count : c.len.result ≡ length c.in_ok-cuts.cuts.items = search rules in
     record {
       heading_is = c.heading_of-heading.ensures.heading empty;
       plan_is = c.in_ok-plan.ensures;
       cuts_are = c.in_ok-cuts.ensures;
-      marks_are = c.in_ok-marks.ensures ∙ ap (λ (n : ℕ). replicate n None) count;
+      marks_are = c.in_ok-marks.ensures;
       lines_are = c.in_ok-tree.ensures ∙ c.deref.ensures.value;
     }
 

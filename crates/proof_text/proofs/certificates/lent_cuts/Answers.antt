@@ -1,8 +1,8 @@
 use Rattle.std.proofs.Common.{[], sym, subst, ◌∙◌, arith}
 use Rattle.std.proofs.lemmas.List.Elements.{All-get_or}
-use Rattle.kept_cuts.specs.Kept.{by_set, kept_of, IsKeptFor}
+use Rattle.kept_cuts.specs.Kept.{by_set, kept_of, kept_cut, IsKeptFor}
 use Rattle.proof_text.proofs.FoundLines.{same_place}
-use Rattle.proof_text.proofs.CutRows.{next_stated}
+use Rattle.proof_text.proofs.CutRows.{next_made}
 use Rattle.proof_text.proofs.certificates.lent_cuts.Goals as goal
 
 pub stated_cut-requires-clause-fits : goal.stated_cut-requires-clause-fits
@@ -19,6 +19,6 @@ loop-place-preserved c =
     record {
       lender = c.in_ok-stated_cut.ensures.lender;
       stated = c.in_ok-push.ensures.items
-          ∙ next_stated p c.args.cuts.now.cuts c.loop-place.place one c.loop-place.all.items c.in_ok-stated_cut.field-0
+          ∙ next_made (kept_cut p) c.args.cuts.now.cuts c.loop-place.place one c.loop-place.all.items c.in_ok-stated_cut.field-0
           (omega (arith, c.len-place-end.ensures)) c.cut-kept.ensures c.in_ok-stated_cut.ensures.cut c.loop-place.invariant.stated;
     }

@@ -5,12 +5,12 @@ use Rattle.kept_cuts.specs.Kept.{kept_of}
 use Rattle.proof_text.proofs.FoundLines.{kept_cut_text}
 use Rattle.proof_text.proofs.written.put_kept_cut.Goals as goal
 
-pub returns-in_err-put_cut-clause-lines : goal.returns-in_err-put_cut-clause-lines
-returns-in_err-put_cut-clause-lines g c =
-    as_text (kept_cut_text (version_number c.args.version) c.args.instance.now c.args.c c.part.result (kept_of c.args.kept.now) c.requires.some c.requires.fits c.part.ensures)
-    (then_none _ c.put_cut.ensures (ap is_err c.in_err-put_cut.was) c.from_residual.ensures.0)
+pub returns-in_err-put_cut_line-clause-lines : goal.returns-in_err-put_cut_line-clause-lines
+returns-in_err-put_cut_line-clause-lines g c =
+    as_text (kept_cut_text (version_number c.args.version) c.args.instance.now c.args.c (kept_of c.args.kept.now) c.requires.some c.requires.fits)
+    (then_none _ c.put_cut_line.ensures (ap is_err c.in_err-put_cut_line.was) c.from_residual.ensures.0)
 
 pub returns-clause-lines : goal.returns-clause-lines
 returns-clause-lines g c =
-    as_text (kept_cut_text (version_number c.args.version) c.args.instance.now c.args.c c.part.result (kept_of c.args.kept.now) c.requires.some c.requires.fits c.part.ensures)
-    (then_put c.put_cut.ensures (ap is_ok c.in_ok-put_cut.was) c.put_kept_duals.ensures.lines)
+    as_text (kept_cut_text (version_number c.args.version) c.args.instance.now c.args.c (kept_of c.args.kept.now) c.requires.some c.requires.fits)
+    (then_put c.put_cut_line.ensures (ap is_ok c.in_ok-put_cut_line.was) c.put_kept_duals.ensures.lines)

@@ -23,9 +23,9 @@ pub returns-in_err-put_kept_cut-clause-lines : goal.returns-in_err-put_kept_cut-
 returns-in_err-put_kept_cut-clause-lines g c =
     let p = c.args.instance.now in
     let kept = c.args.cuts.now.cuts in
-    as_text (texts_joined (cut_items (version_number c.args.version) p.size) (numbered p kept))
+    as_text (texts_joined (cut_items (version_number c.args.version) p.size) (numbered (version_number c.args.version) p kept))
     (list_stop (0, (cut_by [], None)) c.loop-place.invariant.put c.put_kept_cut.ensures.lines (ap is_err c.in_err-put_kept_cut.was) c.from_residual.ensures.0
-    (omega (arith, length_numbered p kept, c.len-place-end.ensures))
+    (omega (arith, length_numbered (version_number c.args.version) p kept, c.len-place-end.ensures))
     (kept_cut_at (version_number c.args.version) p kept c.loop-place.place (0, (cut_by [], None)) (kept_of c.cut.result.now)
     (omega (arith, c.len-place-end.ensures)) c.cut.ensures))
 
@@ -36,7 +36,7 @@ loop-place-preserved g c =
     record {
       lender = c.put_kept_cut.ensures.lender;
       put = list_more (0, (cut_by [], None)) c.loop-place.invariant.put c.put_kept_cut.ensures.lines (ap is_ok c.in_ok-put_kept_cut.was)
-          (omega (arith, length_numbered p kept, c.len-place-end.ensures))
+          (omega (arith, length_numbered (version_number c.args.version) p kept, c.len-place-end.ensures))
           (kept_cut_at (version_number c.args.version) p kept c.loop-place.place (0, (cut_by [], None)) (kept_of c.cut.result.now)
           (omega (arith, c.len-place-end.ensures)) c.cut.ensures);
     }
@@ -48,5 +48,5 @@ pub returns-clause-lines : goal.returns-clause-lines
 returns-clause-lines g c =
     let p = c.args.instance.now in
     let kept = c.args.cuts.now.cuts in
-    as_text (texts_joined (cut_items (version_number c.args.version) p.size) (numbered p kept))
-    (list_end c.loop-place.invariant.put (omega (arith, length_numbered p kept, c.len-place-end.ensures)))
+    as_text (texts_joined (cut_items (version_number c.args.version) p.size) (numbered (version_number c.args.version) p kept))
+    (list_end c.loop-place.invariant.put (omega (arith, length_numbered (version_number c.args.version) p kept, c.len-place-end.ensures)))

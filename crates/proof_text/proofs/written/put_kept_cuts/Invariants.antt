@@ -8,5 +8,5 @@ use Rattle.proof_text.proofs.written.put_kept_cuts.Given as goal
 abbrev pub invariant-loop-place : goal.invariant-loop-place
 invariant-loop-place g l = record {
   lender : IsLenderFor l.instance l.lender;
-  put : (let s = g.K.Sink in HasPut s.taken s.faults l.initial.sink l.sink l.initial.buffer l.buffer (cut_text (version_number l.version) l.instance.size) (numbered l.instance l.cuts.cuts) l.place);
+  put : (let s = g.K.Sink in HasPut s.taken s.faults l.initial.sink l.sink l.initial.buffer l.buffer (cut_text (version_number l.version) l.instance.size) (numbered (version_number l.version) l.instance l.cuts.cuts) l.place);
 }
