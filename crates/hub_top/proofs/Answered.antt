@@ -21,7 +21,7 @@ use Rattle.hub_words.specs.Requests.{Source, Solving, SearchRule, Resolving, Mak
 use Rattle.hub_words.specs.Requests.{solve, optimize, resolve, check, report, make, demo}
 use Rattle.hub_top.specs.declared.status.Status.{Status}
 use Rattle.hub_top.specs.declared.status.Status.TheVariants.{Done, Stopped, No, Usage, Instance, Memory, Read, Write, Lacking}
-use Rattle.hub_top.specs.Commands.{HoldsInstance, Method, method_by, demo_method, again_method, IsEnoughFor, Solves, Stops, LacksNetwork, HoldsOlder, MayBegin, BeginsInstance, JudgesFile, ReportsFile}
+use Rattle.hub_top.specs.Commands.{HoldsInstance, Method, SpellsBy, method_by, demo_method, again_method, IsEnoughFor, Solves, Stops, LacksNetwork, HoldsOlder, MayBegin, BeginsInstance, JudgesFile, ReportsFile}
 use Rattle.old_duals.specs.Sized.{IsSized}
 use Rattle.old_duals.proofs.Sizes.{IsServing, still_serving}
 use Rattle.hub_top.specs.Answers.{Answers, TellsFirst, Demonstrates, found_status, rule_status, solve_status, older_status, verdict_status, report_status}
@@ -126,11 +126,11 @@ pub solve_status_is : (files : Files) (x : Solving) (rule : SearchRule) (p : Pro
     → Answers (solve x rule) status (Some files) text → status ≡ solve_status p (method_by x rule)
 solve_status_is files x rule p Done text instance h =
     let m = method_by x rule in
-    solves_status h.problem m (SpellsUnmarked text) h.solves ∙ served_status h.problem m h.solves.certificate.plan h.solves.finds.holds.plan
+    solves_status h.problem m (SpellsBy h.problem m text) h.solves ∙ served_status h.problem m h.solves.certificate.plan h.solves.finds.holds.plan
     ∙ ap (λ q. solve_status q m) (one_instance files x.source h.problem p h.instance instance)
 solve_status_is files x rule p Stopped text instance h =
     let m = method_by x rule in
-    stops_status h.problem m (SpellsUnmarked text) h.stops ∙ served_status h.problem m h.stops.certificate.plan h.stops.finds.holds.plan
+    stops_status h.problem m (SpellsBy h.problem m text) h.stops ∙ served_status h.problem m h.stops.certificate.plan h.stops.finds.holds.plan
     ∙ ap (λ q. solve_status q m) (one_instance files x.source h.problem p h.instance instance)
 solve_status_is files x rule p No text instance h = absurd h
 solve_status_is files x rule p Usage text instance h = absurd h

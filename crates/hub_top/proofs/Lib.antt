@@ -3,6 +3,7 @@ pub mod Resolved
 pub mod Writing
 pub mod FoundFrom
 pub mod RuleCertificates
+pub mod Spelled
 pub mod OneTexts
 pub mod Versions
 pub mod Networks

@@ -1,16 +1,19 @@
 -- The verdict on a text that a search made, and that it has one.
-use Rattle.std.proofs.Common.{◌≡◌, ℕ, ◌<◌, ◌≤◌, List, length, sym, ap, ◌∙◌, inl, inr, refl}
+use Rattle.std.proofs.Common.{◌≡◌, ℕ, ◌<◌, ◌≤◌, List, length, Option, sym, ap, ◌∙◌, inl, inr, refl}
 use Rattle.hub_spec.specs.Problem.{Problem, IsProblem}
-use Rattle.hub_spec.specs.Certificates.{Proof}
+use Rattle.hub_spec.specs.Certificates.{Proof, Holds}
 use Rattle.hub_spec.proofs.SameNetworks.{one_closed_cost}
-use Rattle.cert_spec.specs.Stated.{unmarked}
-use Rattle.cert_spec.specs.Text.{SpellsUnmarked, certificate_text}
+use Rattle.cert_spec.specs.Stated.{Stated, unmarked, IsStatedOf}
+use Rattle.cert_spec.specs.Text.{Spells, SpellsUnmarked, certificate_text}
 use Rattle.cert_spec.specs.Verdicts.{Verdict, optimal, bounds, Why, certificate_limit}
 use Rattle.cert_spec.proofs.OneText.{one_certificate_lem}
 use Rattle.cert_spec.proofs.TextOrFault.{each_is_text_or_fault_lem}
 use Rattle.cert_spec.proofs.Unmarked.{unmarked_holds}
 use Rattle.cert_spec.proofs.VerdictLemmas.{one_verdict_from}
-use Rattle.hub_top.specs.Commands.{Method, rule_certificate, Finds, Solves, Stops, Optimizes, Bounds}
+use Rattle.separators.specs.Kinds.{core}
+use Rattle.branch_tree.specs.Findings.{found_by}
+use Rattle.hub_top.specs.Commands.{Course, node_by_node, by_core_cuts, again, by_rounds, Method, SpellsFound, SpellsBy, rule_certificate}
+use Rattle.hub_top.specs.Commands.{Finds, Solves, Stops, Optimizes, Bounds}
 use Rattle.hub_top.specs.Theorems.{IsOneVerdict, Ends}
 
 -- the verdict on any bytes is the only one
@@ -19,54 +22,91 @@ only_verdict p bytes v w why also =
     let one = one_verdict_from one_certificate_lem each_is_text_or_fault_lem p bytes in
     one.2 w also ∙ sym (one.2 v why)
 
--- of a certificate whose bound is its cost
-found_verdict : (p : Problem) (m : Method) (text : List ℕ) (k : Proof) → Finds p m (SpellsUnmarked text) k → k.bound ≡ k.cost
+-- ---- what a text states
+
+-- what the text of a search that goes so states of the proof: by core cuts with the marks of what is found, else with none
+abbrev pub stated_so : Problem → Option ℕ → Course → Proof → Stated
+stated_so p nodes by_core_cuts k = record { proof = k; marks = (found_by core p nodes).state.marks }
+stated_so p nodes course k = unmarked k
+
+-- the text states this, which holds, with the proof's bound and cost
+pub record IsText (p : Problem) (text : List ℕ) (k : Proof) (s : Stated) : Type 0 where
+  pub spelled : Spells text s
+  pub holds : IsStatedOf p s
+  pub bound : s.proof.bound ≡ k.bound
+  pub cost : s.proof.cost ≡ k.cost
+
+unmarked_text : (p : Problem) (text : List ℕ) (k : Proof) → Holds p k → SpellsUnmarked text k → IsText p text k (unmarked k)
+unmarked_text p text k holds told = record { spelled = told; holds = unmarked_holds p k holds; bound = refl; cost = refl }
+
+found_is_text : (p : Problem) (nodes : Option ℕ) (course : Course) (text : List ℕ) (k : Proof) → Holds p k
+    → SpellsFound p nodes course text k → IsText p text k (stated_so p nodes course k)
+found_is_text p nodes node_by_node text k holds told = unmarked_text p text k holds told
+found_is_text p nodes by_core_cuts text k holds told =
+    record { spelled = told.spelled; holds = record { holds = holds; marks = told.as_marked }; bound = refl; cost = refl }
+found_is_text p nodes (again start) text k holds told = unmarked_text p text k holds told
+found_is_text p nodes by_rounds text k holds told = unmarked_text p text k holds told
+
+rule_is_text : (p : Problem) (m : Method) (text : List ℕ) (k : Proof) → Finds p m (SpellsBy p m text) k
+    → IsText p text k (stated_so p m.nodes m.course k)
+rule_is_text p m text k finds = found_is_text p m.nodes m.course text k finds.holds finds.told
+
+-- ---- the verdict on it
+
+-- where the bound is the cost
+closed_verdict : (p : Problem) (text : List ℕ) (k : Proof) (s : Stated) → IsText p text k s → k.bound ≡ k.cost
     → length text ≤ certificate_limit → IsOneVerdict p text (optimal k.cost)
-found_verdict p m text k finds no_gap short =
+closed_verdict p text k s is no_gap short =
     let why : Why p text (optimal k.cost) = record {
       not_too_long = short;
-      certificate = (unmarked k, finds.told, unmarked_holds p k finds.holds, no_gap, refl);
+      certificate = (s, is.spelled, is.holds, is.bound ∙ no_gap, is.cost);
     } in (why, λ other also. only_verdict p text (optimal k.cost) other why also)
 
-pub solved_verdict : (p : Problem) (m : Method) (text : List ℕ) (h : Solves p m (SpellsUnmarked text)) → length text ≤ certificate_limit
+pub solved_verdict : (p : Problem) (m : Method) (text : List ℕ) (h : Solves p m (SpellsBy p m text)) → length text ≤ certificate_limit
     → IsOneVerdict p text (optimal h.certificate.cost)
-solved_verdict p m text h short = found_verdict p m text h.certificate h.finds h.no_gap short
+solved_verdict p m text h short =
+    let k = h.certificate in closed_verdict p text k (stated_so p m.nodes m.course k) (rule_is_text p m text k h.finds) h.no_gap short
 
 pub optimized_verdict : (p : Problem) (m : Method) (text : List ℕ) (h : Optimizes p m text) → length text ≤ certificate_limit
     → IsOneVerdict p text (optimal h.certificate.cost)
-optimized_verdict p m text h short = found_verdict p m text h.certificate h.finds h.no_gap short
+optimized_verdict p m text h short =
+    let k = h.certificate in closed_verdict p text k (unmarked k) (unmarked_text p text k h.finds.holds h.finds.told) h.no_gap short
 
--- of a certificate whose bound is below its cost
-gap_verdict : (p : Problem) (m : Method) (text : List ℕ) (k : Proof) → Finds p m (SpellsUnmarked text) k → k.bound < k.cost
+-- where the bound is below the cost
+gap_verdict : (p : Problem) (text : List ℕ) (k : Proof) (s : Stated) → IsText p text k s → k.bound < k.cost
     → length text ≤ certificate_limit → IsOneVerdict p text (bounds k.bound k.cost)
-gap_verdict p m text k finds gap short =
+gap_verdict p text k s is gap short =
     let v = bounds k.bound k.cost in
-    let why : Why p text v = (
-      gap,
-      record {
-        not_too_long = short;
-        certificate = (unmarked k, finds.told, unmarked_holds p k finds.holds, refl, refl);
-      },
-    ) in (why, λ other also. only_verdict p text v other why also)
+    let why : Why p text v = (gap, record { not_too_long = short; certificate = (s, is.spelled, is.holds, is.bound, is.cost) }) in
+    (why, λ other also. only_verdict p text v other why also)
 
-pub stopped_verdict : (p : Problem) (m : Method) (text : List ℕ) (h : Stops p m (SpellsUnmarked text)) → length text ≤ certificate_limit
+pub stopped_verdict : (p : Problem) (m : Method) (text : List ℕ) (h : Stops p m (SpellsBy p m text)) → length text ≤ certificate_limit
     → IsOneVerdict p text (bounds h.certificate.bound h.certificate.cost)
-stopped_verdict p m text h short = gap_verdict p m text h.certificate h.finds h.gap short
+stopped_verdict p m text h short =
+    let k = h.certificate in gap_verdict p text k (stated_so p m.nodes m.course k) (rule_is_text p m text k h.finds) h.gap short
 
 pub bounded_verdict : (p : Problem) (m : Method) (gap : ℕ) (text : List ℕ) (h : Bounds p m gap text) → length text ≤ certificate_limit
     → IsOneVerdict p text (bounds h.certificate.bound h.certificate.cost)
-bounded_verdict p m gap text h short = gap_verdict p m text h.certificate h.finds h.gap short
+bounded_verdict p m gap text h short =
+    let k = h.certificate in gap_verdict p text k (unmarked k) (unmarked_text p text k h.finds.holds h.finds.told) h.gap short
 
--- the text of a search is that of the rule's certificate
-rule_text : (p : Problem) (m : Method) (text : List ℕ) → Ends p m text → text ≡ certificate_text (unmarked (rule_certificate p m))
-rule_text p m text (inl h) = h.finds.told.text ∙ ap (λ k. certificate_text (unmarked k)) h.by_rule
-rule_text p m text (inr h) = h.finds.told.text ∙ ap (λ k. certificate_text (unmarked k)) h.by_rule
+-- ---- one text, and one cost
+
+-- the text is that of what is stated of the rule's certificate
+found_text_is : (p : Problem) (m : Method) (text : List ℕ) (k : Proof) → Finds p m (SpellsBy p m text) k → k ≡ rule_certificate p m
+    → text ≡ certificate_text (stated_so p m.nodes m.course (rule_certificate p m))
+found_text_is p m text k finds by_rule =
+    (rule_is_text p m text k finds).spelled.text ∙ ap (λ x. certificate_text (stated_so p m.nodes m.course x)) by_rule
+
+rule_text : (p : Problem) (m : Method) (text : List ℕ) → Ends p m text → text ≡ certificate_text (stated_so p m.nodes m.course (rule_certificate p m))
+rule_text p m text (inl h) = found_text_is p m text h.certificate h.finds h.by_rule
+rule_text p m text (inr h) = found_text_is p m text h.certificate h.finds h.by_rule
 
 pub one_text_of : (p : Problem) (m : Method) (text other : List ℕ) → Ends p m text → Ends p m other → other ≡ text
 one_text_of p m text other h k = rule_text p m other k ∙ sym (rule_text p m text h)
 
 -- two texts that solve one instance have one cost
-pub one_cost_of : (p : Problem) (m other : Method) (text too : List ℕ) (solved : Solves p m (SpellsUnmarked text)) (again : Solves p other (SpellsUnmarked too))
-    → IsProblem p → again.certificate.cost ≡ solved.certificate.cost
-one_cost_of p m other text too solved again ok =
-    one_closed_cost p again.certificate solved.certificate ok again.finds.holds solved.finds.holds again.no_gap solved.no_gap
+pub one_cost_of : (p : Problem) (m other : Method) (text too : List ℕ) (solved : Solves p m (SpellsBy p m text)) (later : Solves p other (SpellsBy p other too))
+    → IsProblem p → later.certificate.cost ≡ solved.certificate.cost
+one_cost_of p m other text too solved later ok =
+    one_closed_cost p later.certificate solved.certificate ok later.finds.holds solved.finds.holds later.no_gap solved.no_gap

@@ -13,11 +13,9 @@ use Rattle.hub_spec.proofs.WeakDuality.{no_plan_below_bound}
 use Rattle.plan_model.specs.Lines.{tree_line_of}
 use Rattle.search_spec.specs.Findings.{AreWithin, IsSpent, IsEnough}
 use Rattle.cert_spec.specs.Text.{SpellsUnmarked}
-use Rattle.cert_spec.proofs.Unmarked.{unmarked_in_range}
 use Rattle.kept_cuts.specs.declared.found.Found.{Found}
-use Rattle.kept_cuts.specs.Findings.{AreOwn, IsProved, IsVersionFor, proof_of, lines_of}
+use Rattle.kept_cuts.specs.Findings.{AreRemade, IsProved, IsVersionFor, proof_of, lines_of}
 use Rattle.proof_text.specs.Texts.{found_text}
-use Rattle.proof_text.proofs.FoundLines.{found_text_certificate}
 use Rattle.closing_search.specs.Gaps.{IsWithinGap}
 use Rattle.hub_words.specs.Requests.{Solving, optimize}
 use Rattle.hub_top.specs.declared.status.Status.{Status}
@@ -26,10 +24,11 @@ use Rattle.hub_top.specs.Commands.{Method, method_of, IsEnoughFor, Finds, MayBeg
 use Rattle.hub_top.specs.Answers.{Answers}
 use Rattle.hub_top.specs.Views.{finding_status}
 use Rattle.hub_top.specs.Solving.{IsClosed, IsOptimum}
+use Rattle.hub_top.proofs.Spelled.{spells_unmarked}
 
 -- what the search found is such a network, if it found one
 pub closed_by : {E : Type 0} (p : Problem) (nodes : Option ℕ) (gap : ℕ) (r : Result Found E) → IsProblem p → IfOk r (IsProved p)
-    → IfOk r AreOwn → IfOk r (λ found. AllZip (IsLeastRoute p found.plan.hubs) (commodities p.size) found.plan.routes)
+    → IfOk r AreRemade → IfOk r (λ found. AllZip (IsLeastRoute p found.plan.hubs) (commodities p.size) found.plan.routes)
     → (p.wanted ≡ None → IfOk r (λ found. (cost : ℕ) → IsSetCost p p.candidates cost → found.cost ≤ cost))
     → IfOk r (λ found. found.bound ≤ found.cost) → IfOk r (λ found. length found.tree.items + 1 ≤ 2 ^ (length p.candidates + 1))
     → IfOk r (λ found. AreWithin nodes (length found.tree.items))
@@ -62,7 +61,7 @@ optimum_finds m gap p found h version =
     let k = proof_of m.version p found proved.tree in
     let holds = proved.holds m.version in
     record {
-      told = record { in_range = unmarked_in_range k (proved.in_range m.version version); text = found_text_certificate m.version p found proved.tree proved.lines };
+      told = spells_unmarked m.version p found proved.tree proved proved.lines version;
       version = refl;
       holds = holds;
       paid = sym holds.cost;

@@ -1,26 +1,26 @@
 -- What the code of a search found is told as the commands ask: `solve` by its text, `demo` by five lines.
 use Rattle.std.proofs.Common.{◌≡◌, ℕ, ◌<◌, ◌≤◌, length, Option, Result, Ok, Err, inr, refl, sym, subst, ap, ◌∙◌, arith, nat_eq, cond}
-use Rattle.std.specs.Prelude.{IfOk, IfSome}
+use Rattle.std.specs.Prelude.{IfOk, IfSome, map}
 use Rattle.std.proofs.lemmas.List.{length-map}
 use Rattle.std.proofs.lemmas.Bool.{cond_both, eqb-true, eqb-false}
 use Rattle.hub_io.specs.Outside.{Files}
 use Rattle.hub_spec.specs.Problem.{Problem, IsProblem}
 use Rattle.hub_spec.specs.Plans.{IsHubSet}
 use Rattle.hub_spec.specs.Trees.{line_count}
-use Rattle.hub_spec.specs.Ranges.{IsVersionOf}
 use Rattle.hub_spec.proofs.Preorders.{length-preorder}
 use Rattle.plan_model.specs.Lines.{tree_line_of}
+use Rattle.search_spec.specs.States.{Grown}
 use Rattle.search_spec.specs.Findings.{certificate_of}
-use Rattle.search_spec.proofs.FoundProofs.{certificate_in_range_lem}
-use Rattle.cert_spec.specs.Stated.{unmarked}
-use Rattle.cert_spec.specs.Text.{certificate_text, SpellsUnmarked}
-use Rattle.cert_spec.proofs.Unmarked.{unmarked_in_range}
+use Rattle.cert_spec.specs.Stated.{as_second, IsStatedOf}
+use Rattle.cert_spec.specs.Text.{Spells, SpellsUnmarked}
 use Rattle.kept_cuts.specs.declared.found.Found.{Found}
-use Rattle.kept_cuts.specs.Findings.{IsVersionFor, IsProved, AreOwn, proof_of}
-use Rattle.kept_cuts.proofs.Versions.{has_text}
+use Rattle.kept_cuts.specs.Findings.{IsVersionFor, IsProved, AreRemade, proof_of}
 use Rattle.search_progress.specs.Findings.{IsFound}
 use Rattle.proof_text.specs.Texts.{found_text}
-use Rattle.proof_text.proofs.FoundLines.{found_text_certificate}
+use Rattle.proof_text.specs.Certificates.{mark_said, stated_by}
+use Rattle.proof_text.proofs.StatedFindings.{stated_is_of}
+use Rattle.separators.specs.Kinds.{core}
+use Rattle.branch_tree.specs.Findings.{found_by}
 use Rattle.file_spec.specs.Instances.{made}
 use Rattle.hub_make.specs.Contents.{made_contents, made_problem}
 use Rattle.hub_words.specs.Requests as words
@@ -29,30 +29,36 @@ use Rattle.hub_words.specs.Requests.{AsksAnyNumber, solved_by_rounds}
 use Rattle.hub_demo.specs.Texts as lines
 use Rattle.hub_top.specs.declared.status.Status.{Status}
 use Rattle.hub_top.specs.declared.status.Status.TheVariants.{Done, Stopped}
-use Rattle.hub_top.specs.Commands.{WhereTold, HoldsInstance, Course, node_by_node, course_of, Method, method_by, demo_method, again_method}
-use Rattle.hub_top.specs.Commands.{found_from, rule_certificate}
+use Rattle.hub_top.specs.Commands.{WhereTold, HoldsInstance, Course, node_by_node, by_core_cuts, again, by_rounds, course_of, Method, method_by, demo_method, again_method}
+use Rattle.hub_top.specs.Commands.{found_from, rule_certificate, SpellsMarked, SpellsFound, SpellsBy}
 use Rattle.hub_top.specs.Answers.{found_status, demo_text, Demonstrates, Answers}
 use Rattle.hub_top.specs.Views.{HasAmounts, finding_status}
 use Rattle.hub_top.specs.Building.{KeepsLimits}
-use Rattle.hub_top.specs.Solving.{MayGo, MayFollow, IsOwnCourse, IsSearched, IsResolution}
+use Rattle.hub_top.specs.Solving.{MayGo, MayFollow, IsRemadeCourse, IsSearched, IsResolution}
 use Rattle.hub_top.proofs.FoundFrom.{IsSearchable, found_searched}
+use Rattle.hub_top.proofs.Spelled.{spells_stated, spells_unmarked}
+use Rattle.hub_top.proofs.Versions.{IsVersionBy}
 use Rattle.hub_top.proofs.RuleCertificates.{rule_is_certificate, rule_solves, rule_stops}
+
+-- what was returned is this finding, with its certificate in each version
+abbrev pub IsFoundWith : {E : Type 0} → Problem → Result Found E → Grown → Type 0
+IsFoundWith p result g =
+    IfOk result (IsFound p g) × IfOk result (λ found. (v : ℕ) → proof_of v p found g.tree ≡ certificate_of p v g)
 
 -- what a search by the rule returned is told so
 pub searched_by : {E : Type 0} (p : Problem) (n : Option ℕ) (course : Course) (result : Result Found E) → IsProblem p → IsHubSet p p.candidates
-    → MayGo p course → IfOk result (IsFound p (found_from p n course)) → IfOk result (IsProved p) → (IsOwnCourse course → IfOk result AreOwn)
-    → IfOk result (λ found. (v : ℕ) → proof_of v p found (found_from p n course).tree ≡ certificate_of p v (found_from p n course))
+    → MayGo p course → IsFoundWith p result (found_from p n course) → IfOk result (IsProved p) → (IsRemadeCourse course → IfOk result AreRemade)
     → IfOk result (IsSearched p n course)
-searched_by p n course (Ok found) ok lacks_none may finding proved own certificate = record {
+searched_by p n course (Ok found) ok lacks_none may finding proved remade = record {
   problem = ok;
   lacks_none = lacks_none;
   may_go = may;
-  finding = finding;
+  finding = finding.0;
   proved = proved;
-  own = own;
-  certificate = certificate;
+  remade = remade;
+  certificate = finding.1;
 }
-searched_by p n course (Err e) ok lacks_none may finding proved own certificate = tt
+searched_by p n course (Err e) ok lacks_none may finding proved remade = tt
 
 searchable : {p : Problem} {n : Option ℕ} {course : Course} {found : Found} → IsSearched p n course found → IsSearchable p course
 searchable h = record { problem = h.problem; lacks_none = h.lacks_none; may_go = h.may_go }
@@ -77,35 +83,57 @@ by_status p m found P h closed gap =
     (cond_both (nat_eq k.bound k.cost) Done Stopped P (λ e. closed (eqb-true k.bound k.cost e))
     (λ e. gap (let apart = eqb-false k.bound k.cost e in omega (arith, within, apart))))
 
--- its text is that of the rule's certificate, in a version that can say it
-pub spells_rule : (p : Problem) (m : Method) (found : Found) → IsVersionOf (proof_of m.version p found (found_from p m.nodes m.course).tree)
-    → IsSearched p m.nodes m.course found → SpellsUnmarked (found_text m.version p found) (rule_certificate p m)
-spells_rule p m found version h =
-    let g = found_from p m.nodes m.course in
-    let k = rule_certificate p m in
-    let is = rule_is_certificate p m (searchable h) in
-    let same : proof_of m.version p found g.tree ≡ k = h.certificate m.version in
+-- its text is that of the rule's certificate, with no mark in a version that has a text for its cuts
+spells_rule : (p : Problem) (version : ℕ) (nodes : Option ℕ) (course : Course) (found : Found) → IsSearched p nodes course found
+    → IsVersionFor p found.cuts.cuts version
+    → SpellsUnmarked (found_text version p found) (certificate_of p version (found_from p nodes course))
+spells_rule p version nodes course found h there =
+    subst (SpellsUnmarked (found_text version p found)) (h.certificate version)
+    (spells_unmarked version p found (found_from p nodes course).tree h.proved h.finding.lines there)
+
+-- what is stated of what is found by core cuts in the third version: the rule's certificate with the marks that are found
+marked_stated : (p : Problem) (version : ℕ) (nodes : Option ℕ) (found : Found) (h : IsSearched p nodes by_core_cuts found) → version ≡ 3
+    → stated_by version p found (found_by core p nodes).tree
+    ≡ record { proof = certificate_of p version (found_by core p nodes); marks = (found_by core p nodes).state.marks }
+marked_stated p version nodes found h third =
+    let g = found_by core p nodes in
+    let marks : map (mark_said version) found.cuts.cuts ≡ g.state.marks =
+    ap (λ (v : ℕ). map (mark_said v) found.cuts.cuts) third ∙ h.finding.marks in
+    λ t. record { proof = h.certificate version t; marks = marks t }
+
+spells_marks : (p : Problem) (version : ℕ) (nodes : Option ℕ) (found : Found) → IsSearched p nodes by_core_cuts found → version ≡ 3
+    → SpellsMarked p (found_by core p nodes).state.marks (found_text version p found) (certificate_of p version (found_by core p nodes))
+spells_marks p version nodes found h third =
+    let g = found_by core p nodes in
+    let same = marked_stated p version nodes found h third in
+    let holds = stated_is_of version p found g.tree h.proved h.finding.lines in
     record {
-      in_range = unmarked_in_range k
-          (certificate_in_range_lem p m.version g k h.problem (found_searched p m.nodes m.course (searchable h)).proof is
-          (subst IsVersionOf same version)
-          (omega (arith, ap length is.cuts, h.finding.few_cuts)) (omega (arith, ap line_count is.tree, h.finding.few_lines)));
-      text = found_text_certificate m.version p found g.tree h.finding.lines ∙ ap (λ c. certificate_text (unmarked c)) same;
+      spelled = subst (Spells (found_text version p found)) same
+          (spells_stated version p found g.tree h.proved h.finding.lines (inr (ap as_second third)));
+      as_marked = (subst (IsStatedOf p) same holds).marks;
     }
 
--- `solve` answers so, in a version that there is for the instance
-pub solve_answers : (held : Option Files) (s : Solving) (rule : SearchRule) (p : Problem) (found : Found) → IsVersionFor p found.cuts.cuts s.version
+-- and as a search that goes so writes it, in its version
+pub spells_found : (p : Problem) (version : ℕ) (nodes : Option ℕ) (course : Course) (found : Found) → IsSearched p nodes course found
+    → IsVersionBy p found.cuts.cuts course version
+    → SpellsFound p nodes course (found_text version p found) (certificate_of p version (found_from p nodes course))
+spells_found p version nodes node_by_node found h there = spells_rule p version nodes node_by_node found h there
+spells_found p version nodes by_core_cuts found h there = spells_marks p version nodes found h there
+spells_found p version nodes (again start) found h there = spells_rule p version nodes (again start) found h there
+spells_found p version nodes by_rounds found h there = spells_rule p version nodes by_rounds found h there
+
+-- `solve` answers so, in the version of the rule
+pub solve_answers : (held : Option Files) (s : Solving) (rule : SearchRule) (p : Problem) (found : Found)
+    → IsVersionBy p found.cuts.cuts (course_of rule) s.version
     → WhereTold held (λ files. HoldsInstance files s.source p) → IsSearched p s.search.nodes (course_of rule) found
     → Answers (solve s rule) (finding_status found) held (found_text s.version p found)
 solve_answers held s rule p found version instance h =
     let m = method_by s rule in
     let text = found_text s.version p found in
-    let searched = found_searched p m.nodes m.course (searchable h) in
-    let spelled = spells_rule p m found
-    (has_text p found (found_from p m.nodes m.course).tree m.version h.problem h.proved.fit searched.first version) h in
+    let spelled = spells_found p m.version m.nodes m.course found h version in
     by_status p m found (λ x. Answers (solve s rule) x held text) h
-    (λ closed. record { problem = p; instance = instance; solves = rule_solves p m (SpellsUnmarked text) (searchable h) spelled closed })
-    (λ gap. record { problem = p; instance = instance; stops = rule_stops p m (SpellsUnmarked text) (searchable h) spelled gap })
+    (λ closed. record { problem = p; instance = instance; solves = rule_solves p m (SpellsBy p m text) (searchable h) spelled closed })
+    (λ gap. record { problem = p; instance = instance; stops = rule_stops p m (SpellsBy p m text) (searchable h) spelled gap })
 
 -- `resolve` answers so, in the second version
 pub resolve_answers : (held : Option Files) (r : Resolving) (p : Problem) (found : Found) → IsResolution held r p found
@@ -113,7 +141,7 @@ pub resolve_answers : (held : Option Files) (r : Resolving) (p : Problem) (found
 resolve_answers held r p found h =
     let m = again_method r.search h.older.proof in
     let text = found_text 2 p found in
-    let spelled = spells_rule p m found (inr refl) h.searched in
+    let spelled = spells_rule p m.version m.nodes m.course found h.searched (inr refl) in
     by_status p m found (λ x. Answers (resolve r) x held text) h.searched
     (λ closed. record {
       problem = p;
@@ -159,19 +187,16 @@ demo_answers held m search size found sized h =
     (λ closed. rule_solves p by (Demonstrates text) (searchable h) told closed)
     (λ gap. rule_stops p by (Demonstrates text) (searchable h) told gap)
 
--- no cuts are given to a search by a rule that is asked for
-pub own_by : (rule : SearchRule) → IsOwnCourse (course_of rule)
-own_by words.node_by_node = tt
-own_by words.by_rounds = tt
-
 -- where the search of a source may follow the rule, that of its instance may go so
 pub may_go_by : (rule : SearchRule) (s : Source) (p : Problem) → KeepsLimits s.options p → MayFollow rule s → MayGo p (course_of rule)
 may_go_by words.node_by_node s p keeps may = tt
+may_go_by words.by_core_cuts s p keeps may = tt
 may_go_by words.by_rounds s p keeps may = keeps.wanted may
 
 -- the words ask for no number of hubs where they ask for a search by rounds
 pub may_follow_by : (s : Solving) (rule : SearchRule) → IfSome (solved_by_rounds (solve s rule)) AsksAnyNumber → MayFollow rule s.source
 may_follow_by s words.node_by_node any = tt
+may_follow_by s words.by_core_cuts any = tt
 may_follow_by s words.by_rounds any = any
 
 -- a made instance has the size that was asked for

@@ -1,16 +1,19 @@
 -- The versions that words can ask for have a text for what is found.
 use Rattle.std.proofs.Common.{◌≡◌, ℕ, false, List, All, ◌⊎◌, inl, inr, ⊎_elim, ◌∙◌, arith}
-use Rattle.std.specs.Prelude.{is_some}
+use Rattle.std.specs.Prelude.{is_some, IfSome}
 use Rattle.std.proofs.lemmas.Bool.{cases_lt, or_parts}
 use Rattle.hub_spec.specs.Problem.{Problem}
 use Rattle.hub_spec.proofs.SumLemmas.{by_test}
 use Rattle.search_spec.proofs.Nodes.{none_there}
 use Rattle.file_spec.specs.Options.{Options}
-use Rattle.kept_cuts.specs.Kept.{Kept, IsOwn}
-use Rattle.kept_cuts.specs.Findings.{IsUnlimited, IsVersionFor}
+use Rattle.kept_cuts.specs.Kept.{Kept, IsRemade}
+use Rattle.kept_cuts.specs.Findings.{IsUnlimited, AreRemade, IsVersionFor}
+use Rattle.kept_cuts.specs.declared.found.Found.{Found}
 use Rattle.hub_words.specs.Requests as words
-use Rattle.hub_words.specs.Requests.{Solving, SaysLimits}
+use Rattle.hub_words.specs.Requests.{Solving, SearchRule, SaysLimits, AsksCoreCuts, solve, version_of, solved_by_core_cuts}
+use Rattle.hub_top.specs.Commands.{Course, by_core_cuts, course_of}
 use Rattle.hub_top.specs.Building.{KeepsLimits}
+use Rattle.hub_top.specs.Solving.{IsRemadeCourse}
 
 unlimited_when : (o : Options) (p : Problem) → KeepsLimits o p → words.is_limited o ≡ false → IsUnlimited p
 unlimited_when o p keeps e =
@@ -24,12 +27,26 @@ first_or_second v asked = elim (cases_lt v 2) [
 ]
 
 -- each, where the instance is unlimited and no cut was given
-either_version : (p : Problem) (cuts : List Kept) (v : ℕ) → IsUnlimited p → All IsOwn cuts → words.IsVersion v → IsVersionFor p cuts v
+either_version : (p : Problem) (cuts : List Kept) (v : ℕ) → IsUnlimited p → All IsRemade cuts → words.IsVersion v → IsVersionFor p cuts v
 either_version p cuts v unlimited own asked = ⊎_elim (λ one. inl (one, unlimited, own)) (λ two. inr two) (first_or_second v asked)
 
 -- and any that may be asked for, since limits are said in the second alone
-pub said_version : (s : Solving) (p : Problem) (cuts : List Kept) → KeepsLimits s.source.options p → All IsOwn cuts → words.IsVersion s.version
+pub said_version : (s : Solving) (p : Problem) (cuts : List Kept) → KeepsLimits s.source.options p → All IsRemade cuts → words.IsVersion s.version
     → SaysLimits s → IsVersionFor p cuts s.version
 said_version s p cuts keeps own asked says =
     by_test (words.is_limited s.source.options) (λ limited. inr (says limited))
     (λ not. either_version p cuts s.version (unlimited_when s.source.options p keeps not) own asked)
+
+-- the version of a search that goes so: by core cuts the third, else one that has a text for each finding with these cuts
+abbrev pub IsVersionBy : Problem → List Kept → Course → ℕ → Type 0
+IsVersionBy p cuts by_core_cuts version = version ≡ 3
+IsVersionBy p cuts course version = IsVersionFor p cuts version
+
+-- so is the version in which words ask to solve by a rule
+pub rule_version : (s : Solving) (rule : SearchRule) (p : Problem) (found : Found) → KeepsLimits s.source.options p
+    → (IsRemadeCourse (course_of rule) → AreRemade found) → IfSome (version_of (solve s rule)) words.IsVersion
+    → IfSome (solved_by_core_cuts (solve s rule)) AsksCoreCuts → SaysLimits s
+    → IsVersionBy p found.cuts.cuts (course_of rule) s.version
+rule_version s words.node_by_node p found keeps remade asked core says = said_version s p found.cuts.cuts keeps (remade tt) asked says
+rule_version s words.by_core_cuts p found keeps remade asked core says = core.third
+rule_version s words.by_rounds p found keeps remade asked core says = said_version s p found.cuts.cuts keeps (remade tt) asked says

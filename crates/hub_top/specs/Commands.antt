@@ -10,7 +10,8 @@ use Rattle.hub_spec.specs.Certificates.{Proof, Holds}
 use Rattle.search_spec.specs.States.{Grown}
 use Rattle.search_spec.specs.Findings.{AreWithin, IsSpent, IsEnough, certificate_of}
 use Rattle.search_spec.specs.Again.{Start, start_of}
-use Rattle.cert_spec.specs.Stated.{Stated, IsStatedOf}
+use Rattle.core_spec.specs.CoreCuts.{Mark}
+use Rattle.cert_spec.specs.Stated.{Stated, IsAsMarked, IsStatedOf}
 use Rattle.cert_spec.specs.Text.{Spells, SpellsUnmarked}
 use Rattle.cert_spec.specs.Verdicts.{Verdict, Why, Older, serves, IsOlder, certificate_limit}
 use Rattle.file_spec.specs.Limits.{file_limit}
@@ -18,6 +19,7 @@ use Rattle.file_spec.specs.Faults.{Fault}
 use Rattle.file_spec.specs.Contents.{Contents}
 use Rattle.file_spec.specs.Files.{HasContents}
 use Rattle.file_spec.specs.Instances.{build_fault, GivesInstance, GivesFileFault, GivesCosts, GivesCostFault}
+use Rattle.separators.specs.Kinds.{minimal, core}
 use Rattle.branch_tree.specs.Findings.{found_by, found_again}
 use Rattle.node_rounds.specs.Findings.{found_by_rounds}
 use Rattle.closing_search.specs.Gaps.{IsWithinGap}
@@ -84,15 +86,18 @@ HasBlame files s on_costs fault = HoldsCostFault files s fault
 
 -- ---- what a search comes to
 
--- how a search goes: node by node from its beginning, node by node from a start, or by rounds
+-- how a search goes: node by node from its beginning, the same with core cuts where there are, node by node from a start, or by
+-- rounds
 pub data Course : Type 0 where
   node_by_node : Course
+  by_core_cuts : Course
   again : Start → Course
   by_rounds : Course
 
 -- by the rule that is asked for
 abbrev pub course_of : SearchRule → Course
 course_of words.node_by_node = node_by_node
+course_of words.by_core_cuts = by_core_cuts
 course_of words.by_rounds = by_rounds
 
 -- how a search is asked for, as far as its certificate depends on it: the version of the text, the most nodes, and how it goes
@@ -135,8 +140,9 @@ pub record Finds (p : Problem) (m : Method) (tells : Proof → Type 0) (k : Proo
 
 -- what the search rule finds that goes so
 abbrev pub found_from : Problem → Option ℕ → Course → Grown
-found_from p nodes node_by_node = found_by p nodes
-found_from p nodes (again start) = found_again p nodes start
+found_from p nodes node_by_node = found_by minimal p nodes
+found_from p nodes by_core_cuts = found_by core p nodes
+found_from p nodes (again start) = found_again minimal p nodes start
 found_from p nodes by_rounds = found_by_rounds p nodes
 
 -- the certificate that the search rule defines for the instance, the most nodes and the course, in the version; it reads no
@@ -147,6 +153,20 @@ rule_certificate p m = certificate_of p m.version (found_from p m.nodes m.course
 -- it is the rule's
 abbrev pub IsByRule : Problem → Method → Proof → Type 0
 IsByRule p m k = k ≡ rule_certificate p m
+
+-- the bytes are the text of this proof with these marks, by which its cuts are core cuts
+pub record SpellsMarked (p : Problem) (marks : List (Option Mark)) (text : List ℕ) (k : Proof) : Type 0 where
+  pub spelled : Spells text (record { proof = k; marks = marks })
+  pub as_marked : AllZip (IsAsMarked p) k.cuts marks
+
+-- the bytes are the text of this proof, as a search that goes so writes it: by core cuts with the marks of what it finds, else with
+-- none
+abbrev pub SpellsFound : Problem → Option ℕ → Course → List ℕ → Proof → Type 0
+SpellsFound p nodes by_core_cuts text k = SpellsMarked p (found_by core p nodes).state.marks text k
+SpellsFound p nodes course text k = SpellsUnmarked text k
+
+abbrev pub SpellsBy : Problem → Method → List ℕ → Proof → Type 0
+SpellsBy p m text k = SpellsFound p m.nodes m.course text k
 
 -- as many nodes are allowed as a whole tree over the instance's candidates has
 abbrev pub IsEnoughFor : Problem → Option ℕ → Type 0
@@ -173,13 +193,13 @@ pub record Stops (p : Problem) (m : Method) (tells : Proof → Type 0) : Type 0 
 pub record SolvesInstance (held : Option Files) (s : Solving) (rule : SearchRule) (text : List ℕ) : Type 0 where
   pub problem : Problem
   pub instance : WhereTold held (λ files. HoldsInstance files s.source problem)
-  pub solves : Solves problem (method_by s rule) (SpellsUnmarked text)
+  pub solves : Solves problem (method_by s rule) (SpellsBy problem (method_by s rule) text)
 
 -- the files give an instance, for which the text stops by the rule
 pub record StopsInstance (held : Option Files) (s : Solving) (rule : SearchRule) (text : List ℕ) : Type 0 where
   pub problem : Problem
   pub instance : WhereTold held (λ files. HoldsInstance files s.source problem)
-  pub stops : Stops problem (method_by s rule) (SpellsUnmarked text)
+  pub stops : Stops problem (method_by s rule) (SpellsBy problem (method_by s rule) text)
 
 -- the files give an instance whose candidates lack this commodity, all of them together, and none before it: there is no plan
 pub record LacksNetwork (held : Option Files) (s : Source) (commodity : ℕ × ℕ) : Type 0 where

@@ -27,7 +27,7 @@ pub record IsSameInstance (before : Files) (s : Source) (now : Files) (t : Sourc
 
 -- the headline, for what the words ask for, the files held, what out took, whether no fault rose, and the status
 pub record Headline (asked : Option Request) (held : Option Files) (old new : Option (List ℕ)) (quiet : Type 0) (status : Status) : Type 0 where
-  -- where `solve` by either rule ends with status 0, the text it wrote names hubs and routes that cost exactly the printed
+  -- where `solve` by any rule ends with status 0, the text it wrote names hubs and routes that cost exactly the printed
   -- cost, and no nonempty set of candidate hubs with any routing costs less
   pub solved : (files : Files) (s : Solving) (rule : SearchRule) → held ≡ Some files → asked ≡ Some (solve s rule) → status ≡ Done
       → (text : List ℕ) × Appends old new text × SolvesInstance (Some files) s rule text

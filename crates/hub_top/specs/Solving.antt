@@ -9,7 +9,7 @@ use Rattle.search_spec.specs.Again.{start_of, IsStartOf}
 use Rattle.cert_spec.specs.Stated.{Stated}
 use Rattle.cert_spec.specs.Verdicts.{Older, serves}
 use Rattle.cert_checker.specs.Shows.{verdict_of}
-use Rattle.kept_cuts.specs.Findings.{IsProved, AreOwn, proof_of}
+use Rattle.kept_cuts.specs.Findings.{IsProved, AreRemade, proof_of}
 use Rattle.kept_cuts.specs.declared.found.Found as finding
 use Rattle.search_progress.specs.Findings.{IsFound}
 use Rattle.closing_search.specs.Gaps.{IsWithinGap}
@@ -17,7 +17,7 @@ use Rattle.search_core.specs.Starts.{start_seen}
 use Rattle.hub_words.specs.Requests as words
 use Rattle.hub_words.specs.Requests.{Source, SearchRule, Resolving, AsksAnyNumber}
 use Rattle.hub_top.specs.declared.solving.Course as code
-use Rattle.hub_top.specs.declared.solving.Course.TheVariants.{NodeByNode, Again, ByRounds}
+use Rattle.hub_top.specs.declared.solving.Course.TheVariants.{NodeByNode, ByCoreCuts, Again, ByRounds}
 use Rattle.hub_top.specs.declared.solving.Solved.{Solved}
 use Rattle.hub_top.specs.declared.solving.Solved.TheVariants.{Found, NoNetwork}
 use Rattle.hub_top.specs.declared.resolving.Resolved.{Resolved}
@@ -28,7 +28,7 @@ use Rattle.hub_top.specs.declared.optimizing.First.{First}
 use Rattle.hub_top.specs.declared.optimizing.First.TheVariants as first
 use Rattle.hub_top.specs.declared.optimizing.First.TheVariants.{With}
 use Rattle.hub_top.specs.declared.status.Status.TheVariants.{No}
-use Rattle.hub_top.specs.Commands.{Course, node_by_node, again, by_rounds, course_of, found_from, IsEnoughFor, HoldsOlder, HoldsSized, RefusesOlder, RefusesFirst, MayBegin, LacksNetwork}
+use Rattle.hub_top.specs.Commands.{Course, node_by_node, by_core_cuts, again, by_rounds, course_of, found_from, IsEnoughFor, HoldsOlder, HoldsSized, RefusesOlder, RefusesFirst, MayBegin, LacksNetwork}
 use Rattle.hub_top.specs.Texts.{verdict_text, older_line}
 use Rattle.hub_top.specs.Answers.{verdict_status}
 use Rattle.hub_top.specs.Building.{KeepsLimits}
@@ -37,35 +37,39 @@ use Rattle.hub_top.specs.Told.{ToldInstance}
 -- how the code has a search go
 abbrev pub course_seen : code.Course → Course
 course_seen NodeByNode = node_by_node
+course_seen ByCoreCuts = by_core_cuts
 course_seen (Again start) = again (start_seen start)
 course_seen ByRounds = by_rounds
 
 -- a search of the problem may go so: what it begins again with is a start of the problem, and by rounds any number of hubs will do
 abbrev pub MayGo : Problem → Course → Type 0
 MayGo p node_by_node = Unit {0}
+MayGo p by_core_cuts = Unit {0}
 MayGo p (again start) = IsStartOf p start
 MayGo p by_rounds = p.wanted ≡ None
 
 -- the search of a source may follow the rule: by rounds no number of hubs is asked for
 abbrev pub MayFollow : SearchRule → Source → Type 0
 MayFollow words.node_by_node s = Unit {0}
+MayFollow words.by_core_cuts s = Unit {0}
 MayFollow words.by_rounds s = AsksAnyNumber s
 
--- no cuts are given to a search that goes so
-abbrev pub IsOwnCourse : Course → Type 0
-IsOwnCourse node_by_node = Unit {0}
-IsOwnCourse (again start) = ⊥
-IsOwnCourse by_rounds = Unit {0}
+-- the cuts of a search that goes so are all made anew: none is given, and none a core cut
+abbrev pub IsRemadeCourse : Course → Type 0
+IsRemadeCourse node_by_node = Unit {0}
+IsRemadeCourse by_core_cuts = ⊥
+IsRemadeCourse (again start) = ⊥
+IsRemadeCourse by_rounds = Unit {0}
 
 -- it is what the rule finds that goes so, with so many nodes at most, in each version; all candidates together lack no
--- commodity; where no cuts are given, none of its cuts was given
+-- commodity; where no cuts are given and core cuts are not asked for, each of its cuts is made anew
 pub record IsSearched (p : Problem) (nodes : Option ℕ) (course : Course) (found : finding.Found) : Type 0 where
   pub problem : IsProblem p
   pub lacks_none : IsHubSet p p.candidates
   pub may_go : MayGo p course
   pub finding : IsFound p (found_from p nodes course) found
   pub proved : IsProved p found
-  pub own : IsOwnCourse course → AreOwn found
+  pub remade : IsRemadeCourse course → AreRemade found
   pub certificate : (version : ℕ) → proof_of version p found (found_from p nodes course).tree ≡ certificate_of p version (found_from p nodes course)
 
 -- it is what the rule finds for the instance of the source
@@ -87,7 +91,7 @@ pub record IsResolution (held : Option Files) (r : Resolving) (p : Problem) (fou
 pub record IsClosed (p : Problem) (nodes : Option ℕ) (gap : ℕ) (found : finding.Found) : Type 0 where
   pub problem : IsProblem p
   pub proved : IsProved p found
-  pub own : AreOwn found
+  pub own : AreRemade found
   pub routes : AllZip (IsLeastRoute p found.plan.hubs) (commodities p.size) found.plan.routes
   pub at_most : p.wanted ≡ None → (cost : ℕ) → IsSetCost p p.candidates cost → found.cost ≤ cost
   pub within : found.bound ≤ found.cost

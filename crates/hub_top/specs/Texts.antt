@@ -26,6 +26,7 @@ usage_text = concat (
     ∷ codes "         --max-length R\n"
     ∷ codes "         --hubs P|file\n"
     ∷ codes "       hub resolve LAYOUT FILE OLD [options] [--nodes N] [--workers W]\n"
+    ∷ codes "         --cuts minimal|core\n"
     ∷ codes "         --rule 1|2\n"
     ∷ [])
 

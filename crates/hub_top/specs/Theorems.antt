@@ -1,12 +1,11 @@
 -- What a text that solves an instance is to a check, that a search has one text, and that files have one fault.
 use Rattle.std.specs.Prelude.{◌≡◌, ℕ, ◌≤◌, List, length, ◌⊎◌}
 use Rattle.hub_spec.specs.Problem.{Problem, IsProblem}
-use Rattle.cert_spec.specs.Text.{SpellsUnmarked}
 use Rattle.cert_spec.specs.Verdicts.{Verdict, optimal, bounds, Why, certificate_limit}
 use Rattle.file_spec.specs.Faults.{Fault}
 use Rattle.hub_io.specs.Outside.{Files}
 use Rattle.hub_words.specs.Requests.{Source}
-use Rattle.hub_top.specs.Commands.{Method, Solves, Stops, Optimizes, Bounds, Blame, HasBlame}
+use Rattle.hub_top.specs.Commands.{Method, SpellsBy, Solves, Stops, Optimizes, Bounds, Blame, HasBlame}
 
 -- the verdict is the one on the text, and no other
 abbrev pub IsOneVerdict : Problem → List ℕ → Verdict → Type 0
@@ -14,12 +13,12 @@ IsOneVerdict p text verdict = Why p text verdict × ((other : Verdict) → Why p
 
 -- the verdict on a text that solves the instance, and is not too long, is optimal, with the printed cost, and no other
 abbrev pub SolvedIsOptimal : Type 0
-SolvedIsOptimal = (p : Problem) (m : Method) (text : List ℕ) (solved : Solves p m (SpellsUnmarked text)) → length text ≤ certificate_limit
+SolvedIsOptimal = (p : Problem) (m : Method) (text : List ℕ) (solved : Solves p m (SpellsBy p m text)) → length text ≤ certificate_limit
     → IsOneVerdict p text (optimal solved.certificate.cost)
 
 -- the verdict on a text that stops, and is not too long, is bounds, with the printed bound and cost, and no other
 abbrev pub StoppedIsBounds : Type 0
-StoppedIsBounds = (p : Problem) (m : Method) (text : List ℕ) (stopped : Stops p m (SpellsUnmarked text)) → length text ≤ certificate_limit
+StoppedIsBounds = (p : Problem) (m : Method) (text : List ℕ) (stopped : Stops p m (SpellsBy p m text)) → length text ≤ certificate_limit
     → IsOneVerdict p text (bounds stopped.certificate.bound stopped.certificate.cost)
 
 -- the same of a text of `optimize`
@@ -33,7 +32,7 @@ BoundedIsBounds = (p : Problem) (m : Method) (gap : ℕ) (text : List ℕ) (boun
 
 -- the text solves the instance by the method, or stops
 abbrev pub Ends : Problem → Method → List ℕ → Type 0
-Ends p m text = Solves p m (SpellsUnmarked text) ⊎ Stops p m (SpellsUnmarked text)
+Ends p m text = Solves p m (SpellsBy p m text) ⊎ Stops p m (SpellsBy p m text)
 
 -- an instance, a version, a number of nodes and a course have one text, whatever the workers
 abbrev pub OneText : Type 0
@@ -41,7 +40,7 @@ OneText = (p : Problem) (m : Method) (text other : List ℕ) → Ends p m text �
 
 -- two texts that solve one instance print one cost, however the searches go
 abbrev pub OneCost : Type 0
-OneCost = (p : Problem) (m other : Method) (text too : List ℕ) (solved : Solves p m (SpellsUnmarked text)) (again : Solves p other (SpellsUnmarked too))
+OneCost = (p : Problem) (m other : Method) (text too : List ℕ) (solved : Solves p m (SpellsBy p m text)) (again : Solves p other (SpellsBy p other too))
     → IsProblem p → again.certificate.cost ≡ solved.certificate.cost
 
 -- two faults that the same files have are one, told of one file

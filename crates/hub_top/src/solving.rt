@@ -7,6 +7,7 @@ ghost use Rattle.hub_spec.specs.Plans.{IsCandidateSet, IsHubSet};
 ghost use Rattle.hub_spec.specs.Separation.{IsOrder};
 ghost use Rattle.cut_pool.specs.Entries.{entry_of};
 ghost use Rattle.search_steps.specs.Pools.{IsSumsOf};
+ghost use Rattle.separators.specs.Kinds.{minimal};
 ghost use Rattle.hub_make.specs.Contents.{made_problem};
 ghost use Rattle.hub_words.specs.Requests.{AreSources, AsksListed, IsMaking, IsSearch};
 ghost use Rattle.hub_words.specs.Views.{making_seen, rule_seen, search_seen, source_of};
@@ -30,7 +31,7 @@ use par_separate::{Crew, separate_sums, workers_for};
 use plan_model::HubSet;
 use search_core::Start;
 use search_steps::{Counted, Plain, Rule};
-use separators::{Separator, Solo};
+use separators::{Coring, Separator, Solo};
 use std::alloc::{AllocError, Global};
 use std::thread::Threads;
 
@@ -48,6 +49,8 @@ pub enum Solved {
 pub enum Course {
     /// Node by node, from its beginning.
     NodeByNode,
+    /// The same with core cuts, where a hub set has one.
+    ByCoreCuts,
     /// Node by node, from this start.
     Again(Start),
     /// By rounds, from its beginning.
@@ -88,6 +91,7 @@ fn course_by(rule: SearchRule) -> Course
 {
     match rule {
         SearchRule::NodeByNode => Course::NodeByNode,
+        SearchRule::ByCoreCuts => Course::ByCoreCuts,
         SearchRule::ByRounds => Course::ByRounds,
     }
 }
@@ -161,8 +165,8 @@ fn find_by<R: Threads + Sync, Q: Rule, G: Gate>(
 {
     let workers = workers_for(instance.size(), asked.workers);
     if workers == 1 {
-        let mut solo = Solo::new(alloc, instance)?;
-        return find_with(rt, alloc, rule, instance, asked, course, &mut solo, gate);
+        let solo = Solo::new(alloc, instance)?;
+        return find_with(rt, alloc, rule, instance, asked, course, solo, gate);
     }
     let cut = |alloc: Global, i: &Instance, set: HubSet, order: &[u32]| -> Result<
         CutSums,
@@ -171,28 +175,19 @@ fn find_by<R: Threads + Sync, Q: Rule, G: Gate>(
         requires { IsSync R.row × IsSync G.row × IsHubSet i.now set × IsOrder i.now set order.now × (1 ≤ workers) × (workers ≤ 64) }
         ensures { IfOk result (λ c. (c.hubs ≡ set) × IsSumsOf i.entry.now (entry_of c order.entry.now)) }
     { separate_sums(rt, alloc, i, set, order, workers, gate) };
-    find_with(
-        rt,
-        alloc,
-        rule,
-        instance,
-        asked,
-        course,
-        &mut Crew { cut },
-        gate,
-    )
+    find_with(rt, alloc, rule, instance, asked, course, Crew { cut }, gate)
 }
 
-/// What the rule of the search finds, asking this separator; by rounds the turns of each round are worked out by as many
-/// workers as are asked for.
-fn find_with<R: Threads + Sync, Q: Rule, S: Separator, G: Gate>(
+/// What the rule of the search finds, asking this separator, and by core cuts only where a hub set has none; by rounds the turns of
+/// each round are worked out by as many workers as are asked for.
+fn find_with<R: Threads + Sync, Q: Rule, S: Separator + Drop, G: Gate>(
     rt: &R,
     alloc: Global,
     rule: &Q,
     instance: &Instance,
     asked: Search,
     course: Course,
-    separator: &mut S,
+    mut separator: S,
     gate: &G,
 ) -> Result<Found, AllocError>
     requires serves { Q.serves rule.now instance.now }
@@ -200,15 +195,21 @@ fn find_with<R: Threads + Sync, Q: Rule, S: Separator, G: Gate>(
     requires problem { IsProblem instance.now }
     requires lacks_none { IsHubSet instance.now instance.now.candidates }
     requires may_go { MayGo instance.now (course_seen course) }
-    requires ready { S.ready separator.old }
+    requires ready { S.ready separator }
+    requires minimal_duals { S.kind ≡ minimal }
     ensures { IfOk result (IsSearched instance.now asked.nodes (course_seen course)) }
 {
     let nodes = asked.nodes;
     match course {
-        Course::NodeByNode => search(alloc, rule, instance, nodes, separator),
-        Course::Again(start) => search_from(alloc, rule, instance, nodes, separator, start),
+        Course::NodeByNode => search(alloc, rule, instance, nodes, &mut separator),
+        Course::ByCoreCuts => {
+            let mut coring = Coring { others: separator };
+            search(alloc, rule, instance, nodes, &mut coring)
+        }
+        Course::Again(start) => search_from(alloc, rule, instance, nodes, &mut separator, start),
         Course::ByRounds => {
-            search_rounds(rt, alloc, instance, nodes, separator, asked.workers, gate)
+            let workers = asked.workers;
+            search_rounds(rt, alloc, instance, nodes, &mut separator, workers, gate)
         }
     }
 }

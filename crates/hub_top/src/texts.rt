@@ -36,7 +36,7 @@ pub fn put_usage<K: Sink>(sink: &mut K) -> Result<(), Failed>
     ensures { Puts K.taken K.faults sink.old sink.new result usage_text }
 {
     sink.put(
-        b"usage: hub solve LAYOUT FILE [options] [--nodes N] [--workers W]\n       hub check LAYOUT FILE CERT [options]\n       hub report LAYOUT FILE CERT [options]\n       hub make SEED SIZE\n       hub demo SEED SIZE [--nodes N] [--workers W]\nLAYOUT: cab-matrix, cab-rows, ap\noptions: --order flow-first|distance-first, --tail ignore|fixed, --divide D,\n         --collect X, --trunk X, --deliver X, --fixed X, --costs FILE,\n         --candidates LIST, --no-self\n         --format 1|2\n         --max-length R\n         --hubs P|file\n       hub resolve LAYOUT FILE OLD [options] [--nodes N] [--workers W]\n         --rule 1|2\n",
+        b"usage: hub solve LAYOUT FILE [options] [--nodes N] [--workers W]\n       hub check LAYOUT FILE CERT [options]\n       hub report LAYOUT FILE CERT [options]\n       hub make SEED SIZE\n       hub demo SEED SIZE [--nodes N] [--workers W]\nLAYOUT: cab-matrix, cab-rows, ap\noptions: --order flow-first|distance-first, --tail ignore|fixed, --divide D,\n         --collect X, --trunk X, --deliver X, --fixed X, --costs FILE,\n         --candidates LIST, --no-self\n         --format 1|2\n         --max-length R\n         --hubs P|file\n       hub resolve LAYOUT FILE OLD [options] [--nodes N] [--workers W]\n         --cuts minimal|core\n         --rule 1|2\n",
     )
 }
 

@@ -3,7 +3,7 @@
 ghost use Rattle.std.specs.Prelude.{◌≡◌, ◌⊎◌, IfOk, IfSome, None, Some};
 ghost use Rattle.hub_io.specs.Outside.{Rose};
 ghost use Rattle.hub_words.specs.Words as spec;
-ghost use Rattle.hub_words.specs.Requests.{AreSources, AsksAnyNumber, AsksListed, IsGap, IsMaking, IsSearch, IsVersion, Request, SaysLimits, gap_of, instance, making_of, search_of, solved, solved_by_rounds, version_of};
+ghost use Rattle.hub_words.specs.Requests.{AreSources, AsksAnyNumber, AsksCoreCuts, AsksListed, IsGap, IsMaking, IsSearch, IsVersion, Request, SaysLimits, gap_of, instance, making_of, search_of, solved, solved_by_core_cuts, solved_by_rounds, version_of};
 ghost use Rattle.hub_words.specs.Views.{request_of, texts};
 ghost use Rattle.hub_top.specs.Views.{CanBeWritten, came_to, ended};
 ghost use Rattle.hub_top.specs.Outcomes.{Outcome, MayComeTo, ShelfFails, Quiet, Written};
@@ -32,7 +32,8 @@ use std::thread::Threads;
 /// It reads and decides first, takes the room that the writing needs, and then writes: the answer of the command on `out`,
 /// or what hinders it on `err`. `make` and `demo` call nothing on the shelf. The runtime serves the workers of a
 /// search and of a certificate's text, the gate those of a search: no clause reads them, nor the number of workers, and out
-/// takes the same text whatever they are.
+/// takes the same text whatever they are. With core cuts `solve` writes the third version of a certificate's text, in
+/// which each core cut has its mark, its hub set and a proof of each dual; else the first or the second, with no mark.
 ///
 /// - `ends`: there is an outcome that the words, the files and the shelf's faults allow, and it was written, with its
 ///   status; where a sink failed, a front of the text that it was to take, and nothing further.
@@ -108,6 +109,7 @@ fn answer<R: Threads + Sync, S: Shelf, G: Gate>(
     requires versions { IfSome (version_of (request_of command.now)) IsVersion }
     requires listed { IfSome (instance (request_of command.now)) AsksListed }
     requires any_number { IfSome (solved_by_rounds (request_of command.now)) AsksAnyNumber }
+    requires core_cuts { IfSome (solved_by_core_cuts (request_of command.now)) AsksCoreCuts }
     requires sayable { IfSome (solved (request_of command.now)) SaysLimits }
     requires makings { IfSome (making_of (request_of command.now)) IsMaking }
     ensures may { MayComeTo (Some (request_of command.now)) (S.held shelf.old)

@@ -49,9 +49,9 @@ with_search a = fold with_option a search_names
 abbrev pub with_format : App → App
 with_format a = with_option a (codes "format")
 
--- a command that takes the rule of the search
+-- a command that takes the rule of the search and the kind of its cuts
 abbrev pub with_choice : App → App
-with_choice a = with_option a (codes "rule")
+with_choice a = with_option (with_option a (codes "rule")) (codes "cuts")
 
 -- a command that takes a gap between the bound and the cost, and the file of an older certificate to begin with
 abbrev pub with_gap : App → App
@@ -65,7 +65,8 @@ making_words = codes "seed" ∷ codes "size" ∷ []
 abbrev pub with_making : App → App
 with_making a = fold with_word a making_words
 
--- `solve LAYOUT FILE`, with the instance options, those of a search, the version of the text and the rule of the search
+-- `solve LAYOUT FILE`, with the instance options, those of a search, the version of the text, the rule of the search and the
+-- kind of its cuts
 abbrev pub solve_app : App
 solve_app = with_choice (with_format (with_search (with_instance (new_app (codes "solve")))))
 

@@ -1,5 +1,5 @@
 -- What the words of a command line ask for.
-use Rattle.std.specs.Prelude.{◌≡◌, ℕ, ◌≤◌, Bool, true, ◌||◌, List, Option, Some, None, IfSome, IsSome, is_some}
+use Rattle.std.specs.Prelude.{◌≡◌, ℕ, ◌≤◌, Bool, true, false, ◌||◌, List, Option, Some, None, IfSome, IsSome, is_some}
 use Rattle.hub_spec.specs.Limits.{most_nodes}
 use Rattle.file_spec.specs.Options.{Layout, australia_post, listed_number, Options, IsOptions, tail_costs}
 use Rattle.hub_words.specs.Limits.{most_search_nodes, most_workers, most_seed, most_gap}
@@ -33,9 +33,10 @@ pub record Making : Type 0 where
   pub seed : ℕ
   pub size : ℕ
 
--- the rules of a search: node by node, or in rounds of nodes side by side
+-- the rules of a search: node by node, the same with core cuts where there are, or in rounds of nodes side by side
 pub data SearchRule : Type 0 where
   node_by_node : SearchRule
+  by_core_cuts : SearchRule
   by_rounds : SearchRule
 
 -- a command: solve an instance by a rule or by a search that follows none, up to a gap in thousandths of a per cent of the
@@ -80,8 +81,9 @@ making_of (report source certificate) = None
 making_of (make making) = Some making
 making_of (demo making search) = Some making
 
--- the version in which a request asks for a certificate, if it asks for one by its version
+-- the version in which a request asks for a certificate, if it is free to ask for one
 abbrev pub version_of : Request → Option ℕ
+version_of (solve solving by_core_cuts) = None
 version_of (solve solving rule) = Some solving.version
 version_of (optimize solving gap from) = Some solving.version
 version_of (resolve resolving) = None
@@ -94,12 +96,25 @@ version_of (demo making search) = None
 abbrev pub solved_by_rounds : Request → Option Source
 solved_by_rounds (solve solving by_rounds) = Some solving.source
 solved_by_rounds (solve solving node_by_node) = None
+solved_by_rounds (solve solving by_core_cuts) = None
 solved_by_rounds (optimize solving gap from) = None
 solved_by_rounds (resolve resolving) = None
 solved_by_rounds (check source certificate) = None
 solved_by_rounds (report source certificate) = None
 solved_by_rounds (make making) = None
 solved_by_rounds (demo making search) = None
+
+-- what a request asks to be solved with core cuts, if it does
+abbrev pub solved_by_core_cuts : Request → Option Solving
+solved_by_core_cuts (solve solving by_core_cuts) = Some solving
+solved_by_core_cuts (solve solving node_by_node) = None
+solved_by_core_cuts (solve solving by_rounds) = None
+solved_by_core_cuts (optimize solving gap from) = None
+solved_by_core_cuts (resolve resolving) = None
+solved_by_core_cuts (check source certificate) = None
+solved_by_core_cuts (report source certificate) = None
+solved_by_core_cuts (make making) = None
+solved_by_core_cuts (demo making search) = None
 
 -- the gap that a request allows, if it is for the search that follows no rule
 abbrev pub gap_of : Request → Option ℕ
@@ -143,6 +158,11 @@ AsksListed s = s.options.hubs ≡ Some listed_number → s.layout ≡ australia_
 abbrev pub SaysLimits : Solving → Type 0
 SaysLimits s = is_limited s.source.options ≡ true → s.version ≡ 2
 
+-- with core cuts neither the length of routes nor the number of hubs is limited, and the version is the third
+pub record AsksCoreCuts (s : Solving) : Type 0 where
+  pub unlimited : is_limited s.source.options ≡ false
+  pub third : s.version ≡ 3
+
 -- any number of hubs will do
 abbrev pub AsksAnyNumber : Source → Type 0
 AsksAnyNumber s = s.options.hubs ≡ None
@@ -162,7 +182,7 @@ pub record IsMaking (m : Making) : Type 0 where
   pub least : 1 ≤ m.size
   pub most : m.size ≤ most_nodes
 
--- a version that there is
+-- a version that a request may ask for
 abbrev pub IsVersion : ℕ → Type 0
 IsVersion v = (1 ≤ v) × (v ≤ 2)
 
@@ -172,6 +192,7 @@ pub record IsLawful (r : Request) : Type 0 where
   pub sources : IfSome (instance r) AreSources
   pub listed : IfSome (instance r) AsksListed
   pub any_number : IfSome (solved_by_rounds r) AsksAnyNumber
+  pub core_cuts : IfSome (solved_by_core_cuts r) AsksCoreCuts
   pub searches : IfSome (search_of r) IsSearch
   pub gaps : IfSome (gap_of r) IsGap
   pub versions : IfSome (version_of r) IsVersion

@@ -141,6 +141,16 @@ abbrev pub rule_asked : Option (List ℕ) → Option SearchRule
 rule_asked None = Some node_by_node
 rule_asked (Some word) = rule_named word
 
+-- whether the cuts of this name are core cuts
+abbrev pub cuts_named : List ℕ → Option Bool
+cuts_named word =
+    if bytes_eq word (codes "minimal") then Some false else if bytes_eq word (codes "core") then Some true else None
+
+-- whether core cuts are asked for; not where nothing is said of the cuts
+abbrev pub core_cuts_asked : Option (List ℕ) → Option Bool
+core_cuts_asked None = Some false
+core_cuts_asked (Some word) = cuts_named word
+
 -- the version of this name
 abbrev pub version_named : List ℕ → Option ℕ
 version_named word = if bytes_eq word (codes "1") then Some 1 else if bytes_eq word (codes "2") then Some 2 else None

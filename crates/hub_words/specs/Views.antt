@@ -15,7 +15,7 @@ use Rattle.hub_words.specs.declared.requests.Resolving.{Resolving}
 use Rattle.hub_words.specs.declared.requests.Search.{Search}
 use Rattle.hub_words.specs.declared.requests.Making.{Making}
 use Rattle.hub_words.specs.declared.requests.SearchRule.{SearchRule}
-use Rattle.hub_words.specs.declared.requests.SearchRule.TheVariants.{NodeByNode, ByRounds}
+use Rattle.hub_words.specs.declared.requests.SearchRule.TheVariants.{NodeByNode, ByCoreCuts, ByRounds}
 use Rattle.hub_words.specs.declared.requests.Command.{Command}
 use Rattle.hub_words.specs.declared.requests.Command.TheVariants.{Solve, Optimize, Resolve, Check, Report, Make, Demo}
 
@@ -52,6 +52,7 @@ resolving_of r = record { source = source_of r.source; older = r.older.now; sear
 -- the rule of a search
 abbrev pub rule_seen : SearchRule → request.SearchRule
 rule_seen NodeByNode = request.node_by_node
+rule_seen ByCoreCuts = request.by_core_cuts
 rule_seen ByRounds = request.by_rounds
 
 -- the values that a command was given, in rows

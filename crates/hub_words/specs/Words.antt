@@ -1,9 +1,9 @@
 -- What the words of a command line ask for. They include the program's name as the first.
-use Rattle.std.specs.Prelude.{ℕ, Bool, ◌&&◌, ◌||◌, not, List, codes, bytes_eq, Option, Some, None, option_map, option_and_then, is_some, if◌then◌else◌}
+use Rattle.std.specs.Prelude.{ℕ, Bool, true, false, ◌&&◌, ◌||◌, not, List, codes, bytes_eq, Option, Some, None, option_map, option_and_then, is_some, if◌then◌else◌}
 use Rattle.clap.specs.Words.{Row, Text, first_of}
 use Rattle.file_spec.specs.Options.{Layout, Order, Tail, tail_ignored, tail_costs, HubNumber, Options}
-use Rattle.hub_words.specs.Requests.{Source, Search, Solving, Resolving, Making, SearchRule, node_by_node, by_rounds, Request, solve, optimize, resolve, check, report, make, demo, is_limited}
-use Rattle.hub_words.specs.Values.{layout_named, order_asked, tail_asked, divide_asked, factor_asked, fixed_asked, longest_asked, hubs_asked, candidates_asked, is_set, nodes_asked, workers_asked, gap_asked, rule_asked, version_asked, seed_asked, size_asked}
+use Rattle.hub_words.specs.Requests.{Source, Search, Solving, Resolving, Making, SearchRule, node_by_node, by_core_cuts, by_rounds, Request, solve, optimize, resolve, check, report, make, demo, is_limited}
+use Rattle.hub_words.specs.Values.{layout_named, order_asked, tail_asked, divide_asked, factor_asked, fixed_asked, longest_asked, hubs_asked, candidates_asked, is_set, nodes_asked, workers_asked, gap_asked, rule_asked, core_cuts_asked, version_asked, seed_asked, size_asked}
 use Rattle.hub_words.specs.Parses.{parsed}
 
 -- the value that the words give to the argument of this name
@@ -125,19 +125,29 @@ solving_from source run word = None
 abbrev pub solving_asked : List Row → Option Solving
 solving_asked rows = solving_from (source_asked rows) (search_asked rows) (given rows (codes "format"))
 
--- a call to solve an instance by a rule; that by rounds knows no wanted number of hubs
-abbrev pub solve_by : Solving → SearchRule → Option Request
-solve_by solving node_by_node = Some (solve solving node_by_node)
-solve_by solving by_rounds = if is_some solving.source.options.hubs then None else Some (solve solving by_rounds)
+-- a call to solve an instance with core cuts: it names no version, which is the third, and limits neither routes nor hubs
+abbrev pub solve_by_core_cuts : Option Text → Solving → Option Request
+solve_by_core_cuts format solving =
+    if is_some format || is_limited solving.source.options then None
+    else Some (solve (record solving { version = 3 }) by_core_cuts)
 
--- what is to be solved, and the rule, where each is within its form
-abbrev pub solve_from : Option Solving → Option SearchRule → Option Request
-solve_from (Some solving) (Some rule) = solve_by solving rule
-solve_from solving rule = None
+-- a call to solve an instance by a rule, and with core cuts where these are asked for; the rule by rounds knows neither them nor a
+-- wanted number of hubs
+abbrev pub solve_by : Option Text → Solving → SearchRule → (core : Bool) → Option Request
+solve_by format solving by_rounds core = if core || is_some solving.source.options.hubs then None else Some (solve solving by_rounds)
+solve_by format solving rule true = solve_by_core_cuts format solving
+solve_by format solving rule false = Some (solve solving rule)
+
+-- what is to be solved, the rule, and whether with core cuts, where each is within its form
+abbrev pub solve_from : Option Text → Option Solving → Option SearchRule → Option Bool → Option Request
+solve_from format (Some solving) (Some rule) (Some core) = solve_by format solving rule core
+solve_from format solving rule core = None
 
 -- a call to solve the instance
 abbrev pub solve_asked : List Row → Option Request
-solve_asked rows = solve_from (solving_asked rows) (rule_asked (given rows (codes "rule")))
+solve_asked rows =
+    solve_from (given rows (codes "format")) (solving_asked rows) (rule_asked (given rows (codes "rule")))
+    (core_cuts_asked (given rows (codes "cuts")))
 
 -- what is to be solved, and the gap, where each is within its form, with the older certificate that is named
 abbrev pub optimize_from : Option Solving → Option ℕ → Option Text → Option Request

@@ -1,7 +1,7 @@
 //! The command that the words give.
 
 ghost use Rattle.std.specs.Prelude.{◌≡◌, IfOk, IfSome, codes, option_map};
-ghost use Rattle.hub_words.specs.Requests.{AreSources, AsksAnyNumber, AsksListed, HasOptions, IsGap, IsLawful, IsMaking, IsSearch, IsVersion, SaysLimits, gap_of, instance, making_of, search_of, solved, solved_by_rounds, version_of};
+ghost use Rattle.hub_words.specs.Requests.{AreSources, AsksAnyNumber, AsksCoreCuts, AsksListed, HasOptions, IsGap, IsLawful, IsMaking, IsSearch, IsVersion, SaysLimits, gap_of, instance, making_of, search_of, solved, solved_by_core_cuts, solved_by_rounds, version_of};
 ghost use Rattle.hub_words.specs.Requests as law;
 ghost use Rattle.cert_scan.specs.Versions.{version_number};
 ghost use Rattle.hub_words.specs.Words as spec;
@@ -13,7 +13,8 @@ use crate::requests::{Command, Optimizing, Resolving, SearchRule, Solving, Sourc
 use crate::searches::read_search;
 use crate::settings::given;
 use crate::sources::source;
-use crate::values::{gap, rule, version};
+use crate::values::{core_cuts, gap, rule, version};
+use cert_scan::Version;
 use clap::ArgMatches;
 use hub_model::Terms;
 use std::alloc::{AllocError, Global};
@@ -25,6 +26,7 @@ pub fn asked<'a>(alloc: Global, words: &'a [String]) -> Result<Option<Command<'a
     ensures sources { IfOk result (λ command. IfSome command (λ c. IfSome (instance (request_of c)) AreSources)) }
     ensures listed { IfOk result (λ command. IfSome command (λ c. IfSome (instance (request_of c)) AsksListed)) }
     ensures any_number { IfOk result (λ command. IfSome command (λ c. IfSome (solved_by_rounds (request_of c)) AsksAnyNumber)) }
+    ensures core_cuts { IfOk result (λ command. IfSome command (λ c. IfSome (solved_by_core_cuts (request_of c)) AsksCoreCuts)) }
     ensures searches { IfOk result (λ command. IfSome command (λ c. IfSome (search_of (request_of c)) IsSearch)) }
     ensures gaps { IfOk result (λ command. IfSome command (λ c. IfSome (gap_of (request_of c)) IsGap)) }
     ensures versions { IfOk result (λ command. IfSome command (λ c. IfSome (version_of (request_of c)) IsVersion)) }
@@ -75,13 +77,41 @@ fn solve<'a>(alloc: Global, found: &ArgMatches<'a>) -> Result<Option<Command<'a>
     let Some(rule) = rule(given(found, "rule")) else {
         return Ok(None);
     };
+    let Some(core) = core_cuts(given(found, "cuts")) else {
+        return Ok(None);
+    };
     let Some(solving) = solving(alloc, found)? else {
         return Ok(None);
     };
     match rule {
-        SearchRule::ByRounds if solving.source.terms.hubs.is_some() => Ok(None),
-        SearchRule::NodeByNode | SearchRule::ByRounds => Ok(Some(Command::Solve(solving, rule))),
+        SearchRule::ByRounds if core || solving.source.terms.hubs.is_some() => Ok(None),
+        SearchRule::NodeByNode | SearchRule::ByCoreCuts if core => {
+            Ok(solve_by_core_cuts(given(found, "format"), solving))
+        }
+        SearchRule::NodeByNode | SearchRule::ByCoreCuts | SearchRule::ByRounds => {
+            Ok(Some(Command::Solve(solving, rule)))
+        }
     }
+}
+
+/// The same with core cuts, which names no version and limits neither routes nor hubs.
+fn solve_by_core_cuts<'a>(format: Option<&str>, solving: Solving<'a>) -> Option<Command<'a>>
+    requires limits { HasOptions (source_of solving.source) }
+    requires sources { AreSources (source_of solving.source) }
+    requires listed { AsksListed (source_of solving.source) }
+    requires search { IsSearch (search_seen solving.search) }
+    ensures command { requested result ≡ spec.solve_by_core_cuts (option_map (λ word. word.now) format.entry) (solving_of solving.entry) }
+    ensures lawful { IfSome result (λ c. IsLawful (request_of c)) }
+{
+    if format.is_some() || is_limited(&solving.source.terms) {
+        return None;
+    }
+    let third = Solving {
+        source: solving.source,
+        search: solving.search,
+        version: Version::Third,
+    };
+    Some(Command::Solve(third, SearchRule::ByCoreCuts))
 }
 
 fn optimize<'a>(alloc: Global, found: &ArgMatches<'a>) -> Result<Option<Command<'a>>, AllocError>

@@ -117,12 +117,13 @@ fn format_command<'a>(alloc: Global, command: Command<'a>) -> Result<Command<'a>
     command.arg(option(alloc, "format"))
 }
 
-/// The command that takes the rule of the search as well.
+/// The command that takes the rule of the search and the kind of its cuts as well.
 fn choice_command<'a>(alloc: Global, command: Command<'a>) -> Result<Command<'a>, AllocError>
     requires { (out-Command command).has_globals ≡ false }
     ensures { IfOk result (Spells (with_choice (app_of command.entry))) }
 {
-    command.arg(option(alloc, "rule"))
+    let with_rule = command.arg(option(alloc, "rule"))?;
+    with_rule.arg(option(alloc, "cuts"))
 }
 
 /// The command that takes a gap between the bound and the cost, and an older certificate, as well.

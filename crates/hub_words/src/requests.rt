@@ -73,6 +73,8 @@ pub struct Making {
 pub enum SearchRule {
     /// Node by node, the open child first.
     NodeByNode,
+    /// The same with core cuts, where a hub set has one.
+    ByCoreCuts,
     /// In rounds of nodes side by side.
     ByRounds,
 }

@@ -9,7 +9,7 @@ ghost use Rattle.text_spec.specs.Numbers.{count_value, is_exponent_mark, is_poin
 ghost use Rattle.hub_model.specs.Asked.{order_of, tail_of, number_of};
 ghost use Rattle.cert_scan.specs.Versions.{version_number};
 ghost use Rattle.hub_words.specs.Limits.{most_gap, most_search_nodes, most_seed, most_workers};
-ghost use Rattle.hub_words.specs.Requests.{IsVersion};
+ghost use Rattle.hub_words.specs.Requests.{IsVersion, by_core_cuts};
 ghost use Rattle.hub_words.specs.Values as spec;
 ghost use Rattle.hub_words.specs.Views.{layout_of, rule_seen};
 
@@ -168,7 +168,8 @@ fn places_of(word: &str) -> usize
 
 /// The rule of a search, node by node where none is given.
 pub(crate) fn rule(given: Option<&str>) -> Option<SearchRule>
-    ensures { option_map rule_seen result ≡ spec.rule_asked (option_map (λ word. word.now) given.entry) }
+    ensures value { option_map rule_seen result ≡ spec.rule_asked (option_map (λ word. word.now) given.entry) }
+    ensures named { IfSome result (λ rule. rule_seen rule ≡ by_core_cuts → ⊥) }
 {
     match given {
         None => Some(SearchRule::NodeByNode),
@@ -177,12 +178,35 @@ pub(crate) fn rule(given: Option<&str>) -> Option<SearchRule>
 }
 
 fn rule_named(word: &str) -> Option<SearchRule>
-    ensures { option_map rule_seen result ≡ spec.rule_named word.now }
+    ensures value { option_map rule_seen result ≡ spec.rule_named word.now }
+    ensures named { IfSome result (λ rule. rule_seen rule ≡ by_core_cuts → ⊥) }
 {
     if word == "1" {
         Some(SearchRule::NodeByNode)
     } else if word == "2" {
         Some(SearchRule::ByRounds)
+    } else {
+        None
+    }
+}
+
+/// Tells whether core cuts are asked for: not where nothing is said of the cuts.
+pub(crate) fn core_cuts(given: Option<&str>) -> Option<bool>
+    ensures { result ≡ spec.core_cuts_asked (option_map (λ word. word.now) given.entry) }
+{
+    match given {
+        None => Some(false),
+        Some(word) => cuts_named(word),
+    }
+}
+
+fn cuts_named(word: &str) -> Option<bool>
+    ensures { result ≡ spec.cuts_named word.now }
+{
+    if word == "minimal" {
+        Some(false)
+    } else if word == "core" {
+        Some(true)
     } else {
         None
     }

@@ -42,6 +42,7 @@ fn command_told(alloc: Global, command: &Command) -> Result<String, AllocError> 
 fn solve_named(rule: SearchRule) -> &'static str {
     match rule {
         SearchRule::NodeByNode => "solve",
+        SearchRule::ByCoreCuts => "solve by core cuts",
         SearchRule::ByRounds => "solve by rounds",
     }
 }

@@ -1,7 +1,7 @@
 //! What a search finds.
 
 ghost use Rattle.std.specs.Prelude.{IfOk};
-ghost use Rattle.kept_cuts.specs.Findings.{AreOwn, IsProved};
+ghost use Rattle.kept_cuts.specs.Findings.{AreRemade, IsProved};
 
 use crate::instances::numbers;
 use crate::texts::tree_text;
@@ -16,7 +16,7 @@ use std::alloc::{AllocError, Global};
 /// What the search of the instance finds with the most nodes that the line names.
 pub(crate) fn found_of(alloc: Global, instance: &Instance, line: &str) -> Result<Found, AllocError>
     ensures proved { IfOk result (IsProved instance.now) }
-    ensures own { IfOk result AreOwn }
+    ensures remade { IfOk result AreRemade }
 {
     // The instances of the lines have a network, and want no number of hubs.
     if instance.wanted().is_some() || !is_hub_set(instance, instance.candidates()) {

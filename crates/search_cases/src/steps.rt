@@ -10,7 +10,7 @@ use hub_model::Instance;
 use hub_plain::{is_hub_set, outside};
 use plan_model::HubSet;
 use search_steps::leaf_line;
-use separators::{Separator, Solo, kept_sums};
+use separators::{Solo, kept_sums};
 use std::alloc::{AllocError, Global};
 
 /// The fixed costs of the nodes.
@@ -77,7 +77,7 @@ fn sums_by(
     };
     let order = outside(alloc, instance, &set)?;
     let mut solo = Solo::new(alloc, other)?;
-    let sums = solo.separate(alloc, instance, set, &order)?;
+    let sums = solo.sums(alloc, instance, set, &order)?;
     sums_told(alloc, &sums)
 }
 

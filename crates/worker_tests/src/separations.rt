@@ -19,7 +19,7 @@ use hub_plain::outside;
 use par_separate::{Crew, OriginSums, separate, separate_sums, work, work_on_sums, workers_for};
 use pareto_cuts::{Separation, SetTables};
 use plan_model::{Dual, HubSet};
-use separators::Separator;
+use separators::{Separated, Separator};
 use std::alloc::{AllocError, Global};
 use std::test::Fail;
 use std::thread::Threads;
@@ -170,7 +170,10 @@ fn asked<S: Separator>(separator: &mut S, alloc: Global, instance: &Instance) ->
 {
     let set = first_alone(alloc, instance)?;
     let order = outside(alloc, instance, &set)?;
-    Ok(separator.separate(alloc, instance, set, &order)?.total())
+    match separator.separate(alloc, instance, set, &order)? {
+        Separated::Sums(sums) => Ok(sums.total()),
+        Separated::Core(_) => Err("a core cut")?,
+    }
 }
 
 #[test]

@@ -1,12 +1,12 @@
 use Rattle.std.proofs.Common.{refl, subst}
 use Rattle.std.specs.Prelude.{IfSome, option_map}
 use Rattle.hub_top.specs.declared.resolving.Resolved.TheVariants.{Found}
-use Rattle.hub_words.specs.Requests.{AsksAnyNumber, IsVersion, SaysLimits, solve, optimize, resolve, demo, solved, solved_by_rounds, version_of}
+use Rattle.hub_words.specs.Requests.{AsksAnyNumber, AsksCoreCuts, IsVersion, SaysLimits, solve, optimize, resolve, demo, solved, solved_by_core_cuts, solved_by_rounds, version_of}
 use Rattle.hub_words.specs.Views.{making_seen, request_of, resolving_of, rule_seen, search_seen, solving_of}
 use Rattle.hub_words.specs.declared.requests.Command.{Command}
 use Rattle.hub_top.specs.Solving.{ComesTo, ComesAgainTo, OptimizesTo, IsOptimum, IsSolution, IsResolution}
-use Rattle.hub_top.proofs.Versions.{said_version}
-use Rattle.hub_top.proofs.Searched.{demo_answers, found_amounts, made_size, may_follow_by, own_by, resolve_answers, solve_answers}
+use Rattle.hub_top.proofs.Versions.{rule_version, said_version}
+use Rattle.hub_top.proofs.Searched.{demo_answers, found_amounts, made_size, may_follow_by, resolve_answers, solve_answers}
 use Rattle.hub_top.proofs.Optimized.{optimize_answers}
 use Rattle.hub_top.proofs.top.answer.Goals as goal
 
@@ -20,7 +20,8 @@ returns-in-Found-clause-may g c =
     subst (ComesTo held s.source s.search.nodes rule) c.in-Found.is c.in_ok-instance-in-Solve.ensures.solved in
     let asked = subst (λ (x : Command). IfSome (version_of (request_of x)) IsVersion) c.in-Solve.is c.requires.versions in
     let says = subst (λ (x : Command). IfSome (solved (request_of x)) SaysLimits) c.in-Solve.is c.requires.sayable in
-    let version = said_version s p c.in-Found.found.cuts.cuts solution.limits (solution.searched.own (own_by rule)) asked says in
+    let core = subst (λ (x : Command). IfSome (solved_by_core_cuts (request_of x)) AsksCoreCuts) c.in-Solve.is c.requires.core_cuts in
+    let version = rule_version s rule p c.in-Found.found solution.limits solution.searched.remade asked core says in
     (solve s rule, rw c.in-Solve.is refl, solve_answers held s rule p c.in-Found.found version solution.instance solution.searched)
 
 pub solve-requires-clause-may_follow : goal.solve-requires-clause-may_follow
