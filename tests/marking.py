@@ -23,8 +23,11 @@ def length(problem: Problem, i: int, j: int, k: int, m: int) -> int:
     )
 
 
-def best(rows: list[list[Fraction]], rights: list[Fraction], worth: list[int]) -> tuple[list[Fraction], list[Fraction]]:
-    """Values of the variables that are worth most within rows that are at most their right sides, and what each row is worth.
+def best(
+    rows: list[list[Fraction]], rights: list[Fraction], worth: list[int], whole: bool = False
+) -> tuple[list[Fraction], list[Fraction]]:
+    """Values of the variables that are worth most within rows that are at most their right sides, and what each row is worth, or the
+    whole last row of the objective.
 
     The simplex method from the slacks, with the first column that gains, so that it ends.
     """
@@ -54,7 +57,7 @@ def best(rows: list[list[Fraction]], rights: list[Fraction], worth: list[int]) -
     for row, variable in enumerate(basis):
         if variable < many:
             values[variable] = table[row][-1]
-    return values, objective[many : many + count]
+    return values, objective if whole else objective[many : many + count]
 
 
 def core_dual(problem: Problem, i: int, j: int, hubs: list[int]) -> tuple[list[Fraction], int, list[tuple[Way, int]]]:
