@@ -1,4 +1,10 @@
+pub mod Spread
+pub mod Swapped
+pub mod WholeRows
+pub mod Columns
 pub mod ReducedRows
 pub mod FlatTables
+pub mod AfterRows
 pub mod Choices
-pub mod PlainStarts
+pub mod FirstRows
+pub mod GivenRows

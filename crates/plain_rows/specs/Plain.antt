@@ -3,6 +3,7 @@ use Rattle.std.specs.Prelude.{◌≡◌, ℕ, ◌+◌, ◌^◌, ◌<◌, List, [
 use Rattle.std.specs.List.{range_with_len}
 use Rattle.frac_rows.specs.Rows.{Table, number, right_side, AreNarrow}
 use Rattle.frac_rows.specs.Starts.{start}
+use Rattle.frac_rows.specs.Stored.{piece}
 
 -- the column of the variable j: its number in each constraint, and last what v loses by it
 abbrev pub column_of : List (List ℤ) → List ℤ → ℕ → List ℤ
@@ -25,3 +26,13 @@ pub record IsProgram (constraints : List (List ℤ)) (objective : List ℤ) : Ty
   pub each : All (IsConstraint (length objective)) constraints
   pub narrow : AreNarrow objective
   pub few : length objective + length constraints + 2 < 2 ^ 32
+
+-- the numbers of the variables in the row i, as they are given
+pub record IsGivenRow (constraints : List (List ℤ)) (objective : List ℤ) (i : ℕ) (row : List ℤ) : Type 0 where
+  pub long : length row ≡ length objective
+  pub narrow : AreNarrow row
+  pub each : (k : ℕ) → k < length objective → number row k ≡ number (column_of constraints objective k) i
+
+-- the first n rows are given so, one after the other
+pub record AreGiven (constraints : List (List ℤ)) (objective : List ℤ) (n : ℕ) (given : List ℤ) : Type 0 where
+  pub each : (i : ℕ) → i < n → IsGivenRow constraints objective i (piece (length objective) given i)

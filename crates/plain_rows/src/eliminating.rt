@@ -9,20 +9,15 @@ use crate::divisors::{gcd_128, quotient};
 use crate::multipliers::Multipliers;
 use frac_rows::{WIDEST, Wide};
 
-/// Writes what the row becomes, divided by its greatest common divisor, unless a number of it would be beyond the limit.
-pub(crate) fn reduce(
-    turn: Multipliers,
-    row: &[i64],
-    base: &[i64],
-    out: &mut [i64],
-) -> Result<(), Wide>
-    requires as_long { length base.now ≡ length row.now }
-    requires room { length out.old ≡ length row.now }
-    requires narrow { AreNarrow row.now }
+/// Makes of the row what it becomes, divided by its greatest common divisor, unless a number of it would be beyond the limit.
+pub(crate) fn reduce(turn: Multipliers, base: &[i64], row: &mut [i64]) -> Result<(), Wide>
+    requires as_long { length base.now ≡ length row.old }
+    requires narrow { AreNarrow row.old }
     requires narrow_base { AreNarrow base.now }
-    ensures row { OnOk result (out.new ≡ reduced (eliminated turn.own row.now turn.base base.now)) }
-    ensures kept { OnOk result (IsReduced out.new) }
-    ensures wide { OnErr result (is_wide_row (reduced (eliminated turn.own row.now turn.base base.now)) ≡ true) }
+    ensures long { length row.new ≡ length row.old }
+    ensures row { OnOk result (row.new ≡ reduced (eliminated turn.own row.old turn.base base.now)) }
+    ensures kept { OnOk result (IsReduced row.new) }
+    ensures wide { OnErr result (is_wide_row (reduced (eliminated turn.own row.old turn.base base.now)) ≡ true) }
 {
     let divisor = common_divisor(turn, row, base);
     for k in 0..row.len() {
@@ -30,7 +25,7 @@ pub(crate) fn reduce(
         if number.unsigned_abs() > u128::from(WIDEST) {
             return Err(Wide);
         }
-        out[k] = number as i64;
+        row[k] = number as i64;
     }
     Ok(())
 }

@@ -1,12 +1,14 @@
-//! Exact pivots on a small linear program whose numbers may be wide: each row is kept whole.
+//! Exact pivots on a linear program of few variables, whose numbers may be wide.
 //!
-//! It makes the runs of `frac_rows` on tables whose numbers of the variables need not be small. Where they are, and the table is
-//! large, that crate's own rows are faster, since they keep a part of each row alone.
+//! It makes the runs of `frac_rows`, on tables whose numbers of the variables need not be small. Of each row it keeps the numbers
+//! of the columns outside the basis, which are as many as the variables, where that crate keeps those of the slacks.
 #![tactic(auto)]
 
 mod choosing;
 mod divisors;
 mod eliminating;
+mod entries;
+mod given;
 mod multipliers;
 mod parts;
 mod pivots;

@@ -1,12 +1,13 @@
 //! All rows after a pivot, and one step of a run.
 
-ghost use Rattle.std.specs.Prelude.{◌≡◌, ◌+◌, ◌<◌, ◌<ℤ◌, pos, length, OnOk, OnErr, OnSome, IfSome, IsNone};
+ghost use Rattle.std.specs.Prelude.{◌≡◌, ◌+◌, ◌-◌, ◌<◌, ◌<ℤ◌, pos, length, slice_index, OnOk, OnErr, OnSome, IfSome, IsNone};
+ghost use Rattle.std.specs.Option.{option_map};
 ghost use Rattle.frac_rows.specs.Rows.{number, entering};
 ghost use Rattle.frac_rows.specs.Runs.{step, goes, ends, ended_by};
 ghost use Rattle.frac_rows.specs.Stored.{piece};
-ghost use Rattle.plain_rows.specs.Flat.{table_of, AreRows, IsStored, IsAfter, AreAfter, IsWideAfter};
+ghost use Rattle.plain_rows.specs.Flat.{table_of, width_of, base_of, AreRows, IsStored, IsRoomy, IsAfter, AreAfter, IsWideAfter};
 
-use crate::choosing::{first_negative, leaving};
+use crate::choosing::{least_negative, leaving};
 use crate::eliminating::reduce;
 use crate::multipliers::Multipliers;
 use crate::parts::part;
@@ -17,99 +18,131 @@ use std::mem;
 pub(crate) fn advance(
     numbers: &mut Vec<i64>,
     spare: &mut Vec<i64>,
-    width: usize,
+    base: &mut [i64],
+    outside: &mut [u32],
     basis: &mut [u32],
 ) -> Option<Ended>
-    requires stored { IsStored width numbers.old.items basis.old }
-    requires room { length spare.old.items ≡ length numbers.old.items }
-    ensures stored { IsStored width numbers.new.items basis.new }
-    ensures room { length spare.new.items ≡ length numbers.new.items }
-    ensures goes { IsNone result
-        → step (table_of width numbers.old.items basis.old) ≡ goes (table_of width numbers.new.items basis.new) }
-    ensures ends { IfSome result (λ e. step (table_of width numbers.old.items basis.old) ≡ ends e) }
+    requires roomy { IsRoomy outside.old numbers.old.items spare.old.items base.old basis.old }
+    ensures roomy { IsRoomy outside.new numbers.new.items spare.new.items base.new basis.new }
+    ensures goes { IsNone result → step (table_of outside.old numbers.old.items basis.old)
+        ≡ goes (table_of outside.new numbers.new.items basis.new) }
+    ensures ends { IfSome result (λ e. step (table_of outside.old numbers.old.items basis.old) ≡ ends e) }
     ensures same { OnSome result
-        (table_of width numbers.new.items basis.new ≡ table_of width numbers.old.items basis.old) }
+        (table_of outside.new numbers.new.items basis.new ≡ table_of outside.old numbers.old.items basis.old) }
 {
-    let Some(column) = first_negative(part(numbers, width, basis.len())) else {
+    let Some(place) = entering(numbers, outside, basis) else {
         return Some(Ended::Best);
     };
-    let Some(row) = leaving(numbers, width, basis, column) else {
+    let Some(row) = leaving(numbers, outside, basis, place) else {
         return Some(Ended::Wide);
     };
-    if let Err(Wide) = next_rows(numbers, width, basis.len() + 1, row, column, spare) {
+    let places = outside.len();
+    write_base(part(numbers, places + 2, row), place, base);
+    if let Err(Wide) = next_rows(numbers, places, basis.len() + 1, row, place, base, spare) {
         return Some(Ended::Wide);
     }
     mem::swap(numbers, spare);
-    basis[row] = column as u32;
+    mem::swap(&mut outside[place], &mut basis[row]);
     None
 }
 
 /// How a run ends where no further pivot is allowed.
-pub(crate) fn ending(numbers: &[i64], width: usize, basis: &[u32]) -> Ended
-    requires { IsStored width numbers.now basis.now }
-    ensures { result ≡ ended_by (entering (table_of width numbers.now basis.now)) }
+pub(crate) fn ending(numbers: &[i64], outside: &[u32], basis: &[u32]) -> Ended
+    requires { IsStored outside.now numbers.now basis.now }
+    ensures { result ≡ ended_by (entering (table_of outside.now numbers.now basis.now)) }
 {
-    match first_negative(part(numbers, width, basis.len())) {
+    match entering(numbers, outside, basis) {
         Some(_) => Ended::Turns,
         None => Ended::Best,
     }
 }
 
-// Writes the rows after the pivot on the row `r` and the column `c`.
+// The place of the column that enters.
+fn entering(numbers: &[i64], outside: &[u32], basis: &[u32]) -> Option<usize>
+    requires { IsStored outside.now numbers.now basis.now }
+    ensures place { IfSome result (λ c. c < length outside.now) }
+    ensures value { option_map (λ c. slice_index outside.now c) result
+        ≡ entering (table_of outside.now numbers.now basis.now) }
+{
+    least_negative(part(numbers, outside.len() + 2, basis.len()), outside)
+}
+
+// Writes what is taken from the other rows: the row's own column comes to stand at the place `c`, and no longer is its own.
+fn write_base(row: &[i64], c: usize, base: &mut [i64])
+    requires place { c + 2 < length row.now }
+    requires room { length base.old ≡ length row.now }
+    ensures { base.new ≡ base_of (length row.now - 2) row.now c }
+{
+    base.copy_from_slice(row);
+    base[c] = row[row.len() - 1];
+    base[row.len() - 1] = 0;
+}
+
+// Writes the rows after the pivot on the row `r` and the place `c`.
 fn next_rows(
     numbers: &[i64],
-    width: usize,
+    places: usize,
     height: usize,
     r: usize,
     c: usize,
+    base: &[i64],
     spare: &mut [i64],
 ) -> Result<(), Wide>
-    requires rows { AreRows width height numbers.now }
+    requires rows { AreRows (places + 2) height numbers.now }
+    requires base { base.now ≡ base_of places (piece (places + 2) numbers.now r) c }
     requires room { length spare.old ≡ length numbers.now }
     requires row { r < height }
-    requires column { c < width }
-    requires above { pos 0 <ℤ number (piece width numbers.now r) c }
+    requires place { c < places }
+    requires above { pos 0 <ℤ number (piece (places + 2) numbers.now r) c }
     ensures room { length spare.new ≡ length numbers.now }
-    ensures ok { OnOk result (AreAfter width numbers.now r c height spare.new) }
-    ensures err { OnErr result (IsWideAfter width height numbers.now r c) }
+    ensures ok { OnOk result (AreAfter places numbers.now r c height spare.new) }
+    ensures err { OnErr result (IsWideAfter places height numbers.now r c) }
 {
+    let width = places + 2;
     for i in 0..height {
         let out = &mut spare[i * width..i * width + width];
-        row_after(numbers, width, height, r, c, i, out)?;
+        row_after(numbers, places, height, r, c, i, base, out)?;
     }
     Ok(())
 }
 
-// Writes the row `i` after the pivot. Nothing is taken from a row with 0 in the column, and what it is multiplied by is taken
-// out again by the division, so it stays as the row `r` does.
+// Writes the row `i` after the pivot. Nothing is taken from a row with 0 at the place, and what it is multiplied by is taken
+// out again by the division, so it stays. In the row `r` its own column and the one that enters change places.
 fn row_after(
     numbers: &[i64],
-    width: usize,
+    places: usize,
     height: usize,
     r: usize,
     c: usize,
     i: usize,
+    base: &[i64],
     out: &mut [i64],
 ) -> Result<(), Wide>
-    requires rows { AreRows width height numbers.now }
-    requires room { length out.old ≡ width }
+    requires rows { AreRows (places + 2) height numbers.now }
+    requires base { base.now ≡ base_of places (piece (places + 2) numbers.now r) c }
+    requires room { length out.old ≡ places + 2 }
     requires row { r < height }
     requires within { i < height }
-    requires column { c < width }
-    requires above { pos 0 <ℤ number (piece width numbers.now r) c }
-    ensures ok { OnOk result (IsAfter width numbers.now r c i out.new) }
-    ensures err { OnErr result (IsWideAfter width height numbers.now r c) }
+    requires place { c < places }
+    requires above { pos 0 <ℤ number (piece (places + 2) numbers.now r) c }
+    ensures ok { OnOk result (IsAfter places numbers.now r c i out.new) }
+    ensures err { OnErr result (IsWideAfter places height numbers.now r c) }
 {
-    let row = part(numbers, width, i);
+    let row = part(numbers, places + 2, i);
     let number = row[c];
-    if i == r || number == 0 {
-        out.copy_from_slice(row);
+    out.copy_from_slice(row);
+    if i == r {
+        out[c] = row[places + 1];
+        out[places + 1] = number;
         return Ok(());
     }
-    let base = part(numbers, width, r);
+    if number == 0 {
+        return Ok(());
+    }
+    out[c] = 0;
     let turn = Multipliers {
-        own: base[c],
+        own: part(numbers, places + 2, r)[c],
         base: number,
     };
-    reduce(turn, row, base, out)
+    reduce(turn, base, out)
 }

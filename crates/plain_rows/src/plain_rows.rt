@@ -1,24 +1,33 @@
 //! The rows of a small linear program.
 
-ghost use Rattle.std.specs.Prelude.{◌≡◌, ◌<◌, ◌≤◌, length, map, slice_index, IfOk, OnSome, IfSome, IsNone};
-ghost use Rattle.frac_rows.specs.Rows.{number, row_at, objective, entering, IsTable};
+ghost use Rattle.std.specs.Prelude.{◌≡◌, ◌+◌, ◌*◌, ◌^◌, ◌<◌, ◌≤◌, length, map, slice_index, unsigned_abs, IfOk, OnSome, IfSome, IsNone};
+ghost use Rattle.frac_rows.specs.Rows.{widest, number, row_at, objective, entering, IsTable, AreNarrow};
 ghost use Rattle.frac_rows.specs.Runs.{step, goes, ends, ended_by, run};
+ghost use Rattle.frac_rows.specs.Starts.{start};
+ghost use Rattle.frac_rows.specs.Stored.{columns_of};
 ghost use Rattle.plain_rows.specs.Plain.{plain_table, IsProgram};
 
-use crate::pivots;
-use crate::starts::{first_rows, slacks};
+use crate::entries::owner_of;
+use crate::given::{given_numbers, rights_of};
+use crate::parts::part;
+use crate::starts::{first_rows, numbered};
+use crate::{entries, pivots};
 use frac_rows::{Ended, MOST_PIVOTS};
 use std::alloc::{AllocError, Global};
 use std::marker::Model;
 
-/// A table of whole numbers of at most 2^62 in size, each of its rows kept whole.
+/// A table of whole numbers of at most 2^62 in size. Of each row the numbers of the columns outside the basis are kept, its right
+/// side, and its number in its own basic column.
 #[derive(Drop)]
 pub struct PlainRows {
     // The rows of the constraints and last the objective row, one after another.
     numbers: Vec<i64>,
     // Room for those of the next table.
     spare: Vec<i64>,
-    columns: usize,
+    // Room for what a pivot takes from the rows.
+    base: Vec<i64>,
+    // The columns outside the basis.
+    outside: Vec<u32>,
     basis: Vec<u32>,
 }
 
@@ -28,9 +37,9 @@ impl Model for PlainRows {
 
     ghost Value = { Table };
 
-    ghost view = { λ s. table_of s.columns s.numbers.items s.basis.items };
+    ghost view = { λ s. table_of s.outside.items s.numbers.items s.basis.items };
 
-    ghost invariant = { λ s. IsRoomy s.columns s.numbers.items s.spare.items s.basis.items };
+    ghost invariant = { λ s. IsRoomy s.outside.items s.numbers.items s.spare.items s.base.items s.basis.items };
 }
 
 impl PlainRows {
@@ -45,13 +54,34 @@ impl PlainRows {
         requires { IsProgram (map (λ v. v.items) constraints.now) objective.now }
         ensures { IfOk result (λ t. t ≡ plain_table (map (λ v. v.items) constraints.now) objective.now) }
     {
-        let numbers = first_rows(alloc, constraints, objective)?;
+        let given = given_numbers(alloc, constraints, objective)?;
+        let rights = rights_of(alloc, constraints, objective.len())?;
+        PlainRows::start(alloc, &given, objective.len(), &rights)
+    }
+
+    /// The same, where the numbers of the variables stand row by row: a row for each constraint, and last what v loses by each.
+    pub fn start(
+        alloc: Global,
+        given: &[i64],
+        variables: usize,
+        rights: &[i64],
+    ) -> Result<PlainRows, AllocError>
+        requires long { length given.now ≡ (length rights.now + 1) * variables }
+        requires given_limit { AreNarrow given.now }
+        requires rights_limit { AreNarrow rights.now }
+        requires few { variables + length rights.now + 2 < 2 ^ 32 }
+        ensures { IfOk result (λ t. t ≡ start (columns_of (length rights.now + 1) variables given.now) rights.now) }
+    {
+        let numbers = first_rows(alloc, given, variables, rights)?;
         let spare = numbers.to_vec(alloc)?;
-        let basis = slacks(alloc, objective.len(), constraints.len())?;
+        let base = vec![in alloc; 0; variables + 2]?;
+        let outside = numbered(alloc, 0, variables)?;
+        let basis = numbered(alloc, variables, rights.len())?;
         Ok(PlainRows {
             numbers,
             spare,
-            columns: objective.len() + constraints.len() + 2,
+            base,
+            outside,
             basis,
         })
     }
@@ -69,7 +99,7 @@ impl PlainRows {
         ensures value { result ≡ length (objective self.now) }
         ensures table { IsTable self.now }
     {
-        self.columns
+        self.outside.len() + self.basis.len() + 2
     }
 
     /// The number of the row in the column; the objective row is behind those of the constraints.
@@ -78,7 +108,25 @@ impl PlainRows {
         requires column { column < length (objective self.now) }
         ensures { result ≡ number (row_at self.now row) column }
     {
-        i128::from(self.numbers[row * self.columns + column])
+        i128::from(self.number(row, column))
+    }
+
+    /// The same in 64 bits, which it fits.
+    pub fn number(&self, row: usize, column: usize) -> i64
+        requires row { row ≤ length self.now.basis }
+        requires column { column < length (objective self.now) }
+        ensures value { result ≡ number (row_at self.now row) column }
+        ensures size { unsigned_abs result ≤ widest }
+    {
+        let kept = part(&self.numbers, self.outside.len() + 2, row);
+        let v = self.outside.len() + self.basis.len();
+        entries::number(
+            &self.outside,
+            kept,
+            owner_of(&self.basis, v, row),
+            v,
+            column,
+        )
     }
 
     /// The basic column of the constraint row.
@@ -111,7 +159,8 @@ impl PlainRows {
         pivots::advance(
             &mut self.numbers,
             &mut self.spare,
-            self.columns,
+            &mut self.base,
+            &mut self.outside,
             &mut self.basis,
         )
     }
@@ -120,6 +169,6 @@ impl PlainRows {
     fn ending(&self) -> Ended
         ensures { result ≡ ended_by (entering self.now) }
     {
-        pivots::ending(&self.numbers, self.columns, &self.basis)
+        pivots::ending(&self.numbers, &self.outside, &self.basis)
     }
 }

@@ -7,7 +7,8 @@ use Rattle.plain_rows.proofs.plain_rows.PlainRows.basic.Goals.{After-self}
 
 basis : (c : After-self) → c.args.self.now.basis ≡ c.self.inside.basis.items
 basis c =
-    ap (λ (t : Table). t.basis) (sym c.self.view_is) ∙ basis_of c.self.inside.columns c.self.inside.numbers.items c.self.inside.basis.items
+    ap (λ (t : Table). t.basis) (sym c.self.view_is)
+    ∙ basis_of c.self.inside.outside.items c.self.inside.numbers.items c.self.inside.basis.items
 
 within : (c : After-self) → c.args.row < length c.self.inside.basis.items
 within c = omega (arith, ap length (basis c), c.requires)

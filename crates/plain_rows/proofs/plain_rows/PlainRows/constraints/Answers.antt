@@ -1,12 +1,13 @@
-use Rattle.std.proofs.Common.{◌∙◌, sym, ap, length}
+use Rattle.std.proofs.Common.{◌∙◌, length, sym, ap}
 use Rattle.plain_rows.proofs.FlatTables.{basis_of, is_table}
 use Rattle.plain_rows.proofs.plain_rows.PlainRows.constraints.Goals as goal
 
 pub returns-clause-value : goal.returns-clause-value
 returns-clause-value c =
     let s = c.self.inside in
-    rw (← c.self.view_is) (c.len.ensures ∙ s.basis.ok.0 ∙ ap length (sym (basis_of s.columns s.numbers.items s.basis.items)))
+    rw (← c.self.view_is) (c.len.ensures ∙ s.basis.ok.0 ∙ ap length (sym (basis_of s.outside.items s.numbers.items s.basis.items)))
 
 pub returns-clause-table : goal.returns-clause-table
 returns-clause-table c =
-    rw (← c.self.view_is) (is_table c.self.inside.columns c.self.inside.numbers.items c.self.inside.basis.items c.self.invariant.stored)
+    let s = c.self.inside in
+    rw (← c.self.view_is) (is_table s.outside.items s.numbers.items s.basis.items c.self.invariant.stored)

@@ -1,35 +1,33 @@
-use Rattle.std.proofs.Common.{◌≡◌, ◌+◌, ◌*◌, ◌∙◌, length, sym, ap, subst, arith}
-use Rattle.std.specs.List.{range_with_len}
-use Rattle.plain_rows.specs.Flat.{table_of, IsStored, AreFirst}
-use Rattle.plain_rows.proofs.PlainStarts.{numbers_of, length_of, first_stored, first_is}
+use Rattle.std.proofs.Common.{◌≡◌, ◌+◌, ◌≤◌, ◌∙◌, length, map, unsigned_abs, IfOk, sym, ap, subst, arith}
+use Rattle.std.proofs.lemmas.List.Elements.{All-map}
+use Rattle.frac_rows.specs.Rows.{widest, right_side, AreNarrow}
+use Rattle.frac_rows.specs.Starts.{start}
+use Rattle.frac_rows.specs.Stored.{columns_of}
+use Rattle.frac_rows.proofs.Divided.{narrow_at}
+use Rattle.plain_rows.proofs.GivenRows.{numbers_of, length_of, length_rights_of, given_is, given_narrow}
 use Rattle.plain_rows.proofs.plain_rows.PlainRows.new.Goals as goal
-use Rattle.plain_rows.proofs.plain_rows.PlainRows.new.Goals.{In_ok-basis}
 
--- the rows and the slacks, told by the constraints' numbers
-rows : (c : In_ok-basis) → AreFirst (length c.args.objective.now + length c.args.constraints.now + 2) (numbers_of c.args.constraints.now) c.args.objective.now
-    (length (numbers_of c.args.constraints.now) + 1) c.in_ok-numbers.numbers.items
-rows c =
-    let w = length c.args.objective.now + length c.args.constraints.now + 2 in
-    subst (λ n. AreFirst w (numbers_of c.args.constraints.now) c.args.objective.now (n + 1) c.in_ok-numbers.numbers.items)
-    (sym (length_of c.args.constraints.now)) c.in_ok-numbers.ensures.rows
+pub start-requires-clause-given_limit : goal.start-requires-clause-given_limit
+start-requires-clause-given_limit c =
+    rw c.deref.ensures.value
+    (given_narrow (numbers_of c.args.constraints.now) c.args.objective.now (length c.args.constraints.now + 1) c.in_ok-given.given.items
+    c.in_ok-given.ensures.long c.in_ok-given.ensures.rows)
 
-basis : (c : In_ok-basis) → c.in_ok-basis.basis.items ≡ range_with_len (length c.args.objective.now) (length (numbers_of c.args.constraints.now))
-basis c = c.in_ok-basis.ensures ∙ ap (range_with_len (length c.args.objective.now)) (sym (length_of c.args.constraints.now))
-
-pub invariant_of-result : goal.invariant_of-result
-invariant_of-result c =
-    let w = length c.args.objective.now + length c.args.constraints.now + 2 in
-    let count = length_of c.args.constraints.now in
-    record {
-      stored =
-          subst (IsStored w c.in_ok-numbers.numbers.items) (sym (basis c))
-          (first_stored (numbers_of c.args.constraints.now) c.args.objective.now w c.in_ok-numbers.numbers.items c.requires
-          (omega (arith, count)) (c.in_ok-numbers.ensures.long ∙ ap (λ n. (n + 1) * w) (sym count)) (rows c));
-      room = omega (arith, c.in_ok-spare.ensures.len, c.in_ok-spare.spare.ok.0, c.deref.ensures.len, c.in_ok-numbers.numbers.ok.0);
-    }
+pub start-requires-clause-rights_limit : goal.start-requires-clause-rights_limit
+start-requires-clause-rights_limit c =
+    rw (c.deref-2.ensures.value, c.in_ok-rights.ensures)
+    (All-map (λ x. unsigned_abs x ≤ widest) right_side (numbers_of c.args.constraints.now) (λ k d l. narrow_at _ _ (c.requires.each k d l).narrow))
 
 pub returns : goal.returns
 returns c =
-    let w = length c.args.objective.now + length c.args.constraints.now + 2 in
-    ap (table_of w c.in_ok-numbers.numbers.items) (basis c)
-    ∙ first_is (numbers_of c.args.constraints.now) c.args.objective.now w c.in_ok-numbers.numbers.items (rows c)
+    let cs = numbers_of c.args.constraints.now in
+    let given = c.in_ok-given.given.items in
+    let rights = c.deref-2.result.now in
+    let of_rights : rights ≡ map right_side cs = c.deref-2.ensures.value ∙ c.in_ok-rights.ensures in
+    let count : length rights ≡ length c.args.constraints.now = ap length of_rights ∙ length_rights_of c.args.constraints.now in
+    let is =
+    ap (λ n. start (columns_of (n + 1) (length c.args.objective.now) c.deref.result.now) rights) count
+    ∙ ap (λ g. start (columns_of (length c.args.constraints.now + 1) (length c.args.objective.now) g) rights) c.deref.ensures.value
+    ∙ given_is cs c.args.objective.now (length c.args.constraints.now + 1) given rights (omega (arith, length_of c.args.constraints.now))
+    c.in_ok-given.ensures.rows of_rights in
+    subst (λ z. IfOk c.start.result (λ t. t ≡ z)) is c.start.ensures

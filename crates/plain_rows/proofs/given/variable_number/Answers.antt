@@ -3,9 +3,9 @@ use Rattle.std.specs.Int.{w64}
 use Rattle.std.proofs.lemmas.Int.{to_z-of_z}
 use Rattle.frac_rows.specs.Rows.{number}
 use Rattle.plain_rows.specs.Plain.{IsConstraint}
-use Rattle.plain_rows.proofs.PlainStarts.{numbers_of, length_of, read_is, read_constraint, constraint_number}
-use Rattle.plain_rows.proofs.starts.variable_number.Goals as goal
-use Rattle.plain_rows.proofs.starts.variable_number.Goals.{After-deref}
+use Rattle.plain_rows.proofs.GivenRows.{numbers_of, length_of, read_is, read_constraint, constraint_number}
+use Rattle.plain_rows.proofs.given.variable_number.Goals as goal
+use Rattle.plain_rows.proofs.given.variable_number.Goals.{After-deref}
 
 constraint : (c : After-deref) → IsConstraint (length c.args.objective.now) c.deref.result.now
 constraint c =
@@ -20,8 +20,8 @@ narrow_number-requires-clause-place c =
     let long = (constraint (goal.at.narrow_number-requires-clause-place c).After-deref).long in
     omega (arith, long, c.requires.column)
 
-pub returns-then-i-constraints : goal.returns-then-i-constraints
-returns-then-i-constraints c =
+pub returns-then-i-constraints-clause-value : goal.returns-then-i-constraints-clause-value
+returns-then-i-constraints-clause-value c =
     let fits : FitsSigned w64 c.narrow_number.result = search rules in
     let cs = numbers_of c.args.constraints.now in
     to_z-of_z w64 c.narrow_number.result fits ∙ c.narrow_number.ensures.value
