@@ -20,3 +20,5 @@ pub mod CutTests
 pub mod FoundLists
 pub mod CoredFunctions
 pub mod ServingCuts
+pub mod SameRuns
+pub mod AheadDuals

@@ -6,7 +6,7 @@ use Rattle.std.proofs.lemmas.List.{length-append, length-map}
 use Rattle.std.proofs.lemmas.List.Elements.{All-weaker, All-contains, All-map, All-get_or}
 use Rattle.hub_spec.specs.Problem.{Problem, IsProblem}
 use Rattle.hub_spec.proofs.SumLemmas.{by_test}
-use Rattle.core_runs.specs.CoreTables.{is_needed, pairs_of, core_edges, edge_right}
+use Rattle.core_runs.specs.CoreTables.{is_needed, pairs_of, core_edges, core_rights, edge_right}
 use Rattle.core_runs.proofs.BestCovers.{edges_by}
 use Rattle.core_runs.proofs.Found.{right_limit}
 use Rattle.core_cuts.specs.Bodies.{most_unit}
@@ -45,6 +45,10 @@ edges_are_nodes p c ok =
       All-contains (λ m. m < p.size) p.candidates e.0 ok.candidates_are_nodes both.0,
       All-contains (λ m. m < p.size) p.candidates e.1 ok.candidates_are_nodes both.1,
     )) (core_edges p c) (edges_by p c)
+
+-- each has its right side
+pub rights_few : (p : Problem) (c : ℕ × ℕ) → length (core_rights p c) ≡ length (core_edges p c)
+rights_few p c = length-map (core_edges p c) (λ (e : ℕ × ℕ). pos (edge_right p c e))
 
 -- no right side is too great
 pub rights_limit : (p : Problem) (c : ℕ × ℕ) → IsProblem p → p.longest ≡ None → c.0 < p.size → c.1 < p.size

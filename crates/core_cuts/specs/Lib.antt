@@ -1,3 +1,4 @@
+pub mod Ahead
 pub mod BasicRatios
 pub mod Bodies
 pub mod Brought

@@ -1,19 +1,22 @@
 //! The core dual of a commodity.
 
-ghost use Rattle.std.specs.Prelude.{◌≡◌, ◌↔◌, ◌<◌, ◌≤◌, length, None, IfOk, IfSome, IsTrue};
+ghost use Rattle.std.specs.Prelude.{◌≡◌, ◌↔◌, ◌+◌, ◌<◌, ◌≤◌, length, None, IfOk, IfSome, IsTrue};
 ghost use Rattle.hub_spec.specs.Limits.{most_part};
 ghost use Rattle.hub_spec.specs.Plans.{IsHubSet};
 ghost use Rattle.core_spec.specs.CoreCuts.{MayBeMarked};
-ghost use Rattle.frac_rows.specs.declared.ended.Ended.TheVariants.{Best};
-ghost use Rattle.core_runs.specs.CoreTables.{core_edges};
+ghost use Rattle.frac_rows.specs.Rows.{objective};
+ghost use Rattle.frac_rows.specs.Theorems.{IsBasic, AreRightsLow};
+ghost use Rattle.core_cuts.specs.Ahead.{AreWays, IsReadOff, IsRead};
+ghost use Rattle.core_cuts.specs.BasicRatios.{IsLeastReading};
 ghost use Rattle.core_cuts.specs.Finding.{core_found};
-ghost use Rattle.core_cuts.specs.Readings.{core_run, proof_of, IsReading, IsFit, IsFound, IsNotFound};
+ghost use Rattle.core_cuts.specs.Readings.{Reading, proof_of, IsReading, IsFit, IsFound, IsNotFound};
 
-use crate::edges::{core_edges, least_right};
+use crate::edges::least_right;
 use crate::problems::first_table;
 use crate::readings::least_reading;
 use crate::table_proofs::TableProof;
 use crate::unit_prices::UnitPrices;
+use crate::ways::Ways;
 use core_marks::DualProof;
 use frac_rows::{Ended, Rows};
 use hub_model::Instance;
@@ -27,6 +30,13 @@ pub struct CoreDual {
     pub part: u32,
     pub dual: Dual,
     pub proof: DualProof,
+}
+
+/// What is read of a best table: price and values by unit of flow, and what proves the dual.
+#[derive(Drop)]
+pub(crate) struct UnitDual {
+    pub(crate) prices: UnitPrices,
+    pub(crate) proof: TableProof,
 }
 
 impl Model for CoreDual {
@@ -73,48 +83,69 @@ fn found_at(
     ensures found { IfOk result (λ found. IfSome found (λ d. IsFound instance.now hubs.now (i, j) d)) }
     ensures none { IfOk result (λ found. found ≡ None → IsNotFound instance.now hubs.now (i, j)) }
 {
-    let edges = core_edges(alloc, instance, i, j)?;
-    let mut rows = first_table(alloc, instance, i, j, hubs, &edges)?;
-    let (ended, _) = rows.run();
-    match ended {
-        Ended::Best => found_in(alloc, instance, i, j, hubs, &rows, &edges),
-        Ended::Turns => Ok(None),
-        Ended::Wide => Ok(None),
-    }
-}
-
-/// What is found in the best table that the run ended with.
-fn found_in(
-    alloc: Global,
-    instance: &Instance,
-    i: u32,
-    j: u32,
-    hubs: &[u32],
-    rows: &Rows,
-    edges: &[(u32, u32)],
-) -> Result<Option<CoreDual>, AllocError>
-    requires from { i < instance.now.size }
-    requires to { j < instance.now.size }
-    requires may { MayBeMarked instance.now }
-    requires set { IsHubSet instance.now hubs.now }
-    requires edges { edges.now ≡ core_edges instance.now (i, j) }
-    requires best { (core_run instance.now hubs.now (i, j)).ended ≡ Best }
-    requires last { rows.now ≡ (core_run instance.now hubs.now (i, j)).table }
-    ensures found { IfOk result (λ found. IfSome found (λ d. IsFound instance.now hubs.now (i, j) d)) }
-    ensures none { IfOk result (λ found. found ≡ None → IsNotFound instance.now hubs.now (i, j)) }
-{
-    let candidates = instance.candidates();
-    match least_reading(alloc, instance, rows)? {
-        Some(prices) => {
-            let proof = TableProof::of(alloc, candidates, rows, edges)?;
+    let ways = Ways::of(alloc, instance, i, j)?;
+    match unit_dual(alloc, instance, i, j, hubs, &ways)? {
+        Some(UnitDual { prices, proof }) => {
             found_by(alloc, instance, i, j, hubs, &prices, proof)
         }
         None => Ok(None),
     }
 }
 
+/// What is read of the best table of the commodity's linear program, where these are its ways.
+pub(crate) fn unit_dual(
+    alloc: Global,
+    instance: &Instance,
+    i: u32,
+    j: u32,
+    hubs: &[u32],
+    ways: &Ways,
+) -> Result<Option<UnitDual>, AllocError>
+    requires from { i < instance.now.size }
+    requires to { j < instance.now.size }
+    requires may { MayBeMarked instance.now }
+    requires set { IsHubSet instance.now hubs.now }
+    requires ways { AreWays instance.now (i, j) ways.now.edges.items ways.now.rights.items }
+    ensures some { IfOk result (λ found. IfSome found (λ u. IsRead instance.now hubs.now (i, j) u.prices u.proof)) }
+    ensures none { IfOk result (λ found. found ≡ None → IsNotFound instance.now hubs.now (i, j)) }
+{
+    let _ = instance.size();
+    let mut rows = first_table(alloc, instance, i, j, hubs, &ways.edges, &ways.rights)?;
+    let (ended, _) = rows.run();
+    match ended {
+        Ended::Best => read_in(alloc, instance, &rows, &ways.edges),
+        Ended::Turns => Ok(None),
+        Ended::Wide => Ok(None),
+    }
+}
+
+/// What is read of a best table, where these are its ways.
+fn read_in(
+    alloc: Global,
+    instance: &Instance,
+    rows: &Rows,
+    edges: &[(u32, u32)],
+) -> Result<Option<UnitDual>, AllocError>
+    requires few { length instance.now.candidates ≤ 200 }
+    requires basic { IsBasic rows.now }
+    requires rights { AreRightsLow rows.now }
+    requires wide { length instance.now.candidates + 1 + length edges.now ≤ length (objective rows.now) }
+    ensures some { IfOk result (λ found. IfSome found (λ u. IsReadOff instance.now rows.now edges.now u.prices u.proof)) }
+    ensures none { IfOk result (λ found. found ≡ None
+        → (r : Reading) × IsLeastReading instance.now rows.now r × (most_part < r.part)) }
+{
+    let candidates = instance.candidates();
+    match least_reading(alloc, instance, rows)? {
+        Some(prices) => {
+            let proof = TableProof::of(alloc, candidates, rows, edges)?;
+            Ok(Some(UnitDual { prices, proof }))
+        }
+        None => Ok(None),
+    }
+}
+
 /// What is found by this reading and this proof.
-fn found_by(
+pub(crate) fn found_by(
     alloc: Global,
     instance: &Instance,
     i: u32,

@@ -8,7 +8,8 @@ ghost use Rattle.core_spec.specs.CoreCuts.{MayBeMarked};
 ghost use Rattle.core_cuts.specs.FoundCuts.{proofs_of};
 ghost use Rattle.core_cuts.specs.Readings.{IsFound, IsNotFound};
 
-use crate::core_duals::{CoreDual, core_dual};
+use crate::ahead::{next_dual, nothing_ahead};
+use crate::core_duals::CoreDual;
 use core_marks::DualProof;
 use hub_model::Instance;
 use plan_model::HubSet;
@@ -40,11 +41,28 @@ pub(crate) fn found_duals(
     ensures none { let p = instance.now in
         IfOk result (λ found. found ≡ None → (c : ℕ × ℕ) × Contains (commodities p.size) c × IsNotFound p hubs.now c) }
 {
+    founds_at(alloc, instance, hubs.members())
+}
+
+/// The same with the hubs as a list.
+fn founds_at(
+    alloc: Global,
+    instance: &Instance,
+    hubs: &[u32],
+) -> Result<Option<Vec<CoreDual>>, AllocError>
+    requires may { MayBeMarked instance.now }
+    requires set { IsHubSet instance.now hubs.now }
+    ensures some { let p = instance.now in
+        IfOk result (λ found. IfSome found (λ founds. AllZip (IsFound p hubs.now) (commodities p.size) founds.items)) }
+    ensures none { let p = instance.now in
+        IfOk result (λ found. found ≡ None → (c : ℕ × ℕ) × Contains (commodities p.size) c × IsNotFound p hubs.now c) }
+{
     let n = instance.size();
+    let mut ahead = nothing_ahead(alloc, instance)?;
     let mut founds = Vec::new(alloc);
     for i in 0..n {
         for j in 0..n {
-            match core_dual(alloc, instance, i, j, hubs)? {
+            match next_dual(alloc, instance, i, j, hubs, &mut ahead)? {
                 Some(found) => founds.push(found)?,
                 None => return Ok(None),
             }

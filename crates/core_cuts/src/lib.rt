@@ -2,15 +2,17 @@
 //! dominates it; and core cuts, the cuts of a hub set all of whose duals are core duals.
 //!
 //! They are read off the best table of a linear program, which says of price and values by unit of flow what a dual owes.
-//! The modules build on one another in this order: `edges` (the ways of a commodity, and what they cost), `tables` and
+//! The modules build on one another in this order: `edges` and `ways` (the ways of a commodity, and what they cost), `tables` and
 //! `problems` (the table before the first pivot), `ratios` (the basic solution of the last table), `least_parts` (the part that
 //! makes it whole), `unit_prices` (price and values by unit of flow, times the part), `readings` (these of a table), `taken_ways`
-//! and `table_proofs` (what proves the dual), `core_duals`; and for a cut `found_duals` (the core duals of all commodities),
-//! `common_parts` (the least part that they have in common), `brought_duals` (one of them with that part), `brought_cuts` (all of
-//! them, within the limits of a certificate), `found_cuts`. The functions below are empty: the contract of each is a theorem on
-//! what is found.
+//! and `table_proofs` (what proves the dual), `core_duals`; and for a cut `mirrors` (the core dual of a commodity, and that of its
+//! way back where one linear program gives both), `ahead` (the duals that are known before their turn), `found_duals` (the core
+//! duals of all commodities), `common_parts` (the least part that they have in common), `brought_duals` (one of them with that
+//! part), `brought_cuts` (all of them, within the limits of a certificate), `found_cuts`. The functions below are empty: the
+//! contract of each is a theorem on what is found.
 #![tactic(auto)]
 
+mod ahead;
 mod brought_cuts;
 mod brought_duals;
 mod common_parts;
@@ -19,6 +21,7 @@ mod edges;
 mod found_cuts;
 mod found_duals;
 mod least_parts;
+mod mirrors;
 mod problems;
 mod ratios;
 mod readings;
@@ -26,6 +29,7 @@ mod table_proofs;
 mod tables;
 mod taken_ways;
 mod unit_prices;
+mod ways;
 
 ghost use Rattle.core_cuts.specs.Theorems.{FoundIsCore, FoundIsOne, FoundOrNot, FoundIsFunction, FoundInOrder, CoredIsCore, CoredIsFunction, CoredServes};
 

@@ -56,6 +56,18 @@ impl TableProof {
         })
     }
 
+    /// The same again, in memory of its own.
+    pub(crate) fn again(&self, alloc: Global) -> Result<TableProof, AllocError>
+        ensures { IfOk result (λ proof. proof ≡ self.now) }
+    {
+        let ways = self.ways.to_vec(alloc)?;
+        Ok(TableProof {
+            turns: self.turns,
+            scale: self.scale,
+            ways,
+        })
+    }
+
     /// Tells whether it can stand in a line.
     pub(crate) fn is_short(&self) -> bool
         ensures { IsTrue result ↔ IsShortProof self.now }

@@ -1,0 +1,109 @@
+//! The core dual of a commodity, and that of its way back where this has the same ways at the same costs: then the linear
+//! program of both is the same, and it runs once.
+
+ghost use Rattle.std.specs.Prelude.{◌≡◌, ◌<◌, None, IfOk, IfSome};
+ghost use Rattle.hub_spec.specs.Plans.{IsHubSet};
+ghost use Rattle.core_spec.specs.CoreCuts.{MayBeMarked};
+ghost use Rattle.core_cuts.specs.Ahead.{AreWays, IsRead};
+ghost use Rattle.core_cuts.specs.Readings.{IsFound, IsNotFound};
+
+use crate::core_duals::{CoreDual, UnitDual, found_by, unit_dual};
+use crate::ways::Ways;
+use hub_model::Instance;
+use std::alloc::{AllocError, Global};
+
+/// The core dual of a commodity, and that of its way back if it is known by then.
+#[derive(Drop)]
+pub(crate) struct DualPair {
+    pub(crate) there: CoreDual,
+    pub(crate) back: Option<CoreDual>,
+}
+
+/// The core dual of the commodity from `i` to `j`, with that of its way back if the same run says it.
+pub(crate) fn dual_pair(
+    alloc: Global,
+    instance: &Instance,
+    i: u32,
+    j: u32,
+    hubs: &[u32],
+) -> Result<Option<DualPair>, AllocError>
+    requires from { i < instance.now.size }
+    requires to { j < instance.now.size }
+    requires may { MayBeMarked instance.now }
+    requires set { IsHubSet instance.now hubs.now }
+    ensures there { IfOk result (λ found. IfSome found (λ pair. IsFound instance.now hubs.now (i, j) pair.there)) }
+    ensures back { IfOk result (λ found. IfSome found (λ pair. IfSome pair.back (IsFound instance.now hubs.now (j, i)))) }
+    ensures none { IfOk result (λ found. found ≡ None → IsNotFound instance.now hubs.now (i, j)) }
+{
+    let ways = Ways::of(alloc, instance, i, j)?;
+    match unit_dual(alloc, instance, i, j, hubs, &ways)? {
+        Some(unit) => pair_by(alloc, instance, i, j, hubs, &ways, unit),
+        None => Ok(None),
+    }
+}
+
+/// The same by what is read of the commodity's run.
+fn pair_by(
+    alloc: Global,
+    instance: &Instance,
+    i: u32,
+    j: u32,
+    hubs: &[u32],
+    ways: &Ways,
+    unit: UnitDual,
+) -> Result<Option<DualPair>, AllocError>
+    requires from { i < instance.now.size }
+    requires to { j < instance.now.size }
+    requires may { MayBeMarked instance.now }
+    requires set { IsHubSet instance.now hubs.now }
+    requires ways { AreWays instance.now (i, j) ways.now.edges.items ways.now.rights.items }
+    requires read { IsRead instance.now hubs.now (i, j) unit.prices unit.proof }
+    ensures there { IfOk result (λ found. IfSome found (λ pair. IsFound instance.now hubs.now (i, j) pair.there)) }
+    ensures back { IfOk result (λ found. IfSome found (λ pair. IfSome pair.back (IsFound instance.now hubs.now (j, i)))) }
+    ensures none { IfOk result (λ found. found ≡ None → IsNotFound instance.now hubs.now (i, j)) }
+{
+    let back = dual_back(alloc, instance, i, j, hubs, ways, &unit)?;
+    let UnitDual { prices, proof } = unit;
+    match found_by(alloc, instance, i, j, hubs, &prices, proof)? {
+        Some(there) => Ok(Some(DualPair { there, back })),
+        None => Ok(None),
+    }
+}
+
+/// The core dual of the way back, if what is read of the run there is read of its own run too.
+fn dual_back(
+    alloc: Global,
+    instance: &Instance,
+    i: u32,
+    j: u32,
+    hubs: &[u32],
+    ways: &Ways,
+    unit: &UnitDual,
+) -> Result<Option<CoreDual>, AllocError>
+    requires from { i < instance.now.size }
+    requires to { j < instance.now.size }
+    requires may { MayBeMarked instance.now }
+    requires set { IsHubSet instance.now hubs.now }
+    requires ways { AreWays instance.now (i, j) ways.now.edges.items ways.now.rights.items }
+    requires read { IsRead instance.now hubs.now (i, j) unit.now.prices unit.now.proof }
+    ensures { IfOk result (λ found. IfSome found (λ d. IsFound instance.now hubs.now (j, i) d)) }
+{
+    if !may_be_same(instance, i, j) {
+        return Ok(None);
+    }
+    let ways_back = Ways::of(alloc, instance, j, i)?;
+    if !ways.are_same(&ways_back) {
+        return Ok(None);
+    }
+    let proof = unit.proof.again(alloc)?;
+    found_by(alloc, instance, j, i, hubs, &unit.prices, proof)
+}
+
+/// Tells whether the way back comes later, and something flows both there and back, or nothing either way: else its run is not
+/// wanted, or cannot be the same.
+fn may_be_same(instance: &Instance, i: u32, j: u32) -> bool
+    requires from { i < instance.now.size }
+    requires to { j < instance.now.size }
+{
+    i < j && (instance.flow_between(i, j) == 0) == (instance.flow_between(j, i) == 0)
+}
