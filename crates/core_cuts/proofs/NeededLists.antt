@@ -1,9 +1,12 @@
 -- The needed edges of a list of candidates, one candidate after another.
-use Rattle.std.proofs.Common.{◌≡◌, ℕ, ◌+◌, ◌<◌, ◌≤◌, true, false, cond, List, [], ◌∷◌, ◌++◌, length, map, filter, get_or, take, drop, sym, ap, ◌∙◌, arith}
-use Rattle.std.proofs.lemmas.List.{drop_more, append_assoc, append-nil, get_or-map, length-map, take_all}
+use Rattle.std.proofs.Common.{◌≡◌, ℕ, ◌+◌, ◌-◌, ◌/◌, ◌<◌, ◌≤◌, true, false, cond, List, [], ◌∷◌, ◌++◌, length, map, filter, get_or, take, drop, ℤ, pos, sym, ap, ap₂, ◌∙◌, arith}
+use Rattle.std.proofs.lemmas.List.{drop_more, append_assoc, append-nil, get_or-map, length-map, length-drop, take_all, map-append, drop-map}
+use Rattle.std.proofs.lemmas.Simd.{map-map}
 use Rattle.std.proofs.lemmas.List.Elements.{filter-append, filter_more}
-use Rattle.hub_spec.specs.Problem.{Problem}
-use Rattle.core_runs.specs.CoreTables.{is_needed, pairs_of}
+use Rattle.hub_spec.specs.Problem.{Problem, flow}
+use Rattle.core_spec.specs.CoreCuts.{pair_cost}
+use Rattle.core_runs.specs.CoreTables.{is_needed, pairs_of, edge_right}
+use Rattle.core_cuts.specs.Ahead.{AreCosts}
 
 -- the needed edges of the candidates from this place on
 abbrev pub needed_from : Problem → ℕ × ℕ → ℕ → List (ℕ × ℕ)
@@ -63,3 +66,24 @@ needed_no p c k later i base old within is_none before =
 pub all_needed : (p : Problem) (c : ℕ × ℕ) (k : ℕ) (later : List ℕ) (i : ℕ) → length later ≤ i → first_needed p c k later i ≡ filter (is_needed p c) (fan k later)
 all_needed p c k later i long =
     ap (filter (is_needed p c)) (take_all i (fan k later) (omega (arith, long, length-map {B = ℕ × ℕ} later (λ m. (k, m)))))
+
+-- ---- what they cost by unit of flow
+
+pub singles_cost : (p : Problem) (c : ℕ × ℕ) (nodes : List ℕ)
+    → map (λ cost. pos (cost / flow p c.0 c.1)) (map (λ k. pair_cost p c k k) nodes) ≡ map (λ e. pos (edge_right p c e)) (map (λ k. (k, k)) nodes)
+singles_cost p c nodes =
+    map-map (λ (cost : ℕ). pos (cost / flow p c.0 c.1)) (λ (k : ℕ). pair_cost p c k k) nodes
+    ∙ sym (map-map (λ (e : ℕ × ℕ). pos (edge_right p c e)) (λ (k : ℕ). (k, k)) nodes)
+
+pub costs_more : (p : Problem) (c : ℕ × ℕ) (edges : List (ℕ × ℕ)) (rights : List ℤ) (e : ℕ × ℕ) (right : ℕ) → AreCosts p c edges rights
+    → right ≡ edge_right p c e → AreCosts p c (edges ++ e ∷ []) (rights ++ pos right ∷ [])
+costs_more p c edges rights e right costs is =
+    ap₂ (λ (rs : List ℤ) (n : ℕ). rs ++ pos n ∷ []) costs is ∙ sym (map-append (λ (e : ℕ × ℕ). pos (edge_right p c e)) edges (e ∷ []))
+
+-- ---- the rest of a list as a slice
+
+pub rest_of : {A : Type 0} (n : ℕ) (xs : List A) → take (length xs - n) (drop n xs) ≡ drop n xs
+rest_of n xs = take_all (length xs - n) (drop n xs) (omega (arith, length-drop n xs))
+
+pub rest_of_map : (f : ℕ → ℕ) (n : ℕ) (xs ys : List ℕ) → ys ≡ map f xs → take (length ys - n) (drop n ys) ≡ map f (take (length xs - n) (drop n xs))
+rest_of_map f n xs ys are = rest_of n ys ∙ ap (drop n) are ∙ drop-map f n xs ∙ ap (map f) (sym (rest_of n xs))

@@ -1,10 +1,11 @@
 -- The core problem is within the limits of its rows.
-use Rattle.std.proofs.Common.{◌≡◌, ℕ, ◌*◌, ◌<◌, ◌≤◌, None, Bool, List, [], ◌∷◌, length, map, filter, get_or, All, Contains, pos, unsigned_abs, arith}
+use Rattle.std.proofs.Common.{◌≡◌, ℕ, ◌*◌, ◌/◌, ◌<◌, ◌≤◌, None, Bool, List, [], ◌∷◌, length, map, filter, get_or, All, Contains, pos, unsigned_abs, arith}
 use Rattle.std.proofs.Math.Nat.{mul-le-mul}
 use Rattle.std.proofs.lemmas.Int.{ints}
 use Rattle.std.proofs.lemmas.List.{length-append, length-map}
 use Rattle.std.proofs.lemmas.List.Elements.{All-weaker, All-contains, All-map, All-get_or}
-use Rattle.hub_spec.specs.Problem.{Problem, IsProblem}
+use Rattle.hub_spec.specs.Problem.{Problem, IsProblem, flow}
+use Rattle.core_spec.specs.CoreCuts.{pair_cost}
 use Rattle.hub_spec.proofs.SumLemmas.{by_test}
 use Rattle.core_runs.specs.CoreTables.{is_needed, pairs_of, core_edges, core_rights, edge_right}
 use Rattle.core_runs.proofs.BestCovers.{edges_by}
@@ -57,3 +58,10 @@ rights_limit p c ok any from to =
     All-map (λ x. unsigned_abs x ≤ most_unit) (λ e. pos (edge_right p c e)) (core_edges p c) (λ x d l.
     (let both = All-get_or (λ (e : ℕ × ℕ). (e.0 < p.size) × (e.1 < p.size)) (core_edges p c) x d l (edges_are_nodes p c ok) in
     omega (arith, ints, right_limit p c (get_or (core_edges p c) x d) ok any from to both.0 both.1)))
+
+pub singles_limit : (p : Problem) (c : ℕ × ℕ) → IsProblem p → p.longest ≡ None → c.0 < p.size → c.1 < p.size
+    → All (λ cost. cost / flow p c.0 c.1 ≤ most_unit) (map (λ k. pair_cost p c k k) p.candidates)
+singles_limit p c ok any from to =
+    All-map (λ cost. cost / flow p c.0 c.1 ≤ most_unit) (λ k. pair_cost p c k k) p.candidates (λ x d l.
+    (let node = All-get_or (λ (k : ℕ). k < p.size) p.candidates x d l ok.candidates_are_nodes in
+    let k = get_or p.candidates x d in right_limit p c (k, k) ok any from to node node))

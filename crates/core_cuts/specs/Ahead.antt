@@ -1,14 +1,18 @@
 -- What is held while the core duals of the commodities are found: the ways of a commodity, what is read of its run, and duals
 -- that are found ahead of their turn.
-use Rattle.std.specs.Prelude.{◌≡◌, ℕ, ◌*◌, ◌<◌, ◌≤◌, Option, None, IfSome, List, length, slice_index_or, ℤ}
+use Rattle.std.specs.Prelude.{◌≡◌, ℕ, ◌*◌, ◌<◌, ◌≤◌, Option, None, IfSome, List, length, map, slice_index_or, ℤ, pos}
 use Rattle.hub_spec.specs.Limits.{most_part}
 use Rattle.hub_spec.specs.Problem.{Problem, commodities}
 use Rattle.core_spec.specs.CoreCuts.{CoreProof}
 use Rattle.frac_rows.specs.Rows.{Table}
-use Rattle.core_runs.specs.CoreTables.{core_edges, core_rights}
+use Rattle.core_runs.specs.CoreTables.{core_edges, edge_right, core_rights}
 use Rattle.core_cuts.specs.BasicRatios.{IsLeastReading}
 use Rattle.core_cuts.specs.Bodies.{table_proof}
 use Rattle.core_cuts.specs.Readings.{Reading, IsReading, proof_of, FoundDual, IsFound}
+
+-- what each of these ways costs by unit of flow
+abbrev pub AreCosts : Problem → ℕ × ℕ → List (ℕ × ℕ) → List ℤ → Type 0
+AreCosts p c edges rights = rights ≡ map (λ e. pos (edge_right p c e)) edges
 
 -- the ways of the commodity, and what they cost by unit of flow
 pub record AreWays (p : Problem) (c : ℕ × ℕ) (edges : List (ℕ × ℕ)) (rights : List ℤ) : Type 0 where

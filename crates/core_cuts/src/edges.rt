@@ -1,87 +1,84 @@
 //! The ways of a commodity, and what they cost.
 
-ghost use Rattle.std.specs.Prelude.{◌≡◌, ◌+◌, ◌*◌, ◌/◌, ◌^◌, ◌<◌, ◌≤◌, ◌++◌, ℕ, None, map, filter, pos, All, IfOk, OnOk};
+ghost use Rattle.std.specs.Prelude.{◌≡◌, ◌+◌, ◌*◌, ◌/◌, ◌^◌, ◌<◌, ◌≤◌, ℕ, None, map, pos, true, false, All, IfOk, IfSome};
 ghost use Rattle.hub_spec.specs.Problem.{flow};
 ghost use Rattle.hub_spec.specs.Edges.{least_cost};
 ghost use Rattle.hub_spec.specs.Plans.{IsHubSet};
 ghost use Rattle.core_spec.specs.CoreCuts.{pair_cost};
-ghost use Rattle.core_runs.specs.CoreTables.{is_needed, core_edges, edge_right};
+ghost use Rattle.core_runs.specs.CoreTables.{is_needed, edge_right};
 ghost use Rattle.core_cuts.specs.Bodies.{most_unit};
 
 use hub_model::{Instance, unsigned};
 use hub_plain::least_route;
 use std::alloc::{AllocError, Global};
 
-/// The ways of the commodity from `i` to `j`: each single hub, as a pair of one node, then each needed edge.
-pub(crate) fn core_edges(
-    alloc: Global,
-    instance: &Instance,
-    i: u32,
-    j: u32,
-) -> Result<Vec<(u32, u32)>, AllocError>
-    requires any_length { instance.now.longest ≡ None }
-    requires from { i < instance.now.size }
-    requires to { j < instance.now.size }
-    ensures { IfOk result (λ edges. edges.items ≡ core_edges instance.now (i, j)) }
-{
-    let candidates = instance.candidates();
-    let mut edges = single_hubs(alloc, candidates)?;
-    for x in 0..candidates.len() {
-        add_needed(
-            instance,
-            i,
-            j,
-            candidates[x],
-            &candidates[x + 1..],
-            &mut edges,
-        )?;
-    }
-    Ok(edges)
-}
-
 /// Each node as a single hub.
-fn single_hubs(alloc: Global, nodes: &[u32]) -> Result<Vec<(u32, u32)>, AllocError>
+pub(crate) fn single_hubs(alloc: Global, nodes: &[u32]) -> Result<Vec<(u32, u32)>, AllocError>
     ensures { IfOk result (λ edges. edges.items ≡ map (λ k. (k, k)) nodes.now) }
 {
     nodes.iter().map(|k| (*k, *k)).collect(alloc)
 }
 
-/// Adds the needed edges of `k` and these later candidates.
-fn add_needed(
+/// What each node costs the commodity as a single hub, in 10^-12.
+pub(crate) fn single_costs(
+    alloc: Global,
+    instance: &Instance,
+    i: u32,
+    j: u32,
+    nodes: &[u32],
+) -> Result<Vec<u128>, AllocError>
+    requires any_length { instance.now.longest ≡ None }
+    requires from { i < instance.now.size }
+    requires to { j < instance.now.size }
+    requires nodes { All (λ k. k < instance.now.size) nodes.now }
+    ensures { IfOk result (λ costs. costs.items ≡ map (λ k. pair_cost instance.now (i, j) k k) nodes.now) }
+{
+    let mut costs = Vec::with_capacity(alloc, nodes.len())?;
+    for k in nodes {
+        costs.push(single_cost(instance, i, j, *k))?;
+    }
+    Ok(costs)
+}
+
+/// What the node costs the commodity as a single hub, in 10^-12.
+fn single_cost(instance: &Instance, i: u32, j: u32, k: u32) -> u128
+    requires any_length { instance.now.longest ≡ None }
+    requires from { i < instance.now.size }
+    requires to { j < instance.now.size }
+    requires node { k < instance.now.size }
+    ensures { result ≡ pair_cost instance.now (i, j) k k }
+{
+    instance.cost_of_route(i, j, k, k)
+}
+
+/// What the hub edge of `k` and `m` costs by unit of flow, if it is needed: if it costs less than each of its single hubs.
+pub(crate) fn needed_right(
     instance: &Instance,
     i: u32,
     j: u32,
     k: u32,
-    later: &[u32],
-    edges: &mut Vec<(u32, u32)>,
-) -> Result<(), AllocError>
-    requires any_length { instance.now.longest ≡ None }
-    requires from { i < instance.now.size }
-    requires to { j < instance.now.size }
-    requires first { k < instance.now.size }
-    requires later { All (λ m. m < instance.now.size) later.now }
-    ensures { OnOk result (edges.new.items
-        ≡ edges.old.items ++ filter (is_needed instance.now (i, j)) (map (λ m. (k, m)) later.now)) }
-{
-    for m in later {
-        if is_needed(instance, i, j, k, *m) {
-            edges.push((k, *m))?;
-        }
-    }
-    Ok(())
-}
-
-/// Tells whether the hub edge of `k` and `m` costs less than each of its single hubs.
-fn is_needed(instance: &Instance, i: u32, j: u32, k: u32, m: u32) -> bool
+    m: u32,
+    at_k: u128,
+    at_m: u128,
+) -> Option<u64>
     requires any_length { instance.now.longest ≡ None }
     requires from { i < instance.now.size }
     requires to { j < instance.now.size }
     requires first { k < instance.now.size }
     requires last { m < instance.now.size }
-    ensures { result ≡ is_needed instance.now (i, j) (k, m) }
+    requires at_k { at_k ≡ pair_cost instance.now (i, j) k k }
+    requires at_m { at_m ≡ pair_cost instance.now (i, j) m m }
+    ensures needed { IfSome result (λ right. is_needed instance.now (i, j) (k, m) ≡ true) }
+    ensures value { IfSome result (λ right. right ≡ edge_right instance.now (i, j) (k, m)) }
+    ensures limit { IfSome result (λ right. right ≤ most_unit) }
+    ensures none { result ≡ None → is_needed instance.now (i, j) (k, m) ≡ false }
 {
+    let _ = instance.size();
     let cost = pair_cost(instance, i, j, k, m);
-    cost < pair_cost(instance, i, j, k, k) && cost < pair_cost(instance, i, j, m, m)
+    if cost < at_k && cost < at_m {
+        return Some(by_unit(cost, instance.flow_between(i, j)));
+    }
+    None
 }
 
 /// What the hub edge of `k` and `m` costs the commodity, in its cheaper direction, in 10^-12.
@@ -99,29 +96,24 @@ fn pair_cost(instance: &Instance, i: u32, j: u32, k: u32, m: u32) -> u128
         .min(instance.cost_of_route(i, j, m, k))
 }
 
-/// What each of these ways costs by unit of flow, in 10^-6.
-pub(crate) fn core_rights(
+/// What these costs are by unit of flow, in 10^-6.
+pub(crate) fn unit_costs(
     alloc: Global,
-    instance: &Instance,
-    i: u32,
-    j: u32,
-    edges: &[(u32, u32)],
+    costs: &[u128],
+    carried: u64,
 ) -> Result<Vec<i64>, AllocError>
-    requires any_length { instance.now.longest ≡ None }
-    requires from { i < instance.now.size }
-    requires to { j < instance.now.size }
-    requires nodes { All (λ (e : ℕ × ℕ). (e.0 < instance.now.size) × (e.1 < instance.now.size)) edges.now }
-    ensures { IfOk result (λ rights. rights.items ≡ map (λ e. pos (edge_right instance.now (i, j) e)) edges.now) }
+    requires { All (λ cost. cost / carried ≤ most_unit) costs.now }
+    ensures { IfOk result (λ rights. rights.items ≡ map (λ cost. pos (cost / carried)) costs.now) }
 {
-    let mut rights = Vec::new(alloc);
-    for (k, m) in edges {
-        rights.push(edge_right(instance, i, j, *k, *m) as i64)?;
+    let mut rights = Vec::with_capacity(alloc, costs.len())?;
+    for cost in costs {
+        rights.push(by_unit(*cost, carried) as i64)?;
     }
     Ok(rights)
 }
 
 /// What the way costs by unit of flow; 0 where nothing flows.
-fn edge_right(instance: &Instance, i: u32, j: u32, k: u32, m: u32) -> u64
+pub(crate) fn edge_right(instance: &Instance, i: u32, j: u32, k: u32, m: u32) -> u64
     requires any_length { instance.now.longest ≡ None }
     requires from { i < instance.now.size }
     requires to { j < instance.now.size }
@@ -149,13 +141,16 @@ pub(crate) fn least_right(instance: &Instance, i: u32, j: u32, hubs: &[u32]) -> 
     by_unit(unsigned(route.cost), instance.flow_between(i, j))
 }
 
-/// The cost over the flow; 0 where nothing flows.
+/// The cost over the flow; 0 where nothing flows. A cost of 64 bits is divided as such, which takes less time.
 fn by_unit(cost: u128, carried: u64) -> u64
     requires { cost / carried ≤ most_unit }
     ensures { result ≡ cost / carried }
 {
     if carried == 0 {
         return 0;
+    }
+    if cost <= u64::MAX as u128 {
+        return cost as u64 / carried;
     }
     (cost / carried as u128) as u64
 }

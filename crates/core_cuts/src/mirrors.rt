@@ -8,6 +8,7 @@ ghost use Rattle.core_cuts.specs.Ahead.{AreWays, IsRead};
 ghost use Rattle.core_cuts.specs.Readings.{IsFound, IsNotFound};
 
 use crate::core_duals::{CoreDual, UnitDual, found_by, unit_dual};
+use crate::edges::edge_right;
 use crate::ways::Ways;
 use hub_model::Instance;
 use std::alloc::{AllocError, Global};
@@ -99,11 +100,13 @@ fn dual_back(
     found_by(alloc, instance, j, i, hubs, &unit.prices, proof)
 }
 
-/// Tells whether the way back comes later, and something flows both there and back, or nothing either way: else its run is not
-/// wanted, or cannot be the same.
+/// Tells whether the way back comes later, and the first candidate costs as much there as back: else its run is not wanted, or
+/// is not the same.
 fn may_be_same(instance: &Instance, i: u32, j: u32) -> bool
     requires from { i < instance.now.size }
     requires to { j < instance.now.size }
+    requires may { MayBeMarked instance.now }
 {
-    i < j && (instance.flow_between(i, j) == 0) == (instance.flow_between(j, i) == 0)
+    let k = instance.candidates()[0];
+    i < j && edge_right(instance, i, j, k, k) == edge_right(instance, j, i, k, k)
 }

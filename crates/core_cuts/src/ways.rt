@@ -1,9 +1,12 @@
 //! The ways of a commodity together with what they cost.
 
-ghost use Rattle.std.specs.Prelude.{◌≡◌, ◌↔◌, ◌<◌, ℕ, None, IfOk, IsTrue};
-ghost use Rattle.core_cuts.specs.Ahead.{AreWays};
+ghost use Rattle.std.specs.Prelude.{◌≡◌, ◌↔◌, ◌<◌, ◌≤◌, ◌++◌, ◌∷◌, [], None, map, filter, pos, All, IfOk, OnOk, IsTrue};
+ghost use Rattle.core_spec.specs.CoreCuts.{pair_cost};
+ghost use Rattle.core_runs.specs.CoreTables.{is_needed};
+ghost use Rattle.core_cuts.specs.Ahead.{AreCosts, AreWays};
+ghost use Rattle.core_cuts.specs.Bodies.{most_unit};
 
-use crate::edges::{core_edges, core_rights};
+use crate::edges::{needed_right, single_costs, single_hubs, unit_costs};
 use hub_model::Instance;
 use std::alloc::{AllocError, Global};
 
@@ -22,10 +25,66 @@ impl Ways {
         requires to { j < instance.now.size }
         ensures { IfOk result (λ ways. AreWays instance.now (i, j) ways.edges.items ways.rights.items) }
     {
-        let _ = instance.size();
-        let edges = core_edges(alloc, instance, i, j)?;
-        let rights = core_rights(alloc, instance, i, j, &edges)?;
-        Ok(Ways { edges, rights })
+        let candidates = instance.candidates();
+        let edges = single_hubs(alloc, candidates)?;
+        let costs = single_costs(alloc, instance, i, j, candidates)?;
+        let rights = unit_costs(alloc, &costs, instance.flow_between(i, j))?;
+        let mut ways = Ways { edges, rights };
+        for x in 0..candidates.len() {
+            ways.add_needed(
+                instance,
+                i,
+                j,
+                candidates[x],
+                costs[x],
+                &candidates[x + 1..],
+                &costs[x + 1..],
+            )?;
+        }
+        Ok(ways)
+    }
+
+    /// Adds the needed edges of `k` and these later candidates. Each costs that much as a single hub.
+    fn add_needed(
+        &mut self,
+        instance: &Instance,
+        i: u32,
+        j: u32,
+        k: u32,
+        at_k: u128,
+        later: &[u32],
+        at_later: &[u128],
+    ) -> Result<(), AllocError>
+        requires any_length { instance.now.longest ≡ None }
+        requires from { i < instance.now.size }
+        requires to { j < instance.now.size }
+        requires first { k < instance.now.size }
+        requires later { All (λ m. m < instance.now.size) later.now }
+        requires at_k { at_k ≡ pair_cost instance.now (i, j) k k }
+        requires at_later { at_later.now ≡ map (λ m. pair_cost instance.now (i, j) m m) later.now }
+        requires costs { AreCosts instance.now (i, j) self.old.edges.items self.old.rights.items }
+        ensures edges { OnOk result (self.new.edges.items
+            ≡ self.old.edges.items ++ filter (is_needed instance.now (i, j)) (map (λ m. (k, m)) later.now)) }
+        ensures costs { OnOk result (AreCosts instance.now (i, j) self.new.edges.items self.new.rights.items) }
+    {
+        for x in 0..later.len() {
+            match needed_right(instance, i, j, k, later[x], at_k, at_later[x]) {
+                Some(right) => self.add(k, later[x], right)?,
+                None => {}
+            }
+        }
+        Ok(())
+    }
+
+    /// Adds a way with what it costs by unit of flow.
+    fn add(&mut self, k: u32, m: u32, right: u64) -> Result<(), AllocError>
+        requires { right ≤ most_unit }
+        ensures edges { OnOk result (self.new.edges.items ≡ self.old.edges.items ++ (k, m) ∷ []) }
+        ensures rights { OnOk result (self.new.rights.items ≡ self.old.rights.items ++ pos right ∷ []) }
+    {
+        self.edges.push((k, m))?;
+        self.rights.push(right as i64)?;
+        Ok(())
     }
 
     /// Tells whether the others are the same at the same costs.

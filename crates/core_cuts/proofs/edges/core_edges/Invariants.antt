@@ -1,7 +1,0 @@
-use Rattle.std.proofs.Common.{◌≡◌, ◌++◌}
-use Rattle.core_runs.specs.CoreTables.{core_edges}
-use Rattle.core_cuts.proofs.NeededLists.{needed_from}
-use Rattle.core_cuts.proofs.edges.core_edges.Given as goal
-
-abbrev pub invariant-loop-x : goal.invariant-loop-x
-invariant-loop-x l = l.edges.items ++ needed_from l.instance (l.i, l.j) l.x ≡ core_edges l.instance (l.i, l.j)
