@@ -1,10 +1,13 @@
 -- The rows of the core problem as they are laid out one after the other are its columns.
-use Rattle.std.proofs.Common.{◌≡◌, ℕ, zero, suc, ◌+◌, ◌*◌, ◌<◌, ◌≤◌, List, [], ◌∷◌, ◌++◌, length, map, flat_map, get_or, take, drop, ℤ, pos, ◌-ℤ◌, ⊎_elim, sym, ap, ap₂, ◌∙◌, arith}
+use Rattle.std.proofs.Common.{◌≡◌, ℕ, zero, suc, ◌+◌, ◌*◌, ◌<◌, ◌≤◌, List, [], ◌∷◌, ◌++◌, length, map, flat_map, get_or, take, drop, ℤ, pos, ◌-ℤ◌, unsigned_abs, Bool, true, false, cond, nat_eq, ◌||◌, ⊎_elim, sym, ap, ap₂, ◌∙◌, arith}
 use Rattle.std.proofs.Math.Seq.{drop-append-add, take-append_seam}
 use Rattle.std.proofs.lemmas.Bool.{cases_lt}
 use Rattle.std.proofs.lemmas.List.{append_assoc, length-append, length-map, get_or-map, take_all}
 use Rattle.std.proofs.lemmas.List.FromFn.{fill_by_all}
-use Rattle.frac_rows.specs.Rows.{number}
+use Rattle.std.proofs.lemmas.Int.{ints}
+use Rattle.std.proofs.lemmas.List.Elements.{All-nil, All-cons, All-append, All-map}
+use Rattle.hub_spec.proofs.Sets.{is_in}
+use Rattle.frac_rows.specs.Rows.{widest, number, AreNarrow}
 use Rattle.frac_rows.specs.Stored.{piece, standing, columns_of}
 use Rattle.core_runs.specs.CoreTables.{through, counts, price_column, value_column}
 use Rattle.core_runs.proofs.UnitBalances.{number_of_map, number_after}
@@ -148,3 +151,34 @@ laid_long candidates hubs edges =
           length-way_row candidates e,
           ways_long es,
         )
+
+-- ---- no number is great
+
+narrow_way : (candidates : List ℕ) (e : ℕ × ℕ) → AreNarrow (way_row candidates e)
+narrow_way candidates e =
+    All-cons (λ x. unsigned_abs x ≤ widest) (pos 1) (map (λ k. pos 0 -ℤ pos (through e k)) candidates) (omega arith)
+    (All-map (λ x. unsigned_abs x ≤ widest) (λ k. pos 0 -ℤ pos (through e k)) candidates (λ k d l. small (nat_eq e.0 (get_or candidates k d) || nat_eq e.1 (get_or candidates k d))))
+  where
+    small : (b : Bool) → unsigned_abs (pos 0 -ℤ pos (cond b 1 0)) ≤ widest
+    small true = omega arith
+    small false = omega arith
+
+narrow_ways : (candidates : List ℕ) (edges : List (ℕ × ℕ)) → AreNarrow (flat_map (way_row candidates) edges)
+narrow_ways candidates [] = All-nil (λ x. unsigned_abs x ≤ widest)
+narrow_ways candidates (e ∷ edges) =
+    All-append (λ x. unsigned_abs x ≤ widest) (way_row candidates e) (flat_map (way_row candidates) edges) (narrow_way candidates e) (narrow_ways candidates edges)
+
+narrow_objective : (candidates hubs : List ℕ) → length candidates ≤ 200 → AreNarrow (objective_row candidates hubs)
+narrow_objective candidates hubs few =
+    let q = length candidates in
+    All-cons (λ x. unsigned_abs x ≤ widest) (pos 0 -ℤ pos (2 + 2 * q)) (map (λ k. pos (counts hubs q k)) candidates) (omega (arith, ints, few))
+    (All-map (λ x. unsigned_abs x ≤ widest) (λ k. pos (counts hubs q k)) candidates (λ k d l. small (is_in hubs (get_or candidates k d)) q few))
+  where
+    small : (b : Bool) (q : ℕ) → q ≤ 200 → unsigned_abs (pos (cond b (1 + 2 * q) 1)) ≤ widest
+    small true q few = omega (arith, few)
+    small false q few = omega arith
+
+pub laid_narrow : (candidates hubs : List ℕ) (edges : List (ℕ × ℕ)) → length candidates ≤ 200 → AreNarrow (laid candidates hubs edges)
+laid_narrow candidates hubs edges few =
+    All-append (λ x. unsigned_abs x ≤ widest) (flat_map (way_row candidates) edges) (objective_row candidates hubs) (narrow_ways candidates edges)
+    (narrow_objective candidates hubs few)

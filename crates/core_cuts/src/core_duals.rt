@@ -18,8 +18,9 @@ use crate::table_proofs::TableProof;
 use crate::unit_prices::UnitPrices;
 use crate::ways::Ways;
 use core_marks::DualProof;
-use frac_rows::{Ended, Rows};
+use frac_rows::Ended;
 use hub_model::Instance;
+use plain_rows::PlainRows;
 use plan_model::{Dual, HubSet};
 use std::alloc::{AllocError, Global};
 use std::marker::Model;
@@ -123,7 +124,7 @@ pub(crate) fn unit_dual(
 fn read_in(
     alloc: Global,
     instance: &Instance,
-    rows: &Rows,
+    rows: &PlainRows,
     edges: &[(u32, u32)],
 ) -> Result<Option<UnitDual>, AllocError>
     requires few { length instance.now.candidates ≤ 200 }

@@ -6,8 +6,8 @@ ghost use Rattle.core_spec.specs.CoreCuts.{MayBeMarked};
 ghost use Rattle.core_runs.specs.CoreTables.{core_edges, core_rights, core_table};
 
 use crate::tables::core_rows;
-use frac_rows::Rows;
 use hub_model::Instance;
+use plain_rows::PlainRows;
 use std::alloc::{AllocError, Global};
 
 /// The table before the first pivot, where the ways of the commodity and their costs are known.
@@ -19,7 +19,7 @@ pub(crate) fn first_table(
     hubs: &[u32],
     edges: &[(u32, u32)],
     rights: &[i64],
-) -> Result<Rows, AllocError>
+) -> Result<PlainRows, AllocError>
     requires from { i < instance.now.size }
     requires to { j < instance.now.size }
     requires may { MayBeMarked instance.now }

@@ -5,7 +5,7 @@ ghost use Rattle.frac_rows.specs.Rows.{number, right_side, row_at};
 ghost use Rattle.frac_rows.specs.Theorems.{IsBasic, AreRightsLow};
 ghost use Rattle.core_cuts.specs.BasicRatios.{IsRatio, AreRatios};
 
-use frac_rows::Rows;
+use plain_rows::PlainRows;
 use std::alloc::{AllocError, Global};
 
 /// What a variable is: a number over another one.
@@ -18,7 +18,7 @@ pub(crate) struct Ratio {
 /// What each of the first variables is.
 pub(crate) fn ratios_of(
     alloc: Global,
-    rows: &Rows,
+    rows: &PlainRows,
     variables: u32,
 ) -> Result<Vec<Ratio>, AllocError>
     requires basic { IsBasic rows.now }
@@ -33,7 +33,7 @@ pub(crate) fn ratios_of(
 }
 
 /// What the variable is: in its row, if it has one, or else 0.
-fn ratio_of(rows: &Rows, variable: u32) -> Ratio
+fn ratio_of(rows: &PlainRows, variable: u32) -> Ratio
     requires basic { IsBasic rows.now }
     requires rights { AreRightsLow rows.now }
     ensures { IsRatio rows.now variable result }
@@ -47,7 +47,7 @@ fn ratio_of(rows: &Rows, variable: u32) -> Ratio
 }
 
 /// The right side of the row over its number in its basic column.
-fn ratio_at(rows: &Rows, row: usize) -> Ratio
+fn ratio_at(rows: &PlainRows, row: usize) -> Ratio
     requires basic { IsBasic rows.now }
     requires rights { AreRightsLow rows.now }
     requires row { row < length rows.now.basis }
@@ -59,7 +59,7 @@ fn ratio_at(rows: &Rows, row: usize) -> Ratio
     let last = rows.columns() - 1;
     let column = rows.basic(row) as usize;
     Ratio {
-        right: rows.entry(row, last).unsigned_abs(),
-        over: rows.entry(row, column).unsigned_abs(),
+        right: rows.number(row, last).unsigned_abs(),
+        over: rows.number(row, column).unsigned_abs(),
     }
 }

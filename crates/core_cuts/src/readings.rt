@@ -9,15 +9,15 @@ ghost use Rattle.core_cuts.specs.BasicRatios.{IsLeastReading};
 use crate::least_parts::least_part;
 use crate::ratios::ratios_of;
 use crate::unit_prices::UnitPrices;
-use frac_rows::Rows;
 use hub_model::Instance;
+use plain_rows::PlainRows;
 use std::alloc::{AllocError, Global};
 
 /// Price and values of the table's basic solution with the least part, if that is within its limit.
 pub(crate) fn least_reading(
     alloc: Global,
     instance: &Instance,
-    rows: &Rows,
+    rows: &PlainRows,
 ) -> Result<Option<UnitPrices>, AllocError>
     requires few { length instance.now.candidates ≤ 200 }
     requires basic { IsBasic rows.now }

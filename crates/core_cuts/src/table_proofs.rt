@@ -9,7 +9,7 @@ ghost use Rattle.core_cuts.specs.Bodies.{table_proof};
 
 use crate::taken_ways::{ordered_ways, ways_of};
 use core_marks::DualProof;
-use frac_rows::Rows;
+use plain_rows::PlainRows;
 use std::alloc::{AllocError, Global};
 use std::marker::Model;
 
@@ -40,7 +40,7 @@ impl TableProof {
     pub(crate) fn of(
         alloc: Global,
         candidates: &[u32],
-        rows: &Rows,
+        rows: &PlainRows,
         edges: &[(u32, u32)],
     ) -> Result<TableProof, AllocError>
         requires few { length candidates.now ≤ 200 }
@@ -85,12 +85,12 @@ impl TableProof {
 }
 
 /// The number of v in the objective row.
-fn scale_of(rows: &Rows) -> u64
+fn scale_of(rows: &PlainRows) -> u64
     ensures { result ≡ scale_at rows.now }
 {
     let objective = rows.constraints();
     let of_v = rows.columns() - 2;
-    rows.entry(objective, of_v).unsigned_abs()
+    rows.number(objective, of_v).unsigned_abs()
 }
 
 /// Tells whether no way is taken too often.

@@ -5,7 +5,7 @@ ghost use Rattle.frac_rows.specs.Starts.{start};
 ghost use Rattle.core_runs.specs.CoreTables.{through, counts, price_column, value_column};
 ghost use Rattle.core_cuts.specs.Bodies.{most_unit, way_row, objective_row};
 
-use frac_rows::Rows;
+use plain_rows::PlainRows;
 use plan_model::is_among;
 use std::alloc::{AllocError, Global};
 
@@ -17,7 +17,7 @@ pub(crate) fn core_rows(
     hubs: &[u32],
     edges: &[(u32, u32)],
     rights: &[i64],
-) -> Result<Rows, AllocError>
+) -> Result<PlainRows, AllocError>
     requires few { length candidates.now ≤ 200 }
     requires ways { length edges.now ≤ 40200 }
     requires one_each { length rights.now ≡ length edges.now }
@@ -31,11 +31,11 @@ pub(crate) fn core_rows(
         add_way(candidates, *k, *m, &mut numbers)?;
     }
     add_objective(candidates, hubs, &mut numbers)?;
-    Rows::start(alloc, numbers, candidates.len() + 1, rights)
+    PlainRows::start(alloc, &numbers, candidates.len() + 1, rights)
 }
 
 /// Adds the row of the way by `k` and `m`.
-fn add_way(candidates: &[u32], k: u32, m: u32, numbers: &mut Vec<i32>) -> Result<(), AllocError>
+fn add_way(candidates: &[u32], k: u32, m: u32, numbers: &mut Vec<i64>) -> Result<(), AllocError>
     ensures { OnOk result (numbers.new.items ≡ numbers.old.items ++ way_row candidates.now (k, m)) }
 {
     numbers.push(1)?;
@@ -46,21 +46,21 @@ fn add_way(candidates: &[u32], k: u32, m: u32, numbers: &mut Vec<i32>) -> Result
 }
 
 /// What the way by `k` and `m` takes of the value of the node.
-fn way_number(k: u32, m: u32, node: u32) -> i32
+fn way_number(k: u32, m: u32, node: u32) -> i64
     ensures { result ≡ pos 0 -ℤ pos (through (k, m) node) }
 {
     if k == node || m == node { -1 } else { 0 }
 }
 
 /// Adds the objective row.
-fn add_objective(candidates: &[u32], hubs: &[u32], numbers: &mut Vec<i32>) -> Result<(), AllocError>
+fn add_objective(candidates: &[u32], hubs: &[u32], numbers: &mut Vec<i64>) -> Result<(), AllocError>
     requires few { length candidates.now ≤ 200 }
     ensures { OnOk result (numbers.new.items ≡ numbers.old.items ++ objective_row candidates.now hubs.now) }
 {
     let turns = candidates.len() as u32;
-    numbers.push(-(2 + 2 * turns as i32))?;
+    numbers.push(-(2 + 2 * turns as i64))?;
     for node in candidates {
-        numbers.push(times_counted(hubs, turns, *node) as i32)?;
+        numbers.push(times_counted(hubs, turns, *node) as i64)?;
     }
     Ok(())
 }

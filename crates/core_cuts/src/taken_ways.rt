@@ -4,13 +4,13 @@ ghost use Rattle.std.specs.Prelude.{◌≡◌, ◌+◌, ◌≤◌, ◌++◌, len
 ghost use Rattle.frac_rows.specs.Rows.{objective};
 ghost use Rattle.core_runs.specs.CoreTables.{ways_of, begins_at, ordered_ways};
 
-use frac_rows::Rows;
+use plain_rows::PlainRows;
 use std::alloc::{AllocError, Global};
 
 /// The ways with the numbers that the objective row has from this column on.
 pub(crate) fn ways_of(
     alloc: Global,
-    rows: &Rows,
+    rows: &PlainRows,
     edges: &[(u32, u32)],
     first: usize,
 ) -> Result<Vec<(u32, u32, u64)>, AllocError>
@@ -22,7 +22,7 @@ pub(crate) fn ways_of(
     let mut ways = Vec::new(alloc);
     for x in 0..edges.len() {
         let (k, m) = edges[x];
-        let often = rows.entry(objective, first + x).unsigned_abs();
+        let often = rows.number(objective, first + x).unsigned_abs();
         ways.push((k, m, often))?;
     }
     Ok(ways)

@@ -1,12 +1,12 @@
 -- One row after a pivot, as it is kept.
-use Rattle.std.proofs.Common.{◌≡◌, ◌≢◌, ℕ, ◌+◌, ◌*◌, ◌<◌, ◌≤◌, true, List, [], ◌∷◌, All, length, set, get_or, ℤ, pos, ◌<ℤ◌, unsigned_abs, refl, sym, ap, ap₂, subst, ◌∙◌, ⊎_elim, arith}
+use Rattle.std.proofs.Common.{◌≡◌, ◌≢◌, ℕ, ◌+◌, ◌<◌, ◌≤◌, true, List, All, length, set, ℤ, pos, ◌<ℤ◌, unsigned_abs, sym, ap, ap₂, subst, ◌∙◌, ⊎_elim, arith}
 use Rattle.std.specs.Int.{◌∣◌}
 use Rattle.std.proofs.lemmas.Bool.{cases_eq}
-use Rattle.std.proofs.lemmas.List.{length-set, set-get_or}
+use Rattle.std.proofs.lemmas.List.{set-get_or}
 use Rattle.std.proofs.lemmas.List.Elements.{All-get_or, All-from_get_or}
 use Rattle.std.proofs.lemmas.Nat.Gcd.{dvd_antisymm}
 use Rattle.frac_rows.specs.Divisors.{divisor_of, reduced}
-use Rattle.frac_rows.specs.Rows.{widest, number, eliminated, is_wide_row, AreNarrow}
+use Rattle.frac_rows.specs.Rows.{widest, number, eliminated, is_wide_row}
 use Rattle.frac_rows.specs.Stored.{piece}
 use Rattle.frac_rows.proofs.Gcds.{divisor_divides, divides_divisor}
 use Rattle.plain_rows.specs.Flat.{base_of, stays_of, cleared, follows_of, IsReduced, AreRows, IsAfter, IsWideAfter}

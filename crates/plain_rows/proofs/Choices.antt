@@ -9,10 +9,10 @@ use Rattle.frac_rows.specs.Rows.{number, right_side, row_at, first_negative, ent
 use Rattle.frac_rows.specs.Stored.{piece}
 use Rattle.frac_rows.proofs.WholeRows.{first_negative_is, first_negative_none}
 use Rattle.plain_rows.specs.Choices.{IsLeastBelow}
-use Rattle.plain_rows.specs.Flat.{spread, spread_number, owners, v_of, width_of, whole_row, table_of, IsStored}
+use Rattle.plain_rows.specs.Flat.{spread_number, owners, v_of, width_of, whole_row, table_of, IsStored}
 use Rattle.plain_rows.proofs.Spread.{place_or_none, number_at, number_of_none, number-spread}
 use Rattle.plain_rows.proofs.Columns.{owner_last}
-use Rattle.plain_rows.proofs.FlatTables.{row_at-table_of, basis_of, objective-table_of, length-whole_row, length_row, number_at_place, right_is}
+use Rattle.plain_rows.proofs.FlatTables.{basis_of, objective-table_of, length-whole_row, length_row, number_at_place, right_is}
 
 -- ---- the place of the least column with a number below 0
 

@@ -1,25 +1,25 @@
 -- The rows before the first pivot, as they are kept.
-use Rattle.std.proofs.Common.{◌≡◌, ◌≢◌, ℕ, ◌+◌, ◌-◌, ◌*◌, ◌^◌, ◌<◌, ◌≤◌, List, [], ◌∷◌, ◌++◌, length, map, set, get_or, All, ℤ, pos, unsigned_abs, refl, sym, ap, ap₂, subst, ◌∙◌, ⊎_elim, arith}
+use Rattle.std.proofs.Common.{◌≡◌, ◌≢◌, ℕ, ◌+◌, ◌-◌, ◌*◌, ◌^◌, ◌<◌, ◌≤◌, List, [], ◌∷◌, ◌++◌, length, map, set, get_or, ℤ, pos, unsigned_abs, refl, sym, ap, ap₂, subst, ◌∙◌, ⊎_elim, arith}
 use borrow.Author.Count.{below_more}
 use borrow.Rule.Slice.PartMut.{put_mid}
 use Rattle.std.specs.List.{range_with_len}
 use Rattle.std.proofs.lemmas.Bool.{cases_eq, cases_lt}
-use Rattle.std.proofs.lemmas.List.{length-append, length-map, length-set, get_or-map, get_or_append_left, get_or-append_right, get_or-set_same, get_or-set_other, ext_get_or, get_or_default}
+use Rattle.std.proofs.lemmas.List.{length-append, length-map, length-set, get_or-map, get_or_append_left, get_or-append_right, get_or-set_same, get_or-set_other, ext_get_or}
 use Rattle.std.proofs.lemmas.List.Elements.{All-from_get_or}
-use Rattle.std.proofs.lemmas.List.FromFn.{length-map-range_with_len, get_or-map-range_with_len, length-range_with_len, get_or-range_with_len}
-use Rattle.frac_rows.specs.Rows.{widest, Table, number, row_at, AreNarrow}
+use Rattle.std.proofs.lemmas.List.FromFn.{length-map-range_with_len, length-range_with_len, get_or-range_with_len}
+use Rattle.frac_rows.specs.Rows.{widest, Table, number, AreNarrow}
 use Rattle.frac_rows.specs.Starts.{own_numbers, start_row, start}
-use Rattle.frac_rows.specs.Stored.{piece, standing, columns_of}
+use Rattle.frac_rows.specs.Stored.{piece, columns_of}
 use Rattle.frac_rows.proofs.Divided.{narrow_at}
 use Rattle.frac_rows.proofs.Gcds.{divisor_of_one}
 use Rattle.frac_rows.proofs.FirstRows.{length-own_numbers, own_one, own_zero, own_right}
 use Rattle.frac_rows.proofs.FirstTables.{first_row}
 use Rattle.frac_rows.proofs.Pieces.{piece_put, piece_kept}
 use Rattle.frac_rows.proofs.WholeRows.{piece_within, length-piece, standing_at, length-columns_of, get_or-columns_of}
-use Rattle.plain_rows.specs.Flat.{spread, spread_number, owners, v_of, width_of, whole_row, table_of, IsReduced, AreApart, IsStored, AreFirst}
+use Rattle.plain_rows.specs.Flat.{spread, spread_number, owners, v_of, whole_row, table_of, IsReduced, AreApart, IsStored, AreFirst}
 use Rattle.plain_rows.proofs.Spread.{number_of_piece, place_or_none, number_at, number_of_owner, number_of_none, number-spread, right-spread, length-spread, same_row}
 use Rattle.plain_rows.proofs.Columns.{length-owners, owner_basic, owner_last}
-use Rattle.plain_rows.proofs.FlatTables.{length_rows, row_at-table_of, basis_of, length-whole_row}
+use Rattle.plain_rows.proofs.FlatTables.{length_rows, row_at-table_of, basis_of}
 
 -- a row with two numbers behind it
 abbrev pub first_kept : List ℤ → ℤ → List ℤ

@@ -1,5 +1,5 @@
 -- The tables whose rows are kept one after the other, before and after a pivot.
-use Rattle.std.proofs.Common.{◌≡◌, ℕ, ◌+◌, ◌-◌, ◌*◌, ◌<◌, ◌≤◌, ◌≢◌, true, false, List, [], All, length, set, get_or, ℤ, pos, ◌<ℤ◌, refl, sym, ap, ap₂, subst, ◌∙◌, ⊎_elim, arith}
+use Rattle.std.proofs.Common.{◌≡◌, ℕ, ◌+◌, ◌-◌, ◌*◌, ◌<◌, ◌≤◌, ◌≢◌, true, false, List, [], All, length, set, get_or, ℤ, refl, sym, ap, ap₂, subst, ◌∙◌, ⊎_elim, arith}
 use borrow.Author.Count.{below_more}
 use borrow.Rule.Slice.PartMut.{put_mid}
 use Rattle.std.proofs.lemmas.Bool.{cases_eq}
@@ -17,7 +17,7 @@ use Rattle.plain_rows.specs.Flat.{spread, stays_of, follows_of, owners, v_of, wi
 use Rattle.plain_rows.proofs.Spread.{number_at, length-spread, number-spread, right-spread}
 use Rattle.plain_rows.proofs.Swapped.{at_same, at_other}
 use Rattle.plain_rows.proofs.WholeRows.{IsSpread, narrow_spread, stays_whole, follows_whole, wide_whole}
-use Rattle.plain_rows.proofs.Columns.{length-owners, owner_basic, owner_last, owner_low, spread_of, swap_of, apart_after, v_after, owners_after}
+use Rattle.plain_rows.proofs.Columns.{length-owners, owner_basic, owner_low, spread_of, swap_of, apart_after, v_after, owners_after}
 
 -- ---- one table
 

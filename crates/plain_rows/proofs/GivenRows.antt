@@ -1,12 +1,12 @@
 -- A linear program as it is written, number by number, and its table.
-use Rattle.std.proofs.Common.{◌≡◌, ℕ, zero, suc, ◌+◌, ◌-◌, ◌*◌, ◌/◌, ◌%◌, ◌<◌, ◌≤◌, List, [], ◌∷◌, All, map, length, get_or, Vec, Global, ℤ, pos, ◌-ℤ◌, unsigned_abs, sym, ap, ap₂, subst, ◌∙◌, arith}
+use Rattle.std.proofs.Common.{◌≡◌, ℕ, zero, suc, ◌+◌, ◌*◌, ◌/◌, ◌%◌, ◌<◌, ◌≤◌, List, [], ◌∷◌, All, map, length, get_or, Vec, Global, ℤ, pos, ◌-ℤ◌, unsigned_abs, sym, ap, ap₂, subst, ◌∙◌, arith}
 use Rattle.std.specs.List.{range_with_len}
 use borrow.Author.Count.{below_more}
 use borrow.Rule.Slice.PartMut.{put_mid}
 use Rattle.std.proofs.Math.Nat.{mul-zero, mod-lt, div-lt_iff_lt-mul}
 use Rattle.std.proofs.lemmas.Nat.{div-add-mod'}
 use Rattle.std.proofs.lemmas.List.{length-map, length-append, get_or-map, get_or_append_left, get_or_push, ext_get_or}
-use Rattle.std.proofs.lemmas.List.Elements.{All-from_get_or, All-map}
+use Rattle.std.proofs.lemmas.List.Elements.{All-from_get_or}
 use Rattle.std.proofs.lemmas.List.FromFn.{length-map-range_with_len, get_or-map-range_with_len}
 use Rattle.frac_rows.specs.Rows.{widest, number, right_side, AreNarrow}
 use Rattle.frac_rows.specs.Starts.{start}
@@ -15,7 +15,7 @@ use Rattle.frac_rows.proofs.Divided.{narrow_at}
 use Rattle.frac_rows.proofs.Pieces.{piece_put, piece_kept}
 use Rattle.frac_rows.proofs.WholeRows.{standing_at, length-standing, length-columns_of, get_or-columns_of}
 use Rattle.plain_rows.proofs.Spread.{number_of_piece}
-use Rattle.plain_rows.specs.Plain.{column_of, plain_table, IsConstraint, IsProgram, IsGivenRow, AreGiven}
+use Rattle.plain_rows.specs.Plain.{column_of, plain_table, IsConstraint, IsGivenRow, AreGiven}
 
 -- numbers whose pieces are narrow are narrow
 narrow_pieces : (h w : ℕ) (flat : List ℤ) → length flat ≡ h * w → ((i : ℕ) → i < h → AreNarrow (piece w flat i)) → AreNarrow flat

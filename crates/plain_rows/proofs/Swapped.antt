@@ -1,20 +1,13 @@
 -- What a pivot makes of whole rows, by what it makes of those that are kept.
-use Rattle.std.proofs.Common.{◌≡◌, ◌≢◌, ℕ, zero, suc, ◌+◌, ◌<◌, ◌≤◌, List, [], ◌∷◌, length, set, get_or, All, eqb, cond, ℤ, pos, ◌-ℤ◌, ◌*ℤ◌, unsigned_abs, map, refl, sym, ap, ap₂, subst, ◌∙◌, ⊎_elim, arith}
-use Rattle.std.specs.Int.{◌∣◌}
-use Rattle.std.proofs.Math.Nat.{zero-div}
+use Rattle.std.proofs.Common.{◌≡◌, ◌≢◌, ℕ, ◌+◌, ◌<◌, List, length, set, get_or, ℤ, pos, ◌-ℤ◌, ◌*ℤ◌, sym, ap, ap₂, ◌∙◌, ⊎_elim, arith}
 use Rattle.std.proofs.Math.IntN.{*ℤ-zero, *ℤ_comm}
 use Rattle.std.proofs.lemmas.Int.{ints}
-use Rattle.std.proofs.lemmas.Bool.{cases_eq, cond-true, cond-false}
-use Rattle.std.proofs.lemmas.List.{length-set, length-map, get_or-set_same, get_or-set_other, get_or-map}
-use Rattle.std.proofs.lemmas.Nat.Gcd.{dvd-zero, dvd_antisymm}
-use Rattle.frac_rows.specs.Divisors.{divisor_of, quotient, reduced}
-use Rattle.frac_rows.specs.Rows.{number, eliminated, pivoted}
-use Rattle.frac_rows.proofs.Gcds.{divisor_divides, divides_divisor}
-use Rattle.frac_rows.proofs.Quotients.{length-reduced}
+use Rattle.std.proofs.lemmas.Bool.{cases_eq}
+use Rattle.std.proofs.lemmas.List.{length-set, get_or-set_same, get_or-set_other}
+use Rattle.frac_rows.specs.Rows.{number, eliminated}
 use Rattle.frac_rows.proofs.Linear.{length-eliminated, number-eliminated}
-use Rattle.frac_rows.proofs.Divided.{number-reduced}
-use Rattle.plain_rows.specs.Flat.{spread_number, spread, base_of, stays_of, cleared, follows_of}
-use Rattle.plain_rows.proofs.Spread.{place_or_none, number_of_owner, number_of_none, number_at, length-spread, number-spread, right-spread, same_row, all_spread, all_kept}
+use Rattle.plain_rows.specs.Flat.{spread_number, base_of, stays_of, cleared}
+use Rattle.plain_rows.proofs.Spread.{place_or_none, number_of_owner, number_of_none, number_at}
 
 -- ---- products
 

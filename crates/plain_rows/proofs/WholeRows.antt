@@ -1,9 +1,8 @@
 -- Whole rows before and after a pivot.
-use Rattle.std.proofs.Common.{◌≡◌, ◌≢◌, ℕ, zero, suc, ◌+◌, ◌<◌, ◌≤◌, true, false, Bool, List, [], ◌∷◌, ◌++◌, length, set, get_or, map, All, cond, eqb, ℤ, pos, ◌-ℤ◌, ◌*ℤ◌, unsigned_abs, refl, sym, ap, ap₂, subst, ◌∙◌, ⊎_elim, arith}
+use Rattle.std.proofs.Common.{◌≡◌, ◌≢◌, ℕ, ◌+◌, ◌<◌, ◌≤◌, true, false, Bool, List, [], ◌∷◌, length, set, get_or, map, cond, eqb, ℤ, pos, ◌-ℤ◌, ◌*ℤ◌, unsigned_abs, refl, sym, ap, ap₂, ◌∙◌, ⊎_elim, arith}
 use Rattle.std.specs.Int.{◌∣◌}
 use Rattle.std.proofs.Math.Nat.{zero-div}
 use Rattle.std.proofs.lemmas.Bool.{cases_Bool}
-use Rattle.std.proofs.lemmas.List.{length-map, length-set}
 use Rattle.std.proofs.lemmas.Nat.Gcd.{dvd-zero, dvd_antisymm}
 use Rattle.frac_rows.specs.Divisors.{divisor_of, quotient, reduced}
 use Rattle.frac_rows.specs.Rows.{widest, number, eliminated, pivoted, is_wide_row, AreNarrow}
@@ -13,7 +12,7 @@ use Rattle.frac_rows.proofs.Linear.{length-eliminated, number-eliminated}
 use Rattle.frac_rows.proofs.Divided.{number-reduced, narrow_from_false, not_wide}
 use Rattle.plain_rows.specs.Flat.{spread_number, spread, stays_of, follows_of}
 use Rattle.plain_rows.proofs.Spread.{number_at, length-spread, number-spread, right-spread, same_row, all_spread, all_kept}
-use Rattle.plain_rows.proofs.Swapped.{IsSwap, at_same, crossed, Z_long, stays_number, follows_number, follows_right, stays_right}
+use Rattle.plain_rows.proofs.Swapped.{IsSwap, crossed, Z_long, stays_number, follows_number, follows_right, stays_right}
 
 -- the columns of a row whose own one is `owner`, up to n
 pub record IsSpread (os : List ℕ) (owner n : ℕ) : Type 0 where

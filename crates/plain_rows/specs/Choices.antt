@@ -1,5 +1,5 @@
 -- Which column enters, by the numbers that are kept of the objective row.
-use Rattle.std.specs.Prelude.{◌≡◌, ℕ, ◌<◌, ◌≤◌, List, length, slice_index, Option, Some, None, ℤ, ◌<ℤ◌, ◌≤ℤ◌, pos}
+use Rattle.std.specs.Prelude.{ℕ, ◌<◌, ◌≤◌, List, slice_index, Option, Some, None, ℤ, ◌<ℤ◌, ◌≤ℤ◌, pos}
 use Rattle.frac_rows.specs.Rows.{number}
 
 -- of the first n places the one whose column is the least with a number below 0

@@ -1,7 +1,7 @@
 -- The rows of a table as they are kept, one after the other, and what a pivot writes of them. A row has a number above 0 in a
 -- basic column of its own, or for the objective row in v's, and 0 in those of the others. So of each row only the numbers of the
 -- columns outside the basis are kept, in the order in which these columns stand, its right side, and its own number.
-use Rattle.std.specs.Prelude.{◌≡◌, ◌≢◌, ℕ, ◌+◌, ◌*◌, ◌^◌, ◌<◌, ◌≤◌, ◌==◌, if◌then◌else◌, length, map, true, All, List, [], ◌∷◌, ◌++◌, slice_index, slice_set, ℤ, pos}
+use Rattle.std.specs.Prelude.{◌≡◌, ◌≢◌, ℕ, ◌+◌, ◌*◌, ◌^◌, ◌<◌, ◌≤◌, ◌==◌, if◌then◌else◌, length, map, true, List, [], ◌∷◌, ◌++◌, slice_index, slice_set, ℤ, pos}
 use Rattle.std.specs.List.{range_with_len}
 use Rattle.frac_rows.specs.Divisors.{divisor_of, reduced}
 use Rattle.frac_rows.specs.Rows.{Table, number, eliminated, is_wide_row, AreNarrow}

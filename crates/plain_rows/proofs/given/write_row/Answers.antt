@@ -1,4 +1,4 @@
-use Rattle.std.proofs.Common.{◌≡◌, ◌∙◌, ◌≤◌, ◌<◌, pos, unsigned_abs, arith}
+use Rattle.std.proofs.Common.{◌∙◌, ◌≤◌, pos, unsigned_abs, arith}
 use Rattle.std.proofs.lemmas.List.Elements.{All-from_get_or}
 use Rattle.frac_rows.specs.Rows.{widest}
 use Rattle.plain_rows.proofs.given.write_row.Goals as goal

@@ -1,4 +1,4 @@
-use Rattle.std.proofs.Common.{◌≡◌, ◌∙◌, length, pos, refl, arith}
+use Rattle.std.proofs.Common.{◌∙◌, length, refl, arith}
 use Rattle.std.specs.Int.{w64}
 use Rattle.std.proofs.lemmas.Int.{to_z-of_z}
 use Rattle.plain_rows.proofs.FirstRows.{written_is}

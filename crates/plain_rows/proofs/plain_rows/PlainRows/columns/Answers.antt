@@ -1,4 +1,4 @@
-use Rattle.std.proofs.Common.{◌∙◌, sym, arith}
+use Rattle.std.proofs.Common.{arith}
 use Rattle.plain_rows.proofs.FlatTables.{width_is, is_table}
 use Rattle.plain_rows.proofs.plain_rows.PlainRows.columns.Goals as goal
 

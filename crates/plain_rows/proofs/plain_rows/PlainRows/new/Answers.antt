@@ -1,6 +1,6 @@
-use Rattle.std.proofs.Common.{◌≡◌, ◌+◌, ◌≤◌, ◌∙◌, length, map, unsigned_abs, IfOk, sym, ap, subst, arith}
+use Rattle.std.proofs.Common.{◌≡◌, ◌+◌, ◌≤◌, ◌∙◌, length, map, unsigned_abs, IfOk, ap, subst, arith}
 use Rattle.std.proofs.lemmas.List.Elements.{All-map}
-use Rattle.frac_rows.specs.Rows.{widest, right_side, AreNarrow}
+use Rattle.frac_rows.specs.Rows.{widest, right_side}
 use Rattle.frac_rows.specs.Starts.{start}
 use Rattle.frac_rows.specs.Stored.{columns_of}
 use Rattle.frac_rows.proofs.Divided.{narrow_at}
