@@ -23,7 +23,9 @@ pub mod OnTime
 pub mod Stepping
 pub mod LineRuns
 pub mod PairRuns
+pub mod WayRuns
 pub mod SpelledNumbers
+pub mod SmallNumbers
 pub mod Leftover
 pub mod Walks
 pub mod Repeated

@@ -1,6 +1,10 @@
 -- Numbers that stand whole in the bytes at hand.
 use Rattle.std.specs.Prelude.{◌≡◌, ℕ, ◌+◌, ◌^◌, ◌<◌, ◌≤◌, List, length, take, drop, slice_index, Some, None, true, false}
 use Rattle.cert_scan.specs.Runs.{SpellsOn}
+use Rattle.core_spec.specs.MarkRanges.{most_taken}
+use Rattle.cert_scan.specs.Moves.{is_later_way}
+use Rattle.cert_scan.specs.declared.stages.WaysAt.{WaysAt}
+use Rattle.cert_scan.specs.declared.proof_ways.Way.{Way}
 use Rattle.cert_scan.specs.declared.digits.ShortNumber.{ShortNumber}
 use Rattle.cert_scan.specs.declared.pairs.Pair.{Pair}
 
@@ -24,3 +28,21 @@ pub record IsPairAhead (n before : ℕ) (bytes : List ℕ) (pair : Pair) : Type 
   pub room : pair.front + 1 + pair.back < length bytes
   pub line_end : pair.last ≡ true → slice_index bytes (pair.front + 1 + pair.back) ≡ 10
   pub more : pair.last ≡ false → slice_index bytes (pair.front + 1 + pair.back) ≡ 32
+
+-- the numbers of two of n nodes, of which the first is not above the second, behind the way before; how often that way is
+-- taken, and the byte that ends it
+pub record IsWayAhead (n : ℕ) (at : WaysAt) (bytes : List ℕ) (way : Way) : Type 0 where
+  pub first : SpellsOn None (take way.front bytes) (Some way.from)
+  pub node : 1 ≤ way.from
+  pub space : slice_index bytes way.front ≡ 32
+  pub second : SpellsOn None (take way.middle (drop (way.front + 1) bytes)) (Some way.to)
+  pub order : way.from ≤ way.to
+  pub within : way.to ≤ n
+  pub behind : is_later_way at way.from way.to ≡ true
+  pub gap : slice_index bytes (way.front + 1 + way.middle) ≡ 32
+  pub third : SpellsOn None (take way.back (drop (way.front + 1 + way.middle + 1) bytes)) (Some way.taken)
+  pub some : 1 ≤ way.taken
+  pub few : way.taken ≤ most_taken
+  pub room : way.front + 1 + way.middle + 1 + way.back < length bytes
+  pub line_end : way.last ≡ true → slice_index bytes (way.front + 1 + way.middle + 1 + way.back) ≡ 10
+  pub more : way.last ≡ false → slice_index bytes (way.front + 1 + way.middle + 1 + way.back) ≡ 32

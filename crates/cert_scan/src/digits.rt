@@ -71,6 +71,56 @@ pub(crate) fn number_at(bytes: &[u8], at: usize) -> Option<ShortNumber>
     })
 }
 
+// The number of at most three digits that stands whole at this place, with the byte behind it. It is read byte by byte,
+// which is faster where most numbers are as long as the one before.
+#[inline(always)]
+pub(crate) fn small_number_at(bytes: &[u8], at: usize) -> Option<ShortNumber>
+    requires { at + 4 ≤ length bytes.now }
+    ensures { IfSome result (IsNumberAt bytes.now at) }
+{
+    let first = digit_of(bytes[at])?;
+    let Some(second) = digit_of(bytes[at + 1]) else {
+        return number_of(bytes, at, 1, first);
+    };
+    if first < 1 {
+        return None;
+    }
+    let pair = first * 10 + second;
+    let Some(third) = digit_of(bytes[at + 2]) else {
+        return number_of(bytes, at, 2, pair);
+    };
+    number_of(bytes, at, 3, pair * 10 + third)
+}
+
+// The number that so many digits spell, with the byte behind it, if that byte may stand there.
+#[inline(always)]
+fn number_of(bytes: &[u8], at: usize, digits: usize, value: u64) -> Option<ShortNumber>
+    requires few { digits ≤ 18 }
+    requires room { at + digits < length bytes.now }
+    requires spells { SpellsOn None (take digits (drop at bytes.now)) (Some value) }
+    ensures { IfSome result (IsNumberAt bytes.now at) }
+{
+    let last = ends_line(bytes[at + digits])?;
+    Some(ShortNumber {
+        digits,
+        value,
+        last,
+    })
+}
+
+// The number of at most seven digits that stands whole at this place, with the byte behind it.
+#[inline(always)]
+pub(crate) fn few_digits_at(bytes: &[u8], at: usize) -> Option<ShortNumber>
+    requires { at + 8 ≤ length bytes.now }
+    ensures { IfSome result (IsNumberAt bytes.now at) }
+{
+    let (digits, value) = leading_digits(word_at(bytes, at));
+    if digits > 7 || value < least_of(digits) {
+        return None;
+    }
+    number_of(bytes, at, digits, value)
+}
+
 #[inline(always)]
 fn least_of(digits: usize) -> u64
     requires { digits ≤ 18 }

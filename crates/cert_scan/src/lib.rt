@@ -16,8 +16,8 @@
 //! one of a marked cut may: `repeats` tells that by the items.
 //!
 //! What stands whole in the bytes at hand is taken at once, which comes to the same as its bytes one by one: the first
-//! word of a line, a short number (`digits`), and a node of a dual with its value (`pairs`). Their digits are read from
-//! words of eight bytes (`words`).
+//! word of a line, a short number (`digits`), a node of a dual with its value (`pairs`), and a way of a proof (`proof_ways`).
+//! Most digits are read from words of eight bytes (`words`).
 #![tactic(auto)]
 
 mod bytes;
@@ -28,6 +28,7 @@ mod marks;
 mod pairs;
 mod pieces;
 mod places;
+mod proof_ways;
 mod repeats;
 mod scanner;
 mod stages;

@@ -109,7 +109,8 @@ pub(crate) fn take_way_from(shape: Shape, at: WaysAt, value: u128, last: bool) -
 }
 
 // Whether the nodes stand behind those of the way before.
-fn is_later(at: WaysAt, from: u32, to: u128) -> bool
+#[inline(always)]
+pub(crate) fn is_later(at: WaysAt, from: u32, to: u128) -> bool
     ensures { result ≡ is_later_way at from to }
 {
     at.from < from || (at.from == from && (at.to as u128) < to)

@@ -21,22 +21,26 @@ ghost use Rattle.cert_scan.specs.Parts.{items_of};
 ghost use Rattle.cert_scan.specs.Given.{IsGiven};
 ghost use Rattle.cert_scan.specs.Scanned.{HasScanned, IsLost, AreCountable, Tells, IsLineAtHand};
 ghost use Rattle.cert_scan.specs.Pieces.{AreOnTime};
-ghost use Rattle.cert_scan.specs.Ahead.{IsPairAhead};
+ghost use Rattle.cert_scan.specs.Moves.{way_behind};
+ghost use Rattle.cert_scan.specs.Ahead.{IsPairAhead, IsWayAhead};
 ghost use Rattle.cert_scan.specs.Runs.{Takes, Runs, HasNoLineEnd};
 ghost use Rattle.cert_scan.specs.declared.items.Item.{Item as ItemOf};
-ghost use Rattle.cert_scan.specs.declared.items.Item.TheVariants.{DualPair};
+ghost use Rattle.cert_scan.specs.declared.items.Item.TheVariants.{DualPair, ProofPair};
 ghost use Rattle.cert_scan.specs.declared.bytes.Position.TheVariants.{Number};
-ghost use Rattle.cert_scan.specs.declared.places.Place.TheVariants.{ValueNode};
+ghost use Rattle.cert_scan.specs.declared.places.Place.TheVariants.{ValueNode, WayFrom};
 ghost use Rattle.cert_scan.specs.declared.stages.Subject.{Subject as SubjectOf};
+ghost use Rattle.cert_scan.specs.declared.stages.WaysAt.{WaysAt as WaysAtOf};
 
 use crate::bytes::{Move, Position, after_byte};
 use crate::digits::{SHORT, more_digits, number_at};
 use crate::heads::{form, head_of, letters_ahead};
 use crate::items::{Fault, Item, Version};
+use crate::marks::take_taken;
 use crate::pairs::{Pair, pair_ahead};
 use crate::places::{Place, take, take_value};
+use crate::proof_ways::{Way, way_ahead};
 use crate::repeats::DualSoFar;
-use crate::stages::{Shape, Stage};
+use crate::stages::{Shape, Stage, WaysAt};
 use memchr::memchr;
 
 /// The scan of a text, of which some bytes have come. It takes no memory, but has room for the pairs of one dual.
@@ -108,7 +112,7 @@ impl Scan {
         ensures { Runs self.old bytes.now result.0 result.1 self.new }
     {
         let Some(pair) = self.pair_ahead(bytes) else {
-            return self.advance_all(bytes);
+            return self.take_way(bytes);
         };
         if pair.last {
             return self.end_dual(pair, bytes);
@@ -173,6 +177,75 @@ impl Scan {
             return (bytes.len(), None);
         }
         (pair.front + 1 + pair.back + 1, item)
+    }
+
+    // As `take_run`, where no pair of a dual stands.
+    #[inline(always)]
+    fn take_way(&mut self, bytes: &[u8]) -> (usize, Option<Item>)
+        ensures { Runs self.old bytes.now result.0 result.1 self.new }
+    {
+        let Some(way) = self.way_ahead(bytes) else {
+            return self.advance_all(bytes);
+        };
+        if way.last {
+            return self.end_proof(way, bytes);
+        }
+        let item = self.list_way(way);
+        (way.front + 1 + way.middle + 1 + way.back + 1, Some(item))
+    }
+
+    // The way that a proof lists next, where it stands there whole and as wanted.
+    #[inline(always)]
+    fn way_ahead(&self, bytes: &[u8]) -> Option<Way>
+        ensures { IfSome result (λ way. (at : WaysAtOf) × (self.now.position ≡ Number (WayFrom at) None)
+            × IsWayAhead self.now.shape.n at bytes.now way) }
+    {
+        match self.position {
+            Position::Number(Place::WayFrom(at), None) => way_ahead(self.shape.n, at, bytes),
+            _ => None,
+        }
+    }
+
+    // Takes a way behind which the line goes on.
+    #[inline(always)]
+    fn list_way(&mut self, way: Way) -> Item
+        ensures given { result ≡ ProofPair (way.from - 1) (way.to - 1) way.taken false }
+        ensures after { (at : WaysAtOf) → self.old.position ≡ Number (WayFrom at) None
+            → self.new ≡ put self.old (Number (WayFrom (way_behind at.dual way.from way.to)) None) }
+    {
+        if let Position::Number(Place::WayFrom(at), None) = &mut self.position {
+            at.from = way.from;
+            at.to = way.to;
+        }
+        Item::ProofPair {
+            k: way.from.saturating_sub(1),
+            m: way.to.saturating_sub(1),
+            y: way.taken,
+            last: false,
+        }
+    }
+
+    // Takes a way behind which the line ends.
+    #[inline(never)]
+    fn end_proof(&mut self, way: Way, bytes: &[u8]) -> (usize, Option<Item>)
+        requires { (at : WaysAtOf) × (self.old.position ≡ Number (WayFrom at) None)
+            × IsWayAhead self.old.shape.n at bytes.now way }
+        ensures { Runs self.old bytes.now result.0 result.1 self.new }
+    {
+        let Position::Number(place, _) = self.position else {
+            return self.advance_all(bytes);
+        };
+        let Place::WayFrom(before) = place else {
+            return self.advance_all(bytes);
+        };
+        let at = WaysAt {
+            dual: before.dual,
+            from: way.from,
+            to: way.to,
+        };
+        let next = take_taken(self.shape, at, way.taken as u128, way.last);
+        let item = self.go(next);
+        (way.front + 1 + way.middle + 1 + way.back + 1, item)
     }
 
     #[inline(never)]
