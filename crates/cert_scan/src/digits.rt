@@ -190,10 +190,11 @@ fn last_digits(bytes: &[u8], at: usize, front: u64) -> (usize, u64)
 fn digit_of(byte: u8) -> Option<u64>
     ensures { IfSome result (λ digit. (byte ≡ 48 + digit) × (digit ≤ 9)) }
 {
-    if byte < b'0' || byte > b'9' {
+    let digit = byte.wrapping_sub(b'0');
+    if digit > 9 {
         return None;
     }
-    Some((byte - b'0') as u64)
+    Some(digit as u64)
 }
 
 // How many of the bytes are digits that go on with a number, and the number with them.

@@ -111,14 +111,21 @@ impl Scan {
     fn take_run(&mut self, bytes: &[u8]) -> (usize, Option<Item>)
         ensures { Runs self.old bytes.now result.0 result.1 self.new }
     {
-        let Some(pair) = self.pair_ahead(bytes) else {
-            return self.take_way(bytes);
-        };
-        if pair.last {
-            return self.end_dual(pair, bytes);
+        if let Some(pair) = self.pair_ahead(bytes) {
+            if pair.last {
+                return self.end_dual(pair, bytes);
+            }
+            let item = self.list_pair(pair);
+            return (pair.front + 1 + pair.back + 1, Some(item));
         }
-        let item = self.list_pair(pair);
-        (pair.front + 1 + pair.back + 1, Some(item))
+        let Some(way) = self.way_ahead(bytes) else {
+            return self.advance_all(bytes);
+        };
+        if way.last {
+            return self.end_proof(bytes);
+        }
+        let item = self.list_way(way);
+        (way.front + 1 + way.middle + 1 + way.back + 1, Some(item))
     }
 
     // The node and the value that a dual lists next, where they stand there whole and as wanted.
@@ -179,21 +186,6 @@ impl Scan {
         (pair.front + 1 + pair.back + 1, item)
     }
 
-    // As `take_run`, where no pair of a dual stands.
-    #[inline(always)]
-    fn take_way(&mut self, bytes: &[u8]) -> (usize, Option<Item>)
-        ensures { Runs self.old bytes.now result.0 result.1 self.new }
-    {
-        let Some(way) = self.way_ahead(bytes) else {
-            return self.advance_all(bytes);
-        };
-        if way.last {
-            return self.end_proof(way, bytes);
-        }
-        let item = self.list_way(way);
-        (way.front + 1 + way.middle + 1 + way.back + 1, Some(item))
-    }
-
     // The way that a proof lists next, where it stands there whole and as wanted.
     #[inline(always)]
     fn way_ahead(&self, bytes: &[u8]) -> Option<Way>
@@ -225,13 +217,14 @@ impl Scan {
         }
     }
 
-    // Takes a way behind which the line ends.
+    // Takes a way behind which the line ends. It is read once more, so that any other way need not be handed on.
     #[inline(never)]
-    fn end_proof(&mut self, way: Way, bytes: &[u8]) -> (usize, Option<Item>)
-        requires { (at : WaysAtOf) × (self.old.position ≡ Number (WayFrom at) None)
-            × IsWayAhead self.old.shape.n at bytes.now way }
+    fn end_proof(&mut self, bytes: &[u8]) -> (usize, Option<Item>)
         ensures { Runs self.old bytes.now result.0 result.1 self.new }
     {
+        let Some(way) = self.way_ahead(bytes) else {
+            return self.advance_all(bytes);
+        };
         let Position::Number(place, _) = self.position else {
             return self.advance_all(bytes);
         };
