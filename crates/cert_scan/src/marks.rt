@@ -23,7 +23,7 @@ const MOST_TURNS: u128 = 1000;
 
 const MOST_SCALE: u128 = 1_000_000_000;
 
-const MOST_TAKEN: u128 = 1_000_000_000_000;
+pub(crate) const MOST_TAKEN: u128 = 1_000_000_000_000;
 
 // The line of a cut ends behind its part; in the third version a mark may stand behind it.
 #[inline(never)]

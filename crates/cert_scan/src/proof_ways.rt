@@ -4,7 +4,7 @@ ghost use Rattle.cert_scan.specs.Ahead.{IsWayAhead};
 ghost use Rattle.cert_scan.specs.Moves.{is_later_way};
 
 use crate::digits::{SHORT, few_digits_at, small_number_at};
-use crate::marks::is_later;
+use crate::marks::{MOST_TAKEN, is_later};
 use crate::stages::WaysAt;
 
 // The nodes of a way, counted from 1, and how often it is taken, and how many digits each of the three has. `last` says
@@ -23,10 +23,8 @@ pub(crate) struct Way {
 // Two numbers of as many digits as are short, with a byte behind each, and eight bytes more.
 const LONGEST: usize = 2 * SHORT + 10;
 
-const MOST_TAKEN: u64 = 1_000_000_000_000;
-
-// A way between two of `n` nodes, behind the one before it, with the byte that ends it. No number has more digits than is
-// usual in a proof: nodes three, and the other seven.
+// A way between two of `n` nodes, behind the one before it, with the byte that ends it. Only short numbers are read: nodes
+// of at most three digits, and the other of at most seven.
 #[inline(always)]
 pub(crate) fn way_ahead(n: u32, at: WaysAt, bytes: &[u8]) -> Option<Way>
     ensures { IfSome result (IsWayAhead n at bytes.now) }
@@ -44,7 +42,7 @@ pub(crate) fn way_ahead(n: u32, at: WaysAt, bytes: &[u8]) -> Option<Way>
     }
     let (from, to) = nodes_behind(n, at, first.value, second.value)?;
     let third = few_digits_at(bytes, first.digits + 1 + second.digits + 1)?;
-    if third.value < 1 || third.value > MOST_TAKEN {
+    if third.value < 1 || third.value as u128 > MOST_TAKEN {
         return None;
     }
     Some(Way {

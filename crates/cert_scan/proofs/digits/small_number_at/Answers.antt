@@ -1,4 +1,4 @@
-use Rattle.std.proofs.Common.{◌≡◌, ◌+◌, sym, ap, ◌∙◌, get_or, arith}
+use Rattle.std.proofs.Common.{◌≡◌, ◌+◌, ap, ◌∙◌, get_or, arith}
 use Rattle.cert_scan.proofs.SmallNumbers.{three_digits}
 use Rattle.cert_scan.proofs.digits.small_number_at.Goals as goal
 

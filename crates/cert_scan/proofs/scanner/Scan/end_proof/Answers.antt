@@ -1,5 +1,4 @@
-use Rattle.std.proofs.Common.{◌≡◌, None, sym, ap, ◌∙◌, subst}
-use Rattle.cert_scan.specs.Moves.{taken_by, way_behind}
+use Rattle.std.proofs.Common.{None, ap, ◌∙◌, subst}
 use Rattle.cert_scan.specs.Ahead.{IsWayAhead}
 use Rattle.cert_scan.specs.declared.bytes.Position.TheVariants.{Number}
 use Rattle.cert_scan.specs.declared.places.Place.TheVariants.{WayFrom}
