@@ -22,3 +22,5 @@ pub mod CoredFunctions
 pub mod ServingCuts
 pub mod SameRuns
 pub mod AheadDuals
+pub mod NotedRatios
+pub mod TakenWays

@@ -17,6 +17,16 @@ pub record AreRatios (t : Table) (n : ℕ) (rs : List Ratio) : Type 0 where
   pub one_each : length rs ≡ n
   pub each : (j : ℕ) (d : Ratio) → j < n → IsRatio t j (slice_index_or rs j d)
 
+-- what the first n rows say of the variables; what none of them has is 0
+pub record AreNoted (t : Table) (n : ℕ) (rs : List Ratio) : Type 0 where
+  pub some : (i : ℕ) (d : Ratio) → i < n → slice_index t.basis i < length rs → 1 ≤ (slice_index_or rs (slice_index t.basis i) d).over
+  pub over : (i : ℕ) (d : Ratio) → i < n → slice_index t.basis i < length rs
+      → number (row_at t i) (slice_index t.basis i) ≡ pos (slice_index_or rs (slice_index t.basis i) d).over
+  pub right : (i : ℕ) (d : Ratio) → i < n → slice_index t.basis i < length rs
+      → right_side (row_at t i) ≡ pos (slice_index_or rs (slice_index t.basis i) d).right
+  pub others : (j : ℕ) (d : Ratio) → j < length rs → ((i : ℕ) → i < n → slice_index t.basis i ≡ j → ⊥)
+      → slice_index_or rs j d ≡ record { right = 0; over = 1 }
+
 -- the ratio times the part is whole; and what it is
 abbrev pub IsWholeAt : ℕ → Ratio → Type 0
 IsWholeAt e r = e * r.right % r.over ≡ 0

@@ -1,6 +1,6 @@
 -- The numbers of the core problem as the code lays them out, row by row; and what a last table proves.
-use Rattle.std.specs.Prelude.{ℕ, ◌+◌, ◌*◌, ◌^◌, List, ◌∷◌, length, map, drop, ℤ, pos, ◌-ℤ◌}
-use Rattle.core_spec.specs.CoreCuts.{CoreProof}
+use Rattle.std.specs.Prelude.{ℕ, ◌+◌, ◌*◌, ◌^◌, Bool, nat_lt, List, ◌∷◌, length, map, drop, ℤ, pos, ◌-ℤ◌}
+use Rattle.core_spec.specs.CoreCuts.{Way, CoreProof}
 use Rattle.frac_rows.specs.Rows.{Table, objective}
 use Rattle.core_runs.specs.CoreTables.{through, counts, ways_of, ordered_ways}
 use Rattle.core_cuts.specs.Readings.{scale_at}
@@ -17,6 +17,10 @@ way_row candidates e = pos 1 ∷ map (λ k. pos 0 -ℤ pos (through e k)) candid
 abbrev pub objective_row : List ℕ → List ℕ → List ℤ
 objective_row candidates hubs =
     (pos 0 -ℤ pos (2 + 2 * length candidates)) ∷ map (λ k. pos (counts hubs (length candidates) k)) candidates
+
+-- whether the way is taken
+abbrev pub is_taken : Way → Bool
+is_taken w = nat_lt 0 w.2
 
 -- what a last table proves by these edges: as many turns as there are candidates, and scale and ways of its objective row
 abbrev pub table_proof : List ℕ → List (ℕ × ℕ) → Table → CoreProof

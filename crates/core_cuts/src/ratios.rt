@@ -1,9 +1,9 @@
 //! The basic solution of a table, as ratios.
 
-ghost use Rattle.std.specs.Prelude.{◌≡◌, ◌<◌, ◌≤◌, length, slice_index, pos, IfOk};
+ghost use Rattle.std.specs.Prelude.{◌≡◌, ◌+◌, ◌<◌, ◌≤◌, length, slice_index, pos, IfOk};
 ghost use Rattle.frac_rows.specs.Rows.{number, right_side, row_at};
 ghost use Rattle.frac_rows.specs.Theorems.{IsBasic, AreRightsLow};
-ghost use Rattle.core_cuts.specs.BasicRatios.{IsRatio, AreRatios};
+ghost use Rattle.core_cuts.specs.BasicRatios.{AreRatios, AreNoted};
 
 use plain_rows::PlainRows;
 use std::alloc::{AllocError, Global};
@@ -25,25 +25,27 @@ pub(crate) fn ratios_of(
     requires rights { AreRightsLow rows.now }
     ensures { IfOk result (λ ratios. AreRatios rows.now variables ratios.items) }
 {
-    let mut ratios = Vec::new(alloc);
-    for variable in 0..variables {
-        ratios.push(ratio_of(rows, variable))?;
+    let nothing = Ratio { right: 0, over: 1 };
+    let mut ratios = vec![in alloc; nothing; variables as usize]?;
+    for row in 0..rows.constraints() {
+        note_row(rows, row, &mut ratios);
     }
     Ok(ratios)
 }
 
-/// What the variable is: in its row, if it has one, or else 0.
-fn ratio_of(rows: &PlainRows, variable: u32) -> Ratio
+/// Notes what the row's basic column is, if that is one of the variables.
+fn note_row(rows: &PlainRows, row: usize, ratios: &mut [Ratio])
     requires basic { IsBasic rows.now }
     requires rights { AreRightsLow rows.now }
-    ensures { IsRatio rows.now variable result }
+    requires row { row < length rows.now.basis }
+    requires noted { AreNoted rows.now row ratios.old }
+    ensures long { length ratios.new ≡ length ratios.old }
+    ensures noted { AreNoted rows.now (row + 1) ratios.new }
 {
-    for row in 0..rows.constraints() {
-        if rows.basic(row) == variable {
-            return ratio_at(rows, row);
-        }
+    let basic = rows.basic(row) as usize;
+    if basic < ratios.len() {
+        ratios[basic] = ratio_at(rows, row);
     }
-    Ratio { right: 0, over: 1 }
 }
 
 /// The right side of the row over its number in its basic column.

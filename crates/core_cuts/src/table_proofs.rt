@@ -7,7 +7,7 @@ ghost use Rattle.core_spec.specs.MarkRanges.{most_taken};
 ghost use Rattle.core_cuts.specs.Readings.{scale_at, IsShortProof};
 ghost use Rattle.core_cuts.specs.Bodies.{table_proof};
 
-use crate::taken_ways::{ordered_ways, ways_of};
+use crate::taken_ways::{ordered_ways, taken_ways};
 use core_marks::DualProof;
 use plain_rows::PlainRows;
 use std::alloc::{AllocError, Global};
@@ -47,7 +47,7 @@ impl TableProof {
         requires wide { length candidates.now + 1 + length edges.now ≤ length (objective rows.now) }
         ensures { IfOk result (λ proof. proof ≡ table_proof candidates.now edges.now rows.now) }
     {
-        let taken = ways_of(alloc, rows, edges, candidates.len() + 1)?;
+        let taken = taken_ways(alloc, rows, edges, candidates.len() + 1)?;
         let ways = ordered_ways(alloc, candidates, &taken)?;
         Ok(TableProof {
             turns: candidates.len() as u32,

@@ -1,31 +1,41 @@
 //! How often each way is taken.
 
-ghost use Rattle.std.specs.Prelude.{◌≡◌, ◌+◌, ◌≤◌, ◌++◌, length, drop, filter, IfOk, OnOk};
+ghost use Rattle.std.specs.Prelude.{◌≡◌, ◌+◌, ◌≤◌, ◌++◌, ◌∷◌, [], length, drop, filter, IfOk, OnOk};
 ghost use Rattle.frac_rows.specs.Rows.{objective};
 ghost use Rattle.core_runs.specs.CoreTables.{ways_of, begins_at, ordered_ways};
+ghost use Rattle.core_cuts.specs.Bodies.{is_taken};
 
 use plain_rows::PlainRows;
 use std::alloc::{AllocError, Global};
 
-/// The ways with the numbers that the objective row has from this column on.
-pub(crate) fn ways_of(
+/// The ways that are taken, as often as the numbers say that the objective row has from this column on.
+pub(crate) fn taken_ways(
     alloc: Global,
     rows: &PlainRows,
     edges: &[(u32, u32)],
     first: usize,
 ) -> Result<Vec<(u32, u32, u64)>, AllocError>
     requires { first + length edges.now ≤ length (objective rows.now) }
-    ensures { IfOk result (λ ways. ways.items ≡ ways_of edges.now (drop first (objective rows.now))) }
+    ensures { IfOk result (λ ways. ways.items ≡ filter is_taken (ways_of edges.now (drop first (objective rows.now)))) }
 {
-    let objective = rows.constraints();
-    let _ = rows.columns();
+    let objective = rows.row(alloc, rows.constraints())?;
     let mut ways = Vec::new(alloc);
     for x in 0..edges.len() {
         let (k, m) = edges[x];
-        let often = rows.number(objective, first + x).unsigned_abs();
-        ways.push((k, m, often))?;
+        let often = objective[first + x].unsigned_abs();
+        add_taken((k, m, often), &mut ways)?;
     }
     Ok(ways)
+}
+
+/// Adds the way if it is taken.
+fn add_taken(way: (u32, u32, u64), ways: &mut Vec<(u32, u32, u64)>) -> Result<(), AllocError>
+    ensures { OnOk result (ways.new.items ≡ ways.old.items ++ filter is_taken (way ∷ [])) }
+{
+    if way.2 > 0 {
+        ways.push(way)?;
+    }
+    Ok(())
 }
 
 /// Those that are taken, in the order of a proof line.

@@ -2,9 +2,8 @@
 use Rattle.std.proofs.Common.{◌≡◌, ◌≢◌, ℕ, ◌+◌, ◌<◌, ◌≤◌, List, [], ◌∷◌, length, set, get_or, refl, sym, ap, subst, ◌∙◌, ⊎_elim, arith}
 use Rattle.std.proofs.lemmas.Bool.{cases_eq}
 use Rattle.std.proofs.lemmas.List.{length-append, length-set, set-append_left, get_or_append_left, get_or_push}
-use Rattle.plain_rows.specs.Flat.{owners, v_of, AreApart}
+use Rattle.plain_rows.specs.Flat.{IsSpread, owners, v_of, AreApart}
 use Rattle.plain_rows.proofs.Swapped.{IsSwap, at_same, at_other, once_after}
-use Rattle.plain_rows.proofs.WholeRows.{IsSpread}
 
 -- ---- the own columns
 

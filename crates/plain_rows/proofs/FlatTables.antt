@@ -13,10 +13,10 @@ use Rattle.frac_rows.proofs.Divided.{not_wide}
 use Rattle.frac_rows.proofs.Pieces.{piece_put, piece_kept}
 use Rattle.frac_rows.proofs.Pivots.{length_after, base_after, other_after, basis_after}
 use Rattle.frac_rows.proofs.WholeRows.{piece_within, length-piece}
-use Rattle.plain_rows.specs.Flat.{spread, stays_of, follows_of, owners, v_of, width_of, whole_row, table_of, IsReduced, AreRows, AreApart, IsStored, IsAfter, AreAfter, IsWideAfter}
+use Rattle.plain_rows.specs.Flat.{IsSpread, spread, stays_of, follows_of, owners, v_of, width_of, whole_row, table_of, IsReduced, AreRows, AreApart, IsStored, IsAfter, AreAfter, IsWideAfter}
 use Rattle.plain_rows.proofs.Spread.{number_at, length-spread, number-spread, right-spread}
 use Rattle.plain_rows.proofs.Swapped.{at_same, at_other}
-use Rattle.plain_rows.proofs.WholeRows.{IsSpread, narrow_spread, stays_whole, follows_whole, wide_whole}
+use Rattle.plain_rows.proofs.WholeRows.{narrow_spread, stays_whole, follows_whole, wide_whole}
 use Rattle.plain_rows.proofs.Columns.{length-owners, owner_basic, owner_low, spread_of, swap_of, apart_after, v_after, owners_after}
 
 -- ---- one table

@@ -8,3 +8,5 @@ pub mod AfterRows
 pub mod Choices
 pub mod FirstRows
 pub mod GivenRows
+pub mod SmallProducts
+pub mod SpreadWrites

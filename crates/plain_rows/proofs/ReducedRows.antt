@@ -24,6 +24,9 @@ reduced_same row one =
     let unit : scale row ≡ 1 = omega (arith, one) in
     sym (times_one (reduced row)) ∙ ap (λ g. times (pos g) (reduced row)) (sym unit) ∙ times-reduced row
 
+pub undivided : (row : List ℤ) (g : ℕ) → g ≡ 1 → g ≡ divisor_of row → reduced row ≡ row
+undivided row g one is = reduced_same row (omega (arith, one, is))
+
 eliminated_none : (p : ℤ) (row : List ℤ) (base : List ℤ) → length row ≡ length base → eliminated p row (pos 0) base ≡ times p row
 eliminated_none p [] base long = refl
 eliminated_none p (x ∷ row) [] long = absurd (omega arith)

@@ -1,5 +1,5 @@
 -- Whole rows before and after a pivot.
-use Rattle.std.proofs.Common.{◌≡◌, ◌≢◌, ℕ, ◌+◌, ◌<◌, ◌≤◌, true, false, Bool, List, [], ◌∷◌, length, set, get_or, map, cond, eqb, ℤ, pos, ◌-ℤ◌, ◌*ℤ◌, unsigned_abs, refl, sym, ap, ap₂, ◌∙◌, ⊎_elim, arith}
+use Rattle.std.proofs.Common.{◌≡◌, ◌≢◌, ℕ, ◌+◌, ◌≤◌, true, false, Bool, List, [], ◌∷◌, length, set, get_or, map, cond, eqb, ℤ, pos, ◌-ℤ◌, ◌*ℤ◌, unsigned_abs, refl, sym, ap, ap₂, ◌∙◌, ⊎_elim, arith}
 use Rattle.std.specs.Int.{◌∣◌}
 use Rattle.std.proofs.Math.Nat.{zero-div}
 use Rattle.std.proofs.lemmas.Bool.{cases_Bool}
@@ -10,16 +10,9 @@ use Rattle.frac_rows.proofs.Gcds.{divisor_divides, divides_divisor}
 use Rattle.frac_rows.proofs.Quotients.{length-reduced}
 use Rattle.frac_rows.proofs.Linear.{length-eliminated, number-eliminated}
 use Rattle.frac_rows.proofs.Divided.{number-reduced, narrow_from_false, not_wide}
-use Rattle.plain_rows.specs.Flat.{spread_number, spread, stays_of, follows_of}
+use Rattle.plain_rows.specs.Flat.{spread_number, spread, IsSpread, stays_of, follows_of}
 use Rattle.plain_rows.proofs.Spread.{number_at, length-spread, number-spread, right-spread, same_row, all_spread, all_kept}
 use Rattle.plain_rows.proofs.Swapped.{IsSwap, crossed, Z_long, stays_number, follows_number, follows_right, stays_right}
-
--- the columns of a row whose own one is `owner`, up to n
-pub record IsSpread (os : List ℕ) (owner n : ℕ) : Type 0 where
-  pub low : (a : ℕ) → a < length os → get_or os a 0 < n
-  pub own_low : owner ≤ n
-  pub once : (a b : ℕ) → a < length os → b < length os → get_or os a 0 ≡ get_or os b 0 → a ≡ b
-  pub apart : (a : ℕ) → a < length os → get_or os a 0 ≢ owner
 
 -- ---- divided
 

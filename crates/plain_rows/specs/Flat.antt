@@ -65,6 +65,13 @@ pub record AreApart (n : ℕ) (outside own : List ℕ) : Type 0 where
   pub own_once : (i j : ℕ) → i < length own → j < length own → slice_index own i ≡ slice_index own j → i ≡ j
   pub apart : (a i : ℕ) → a < length outside → i < length own → slice_index outside a ≢ slice_index own i
 
+-- the columns of a row whose own one is `owner`, up to n
+pub record IsSpread (outside : List ℕ) (owner n : ℕ) : Type 0 where
+  pub low : (a : ℕ) → a < length outside → slice_index outside a < n
+  pub own_low : owner ≤ n
+  pub once : (a b : ℕ) → a < length outside → b < length outside → slice_index outside a ≡ slice_index outside b → a ≡ b
+  pub apart : (a : ℕ) → a < length outside → slice_index outside a ≢ owner
+
 -- the rows of a table, whose places all fit 32 bits
 pub record IsStored (outside : List ℕ) (numbers : List ℤ) (basis : List ℕ) : Type 0 where
   pub rows : AreRows (width_of outside) (length basis + 1) numbers

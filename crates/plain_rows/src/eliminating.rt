@@ -20,12 +20,31 @@ pub(crate) fn reduce(turn: Multipliers, base: &[i64], row: &mut [i64]) -> Result
     ensures wide { OnErr result (is_wide_row (reduced (eliminated turn.own row.old turn.base base.now)) ≡ true) }
 {
     let divisor = common_divisor(turn, row, base);
+    if divisor == 1 {
+        return eliminate(turn, base, row);
+    }
     for k in 0..row.len() {
         let number = quotient(turn.cross(row[k], base[k]), divisor);
         if number.unsigned_abs() > u128::from(WIDEST) {
             return Err(Wide);
         }
         row[k] = number as i64;
+    }
+    Ok(())
+}
+
+// The same where nothing is to be divided.
+fn eliminate(turn: Multipliers, base: &[i64], row: &mut [i64]) -> Result<(), Wide>
+    requires as_long { length base.now ≡ length row.old }
+    requires narrow { AreNarrow row.old }
+    requires narrow_base { AreNarrow base.now }
+    ensures long { length row.new ≡ length row.old }
+    ensures row { OnOk result (row.new ≡ eliminated turn.own row.old turn.base base.now) }
+    ensures kept { OnOk result (AreNarrow row.new) }
+    ensures wide { OnErr result (is_wide_row (eliminated turn.own row.old turn.base base.now) ≡ true) }
+{
+    for k in 0..row.len() {
+        row[k] = turn.narrow_cross(row[k], base[k])?;
     }
     Ok(())
 }

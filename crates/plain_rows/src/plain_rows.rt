@@ -7,7 +7,7 @@ ghost use Rattle.frac_rows.specs.Starts.{start};
 ghost use Rattle.frac_rows.specs.Stored.{columns_of};
 ghost use Rattle.plain_rows.specs.Plain.{plain_table, IsProgram};
 
-use crate::entries::owner_of;
+use crate::entries::{owner_of, write_spread};
 use crate::given::{given_numbers, rights_of};
 use crate::parts::part;
 use crate::starts::{first_rows, numbered};
@@ -127,6 +127,24 @@ impl PlainRows {
             v,
             column,
         )
+    }
+
+    /// The numbers of the row in all columns.
+    pub fn row(&self, alloc: Global, row: usize) -> Result<Vec<i64>, AllocError>
+        requires { row ≤ length self.now.basis }
+        ensures { IfOk result (λ numbers. numbers.items ≡ row_at self.now row) }
+    {
+        let kept = part(&self.numbers, self.outside.len() + 2, row);
+        let v = self.outside.len() + self.basis.len();
+        let mut numbers = vec![in alloc; 0; v + 2]?;
+        write_spread(
+            &self.outside,
+            kept,
+            owner_of(&self.basis, v, row),
+            v,
+            &mut numbers,
+        );
+        Ok(numbers)
     }
 
     /// The basic column of the constraint row.

@@ -1,13 +1,25 @@
-use Rattle.std.proofs.Common.{◌≡◌, ◌<◌, ◌≤◌, ◌*ℤ◌, ◌-ℤ◌, ◌∙◌, pos, unsigned_abs, FitsSigned, sym, ap, subst, arith, rules}
+use Rattle.std.proofs.Common.{◌≡◌, ◌<◌, ◌≤◌, ◌*ℤ◌, ◌-ℤ◌, ◌∙◌, pos, true, unsigned_abs, OnOk, OnErr, FitsSigned, sym, ap, subst, arith, rules}
 use Rattle.std.specs.Int.{w64, w128}
 use Rattle.std.proofs.lemmas.Int.{ints, to_z-of_z}
 use Rattle.frac_rows.specs.Divisors.{quotient, reduced}
-use Rattle.frac_rows.specs.Rows.{number, eliminated, widest}
+use Rattle.frac_rows.specs.Rows.{number, eliminated, is_wide_row, widest}
 use Rattle.std.proofs.lemmas.List.{get_or-set_other}
 use Rattle.frac_rows.proofs.Divided.{narrow_at, reduced_at, reduces_more, reduced_all, reduced_narrow, reduced_wide}
-use Rattle.plain_rows.proofs.ReducedRows.{is_reduced}
+use Rattle.plain_rows.proofs.ReducedRows.{is_reduced, undivided}
 use Rattle.plain_rows.proofs.eliminating.reduce.Goals as goal
 use Rattle.plain_rows.proofs.eliminating.reduce.Goals.{After-unsigned_abs}
+
+pub returns-then-divisor-eq1-clause-row : goal.returns-then-divisor-eq1-clause-row
+returns-then-divisor-eq1-clause-row c =
+    let z = eliminated c.args.turn.own c.args.row.now c.args.turn.base c.args.base.now in
+    subst (λ x. OnOk c.eliminate.result (c.eliminate.new.row ≡ x))
+    (sym (undivided z c.common_divisor-divisor.result c.if-divisor-eq1.true c.common_divisor-divisor.ensures.value)) c.eliminate.ensures.row
+
+pub returns-then-divisor-eq1-clause-wide : goal.returns-then-divisor-eq1-clause-wide
+returns-then-divisor-eq1-clause-wide c =
+    let z = eliminated c.args.turn.own c.args.row.now c.args.turn.base c.args.base.now in
+    subst (λ x. OnErr c.eliminate.result (is_wide_row x ≡ true))
+    (sym (undivided z c.common_divisor-divisor.result c.if-divisor-eq1.true c.common_divisor-divisor.ensures.value)) c.eliminate.ensures.wide
 
 -- what was computed for the place of this turn
 at_place : (c : After-unsigned_abs) → c.quotient-number.result ≡ number (reduced (eliminated c.args.turn.own c.args.row.now c.args.turn.base c.args.base.now)) c.loop-k.k
