@@ -4,35 +4,29 @@ ghost use Rattle.std.specs.Prelude.{◌+◌, [], ◌∷◌, codes, map, flat_map
 ghost use Rattle.text_spec.specs.Fixed.{fixed_text};
 ghost use Rattle.hub_io.specs.Outside.{Puts, PutsThrough};
 ghost use Rattle.dec_text.specs.Lines.{piece_text};
-ghost use Rattle.hub_model.specs.Amounts.{natural, IsNatural};
 ghost use Rattle.hub_make.specs.Texts.{line_text};
 ghost use Rattle.hub_demo.specs.Texts.{demo_text, hubs_words, node_behind_space};
 
 use dec_text::{Piece, put_pieces};
 use hub_io::{Buffer, Failed, Sink};
-use hub_model::unsigned;
 
 // How many decimals a cost is printed with: all that it has.
 const COST_PLACES: u32 = 12;
 
 /// Puts the five lines of a demonstration: the number of nodes of the instance, the cost of the plan and the bound, both
-/// in 10^-12 and never below 0, the plan's hubs, and the number of nodes of the search. It takes no memory.
+/// in 10^-12, the plan's hubs, and the number of nodes of the search. It takes no memory.
 pub fn put_demo<K: Sink>(
     size: u32,
-    cost: i128,
-    bound: i128,
+    cost: u128,
+    bound: u128,
     hubs: &[u32],
     nodes: u64,
     sink: &mut K,
 ) -> Result<(), Failed>
-    requires cost { IsNatural cost }
-    requires bound { IsNatural bound }
-    ensures { Puts K.taken K.faults sink.old sink.new result (demo_text size (natural cost) (natural bound) hubs.now nodes) }
+    ensures { Puts K.taken K.faults sink.old sink.new result (demo_text size cost bound hubs.now nodes) }
 {
     let mut buffer = Buffer::new();
-    let paid = unsigned(cost);
-    let least = unsigned(bound);
-    put_lines(size, paid, least, hubs, nodes, &mut buffer, sink)?;
+    put_lines(size, cost, bound, hubs, nodes, &mut buffer, sink)?;
     buffer.finish(sink)
 }
 
