@@ -13,7 +13,6 @@ use Rattle.core_spec.specs.CoreCuts.{Mark}
 use Rattle.core_spec.specs.MarkRanges.{IsMarkInRange}
 use Rattle.hub_spec.specs.Ranges.{IsCutInRange}
 use Rattle.hub_spec.proofs.Commodities.{length_commodities, commodity_at}
-use Rattle.hub_model.specs.Amounts.{natural}
 use Rattle.cert_spec.specs.Stated.{Stated, cuts_of, IsStatedInRange}
 use Rattle.cert_spec.specs.Lines.{Item, says_version, says_size, says_cost, says_bound, says_hubs, says_route, says_cuts, says_cut, says_nodes, says_tree, says_end, keyword, numbers}
 use Rattle.cert_spec.specs.Text.{line_bytes, route_items, part_said, dual_items, cut_items_as, cut_items, top_items, cuts_items, tree_items, certificate_items, certificate_text}
@@ -38,12 +37,12 @@ put_of item = words_line (keyword item) (numbers item)
 abbrev pub head_items : (v n q c b : ℕ) → List Item
 head_items v n q c b = says_version v ∷ says_size n q ∷ says_cost c ∷ says_bound b ∷ []
 
-pub head_text : (n q : ℕ) {number v c b cost bound : ℕ} → number ≡ v → c ≡ cost → b ≡ bound
-    → put_of (says_version number) ++ (put_of (says_size n q) ++ (put_of (says_cost c) ++ put_of (says_bound b)))
+pub head_text : (n q cost bound : ℕ) {number v : ℕ} → number ≡ v
+    → put_of (says_version number) ++ (put_of (says_size n q) ++ (put_of (says_cost cost) ++ put_of (says_bound bound)))
     ≡ flat_map line_bytes (head_items v n q cost bound)
-head_text n q {v = v} {cost = cost} {bound = bound} same_version same_cost same_bound =
+head_text n q cost bound {v = v} same_version =
     (λ i. line_of (says_version (same_version i)) refl i
-    ++ (line_of (says_size n q) refl i ++ (line_of (says_cost (same_cost i)) refl i ++ line_of (says_bound (same_bound i)) refl i)))
+    ++ (line_of (says_size n q) refl i ++ (line_of (says_cost cost) refl i ++ line_of (says_bound bound) refl i)))
     ∙ ap (λ bs. line_bytes (says_version v) ++ (line_bytes (says_size n q) ++ (line_bytes (says_cost cost) ++ bs))) (sym (append-nil (line_bytes (says_bound bound))))
 
 pub top_text : (v n q c b : ℕ) (plan : Plan) (cuts : ℕ) {hubs : List ℕ} {routes : List (ℕ × ℕ)} → hubs ≡ plan.hubs → routes ≡ plan.routes
@@ -132,15 +131,13 @@ tree_text lines =
 pub parts_text : (k : Stated) (heading : Heading) {v n : ℕ} {plan : Plan} (cuts : List Cut) (marks : List (Option Mark)) (lines : List TreeLine)
     → IsHeadingOf heading k.proof → v ≡ k.proof.version → n ≡ k.proof.size → plan ≡ k.proof.plan → cuts ≡ k.proof.cuts → marks ≡ k.marks
     → map tree_line_of lines ≡ preorder k.proof.tree
-    → flat_map line_bytes (top_items (version_number heading.version) heading.size heading.candidates (natural heading.cost) (natural heading.bound) plan (length cuts))
+    → flat_map line_bytes (top_items (version_number heading.version) heading.size heading.candidates heading.cost heading.bound plan (length cuts))
     ++ (flat_map line_bytes (cuts_items v n 1 (zip cuts marks)) ++ flat_map line_bytes (tree_items (map tree_line_of lines)))
     ≡ flat_map line_bytes (certificate_items k)
 parts_text k heading cuts marks lines h version size plans all of_all tree =
     let p = k.proof in
-    let cost : natural heading.cost ≡ p.cost = ap natural h.cost in
-    let bound : natural heading.bound ≡ p.bound = ap natural h.bound in
     let top = top_items p.version p.size p.candidates p.cost p.bound p.plan (length p.cuts) in
-    (λ i. flat_map line_bytes (top_items (h.version i) (h.size i) (h.candidates i) (cost i) (bound i) (plans i) (length (all i)))
+    (λ i. flat_map line_bytes (top_items (h.version i) (h.size i) (h.candidates i) (h.cost i) (h.bound i) (plans i) (length (all i)))
     ++ (flat_map line_bytes (cuts_items (version i) (size i) 1 (zip (all i) (of_all i))) ++ flat_map line_bytes (tree_items (tree i))))
     ∙ three_texts top (cuts_items p.version p.size 1 (cuts_of k)) (tree_items (preorder p.tree))
     ∙ ap (flat_map line_bytes) (sym (certificate_items-parts k))

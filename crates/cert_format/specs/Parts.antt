@@ -1,12 +1,11 @@
 -- The certificate that its parts stand for.
-use Rattle.std.specs.Prelude.{◌≡◌, ℕ, ◌*◌, pos, List, length, map, Option, IfSome}
+use Rattle.std.specs.Prelude.{◌≡◌, ℕ, ◌*◌, List, length, map, Option, IfSome}
 use Rattle.hub_spec.specs.Plans.{Plan}
 use Rattle.hub_spec.specs.Cuts.{Cut}
 use Rattle.hub_spec.specs.Trees.{preorder}
 use Rattle.hub_spec.specs.Certificates.{Proof}
 use Rattle.core_spec.specs.CoreCuts.{Mark}
 use Rattle.cert_spec.specs.Stated.{Stated, IsStatedInRange}
-use Rattle.hub_model.specs.Amounts.{natural, IsNatural}
 use Rattle.plan_model.specs.Lines.{tree_line_of}
 use Rattle.plan_model.specs.declared.tree_lines.TreeLine.{TreeLine}
 use Rattle.cert_scan.specs.Versions.{version_number}
@@ -19,8 +18,8 @@ proof_of heading plan cuts lines = record {
   version = version_number heading.version;
   size = heading.size;
   candidates = heading.candidates;
-  cost = natural heading.cost;
-  bound = natural heading.bound;
+  cost = heading.cost;
+  bound = heading.bound;
   plan = plan;
   cuts = cuts;
   tree = tree_of (map tree_line_of lines);
@@ -34,10 +33,8 @@ stated_of heading plan cuts marks lines = record { proof = proof_of heading plan
 abbrev pub AreOneTree : List TreeLine → Type 0
 AreOneTree lines = preorder (tree_of (map tree_line_of lines)) ≡ map tree_line_of lines
 
--- no number is below 0, all are within the ranges of the grammar, and the lines are those of one tree
+-- all numbers are within the ranges of the grammar, and the lines are those of one tree
 pub record AreCertificateParts (heading : Heading) (plan : Plan) (cuts : List Cut) (marks : List (Option Mark)) (lines : List TreeLine) : Type 0 where
-  pub cost_least : IsNatural heading.cost
-  pub bound_least : IsNatural heading.bound
   pub in_range : IsStatedInRange (stated_of heading plan cuts marks lines)
   pub one_tree : AreOneTree lines
 
@@ -46,8 +43,8 @@ pub record IsHeadingOf (heading : Heading) (k : Proof) : Type 0 where
   pub version : version_number heading.version ≡ k.version
   pub size : heading.size ≡ k.size
   pub candidates : heading.candidates ≡ k.candidates
-  pub cost : heading.cost ≡ pos k.cost
-  pub bound : heading.bound ≡ pos k.bound
+  pub cost : heading.cost ≡ k.cost
+  pub bound : heading.bound ≡ k.bound
 
 -- a mark has a proof for each commodity between n nodes
 abbrev pub HasProofs : ℕ → Option Mark → Type 0

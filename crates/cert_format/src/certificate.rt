@@ -1,4 +1,4 @@
-ghost use Rattle.std.specs.Prelude.{◌≡◌, pos, map};
+ghost use Rattle.std.specs.Prelude.{◌≡◌, map};
 ghost use Rattle.hub_spec.specs.Trees.{preorder};
 ghost use Rattle.cert_spec.specs.Stated.{IsStatedInRange};
 ghost use Rattle.plan_model.specs.Lines.{tree_line_of};
@@ -94,15 +94,15 @@ impl Certificate {
     }
 
     /// The cost of the plan.
-    pub fn cost(&self) -> i128
-        ensures { result ≡ pos self.now.proof.cost }
+    pub fn cost(&self) -> u128
+        ensures { result ≡ self.now.proof.cost }
     {
         self.heading.cost
     }
 
     /// The bound on the cost of each plan.
-    pub fn bound(&self) -> i128
-        ensures { result ≡ pos self.now.proof.bound }
+    pub fn bound(&self) -> u128
+        ensures { result ≡ self.now.proof.bound }
     {
         self.heading.bound
     }

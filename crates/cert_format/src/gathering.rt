@@ -164,8 +164,6 @@ impl Gathering {
             ..
         } = self;
         let plan = Plan::new(hubs, routes);
-        let cost = signed(cost);
-        let bound = signed(bound);
         let heading = Heading {
             version,
             size,

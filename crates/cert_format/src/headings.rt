@@ -9,6 +9,6 @@ pub struct Heading {
     pub version: Version,
     pub size: u32,
     pub candidates: u32,
-    pub cost: i128,
-    pub bound: i128,
+    pub cost: u128,
+    pub bound: u128,
 }

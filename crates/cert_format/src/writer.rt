@@ -5,7 +5,6 @@ ghost use Rattle.hub_spec.specs.Problem.{commodities};
 ghost use Rattle.cert_spec.specs.Lines.{says_version, says_size, says_cost, says_bound, says_tree};
 ghost use Rattle.cert_spec.specs.Text.{route_items, cut_items_as, top_items, cuts_items, tree_items, certificate_items, certificate_text};
 ghost use Rattle.hub_io.specs.Outside.{Puts};
-ghost use Rattle.hub_model.specs.Amounts.{natural, IsNatural};
 ghost use Rattle.plan_model.specs.Lines.{tree_line_of};
 ghost use Rattle.cert_scan.specs.Versions.{version_number};
 ghost use Rattle.cert_format.specs.Parts.{HasProofs};
@@ -19,7 +18,6 @@ use crate::{Certificate, Heading};
 use cert_scan::Version;
 use core_marks::Mark;
 use hub_io::{Buffer, Failed, Sink};
-use hub_model::unsigned;
 use plan_model::{Plan, TreeLine};
 use stated_cuts::StatedCut;
 
@@ -64,11 +62,9 @@ pub fn put_top<K: Sink>(
     requires some { 1 ≤ heading.now.size }
     requires few { heading.now.size ≤ most_nodes }
     requires whole { length plan.now.routes ≡ heading.now.size * heading.now.size }
-    requires cost { IsNatural heading.now.cost }
-    requires bound { IsNatural heading.now.bound }
     ensures { PutsLines K.taken K.faults sink.old sink.new buffer.old buffer.new result
         (top_items (version_number heading.now.version) heading.now.size heading.now.candidates
-        (natural heading.now.cost) (natural heading.now.bound) plan.now cuts) }
+        heading.now.cost heading.now.bound plan.now cuts) }
 {
     let hubs = plan.hubs();
     let routes = plan.routes();
@@ -79,24 +75,20 @@ pub fn put_top<K: Sink>(
 }
 
 fn put_head<K: Sink>(heading: &Heading, buffer: &mut Buffer, sink: &mut K) -> Result<(), Failed>
-    requires cost { IsNatural heading.now.cost }
-    requires bound { IsNatural heading.now.bound }
     ensures { PutsLines K.taken K.faults sink.old sink.new buffer.old buffer.new result
         (says_version (version_number heading.now.version)
         ∷ says_size heading.now.size heading.now.candidates
-        ∷ says_cost (natural heading.now.cost)
-        ∷ says_bound (natural heading.now.bound)
+        ∷ says_cost heading.now.cost
+        ∷ says_bound heading.now.bound
         ∷ []) }
 {
     let version = heading.version.number() as u128;
     let nodes = heading.size as u128;
     let candidates = heading.candidates as u128;
-    let cost = unsigned(heading.cost);
-    let bound = unsigned(heading.bound);
     put_line(b"HUBCERT", &[version], buffer, sink)?;
     put_line(b"size", &[nodes, candidates], buffer, sink)?;
-    put_line(b"cost", &[cost], buffer, sink)?;
-    put_line(b"bound", &[bound], buffer, sink)
+    put_line(b"cost", &[heading.cost], buffer, sink)?;
+    put_line(b"bound", &[heading.bound], buffer, sink)
 }
 
 fn put_routes<K: Sink>(
