@@ -12,7 +12,7 @@ use crate::legs::Legs;
 use cert_format::Certificate;
 use dec_text::{Piece, put_pieces};
 use hub_io::{Buffer, Failed, Sink};
-use hub_model::{Instance, unsigned};
+use hub_model::Instance;
 use plan_model::Plan;
 
 // The decimals of a cost, and of a flow.
@@ -101,11 +101,9 @@ pub(crate) fn put_totals<K: Sink>(
         (total_lines instance.now certificate.now.proof) }
 {
     let fixed = instance.opening_cost(certificate.hubs());
-    let total = unsigned(certificate.cost());
-    let bound = unsigned(certificate.bound());
     put_cost(b"fixed", fixed, buffer, sink)?;
-    put_cost(b"total", total, buffer, sink)?;
-    put_cost(b"bound", bound, buffer, sink)
+    put_cost(b"total", certificate.cost(), buffer, sink)?;
+    put_cost(b"bound", certificate.bound(), buffer, sink)
 }
 
 fn put_cost<K: Sink>(
