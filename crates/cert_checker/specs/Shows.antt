@@ -6,7 +6,6 @@ use Rattle.hub_spec.specs.Cuts.{Cut, IsCut, IsTight}
 use Rattle.core_spec.specs.CoreCuts.{Mark}
 use Rattle.core_spec.specs.Domination.{Dominates}
 use Rattle.cert_spec.specs.Stated.{Stated, cuts_of}
-use Rattle.hub_model.specs.Amounts.{natural}
 use Rattle.cert_spec.specs.Text.{Spells}
 use Rattle.cert_spec.specs.Grammar.{bad_line, ended}
 use Rattle.cert_spec.specs.Verdicts.{Verdict, optimal, bounds, fails, misread, too_long, Older, serves, serves_not, unread, over_limit}
@@ -19,8 +18,8 @@ use Rattle.cert_checker.specs.Answers.{kind_of}
 
 -- the verdict that an ending stands for
 abbrev pub verdict_of : Ending → Verdict
-verdict_of (Optimal cost) = optimal (natural cost)
-verdict_of (Bounds bound cost) = bounds (natural bound) (natural cost)
+verdict_of (Optimal cost) = optimal cost
+verdict_of (Bounds bound cost) = bounds bound cost
 verdict_of (No kind line) = fails (kind_of kind) line
 verdict_of (BadLine line) = misread (bad_line line)
 verdict_of (Ended line) = misread (ended line)

@@ -16,7 +16,7 @@ use crate::plans::check_plan;
 use crate::sums::SummedCut;
 use crate::walks::check_tree;
 use cert_format::Certificate;
-use hub_model::{Instance, unsigned};
+use hub_model::Instance;
 use std::alloc::{AllocError, Global};
 use std::thread::Threads;
 
@@ -126,7 +126,7 @@ fn check_plan_of(instance: &Instance, certificate: &Certificate) -> Result<(), F
 {
     check_plan(
         instance,
-        unsigned(certificate.cost()),
+        certificate.cost(),
         certificate.hubs(),
         certificate.routes(),
     )
@@ -177,6 +177,6 @@ fn check_tree_of(
         certificate.cuts(),
         certificate.marks(),
     );
-    let target = unsigned(certificate.bound());
+    let target = certificate.bound();
     check_tree(alloc, instance, cuts, target, first, lines)
 }

@@ -18,9 +18,9 @@ pub const MOST_CERTIFICATE_BYTES: usize = 1_073_741_824;
 #[derive(Clone, Copy, Debug, PartialEq, Eq)]
 pub enum Ending {
     /// They name a plan of this cost, and it is optimal.
-    Optimal { cost: i128 },
+    Optimal { cost: u128 },
     /// They name a plan of this cost, and no plan costs less than the bound, which is below that.
-    Bounds { bound: i128, cost: i128 },
+    Bounds { bound: u128, cost: u128 },
     /// They are a certificate of which the first condition that fails is of this kind, at this line.
     No { kind: Kind, line: u64 },
     /// This line is not as wanted, or something stands after the last line.

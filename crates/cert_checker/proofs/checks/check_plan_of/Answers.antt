@@ -1,6 +1,5 @@
-use Rattle.std.proofs.Common.{◌≡◌, ◌*◌, List, length, ap, sym, subst, ◌∙◌, OnOk, IfErr, arith}
+use Rattle.std.proofs.Common.{◌≡◌, ◌*◌, List, length, ap, sym, subst, ◌∙◌, OnOk, IfErr}
 use Rattle.std.specs.List.Sorted.{IsStrictlyIncreasing}
-use Rattle.std.proofs.lemmas.Int.{ints}
 use Rattle.cert_spec.specs.Conditions.{Claim, AllHold}
 use Rattle.cert_spec.specs.PartConditions.{hub_claims}
 use Rattle.cert_checker.specs.Answers.{IsFailure, hub_claims_of}
@@ -16,14 +15,13 @@ check_plan-requires-clause-one_route_each c =
 
 -- the conditions that were tried are those of the certificate
 tried : (c : After-check_plan)
-    → hub_claims c.args.instance.now c.args.instance.now.size c.unsigned.result c.hubs.result.now c.routes.result.now
+    → hub_claims c.args.instance.now c.args.instance.now.size c.cost.result c.hubs.result.now c.routes.result.now
     ≡ hub_claims_of c.args.instance.now c.args.certificate.now.proof
 tried c =
     let p = c.args.instance.now in
     let k = c.args.certificate.now.proof in
-    let stated : c.unsigned.result ≡ k.cost = omega (arith, ints, c.unsigned.ensures.same, c.cost.ensures) in
-    ap (λ n. hub_claims p n c.unsigned.result c.hubs.result.now c.routes.result.now) (sym c.requires)
-    ∙ ap (λ x. hub_claims p k.size x c.hubs.result.now c.routes.result.now) stated
+    ap (λ n. hub_claims p n c.cost.result c.hubs.result.now c.routes.result.now) (sym c.requires)
+    ∙ ap (λ x. hub_claims p k.size x c.hubs.result.now c.routes.result.now) c.cost.ensures
     ∙ ap (λ hs. hub_claims p k.size k.cost hs c.routes.result.now) c.hubs.ensures
     ∙ ap (λ rs. hub_claims p k.size k.cost k.plan.hubs rs) c.routes.ensures.value
 

@@ -1,5 +1,4 @@
 use Rattle.std.proofs.Common.{◌≡◌, ℕ, List, [], ◌∷◌, length, map, zip, All, ap, sym, subst, ◌∙◌, OnOk, IfErr, arith}
-use Rattle.std.proofs.lemmas.Int.{ints}
 use Rattle.std.proofs.lemmas.List.{length-map}
 use Rattle.hub_spec.specs.Cuts.{Cut}
 use Rattle.hub_spec.specs.Ranges.{IsLineInRange}
@@ -42,7 +41,7 @@ check_tree-requires-clause-lines c =
 
 -- the conditions that the walk tried are those of the tree
 walked : (c : After-check_tree)
-    → walk_claims c.args.instance.now c.args.cuts.now c.unsigned-target.result c.first_tree_line-first.result (root c.args.instance.now ∷ [])
+    → walk_claims c.args.instance.now c.args.cuts.now c.bound-target.result c.first_tree_line-first.result (root c.args.instance.now ∷ [])
     (map tree_line_of c.tree-lines.result.now)
     ≡ all_tree_claims c.args.instance.now c.args.certificate.now
 walked c =
@@ -54,10 +53,9 @@ walked c =
     c.first_tree_line-first.ensures.value
     ∙ (λ i. first_tree_line (c.version-version.ensures i) ((c.size.ensures.value ∙ sym c.requires.size) i)
     (zip (c.cuts.ensures.value i) (c.marks.ensures.value i))) in
-    let target : c.unsigned-target.result ≡ k.bound = omega (arith, ints, c.unsigned-target.ensures.same, c.bound.ensures) in
-    ap (λ (cs : List Cut). walk_claims p cs c.unsigned-target.result at (root p ∷ []) (map tree_line_of c.tree-lines.result.now)) c.requires.same
-    ∙ ap (λ (ls : List TreeLine). walk_claims p k.cuts c.unsigned-target.result at (root p ∷ []) ls) c.tree-lines.ensures.value
-    ∙ ap (λ t. walk_claims p k.cuts t at (root p ∷ []) (preorder k.tree)) target
+    ap (λ (cs : List Cut). walk_claims p cs c.bound-target.result at (root p ∷ []) (map tree_line_of c.tree-lines.result.now)) c.requires.same
+    ∙ ap (λ (ls : List TreeLine). walk_claims p k.cuts c.bound-target.result at (root p ∷ []) ls) c.tree-lines.ensures.value
+    ∙ ap (λ t. walk_claims p k.cuts t at (root p ∷ []) (preorder k.tree)) c.bound-target.ensures
     ∙ ap (λ m. walk_claims p k.cuts k.bound m (root p ∷ []) (preorder k.tree)) first
     ∙ walk-whole p k.cuts k.bound (first_tree_line k.version k.size cuts) (root p) k.tree
 
