@@ -1,12 +1,11 @@
 -- A finding as a certificate of the parts that are made of it.
-use Rattle.std.proofs.Common.{◌≡◌, ℕ, ℤ, pos, List, map, Option, sym, subst, ap, ◌∙◌}
+use Rattle.std.proofs.Common.{◌≡◌, ℕ, List, map, Option, sym, subst, ap, ◌∙◌}
 use Rattle.hub_spec.specs.Problem.{Problem}
 use Rattle.hub_spec.specs.Plans.{Plan}
 use Rattle.hub_spec.specs.Cuts.{Cut}
 use Rattle.hub_spec.specs.Trees.{Tree, empty, preorder}
 use Rattle.core_spec.specs.CoreCuts.{Mark}
 use Rattle.cert_spec.specs.Stated.{Stated, as_second, IsStatedInRange}
-use Rattle.hub_model.specs.Amounts.{natural, IsNatural}
 use Rattle.plan_model.specs.Lines.{tree_line_of}
 use Rattle.plan_model.specs.declared.tree_lines.TreeLine.{TreeLine}
 use Rattle.kept_cuts.specs.Kept.{kept_cuts}
@@ -16,7 +15,6 @@ use Rattle.cert_format.specs.Parts.{proof_of as text_proof, stated_of, AreCertif
 use Rattle.cert_format.specs.Growing.{tree_of}
 use Rattle.cert_format.specs.Codes.{tree_of-preorder}
 use Rattle.cert_format.specs.declared.headings.Heading.{Heading}
-use Rattle.cert_format.proofs.Amounts.{natural_pos}
 use Rattle.proof_text.specs.Certificates.{mark_said, stated_by, IsCertificateOf}
 use Rattle.proof_text.proofs.StatedFindings.{stated_in_range}
 
@@ -41,8 +39,8 @@ same_proof v p found heading plan cuts marks lines tree e is = λ t. record {
   version = e.heading_is.version t;
   size = e.heading_is.size t;
   candidates = e.heading_is.candidates t;
-  cost = natural (e.heading_is.cost t);
-  bound = natural (e.heading_is.bound t);
+  cost = e.heading_is.cost t;
+  bound = e.heading_is.bound t;
   plan = e.plan_is t;
   cuts = e.cuts_are t;
   tree = same_tree found tree lines e.lines_are is t;
@@ -55,9 +53,6 @@ same_stated : (v : ℕ) (p : Problem) (found : Found) (heading : Heading) (plan 
 same_stated v p found heading plan cuts marks lines tree e is =
     λ t. record { proof = same_proof v p found heading plan cuts marks lines tree e is t; marks = e.marks_are t }
 
-pub least : (z : ℤ) (n : ℕ) → z ≡ pos n → IsNatural z
-least z n e = subst (λ (x : ℤ). IsNatural x) (sym e) (natural_pos n)
-
 pub certificate_parts : (v : ℕ) (p : Problem) (found : Found) (heading : Heading) (plan : Plan) (cuts : List Cut) (marks : List (Option Mark))
     (lines : List TreeLine) → IsVersionFor p found.cuts.cuts (as_second v) → IsProved p found → AreParts v p found heading plan cuts marks lines
     → AreCertificateParts heading plan cuts marks lines
@@ -65,8 +60,6 @@ certificate_parts v p found heading plan cuts marks lines there h e = record {
   in_range = subst IsStatedInRange (sym (same_stated v p found heading plan cuts marks lines h.tree e h.lines))
       (stated_in_range v p found h.tree h h.lines there);
   one_tree = ap preorder (same_tree found h.tree lines e.lines_are h.lines) ∙ sym h.lines ∙ sym (ap (map tree_line_of) e.lines_are);
-  cost_least = least heading.cost found.cost e.heading_is.cost;
-  bound_least = least heading.bound found.bound e.heading_is.bound;
 }
 
 pub found_certificate : (v : ℕ) (p : Problem) (found : Found) (heading : Heading) (plan : Plan) (cuts : List Cut) (marks : List (Option Mark))

@@ -13,7 +13,6 @@ use Rattle.core_spec.specs.CoreCuts.{Mark}
 use Rattle.cert_spec.specs.Lines.{Item, says_marked}
 use Rattle.cert_spec.specs.Text.{line_bytes, cut_items_as, top_items, cuts_items, tree_items, certificate_text}
 use Rattle.cert_spec.proofs.Items.{certificate_items-parts}
-use Rattle.hub_model.specs.Amounts.{natural}
 use Rattle.cert_scan.specs.Versions.{version_number}
 use Rattle.cert_format.specs.Parts.{IsHeadingOf, HasProofs}
 use Rattle.cert_format.specs.declared.headings.Heading.{Heading}
@@ -37,11 +36,11 @@ found_in_range p found h = h.in_range 2 (inr refl)
 
 pub top_text : (v : ℕ) (p : Problem) (found : Found) (heading : Heading) {cuts : ℕ} {plan : Plan}
     → IsHeadingOf heading (proof_of v p found empty) → plan ≡ found.plan → cuts ≡ length found.cuts.cuts
-    → flat_map line_bytes (top_items (version_number heading.version) heading.size heading.candidates (natural heading.cost)
-    (natural heading.bound) plan cuts)
+    → flat_map line_bytes (top_items (version_number heading.version) heading.size heading.candidates heading.cost
+    heading.bound plan cuts)
     ≡ flat_map line_bytes (found_top_items v p found)
 top_text v p found heading is same count =
-    λ t. flat_map line_bytes (top_items (is.version t) (is.size t) (is.candidates t) (natural (is.cost t)) (natural (is.bound t)) (same t) (count t))
+    λ t. flat_map line_bytes (top_items (is.version t) (is.size t) (is.candidates t) (is.cost t) (is.bound t) (same t) (count t))
 
 -- ---- a cut
 

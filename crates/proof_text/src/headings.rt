@@ -7,7 +7,7 @@ ghost use Rattle.cert_format.specs.Parts.{IsHeadingOf};
 ghost use Rattle.kept_cuts.specs.Findings.{IsProved, proof_of};
 
 use cert_format::{Heading, Version};
-use hub_model::{Instance, signed};
+use hub_model::Instance;
 use kept_cuts::Found;
 
 /// What the first lines of the certificate say, in this version.
@@ -21,7 +21,7 @@ pub(crate) fn heading_of(instance: &Instance, found: &Found, version: Version) -
         version,
         size: instance.size(),
         candidates: instance.candidates().len() as u32,
-        cost: signed(found.cost),
-        bound: signed(found.bound),
+        cost: found.cost,
+        bound: found.bound,
     }
 }

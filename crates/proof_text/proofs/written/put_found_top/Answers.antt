@@ -3,7 +3,6 @@ use Rattle.hub_spec.specs.Trees.{empty}
 use Rattle.cert_scan.specs.Versions.{version_number}
 use Rattle.cert_format.proofs.Following.{as_text}
 use Rattle.proof_text.proofs.FoundLines.{found_in_range, top_text}
-use Rattle.proof_text.proofs.FoundCertificates.{least}
 use Rattle.proof_text.proofs.written.put_found_top.Goals as goal
 
 pub put_top-requires-clause-some : goal.put_top-requires-clause-some
@@ -20,14 +19,6 @@ pub put_top-requires-clause-whole : goal.put_top-requires-clause-whole
 put_top-requires-clause-whole g c =
     (found_in_range c.args.instance.now c.args.found.now c.requires).one_route_each
     ∙ sym (ap (λ n. n * n) (c.heading_of-heading.ensures.heading empty).size)
-
-pub put_top-requires-clause-cost : goal.put_top-requires-clause-cost
-put_top-requires-clause-cost g c =
-    least c.heading_of-heading.result.cost c.args.found.now.cost (c.heading_of-heading.ensures.heading empty).cost
-
-pub put_top-requires-clause-bound : goal.put_top-requires-clause-bound
-put_top-requires-clause-bound g c =
-    least c.heading_of-heading.result.bound c.args.found.now.bound (c.heading_of-heading.ensures.heading empty).bound
 
 pub returns : goal.returns
 returns g c =
