@@ -17,7 +17,6 @@ use Rattle.cert_spec.specs.PartConditions.{claims}
 use Rattle.cert_spec.specs.Progress.{Progress, at_start, after_lines}
 use Rattle.cert_checker.specs.declared.texts.Ending.{Ending}
 use Rattle.cert_checker.specs.declared.texts.Ending.TheVariants.{Optimal, Bounds, No}
-use Rattle.hub_model.specs.Amounts.{natural}
 use Rattle.cert_spec.specs.Stated.{Stated}
 use Rattle.cert_checker.specs.Answers.{kind_of}
 use Rattle.cert_checker.specs.declared.kinds.Kind as code
@@ -268,8 +267,8 @@ HasTaken given c = (lines : List Line) (stage : Stage) (part : Part) → Leads w
 
 -- the ending is that of this certificate
 abbrev pub EndsAs : Problem → Stated → Ending → Type 0
-EndsAs p k (Optimal cost) = AllHold (claims p k) × (k.proof.bound ≡ k.proof.cost) × (natural cost ≡ k.proof.cost)
+EndsAs p k (Optimal cost) = AllHold (claims p k) × (k.proof.bound ≡ k.proof.cost) × (cost ≡ k.proof.cost)
 EndsAs p k (Bounds bound cost) =
-    AllHold (claims p k) × (k.proof.bound < k.proof.cost) × (natural bound ≡ k.proof.bound) × (natural cost ≡ k.proof.cost)
+    AllHold (claims p k) × (k.proof.bound < k.proof.cost) × (bound ≡ k.proof.bound) × (cost ≡ k.proof.cost)
 EndsAs p k (No kind line) = FailsFirst (claims p k) (kind_of kind) line
 EndsAs p k other = ⊥

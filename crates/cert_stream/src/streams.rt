@@ -13,7 +13,7 @@ ghost use Rattle.cert_stream.specs.Fed.{HasCome, HasFed, BeginsCut, EndsCutLine,
 use crate::checks::Checks;
 use cert_checker::{Ending, MOST_CERTIFICATE_BYTES};
 use cert_scan::{Fault, Scan};
-use hub_model::{Instance, signed};
+use hub_model::Instance;
 use std::alloc::{AllocError, Global};
 
 /// The check of a certificate's text for an instance, of which some bytes have come.
@@ -135,10 +135,7 @@ fn ending_of(checks: &Checks<'_>) -> Ending
     let bound = checks.bound();
     let cost = checks.cost();
     if bound == cost {
-        return Ending::Optimal { cost: signed(cost) };
+        return Ending::Optimal { cost };
     }
-    Ending::Bounds {
-        bound: signed(bound),
-        cost: signed(cost),
-    }
+    Ending::Bounds { bound, cost }
 }
