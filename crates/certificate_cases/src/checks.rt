@@ -33,7 +33,7 @@ pub fn tell(rt: &impl Print, of: &str, ending: &Ending) -> io::Result<()> {
 }
 
 // The bound and the cost that are shown.
-fn costs(ending: &Ending) -> Option<(&'static str, i128, i128)> {
+fn costs(ending: &Ending) -> Option<(&'static str, u128, u128)> {
     match ending {
         Ending::Optimal { cost } => Some(("optimal", *cost, *cost)),
         Ending::Bounds { bound, cost } => Some(("bounds", *bound, *cost)),

@@ -46,32 +46,12 @@ pub(crate) fn lines(alloc: Global, words: &[&str]) -> Result<String, Wrong> {
             let mut sink = MemSink::new(alloc, room.parse()?)?;
             let hubs = list(alloc, hubs)?;
             let (cost, bound) = (cost.parse()?, bound.parse()?);
-            let done = put(
-                nodes.parse()?,
-                cost,
-                bound,
-                &hubs,
-                searched.parse()?,
-                &mut sink,
-            )?;
+            let (nodes, searched) = (nodes.parse()?, searched.parse()?);
+            let done = put_demo(nodes, cost, bound, &hubs, searched, &mut sink);
             Ok(taken(alloc, done, &sink)?)
         }
         _ => Err(Wrong::NoCase),
     }
-}
-
-fn put(
-    nodes: u32,
-    cost: i128,
-    bound: i128,
-    hubs: &[u32],
-    searched: u64,
-    sink: &mut MemSink,
-) -> Result<Result<(), Failed>, Wrong> {
-    if cost < 0 || bound < 0 {
-        return Err(Wrong::NoCase);
-    }
-    Ok(put_demo(nodes, cost, bound, hubs, searched, sink))
 }
 
 fn taken(alloc: Global, done: Result<(), Failed>, sink: &MemSink) -> Result<String, AllocError> {
