@@ -32,7 +32,7 @@ use Rattle.hub_top.specs.declared.status.Status.TheVariants.{Done, Stopped}
 use Rattle.hub_top.specs.Commands.{WhereTold, HoldsInstance, Course, node_by_node, by_core_cuts, again, by_rounds, course_of, Method, method_by, demo_method, again_method}
 use Rattle.hub_top.specs.Commands.{found_from, rule_certificate, SpellsMarked, SpellsFound, SpellsBy}
 use Rattle.hub_top.specs.Answers.{found_status, demo_text, Demonstrates, Answers}
-use Rattle.hub_top.specs.Views.{HasAmounts, finding_status}
+use Rattle.hub_top.specs.Views.{finding_status}
 use Rattle.hub_top.specs.Building.{KeepsLimits}
 use Rattle.hub_top.specs.Solving.{MayGo, MayFollow, IsRemadeCourse, IsSearched, IsResolution}
 use Rattle.hub_top.proofs.FoundFrom.{IsSearchable, found_searched}
@@ -203,7 +203,3 @@ may_follow_by s words.by_rounds any = any
 pub made_size : (m : Making) → m.size ≡ (made_problem m.seed m.size).size
 unfolding made made_contents
 made_size m = refl
-
--- the amounts of what is proved are those of its certificate of the second version
-pub found_amounts : (p : Problem) (found : Found) → IsProved p found → HasAmounts found
-found_amounts p found proved = let range = proved.in_range 2 (inr refl) in record { cost = range.cost; bound = range.bound }

@@ -1,7 +1,6 @@
 -- What a run of the code came to, as contracts see it.
 use Rattle.std.specs.Prelude.{ℕ, ◌≤◌, List, length, nat_eq, if◌then◌else◌, Result, Ok, Err}
 use Rattle.cert_spec.specs.Stated.{IsStatedOf}
-use Rattle.hub_spec.specs.Ranges.{IsShort}
 use Rattle.hub_model.specs.Faults.{fault_of}
 use Rattle.hub_words.specs.Limits.{most_workers}
 use Rattle.kept_cuts.specs.declared.found.Found.{Found as Finding}
@@ -53,17 +52,12 @@ answer_text (Made text) = text.items
 answer_text (Demonstrated size found) =
     demo_text size found.cost found.bound found.plan.hubs (length found.tree.items)
 
--- cost and bound have at most 30 digits
-pub record HasAmounts (found : Finding) : Type 0 where
-  pub cost : IsShort found.cost
-  pub bound : IsShort found.bound
-
--- a report is of a certificate that holds, and five lines are of amounts
+-- a report is of a certificate that holds
 abbrev pub IsWritable : Answer → Type 0
 IsWritable (Judged ending) = Unit {0}
 IsWritable (Reported instance certificate) = IsStatedOf instance certificate
 IsWritable (Made text) = Unit {0}
-IsWritable (Demonstrated size found) = HasAmounts found
+IsWritable (Demonstrated size found) = Unit {0}
 
 -- what a run settled on
 abbrev pub came_to : Settled → Outcome

@@ -11,7 +11,7 @@ use cert_checker::Ending;
 use cert_format::Certificate;
 use hub_demo::put_demo;
 use hub_io::{Failed, Sink};
-use hub_model::{Instance, signed};
+use hub_model::Instance;
 use kept_cuts::Found;
 use network_report::report;
 
@@ -64,17 +64,9 @@ pub fn put_answer<K: Sink>(answer: &Answer, sink: &mut K) -> Result<(), Failed>
 }
 
 fn put_finding<K: Sink>(size: u32, found: &Found, sink: &mut K) -> Result<(), Failed>
-    requires { IsWritable (Demonstrated size found.now) }
     ensures { Puts K.taken K.faults sink.old sink.new result (answer_text (Demonstrated size found.now)) }
 {
     let nodes = found.tree.len() as u64;
     let hubs = found.plan.hubs();
-    put_demo(
-        size,
-        signed(found.cost),
-        signed(found.bound),
-        hubs,
-        nodes,
-        sink,
-    )
+    put_demo(size, found.cost, found.bound, hubs, nodes, sink)
 }

@@ -190,8 +190,8 @@ fn put_sum<K: Sink>(file: Blamed, sum: i128, sink: &mut K) -> Result<(), Failed>
     )
 }
 
-/// The number that this is, 0 where it is below 0.
-pub fn natural_of(amount: i128) -> u128
+// The number that this is, 0 where it is below 0.
+fn natural_of(amount: i128) -> u128
     ensures { result ≡ natural amount }
 {
     if amount < 0 { 0 } else { unsigned(amount) }

@@ -7,7 +7,6 @@ ghost use Rattle.hub_top.specs.Texts.{verdict_text, optimal_line, bounds_line, n
 ghost use Rattle.hub_top.specs.Answers.{verdict_status};
 
 use crate::Status;
-use crate::texts::natural_of;
 use cert_checker::Ending;
 use dec_text::{Piece, put_line};
 use hub_io::{Failed, Sink};
@@ -29,8 +28,8 @@ pub fn put_ending<K: Sink>(ending: &Ending, sink: &mut K) -> Result<(), Failed>
     ensures { Puts K.taken K.faults sink.old sink.new result (verdict_text (verdict_of ending.now)) }
 {
     match *ending {
-        Ending::Optimal { cost } => put_optimal(natural_of(cost), sink),
-        Ending::Bounds { bound, cost } => put_bounds(natural_of(bound), natural_of(cost), sink),
+        Ending::Optimal { cost } => put_optimal(cost, sink),
+        Ending::Bounds { bound, cost } => put_bounds(bound, cost, sink),
         Ending::No { kind, line } => put_no(kind.name().as_bytes(), line, sink),
         Ending::BadLine { line } => put_no(b"BadLine", line, sink),
         Ending::Ended { line } => put_no(b"Ended", line, sink),

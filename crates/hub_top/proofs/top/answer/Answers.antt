@@ -6,7 +6,7 @@ use Rattle.hub_words.specs.Views.{making_seen, request_of, resolving_of, rule_se
 use Rattle.hub_words.specs.declared.requests.Command.{Command}
 use Rattle.hub_top.specs.Solving.{ComesTo, ComesAgainTo, OptimizesTo, IsOptimum, IsSolution, IsResolution}
 use Rattle.hub_top.proofs.Versions.{rule_version, said_version}
-use Rattle.hub_top.proofs.Searched.{demo_answers, found_amounts, made_size, may_follow_by, resolve_answers, solve_answers}
+use Rattle.hub_top.proofs.Searched.{demo_answers, made_size, may_follow_by, resolve_answers, solve_answers}
 use Rattle.hub_top.proofs.Optimized.{optimize_answers}
 use Rattle.hub_top.proofs.top.answer.Goals as goal
 
@@ -37,9 +37,6 @@ returns-in_ok-found-in-Demo-clause-may g c =
       rw c.in-Demo.is refl,
       demo_answers (g.S.Shelf.held c.args.shelf.now) m asked m.size c.in_ok-found-in-Demo.found (made_size m) c.in_ok-found-in-Demo.ensures,
     )
-
-pub returns-in_ok-found-in-Demo-clause-writable : goal.returns-in_ok-found-in-Demo-clause-writable
-returns-in_ok-found-in-Demo-clause-writable g c = found_amounts _ _ c.in_ok-found-in-Demo.ensures.proved
 
 pub returns-in-Found-2-clause-may : goal.returns-in-Found-2-clause-may
 returns-in-Found-2-clause-may g c =
