@@ -28,6 +28,9 @@ const MOST_TRIED: usize = 8;
 /// In so many first passes at a node the start set sets caps and least prices.
 const EARLY_PASSES: usize = 3;
 
+/// A hub counts as worth no more than this: no more than all flows over the longest routes (`units`).
+const MOST_HUB_WORTH: i128 = 1 << 60;
+
 /// Gives advice at the nodes of a search, one after another. It is seen as the shape of its instance.
 ///
 /// Duals and prices go on from node to node, so that a child starts from its parent's; a memory leads back to those that
@@ -115,7 +118,7 @@ impl Adviser {
             .search
             .hub_worth(&self.lengths, &self.guess.movable, cost);
         let worth = worth / self.lengths.worth().max(1);
-        let worth = worth.clamp(FULL_PRICE as i128, 1 << 50) as i64;
+        let worth = worth.clamp(FULL_PRICE as i128, MOST_HUB_WORTH) as i64;
         self.node.begin_at(&self.guess.start, worth);
     }
 
