@@ -163,11 +163,28 @@ impl PlaceValues {
         }
         put(&mut self.firsts, k, FAR);
         put(&mut self.lasts, k, FAR);
-        let onward = least_sum(lengths.trunk(k), &self.lasts);
-        let before = least_sum(lengths.trunk_back(k), &self.firsts);
-        let first = at(legs.collect, k).wrapping_add(onward);
-        let last = at(legs.deliver, k).wrapping_add(before);
+        let first = self.least_by_first(lengths, legs, k);
+        let last = self.least_by_last(lengths, legs, k);
         let least = legs.alone(k).min(first).min(last);
         self.settle(legs, k, self.price.saturating_sub(least));
+    }
+
+    /// What the routes with the place as their first hub, and their last one's value, come to at least, or the price, where
+    /// none of these routes is shorter whatever the values are.
+    fn least_by_first(&self, lengths: &Lengths, legs: &Commodity<'_>, k: usize) -> u32 {
+        if legs.forth(k) >= self.price {
+            return self.price;
+        }
+        let onward = least_sum(lengths.trunk(k), &self.lasts);
+        at(legs.collect, k).wrapping_add(onward)
+    }
+
+    /// The same for the routes with the place as their last hub.
+    fn least_by_last(&self, lengths: &Lengths, legs: &Commodity<'_>, k: usize) -> u32 {
+        if legs.back(k) >= self.price {
+            return self.price;
+        }
+        let before = least_sum(lengths.trunk_back(k), &self.firsts);
+        at(legs.deliver, k).wrapping_add(before)
     }
 }
