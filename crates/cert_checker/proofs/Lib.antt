@@ -5,6 +5,8 @@ mod RunClaims
 mod FirstFailing
 mod MarkedClaims
 mod DualValues
+mod Listed
+mod SureCuts
 mod Ways
 mod CoreDuals
 mod Blocked

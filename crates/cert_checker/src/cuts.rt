@@ -161,7 +161,7 @@ pub(crate) fn summed<'a>(
 }
 
 /// Tells whether the total of the cut and its loads of the candidates are within their limit.
-fn is_within_sums(instance: &Instance, cut: &SummedCut<'_>) -> bool
+pub(crate) fn is_within_sums(instance: &Instance, cut: &SummedCut<'_>) -> bool
     requires { cut.now.part ≤ most_part }
     ensures { IsTrue result ↔ IsWithinSums instance.now cut.now }
 {

@@ -22,6 +22,7 @@ mod duals;
 mod marks;
 mod runs;
 mod sums;
+mod sure_cuts;
 
 // The tree.
 mod bounds;

@@ -1,6 +1,6 @@
 //! An older certificate, whose cuts are to be given to a search.
 
-ghost use Rattle.std.specs.Prelude.{◌≡◌, false, IfOk, IfErr, OnOk};
+ghost use Rattle.std.specs.Prelude.{◌≡◌, false, IsTrue, IfOk, IfErr, OnOk};
 ghost use Rattle.std.specs.Option.{IfSome, IfNone, IsNone};
 ghost use Rattle.hub_spec.specs.Certificates.{HasCutsOf};
 ghost use Rattle.cert_spec.specs.Stated.{IsStatedInRange};
@@ -15,6 +15,7 @@ use crate::cuts::try_each_cut;
 use crate::failures::Failure;
 use crate::kinds::Kind;
 use crate::lines::first_cut_line;
+use crate::sure_cuts::are_cuts;
 use crate::texts::MOST_CERTIFICATE_BYTES;
 use cert_format::{CertFault, Certificate, read_cert};
 use hub_model::Instance;
@@ -84,10 +85,28 @@ pub fn check_cuts<R: Threads + Sync>(
     ensures holds { IfOk result (λ o. IfNone o (HasCutsOf instance.now certificate.now.proof)) }
     ensures only { HasCutsOf instance.now certificate.now.proof → IfOk result IsNone }
 {
+    if is_sure(alloc, instance, certificate)? {
+        return Ok(None);
+    }
     match check_size_and_cuts(rt, alloc, instance, certificate) {
         Ok(()) => Ok(None),
         Err(Failure::Fails { kind, line }) => Ok(Some((kind, line))),
         Err(Failure::OutOfMemory) => Err(AllocError),
+    }
+}
+
+// Tells whether the certificate has the instance's size and cuts of it, by lines of duals: no failure is looked for. Where
+// it says no, the plain check tells the first one, if there is one.
+fn is_sure(
+    alloc: Global,
+    instance: &Instance,
+    certificate: &Certificate,
+) -> Result<bool, AllocError>
+    ensures { IfOk result (λ sure. IsTrue sure → HasCutsOf instance.now certificate.now.proof) }
+{
+    match check_size(instance, certificate) {
+        Ok(()) => are_cuts(alloc, instance, certificate.cuts()),
+        Err(_) => Ok(false),
     }
 }
 
