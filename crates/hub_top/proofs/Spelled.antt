@@ -1,5 +1,5 @@
 -- The text of what a search found spells what it states.
-use Rattle.std.proofs.Common.{◌≡◌, ◌≢◌, ℕ, List, inl, inr, refl, sym, subst, ap, arith}
+use Rattle.std.proofs.Common.{◌≡◌, ◌≢◌, ℕ, List, inl, inr, subst, ap, arith}
 use Rattle.hub_spec.specs.Problem.{Problem}
 use Rattle.hub_spec.specs.Trees.{Tree, preorder}
 use Rattle.cert_spec.specs.Stated.{as_second}
