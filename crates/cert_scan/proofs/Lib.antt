@@ -24,6 +24,7 @@ pub mod Stepping
 pub mod LineRuns
 pub mod PairRuns
 pub mod WayRuns
+pub mod LineStarts
 pub mod SpelledNumbers
 pub mod SmallNumbers
 pub mod Leftover

@@ -97,7 +97,7 @@ keyword_some (CountLine t) = omega arith
 keyword_some EndLine = omega arith
 
 -- the letters of the whole word
-word_run : (old : Scan) (stage : Stage) (head : Head) (bytes : List ℕ) (count : ℕ) → old.position ≡ Start stage → head_at old.shape.version stage (get_or bytes 0 0) ≡ Some head
+pub word_run : (old : Scan) (stage : Stage) (head : Head) (bytes : List ℕ) (count : ℕ) → old.position ≡ Start stage → head_at old.shape.version stage (get_or bytes 0 0) ≡ Some head
     → GoesOn (keyword_of head) 0 (take count bytes) → 1 ≤ count → count ≤ length bytes → HasRun old bytes count (put old (Keyword head count))
 word_run old stage head [] count at e letters some fits = absurd (omega (arith, some, fits))
 word_run old stage head (b ∷ bytes) zero at e letters some fits = absurd (omega (arith, some))
@@ -121,14 +121,25 @@ space_moves sh head matched place full first =
     ap (λ b. if b && nat_eq 32 (get_or word matched 0) then move (Keyword head (matched + 1)) None else turned_or (turned_by sh.version head matched 32) head matched 32) all
     ∙ ap (λ b. if b then spoiled_by 32 else behind_keyword_by head 32) all ∙ ap first_number_by first
 
+pub space_run : (old : Scan) (head : Head) (place : Place) (bytes : List ℕ) (count : ℕ) → HasRun old bytes count (put old (Keyword head count))
+    → first_place_of head ≡ Some place → length (keyword_of head) ≤ count → count < length bytes → get_or bytes count 0 ≡ 32
+    → HasRun old bytes (count + 1) (put old (Number place None))
+space_run old head place bytes count letters first full fits space =
+    let spaced = put old (Keyword head count) in
+    let moves = space_moves old.shape head count place full first in
+    run_byte old spaced (put old (Number place None)) bytes count 32 None letters fits (sym space)
+    (sym (quiet_gives spaced 32 (Number place None) moves)) (sym (quiet_step spaced 32 (Number place None) moves)) refl
+
 -- the first word of a line that begins, with the space behind it
+pub word_goes : (old : Scan) (stage : Stage) (head : Head) (place : Place) (bytes : List ℕ) (count : ℕ) → old.position ≡ Start stage
+    → head_at old.shape.version stage (get_or bytes 0 0) ≡ Some head → first_place_of head ≡ Some place → GoesOn (keyword_of head) 0 (take count bytes)
+    → length (keyword_of head) ≤ count → count < length bytes → get_or bytes count 0 ≡ 32 → HasRun old bytes (count + 1) (put old (Number place None))
+word_goes old stage head place bytes count at e first letters full fits space =
+    let letters_run = word_run old stage head bytes count at e letters (omega (arith, keyword_some head, full)) (omega (arith, fits)) in
+    space_run old head place bytes count letters_run first full fits space
+
 pub takes_word : (old : Scan) (stage : Stage) (head : Head) (place : Place) (bytes : List ℕ) (count : ℕ) → old.position ≡ Start stage
     → head_at old.shape.version stage (get_or bytes 0 0) ≡ Some head → first_place_of head ≡ Some place → GoesOn (keyword_of head) 0 (take count bytes)
     → length (keyword_of head) ≤ count → count < length bytes → get_or bytes count 0 ≡ 32 → Takes old bytes (count + 1) None (put old (Number place None))
 takes_word old stage head place bytes count at e first letters full fits space =
-    let letters_run = word_run old stage head bytes count at e letters (omega (arith, keyword_some head, full)) (omega (arith, fits)) in
-    let spaced = put old (Keyword head count) in
-    let moves = space_moves old.shape head count place full first in
-    takes_nothing old (put old (Number place None)) bytes (count + 1) (omega arith)
-    (run_byte old spaced (put old (Number place None)) bytes count 32 None letters_run fits (sym space)
-    (sym (quiet_gives spaced 32 (Number place None) moves)) (sym (quiet_step spaced 32 (Number place None) moves)) refl)
+    takes_nothing old (put old (Number place None)) bytes (count + 1) (omega arith) (word_goes old stage head place bytes count at e first letters full fits space)

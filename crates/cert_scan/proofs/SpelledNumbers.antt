@@ -94,7 +94,7 @@ above_zero : (b : ℕ) → 48 ≤ b → (b ≡ 48 → ⊥) → 49 ≤ b
 above_zero b low other = elim (cases_eq b 48) [ inl zero_is ↦ absurd (other zero_is) | inr above ↦ omega arith ]
 
 -- a number of few digits, of which the first is 0 only where it is alone
-pub spells_whole : (bytes : List ℕ) (count value : ℕ) → Spell (take count bytes) value → 1 ≤ count → count ≤ 18 → count ≤ length bytes
+pub spells_whole : (bytes : List ℕ) (count value : ℕ) → Spell (take count bytes) value → 1 ≤ count → count ≤ 32 → count ≤ length bytes
     → (count ≡ 1) ⊎ (get_or bytes 0 0 ≡ 48 → ⊥) → SpellsOn None (take count bytes) (Some value)
 spells_whole [] count value h some few fits first = absurd (omega (arith, some, fits))
 spells_whole (b ∷ bytes) zero value h some few fits first = absurd (omega (arith, some))
@@ -107,9 +107,9 @@ spells_whole (b ∷ bytes) (suc (suc n)) value h some few fits first =
     let other : b ≡ 48 → ⊥ = elim first [ inl one ↦ absurd (omega (arith, one)) | inr nonzero ↦ nonzero ] in
     let above : 49 ≤ b = above_zero b digit other in
     let long : length (take (suc n) bytes) ≡ suc n = length-take-le (suc n) bytes (omega (arith, fits)) in
-    let short : length (take (suc n) bytes) ≤ 17 = omega (arith, long, few) in
-    let power : 10 ^ length (take (suc n) bytes) ≤ 10 ^ 17 = pow-le-pow_right {n = 10} (omega arith) short in
-    let scaled : (b - 48 + 1) * 10 ^ length (take (suc n) bytes) ≤ (b - 48 + 1) * 10 ^ 17 = mul-le-mul_left (b - 48 + 1) power in
+    let short : length (take (suc n) bytes) ≤ 31 = omega (arith, long, few) in
+    let power : 10 ^ length (take (suc n) bytes) ≤ 10 ^ 31 = pow-le-pow_right {n = 10} (omega arith) short in
+    let scaled : (b - 48 + 1) * 10 ^ length (take (suc n) bytes) ≤ (b - 48 + 1) * 10 ^ 31 = mul-le-mul_left (b - 48 + 1) power in
     let start : 0 * 10 + (b - 48) ≡ b - 48 = omega arith in
     let spelled_is : spelled (b - 48) (digit_values rest) ≡ value = ap (λ m. spelled m (digit_values rest)) (sym start) ∙ sym h.is in (
       b - 48,
@@ -135,18 +135,25 @@ pub record WordAt (bytes : List ℕ) (at : ℕ) (digits : ℕ × ℕ) : Type 0 w
   pub few : digits.0 ≤ 8
   pub spell : Spell (take digits.0 (take 8 (drop at bytes))) digits.1
 
--- and those of another word behind a whole one
+-- and those of another word behind so many digits
+pub spell_behind : (bytes : List ℕ) (at count power value : ℕ) (back : ℕ × ℕ) → Spell (take count (drop at bytes)) value → WordAt bytes (at + count) back
+    → power ≡ 10 ^ back.0 → at + count + 8 ≤ length bytes → Spell (take (count + back.0) (drop at bytes)) (value * power + back.1)
+spell_behind bytes at count power value back first b is fits =
+    let few = b.few in
+    let behind : drop (at + count) bytes ≡ drop count (drop at bytes) = sym (drop-drop count at bytes) in
+    let next : Spell (take back.0 (drop count (drop at bytes))) back.1 =
+    subst (λ l. Spell (take back.0 l) back.1) behind (spell_word bytes (at + count) back.0 back.1 b.few b.spell) in
+    subst (λ p. Spell (take (count + back.0) (drop at bytes)) (value * p + back.1)) (sym is)
+    (spell_both (drop at bytes) count back.0 value back.1 first next
+    (length-take-le back.0 (drop count (drop at bytes)) (omega (arith, ap length (sym behind), length-drop (at + count) bytes, fits))))
+
+-- and behind a whole word
 pub spell_words : (bytes : List ℕ) (at power : ℕ) (front back : ℕ × ℕ) → WordAt bytes at front → WordAt bytes (at + 8) back → 8 ≤ front.0 → power ≡ 10 ^ back.0
     → at + 16 ≤ length bytes → Spell (take (8 + back.0) (drop at bytes)) (front.1 * power + back.1)
 spell_words bytes at power front back a b whole is fits =
     let all : front.0 ≡ 8 = omega (arith, a.few) in
-    let few = b.few in
     let first : Spell (take 8 (drop at bytes)) front.1 = spell_word bytes at 8 front.1 (omega arith) (subst (λ n. Spell (take n (take 8 (drop at bytes))) front.1) all a.spell) in
-    let behind : drop (at + 8) bytes ≡ drop 8 (drop at bytes) = sym (drop-drop 8 at bytes) in
-    let next : Spell (take back.0 (drop 8 (drop at bytes))) back.1 = subst (λ l. Spell (take back.0 l) back.1) behind (spell_word bytes (at + 8) back.0 back.1 b.few b.spell) in
-    subst (λ p. Spell (take (8 + back.0) (drop at bytes)) (front.1 * p + back.1)) (sym is)
-    (spell_both (drop at bytes) 8 back.0 front.1 back.1 first next
-    (length-take-le back.0 (drop 8 (drop at bytes)) (omega (arith, ap length (sym behind), length-drop (at + 8) bytes, fits))))
+    spell_behind bytes at 8 power front.1 back first b is (omega (arith, fits))
 
 -- which is short
 pub words_low : (bytes : List ℕ) (at power : ℕ) (front back : ℕ × ℕ) → WordAt bytes at front → WordAt bytes (at + 8) back → 8 ≤ front.0 → power ≡ 10 ^ back.0

@@ -9,3 +9,4 @@ pub mod Pieces
 pub mod Runs
 pub mod Digits
 pub mod Ahead
+pub mod Fronts

@@ -3,6 +3,7 @@ ghost use Rattle.std.specs.Prelude.{◌≡◌, ◌+◌, ◌-◌, ◌*◌, ◌^�
 ghost use Rattle.cert_scan.specs.Runs.{SpellsOn};
 ghost use Rattle.cert_scan.specs.Digits.{Spell};
 ghost use Rattle.cert_scan.specs.Ahead.{IsNumberAt};
+ghost use Rattle.cert_scan.specs.Fronts.{IsSpacedAt};
 
 use crate::bytes::with_digit;
 use crate::words::{leading_digits, word_at};
@@ -53,6 +54,13 @@ pub(crate) struct ShortNumber {
     pub last: bool,
 }
 
+// An amount with a space behind it, and where the bytes go on behind that.
+#[derive(Clone, Copy)]
+pub(crate) struct Amount {
+    pub value: u128,
+    pub behind: usize,
+}
+
 // The short number that stands whole at this place, with the byte behind it.
 #[inline(always)]
 pub(crate) fn number_at(bytes: &[u8], at: usize) -> Option<ShortNumber>
@@ -76,7 +84,8 @@ pub(crate) fn number_at(bytes: &[u8], at: usize) -> Option<ShortNumber>
 #[inline(always)]
 pub(crate) fn small_number_at(bytes: &[u8], at: usize) -> Option<ShortNumber>
     requires { at + 4 ≤ length bytes.now }
-    ensures { IfSome result (IsNumberAt bytes.now at) }
+    ensures number { IfSome result (IsNumberAt bytes.now at) }
+    ensures small { IfSome result (λ number. number.digits ≤ 3) }
 {
     let first = digit_of(bytes[at])?;
     let Some(second) = digit_of(bytes[at + 1]) else {
@@ -98,7 +107,8 @@ fn number_of(bytes: &[u8], at: usize, digits: usize, value: u64) -> Option<Short
     requires few { digits ≤ 18 }
     requires room { at + digits < length bytes.now }
     requires spells { SpellsOn None (take digits (drop at bytes.now)) (Some value) }
-    ensures { IfSome result (IsNumberAt bytes.now at) }
+    ensures number { IfSome result (IsNumberAt bytes.now at) }
+    ensures as_long { IfSome result (λ number. number.digits ≡ digits) }
 {
     let last = ends_line(bytes[at + digits])?;
     Some(ShortNumber {
@@ -119,6 +129,54 @@ pub(crate) fn few_digits_at(bytes: &[u8], at: usize) -> Option<ShortNumber>
         return None;
     }
     number_of(bytes, at, digits, value)
+}
+
+// The number of at most 24 digits that stands whole at this place, with a space behind it.
+#[inline(always)]
+pub(crate) fn amount_at(bytes: &[u8], at: usize) -> Option<Amount>
+    requires { at + 25 ≤ length bytes.now }
+    ensures spaced { IfSome result (λ amount. IsSpacedAt bytes.now at amount.value amount.behind) }
+    ensures low { IfSome result (λ amount. amount.value < 10 ^ 24) }
+{
+    let (front, first) = leading_digits(word_at(bytes, at));
+    if first < least_of(front) {
+        return None;
+    }
+    let (digits, value) = behind_word(bytes, at, front, first);
+    if bytes[at + digits] != b' ' {
+        return None;
+    }
+    Some(Amount {
+        value,
+        behind: at + digits + 1,
+    })
+}
+
+// How many of the bytes from this one on are digits, up to 24, and the number that they spell, where those of the first
+// eight are so many and spell this.
+#[inline(always)]
+fn behind_word(bytes: &[u8], at: usize, front: usize, first: u64) -> (usize, u128)
+    requires room { at + 24 ≤ length bytes.now }
+    requires few { front ≤ 8 }
+    requires front { Spell (take front (drop at bytes.now)) first }
+    ensures few { result.0 ≤ 24 }
+    ensures some { front ≤ result.0 }
+    ensures as_long { front < 8 → result.0 ≡ front }
+    ensures spell { Spell (take result.0 (drop at bytes.now)) result.1 }
+{
+    if front < 8 {
+        return (front, first as u128);
+    }
+    let (middle, more) = leading_digits(word_at(bytes, at + 8));
+    let long = first * ten_to(middle) + more;
+    if middle < 8 {
+        return (8 + middle, long as u128);
+    }
+    let (back, last) = leading_digits(word_at(bytes, at + 16));
+    (
+        16 + back,
+        long as u128 * ten_to(back) as u128 + last as u128,
+    )
 }
 
 #[inline(always)]

@@ -16,14 +16,17 @@
 //! one of a marked cut may: `repeats` tells that by the items.
 //!
 //! What stands whole in the bytes at hand is taken at once, which comes to the same as its bytes one by one: the first
-//! word of a line, a short number (`digits`), a node of a dual with its value (`pairs`), and a way of a proof with its
-//! count (`proof_ways`). Most digits are read from words of eight bytes (`words`).
+//! word of a line, a short number (`digits`), the line of a dual or of a proof up to what it lists (`line_starts`,
+//! `fronts`), a node of a dual with its value (`pairs`), and a way of a proof with its count (`proof_ways`). Most digits
+//! are read from words of eight bytes (`words`).
 #![tactic(auto)]
 
 mod bytes;
 mod digits;
+mod fronts;
 mod heads;
 mod items;
+mod line_starts;
 mod marks;
 mod pairs;
 mod pieces;

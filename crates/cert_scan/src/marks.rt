@@ -19,9 +19,9 @@ use crate::places::{Place, more, open, refused, whole};
 use crate::stages::{DualAt, MarkAt, Shape, WaysAt, after_proof, first_dual, first_proved};
 
 // Of the turns, the scale, and how often a way is taken.
-const MOST_TURNS: u128 = 1000;
+pub(crate) const MOST_TURNS: u128 = 1000;
 
-const MOST_SCALE: u128 = 1_000_000_000;
+pub(crate) const MOST_SCALE: u128 = 1_000_000_000;
 
 pub(crate) const MOST_TAKEN: u128 = 1_000_000_000_000;
 

@@ -1,5 +1,5 @@
 //! The numbers of a line: where each stands, and what it makes of the line.
-ghost use Rattle.std.specs.Prelude.{◌≡◌, ℕ, ◌+◌, nat_eq};
+ghost use Rattle.std.specs.Prelude.{◌≡◌, ◌+◌, nat_eq};
 ghost use Rattle.cert_spec.specs.Reading.{is_short};
 ghost use Rattle.cert_scan.specs.Moves.{
   refusal,

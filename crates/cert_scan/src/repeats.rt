@@ -1,5 +1,5 @@
 //! Whether a dual of a plain cut repeats the one before it in its origin.
-ghost use Rattle.std.specs.Prelude.{◌≡◌, ◌&&◌, true, Some};
+ghost use Rattle.std.specs.Prelude.{◌≡◌, ◌&&◌, Some};
 ghost use Rattle.cert_scan.specs.Repeats.{
   no_dual,
   with_mark,
@@ -94,7 +94,7 @@ impl DualSoFar {
     }
 
     // A price comes, of a dual of which this is the first destination.
-    fn begin(&mut self, to: u32, price: u128)
+    pub(crate) fn begin(&mut self, to: u32, price: u128)
         ensures { self.new ≡ with_price self.old to price }
     {
         self.repeats = !self.marked && to != 0 && self.price == price;

@@ -3,7 +3,6 @@ ghost use Rattle.std.specs.Prelude.{◌≡◌, ℕ, ◌-◌, ◌++◌, ◌<◌, 
 ghost use Rattle.cert_spec.specs.Stated.{Stated};
 ghost use Rattle.cert_spec.specs.Text.{Spells};
 ghost use Rattle.cert_scan.specs.Scans.{
-  new_scan,
   stepped,
   scanned,
   given_all,
@@ -47,11 +46,11 @@ use memchr::memchr;
 #[derive(Drop)]
 pub struct Scan {
     // The version and the number of nodes, once the text has told them.
-    shape: Shape,
+    pub(crate) shape: Shape,
     line: u64,
-    position: Position,
+    pub(crate) position: Position,
     // In the first version, as at the start.
-    so_far: DualSoFar,
+    pub(crate) so_far: DualSoFar,
 }
 
 impl Scan {
@@ -119,7 +118,7 @@ impl Scan {
             return (pair.front + 1 + pair.back + 1, Some(item));
         }
         let Some(way) = self.way_ahead(bytes) else {
-            return self.advance_all(bytes);
+            return self.begin_line(bytes);
         };
         if way.last {
             return self.end_proof(bytes);
@@ -242,7 +241,7 @@ impl Scan {
     }
 
     #[inline(never)]
-    fn advance_all(&mut self, bytes: &[u8]) -> (usize, Option<Item>)
+    pub(crate) fn advance_all(&mut self, bytes: &[u8]) -> (usize, Option<Item>)
         ensures { Runs self.old bytes.now result.0 result.1 self.new }
     {
         let mut at = 0;

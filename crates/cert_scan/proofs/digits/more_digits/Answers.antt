@@ -13,5 +13,5 @@ returns-clause-spelled c =
     let few = c.short_digits-front.ensures.few in
     subst (λ v. SpellsOn v (take (front.0 + back.0) bytes) back.1) (sym none)
     (spells_both _ c.args.bytes.now c.short_digits-front.result.0 c.long_digits-back.result.0 (Some c.short_digits-front.result.1) c.long_digits-back.result.1
-    (spells_whole c.args.bytes.now c.short_digits-front.result.0 c.short_digits-front.result.1 c.short_digits-front.ensures.spell c.if-front-lt1.false few
+    (spells_whole c.args.bytes.now c.short_digits-front.result.0 c.short_digits-front.result.1 c.short_digits-front.ensures.spell c.if-front-lt1.false (omega (arith, few))
     (omega arith) (inr c.if-bytes-eq48.false)) c.long_digits-back.ensures.spelled)

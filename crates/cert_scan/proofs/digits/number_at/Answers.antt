@@ -16,7 +16,7 @@ returns c =
     record {
       few = few;
       room = omega arith;
-      spells = spells_whole rest digits value spell some few fits
+      spells = spells_whole rest digits value spell some (omega (arith, few)) fits
           (not_padded rest digits value spell some fits (λ several. subst (λ x. x ≤ value) (c.least_of.ensures.several several) least));
       line_end = c.in_ok-last.ensures.0;
       more = c.in_ok-last.ensures.1;
