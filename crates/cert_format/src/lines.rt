@@ -12,7 +12,7 @@ ghost use Rattle.cert_scan.specs.Versions.{version_number};
 ghost use Rattle.cert_format.specs.Spaced.{spaced_node, spaced_value, spaced_entry, spaced_weight, run_text};
 ghost use Rattle.cert_format.specs.Puts.{PutsLine};
 
-use crate::spaced::{put_line, put_number, put_numbers, put_words};
+use crate::spaced::{put_line, put_number, put_pair, put_words};
 use cert_scan::Version;
 use hub_io::{Buffer, Failed, Sink};
 use hub_model::unsigned;
@@ -137,7 +137,7 @@ fn put_stated_values<K: Sink>(
 {
     for at in 0..dual.count() {
         let (k, value) = dual.value(at);
-        put_numbers(&[k as u128 + 1, value], buffer, sink)?;
+        put_pair(k as u128 + 1, value, buffer, sink)?;
     }
     Ok(())
 }
@@ -174,7 +174,7 @@ fn put_values<K: Sink>(
     for value in values {
         let node = value.0 as u128 + 1;
         let number = unsigned(value.1);
-        put_numbers(&[node, number], buffer, sink)?;
+        put_pair(node, number, buffer, sink)?;
     }
     Ok(())
 }
@@ -227,7 +227,7 @@ fn put_weights<K: Sink>(
     for weight in weights {
         let cut = unsigned(weight.0);
         let number = unsigned(weight.1);
-        put_numbers(&[cut, number], buffer, sink)?;
+        put_pair(cut, number, buffer, sink)?;
     }
     Ok(())
 }

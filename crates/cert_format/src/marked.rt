@@ -7,7 +7,7 @@ ghost use Rattle.cert_format.specs.Spaced.{spaced_way};
 ghost use Rattle.cert_format.specs.Puts.{PutsLine, PutsLines};
 
 use crate::lines::{put_nodes, put_stated_dual};
-use crate::spaced::{put_numbers, put_words};
+use crate::spaced::{put_number, put_words};
 use core_marks::{DualProof, Mark};
 use hub_io::{Buffer, Failed, Sink};
 use stated_cuts::StatedCut;
@@ -93,9 +93,16 @@ fn put_ways<K: Sink>(
         (flat_map spaced_way ways.now) }
 {
     for way in ways {
-        let from = way.0 as u128 + 1;
-        let to = way.1 as u128 + 1;
-        put_numbers(&[from, to, way.2 as u128], buffer, sink)?;
+        put_way(*way, buffer, sink)?;
     }
     Ok(())
+}
+
+fn put_way<K: Sink>(way: (u32, u32, u64), buffer: &mut Buffer, sink: &mut K) -> Result<(), Failed>
+    ensures { PutsThrough K.taken K.faults sink.old sink.new buffer.old buffer.new result
+        (spaced_way (way.0, way.1, way.2)) }
+{
+    put_number(way.0 as u128 + 1, buffer, sink)?;
+    put_number(way.1 as u128 + 1, buffer, sink)?;
+    put_number(way.2 as u128, buffer, sink)
 }

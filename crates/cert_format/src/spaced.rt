@@ -1,9 +1,9 @@
 // The words of a line put through a buffer.
-ghost use Rattle.std.specs.Prelude.{flat_map};
+ghost use Rattle.std.specs.Prelude.{◌∷◌, [], flat_map};
 ghost use Rattle.hub_io.specs.Outside.{PutsThrough};
 ghost use Rattle.cert_format.specs.Spaced.{spaced, words_text, words_line};
 
-use dec_text::{Piece, put_pieces};
+use dec_text::put_after_space;
 use hub_io::{Buffer, Failed, Sink};
 
 // Puts a line of a first word and numbers.
@@ -49,6 +49,21 @@ pub(crate) fn put_numbers<K: Sink>(
     Ok(())
 }
 
+// Puts two numbers, each behind a space.
+pub(crate) fn put_pair<K: Sink>(
+    first: u128,
+    second: u128,
+    buffer: &mut Buffer,
+    sink: &mut K,
+) -> Result<(), Failed>
+    ensures { PutsThrough K.taken K.faults sink.old sink.new buffer.old buffer.new result
+        (flat_map spaced (first ∷ second ∷ [])) }
+{
+    put_number(first, buffer, sink)?;
+    put_number(second, buffer, sink)
+}
+
+// Puts a number behind a space.
 pub(crate) fn put_number<K: Sink>(
     number: u128,
     buffer: &mut Buffer,
@@ -56,5 +71,5 @@ pub(crate) fn put_number<K: Sink>(
 ) -> Result<(), Failed>
     ensures { PutsThrough K.taken K.faults sink.old sink.new buffer.old buffer.new result (spaced number) }
 {
-    put_pieces(&[Piece::Text(b" "), Piece::Count(number)], buffer, sink)
+    put_after_space(number, buffer, sink)
 }

@@ -4,7 +4,7 @@
 //! - [`read_decimal`] reads a decimal of a token, cut to so many places, or answers [`BadNumber`].
 //! - [`read_count`] reads a count within its limits.
 //! - [`put_line`] puts the [`Piece`]s of a line as one text, [`put_pieces`] does so through a buffer that many lines
-//!   share, and [`put_number`] and [`put_fixed`] put one number.
+//!   share, and [`put_number`], [`put_fixed`] and [`put_after_space`] put one number.
 //!
 //! Nothing here takes memory. What a token is, which number it writes and how one is written out is defined in
 //! `text_spec`; what a piece writes, in `specs/Lines.antt`.
@@ -22,6 +22,6 @@ mod pieces;
 
 pub use counts::read_count;
 pub use decimals::{BadNumber, read_decimal};
-pub use numbers::{put_fixed, put_number};
+pub use numbers::{put_after_space, put_fixed, put_number};
 pub use pieces::{Piece, put_line, put_pieces};
 pub use tokens::Tokens;

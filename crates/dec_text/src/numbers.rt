@@ -1,9 +1,13 @@
-ghost use Rattle.std.specs.Prelude.{◌≡◌, ◌+◌, ◌/◌, ◌%◌, ◌^◌, ◌∷◌, ◌++◌, List, ℕ, ℤ, pos, ◌≤ℤ◌, nat_abs, replicate, decimal};
+ghost use Rattle.std.specs.Prelude.{◌≡◌, ◌≤◌, ◌+◌, ◌/◌, ◌%◌, ◌^◌, ◌∷◌, ◌++◌, List, ℕ, ℤ, pos, ◌≤ℤ◌, length, drop, nat_abs, replicate, decimal};
 ghost use Rattle.std.specs.Fmt.{signed_decimal};
 ghost use Rattle.text_spec.specs.Fixed.{zero_padded, fixed_text};
 ghost use Rattle.hub_io.specs.Outside.{Puts, PutsThrough};
 
 use hub_io::{Buffer, Failed, Sink};
+use itoa::Integer;
+
+// How many bytes `itoa` writes in: it leaves one at least before the digits of a `u128`.
+const ROOM: usize = 40;
 
 // The most places for which ten to that power is a `u128`.
 const MOST_PLACES: u32 = 38;
@@ -40,6 +44,34 @@ pub(crate) fn put_with_point<K: Sink>(
     put_decimals(decimals, places, buffer, sink)
 }
 
+/// Puts a space and a number in decimal digits through a buffer, which the caller finishes, as one put on the buffer.
+pub fn put_after_space<K: Sink>(
+    value: u128,
+    buffer: &mut Buffer,
+    sink: &mut K,
+) -> Result<(), Failed>
+    ensures { PutsThrough K.taken K.faults sink.old sink.new buffer.old buffer.new result (32 ∷ decimal value) }
+{
+    let mut bytes = [0; ROOM];
+    let start = write_count(value, &mut bytes) - 1;
+    bytes[start] = b' ';
+    buffer.put(&bytes[start..], sink)
+}
+
+// Writes the digits of a number at the end of the bytes, and tells where they start. A number of 64 bits is written in
+// 64 bits, which is faster.
+#[inline]
+fn write_count(value: u128, bytes: &mut [u8; ROOM]) -> usize
+    ensures start { result + length (decimal value) ≡ 40 }
+    ensures room { 1 ≤ result }
+    ensures written { drop result bytes.new ≡ decimal value }
+{
+    if value <= u64::MAX as u128 {
+        return (value as u64).write(bytes);
+    }
+    value.write(bytes)
+}
+
 /// Puts a number in decimal digits.
 pub(crate) fn put_count<K: Sink>(
     value: u128,
@@ -48,6 +80,9 @@ pub(crate) fn put_count<K: Sink>(
 ) -> Result<(), Failed>
     ensures { PutsThrough K.taken K.faults sink.old sink.new buffer.old buffer.new result (decimal value) }
 {
+    if value <= u64::MAX as u128 {
+        return buffer.put(itoa::Buffer::new().format(value as u64).as_bytes(), sink);
+    }
     buffer.put(itoa::Buffer::new().format(value).as_bytes(), sink)
 }
 

@@ -3,14 +3,14 @@ use Rattle.cert_format.specs.Spaced.{spaced}
 use Rattle.cert_format.proofs.Following.{list_more, list_stop, list_end}
 use Rattle.cert_format.proofs.lines.put_stated_values.Goals as goal
 
-pub returns-in_err-put_numbers : goal.returns-in_err-put_numbers
-returns-in_err-put_numbers g c =
-    list_stop (0, 0) c.loop-at.invariant c.put_numbers.ensures (ap is_err c.in_err-put_numbers.was) c.from_residual.ensures.0 (omega arith)
+pub returns-in_err-put_pair : goal.returns-in_err-put_pair
+returns-in_err-put_pair g c =
+    list_stop (0, 0) c.loop-at.invariant c.put_pair.ensures (ap is_err c.in_err-put_pair.was) c.from_residual.ensures.0 (omega arith)
     (ap₂ (λ (k u : ℕ). flat_map spaced ((k + 1) ∷ u ∷ [])) c.value-k.ensures.node c.value-k.ensures.value)
 
 pub loop-at-preserved : goal.loop-at-preserved
 loop-at-preserved g c =
-    list_more (0, 0) c.loop-at.invariant c.put_numbers.ensures (ap is_ok c.in_ok-put_numbers.was) (omega arith)
+    list_more (0, 0) c.loop-at.invariant c.put_pair.ensures (ap is_ok c.in_ok-put_pair.was) (omega arith)
     (ap₂ (λ (k u : ℕ). flat_map spaced ((k + 1) ∷ u ∷ [])) c.value-k.ensures.node c.value-k.ensures.value)
 
 pub returns : goal.returns

@@ -1,0 +1,21 @@
+use Rattle.std.proofs.Common.{◌+◌, ◌∷◌, [], flat_map, sym, ap, is_ok, is_err, append-nil}
+use Rattle.cert_format.specs.Spaced.{spaced}
+use Rattle.cert_format.proofs.Following.{as_text, then_put, then_none}
+use Rattle.cert_format.proofs.marked.put_way.Goals as goal
+
+pub returns-in_err-put_number : goal.returns-in_err-put_number
+returns-in_err-put_number g c =
+    let later = flat_map spaced ((c.args.way.1 + 1) ∷ c.args.way.2 ∷ []) in
+    then_none later c.put_number.ensures (ap is_err c.in_err-put_number.was) c.from_residual.ensures.0
+
+pub returns-in_err-put_number-2 : goal.returns-in_err-put_number-2
+returns-in_err-put_number-2 g c =
+    let later = flat_map spaced (c.args.way.2 ∷ []) in
+    then_put c.put_number.ensures (ap is_ok c.in_ok-put_number.was)
+    (then_none later c.put_number-2.ensures (ap is_err c.in_err-put_number-2.was) c.from_residual-in_err-put_number-2.ensures.0)
+
+pub returns : goal.returns
+returns g c =
+    then_put c.put_number.ensures (ap is_ok c.in_ok-put_number.was)
+    (then_put c.put_number-2.ensures (ap is_ok c.in_ok-put_number-2.was)
+    (as_text (sym (append-nil (spaced c.args.way.2))) c.put_number-3.ensures))
