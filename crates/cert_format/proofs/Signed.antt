@@ -1,44 +1,17 @@
--- What was begun, with numbers that may not fall below 0.
-use Rattle.std.proofs.Common.{◌≡◌, ℕ, ◌<◌, ◌≤◌, ℤ, pos, negsuc, ◌≤ℤ◌, List, [], ◌∷◌, map, refl, sym, ap, subst, arith}
+-- A leaf that was begun, with numbers that may not fall below 0.
+use Rattle.std.proofs.Common.{◌≡◌, ℕ, ◌≤◌, ℤ, pos, negsuc, ◌≤ℤ◌, List, [], ◌∷◌, map, refl, sym, ap, subst, arith}
 use Rattle.std.specs.List.{AllByRecursion}
 use Rattle.std.specs.List.Sorted.{IsStrictlyIncreasing}
 use Rattle.std.proofs.lemmas.Int.{ints}
 use Rattle.std.proofs.lemmas.List.Elements.{All-from_recursion, recursion_from_All}
 use Rattle.hub_spec.specs.Trees.{leaf_of}
-use Rattle.hub_spec.specs.Ranges.{IsShort, IsAmount, IsDualInRange, IsLineInRange}
-use Rattle.hub_model.specs.Amounts.{natural, IsNatural}
-use Rattle.plan_model.specs.Prices.{natural_values, AreSignedPrices}
+use Rattle.hub_spec.specs.Ranges.{IsShort, IsLineInRange}
+use Rattle.hub_model.specs.Amounts.{natural}
 use Rattle.plan_model.specs.Mixtures.{natural_weights, IsSignedMixture}
-use Rattle.cert_format.proofs.Amounts.{natural_pos}
 
 above_0 : (z : ℤ) → 1 ≤ natural z → pos 1 ≤ℤ z
 above_0 (pos n) h = omega (arith, ints)
 above_0 (negsuc n) h = absurd (omega arith)
-
--- ---- a dual
-
-abbrev IsValue : ℕ → ℕ × ℕ → Type 0
-IsValue n e = (e.0 < n) × (1 ≤ e.1) × IsAmount e.1
-
-abbrev IsAboveNone : ℕ × ℤ → Type 0
-IsAboveNone e = pos 1 ≤ℤ e.1
-
-nodes_of_values : (u : List (ℕ × ℤ)) → map (λ (e : ℕ × ℕ). e.0) (natural_values u) ≡ map (λ (e : ℕ × ℤ). e.0) u
-nodes_of_values [] = refl
-nodes_of_values (e ∷ u) = ap (λ ks. e.0 ∷ ks) (nodes_of_values u)
-
-values_above : (n : ℕ) (u : List (ℕ × ℤ)) → AllByRecursion (IsValue n) (natural_values u) → AllByRecursion IsAboveNone u
-values_above n [] h = tt
-values_above n (e ∷ u) h = (above_0 e.1 h.0.1, values_above n u h.1)
-
-pub signed_prices : (n a : ℕ) (z : ℤ) (u : List (ℕ × ℤ)) → z ≡ pos a → IsDualInRange n (record { a = a; u = natural_values u }) → AreSignedPrices z u
-signed_prices n a z u is h = record {
-  price = subst IsNatural (sym is) (natural_pos a);
-  values = All-from_recursion IsAboveNone u (values_above n u (recursion_from_All (IsValue n) (natural_values u) h.each));
-  ascend = subst IsStrictlyIncreasing (nodes_of_values u) h.ascend;
-}
-
--- ---- a leaf
 
 abbrev IsWeight : ℕ × ℕ → Type 0
 IsWeight e = (1 ≤ e.0) × IsShort e.0 × (1 ≤ e.1) × IsShort e.1

@@ -1,12 +1,13 @@
 -- What a gathering holds.
-use Rattle.std.specs.Prelude.{map, Some, None}
-use Rattle.plan_model.specs.Prices.{natural_values}
+use Rattle.std.specs.Prelude.{ℕ, ℤ, List, map, Some, None}
+use Rattle.core_spec.specs.CoreCuts.{Way}
 use Rattle.plan_model.specs.Mixtures.{natural_weights}
 use Rattle.plan_model.specs.Lines.{tree_line_of}
 use Rattle.cert_scan.specs.Versions.{version_number}
 use Rattle.cert_format.specs.Gathered.{Marking, no_cut, cut_begun, Gathered, Begun, no_line, dual_begun, proof_begun, leaf_begun, Standing}
 use Rattle.cert_format.specs.declared.begun.BegunLine.{BegunLine}
-use Rattle.cert_format.specs.declared.begun.BegunLine.TheVariants.{Nothing, Dual, Proof, Leaf}
+use Rattle.cert_format.specs.declared.begun.LineHead.{LineHead}
+use Rattle.cert_format.specs.declared.begun.LineHead.TheVariants.{Nothing, Dual, Proof, Leaf}
 use Rattle.cert_format.specs.declared.begun_marks.BegunMark.{BegunMark}
 use Rattle.cert_format.specs.declared.begun_marks.BegunMark.TheVariants.{NoCut, Unmarked, Marked}
 use Rattle.cert_format.specs.declared.gathering.Gathering.{Gathering}
@@ -33,12 +34,15 @@ gathered_of g = record {
   lines = map tree_line_of g.lines.items;
 }
 
--- the line that was begun
+-- the line that was begun, by what stands before its list, and the lists of a dual, a proof and a leaf
+abbrev pub begun_by : LineHead → List (ℕ × ℕ) → List Way → List (ℤ × ℤ) → Begun
+begun_by Nothing values ways weights = no_line
+begun_by (Dual run price) values ways weights = dual_begun run (record { a = price; u = values })
+begun_by (Proof turns scale) values ways weights = proof_begun (record { turns = turns; scale = scale; ways = ways })
+begun_by (Leaf denom) values ways weights = leaf_begun denom (natural_weights weights)
+
 abbrev pub begun_of : BegunLine → Begun
-begun_of Nothing = no_line
-begun_of (Dual run price values) = dual_begun run (record { a = price; u = natural_values values.items })
-begun_of (Proof turns scale ways) = proof_begun (record { turns = turns; scale = scale; ways = ways.items })
-begun_of (Leaf denom weights) = leaf_begun denom (natural_weights weights.items)
+begun_of b = begun_by b.head b.values.items b.ways.items b.weights.items
 
 abbrev pub standing_of : Gathering → Standing
 standing_of g = record { parts = gathered_of g; begun = begun_of g.begun }

@@ -5,13 +5,13 @@ ghost use Rattle.hub_spec.specs.Limits.{most_nodes};
 ghost use Rattle.hub_spec.specs.Ranges.{IsDualInRange};
 ghost use Rattle.cert_format.specs.Gathered.{with_duals};
 
-use crate::begun::BegunLine;
+use crate::begun::{BegunLine, LineHead};
 use crate::begun_marks::BegunMark;
 use crate::{Certificate, Heading};
 use cert_scan::{Item, Version};
 use core_marks::{DualProof, Mark};
 use hub_model::signed;
-use plan_model::{Dual, Mix, Plan, TreeLine};
+use plan_model::{Mix, Plan, TreeLine};
 use stated_cuts::StatedCut;
 use std::alloc::{AllocError, Global};
 use std::mem;
@@ -54,7 +54,7 @@ impl Gathering {
             marks: Vec::new(alloc),
             last_mark: BegunMark::NoCut,
             lines: Vec::new(alloc),
-            begun: BegunLine::Nothing,
+            begun: BegunLine::new(alloc),
         }
     }
 
@@ -68,33 +68,31 @@ impl Gathering {
             Item::ProofPair { k, m, y, .. } => self.begun.list_way(k, m, y),
             Item::LeafPair { c, w, .. } => self.begun.list_weight(c, w),
             _ => {
-                self.settle()?;
+                self.settle(alloc)?;
                 self.take_first(alloc, item)
             }
         }
     }
 
     // Puts what was begun among the parts: no more of it comes.
-    fn settle(&mut self) -> Result<(), AllocError>
+    fn settle(&mut self, alloc: Global) -> Result<(), AllocError>
         requires { IsFit (standing_of self.old).begun }
         ensures { IfOk result (λ _. standing_of self.new ≡ whole (settled (standing_of self.old))) }
     {
-        match mem::replace(&mut self.begun, BegunLine::Nothing) {
-            BegunLine::Nothing => Ok(()),
-            BegunLine::Dual { run, price, values } => {
-                let dual = Dual::new(signed(price), values);
-                add_duals(&mut self.cuts, run, &dual)
+        let head = self.begun.head;
+        self.begun.head = LineHead::Nothing;
+        match head {
+            LineHead::Nothing => Ok(()),
+            LineHead::Dual { run, price } => {
+                add_duals(&mut self.cuts, run, price, &self.begun.values)
             }
-            BegunLine::Proof {
-                turns,
-                scale,
-                mut ways,
-            } => {
-                ways.shrink_to_fit();
+            LineHead::Proof { turns, scale } => {
+                let ways = self.begun.ways.to_vec(alloc)?;
                 self.last_mark
                     .list_proof(DualProof::new(turns, scale, ways))
             }
-            BegunLine::Leaf(denominator, weights) => {
+            LineHead::Leaf(denominator) => {
+                let weights = self.begun.weights.to_vec(alloc)?;
                 let mix = Mix::new(signed(denominator as u128), weights);
                 self.lines.push(TreeLine::Leaf(mix))?;
                 Ok(())
@@ -123,11 +121,11 @@ impl Gathering {
                 self.cuts.push(StatedCut::new(alloc, part))?;
             }
             Item::CoreHub { k, .. } => self.last_mark.list_hub(k)?,
-            Item::Dual { run, a, .. } => self.begun = BegunLine::begin_dual(alloc, run, a),
-            Item::Proof { t, g, .. } => self.begun = BegunLine::begin_proof(alloc, t, g),
+            Item::Dual { run, a, .. } => self.begun.begin_dual(run, a),
+            Item::Proof { t, g, .. } => self.begun.begin_proof(t, g),
             Item::Nodes(_) => self.end_cut()?,
             Item::Branch(k) => self.lines.push(TreeLine::BranchOn(k))?,
-            Item::Leaf { denom, .. } => self.begun = BegunLine::Leaf(denom, Vec::new(alloc)),
+            Item::Leaf { denom, .. } => self.begun.begin_leaf(denom),
             Item::Empty => self.lines.push(TreeLine::Empty)?,
             Item::Block { i, j } => self.lines.push(TreeLine::Block { i, j })?,
             Item::Count => self.lines.push(TreeLine::Count)?,
@@ -175,17 +173,23 @@ impl Gathering {
     }
 }
 
-// Adds the dual of a run of so many commodities to the last cut.
-fn add_duals(cuts: &mut Vec<StatedCut>, run: u32, dual: &Dual) -> Result<(), AllocError>
+// Adds the dual of a run of so many commodities, with this price and these nodes with their values, to the last cut.
+fn add_duals(
+    cuts: &mut Vec<StatedCut>,
+    run: u32,
+    price: u128,
+    values: &[(u32, u128)],
+) -> Result<(), AllocError>
     requires some { 1 ≤ run }
-    requires dual { IsDualInRange most_nodes dual.now }
-    ensures { IfOk result (λ _. cuts.new.items ≡ with_duals cuts.old.items (replicate run dual.now)) }
+    requires dual { IsDualInRange most_nodes (record { a = price; u = values.now }) }
+    ensures { IfOk result (λ _.
+        cuts.new.items ≡ with_duals cuts.old.items (replicate run (record { a = price; u = values.now }))) }
 {
     if cuts.is_empty() {
         return Ok(());
     }
     let last = cuts.len() - 1;
-    cuts[last].add(run, dual)
+    cuts[last].add_listed(run, price, values)
 }
 
 // Gives back the memory that the last cut took for duals to come: it has all of its duals.

@@ -8,7 +8,7 @@ ghost use Rattle.stated_cuts.specs.Totals.{most_duals, most_sum};
 ghost use Rattle.stated_cuts.specs.Runs.{no_dual};
 
 use crate::StatedDual;
-use crate::runs::{Run, lend, place_of, push_values};
+use crate::runs::{Run, lend, place_of, push_listed, push_values};
 use crate::sums::{loads_of, total_of};
 use crate::values::StatedValue;
 use plan_model::Dual;
@@ -119,14 +119,42 @@ impl StatedCut {
         ensures { IfOk result (λ _.
             self.new ≡ record { part = self.old.part; duals = self.old.duals ++ replicate many dual.now }) }
     {
-        let Some(end) = self.count.checked_add(many) else {
-            return Err(AllocError);
-        };
+        let end = counted(self.count, many)?;
         let from = self.values.len();
         push_values(&mut self.values, dual)?;
         let from = small(from)?;
         let to = small(self.values.len())?;
         let price = dual.price();
+        self.runs.push(Run {
+            price,
+            many,
+            end,
+            from,
+            to,
+        })?;
+        self.count = end;
+        Ok(())
+    }
+
+    /// Adds the dual of a run of so many commodities: its price, and nodes, ascending, with their values.
+    ///
+    /// The answer is `AllocError` where `add` gives it.
+    pub fn add_listed(
+        &mut self,
+        many: u32,
+        price: u128,
+        values: &[(u32, u128)],
+    ) -> Result<(), AllocError>
+        requires some { 1 ≤ many }
+        requires dual { IsDualInRange most_nodes (record { a = price; u = values.now }) }
+        ensures { IfOk result (λ _.
+            self.new ≡ record { part = self.old.part; duals = self.old.duals ++ replicate many (record { a = price; u = values.now }) }) }
+    {
+        let end = counted(self.count, many)?;
+        let from = self.values.len();
+        push_listed(&mut self.values, values)?;
+        let from = small(from)?;
+        let to = small(self.values.len())?;
         self.runs.push(Run {
             price,
             many,
@@ -145,6 +173,16 @@ impl StatedCut {
         self.runs.shrink_to_fit();
         self.values.shrink_to_fit();
     }
+}
+
+// How many they are with so many more, or that they are more than can be counted.
+fn counted(count: u32, more: u32) -> Result<u32, AllocError>
+    ensures { IfOk result (λ n. n ≡ count + more) }
+{
+    let Some(all) = count.checked_add(more) else {
+        return Err(AllocError);
+    };
+    Ok(all)
 }
 
 // The length, or that it is more than can be counted.

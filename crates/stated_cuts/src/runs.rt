@@ -1,9 +1,9 @@
 //! Runs of commodities with one dual.
 
-ghost use Rattle.std.specs.Prelude.{◌≡◌, ◌<◌, ◌++◌, ◌∷◌, [], ◌≤◌, length, take, IfOk};
+ghost use Rattle.std.specs.Prelude.{◌≡◌, ◌<◌, ◌++◌, ◌∷◌, [], ◌≤◌, length, take, All, IfOk};
 ghost use Rattle.hub_spec.specs.Cuts.{Prices};
 ghost use Rattle.hub_spec.specs.Limits.{most_nodes};
-ghost use Rattle.hub_spec.specs.Ranges.{IsDualInRange};
+ghost use Rattle.hub_spec.specs.Ranges.{IsAmount, IsDualInRange};
 ghost use Rattle.stated_cuts.specs.Values.{listed_values};
 ghost use Rattle.stated_cuts.specs.Runs.{run_dual, HaveEnds, IsRunAt, IsRunOf};
 
@@ -61,6 +61,21 @@ pub(crate) fn push_values(values: &mut Vec<StatedValue>, dual: &Dual) -> Result<
     for at in 0..dual.count() {
         let (node, value) = dual.value(at);
         values.push(StatedValue::new(node, value))?;
+    }
+    Ok(())
+}
+
+/// Pushes these nodes with their values. Where memory runs out those that stood there still do.
+pub(crate) fn push_listed(
+    values: &mut Vec<StatedValue>,
+    listed: &[(u32, u128)],
+) -> Result<(), AllocError>
+    requires { All (λ e. (e.0 < most_nodes) × (1 ≤ e.1) × IsAmount e.1) listed.now }
+    ensures kept { take (length values.old.items) values.new.items ≡ values.old.items }
+    ensures pushed { IfOk result (λ _. listed_values values.new.items ≡ listed_values values.old.items ++ listed.now) }
+{
+    for entry in listed {
+        values.push(StatedValue::new(entry.0, entry.1))?;
     }
     Ok(())
 }

@@ -5,7 +5,7 @@ use Rattle.cert_format.proofs.gathering.add_duals.Goals as goal
 
 pub returns : goal.returns
 returns c =
-    IfOk-weaker c.add.result _ _
-    (λ x is. duals_added c.args.cuts.now.items c.len-last.result _ c.index_mut.result.now c.add.new.self (replicate c.args.run c.args.dual.now)
+    IfOk-weaker c.add_listed.result _ _
+    (λ x is. duals_added c.args.cuts.now.items c.len-last.result _ c.index_mut.result.now c.add_listed.new.self (replicate c.args.run (record { a = c.args.price; u = c.args.values.now }))
     (search rules) (search rules) c.index_mut.ensures.value is)
-    c.add.ensures
+    c.add_listed.ensures

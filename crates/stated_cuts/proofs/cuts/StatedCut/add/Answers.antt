@@ -39,7 +39,7 @@ invariant_of-self-in_err-push c =
 
 -- the run that is pushed
 abbrev pushed_run : After-self-1 → Run
-pushed_run c = record { price = c.price-price.result; many = c.args.many; end = c.in-Some.end; from = c.in_ok-from.from; to = c.in_ok-to.to }
+pushed_run c = record { price = c.price-price.result; many = c.args.many; end = c.in_ok-end.end; from = c.in_ok-from.from; to = c.in_ok-to.to }
 
 begins : (c : After-self-1) → c.in_ok-from.from ≡ length c.self.inside.values.items
 begins c = omega arith
@@ -63,8 +63,8 @@ invariant_of-self-2 c =
     record {
       runs = subst (All (IsRunOf more)) pushed
           (All-push (IsRunOf more) runs r (runs_kept values more runs c.push_values.ensures.kept c.self.invariant.runs) last);
-      ends = subst (λ (rs : List Run). HaveEnds rs c.in-Some.end) pushed
-          (ends_more runs c.self.inside.count r c.self.invariant.ends c.requires.some (omega (arith, c.in-Some.ensures)));
+      ends = subst (λ (rs : List Run). HaveEnds rs c.in_ok-end.end) pushed
+          (ends_more runs c.self.inside.count r c.self.invariant.ends c.requires.some (omega (arith, c.in_ok-end.ensures)));
     }
 
 pub returns : goal.returns
