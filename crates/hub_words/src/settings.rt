@@ -11,7 +11,7 @@ ghost use Rattle.hub_words.specs.Settings.{AreLimits, IsFactors, factors_of, lim
 use crate::requests::Layout;
 use crate::values::{divide, factor, fixed, hubs, is_set, longest, order, tail};
 use clap::ArgMatches;
-use hub_model::{HubNumber, Nodes, Order, Tail, Terms, signed};
+use hub_model::{HubNumber, Nodes, Order, Tail, Terms};
 
 /// The options that are single values.
 #[derive(Clone, Copy)]
@@ -114,8 +114,5 @@ fn amount(value: Option<u64>) -> Option<i128>
     ensures same { option_map natural result ≡ value }
     ensures natural { IfSome result IsNatural }
 {
-    match value {
-        Some(amount) => Some(signed(amount as u128)),
-        None => None,
-    }
+    value.map(i128::from)
 }

@@ -6,7 +6,7 @@ ghost use Rattle.instance_ap.specs.Points.{coordinates_of, distance_between, dis
 
 use crate::points::Point;
 use fixed_distance::distance;
-use hub_model::{Numbers, signed};
+use hub_model::Numbers;
 use std::alloc::{AllocError, Global};
 
 // The distance from one point to another.
@@ -36,7 +36,7 @@ fn next_distance(points: &[Point], before: &[i128], divide: u32) -> i128
     if to < from {
         return before[to * n + from];
     }
-    signed(distance_between_points(&points[from], &points[to], divide) as u128)
+    i128::from(distance_between_points(&points[from], &points[to], divide))
 }
 
 /// The distances between nodes that lie at these points, row by row.

@@ -8,9 +8,7 @@ ghost use Rattle.instance_ap.specs.Points.{coordinates_of};
 ghost use Rattle.instance_ap.specs.Fronts.{point_here, points_front, tail_here, IsLegalTail, StoppedInTail};
 
 use crate::points::Point;
-use hub_model::{
-    Factors, InstanceFault, MOST_COST_READ, MOST_FACTOR, Numbers, Refusal, Tail, signed,
-};
+use hub_model::{Factors, InstanceFault, MOST_COST_READ, MOST_FACTOR, Numbers, Refusal, Tail};
 use std::alloc::{AllocError, Global};
 use token_reader::Reader;
 
@@ -58,9 +56,9 @@ pub(crate) fn read_factors(reader: &mut Reader<'_>) -> Result<Factors, InstanceF
     let trunk = reader.quantity(3, MOST_FACTOR)?;
     let deliver = reader.quantity(3, MOST_FACTOR)?;
     Ok(Factors {
-        collect: signed(collect as u128),
-        trunk: signed(trunk as u128),
-        deliver: signed(deliver as u128),
+        collect: i128::from(collect),
+        trunk: i128::from(trunk),
+        deliver: i128::from(deliver),
     })
 }
 

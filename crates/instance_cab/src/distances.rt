@@ -5,7 +5,7 @@ ghost use Rattle.hub_model.specs.Amounts.{natural};
 ghost use Rattle.hub_model.specs.GivenNumbers.{IsAmountUpTo};
 ghost use Rattle.instance_cab.specs.Matrices.{divided_list};
 
-use hub_model::{Numbers, signed, unsigned_small};
+use hub_model::{Numbers, unsigned_small};
 use std::alloc::{AllocError, Global};
 
 /// The distance of the commodity at this place: divided and rounded down, and 0 from a node to itself.
@@ -38,7 +38,7 @@ pub(crate) fn divided_list(
     let mut distances = Vec::with_capacity(alloc, read.len())?;
     for (place, z) in read.iter().enumerate() {
         let distance = divided_distance(n, divide, place as u32, unsigned_small(*z));
-        distances.push(signed(distance as u128))?;
+        distances.push(i128::from(distance))?;
     }
     Ok(Numbers::from_vec(distances))
 }

@@ -6,7 +6,7 @@ ghost use Rattle.instance_cab.specs.ListedRows.{taken_at, flow_of, distance_of, 
 
 use crate::distances::divided_distance;
 use crate::rows::Listed;
-use hub_model::{InstanceFault, Numbers, Refusal, Wanted, signed};
+use hub_model::{InstanceFault, Numbers, Refusal, Wanted};
 use std::alloc::{AllocError, Global};
 use std::collections::BTreeMap;
 
@@ -31,11 +31,11 @@ pub(crate) fn matrices(
     for commodity in 0..n * n {
         let listed = listed(taken, n, commodity).map_err(Refusal::Fault)?;
         flows
-            .push(signed(listed.flow as u128))
+            .push(i128::from(listed.flow))
             .map_err(AllocError::from)?;
         let distance = divided_distance(n, divide, commodity, listed.distance);
         distances
-            .push(signed(distance as u128))
+            .push(i128::from(distance))
             .map_err(AllocError::from)?;
     }
     Ok((Numbers::from_vec(flows), Numbers::from_vec(distances)))

@@ -9,7 +9,7 @@ ghost use Rattle.token_reader.specs.Unread.{whole, later, fault_here, value_here
 
 use crate::numbers::{read_coordinate, read_index, read_quantity, read_size};
 use dec_text::Tokens;
-use hub_model::{InstanceFault, Numbers, Refusal, Wanted, signed};
+use hub_model::{InstanceFault, Numbers, Refusal, Wanted};
 use std::alloc::{AllocError, Global};
 use std::marker::Model;
 
@@ -125,7 +125,7 @@ impl<'a> Reader<'a> {
         let mut items = Vec::with_capacity(alloc, m as usize)?;
         for _place in 0..m {
             let value = self.quantity(places, limit).map_err(Refusal::Fault)?;
-            items.push(signed(value as u128)).map_err(AllocError::from)?;
+            items.push(i128::from(value)).map_err(AllocError::from)?;
         }
         Ok(Numbers::from_vec(items))
     }

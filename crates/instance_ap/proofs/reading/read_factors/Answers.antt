@@ -57,7 +57,7 @@ returns-clause-deliver c =
     let two = moved_token 1 r _ _ past further in
     let value : c.in_ok-deliver.deliver ≡ value_here 3 c.quantity-2.new.self = search rules in
     let small : c.in_ok-deliver.deliver ≤ most_factor = search rules in
-    ap (λ (z : ℤ). natural (to_z w128 (of_z w128 z))) c.signed-3.ensures
+    ap (λ (z : ℤ). natural (to_z w128 (of_z w128 z))) c.from-3.ensures
     ∙ (ap natural (to_z-of_z w128 (pos c.in_ok-deliver.deliver) (record { sfits = omega arith })) ∙ (value ∙ ap (value_here 3) two))
 
 pub returns-clause-moved : goal.returns-clause-moved
