@@ -10,7 +10,7 @@ use Rattle.hub_spec.proofs.Limits.{few_candidates}
 use Rattle.value_cuts.specs.Values.{ValueRows}
 use Rattle.kept_cuts.specs.Packed.{written, unpacked, all_unpacked, AreRowsFrom}
 use Rattle.kept_cuts.specs.PackedParts.{packed_rows, ArePackedRows}
-use Rattle.kept_cuts.specs.declared.packed.Item.{Item}
+use Rattle.kept_cuts.specs.Items.{Item}
 use Rattle.kept_cuts.specs.declared.packed.PackedValues.TheInside.{Inside}
 
 pub length-written : (ns : List ℕ) (xs : List Item) → length (written ns xs) ≡ length ns

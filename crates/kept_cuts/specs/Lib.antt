@@ -1,5 +1,6 @@
 pub mod Kept
 pub mod StoreParts
+pub mod Items
 pub mod Packed
 pub mod PackedParts
 pub mod Findings

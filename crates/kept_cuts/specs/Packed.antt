@@ -3,7 +3,7 @@ use Rattle.std.specs.Prelude.{◌≡◌, ℕ, ◌+◌, ◌*◌, ◌<◌, List, [
 use Rattle.std.specs.declared.vec.Vec.{Vec}
 use Rattle.std.specs.declared.alloc.Global.{Global}
 use Rattle.value_cuts.specs.Values.{ValueRows, row_for}
-use Rattle.kept_cuts.specs.declared.packed.Item.{Item}
+use Rattle.kept_cuts.specs.Items.{Item}
 
 -- a list with the items' numbers written into it, one after another
 abbrev pub written : List ℕ → List Item → List ℕ

@@ -10,11 +10,45 @@ use std::alloc::{AllocError, Global};
 use std::marker::Model;
 use value_cuts::Values;
 
-/// A number above 0 in a row of numbers, and where it stands, counted from 0.
-#[derive(Clone, Copy)]
+/// A number above 0 in a row of numbers, and where it stands, counted from 0. The number is held by its bytes, so that
+/// an item takes six, and not eight for where a number may begin.
+#[derive(Drop)]
 pub(crate) struct Item {
-    at: u32,
-    number: u32,
+    at: u16,
+    number: [u8; 4],
+}
+
+impl Model for Item {
+    ghost use Rattle.std.specs.Int.{w32, from_le_bytes};
+    ghost use Rattle.kept_cuts.specs.Items as listed;
+
+    ghost Value = { listed.Item };
+
+    ghost view = { λ s. record { at = s.at; number = from_le_bytes w32 s.number } };
+}
+
+impl Item {
+    // This number at this place.
+    fn new(at: u16, number: u32) -> Item
+        ensures { result ≡ record { at = at; number = number } }
+    {
+        Item {
+            at,
+            number: number.to_le_bytes(),
+        }
+    }
+
+    fn place(&self) -> usize
+        ensures { result ≡ self.now.at }
+    {
+        self.at as usize
+    }
+
+    fn number(&self) -> u32
+        ensures { result ≡ self.now.number }
+    {
+        u32::from_le_bytes(self.number)
+    }
 }
 
 /// The values of all commodities, for each origin in a list of those above 0. It is seen as `Values` are.
@@ -104,7 +138,7 @@ fn packed(alloc: Global, numbers: &[u32]) -> Result<Vec<Item>, AllocError>
 {
     let mut items = Vec::with_capacity(alloc, count_above_zero(numbers))?;
     for at in 0..numbers.len() {
-        list(&mut items, at as u32, numbers[at])?;
+        list(&mut items, at as u16, numbers[at])?;
     }
     Ok(items)
 }
@@ -121,7 +155,7 @@ fn count_above_zero(numbers: &[u32]) -> usize {
 }
 
 // Lists the number, if it is above 0.
-fn list(items: &mut Vec<Item>, at: u32, number: u32) -> Result<(), AllocError>
+fn list(items: &mut Vec<Item>, at: u16, number: u32) -> Result<(), AllocError>
     ensures zero { number ≡ 0 → OnOk result (items.new.items ≡ items.old.items) }
     ensures above { 0 < number
         → OnOk result (items.new.items ≡ items.old.items ++ record { at = at; number = number } ∷ []) }
@@ -129,7 +163,7 @@ fn list(items: &mut Vec<Item>, at: u32, number: u32) -> Result<(), AllocError>
     if number == 0 {
         return Ok(());
     }
-    items.push(Item { at, number })?;
+    items.push(Item::new(at, number))?;
     Ok(())
 }
 
@@ -139,7 +173,7 @@ fn unpack(items: &[Item], numbers: &mut [u32])
 {
     numbers.fill(0);
     for item in items {
-        put(numbers, item.at as usize, item.number);
+        put(numbers, item.place(), item.number());
     }
 }
 
