@@ -1,0 +1,143 @@
+//! The words that the unproved program knows: COMMAND LAYOUT FILE [options], with the layouts `cab-matrix` and `ap` and the
+//! instance options --trunk, --fixed, --divide, --tail fixed, --hubs and --candidates 1,2,..
+//!
+//! COMMAND is `solve` (with --rule 2 by rounds, with --cuts core by core cuts), `optimize`, or `resolve` with --from OLD; --workers W and --format 1|2|3
+//! are as they are in the product. The text goes to standard output, and seconds to standard error.
+
+use crate::branch_tree::{search, search_from};
+use crate::cert_checker::{Older, read_older};
+use crate::cert_scan::Version;
+use crate::closing_search::{Task, optimize_within};
+use crate::core_cuts::core_cut;
+use crate::dual_lender::DualLender;
+use crate::hub_io::{Failed, OpenGate, Sink};
+use crate::hub_model::{HubNumber, Instance, Nodes, Tail, Terms};
+use crate::kept_cuts::Found;
+use crate::node_rounds::search_rounds;
+use crate::price_passes::Adviser;
+use crate::proof_text::write_found;
+use crate::rattle_std::Vec;
+use crate::rattle_std::alloc::Global;
+use crate::rattle_std::thread::Host;
+use crate::search_steps::Plain;
+use crate::separators::{Coring, Solo};
+use crate::warm_start::start_of;
+use crate::{instance_ap::read_ap, instance_cab::read_matrix};
+use std::io::{Stdout, Write, stdout};
+use std::time::Instant;
+
+struct Out(Stdout);
+
+impl Sink for Out {
+    fn put(&mut self, piece: &[u8]) -> Result<(), Failed> {
+        self.0.write_all(piece).expect("standard output");
+        Ok(())
+    }
+}
+
+struct Words(std::vec::Vec<String>);
+
+impl Words {
+    fn option(&self, name: &str) -> Option<&str> {
+        let at = self.0.iter().position(|word| word == name)?;
+        Some(&self.0[at + 1])
+    }
+
+    fn number(&self, name: &str) -> Option<u32> {
+        self.option(name).map(|word| word.parse().expect("a number"))
+    }
+
+    // A number of so many decimal places, as units of the last.
+    fn decimal(&self, name: &str, places: i32) -> Option<i128> {
+        let word = self.option(name)?;
+        let value: f64 = word.parse().expect("a decimal");
+        Some((value * 10f64.powi(places)).round() as i128)
+    }
+
+    fn terms(&self) -> Terms {
+        let mut terms = Terms::plain();
+        terms.trunk = self.decimal("--trunk", 3);
+        terms.fixed = self.decimal("--fixed", 6);
+        terms.divide = self.number("--divide").unwrap_or(1);
+        terms.hubs = self.number("--hubs").map(HubNumber::Said);
+        if self.option("--tail").is_some() {
+            terms.tail = Tail::Fixed;
+        }
+        terms.candidates = self.option("--candidates").map(|list| {
+            let nodes = list.split(',').map(|word| word.parse::<u32>().expect("a node") - 1);
+            Nodes::from_vec(Vec(nodes.collect()))
+        });
+        terms
+    }
+
+    fn instance(&self) -> Instance {
+        let terms = self.terms();
+        let bytes = std::fs::read(&self.0[2]).expect("the instance");
+        let parts = match self.0[1].as_str() {
+            "ap" => read_ap(Global, &bytes, &terms),
+            _ => read_matrix(Global, &bytes, &terms),
+        };
+        let Ok(parts) = parts else { panic!("no instance of this layout") };
+        match Instance::build(Global, parts, &terms, None) {
+            Ok(instance) => instance,
+            Err(_) => panic!("no instance"),
+        }
+    }
+
+    fn workers(&self) -> u32 {
+        self.number("--workers").unwrap_or(1)
+    }
+
+    fn version(&self) -> Version {
+        let second = self.0[0] != "solve" || self.option("--hubs").is_some();
+        let core = self.option("--cuts").is_some();
+        match self.number("--format").unwrap_or(if core { 3 } else { 1 + second as u32 }) {
+            1 => Version::First,
+            2 => Version::Second,
+            _ => Version::Third,
+        }
+    }
+
+    fn found(&self, instance: &Instance) -> Found {
+        let mut solo = Solo::new(Global, instance).unwrap();
+        let found = match self.0[0].as_str() {
+            "optimize" => {
+                let workers = self.workers();
+                let adviser = Adviser::new(Global, instance, workers).unwrap();
+                let task = Task { instance, nodes: None, gap: 0, workers, first: &[] };
+                optimize_within(&Host, Global, &task, adviser)
+            }
+            "resolve" => {
+                let bytes = std::fs::read(self.option("--from").expect("--from")).expect("OLD");
+                let Ok(Older::Serves(older)) = read_older(&Host, Global, instance, &bytes) else {
+                    panic!("OLD does not serve")
+                };
+                search_from(Global, &Plain, instance, None, &mut solo, start_of(older))
+            }
+            _ if self.option("--cuts").is_some() => {
+                let mut coring = Coring { others: solo };
+                search(Global, &Plain, instance, None, &mut coring)
+            }
+            _ if self.number("--rule") == Some(2) => {
+                search_rounds(&Host, Global, instance, None, &mut solo, self.workers(), &OpenGate)
+            }
+            _ => search(Global, &Plain, instance, None, &mut solo),
+        };
+        found.unwrap()
+    }
+}
+
+pub fn main() {
+    let words = Words(std::env::args().skip(1).collect());
+    let start = Instant::now();
+    let instance = words.instance();
+    let read = Instant::now();
+    let found = words.found(&instance);
+    let searched = Instant::now();
+    let mut lender = DualLender::new(Global, &instance).unwrap();
+    let (version, workers) = (words.version(), words.workers());
+    let mut out = Out(stdout());
+    write_found(&Host, Global, &instance, &found, version, &mut lender, workers, &mut out).unwrap();
+    let seconds = [read - start, searched - read, searched.elapsed()].map(|time| time.as_secs_f64());
+    eprintln!("read {:.2} s, search {:.2} s, text {:.2} s", seconds[0], seconds[1], seconds[2]);
+}
