@@ -73,11 +73,11 @@ impl Adviser {
             state: State::new(alloc, size, places)?,
             node: Node::new(alloc, &lengths)?,
             guess: Guess::new(alloc, places, lengths.wanted())?,
+            progress: Progress::new(alloc, lengths.wanted().is_some())?,
             lengths,
-            progress: Progress::new(alloc)?,
             bench: Bench::new(alloc, size, places)?,
             search: LocalSearch::new(alloc, size, places)?,
-            tightening: Tightening::new(alloc, size, places)?,
+            tightening: Tightening::new(alloc, places)?,
             memories: Memories::new(alloc),
             branch: None,
         })
@@ -209,7 +209,7 @@ impl Adviser {
     fn better_full<R: Threads + Sync>(&mut self, rt: &R, alloc: Global) -> Result<(), AllocError>
         ensures { self.new ≡ self.old }
     {
-        self.begin_tightening();
+        self.begin_tightening(alloc)?;
         self.tighten(rt, alloc)?;
         let bound = self.state.bound(&self.lengths, &self.node.sides);
         self.progress.note(bound, NO_GAIN);
@@ -237,7 +237,7 @@ impl Adviser {
         if bound >= wanted || !self.guess.is_close(bound, wanted) {
             return Ok(bound);
         }
-        self.begin_tightening();
+        self.begin_tightening(alloc)?;
         let tight = self.tight_bound(rt, alloc, wanted)?;
         if tight < wanted {
             return Ok(bound);
@@ -286,15 +286,16 @@ impl Adviser {
     }
 
     /// Begins to make duals tight at the best set.
-    fn begin_tightening(&mut self)
+    fn begin_tightening(&mut self, alloc: Global) -> Result<(), AllocError>
         ensures { self.new ≡ self.old }
     {
         self.tightening.begin(
+            alloc,
             &self.lengths,
             &self.guess.best,
             self.node.terms(),
             self.state.loads(),
-        );
+        )
     }
 }
 

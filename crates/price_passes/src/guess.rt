@@ -1,6 +1,6 @@
 //! The hub sets that are guessed at a node.
 
-use crate::rows::{copy, fill};
+use crate::rows::{copy, fill, marked};
 use std::alloc::{AllocError, Global};
 
 /// Hub sets by marks: the best that was found at a node, the start set, the set that prices were rounded to last, and
@@ -64,15 +64,4 @@ impl Guess {
         let above_wanted = self.cost.wrapping_sub(wanted);
         above_bound < self.cost / 1024 && above_wanted < wanted / 128
     }
-}
-
-/// How many places are marked.
-fn marked(marks: &[bool]) -> usize {
-    let mut count = 0usize;
-    for mark in marks {
-        if *mark {
-            count = count.wrapping_add(1);
-        }
-    }
-    count
 }

@@ -9,19 +9,27 @@ const ROOT_PASSES: usize = 60;
 const PASSES: usize = 15;
 /// So many passes the root has at least, if it is not closed.
 const ROOT_LEAST: usize = 20;
-/// A node is left where so many passes together gained less than an eighth of the gap, at the root and below it.
+/// A node is left where so many passes together gained little, at the root and below it.
 const ROOT_BACK: usize = 6;
 
 const BACK: usize = 3;
+/// It is little where it is less than this part of the gap.
+const LITTLE_GAIN: i128 = 8;
+/// Where a number of hubs is wanted, the root is left, after how few passes ever, once so many together gained next to nothing.
+const ROOT_STILL: usize = 3;
+/// It is next to nothing where it is less than this part of the gap.
+const STILL_GAIN: i128 = 128;
 
 /// So many first passes of the root are made before a commodity waits.
 const ROOT_WHOLE: usize = 2;
 /// A turn promises little where it is no more than this part of what turns of the last pass promised on the average.
 const LITTLE_PART: i128 = 4;
 
-/// The best bound after each pass at a node, in 10^-12, and what the last pass brought.
+/// The best bound after each pass at a node, in 10^-12, and what the last pass brought; with whether a number of hubs is
+/// wanted.
 #[derive(Drop)]
 pub(crate) struct Progress {
+    has_number: bool,
     is_root: bool,
     bound: i128,
     tops: Vec<i128>,
@@ -29,9 +37,10 @@ pub(crate) struct Progress {
 }
 
 impl Progress {
-    /// Progress with room for all passes.
-    pub(crate) fn new(alloc: Global) -> Result<Progress, AllocError> {
+    /// Progress with room for all passes, where a number of hubs is wanted or none.
+    pub(crate) fn new(alloc: Global, has_number: bool) -> Result<Progress, AllocError> {
         Ok(Progress {
+            has_number,
             is_root: true,
             bound: 0,
             tops: Vec::with_capacity(alloc, ROOT_PASSES)?,
@@ -70,13 +79,18 @@ impl Progress {
     /// Tells whether the last pass, of few turns for so many commodities, brought little, where the bound is to come to
     /// this.
     pub(crate) fn is_idle(&self, commodities: usize, wanted: i128) -> bool {
-        let Some(before) = self.tops.len().checked_sub(2) else {
+        self.gain.turns < commodities as u64 / 8 && self.brought_less(1, LITTLE_GAIN, wanted)
+    }
+
+    /// Tells whether so many last passes together gained less than such a part of the gap to what is wanted. Where no pass was
+    /// before them, they did not.
+    fn brought_less(&self, back: usize, part: i128, wanted: i128) -> bool {
+        let Some(before) = self.tops.len().checked_sub(back.wrapping_add(1)) else {
             return false;
         };
         let top = self.tops.last().copied().unwrap_or(0);
         let earlier = self.tops.get(before).copied().unwrap_or(0);
-        self.gain.turns < commodities as u64 / 8
-            && top.wrapping_sub(earlier) < wanted.wrapping_sub(top) / 8
+        top.wrapping_sub(earlier) < wanted.wrapping_sub(top) / part.max(1)
     }
 
     /// Notes what a pass brought, and the bound after it.
@@ -99,12 +113,14 @@ impl Progress {
         if self.bound >= wanted || passes >= most {
             return false;
         }
-        if passes < least || passes <= back {
-            return true;
+        if self.is_still(wanted) {
+            return false;
         }
-        let top = self.tops.last().copied().unwrap_or(0);
-        let before = passes.saturating_sub(back).saturating_sub(1);
-        let earlier = self.tops.get(before).copied().unwrap_or(0);
-        top.wrapping_sub(earlier) >= wanted.wrapping_sub(top) / 8
+        passes < least || !self.brought_less(back, LITTLE_GAIN, wanted)
+    }
+
+    /// Tells whether the root of a search for a number of hubs has come to stand still, where the bound is to come to this.
+    fn is_still(&self, wanted: i128) -> bool {
+        self.has_number && self.is_root && self.brought_less(ROOT_STILL, STILL_GAIN, wanted)
     }
 }

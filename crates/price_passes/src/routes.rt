@@ -103,16 +103,22 @@ pub(crate) struct SetRoutes {
 }
 
 impl SetRoutes {
-    /// Routes with room for so many nodes and places, as yet of no hubs.
-    pub(crate) fn new(alloc: Global, size: usize, places: usize) -> Result<SetRoutes, AllocError> {
-        let cells = size.wrapping_mul(places.div_ceil(8).wrapping_mul(8));
+    /// Routes with room for so many nodes and hubs, as yet of no hubs.
+    pub(crate) fn new(alloc: Global, size: usize, hubs: usize) -> Result<SetRoutes, AllocError> {
+        let cells = size.wrapping_mul(hubs.div_ceil(8).wrapping_mul(8));
         Ok(SetRoutes {
-            hubs: Vec::with_capacity(alloc, places)?,
+            hubs: Vec::with_capacity(alloc, hubs)?,
             width: 0,
             collect: vec![in alloc; FAR; cells]?,
             deliver: vec![in alloc; FAR; cells]?,
             hops: vec![in alloc; NO_HOPS; cells]?,
         })
+    }
+
+    /// Tells whether there is room for so many nodes and hubs.
+    pub(crate) fn has_room(&self, size: usize, hubs: usize) -> bool {
+        let cells = size.wrapping_mul(hubs.div_ceil(8).wrapping_mul(8));
+        self.hubs.capacity() >= hubs && self.hops.len() >= cells
     }
 
     /// The hubs, by place.
@@ -135,7 +141,7 @@ impl SetRoutes {
         self.hubs.clear();
         for (k, mark) in marks.iter().enumerate() {
             if *mark {
-                // It succeeds, since there is room for all places.
+                // It succeeds where there is room for all hubs.
                 let _ = self.hubs.push(k);
             }
         }

@@ -54,6 +54,17 @@ pub(crate) fn is_marked(marks: &[bool], index: usize) -> bool {
     marks.get(index).copied().unwrap_or(false)
 }
 
+/// How many places are marked.
+pub(crate) fn marked(marks: &[bool]) -> usize {
+    let mut count = 0usize;
+    for mark in marks {
+        if *mark {
+            count = count.wrapping_add(1);
+        }
+    }
+    count
+}
+
 /// Sets the item at this place.
 pub(crate) fn put<T: Copy + Drop>(items: &mut [T], index: usize, item: T) {
     if index < items.len() {

@@ -6,7 +6,7 @@ use crate::origins::Terms;
 use crate::places::{Commodity, PlaceValues};
 use crate::ramps::{NO_TURN, Turn, set_order};
 use crate::routes::{Route, SetRoutes};
-use crate::rows::{add_weighed, at, copy, is_marked, put, row, row_mut};
+use crate::rows::{add_weighed, at, copy, is_marked, marked, put, row, row_mut};
 use crew::Job;
 use std::alloc::{AllocError, Global};
 
@@ -30,24 +30,26 @@ pub(crate) struct TightSet {
 }
 
 impl TightSet {
-    /// Room for a set of so many places, as yet empty.
-    pub(crate) fn new(alloc: Global, size: usize, places: usize) -> Result<TightSet, AllocError> {
+    /// A set of so many places, as yet empty.
+    pub(crate) fn new(alloc: Global, places: usize) -> Result<TightSet, AllocError> {
         Ok(TightSet {
             marks: vec![in alloc; false; places]?,
-            routes: SetRoutes::new(alloc, size, places)?,
+            routes: SetRoutes::new(alloc, 0, 0)?,
             all: vec![in alloc; NO_TURN; places]?,
             order: Vec::with_capacity(alloc, places)?,
         })
     }
 
-    /// Makes the marked places the set, with the order of the others at these loads.
+    /// Makes the marked places the set, with the order of the others at these loads. It takes memory only for the routes over more
+    /// hubs than any set before had.
     pub(crate) fn take(
         &mut self,
+        alloc: Global,
         lengths: &Lengths,
         marks: &[bool],
         terms: Terms<'_>,
         loads: &[i64],
-    ) {
+    ) -> Result<(), AllocError> {
         set_order(terms.ramps, loads, terms.extra, &mut self.all);
         self.order.clear();
         for turn in &self.all {
@@ -57,9 +59,19 @@ impl TightSet {
             }
         }
         if self.marks.as_slice() != marks {
+            self.make_room(alloc, lengths.size(), marked(marks))?;
             copy(marks, &mut self.marks);
             self.routes.take(lengths, marks);
         }
+        Ok(())
+    }
+
+    /// Takes room for the routes over so many hubs, where there is less.
+    fn make_room(&mut self, alloc: Global, size: usize, hubs: usize) -> Result<(), AllocError> {
+        if !self.routes.has_room(size, hubs) {
+            self.routes = SetRoutes::new(alloc, size, hubs)?;
+        }
+        Ok(())
     }
 
     /// The places outside the set, in their order.

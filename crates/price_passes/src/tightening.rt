@@ -28,10 +28,10 @@ pub(crate) struct Tightening {
 }
 
 impl Tightening {
-    /// What it takes for so many nodes and places.
-    pub(crate) fn new(alloc: Global, size: usize, places: usize) -> Result<Tightening, AllocError> {
+    /// What it takes for so many places.
+    pub(crate) fn new(alloc: Global, places: usize) -> Result<Tightening, AllocError> {
         Ok(Tightening {
-            set: TightSet::new(alloc, size, places)?,
+            set: TightSet::new(alloc, places)?,
             sums: Sums::new(alloc, places)?,
         })
     }
@@ -39,12 +39,13 @@ impl Tightening {
     /// Begins with the marked places as the set, and the order of the others at these loads.
     pub(crate) fn begin(
         &mut self,
+        alloc: Global,
         lengths: &Lengths,
         marks: &[bool],
         terms: Terms<'_>,
         loads: &[i64],
-    ) {
-        self.set.take(lengths, marks, terms, loads);
+    ) -> Result<(), AllocError> {
+        self.set.take(alloc, lengths, marks, terms, loads)
     }
 
     /// Sets the sums to those of the duals that are tight at the set and nearest to these values, but for the loads of
