@@ -234,11 +234,12 @@ impl Adviser {
             self.better_guess();
         }
         let wanted = wanted.min(self.guess.cost);
-        if bound >= wanted || !self.guess.is_close(bound, wanted) {
+        if bound >= wanted || !self.guess.is_close(bound, wanted) || self.guess.tries.leave_out() {
             return Ok(bound);
         }
         self.begin_tightening(alloc)?;
         let tight = self.tight_bound(rt, alloc, wanted)?;
+        self.guess.tries.follow(tight < wanted);
         if tight < wanted {
             return Ok(bound);
         }

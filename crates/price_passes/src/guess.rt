@@ -1,10 +1,11 @@
 //! The hub sets that are guessed at a node.
 
 use crate::rows::{copy, fill, marked};
+use crate::waits::{NO_TRIES, Tries};
 use std::alloc::{AllocError, Global};
 
 /// Hub sets by marks: the best that was found at a node, the start set, the set that prices were rounded to last, and
-/// room to work with.
+/// room to work with. `tries` are those of duals that are tight at the best.
 #[derive(Drop)]
 pub(crate) struct Guess {
     pub(crate) best: Vec<bool>,
@@ -13,6 +14,7 @@ pub(crate) struct Guess {
     pub(crate) rounded: Vec<bool>,
     pub(crate) marks: Vec<bool>,
     pub(crate) movable: Vec<bool>,
+    pub(crate) tries: Tries,
     hubs: Option<usize>,
 }
 
@@ -30,6 +32,7 @@ impl Guess {
             rounded: vec![in alloc; false; places]?,
             marks: vec![in alloc; false; places]?,
             movable: vec![in alloc; false; places]?,
+            tries: NO_TRIES,
             hubs,
         })
     }
@@ -39,6 +42,7 @@ impl Guess {
         fill(&mut self.best, false);
         fill(&mut self.rounded, false);
         self.cost = i128::MAX;
+        self.tries = NO_TRIES;
     }
 
     /// Takes the set as the best, where it costs less and has as many hubs as are wanted.
@@ -49,6 +53,7 @@ impl Guess {
         };
         if fits && cost < self.cost {
             self.cost = cost;
+            self.tries = NO_TRIES;
             copy(marks, &mut self.best);
         }
     }

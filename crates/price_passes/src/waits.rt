@@ -49,6 +49,39 @@ impl Wait {
     }
 }
 
+/// So many tries fail before the next one waits.
+const FREE_TRIES: u32 = 2;
+
+/// Tries of something that a pass may make after it: how many have failed one after another, and the wait for the next.
+#[derive(Clone, Copy)]
+pub(crate) struct Tries {
+    failed: u32,
+    wait: Wait,
+}
+
+/// No tries as yet.
+pub(crate) const NO_TRIES: Tries = Tries {
+    failed: 0,
+    wait: NO_WAIT,
+};
+
+impl Tries {
+    /// Lets a pass go by, and tells whether it makes no try.
+    pub(crate) fn leave_out(&mut self) -> bool {
+        self.wait.leaves_out()
+    }
+
+    /// Follows a try: after some that failed, a wait begins, about twice as long as the last.
+    pub(crate) fn follow(&mut self, has_failed: bool) {
+        self.failed = if has_failed {
+            self.failed.saturating_add(1)
+        } else {
+            0
+        };
+        self.wait.follow(self.failed > FREE_TRIES);
+    }
+}
+
 /// The price of a commodity, and how long it waits.
 #[derive(Clone, Copy)]
 pub(crate) struct Quote {
