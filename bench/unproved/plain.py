@@ -15,12 +15,12 @@ HERE = Path(__file__).resolve().parent
 CRATES = HERE.parents[1] / "crates"
 NAMES = """
     hub_io dec_text fixed_distance hub_model plan_model core_marks stated_cuts marked_cuts hub_make hub_plain token_reader
-    instance_cab instance_ap crew unit_duals leg_tables limited_duals assign_sub hub_edges dual_cuts pareto_cuts value_cuts kept_cuts
+    instance_cab instance_ap crew desks unit_duals leg_tables limited_duals assign_sub hub_edges dual_cuts pareto_cuts value_cuts kept_cuts
     cut_pool frac_rows plain_rows core_runs core_cuts frac_master leaf_bound hub_fixing p_hub search_advice price_passes search_core
     search_steps separators par_separate search_progress branch_tree node_rounds par_values closing_search cert_scan cert_format
     dual_lender proof_text dual_lines core_lines cert_checker warm_start
 """.split()
-STAND_INS = ["claim_board", "itoa", "memchr", "rayon"]
+STAND_INS = ["claim_board", "itoa", "memchr", "rayon", "rtrb"]
 # Modules that ask for more of the library than the stand-ins have, and that no search needs.
 LEFT_OUT = {"mem_shelf", "row_layout"}
 # What is written otherwise, each the form of Rattle and that of Rust.
@@ -40,6 +40,7 @@ REWRITTEN = [
     (r"\b([A-Z]): Drop\b", r"\1"),
     (r"use std::alloc::", "use crate::rattle_std::alloc::"),
     (r"use std::thread::", "use crate::rattle_std::thread::"),
+    (r"use std::sync::Arc;", "use crate::rattle_std::sync::Arc;"),
     (r"use std::marker::Model;", ""),
     (r"use thiserror::Error;", ""),
 ]

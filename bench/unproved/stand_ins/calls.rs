@@ -1,5 +1,5 @@
 //! The words that the unproved program knows: COMMAND LAYOUT FILE [options], with the layouts `cab-matrix` and `ap` and the
-//! instance options --trunk, --fixed, --divide, --tail fixed, --hubs and --candidates 1,2,..
+//! instance options --trunk, --fixed, --divide, --tail fixed, --hubs, --max-length and --candidates 1,2,..
 //!
 //! COMMAND is `solve` (with --rule 2 by rounds, with --cuts core by core cuts), `optimize`, or `resolve` with --from OLD; --workers W and --format 1|2|3
 //! are as they are in the product. The text goes to standard output, and seconds to standard error.
@@ -60,6 +60,7 @@ impl Words {
         terms.fixed = self.decimal("--fixed", 6);
         terms.divide = self.number("--divide").unwrap_or(1);
         terms.hubs = self.number("--hubs").map(HubNumber::Said);
+        terms.longest = self.decimal("--max-length", 3);
         if self.option("--tail").is_some() {
             terms.tail = Tail::Fixed;
         }

@@ -15,6 +15,8 @@ pub mod alloc {
 }
 
 pub mod thread {
+    pub use std::thread::yield_now;
+
     pub trait Threads {}
 
     pub struct Host;
@@ -31,6 +33,36 @@ pub mod thread {
             let other = other();
             (one.join().unwrap(), other)
         })
+    }
+}
+
+pub mod sync {
+    use super::alloc::{AllocError, Global};
+    use std::marker::PhantomData;
+    use std::ops::Deref;
+
+    pub struct Arc<T, A>(std::sync::Arc<T>, PhantomData<A>);
+
+    impl<T> Arc<T, Global> {
+        pub fn new(_: Global, value: T) -> Result<Self, AllocError> {
+            Ok(Arc(std::sync::Arc::new(value), PhantomData))
+        }
+
+        pub fn try_clone(this: &Self) -> Result<Self, AllocError> {
+            Ok(Arc(this.0.clone(), PhantomData))
+        }
+
+        pub fn try_unwrap(this: Self) -> Result<T, Self> {
+            std::sync::Arc::try_unwrap(this.0).map_err(|shared| Arc(shared, PhantomData))
+        }
+    }
+
+    impl<T, A> Deref for Arc<T, A> {
+        type Target = T;
+
+        fn deref(&self) -> &T {
+            &self.0
+        }
     }
 }
 
@@ -92,6 +124,10 @@ impl<T> Vec<T> {
 
     pub fn remove(&mut self, at: usize) -> T {
         self.0.remove(at)
+    }
+
+    pub fn swap_remove(&mut self, at: usize) -> T {
+        self.0.swap_remove(at)
     }
 
     pub fn clear(&mut self) {

@@ -9,3 +9,4 @@ pub mod Searched
 pub mod OfSets
 pub mod FirstPlaces
 pub mod RoundFindings
+pub mod Alike

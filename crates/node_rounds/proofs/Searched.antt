@@ -89,6 +89,13 @@ pub record IsSearching (t : Task) (s₀ : Progress) (front : Front) (left : Left
   pub is_left : IsLeft t front.progress left
   pub no_place : front.places.items ≡ []
 
+-- where the root alone is left, and no line is finished
+pub standing_first : (p : Problem) (s : Progress) (left : Left) → lines_of s.lines.items ≡ [] → left_of left ≡ open_at (fresh (root p) []) ∷ []
+    → standing_of p s left ≡ at_root p (state_of p s)
+standing_first p s left no_line only =
+    ap (λ (ps : List places.Place). (let u : Standing = record { state = state_of p s; places = ps } in u))
+    (ap (λ (ls : List TreeLine). map line ls ++ left_of left) no_line ∙ only)
+
 -- the root alone is left
 pub searching_first : (t : Task) (front : Front) (left : Left) → IsStart t.instance.now (state_of t.instance.now front.progress) → IsGoing t front.progress
     → lines_of front.progress.lines.items ≡ [] → left_of left ≡ open_at (fresh (root t.instance.now) []) ∷ []
@@ -98,9 +105,7 @@ unfolding stood
 searching_first t front left start going no_line only nodes matched none =
     let p = t.instance.now in
     let s = state_of p front.progress in
-    let at : standing_of p front.progress left ≡ at_root p s =
-    ap (λ (ps : List places.Place). (let u : Standing = record { state = s; places = ps } in u))
-    (ap (λ (ls : List TreeLine). map line ls ++ left_of left) no_line ∙ only) in
+    let at = standing_first p front.progress left no_line only in
     record {
       rest = ap (rounds (turns_of (length p.candidates)) p (parts_of p) t.nodes) at;
       stands = subst (IsStanding p t.nodes (root p) s.made) (sym at) (root_stands p t.nodes s going.problem start);

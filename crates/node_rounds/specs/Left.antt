@@ -1,5 +1,5 @@
 -- What is left of the tree in code, and what a search by rounds has with it, in the words of the definition.
-use Rattle.std.specs.Prelude.{◌≡◌, ℕ, ◌+◌, List, [], ◌∷◌, ◌++◌, map, length, All}
+use Rattle.std.specs.Prelude.{◌≡◌, ℕ, ◌+◌, ◌-◌, List, [], ◌∷◌, ◌++◌, map, length, drop, min, All}
 use Rattle.std.specs.List.{AllZip}
 use Rattle.hub_spec.specs.Problem.{Problem}
 use Rattle.plan_model.specs.declared.tree_lines.TreeLine.{TreeLine}
@@ -9,6 +9,7 @@ use Rattle.search_core.specs.declared.tasks.Task.{Task}
 use Rattle.search_progress.specs.Progressing.{state_of, IsGoing}
 use Rattle.search_progress.specs.declared.progress.Progress.{Progress}
 use Rattle.rounds_spec.specs.Places as places
+use Rattle.rounds_spec.specs.Turns.{most_turns}
 use Rattle.node_rounds.specs.declared.outcomes.Pending.{Pending}
 use Rattle.node_rounds.specs.declared.left.Mark.{Mark}
 use Rattle.node_rounds.specs.declared.left.Mark.TheVariants.{Line, Node}
@@ -50,6 +51,10 @@ pub record IsLeft (t : Task) (s : Progress) (left : Left) : Type 0 where
   pub going : IsGoing t s
   pub nodes : All (IsPendingOf t.instance.now s.pool.entries) left.nodes.items
   pub matched : AreMatched left.marks.items left.nodes.items
+
+-- the nodes whose turn it is: the last, which stand first in the tree
+abbrev pub turned_of : List Pending → List Pending
+turned_of nodes = drop (length nodes - min (length nodes) most_turns) nodes
 
 -- these outcomes are the turns of the last of these nodes, by what the search has
 pub record AreTurns (p : Problem) (s : Progress) (nodes : List Pending) (os : List Outcome) : Type 0 where

@@ -3,3 +3,4 @@ pub mod Rounds
 pub mod Fronts
 pub mod Left
 pub mod Findings
+pub mod Searchers

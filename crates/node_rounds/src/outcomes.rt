@@ -1,9 +1,15 @@
 //! A node that is still to be handled, and what its turn comes to.
 
+ghost use Rattle.std.specs.Prelude.{◌≡◌, IfOk};
+ghost use Rattle.plan_model.specs.Lines.{tree_line_of};
+ghost use Rattle.frac_master.specs.Advice.{advice_of_code};
+ghost use Rattle.node_rounds.specs.Searchers.{IsAsGood};
+
 use cut_pool::CutSums;
 use frac_master::Advice;
 use hub_fixing::Side;
 use plan_model::{Branch, HubSet, TreeLine};
+use std::alloc::{AllocError, Global};
 
 /// A node that is still to be handled.
 #[derive(Drop)]
@@ -43,4 +49,83 @@ pub enum Outcome {
         /// The advice, whose point names the node that is branched on.
         advice: Advice,
     },
+}
+
+impl Outcome {
+    /// The same again, as far as the search goes by it.
+    pub(crate) fn copy(&self, alloc: Global) -> Result<Outcome, AllocError>
+        ensures { IfOk result (IsAsGood self.now) }
+    {
+        match self {
+            Outcome::Ends(line) => Ok(Outcome::Ends(copied_line(alloc, line)?)),
+            Outcome::Ask {
+                set,
+                order,
+                weights,
+                waited,
+                sums,
+            } => Ok(Outcome::Ask {
+                set: set.copy(alloc)?,
+                order: order.to_vec(alloc)?,
+                weights: weights.to_vec(alloc)?,
+                waited: *waited,
+                sums: match sums {
+                    Some(sums) => Some(copied_sums(alloc, sums)?),
+                    None => None,
+                },
+            }),
+            Outcome::Split {
+                weights,
+                fixings,
+                advice,
+            } => Ok(Outcome::Split {
+                weights: weights.to_vec(alloc)?,
+                fixings: fixings.to_vec(alloc)?,
+                advice: copied_advice(alloc, advice)?,
+            }),
+        }
+    }
+}
+
+// The same line again.
+fn copied_line(alloc: Global, line: &TreeLine) -> Result<TreeLine, AllocError>
+    ensures { IfOk result (λ copy. tree_line_of copy ≡ tree_line_of line.now) }
+{
+    Ok(match line {
+        TreeLine::BranchOn(k) => TreeLine::BranchOn(*k),
+        TreeLine::Leaf(mix) => TreeLine::Leaf(mix.copy(alloc)?),
+        TreeLine::Empty => TreeLine::Empty,
+        TreeLine::Block { i, j } => TreeLine::Block { i: *i, j: *j },
+        TreeLine::Count => TreeLine::Count,
+    })
+}
+
+// The same numbers again.
+fn copied_numbers(alloc: Global, numbers: &[i128]) -> Result<Vec<i128>, AllocError>
+    ensures { IfOk result (λ v. v.items ≡ numbers.now) }
+{
+    numbers.to_vec(alloc)
+}
+
+// The same sums again.
+fn copied_sums(alloc: Global, sums: &CutSums) -> Result<CutSums, AllocError>
+    ensures { IfOk result (λ copy. copy ≡ sums.now) }
+{
+    let set = sums.set().copy(alloc)?;
+    let total = sums.total();
+    let loads = copied_numbers(alloc, sums.loads())?;
+    Ok(CutSums::new(set, total, loads))
+}
+
+// The same advice again.
+fn copied_advice(alloc: Global, advice: &Advice) -> Result<Advice, AllocError>
+    ensures { IfOk result (λ copy. advice_of_code copy ≡ advice_of_code advice.now) }
+{
+    Ok(Advice {
+        weights: advice.weights.to_vec(alloc)?,
+        point: advice.point.to_vec(alloc)?,
+        scale: advice.scale,
+        ended: advice.ended,
+        pivots: advice.pivots,
+    })
 }

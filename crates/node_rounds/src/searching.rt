@@ -1,8 +1,6 @@
 //! Rounds, and the whole search.
 
 ghost use Rattle.std.specs.Prelude.{◌≡◌, ℕ, ◌+◌, ◌<◌, ◌≤◌, ◌^◌, None, [], ◌∷◌, ◌++◌, min, length, All, IfOk, OnOk};
-ghost use Rattle.std.specs.List.{AllZip};
-ghost use denote.Param.Send.{IsSync};
 ghost use Rattle.hub_spec.specs.Problem.{IsProblem};
 ghost use Rattle.hub_spec.specs.Plans.{IsHubSet, plan_cost, NoPlanBelow};
 ghost use Rattle.hub_spec.specs.Trees.{root, preorder};
@@ -14,19 +12,21 @@ ghost use Rattle.kept_cuts.specs.Findings.{lines_of, proof_of, AreRemade, IsProv
 ghost use Rattle.search_progress.specs.Progressing.{state_of, IsGoing};
 ghost use Rattle.search_progress.specs.Findings.{IsFound};
 ghost use Rattle.rounds_spec.specs.Places.{open_at};
-ghost use Rattle.rounds_spec.specs.Turns.{fresh, next_round, most_turns};
+ghost use Rattle.rounds_spec.specs.Turns.{fresh, at_root, next_round, most_turns};
 ghost use Rattle.rounds_spec.specs.Lasting.{searched_by_rounds};
 ghost use Rattle.node_rounds.specs.Outcomes.{IsPendingOf, IsTurnOf, IsOutcomeOf};
 ghost use Rattle.node_rounds.specs.Fronts.{places_of, IsFront};
 ghost use Rattle.node_rounds.specs.Left.{left_of, AreMatched, lines_first, standing_of, IsLeft, AreTurns};
 ghost use Rattle.node_rounds.specs.Findings.{found_by_rounds};
+ghost use Rattle.node_rounds.specs.Searchers.{first_state, IsWholeSearch, IsTurnerAt};
 
 use crate::closing::close_up;
 use crate::fronts::{Front, add_line};
 use crate::left::{Left, Mark, put_back, settle};
 use crate::outcomes::{Outcome, Pending};
-use crate::rounds::{turns, turns_ahead};
+use crate::searchers::side_by_side;
 use crate::taking::take;
+use crate::turners::{Turner, Workers};
 use hub_io::Gate;
 use hub_model::Instance;
 use kept_cuts::Found;
@@ -38,19 +38,11 @@ use separators::Separator;
 use std::alloc::{AllocError, Global};
 use std::thread::Threads;
 
-// How many nodes have their turn in a round.
-const MOST_TURNS: usize = 8;
+// From how many nodes of the instance on a turn takes longer than threads take to start.
+const LARGE: u32 = 50;
 
 // How large a block is asked for before the first round, in bytes.
 const KEPT_BLOCK: usize = 16 << 20;
-
-/// The workers of a round, and the gate that each of them passes once for each node that it draws.
-#[derive(Clone, Copy)]
-pub(crate) struct Workers<'a, R, G> {
-    pub(crate) rt: &'a R,
-    pub(crate) count: u32,
-    pub(crate) gate: &'a G,
-}
 
 /// What the search by rounds finds, where any number of hubs will do: a plan with its cost, a bound that no plan costs
 /// less than, and the cuts and the tree that show it. `nodes` is the most nodes of the tree, the root among them; with
@@ -94,14 +86,34 @@ pub fn search_rounds<R: Threads + Sync, S: Separator, G: Gate>(
 {
     keep_blocks(alloc);
     let task = Task { instance, nodes };
-    let progress = begin(alloc, &Plain, &task, separator)?;
     let workers = Workers {
         rt,
         count: workers,
         gate,
     };
-    let progress = all_rounds(&workers, alloc, &task, separator, progress)?;
+    let progress = searched(&workers, alloc, &task, separator)?;
     finish(alloc, &task, progress)
+}
+
+// All that the search finds: by searchers side by side where turns are short, else by workers that meet for each round.
+fn searched<R: Threads + Sync, S: Separator, G: Gate>(
+    workers: &Workers<R, G>,
+    alloc: Global,
+    task: &Task,
+    separator: &mut S,
+) -> Result<Progress, AllocError>
+    requires plain { task.now.instance.now.wanted ≡ None }
+    requires lacks_none { IsHubSet task.now.instance.now task.now.instance.now.candidates }
+    requires minimal { S.kind ≡ minimal }
+    requires ready { S.ready separator.old }
+    requires workers { (1 ≤ workers.now.count) × (workers.now.count ≤ 64) }
+    ensures ready { S.ready separator.new }
+    ensures found { IfOk result (IsWholeSearch task.now) }
+{
+    if workers.count > 1 && task.instance.size() < LARGE {
+        return side_by_side(workers, alloc, task);
+    }
+    search_by(workers, Turner::ByCrew, alloc, task, separator)
 }
 
 // Asks for a large block and gives it back at once. Each turn takes and gives back a few blocks of many kilobytes. The
@@ -111,21 +123,45 @@ fn keep_blocks(alloc: Global) {
     let _ = Vec::<u8>::with_capacity(alloc, KEPT_BLOCK);
 }
 
-// All rounds of the search that goes on from here, with the root still to be handled, and the lines of its tree.
-fn all_rounds<R: Threads + Sync, S: Separator, G: Gate>(
+/// All that the search finds, where this turner works out the turns of its rounds.
+pub(crate) fn search_by<R: Threads + Sync, G: Gate, S: Separator>(
     workers: &Workers<R, G>,
+    mut turner: Turner,
+    alloc: Global,
+    task: &Task,
+    separator: &mut S,
+) -> Result<Progress, AllocError>
+    requires plain { task.now.instance.now.wanted ≡ None }
+    requires lacks_none { IsHubSet task.now.instance.now task.now.instance.now.candidates }
+    requires minimal { S.kind ≡ minimal }
+    requires ready { S.ready separator.old }
+    requires workers { (1 ≤ workers.now.count) × (workers.now.count ≤ 64) }
+    requires turner { let p = task.now.instance.now in IsTurnerAt turner task.now (at_root p (first_state p)) }
+    ensures ready { S.ready separator.new }
+    ensures found { IfOk result (IsWholeSearch task.now) }
+{
+    let first = begin(alloc, &Plain, task, separator)?;
+    let progress = all_rounds(workers, &mut turner, alloc, task, separator, first)?;
+    Ok(progress)
+}
+
+// All rounds of the search that goes on from here, with the root still to be handled, and the lines of its tree.
+fn all_rounds<R: Threads + Sync, G: Gate, S: Separator>(
+    workers: &Workers<R, G>,
+    turner: &mut Turner,
     alloc: Global,
     task: &Task,
     separator: &mut S,
     progress: Progress,
 ) -> Result<Progress, AllocError>
-    requires workers { (1 ≤ workers.now.count) × (workers.now.count ≤ 64) }
     requires plain { task.now.instance.now.wanted ≡ None }
     requires lacks_none { IsHubSet task.now.instance.now task.now.instance.now.candidates }
     requires minimal { S.kind ≡ minimal }
     requires ready { S.ready separator.old }
     requires going { IsGoing task.now progress }
     requires start { IsStart task.now.instance.now (state_of task.now.instance.now progress) }
+    requires workers { (1 ≤ workers.now.count) × (workers.now.count ≤ 64) }
+    requires turner { let p = task.now.instance.now in IsTurnerAt turner.old task.now (at_root p (state_of p progress)) }
     requires no_line { lines_of progress.lines.items ≡ [] }
     ensures ready { S.ready separator.new }
     ensures state { let p = task.now.instance.now in
@@ -141,7 +177,9 @@ fn all_rounds<R: Threads + Sync, S: Separator, G: Gate>(
         places: Vec::new(alloc),
     };
     while !left.nodes.is_empty() && front.progress.stop.is_none() {
-        one_round(workers, alloc, task, separator, &mut left, &mut front)?;
+        one_round(
+            workers, turner, alloc, task, separator, &mut left, &mut front,
+        )?;
     }
     let Front {
         mut progress,
@@ -171,58 +209,59 @@ fn at_root(alloc: Global, instance: &Instance) -> Result<Left, AllocError>
 }
 
 // One round: the first nodes have their turns, and what comes of each is put in its place.
-fn one_round<R: Threads + Sync, S: Separator, G: Gate>(
+fn one_round<R: Threads + Sync, G: Gate, S: Separator>(
     workers: &Workers<R, G>,
+    turner: &mut Turner,
     alloc: Global,
     task: &Task,
     separator: &mut S,
     left: &mut Left,
     front: &mut Front,
 ) -> Result<(), AllocError>
+    requires plain { task.now.instance.now.wanted ≡ None }
+    requires minimal { S.kind ≡ minimal }
+    requires ready { S.ready separator.old }
+    requires left { IsLeft task.now front.old.progress left.old }
     requires workers { (1 ≤ workers.now.count) × (workers.now.count ≤ 64) }
+    requires turner { IsTurnerAt turner.old task.now (standing_of task.now.instance.now front.old.progress left.old) }
+    requires no_place { front.old.places.items ≡ [] }
+    ensures ready { S.ready separator.new }
+    ensures turner { OnOk result (IsTurnerAt turner.new task.now (standing_of task.now.instance.now front.new.progress left.new)) }
+    ensures round { let p = task.now.instance.now in OnOk result (standing_of p front.new.progress left.new
+        ≡ next_round p (parts_of p) task.now.nodes (standing_of p front.old.progress left.old)) }
+    ensures left { OnOk result (IsLeft task.now front.new.progress left.new) }
+    ensures no_place { OnOk result (front.new.places.items ≡ []) }
+{
+    let outcomes = turner.turns(workers, alloc, task, &front.progress, left)?;
+    take_round(alloc, task, separator, left, front, outcomes)?;
+    Ok(())
+}
+
+// Takes the outcomes of a round, and puts what comes of each in its place.
+fn take_round<S: Separator>(
+    alloc: Global,
+    task: &Task,
+    separator: &mut S,
+    left: &mut Left,
+    front: &mut Front,
+    outcomes: Vec<Outcome>,
+) -> Result<(), AllocError>
     requires plain { task.now.instance.now.wanted ≡ None }
     requires minimal { S.kind ≡ minimal }
     requires ready { S.ready separator.old }
     requires left { IsLeft task.now front.old.progress left.old }
     requires no_place { front.old.places.items ≡ [] }
+    requires turns { AreTurns task.now.instance.now front.old.progress left.old.nodes.items outcomes.items }
+    requires first { length outcomes.items ≡ min (length left.old.nodes.items) most_turns }
     ensures ready { S.ready separator.new }
     ensures round { let p = task.now.instance.now in OnOk result (standing_of p front.new.progress left.new
         ≡ next_round p (parts_of p) task.now.nodes (standing_of p front.old.progress left.old)) }
     ensures left { OnOk result (IsLeft task.now front.new.progress left.new) }
     ensures no_place { OnOk result (front.new.places.items ≡ []) }
 {
-    let first = left.nodes.len() - left.nodes.len().min(MOST_TURNS);
-    let outcomes = round_turns(workers, alloc, task, &left.nodes[first..], &front.progress)?;
     take_all(alloc, task, separator, left, front, outcomes)?;
     put_back(left, &mut front.places)?;
     settle(left, &mut front.progress.lines)
-}
-
-// The turns of these nodes. Where each worker has a node, the cuts that nodes ask for are worked out along with the turns;
-// else the separator is asked as the outcomes are taken, since it may share a single cut among the workers.
-fn round_turns<R: Threads + Sync, G: Gate>(
-    workers: &Workers<R, G>,
-    alloc: Global,
-    task: &Task,
-    nodes: &[Pending],
-    progress: &Progress,
-) -> Result<Vec<Outcome>, AllocError>
-    requires workers { (1 ≤ workers.now.count) × (workers.now.count ≤ 64) }
-    requires plain { task.now.instance.now.wanted ≡ None }
-    requires going { IsGoing task.now progress.now }
-    requires nodes { All (IsPendingOf task.now.instance.now progress.now.pool.entries) nodes.now }
-    requires few { length nodes.now ≤ most_turns }
-    ensures turns { let s = progress.now in
-        IfOk result (λ v. AllZip (IsTurnOf task.now.instance.now s.pool.entries s.cost) nodes.now v.items) }
-    ensures sound { let s = progress.now in
-        IfOk result (λ v. AllZip (IsOutcomeOf task.now.instance.now s.pool.entries) nodes.now v.items) }
-{
-    let Workers { rt, count, gate } = *workers;
-    let (instance, pool, cost) = (task.instance, &progress.pool, progress.cost);
-    if nodes.len() < MOST_TURNS.min(count as usize) {
-        return turns(rt, alloc, instance, nodes, pool, cost, count, gate);
-    }
-    turns_ahead(rt, alloc, instance, nodes, pool, cost, count, gate)
 }
 
 // Takes the outcomes of the first nodes, the last outcome first, as long as the search is not stopped.

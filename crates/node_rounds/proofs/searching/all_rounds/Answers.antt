@@ -1,4 +1,4 @@
-use Rattle.std.proofs.Common.{◌≡◌, ℕ, nat_eq, false, length, is_some, [], ap, refl, ◌∙◌, rules, arith}
+use Rattle.std.proofs.Common.{◌≡◌, ℕ, nat_eq, false, length, is_some, [], ap, refl, sym, subst, ◌∙◌, rules, arith}
 use Rattle.std.proofs.lemmas.List.Elements.{All-weaker}
 use Rattle.search_progress.specs.Progressing.{state_of}
 use Rattle.rounds_spec.specs.Turns.{goes_on}
@@ -6,7 +6,8 @@ use Rattle.node_rounds.specs.Outcomes.{IsPendingOf}
 use Rattle.node_rounds.specs.Left.{standing_of}
 use Rattle.node_rounds.proofs.Added.{pending_kept}
 use Rattle.node_rounds.proofs.Lefts.{no_items, some_items}
-use Rattle.node_rounds.proofs.Searched.{goes_on_when, over_when, stopped_when, searching_first, searching_next, searching_fewer, searching_over, ended_state, ended_lines}
+use Rattle.node_rounds.proofs.Searched.{goes_on_when, over_when, stopped_when, standing_first, searching_first, searching_next, searching_fewer, searching_over, ended_state, ended_lines}
+use Rattle.node_rounds.specs.Searchers.{IsTurnerAt}
 use Rattle.node_rounds.proofs.searching.all_rounds.Goals.{then-loop-front-test+else-is_none, else-loop-front-test}
 use Rattle.node_rounds.proofs.searching.all_rounds.Goals as goal
 
@@ -21,6 +22,8 @@ loop-front-init g c =
           c.in_ok-left.ensures.nodes)
           c.in_ok-left.ensures.matched c.new.ensures.items,
       c.requires.ready,
+      subst (IsTurnerAt c.args.turner.now c.args.task.now) (sym (standing_first p c.args.progress left c.requires.no_line c.in_ok-left.ensures.root))
+          c.requires.turner,
     )
 
 pub loop-front-smaller : goal.loop-front-smaller
@@ -48,6 +51,7 @@ loop-front-preserved g c =
           (goes_on_when p front.progress left is.is_left.matched some going) c.in_ok-one_round.ensures.round c.in_ok-one_round.ensures.left
           c.in_ok-one_round.ensures.no_place,
       c.in_ok-one_round.ensures.ready,
+      c.in_ok-one_round.ensures.turner,
     )
 
 pub returns-clause-state : goal.returns-clause-state

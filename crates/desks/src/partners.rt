@@ -1,0 +1,134 @@
+//! Partners: they share turns that are counted.
+
+ghost use Rattle.std.specs.Prelude.{◌≡◌, All, IfOk, IfSome, OnOk};
+ghost use Rattle.std.specs.Arc.{arc_value};
+
+use crate::places::Desk;
+use crate::telling::Told;
+use crate::tickets::Tickets;
+use std::alloc::{AllocError, Global};
+use std::hint::spin_loop;
+use std::marker::Model;
+use std::sync::Arc;
+use std::thread::yield_now;
+
+// How often a partner looks for a turn that another has drawn.
+const MOST_LOOKS: u32 = 1 << 24;
+
+// After so many looks a partner lets another thread run.
+const LOOKS_AT_ONCE: u32 = 64;
+
+/// One of several who do the same, of which each turn is worked out by one of them alone, who tells it to the others.
+///
+/// It is seen as the key of its desk.
+#[derive(Drop)]
+pub struct Partner<'t, K: Drop, T: Told<K> + Drop> {
+    tickets: &'t Tickets,
+    desk: Desk<K, T>,
+    // What was told and not used yet, its own among it.
+    kept: Vec<Arc<T, Global>>,
+    // The turn that it has drawn.
+    ticket: u64,
+}
+
+impl<'t, K: Drop, T: Told<K> + Drop> Model for Partner<'t, K, T> {
+    ghost use Rattle.std.specs.Prelude.{All};
+    ghost use Rattle.std.specs.Arc.{arc_value};
+
+    ghost Value = { K };
+
+    ghost view = { λ p. p.desk };
+
+    ghost invariant = { λ p. All (λ a. T.Told.holds p.desk (arc_value a)) p.kept.items };
+}
+
+impl<'t, K: Copy + Drop, T: Told<K> + Drop> Partner<'t, K, T> {
+    /// The partner at this desk, with a first turn drawn.
+    pub fn new(alloc: Global, tickets: &'t Tickets, desk: Desk<K, T>) -> Partner<'t, K, T>
+        ensures { result ≡ desk }
+    {
+        Partner {
+            tickets,
+            desk,
+            kept: Vec::new(alloc),
+            ticket: tickets.draw(),
+        }
+    }
+
+    /// The turn that it has drawn and is to tell.
+    pub fn ticket(&self) -> u64 {
+        self.ticket
+    }
+
+    /// Tells what the turn that it has drawn came to, and draws another.
+    pub fn tell(&mut self, alloc: Global, told: T) -> Result<(), AllocError>
+        requires holds { T.holds self.old told }
+        ensures { self.new ≡ self.old }
+    {
+        let told = shared(alloc, told)?;
+        self.desk.tell(&told)?;
+        self.kept.push(told)?;
+        self.ticket = self.tickets.draw();
+        Ok(())
+    }
+
+    /// What this turn came to, once it is told; none if that takes too long, or another partner is done, who heard all.
+    pub fn awaited(&mut self, turn: u64) -> Result<Option<Arc<T, Global>>, AllocError>
+        ensures key { self.new ≡ self.old }
+        ensures holds { IfOk result (λ r. IfSome r (λ a. T.holds self.old (arc_value a))) }
+    {
+        for look in 0..MOST_LOOKS {
+            let is_last = self.tickets.is_done();
+            self.desk.hear(&mut self.kept)?;
+            if let Some(told) = take_out(&self.desk, &mut self.kept, turn) {
+                return Ok(Some(told));
+            }
+            if self.tickets.is_over() {
+                return Err(AllocError);
+            }
+            if is_last {
+                return Ok(None);
+            }
+            pause(look);
+        }
+        Ok(None)
+    }
+}
+
+// What was worked out, to be held by several.
+fn shared<T: Drop>(alloc: Global, told: T) -> Result<Arc<T, Global>, AllocError>
+    ensures { IfOk result (λ a. arc_value a ≡ told) }
+{
+    match Arc::new(alloc, told) {
+        Ok(told) => Ok(told),
+        Err(_) => Err(AllocError),
+    }
+}
+
+// Takes what this turn came to out of what is kept, which holds under the key of the desk.
+fn take_out<K: Copy + Drop, T: Told<K> + Drop>(
+    _desk: &Desk<K, T>,
+    kept: &mut Vec<Arc<T, Global>>,
+    turn: u64,
+) -> Option<Arc<T, Global>>
+    requires { All (λ a. T.holds _desk.now (arc_value a)) kept.old.items }
+    ensures kept { All (λ a. T.holds _desk.now (arc_value a)) kept.new.items }
+    ensures holds { IfSome result (λ a. T.holds _desk.now (arc_value a)) }
+{
+    for at in 0..kept.len() {
+        let told = &kept[at];
+        if told.turn() == turn {
+            return Some(kept.swap_remove(at));
+        }
+    }
+    None
+}
+
+// Passes a moment, after so many looks another thread's.
+fn pause(look: u32) {
+    if look % LOOKS_AT_ONCE == LOOKS_AT_ONCE - 1 {
+        yield_now();
+    } else {
+        spin_loop();
+    }
+}

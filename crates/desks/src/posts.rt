@@ -1,0 +1,25 @@
+//! What lies between two desks.
+
+ghost use Rattle.desks.specs.Posts.{Follows};
+
+use crate::telling::Told;
+use rtrb::Protocol;
+use std::alloc::Global;
+use std::sync::Arc;
+
+/// What goes from one desk to another: first the key, and then items.
+#[derive(Drop)]
+pub enum Post<K, T> {
+    /// The key.
+    Key(K),
+    /// An item, which several may hold.
+    Item(Arc<T, Global>),
+}
+
+/// The rule of what may go: each item holds under the key that went first.
+#[derive(Clone, Copy)]
+pub struct OfOneKey;
+
+impl<K, T: Told<K>> Protocol<Post<K, T>> for OfOneKey {
+    ghost allows = { Follows T.holds };
+}
