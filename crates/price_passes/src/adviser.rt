@@ -9,7 +9,7 @@ use crate::lengths::Lengths;
 use crate::memory::{Kept, Memories, Memory};
 use crate::moves::LocalSearch;
 use crate::node::Node;
-use crate::passes::Bench;
+use crate::passes::{Bench, Workers};
 use crate::progress::Progress;
 use crate::ramps::FULL_PRICE;
 use crate::rows::{copy, fill, put};
@@ -93,8 +93,17 @@ impl Adviser {
         self.state.begin_with(&self.lengths, values);
     }
 
+    /// Its workers.
+    fn workers<'a, R>(&self, rt: &'a R, alloc: Global) -> Workers<'a, R> {
+        Workers {
+            rt,
+            alloc,
+            count: self.workers,
+        }
+    }
+
     /// Sets the start set of the root.
-    fn set_root_start(&mut self)
+    fn set_root_start<R: Threads + Sync>(&mut self, workers: &Workers<'_, R>)
         ensures { self.new ≡ self.old }
     {
         match self.lengths.wanted() {
@@ -102,6 +111,7 @@ impl Adviser {
                 .search
                 .drop_costly(&self.lengths, &mut self.guess.start),
             Some(hubs) => self.search.open_best(
+                workers,
                 &self.lengths,
                 &self.guess.movable,
                 hubs,
@@ -111,15 +121,38 @@ impl Adviser {
     }
 
     /// Begins at the root with the prices of the start set, which costs so much, and with ramps as wide as a hub is worth.
-    fn begin_prices(&mut self, cost: i128)
+    fn begin_prices<R: Threads + Sync>(&mut self, workers: &Workers<'_, R>, cost: i128)
         ensures { self.new ≡ self.old }
     {
         let worth = self
             .search
-            .hub_worth(&self.lengths, &self.guess.movable, cost);
+            .hub_worth(workers, &self.lengths, &self.guess.movable, cost);
         let worth = worth / self.lengths.worth().max(1);
         let worth = worth.clamp(FULL_PRICE as i128, MOST_HUB_WORTH) as i64;
         self.node.begin_at(&self.guess.start, worth);
+    }
+
+    /// Begins a node: a local search makes the first guess from its start set, and caps go by what that finds.
+    fn begin<R: Threads + Sync>(&mut self, workers: &Workers<'_, R>)
+        ensures { self.new ≡ self.old }
+    {
+        if self.node.is_root() {
+            self.set_root_start(workers);
+        }
+        let cost = self.search.improve(
+            workers,
+            &self.lengths,
+            &self.guess.start,
+            &self.guess.movable,
+        );
+        self.guess.offer(self.search.marks(), cost);
+        copy(self.search.marks(), &mut self.guess.start);
+        if self.node.is_root() && self.lengths.wanted().is_some() {
+            self.begin_prices(workers, cost);
+        }
+        let limit = self.lengths.longest().wrapping_add(1);
+        self.search
+            .set_caps(&self.lengths, limit, &mut self.node.caps);
     }
 
     /// Sets ramps and caps for the next pass.
@@ -188,14 +221,8 @@ impl Adviser {
         put(&mut self.node.sides, place, side);
         self.node.set_ramps(&self.lengths, None);
         let before = self.state.objective(self.node.terms());
-        self.state.pass(
-            rt,
-            alloc,
-            self.workers,
-            &self.lengths,
-            self.node.terms(),
-            &mut self.bench,
-        )?;
+        let workers = self.workers(rt, alloc);
+        let _ = self.state.pass(&workers, &self.lengths, self.node.terms(), &mut self.bench);
         put(&mut self.node.sides, place, Side::Free);
         Ok(
             self.state
@@ -231,7 +258,8 @@ impl Adviser {
             return Ok(bound);
         }
         if !self.guess.is_rounded() {
-            self.better_guess();
+            let workers = self.workers(rt, alloc);
+            self.better_guess(&workers);
         }
         let wanted = wanted.min(self.guess.cost);
         if bound >= wanted || !self.guess.is_close(bound, wanted) || self.guess.tries.leave_out() {
@@ -256,10 +284,9 @@ impl Adviser {
     ) -> Result<i128, AllocError>
         ensures { self.new ≡ self.old }
     {
+        let workers = self.workers(rt, alloc);
         self.tightening.bound(
-            rt,
-            alloc,
-            self.workers,
+            &workers,
             &self.lengths,
             self.state.values(),
             &self.node.sides,
@@ -271,18 +298,23 @@ impl Adviser {
     fn tighten<R: Threads + Sync>(&mut self, rt: &R, alloc: Global) -> Result<(), AllocError>
         ensures { self.new ≡ self.old }
     {
-        self.state.tighten(rt, alloc, self.workers, &self.lengths, &mut self.tightening)
+        let workers = self.workers(rt, alloc);
+        self.state
+            .tighten(&workers, &self.lengths, &mut self.tightening)
     }
 
     /// Betters the guess from the marked set.
-    fn better_guess(&mut self)
+    fn better_guess<R: Threads + Sync>(&mut self, workers: &Workers<'_, R>)
         ensures { self.new ≡ self.old }
     {
         copy(&self.guess.marks, &mut self.guess.rounded);
         self.node.mark_near(&mut self.guess.movable);
-        let cost = self
-            .search
-            .improve(&self.lengths, &self.guess.rounded, &self.guess.movable);
+        let cost = self.search.improve(
+            workers,
+            &self.lengths,
+            &self.guess.rounded,
+            &self.guess.movable,
+        );
         self.guess.offer(self.search.marks(), cost);
     }
 
@@ -321,23 +353,9 @@ impl Advice for Adviser {
         self.node.mark_start(hubs, &mut self.guess.start);
         self.node
             .mark_movable(&self.guess.start, &mut self.guess.movable);
-        if self.node.is_root() {
-            self.set_root_start();
-        }
-        let cost = self
-            .search
-            .improve(&self.lengths, &self.guess.start, &self.guess.movable);
-        self.guess.offer(self.search.marks(), cost);
-        copy(self.search.marks(), &mut self.guess.start);
-        if self.node.is_root() && self.lengths.wanted().is_some() {
-            self.begin_prices(cost);
-        }
-        let limit = self.lengths.longest().wrapping_add(1);
-        self.search
-            .set_caps(&self.lengths, limit, &mut self.node.caps);
     }
 
-    // Several workers need memory for a pass.
+    // The first pass at a node begins it.
     fn better<R: Threads + Sync>(
         &mut self,
         rt: &R,
@@ -347,19 +365,16 @@ impl Advice for Adviser {
         requires { IsSync R.row }
         ensures { self.new ≡ self.old }
     {
+        let workers = self.workers(rt, alloc);
+        if self.progress.passes() == 0 {
+            self.begin(&workers);
+        }
         if self.node.is_full() {
             return self.better_full(rt, alloc);
         }
         self.branch = None;
         self.prepare();
-        let gain = self.state.pass(
-            rt,
-            alloc,
-            self.workers,
-            &self.lengths,
-            self.node.terms(),
-            &mut self.bench,
-        )?;
+        let gain = self.state.pass(&workers, &self.lengths, self.node.terms(), &mut self.bench);
         self.node.follow(self.state.loads());
         let bound = self.state.bound(&self.lengths, &self.node.sides);
         let bound = self.round(rt, alloc, wanted, bound)?;

@@ -9,21 +9,20 @@
 //! load, the sum of its values weighed by the flows: at the fixed cost it is what it was at the end of the pass
 //! before. A pass goes over the commodities. Each gets the values that are best at the prices, mixed with its old
 //! ones where the whole step would go too far, and loads and prices follow at once. One that hardly gains by that waits: the
-//! next passes leave it out. Several origins start from the same
-//! loads, so that workers can do them side by side; a pass comes out the same, whatever the workers. The prices, rounded,
+//! next passes leave it out. An origin starts from the loads that those before it left but for the last few, so that
+//! workers can do some side by side; a pass comes out the same, whatever the workers. The prices, rounded,
 //! name a hub set, and a local search betters it; where the bound is near its cost, the duals are made tight at it, so
 //! that the bound becomes the cost.
 //!
 //! In the order of reading: `units` and `lengths` (the instance in 32 bits), `rows` (lists and tables), `ramps`
 //! (prices and orders by loads), `places` (a commodity's legs and values), `network` and `oracle` (the best values at
-//! prices), `mixing` (a step), `waits` (who waits), `origins` (the duals of one origin), `schedule` and `batches` (origins side by side),
-//! `state`, `starts` and `passes` (all duals, what they begin with, and one pass), `routes` (shortest routes over a hub
-//! set), `tight` and `tightening` (duals tight at a set, of one origin and of all), `moves` (a local search over sets),
+//! prices), `mixing` (a step), `waits` (who waits), `origins` (the duals of one origin), `schedule` (their order),
+//! `state`, `starts`, `passes` and `sharing` (all duals, what they begin with, and one pass, by one worker or by several), `routes` (shortest routes over a hub
+//! set), `tight` and `tightening` (duals tight at a set, of one origin and of all), `openings` and `moves` (a local search over sets),
 //! `node`, `guess`, `progress` and `memory` (what is known at a node, and at nodes before), `adviser` (what callers use).
 #![tactic(auto)]
 
 mod adviser;
-mod batches;
 mod guess;
 mod lengths;
 mod memory;
@@ -31,6 +30,7 @@ mod mixing;
 mod moves;
 mod network;
 mod node;
+mod openings;
 mod oracle;
 mod origins;
 mod passes;
@@ -40,6 +40,7 @@ mod ramps;
 mod routes;
 mod rows;
 mod schedule;
+mod sharing;
 mod starts;
 mod state;
 mod tight;

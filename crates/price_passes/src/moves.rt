@@ -2,33 +2,23 @@
 //! number of hubs is wanted, it is only put in another's stead.
 
 use crate::lengths::Lengths;
+use crate::openings::{Move, OpenSet, Opening, Openings, fixed_cost};
+use crate::passes::Workers;
 use crate::routes::{NO_ROUTE, Route, SetRoutes};
-use crate::rows::{
-    FAR, at, copy, fill, gather, is_marked, least_sum, put, row, row_mut, weighed, weighed_by,
-};
+use crate::rows::{FAR, copy, fill, is_marked, put, row, row_mut};
 use std::alloc::{AllocError, Global};
+use std::thread::Threads;
 
 /// No search goes round more often.
 const MOST_ROUNDS: usize = 100;
 
-/// What a local search works with: the set, its routes, and the lengths when one of its hubs is closed.
+/// What a local search works with: the set, its routes, the lengths when one of its hubs is closed, and what a place is opened
+/// in.
 #[derive(Drop)]
 pub(crate) struct LocalSearch {
-    marks: Vec<bool>,
-    routes: SetRoutes,
+    set: OpenSet,
     shortest: Vec<Route>,
-    base: Vec<u32>,
-    to_hubs: Vec<u32>,
-    from_hubs: Vec<u32>,
-    onward: Vec<u32>,
-    last: Vec<u32>,
-}
-
-/// A move that was found: the place to open, if one is, and what the set then costs, in 10^-12.
-#[derive(Clone, Copy)]
-struct Move {
-    open: Option<usize>,
-    cost: i128,
+    opening: Opening,
 }
 
 impl LocalSearch {
@@ -39,22 +29,20 @@ impl LocalSearch {
         places: usize,
     ) -> Result<LocalSearch, AllocError> {
         let cells = size.wrapping_mul(size);
-        let width = places.div_ceil(8).wrapping_mul(8);
         Ok(LocalSearch {
-            marks: vec![in alloc; false; places]?,
-            routes: SetRoutes::new(alloc, size, places)?,
+            set: OpenSet {
+                marks: vec![in alloc; false; places]?,
+                routes: SetRoutes::new(alloc, size, places)?,
+                base: vec![in alloc; FAR; cells]?,
+            },
             shortest: vec![in alloc; NO_ROUTE; cells]?,
-            base: vec![in alloc; FAR; cells]?,
-            to_hubs: vec![in alloc; FAR; width]?,
-            from_hubs: vec![in alloc; FAR; width]?,
-            onward: vec![in alloc; FAR; size]?,
-            last: vec![in alloc; FAR; size]?,
+            opening: Opening::new(alloc, size, places)?,
         })
     }
 
     /// The set that was found last.
     pub(crate) fn marks(&self) -> &[bool] {
-        &self.marks
+        &self.set.marks
     }
 
     /// What the set costs, in 10^-12. An empty set costs too much.
@@ -65,16 +53,22 @@ impl LocalSearch {
     }
 
     /// Betters the set by moves among the movable places, and gives what it then costs, in 10^-12.
-    pub(crate) fn improve(&mut self, lengths: &Lengths, marks: &[bool], movable: &[bool]) -> i128 {
+    pub(crate) fn improve<R: Threads + Sync>(
+        &mut self,
+        workers: &Workers<'_, R>,
+        lengths: &Lengths,
+        marks: &[bool],
+        movable: &[bool],
+    ) -> i128 {
         let mut cost = self.cost(lengths, marks);
         for _ in 0..MOST_ROUNDS {
             let before = cost;
             if lengths.wanted().is_none() {
-                cost = self.open_all(lengths, movable, cost);
+                cost = self.open_all(workers, lengths, movable, cost);
             }
             for h in 0..lengths.places() {
-                if is_marked(&self.marks, h) && is_marked(movable, h) {
-                    cost = self.turn(lengths, movable, Some(h), cost);
+                if is_marked(&self.set.marks, h) && is_marked(movable, h) {
+                    cost = self.turn(workers, lengths, movable, Some(h), cost);
                 }
             }
             if cost >= before {
@@ -87,15 +81,13 @@ impl LocalSearch {
     /// Marks only the cheapest of all places, the last if there are several, where the set costs more than it alone.
     pub(crate) fn drop_costly(&mut self, lengths: &Lengths, marks: &mut [bool]) {
         let mut least = self.cost(lengths, marks);
-        fill(&mut self.marks, false);
+        fill(&mut self.set.marks, false);
         self.set_routes(lengths);
         self.close(lengths, None);
         let mut found = None;
         for k in 0..lengths.places() {
-            let routes = self.weight_with(lengths, None, k) as i128;
-            let cost = routes
-                .wrapping_mul(lengths.worth())
-                .wrapping_add(fixed_cost(lengths, k));
+            let routes = self.opening.routes_cost(lengths, &self.set, None, k);
+            let cost = routes.wrapping_add(fixed_cost(lengths, k));
             if cost <= least {
                 least = cost;
                 found = Some(k);
@@ -108,34 +100,41 @@ impl LocalSearch {
     }
 
     /// Marks so many of the movable places, opened one after another, each of them the cheapest to open then.
-    pub(crate) fn open_best(
+    pub(crate) fn open_best<R: Threads + Sync>(
         &mut self,
+        workers: &Workers<'_, R>,
         lengths: &Lengths,
         movable: &[bool],
         hubs: usize,
         marks: &mut [bool],
     ) {
-        fill(&mut self.marks, false);
+        fill(&mut self.set.marks, false);
         self.set_routes(lengths);
         for _ in 0..hubs {
-            let _ = self.turn(lengths, movable, None, i128::MAX);
+            let _ = self.turn(workers, lengths, movable, None, i128::MAX);
         }
-        copy(&self.marks, marks);
+        copy(&self.set.marks, marks);
     }
 
     /// What one hub is worth about the set, which costs so much: half of what the cost rises by at least with a hub less and
     /// falls by at most with one more, or one of the two where the other cannot be. It is in 10^-12.
-    pub(crate) fn hub_worth(&mut self, lengths: &Lengths, movable: &[bool], cost: i128) -> i128 {
+    pub(crate) fn hub_worth<R: Threads + Sync>(
+        &mut self,
+        workers: &Workers<'_, R>,
+        lengths: &Lengths,
+        movable: &[bool],
+        cost: i128,
+    ) -> i128 {
         let mut least = i128::MAX;
         for h in 0..lengths.places() {
-            if is_marked(&self.marks, h) {
+            if is_marked(&self.set.marks, h) {
                 self.close(lengths, Some(h));
                 least = least.min(self.cost_of_base(lengths, Some(h)));
             }
         }
         let rise = least.wrapping_sub(cost);
         self.close(lengths, None);
-        let opened = self.best_move(lengths, movable, None, i128::MAX);
+        let opened = self.best_move(workers, lengths, movable, None, i128::MAX);
         let fall = cost.wrapping_sub(opened.cost);
         match (least < i128::MAX, opened.open.is_some()) {
             (true, true) => rise.wrapping_add(fall) / 2,
@@ -148,19 +147,25 @@ impl LocalSearch {
     pub(crate) fn set_caps(&self, lengths: &Lengths, limit: u32, caps: &mut [u32]) {
         for i in 0..lengths.size() {
             for (j, cap) in row_mut(caps, i, lengths.size()).iter_mut().enumerate() {
-                let route = self.routes.shortest(i, j);
-                let first = self.routes.without(i, j, route.first, route.first);
-                let last = self.routes.without(i, j, route.last, route.last);
+                let route = self.set.routes.shortest(i, j);
+                let first = self.set.routes.without(i, j, route.first, route.first);
+                let last = self.set.routes.without(i, j, route.last, route.last);
                 *cap = first.max(last).min(limit);
             }
         }
     }
 
     /// Opens hubs as long as the set then costs less, and gives what it costs.
-    fn open_all(&mut self, lengths: &Lengths, movable: &[bool], cost: i128) -> i128 {
+    fn open_all<R: Threads + Sync>(
+        &mut self,
+        workers: &Workers<'_, R>,
+        lengths: &Lengths,
+        movable: &[bool],
+        cost: i128,
+    ) -> i128 {
         let mut cost = cost;
         for _ in 0..lengths.places() {
-            let opened = self.turn(lengths, movable, None, cost);
+            let opened = self.turn(workers, lengths, movable, None, cost);
             if opened >= cost {
                 break;
             }
@@ -170,21 +175,22 @@ impl LocalSearch {
     }
 
     /// Makes the best move that closes this hub, or none, if the set then costs less, and gives what it costs.
-    fn turn(
+    fn turn<R: Threads + Sync>(
         &mut self,
+        workers: &Workers<'_, R>,
         lengths: &Lengths,
         movable: &[bool],
         closed: Option<usize>,
         cost: i128,
     ) -> i128 {
         self.close(lengths, closed);
-        let found = self.best_move(lengths, movable, closed, cost);
+        let found = self.best_move(workers, lengths, movable, closed, cost);
         if found.cost < cost {
             if let Some(h) = closed {
-                put(&mut self.marks, h, false);
+                put(&mut self.set.marks, h, false);
             }
             if let Some(k) = found.open {
-                put(&mut self.marks, k, true);
+                put(&mut self.set.marks, k, true);
             }
             self.set_routes(lengths);
         }
@@ -192,10 +198,11 @@ impl LocalSearch {
     }
 
     /// The best move that closes this hub, or none, where the set costs so much.
-    fn best_move(
+    fn best_move<'x, R: Threads + Sync>(
         &mut self,
-        lengths: &Lengths,
-        movable: &[bool],
+        workers: &Workers<'_, R>,
+        lengths: &'x Lengths,
+        movable: &'x [bool],
         closed: Option<usize>,
         cost: i128,
     ) -> Move {
@@ -203,36 +210,30 @@ impl LocalSearch {
         if closed.is_some() && lengths.wanted().is_none() {
             best.cost = cost.min(self.cost_of_base(lengths, closed));
         }
-        let opened = self.opening_cost(lengths, closed);
-        for k in 0..lengths.places() {
-            if is_marked(movable, k) && !is_marked(&self.marks, k) {
-                let routes = self.weight_with(lengths, closed, k) as i128;
-                let fixed = opened.wrapping_add(fixed_cost(lengths, k));
-                let cost = routes.wrapping_mul(lengths.worth()).wrapping_add(fixed);
-                if cost < best.cost {
-                    best = Move {
-                        open: Some(k),
-                        cost,
-                    };
-                }
-            }
-        }
-        best
+        let fixed = self.opening_cost(lengths, closed);
+        let openings = Openings {
+            lengths,
+            movable,
+            set: &self.set,
+            closed,
+            fixed,
+        };
+        openings.best(workers, &mut self.opening, best)
     }
 
     /// Makes the marked places the set.
     fn take(&mut self, lengths: &Lengths, marks: &[bool]) {
-        copy(marks, &mut self.marks);
+        copy(marks, &mut self.set.marks);
         self.set_routes(lengths);
     }
 
     /// Finds the shortest routes over the set.
     fn set_routes(&mut self, lengths: &Lengths) {
-        self.routes.take(lengths, &self.marks);
+        self.set.routes.take(lengths, &self.set.marks);
         for i in 0..lengths.size() {
             let routes = row_mut(&mut self.shortest, i, lengths.size());
             for j in 0..routes.len() {
-                routes[j] = self.routes.shortest(i, j);
+                routes[j] = self.set.routes.shortest(i, j);
             }
         }
     }
@@ -242,11 +243,11 @@ impl LocalSearch {
         let h = closed.unwrap_or(usize::MAX);
         for i in 0..lengths.size() {
             let shortest = row(&self.shortest, i, lengths.size());
-            let base = row_mut(&mut self.base, i, lengths.size());
+            let base = row_mut(&mut self.set.base, i, lengths.size());
             let count = base.len().min(shortest.len());
             for j in 0..count {
                 base[j] = if closed.is_some() && shortest[j].uses(h) {
-                    self.routes.without(i, j, h, h)
+                    self.set.routes.without(i, j, h, h)
                 } else {
                     shortest[j].length
                 };
@@ -257,7 +258,7 @@ impl LocalSearch {
     /// The fixed costs of the set without this hub, in 10^-12.
     fn opening_cost(&self, lengths: &Lengths, closed: Option<usize>) -> i128 {
         let mut cost = 0i128;
-        for (k, mark) in self.marks.iter().enumerate() {
+        for (k, mark) in self.set.marks.iter().enumerate() {
             if *mark && closed != Some(k) {
                 cost = cost.wrapping_add(fixed_cost(lengths, k));
             }
@@ -267,79 +268,14 @@ impl LocalSearch {
 
     /// What the set costs without this hub, in 10^-12; far too much if no hub is left.
     fn cost_of_base(&self, lengths: &Lengths, closed: Option<usize>) -> i128 {
-        let mut hubs = self.routes.hubs().len();
+        let mut hubs = self.set.routes.hubs().len();
         if closed.is_some() {
             hubs = hubs.saturating_sub(1);
         }
         if hubs == 0 {
             return i128::MAX;
         }
-        let mut sum = 0u64;
-        for i in 0..lengths.size() {
-            let base = row(&self.base, i, lengths.size());
-            sum = sum.wrapping_add(weighed(lengths.flows(i), base));
-        }
-        let routes = (sum as i128).wrapping_mul(lengths.worth());
+        let routes = self.set.routes_cost(lengths);
         routes.wrapping_add(self.opening_cost(lengths, closed))
     }
-
-    /// The flows times their lengths, where this hub is closed and the place is opened.
-    fn weight_with(&mut self, lengths: &Lengths, closed: Option<usize>, k: usize) -> u64 {
-        self.set_trunks(lengths, closed, k);
-        for j in 0..lengths.size() {
-            let leg = at(lengths.deliver(j), k);
-            let onward = least_sum(&self.to_hubs, self.routes.deliver(j));
-            put(&mut self.onward, j, leg.min(onward));
-            put(&mut self.last, j, leg);
-        }
-        let mut sum = 0u64;
-        for i in 0..lengths.size() {
-            let leg = at(lengths.collect(i), k);
-            let turned = leg.min(least_sum(&self.from_hubs, self.routes.collect(i)));
-            let base = row(&self.base, i, lengths.size());
-            let row = weighed_by(
-                lengths.flows(i),
-                base,
-                leg,
-                &self.onward,
-                turned,
-                &self.last,
-            );
-            sum = sum.wrapping_add(row);
-        }
-        sum
-    }
-
-    /// Sets the trunk legs between the place and the hubs, without the closed one.
-    fn set_trunks(&mut self, lengths: &Lengths, closed: Option<usize>, k: usize) {
-        fill(&mut self.to_hubs, FAR);
-        fill(&mut self.from_hubs, FAR);
-        gather(lengths.trunk(k), self.routes.hubs(), &mut self.to_hubs);
-        gather(
-            lengths.trunk_back(k),
-            self.routes.hubs(),
-            &mut self.from_hubs,
-        );
-        if let Some(h) = closed {
-            // What no hub is, is past all of them.
-            let e = place_of(self.routes.hubs(), h);
-            put(&mut self.to_hubs, e, FAR);
-            put(&mut self.from_hubs, e, FAR);
-        }
-    }
-}
-
-/// Where the hub is among these, or their number if it is none.
-fn place_of(hubs: &[usize], h: usize) -> usize {
-    for e in 0..hubs.len() {
-        if hubs[e] == h {
-            return e;
-        }
-    }
-    hubs.len()
-}
-
-/// The cost of opening a hub at the place, in 10^-12.
-fn fixed_cost(lengths: &Lengths, k: usize) -> i128 {
-    lengths.fixed_costs().get(k).copied().unwrap_or(0)
 }

@@ -7,7 +7,7 @@ use std::alloc::{AllocError, Global};
 const ROOT_PASSES: usize = 60;
 
 const PASSES: usize = 15;
-/// So many passes the root has at least, if it is not closed.
+/// So many passes the root has at least, if it is not closed and does not stand still (`ROOT_STILL`).
 const ROOT_LEAST: usize = 20;
 /// A node is left where so many passes together gained little, at the root and below it.
 const ROOT_BACK: usize = 6;

@@ -102,37 +102,36 @@ impl TightSet {
         }
     }
 
-    /// Makes the values of a commodity the nearest that are tight at the set, and gives its price.
+    /// Finds the values of a commodity that are tight at the set and nearest to these, and gives its price.
     fn tighten(
         &self,
         lengths: &Lengths,
-        scratch: &mut PlaceValues,
+        found: &mut PlaceValues,
         i: usize,
         j: usize,
-        values: &mut [u32],
+        values: &[u32],
     ) -> u32 {
         let legs = Commodity::of(lengths, i, j);
         let tight = self.route(i, j, values);
-        scratch.begin_from(&legs, tight.price, values);
+        found.begin_from(&legs, tight.price, values);
         for k in self.routes.hubs() {
             if !tight.route.uses(*k) {
-                scratch.settle(&legs, *k, 0);
+                found.settle(&legs, *k, 0);
             }
         }
-        scratch.settle(&legs, tight.route.first, tight.first);
+        found.settle(&legs, tight.route.first, tight.first);
         if tight.route.last != tight.route.first {
-            scratch.settle(&legs, tight.route.last, tight.last);
+            found.settle(&legs, tight.route.last, tight.last);
         }
         for turn in &self.order {
-            scratch.settle_asked(lengths, &legs, turn.place);
+            found.settle_asked(lengths, &legs, turn.place);
         }
-        copy(scratch.values(), values);
         tight.price
     }
 }
 
 /// The tight duals of an origin, its prices and values, and by place the sum of the values, weighed by the flows. The price
-/// of a commodity without flow is 0.
+/// of a commodity without flow is 0. Where the sums alone are asked for there are no values.
 #[derive(Drop)]
 pub(crate) struct TightDuals {
     pub(crate) prices: Vec<u32>,
@@ -140,37 +139,30 @@ pub(crate) struct TightDuals {
     pub(crate) loads: Vec<i64>,
 }
 
-impl TightDuals {
-    /// As yet these values, and all prices 0.
-    fn new(alloc: Global, lengths: &Lengths, values: &[u32]) -> Result<TightDuals, AllocError> {
-        Ok(TightDuals {
-            prices: vec![in alloc; 0; lengths.size()]?,
-            values: values.to_vec(alloc)?,
-            loads: vec![in alloc; 0; lengths.places()]?,
-        })
-    }
-
-    /// Makes the duals, which are of this origin, tight at the set.
-    fn tighten(&mut self, lengths: &Lengths, set: &TightSet, scratch: &mut PlaceValues, i: usize) {
-        for (j, flow) in lengths.flows(i).iter().enumerate() {
-            if *flow > 0 {
-                let values = row_mut(&mut self.values, j, lengths.places());
-                let price = set.tighten(lengths, scratch, i, j, values);
-                put(&mut self.prices, j, price);
-                add_weighed(*flow as i64, values, &mut self.loads);
-            }
-        }
-    }
-}
-
 /// Origins whose duals are to be tight at a set, and the values of all commodities that they are to be nearest to: block e is the
-/// origin at e after the first.
+/// origin at e after the first. It tells whether the duals are to be kept, or just their sums.
 #[derive(Drop)]
 pub(crate) struct TightOrigins<'a> {
     pub(crate) lengths: &'a Lengths,
     pub(crate) set: &'a TightSet,
     pub(crate) values: &'a [u32],
     pub(crate) first: usize,
+    pub(crate) is_kept: bool,
+}
+
+impl<'a> TightOrigins<'a> {
+    /// No duals as yet: the values of the origin where they are to be kept, and all prices and sums 0.
+    fn begin(&self, alloc: Global, values: &[u32]) -> Result<TightDuals, AllocError> {
+        Ok(TightDuals {
+            prices: vec![in alloc; 0; self.lengths.size()]?,
+            values: if self.is_kept {
+                values.to_vec(alloc)?
+            } else {
+                Vec::new(alloc)
+            },
+            loads: vec![in alloc; 0; self.lengths.places()]?,
+        })
+    }
 }
 
 impl<'a> Job<TightDuals> for TightOrigins<'a> {
@@ -192,10 +184,20 @@ impl<'a> Job<TightDuals> for TightOrigins<'a> {
         scratch: &mut PlaceValues,
         block: u32,
     ) -> Result<TightDuals, AllocError> {
+        let lengths = self.lengths;
+        let places = lengths.places();
         let i = self.first.wrapping_add(block as usize);
-        let values = row(self.values, i, self.lengths.origin_values());
-        let mut duals = TightDuals::new(alloc, self.lengths, values)?;
-        duals.tighten(self.lengths, self.set, scratch, i);
+        let values = row(self.values, i, lengths.origin_values());
+        let mut duals = self.begin(alloc, values)?;
+        for (j, flow) in lengths.flows(i).iter().enumerate() {
+            if *flow > 0 {
+                let before = row(values, j, places);
+                let price = self.set.tighten(lengths, scratch, i, j, before);
+                put(&mut duals.prices, j, price);
+                add_weighed(*flow as i64, scratch.values(), &mut duals.loads);
+                copy(scratch.values(), row_mut(&mut duals.values, j, places));
+            }
+        }
         Ok(duals)
     }
 }

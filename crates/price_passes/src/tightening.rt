@@ -6,7 +6,7 @@ ghost use Rattle.std.specs.Prelude.{◌≡◌, ◌≤◌};
 
 use crate::lengths::Lengths;
 use crate::origins::Terms;
-use crate::passes::MOST_WORKERS;
+use crate::passes::{MOST_WORKERS, Workers};
 use crate::rows::{amount_at, copy, put, row, row_mut, short};
 use crate::state::{State, Sums};
 use crate::tight::{TightDuals, TightOrigins, TightRoute, TightSet};
@@ -17,8 +17,10 @@ use search_advice::Side;
 use std::alloc::{AllocError, Global};
 use std::thread::Threads;
 
-/// So many origins there are for each worker at a time.
-const ORIGINS_FOR_A_WORKER: usize = 4;
+/// So many origins there are for each worker at a time where their duals are kept, and where just their sums are.
+const ORIGINS_KEPT: usize = 4;
+
+const ORIGINS_SUMMED: usize = 16;
 
 /// What it takes to tighten duals: the set, and the sums that come out.
 #[derive(Drop)]
@@ -91,23 +93,28 @@ impl Tightening {
     /// many workers; where it is below `wanted`, another bound below that.
     pub(crate) fn bound<R: Threads + Sync>(
         &mut self,
-        rt: &R,
-        alloc: Global,
-        workers: u32,
+        workers: &Workers<'_, R>,
         lengths: &Lengths,
         values: &[u32],
         sides: &[Side],
         wanted: i128,
     ) -> Result<i128, AllocError> {
         self.sum_hubs(lengths, values);
-        let batch = batch(workers);
+        let batch = batch(workers.count, ORIGINS_SUMMED);
         for number in 0..lengths.size().div_ceil(batch) {
             // It falls with each load.
             if self.sums.bound(lengths, sides) < wanted {
                 break;
             }
-            let first = number.wrapping_mul(batch);
-            self.tight_from(rt, alloc, workers, lengths, values, first)?;
+            let origins = TightOrigins {
+                lengths,
+                set: &self.set,
+                values,
+                first: number.wrapping_mul(batch),
+                is_kept: false,
+            };
+            let found = tight_duals(workers, &origins, batch)?;
+            self.add_all(&found);
         }
         Ok(self.sums.bound(lengths, sides))
     }
@@ -115,18 +122,24 @@ impl Tightening {
     /// Makes the duals tight at the set, as near to these as can be, by so many workers. The sums are theirs.
     fn tighten<R: Threads + Sync>(
         &mut self,
-        rt: &R,
-        alloc: Global,
-        workers: u32,
+        workers: &Workers<'_, R>,
         lengths: &Lengths,
         quotes: &mut [Quote],
         values: &mut [u32],
     ) -> Result<(), AllocError> {
         self.sum_hubs(lengths, values);
-        let batch = batch(workers);
+        let batch = batch(workers.count, ORIGINS_KEPT);
         for number in 0..lengths.size().div_ceil(batch) {
             let first = number.wrapping_mul(batch);
-            let found = self.tight_from(rt, alloc, workers, lengths, values, first)?;
+            let origins = TightOrigins {
+                lengths,
+                set: &self.set,
+                values,
+                first,
+                is_kept: true,
+            };
+            let found = tight_duals(workers, &origins, batch)?;
+            self.add_all(&found);
             for (e, duals) in found.iter().enumerate() {
                 put_origin(lengths, first.wrapping_add(e), duals, quotes, values);
             }
@@ -134,40 +147,32 @@ impl Tightening {
         Ok(())
     }
 
-    /// The duals of a batch of origins, from `first` on, that are tight at the set and nearest to these values. The loads of
-    /// places outside the set are added to the sums.
-    fn tight_from<R: Threads + Sync>(
-        &mut self,
-        rt: &R,
-        alloc: Global,
-        workers: u32,
-        lengths: &Lengths,
-        values: &[u32],
-        first: usize,
-    ) -> Result<Vec<TightDuals>, AllocError> {
-        let origins = TightOrigins {
-            lengths,
-            set: &self.set,
-            values,
-            first,
-        };
-        let left = lengths.size().saturating_sub(first);
-        let count = short(left.min(batch(workers)));
-        let workers = workers.clamp(1, MOST_WORKERS);
-        let found = answers(rt, alloc, &origins, count, workers, &OpenGate)?;
-        for duals in &found {
+    /// Adds the loads of places outside the set by these duals to the sums.
+    fn add_all(&mut self, found: &[TightDuals]) {
+        for duals in found {
             self.add_others(&duals.loads);
         }
-        Ok(found)
     }
 }
 
-/// So many origins are made tight at a time.
-fn batch(workers: u32) -> usize
+/// The duals of so many origins, or as many as there are, that are tight at the set and nearest to these values.
+fn tight_duals<R: Threads + Sync>(
+    workers: &Workers<'_, R>,
+    origins: &TightOrigins<'_>,
+    batch: usize,
+) -> Result<Vec<TightDuals>, AllocError> {
+    let left = origins.lengths.size().saturating_sub(origins.first);
+    let count = short(left.min(batch));
+    let many = workers.count.clamp(1, MOST_WORKERS);
+    answers(workers.rt, workers.alloc, origins, count, many, &OpenGate)
+}
+
+/// So many origins are made tight at a time, so many for each worker.
+fn batch(workers: u32, origins: usize) -> usize
     ensures { 1 ≤ result }
 {
     let workers = workers.clamp(1, MOST_WORKERS) as usize;
-    workers.wrapping_mul(ORIGINS_FOR_A_WORKER).max(1)
+    workers.wrapping_mul(origins).max(1)
 }
 
 /// Puts the duals in place of those of the origin.
@@ -189,22 +194,13 @@ impl State {
     /// Makes the duals tight at the set that the tightening began with, as near to these as can be, by so many workers.
     pub(crate) fn tighten<R: Threads + Sync>(
         &mut self,
-        rt: &R,
-        alloc: Global,
-        workers: u32,
+        workers: &Workers<'_, R>,
         lengths: &Lengths,
         tightening: &mut Tightening,
     ) -> Result<(), AllocError>
         ensures { self.new ≡ self.old }
     {
-        tightening.tighten(
-            rt,
-            alloc,
-            workers,
-            lengths,
-            &mut self.quotes,
-            &mut self.values,
-        )?;
+        tightening.tighten(workers, lengths, &mut self.quotes, &mut self.values)?;
         self.sums.take(&tightening.sums);
         Ok(())
     }
