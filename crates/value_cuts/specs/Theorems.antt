@@ -1,5 +1,5 @@
 -- What is proved of the duals and the cuts of any values.
-use Rattle.std.specs.Prelude.{◌≡◌, ℕ, ◌*◌, ◌≤◌, List, None, Contains}
+use Rattle.std.specs.Prelude.{◌≡◌, ℕ, ◌*◌, ◌≤◌, List, Contains}
 use Rattle.hub_spec.specs.Problem.{Problem, IsProblem, flow}
 use Rattle.hub_spec.specs.Cuts.{Prices, value_at, IsDual, IsCut}
 use Rattle.hub_spec.specs.Ranges.{IsCutInRange, IsFirstCut}
@@ -22,11 +22,10 @@ ValueCutIsInRange = (p : Problem) (w : ValueRows) → IsProblem p → IsCutInRan
 abbrev pub ValueCutIsFirst : Type 0
 ValueCutIsFirst = (p : Problem) (w : ValueRows) → IsProblem p → IsFirstCut (value_cut p w)
 
--- where the length of routes is not limited, no feasible dual that gives the candidates these values has a greater price,
--- up to the ceiling
+-- no feasible dual that gives the candidates these values has a greater price, up to the ceiling
 abbrev pub NoGreaterPrice : Type 0
 NoGreaterPrice = (p : Problem) (unit : ℕ) (row : List ℕ) (c : ℕ × ℕ) (d : Prices) → IsProblem p
-    → p.longest ≡ None → IsDual p 1 c d
+    → IsDual p 1 c d
     → ((k : ℕ) → Contains p.candidates k → value_at d.u k ≡ value_at (value_dual p unit row c).u k)
     → d.a ≤ flow p c.0 c.1 * length_ceiling p
     → d.a ≤ (value_dual p unit row c).a

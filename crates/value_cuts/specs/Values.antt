@@ -1,6 +1,6 @@
--- Duals of any values that are listed for the candidates: the price is lowered to what the values allow.
+-- Duals of any values that are listed for the candidates: the price is lowered to what the values allow on allowed routes.
 use Rattle.std.specs.Prelude.{◌≡◌, ℕ, ◌+◌, ◌*◌, min, List, length, map, zip, slice_range, nat_eq, if◌then◌else◌}
-use Rattle.hub_spec.specs.Problem.{Problem, flow, distance, commodities}
+use Rattle.hub_spec.specs.Problem.{Problem, flow, distance, is_allowed, commodities}
 use Rattle.hub_spec.specs.Cuts.{Prices, value_at, Cut, cut_by}
 use Rattle.hub_spec.specs.Separation.{values_listed}
 use Rattle.unit_duals.specs.Leasts.{least_of}
@@ -22,12 +22,17 @@ valued_length p c values x y =
     route_length p c.0 c.1 (candidate_at p x) (candidate_at p y) + values (candidate_at p x)
     + (if nat_eq x y then 0 else values (candidate_at p y))
 
--- the price by unit of flow that these values allow: the least of the ceiling and of all valued lengths
+-- the number, where the commodity may go by way of the candidates at these two places, and else the other
+abbrev pub if_allowed : Problem → ℕ × ℕ → ℕ → ℕ → ℕ → ℕ → ℕ
+if_allowed p c x y number other = if is_allowed p c (candidate_at p x) (candidate_at p y) then number else other
+
+-- the price by unit of flow that these values allow: the least of the ceiling and of the valued lengths of all allowed
+-- routes
 unfoldable pub allowed_price : Problem → ℕ × ℕ → (ℕ → ℕ) → ℕ
 allowed_price p c values =
     let ceiling = length_ceiling p in
     let places = length p.candidates in
-    least_of ceiling (λ x. least_of ceiling (valued_length p c values x) places) places
+    least_of ceiling (λ x. least_of ceiling (λ y. if_allowed p c x y (valued_length p c values x y) ceiling) places) places
 
 -- the dual of the commodity by the row: the flow times the price, and the flow times each value that is above 0
 unfoldable pub value_dual : Problem → ℕ → List ℕ → ℕ × ℕ → Prices

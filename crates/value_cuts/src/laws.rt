@@ -22,8 +22,7 @@ pub fn value_cut_is_first()
     ensures { ValueCutIsFirst }
 {}
 
-/// Where the length of routes is not limited, no feasible dual with the same values has a greater price, up to the
-/// ceiling.
+/// No feasible dual with the same values has a greater price, up to the ceiling.
 pub fn no_greater_price()
     ensures { NoGreaterPrice }
 {}

@@ -1,15 +1,16 @@
 //! Exact cuts from any values of the candidates.
 //!
 //! A search without proofs may advise values for each commodity, found in whatever way. Here the price of each
-//! commodity is lowered to what its values allow, so that its dual is feasible by construction, and the duals of all
+//! commodity is lowered to what its values allow on allowed routes, so that its dual is feasible by construction, and the duals of all
 //! commodities are a cut of the instance, within its sums (`laws`). Nothing of the advice is trusted.
 //!
 //! `CandidateLegs` are an instance's tables, made once (`leg_tables`); `Values` is where the advice stands, a row of
-//! small numbers for each commodity. `pricing` finds the prices, `sums` the total and the loads of the cut, `duals` lends
+//! small numbers for each commodity. `pricing` finds the prices, `allowed` where the length of routes is limited, `sums` the total and the loads of the cut, `duals` lends
 //! its duals one by one as a certificate lists them. A place is the number of a candidate in their order, from 0.
 //! Lengths and values by unit of flow are in 10^-6, costs in 10^-12.
 #![tactic(auto)]
 
+mod allowed;
 mod duals;
 mod laws;
 mod pricing;

@@ -1,10 +1,11 @@
-//! The price of a commodity, lowered to what its values allow.
+//! The price of a commodity, lowered to what its values allow on allowed routes.
 //!
 //! A route by way of two candidates is a first end, a leg of trunk and a last end, where an end is a leg with the value
 //! of its candidate. So a price is found over the first ends, each time with the least of the trunk legs and the last
-//! ends together, where the first end leaves room below the least so far.
+//! ends together, where the first end leaves room below the least so far. Where the length of routes is limited,
+//! `allowed` goes over the allowed ones alone.
 
-ghost use Rattle.std.specs.Prelude.{◌≡◌, ℕ, ◌+◌, ◌*◌, ◌<◌, ◌≤◌, min, length, slice_index, All, IfOk};
+ghost use Rattle.std.specs.Prelude.{◌≡◌, ℕ, ◌+◌, ◌*◌, ◌<◌, ◌≤◌, min, None, length, slice_index, All, IfOk};
 ghost use Rattle.hub_spec.specs.Problem.{IsProblem};
 ghost use Rattle.unit_duals.specs.Limits.{most_leg, most_length};
 ghost use Rattle.unit_duals.specs.Leasts.{least_of};
@@ -14,6 +15,7 @@ ghost use Rattle.value_cuts.specs.Values.{node_value, allowed_price, AreValuesFo
 ghost use Rattle.value_cuts.specs.Ends.{most_end, AreEnds};
 ghost use Rattle.value_cuts.specs.Prices.{AreRowPrices, ArePricesFrom};
 
+use crate::allowed::least_allowed_length;
 use crate::{CandidateLegs, Values};
 use std::alloc::{AllocError, Global};
 use std::marker::Model;
@@ -50,7 +52,8 @@ impl PriceScratch {
 }
 
 /// The price of the commodity from `i` to `j` by unit of flow that the values of the row allow, in 10^-6: the least of
-/// the ceiling, of each single hub and of each ordered pair of hubs, with their values. It takes no memory.
+/// the ceiling, of each single hub and of each ordered pair of hubs that it may go by, with their values. It takes no
+/// memory.
 ///
 /// The row lists a value for each place, in the unit.
 pub fn price(
@@ -143,7 +146,10 @@ fn price_in(
     let delivery = tables.delivery_legs(j);
     set_ends(tables, tables.collection_legs(i), unit, row, first);
     set_ends(tables, delivery, unit, row, last);
-    least_length(tables, i, j, delivery, first, last)
+    match tables.instance().length_limit() {
+        Some(_) => least_allowed_length(tables, i, j, delivery, first, last),
+        None => least_length(tables, i, j, delivery, first, last),
+    }
 }
 
 /// Sets each end: the leg of the place with the value of its candidate.
@@ -167,7 +173,8 @@ pub(crate) fn value_of(ceiling: u64, unit: u32, listed: u32) -> u64
     ceiling.min(unit as u64 * listed as u64)
 }
 
-/// The least of the ceiling and of the valued lengths of the commodity from `i` to `j`, with these ends.
+/// The least of the ceiling and of the valued lengths of the commodity from `i` to `j`, with these ends, where the length
+/// of routes is not limited.
 fn least_length(
     tables: &CandidateLegs,
     i: u32,
@@ -176,6 +183,7 @@ fn least_length(
     first: &[u64],
     last: &[u64],
 ) -> u64
+    requires unlimited { tables.now.longest ≡ None }
     requires delivery { IsLegRow (length tables.now.candidates) (delivery_length tables.now j) delivery.now }
     requires first { length first.now ≡ length tables.now.candidates }
     requires last { length last.now ≡ length tables.now.candidates }
@@ -197,7 +205,7 @@ fn least_length(
 }
 
 /// The least of the number and of all ends.
-fn least_end(most: u64, ends: &[u64]) -> u64
+pub(crate) fn least_end(most: u64, ends: &[u64]) -> u64
     ensures { result ≡ least_of most (slice_index ends.now) (length ends.now) }
 {
     let mut least = most;

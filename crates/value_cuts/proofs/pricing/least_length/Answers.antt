@@ -1,4 +1,4 @@
-use Rattle.std.proofs.Common.{◌≡◌, ℕ, ◌+◌, ◌-◌, ◌≤◌, Fits, length, slice_index, refl, ap, ◌∙◌, arith, rules}
+use Rattle.std.proofs.Common.{◌≡◌, ℕ, ◌+◌, ◌-◌, ◌≤◌, Fits, length, slice_index, inl, inr, ap, ◌∙◌, arith, rules}
 use Rattle.std.proofs.lemmas.List.Elements.{All-get_or}
 use mir.Syntax.{w64}
 use Rattle.unit_duals.specs.Limits.{most_length}
@@ -6,7 +6,7 @@ use Rattle.unit_duals.specs.Leasts.{least_of}
 use Rattle.unit_duals.proofs.LeastNumbers.{least_of_le_start}
 use Rattle.leg_tables.specs.CandidateLegs.{trunk_length, delivery_length, length_ceiling}
 use Rattle.value_cuts.specs.Ends.{most_end}
-use Rattle.value_cuts.proofs.LeastLengths.{least_start, least_kept, least_lowered, least_is_price}
+use Rattle.value_cuts.proofs.LeastLengths.{least_start, least_kept, least_lowered, least_of_any, least_is_price}
 use Rattle.value_cuts.proofs.pricing.least_length.Goals as goal
 use Rattle.value_cuts.proofs.pricing.least_length.Goals.{then-end-nearest, else-end-nearest}
 
@@ -56,17 +56,23 @@ loop-x-preserved c =
           let rest : w.least_sum.result ≡ least_of (c.loop-x.least - end) sums q =
           w.least_sum.ensures ∙ ap (least_of (c.loop-x.least - end) sums) w.trunk_legs.ensures.long in
           rw w.least-is (least_lowered (length_ceiling p) q x c.loop-x.least end w.least_sum.result alone sums by_two
-          (omega (arith, c.loop-x-test.true, c.requires.first)) (λ y within. omega (arith, w.trunk_legs.ensures.each y within))
+          (omega (arith, c.loop-x-test.true, c.requires.first)) (λ y within. record {
+            low = inr (omega (arith, w.trunk_legs.ensures.each y within));
+            high = λ a top far. omega (arith, far, w.trunk_legs.ensures.each y within);
+          })
           (omega (arith, w.if-end-nearest.true)) rest c.loop-x.invariant)
       | else-end-nearest w ↦
           let near : c.least_end-nearest.result ≡ least_of (length_ceiling p) (slice_index last) q =
           c.least_end-nearest.ensures ∙ ap (λ (a : ℕ). least_of a (slice_index last) (length last)) c.ceiling.ensures.value
           ∙ ap (least_of (length_ceiling p) (slice_index last)) c.requires.last in
-          rw w.least-is (least_kept (length_ceiling p) q x c.loop-x.least end c.least_end-nearest.result alone (slice_index last) (trunk_length p x)
-          by_two (λ y within. refl) near w.if-end-nearest.false c.loop-x.invariant)
+          rw w.least-is (least_kept (length_ceiling p) q x c.loop-x.least end c.least_end-nearest.result alone (slice_index last)
+          by_two (λ y within. inl (omega arith)) near w.if-end-nearest.false c.loop-x.invariant)
     ]
 
 pub returns : goal.returns
 returns c = λ v first_ends last_ends.
-    least_is_price c.args.tables.now (c.args.i, c.args.j) v c.args.first.now c.args.last.now c.loop-x.x c.loop-x.least
-    c.ceiling.ensures.problem first_ends last_ends (omega (arith, c.loop-x-test.false, c.requires.first)) c.loop-x.invariant
+    let p = c.args.tables.now in
+    let so_far = least_of_any p (c.args.i, c.args.j) c.args.first.now c.args.last.now (length p.candidates) c.loop-x.x c.loop-x.least
+    c.requires.unlimited c.loop-x.invariant in
+    least_is_price p (c.args.i, c.args.j) v c.args.first.now c.args.last.now c.loop-x.x c.loop-x.least
+    c.ceiling.ensures.problem first_ends last_ends (omega (arith, c.loop-x-test.false, c.requires.first)) so_far
