@@ -107,9 +107,12 @@ impl Adviser {
         ensures { self.new ≡ self.old }
     {
         match self.lengths.wanted() {
-            None => self
-                .search
-                .drop_costly(&self.lengths, &mut self.guess.start),
+            None => self.search.drop_costly(
+                workers,
+                &self.lengths,
+                &self.guess.movable,
+                &mut self.guess.start,
+            ),
             Some(hubs) => self.search.open_best(
                 workers,
                 &self.lengths,
@@ -150,9 +153,7 @@ impl Adviser {
         if self.node.is_root() && self.lengths.wanted().is_some() {
             self.begin_prices(workers, cost);
         }
-        let limit = self.lengths.longest().wrapping_add(1);
-        self.search
-            .set_caps(&self.lengths, limit, &mut self.node.caps);
+        self.search.set_caps(&self.lengths, &mut self.node.caps);
     }
 
     /// Sets ramps and caps for the next pass.
@@ -168,7 +169,7 @@ impl Adviser {
             self.node.set_ramps(&self.lengths, None);
         }
         if passes == EARLY_PASSES {
-            fill(&mut self.node.caps, self.lengths.longest().wrapping_add(1));
+            fill(&mut self.node.caps, self.lengths.most_price());
         }
     }
 

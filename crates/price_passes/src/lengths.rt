@@ -2,8 +2,9 @@
 
 ghost use Rattle.std.specs.Prelude.{◌≤◌};
 
+use crate::distances::Distances;
 use crate::rows::{FAR, at, least_sum, put, row, row_mut};
-use crate::units::Units;
+use crate::units::{Units, distance_unit};
 use hub_model::Instance;
 use std::alloc::{AllocError, Global};
 
@@ -27,6 +28,8 @@ pub struct Lengths {
     great_flow: u32,
     fixed: Vec<i64>,
     fixed_costs: Vec<i128>,
+    distances: Option<Distances>,
+    lack_cost: i128,
 }
 
 impl Lengths {
@@ -36,17 +39,14 @@ impl Lengths {
         let places = instance.candidates().len();
         let width = places.div_ceil(8).wrapping_mul(8);
         let units = Units::of(instance);
-        let legs = Legs {
-            instance,
-            units,
-            width,
-        };
+        let legs = Legs::of(instance, units, width);
         let collect = legs.collection(alloc)?;
         let deliver = legs.delivery(alloc)?;
         let trunk = legs.trunk(alloc)?;
         let trunk_back = turned(alloc, &trunk, width)?;
         let flows = flows_in(alloc, instance, units.flow)?;
         let fixed_costs = fixed_costs(alloc, instance)?;
+        let lack_cost = lack_cost(&flows, units, &fixed_costs);
         Ok(Lengths {
             size,
             places,
@@ -63,6 +63,8 @@ impl Lengths {
             flows,
             fixed: fixed_in(alloc, &fixed_costs, units)?,
             fixed_costs,
+            distances: distances(alloc, instance, width)?,
+            lack_cost,
         })
     }
 
@@ -111,6 +113,15 @@ impl Lengths {
     /// No route is longer.
     pub fn longest(&self) -> u32 {
         self.units.longest
+    }
+
+    /// No price is above. Without a limit of routes a price comes to it only where priced places leave a commodity aside;
+    /// with one that is common, and it is just the longest of all routes, to which exact prices are lowered.
+    pub(crate) fn most_price(&self) -> u32 {
+        match self.distances {
+            None => self.longest().wrapping_add(1),
+            Some(_) => self.longest(),
+        }
     }
 
     /// The legs of collection from the origin to each place.
@@ -167,23 +178,61 @@ impl Lengths {
     pub fn fixed_costs(&self) -> &[i128] {
         &self.fixed_costs
     }
+
+    /// The distances of the instance, where no route may be longer than a limit.
+    pub(crate) fn distances(&self) -> Option<&Distances> {
+        self.distances.as_ref()
+    }
+
+    /// What a hub set counts as costing more for each commodity that it has no allowed route for, in 10^-12: no set that has
+    /// all costs as much.
+    pub(crate) fn lack_cost(&self) -> i128 {
+        self.lack_cost
+    }
 }
 
-/// The legs of an instance in a unit, and the number of columns that their tables are to have.
+/// The legs of an instance in a unit, at these factors, and the number of columns that their tables are to have.
 #[derive(Drop)]
 struct Legs<'a> {
     instance: &'a Instance,
-    units: Units,
+    unit: u64,
+    collect: u64,
+    trunk: u64,
+    deliver: u64,
     width: usize,
 }
 
 impl<'a> Legs<'a> {
+    /// The legs in the unit of lengths.
+    fn of(instance: &'a Instance, units: Units, width: usize) -> Legs<'a> {
+        Legs {
+            instance,
+            unit: units.length,
+            collect: instance.collect(),
+            trunk: instance.trunk(),
+            deliver: instance.deliver(),
+            width,
+        }
+    }
+
+    /// The distances alone, in this unit.
+    fn plain(instance: &'a Instance, unit: u64, width: usize) -> Legs<'a> {
+        Legs {
+            instance,
+            unit,
+            collect: 1,
+            trunk: 1,
+            deliver: 1,
+            width,
+        }
+    }
+
     /// The leg between two nodes at a factor.
     fn leg(&self, factor: u64, from: usize, to: usize) -> u32 {
         let size = self.instance.size() as usize;
         let at = from.wrapping_mul(size).wrapping_add(to);
         let distance = self.instance.distances().get(at).copied().unwrap_or(0);
-        let leg = factor.wrapping_mul(distance) / self.units.length.max(1);
+        let leg = factor.wrapping_mul(distance) / self.unit.max(1);
         leg.min(FAR as u64) as u32
     }
 
@@ -194,7 +243,7 @@ impl<'a> Legs<'a> {
         for i in 0..size {
             let row = row_mut(&mut table, i, self.width);
             for (leg, k) in row.iter_mut().zip(self.instance.candidates()) {
-                *leg = self.leg(self.instance.collect(), i, *k as usize);
+                *leg = self.leg(self.collect, i, *k as usize);
             }
         }
         Ok(table)
@@ -207,7 +256,7 @@ impl<'a> Legs<'a> {
         for j in 0..size {
             let row = row_mut(&mut table, j, self.width);
             for (leg, k) in row.iter_mut().zip(self.instance.candidates()) {
-                *leg = self.leg(self.instance.deliver(), *k as usize, j);
+                *leg = self.leg(self.deliver, *k as usize, j);
             }
         }
         Ok(table)
@@ -220,11 +269,47 @@ impl<'a> Legs<'a> {
         for (place, k) in candidates.iter().enumerate() {
             let row = row_mut(&mut table, place, self.width);
             for (leg, m) in row.iter_mut().zip(candidates) {
-                *leg = self.leg(self.instance.trunk(), *k as usize, *m as usize);
+                *leg = self.leg(self.trunk, *k as usize, *m as usize);
             }
         }
         Ok(table)
     }
+}
+
+/// The distances of the instance and its limit, if it has one.
+fn distances(
+    alloc: Global,
+    instance: &Instance,
+    width: usize,
+) -> Result<Option<Distances>, AllocError> {
+    let Some(limit) = instance.length_limit() else {
+        return Ok(None);
+    };
+    let unit = distance_unit(instance);
+    let legs = Legs::plain(instance, unit, width);
+    let trunk = legs.trunk(alloc)?;
+    Ok(Some(Distances {
+        width,
+        collect: legs.collection(alloc)?,
+        deliver: legs.delivery(alloc)?,
+        trunk_back: turned(alloc, &trunk, width)?,
+        trunk,
+        limit: (limit / unit.max(1)).min(FAR as u64 - 1) as u32,
+    }))
+}
+
+/// What all commodities over the longest routes and all fixed costs come to, in 10^-12, and a little more.
+fn lack_cost(flows: &[u32], units: Units, fixed_costs: &[i128]) -> i128 {
+    let mut flow = 1i128;
+    for some in flows {
+        flow = flow.wrapping_add(*some as i128);
+    }
+    let worth = (units.length as i128).wrapping_mul(units.flow as i128);
+    let mut cost = flow.wrapping_mul(units.longest as i128).wrapping_mul(worth);
+    for fixed in fixed_costs {
+        cost = cost.wrapping_add(*fixed);
+    }
+    cost.wrapping_add(1)
 }
 
 /// The number of hubs that is wanted, if one is.

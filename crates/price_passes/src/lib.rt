@@ -20,11 +20,16 @@
 //! `state`, `starts`, `passes` and `sharing` (all duals, what they begin with, and one pass, by one worker or by several), `routes` (shortest routes over a hub
 //! set), `tight` and `tightening` (duals tight at a set, of one origin and of all), `openings` and `moves` (a local search over sets),
 //! `node`, `guess`, `progress` and `memory` (what is known at a node, and at nodes before), `adviser` (what callers use).
+//! Where no route may be longer than a limit, one that is too long counts as far: `distances` (which routes are allowed),
+//! `allowed` (a commodity's legs and values) and `limited_moves` (the local search).
 #![tactic(auto)]
 
 mod adviser;
+mod allowed;
+mod distances;
 mod guess;
 mod lengths;
+mod limited_moves;
 mod memory;
 mod mixing;
 mod moves;

@@ -16,8 +16,8 @@ const MOST_ROUNDS: usize = 100;
 /// in.
 #[derive(Drop)]
 pub(crate) struct LocalSearch {
-    set: OpenSet,
-    shortest: Vec<Route>,
+    pub(crate) set: OpenSet,
+    pub(crate) shortest: Vec<Route>,
     opening: Opening,
 }
 
@@ -78,8 +78,19 @@ impl LocalSearch {
         cost
     }
 
-    /// Marks only the cheapest of all places, the last if there are several, where the set costs more than it alone.
-    pub(crate) fn drop_costly(&mut self, lengths: &Lengths, marks: &mut [bool]) {
+    /// Marks only the cheapest of all places, the last if there are several, where the set costs more than it alone. Where no
+    /// route may be longer than a limit, one place is hardly ever enough, and movable ones are opened until they are.
+    pub(crate) fn drop_costly<R: Threads + Sync>(
+        &mut self,
+        workers: &Workers<'_, R>,
+        lengths: &Lengths,
+        movable: &[bool],
+        marks: &mut [bool],
+    ) {
+        if lengths.distances().is_some() {
+            self.open_enough(workers, lengths, movable, marks);
+            return;
+        }
         let mut least = self.cost(lengths, marks);
         fill(&mut self.set.marks, false);
         self.set_routes(lengths);
@@ -143,20 +154,25 @@ impl LocalSearch {
         }
     }
 
-    /// Sets each cap to the greatest length that a commodity has when a hub of the set is left out, or to the limit.
-    pub(crate) fn set_caps(&self, lengths: &Lengths, limit: u32, caps: &mut [u32]) {
+    /// Sets each cap to the greatest length that a commodity has when a hub of the set is left out, or to the most that a
+    /// price may be.
+    pub(crate) fn set_caps(&self, lengths: &Lengths, caps: &mut [u32]) {
+        if lengths.distances().is_some() {
+            self.set_allowed_caps(lengths, caps);
+            return;
+        }
         for i in 0..lengths.size() {
             for (j, cap) in row_mut(caps, i, lengths.size()).iter_mut().enumerate() {
                 let route = self.set.routes.shortest(i, j);
                 let first = self.set.routes.without(i, j, route.first, route.first);
                 let last = self.set.routes.without(i, j, route.last, route.last);
-                *cap = first.max(last).min(limit);
+                *cap = first.max(last).min(lengths.most_price());
             }
         }
     }
 
     /// Opens hubs as long as the set then costs less, and gives what it costs.
-    fn open_all<R: Threads + Sync>(
+    pub(crate) fn open_all<R: Threads + Sync>(
         &mut self,
         workers: &Workers<'_, R>,
         lengths: &Lengths,
@@ -175,7 +191,7 @@ impl LocalSearch {
     }
 
     /// Makes the best move that closes this hub, or none, if the set then costs less, and gives what it costs.
-    fn turn<R: Threads + Sync>(
+    pub(crate) fn turn<R: Threads + Sync>(
         &mut self,
         workers: &Workers<'_, R>,
         lengths: &Lengths,
@@ -228,8 +244,12 @@ impl LocalSearch {
     }
 
     /// Finds the shortest routes over the set.
-    fn set_routes(&mut self, lengths: &Lengths) {
+    pub(crate) fn set_routes(&mut self, lengths: &Lengths) {
         self.set.routes.take(lengths, &self.set.marks);
+        if lengths.distances().is_some() {
+            self.set_allowed_routes(lengths);
+            return;
+        }
         for i in 0..lengths.size() {
             let routes = row_mut(&mut self.shortest, i, lengths.size());
             for j in 0..routes.len() {
@@ -240,6 +260,10 @@ impl LocalSearch {
 
     /// Sets the lengths to those over the set without this hub.
     fn close(&mut self, lengths: &Lengths, closed: Option<usize>) {
+        if lengths.distances().is_some() {
+            self.close_allowed(lengths, closed);
+            return;
+        }
         let h = closed.unwrap_or(usize::MAX);
         for i in 0..lengths.size() {
             let shortest = row(&self.shortest, i, lengths.size());

@@ -35,6 +35,9 @@ pub(crate) struct OpenSet {
 impl OpenSet {
     /// What routes of these lengths cost, in 10^-12.
     pub(crate) fn routes_cost(&self, lengths: &Lengths) -> i128 {
+        if lengths.distances().is_some() {
+            return self.allowed_weight(lengths).cost(lengths);
+        }
         let mut sum = 0u64;
         for i in 0..lengths.size() {
             let base = row(&self.base, i, lengths.size());
@@ -49,9 +52,9 @@ impl OpenSet {
 #[derive(Drop)]
 pub(crate) struct Opening {
     to_hubs: Vec<u32>,
-    from_hubs: Vec<u32>,
-    onward: Vec<u32>,
-    last: Vec<u32>,
+    pub(crate) from_hubs: Vec<u32>,
+    pub(crate) onward: Vec<u32>,
+    pub(crate) last: Vec<u32>,
 }
 
 impl Opening {
@@ -75,6 +78,9 @@ impl Opening {
         k: usize,
     ) -> i128 {
         self.set_ways(lengths, &set.routes, closed, k);
+        if lengths.distances().is_some() {
+            return self.allowed_weight(lengths, set, closed, k).cost(lengths);
+        }
         (self.weight(lengths, set, k) as i128).wrapping_mul(lengths.worth())
     }
 

@@ -1,5 +1,6 @@
 //! The best dual of a commodity at prices: the greatest price of the commodity less the priced values.
 
+use crate::distances::Reach;
 use crate::lengths::Lengths;
 use crate::network::Network;
 use crate::places::{Commodity, PlaceValues};
@@ -53,9 +54,16 @@ impl Oracle {
         prices: &[i64],
         cap: u32,
     ) -> u32 {
-        let cap = cap.min(self.single_cap(legs, prices));
+        match legs.reach {
+            None => self.list_singles(legs, prices),
+            Some(_) => self.list_allowed_singles(lengths, legs, prices),
+        }
+        let cap = cap.min(self.single_cap());
         self.list_priced(legs, prices, cap);
-        self.connect(lengths, legs, prices);
+        match legs.reach {
+            None => self.connect(lengths, legs, prices),
+            Some(_) => self.connect_allowed(lengths, legs, prices),
+        }
         let price = self.network.solve(cap);
         self.set_priced(legs, price);
         price
@@ -81,6 +89,10 @@ impl Oracle {
         prices: &[i64],
         order: &[Turn],
     ) {
+        if let Some(reach) = legs.reach {
+            self.complete_allowed(lengths, legs, reach, prices, order);
+            return;
+        }
         for turn in order {
             if amount_at(prices, turn.place) == 0 {
                 self.values.settle_asked(lengths, legs, turn.place);
@@ -88,11 +100,24 @@ impl Oracle {
         }
     }
 
-    /// The length by some single place, of which no best price is above.
-    ///
-    /// Two full prices are sent. Of the places with the shortest single routes whose prices come to that, one has room
-    /// left before the last part is sent, so that a way no longer than its single route is open.
-    fn single_cap(&mut self, legs: &Commodity<'_>, prices: &[i64]) -> u32 {
+    /// The same, where no route may be longer than a limit.
+    fn complete_allowed(
+        &mut self,
+        lengths: &Lengths,
+        legs: &Commodity<'_>,
+        reach: Reach<'_>,
+        prices: &[i64],
+        order: &[Turn],
+    ) {
+        for turn in order {
+            if amount_at(prices, turn.place) == 0 {
+                self.values.settle_allowed(lengths, legs, reach, turn.place);
+            }
+        }
+    }
+
+    /// Lists the priced places as only hubs.
+    fn list_singles(&mut self, legs: &Commodity<'_>, prices: &[i64]) {
         self.singles.clear();
         for (k, price) in prices.iter().enumerate() {
             if *price > 0 {
@@ -103,6 +128,27 @@ impl Oracle {
                 });
             }
         }
+    }
+
+    /// The same, where no route may be longer than a limit.
+    fn list_allowed_singles(&mut self, lengths: &Lengths, legs: &Commodity<'_>, prices: &[i64]) {
+        self.singles.clear();
+        for (k, price) in prices.iter().enumerate() {
+            if *price > 0 {
+                // It succeeds, since there is room for all places.
+                let _ = self.singles.push(Single {
+                    length: legs.length(lengths, k, k),
+                    price: *price,
+                });
+            }
+        }
+    }
+
+    /// The length by some single place, of which no best price is above.
+    ///
+    /// Two full prices are sent. Of the places with the shortest single routes whose prices come to that, one has room
+    /// left before the last part is sent, so that a way no longer than its single route is open.
+    fn single_cap(&mut self) -> u32 {
         let mut sum = 0i64;
         for _ in 0..self.singles.len() {
             let Some(single) = take_shortest(&mut self.singles) else {
@@ -145,6 +191,21 @@ impl Oracle {
             let price = amount_at(prices, *k).clamp(0, FULL_PRICE) as i32;
             self.network.limit(x, price);
             self.network.set_cost(count, x, legs.alone(*k));
+        }
+        self.network.mirror();
+    }
+
+    /// The same, where no route may be longer than a limit.
+    fn connect_allowed(&mut self, lengths: &Lengths, legs: &Commodity<'_>, prices: &[i64]) {
+        let count = self.priced.len();
+        self.network.begin(count);
+        for (x, k) in self.priced.iter().enumerate() {
+            let before = row(&self.priced, 0, x);
+            legs.set_allowed_pairs(lengths, *k, before, self.network.costs_mut(x));
+            let price = amount_at(prices, *k).clamp(0, FULL_PRICE) as i32;
+            self.network.limit(x, price);
+            let alone = legs.length(lengths, *k, *k);
+            self.network.set_cost(count, x, alone);
         }
         self.network.mirror();
     }

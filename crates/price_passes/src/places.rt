@@ -1,16 +1,19 @@
 //! The legs of a commodity over places, and the values of the places for it.
 
+use crate::distances::Reach;
 use crate::lengths::Lengths;
 use crate::rows::{FAR, at, copy, fill, least_sum, least_sum_of_three, put, set_sums, small};
 use std::alloc::{AllocError, Global};
 
-/// The legs of a commodity over places: of collection and delivery, and the least lengths of both with a trunk leg.
+/// The legs of a commodity over places: of collection and delivery, and the least lengths of both with a trunk leg. Where no
+/// route may be longer than a limit it has the distances that tell which are allowed, and its own lengths are over all.
 #[derive(Clone, Copy)]
 pub(crate) struct Commodity<'a> {
     pub(crate) collect: &'a [u32],
     pub(crate) collect_near: &'a [u32],
     pub(crate) deliver: &'a [u32],
     pub(crate) deliver_near: &'a [u32],
+    pub(crate) reach: Option<Reach<'a>>,
 }
 
 impl<'a> Commodity<'a> {
@@ -21,6 +24,7 @@ impl<'a> Commodity<'a> {
             collect_near: lengths.collect_near(i),
             deliver: lengths.deliver(j),
             deliver_near: lengths.deliver_near(j),
+            reach: lengths.distances().map(|distances| distances.reach(i, j)),
         }
     }
 
@@ -30,12 +34,12 @@ impl<'a> Commodity<'a> {
     }
 
     /// The least length of a route with the place as its first hub.
-    fn forth(&self, k: usize) -> u32 {
+    pub(crate) fn forth(&self, k: usize) -> u32 {
         at(self.collect, k).wrapping_add(at(self.deliver_near, k))
     }
 
     /// The least length of a route with the place as its last hub.
-    fn back(&self, k: usize) -> u32 {
+    pub(crate) fn back(&self, k: usize) -> u32 {
         at(self.collect_near, k).wrapping_add(at(self.deliver, k))
     }
 
@@ -44,9 +48,12 @@ impl<'a> Commodity<'a> {
         at(self.collect, k).wrapping_add(at(self.deliver, k))
     }
 
-    /// The greatest price that the values allow, or the limit.
-    pub(crate) fn greatest_price(&self, lengths: &Lengths, values: &[u32], limit: u32) -> u32 {
-        let mut price = limit;
+    /// The greatest price that the values allow.
+    pub(crate) fn greatest_price(&self, lengths: &Lengths, values: &[u32]) -> u32 {
+        if let Some(reach) = self.reach {
+            return self.greatest_allowed_price(lengths, reach, values);
+        }
+        let mut price = lengths.most_price();
         for (k, value) in values.iter().enumerate() {
             if self.forth(k).wrapping_add(*value) < price {
                 let onward = least_sum_of_three(lengths.trunk(k), self.deliver, values);
@@ -109,10 +116,10 @@ impl<'a> PlaceLegs<'a> {
 /// `FAR` where the place asks nothing of others as yet.
 #[derive(Drop)]
 pub(crate) struct PlaceValues {
-    price: u32,
+    pub(crate) price: u32,
     values: Vec<u32>,
-    firsts: Vec<u32>,
-    lasts: Vec<u32>,
+    pub(crate) firsts: Vec<u32>,
+    pub(crate) lasts: Vec<u32>,
 }
 
 impl PlaceValues {

@@ -1,6 +1,7 @@
 //! The shortest routes over a hub set, and those that leave one or two of its hubs out.
 
 use crate::lengths::Lengths;
+use crate::places::Commodity;
 use crate::rows::{FAR, at, fill, gather, row, row_mut, short};
 use std::alloc::{AllocError, Global};
 
@@ -25,6 +26,16 @@ pub(crate) const NO_ROUTE: Route = Route {
     last: usize::MAX,
     length: FAR,
 };
+
+/// The shortest route of a commodity, and the lengths of the shortest without its first hub, without its last and without
+/// both. Where these are one, the length without the last is not told.
+#[derive(Clone, Copy)]
+pub(crate) struct Detours {
+    pub(crate) route: Route,
+    pub(crate) without_first: u32,
+    pub(crate) without_last: u32,
+    pub(crate) neither: u32,
+}
 
 /// A way from a hub by a last hub, which is told by place, to a destination.
 #[derive(Clone, Copy)]
@@ -206,6 +217,84 @@ impl SetRoutes {
         for e in 0..count {
             if hubs[e] != some && hubs[e] != other {
                 least = least.min(collect[e].wrapping_add(hops[e].without(skipped, too)));
+            }
+        }
+        least
+    }
+
+    /// The shortest route and those without its hubs.
+    pub(crate) fn detours(&self, i: usize, j: usize) -> Detours {
+        let route = self.shortest(i, j);
+        let (k, m) = (route.first, route.last);
+        Detours {
+            route,
+            without_first: self.without(i, j, k, k),
+            without_last: if k == m {
+                FAR
+            } else {
+                self.without(i, j, m, m)
+            },
+            neither: self.without(i, j, k, m),
+        }
+    }
+
+    /// The same of the routes that are allowed, where none may be longer than a limit. Where there is none without the hubs,
+    /// what no price is above stands for its length.
+    pub(crate) fn allowed_detours(&self, lengths: &Lengths, i: usize, j: usize) -> Detours {
+        let route = self.shortest_allowed(lengths, i, j);
+        let (k, m) = (route.first, route.last);
+        let most = lengths.most_price();
+        Detours {
+            route,
+            without_first: self.allowed_without(lengths, i, j, k, k).min(most),
+            without_last: self.allowed_without(lengths, i, j, m, m).min(most),
+            neither: self.allowed_without(lengths, i, j, k, m).min(most),
+        }
+    }
+
+    /// The shortest route that is allowed, or none.
+    pub(crate) fn shortest_allowed(&self, lengths: &Lengths, i: usize, j: usize) -> Route {
+        let legs = Commodity::of(lengths, i, j);
+        let hops = row(&self.hops, j, self.width);
+        let mut found = NO_ROUTE;
+        for (k, hops) in self.hubs.iter().zip(hops) {
+            // No route by this first hub is shorter.
+            if at(legs.collect, *k).wrapping_add(hops.first.length) < found.length {
+                for m in &self.hubs {
+                    let length = legs.shorter(lengths, *k, *m, found.length);
+                    if length < found.length {
+                        found = Route {
+                            first: *k,
+                            last: *m,
+                            length,
+                        };
+                    }
+                }
+            }
+        }
+        found
+    }
+
+    /// The length of the shortest route by neither place that is allowed, or `FAR`.
+    pub(crate) fn allowed_without(
+        &self,
+        lengths: &Lengths,
+        i: usize,
+        j: usize,
+        some: usize,
+        other: usize,
+    ) -> u32 {
+        let legs = Commodity::of(lengths, i, j);
+        let hops = row(&self.hops, j, self.width);
+        let mut least = FAR;
+        for (k, hops) in self.hubs.iter().zip(hops) {
+            let near = at(legs.collect, *k).wrapping_add(hops.first.length);
+            if near < least && *k != some && *k != other {
+                for m in &self.hubs {
+                    if *m != some && *m != other {
+                        least = legs.shorter(lengths, *k, *m, least);
+                    }
+                }
             }
         }
         least

@@ -9,7 +9,7 @@ use crate::state::{State, Sums};
 use crate::waits::{NO_QUOTE, Quote};
 
 impl State {
-    /// Begins with these values, a number for each place of each commodity in order, none of them longer than a route, and
+    /// Begins with these values, a number for each place of each commodity in order, none of them above any price, and
     /// with the greatest prices that they allow. Past the end of the list they are 0.
     pub(crate) fn begin_with(&mut self, lengths: &Lengths, values: &[u32])
         ensures { self.new ≡ self.old }
@@ -38,11 +38,10 @@ fn set_greatest_from(
     quotes: &mut [Quote],
     sums: &mut Sums,
 ) {
-    let limit = lengths.longest().wrapping_add(1);
     for (j, (quote, flow)) in quotes.iter_mut().zip(lengths.flows(i)).enumerate() {
         if *flow > 0 {
             let values = row(values, j, lengths.places());
-            quote.price = Commodity::of(lengths, i, j).greatest_price(lengths, values, limit);
+            quote.price = Commodity::of(lengths, i, j).greatest_price(lengths, values);
             sums.add(*flow as i64, quote.price, values);
         }
     }

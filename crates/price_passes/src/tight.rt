@@ -5,7 +5,7 @@ use crate::lengths::Lengths;
 use crate::origins::Terms;
 use crate::places::{Commodity, PlaceValues};
 use crate::ramps::{NO_TURN, Turn, set_order};
-use crate::routes::{Route, SetRoutes};
+use crate::routes::{Detours, Route, SetRoutes};
 use crate::rows::{add_weighed, at, copy, is_marked, marked, put, row, row_mut};
 use crew::Job;
 use std::alloc::{AllocError, Global};
@@ -81,16 +81,23 @@ impl TightSet {
 
     /// The shortest route of a commodity, and its tight price where the values of the route's hubs are lowered to what the
     /// routes without them leave.
-    pub(crate) fn route(&self, i: usize, j: usize, values: &[u32]) -> TightRoute {
-        let route = self.routes.shortest(i, j);
+    pub(crate) fn route(
+        &self,
+        lengths: &Lengths,
+        i: usize,
+        j: usize,
+        values: &[u32],
+    ) -> TightRoute {
+        let detours = self.detours(lengths, i, j);
+        let route = detours.route;
         let (k, m) = (route.first, route.last);
-        let neither = self.routes.without(i, j, k, m).saturating_sub(route.length);
-        let without_first = self.routes.without(i, j, k, k).saturating_sub(route.length);
+        let neither = detours.neither.saturating_sub(route.length);
+        let without_first = detours.without_first.saturating_sub(route.length);
         let first = at(values, k).min(without_first).min(neither);
         let last = if k == m {
             0
         } else {
-            let without_last = self.routes.without(i, j, m, m).saturating_sub(route.length);
+            let without_last = detours.without_last.saturating_sub(route.length);
             let room = without_last.min(neither.saturating_sub(first));
             at(values, m).min(room)
         };
@@ -99,6 +106,15 @@ impl TightSet {
             price: route.length.wrapping_add(first).wrapping_add(last),
             first,
             last,
+        }
+    }
+
+    /// The shortest route of a commodity that is allowed, and those without its hubs.
+    fn detours(&self, lengths: &Lengths, i: usize, j: usize) -> Detours {
+        if lengths.distances().is_some() {
+            self.routes.allowed_detours(lengths, i, j)
+        } else {
+            self.routes.detours(i, j)
         }
     }
 
@@ -112,7 +128,7 @@ impl TightSet {
         values: &[u32],
     ) -> u32 {
         let legs = Commodity::of(lengths, i, j);
-        let tight = self.route(i, j, values);
+        let tight = self.route(lengths, i, j, values);
         found.begin_from(&legs, tight.price, values);
         for k in self.routes.hubs() {
             if !tight.route.uses(*k) {
@@ -123,10 +139,24 @@ impl TightSet {
         if tight.route.last != tight.route.first {
             found.settle(&legs, tight.route.last, tight.last);
         }
-        for turn in &self.order {
-            found.settle_asked(lengths, &legs, turn.place);
-        }
+        self.settle_others(lengths, &legs, found);
         tight.price
+    }
+
+    /// Gives each place outside the set, in their order, the least value that is asked of it.
+    fn settle_others(&self, lengths: &Lengths, legs: &Commodity<'_>, found: &mut PlaceValues) {
+        match legs.reach {
+            None => {
+                for turn in &self.order {
+                    found.settle_asked(lengths, legs, turn.place);
+                }
+            }
+            Some(reach) => {
+                for turn in &self.order {
+                    found.settle_allowed(lengths, legs, reach, turn.place);
+                }
+            }
+        }
     }
 }
 

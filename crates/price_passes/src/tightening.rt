@@ -59,7 +59,7 @@ impl Tightening {
             for (j, flow) in lengths.flows(i).iter().enumerate() {
                 if *flow > 0 {
                     let values = row(values, j, lengths.places());
-                    let tight = self.set.route(i, j, values);
+                    let tight = self.set.route(lengths, i, j, values);
                     self.add_route(*flow as i64, tight);
                 }
             }

@@ -3,6 +3,8 @@
 //! The unit of lengths is a divisor of them all, as fine as can be while flows need not be rounded. Where no divisor
 //! is great enough, lengths are rounded, and where the two together are too great, flows are.
 
+ghost use Rattle.std.specs.Prelude.{◌≤◌};
+
 use hub_model::Instance;
 
 /// No route is longer, in the unit of lengths.
@@ -75,6 +77,15 @@ impl Flows {
             .wrapping_mul(least.div_ceil(self.common.max(1)).max(1));
         unit.min(u64::MAX as u128) as u64
     }
+}
+
+/// A unit of distances in which none is above `MOST_LENGTH`: their common divisor, where that is great enough.
+pub(crate) fn distance_unit(instance: &Instance) -> u64
+    ensures { 1 ≤ result }
+{
+    let least = (greatest(instance.distances()) as u128).div_ceil(MOST_LENGTH);
+    let least = least.min(u64::MAX as u128) as u64;
+    common_divisor(instance.distances()).max(least).max(1)
 }
 
 /// The unit of lengths and the longest route in it. It is no finer than one in which the longest route is `most`.
