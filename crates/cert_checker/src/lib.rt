@@ -1,12 +1,15 @@
-//! What certifies: the check of a certificate against an instance, which takes nothing from any search.
+//! What certifies: the check of a certificate against an instance, which takes nothing that a search found.
 //!
-//! `check` tries the conditions on a certificate in the order in which they are defined, and answers that the plan is
-//! optimal, that it stands with a lower bound, or the first condition that fails, with its line in the text.
-//! `check_text` reads bytes as a certificate and checks it: its verdict is the one that the definitions give the bytes.
-//! A marked cut is to be a core cut by its mark; then no cut that is tight at the hubs of the mark dominates it.
+//! `check` answers by the conditions on a certificate in the order in which they are defined: that its plan is optimal, that
+//! it stands with a lower bound, or the first condition that fails, with its line in the text. `check_text` reads bytes as
+//! a certificate and checks it: its verdict is the one that the definitions give the bytes, and where they are not read it
+//! names what is wrong with them. A marked cut is to be a core cut by its mark; where the verdict is not against the
+//! certificate, no cut of the instance that is tight at the hubs of a mark dominates the marked cut.
 //!
 //! Of an older certificate, whose cuts a search is to begin with, `check_cuts` tries its size and its cuts for the present
-//! instance, and nothing else. `read_older` reads bytes as such a certificate, and gives it where it serves.
+//! instance, and neither its bound, plan, tree nor marks. Its duals are tried first on lines of `dual_lines`, by tables that
+//! searches use too; the check of a certificate calls none of these. `read_older` reads bytes as such a certificate, and gives
+//! it where its size is the instance's and its cuts are cuts of the instance; else it says what is against it.
 #![tactic(auto)]
 
 // What is answered.

@@ -74,7 +74,9 @@ fn older_by(certificate: Certificate, failing: Option<(Kind, u64)>) -> Older
 /// What is asked of an older certificate whose cuts are to be given: its size, and its cuts, whatever their marks. The
 /// answer is the first condition that fails, with its line in the certificate's text, counted from 1, or `None`.
 ///
-/// The duals of a large cut are tried side by side. The only error is want of memory.
+/// The cuts are tried one after another first, dual by dual. Only where that does not show all of them to be cuts of the
+/// instance, they are tried again for the first failure, the duals of a large cut side by side. The only error is want of
+/// memory.
 pub fn check_cuts<R: Threads + Sync>(
     rt: &R,
     alloc: Global,
@@ -95,8 +97,8 @@ pub fn check_cuts<R: Threads + Sync>(
     }
 }
 
-// Tells whether the certificate has the instance's size and cuts of it, by lines of duals: no failure is looked for. Where
-// it says no, the plain check tells the first one, if there is one.
+// Tells for sure that the certificate has the instance's size and cuts of it, by lines of duals. It may have them, too, where
+// this says no: no failure is looked for, and the plain check tells the first one, if there is one.
 fn is_sure(
     alloc: Global,
     instance: &Instance,
