@@ -16,11 +16,12 @@
 //!
 //! In the order of reading: `outcomes`, `turning` (the turn of a node), `rounds` (those of a round), `fronts` (what came of
 //! the nodes of a round), `splitting` and `taking` (what is taken of an outcome), `left` (what is left of the tree), `posts`
-//! (what searchers tell each other), `searchers` (searchers side by side), `turners` (who works out a round's turns) and
-//! `searching` (rounds, and the whole search).
+//! (what searchers tell each other), `draws` (in which order they draw turns), `searchers` (searchers side by side), `turners`
+//! (who works out a round's turns) and `searching` (rounds, and the whole search).
 #![tactic(auto)]
 
 mod closing;
+mod draws;
 mod fronts;
 mod left;
 mod outcomes;

@@ -2,7 +2,8 @@
 //!
 //! Each carries out the whole search, and they come to the same. Turns take nearly all of its time, so each turn is worked
 //! out by one searcher alone, which tells it to the others (`Partner` of `desks`). Turns have numbers, counted from the first of
-//! the search on; a searcher draws the next one as it is done with another. Threads are made once, and none waits asleep.
+//! the search on; a searcher draws the next one as it is done with another, within a round in the order of `draws`. Threads are
+//! made once, and none waits asleep.
 
 ghost use Rattle.std.specs.Prelude.{◌≡◌, ◌+◌, ◌<◌, ◌≤◌, None, length, All, IfOk, IfSome, OnOk};
 ghost use Rattle.std.specs.List.{AllZip, HoldsAt};
@@ -14,8 +15,9 @@ ghost use Rattle.node_rounds.specs.Outcomes.{IsTurnOf, IsOutcomeOf};
 ghost use Rattle.node_rounds.specs.Left.{standing_of, IsLeft, turned_of};
 ghost use Rattle.node_rounds.specs.Searchers.{IsTurnBy, IsSearcher, IsWholeSearch};
 
+use crate::draws::drawn_at;
 use crate::left::Left;
-use crate::outcomes::Outcome;
+use crate::outcomes::{Outcome, Pending};
 use crate::posts::{Worked, into_outcome};
 use crate::searching::search_by;
 use crate::turners::{MOST_TURNS, Turner, Workers, turned};
@@ -66,20 +68,26 @@ fn turn_at(
 }
 
 impl<'s, 'a> Searcher<'s, 'a> {
-    // The place of the turn that it has drawn, if that is one of this round's, which has so many.
-    fn drawn_place(&self, turns: usize) -> Option<u32>
-        ensures { IfSome result (λ place. place < turns) }
+    // The place of the turn that it has drawn, if that is one of this round's, in which these nodes have theirs.
+    fn drawn_place(&self, nodes: &[Pending]) -> Option<u32>
+        requires few { length nodes.now ≤ most_turns }
+        ensures { IfSome result (λ place. place < length nodes.now) }
     {
         let ticket = self.partner.ticket();
         if ticket < self.past {
             return None;
         }
-        let place = ticket - self.past;
-        if place < turns as u64 {
-            u32::try_from(place).ok()
+        let draw = ticket - self.past;
+        if draw < nodes.len() as u64 {
+            Some(drawn_at(nodes, draw as u32))
         } else {
             None
         }
+    }
+
+    // The number in the search of the turn at this place of the round.
+    fn turn_number(&self, place: u32) -> u64 {
+        self.past.wrapping_add(place as u64)
     }
 
     // Works out the turns that it draws in this round, and tells them.
@@ -98,13 +106,13 @@ impl<'s, 'a> Searcher<'s, 'a> {
     {
         let turns = turned(left).len();
         for _ in 0..turns {
-            let Some(place) = self.drawn_place(turns) else {
+            let Some(place) = self.drawn_place(turned(left)) else {
                 break;
             };
             gate.at(self.number, place);
             let outcome = turn_at(alloc, task, progress, left, place, &mut self.solo)?;
             let worked = Worked {
-                turn: self.partner.ticket(),
+                turn: self.turn_number(place),
                 round: self.round,
                 place,
                 outcome,
@@ -130,7 +138,7 @@ impl<'s, 'a> Searcher<'s, 'a> {
         ensures turn { IfOk result (λ o. HoldsAt (λ x. IsTurnBy task.now.instance.now progress.now x o) (turned_of left.now.nodes.items) place) }
         ensures ready { OnOk result (IsSearcher self.new task.now (standing_of task.now.instance.now progress.now left.now)) }
     {
-        let turn = self.past.wrapping_add(place as u64);
+        let turn = self.turn_number(place);
         if let Some(worked) = self.partner.awaited(turn)? {
             if worked.round == self.round && worked.place == place {
                 return into_outcome(alloc, worked);
