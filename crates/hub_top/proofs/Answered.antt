@@ -8,27 +8,41 @@ use Rattle.hub_spec.specs.Problem.{Problem}
 use Rattle.hub_spec.specs.Plans.{Plan, IsPlan}
 use Rattle.hub_spec.specs.Lacking.{lacking}
 use Rattle.hub_spec.specs.Certificates.{Proof}
-use Rattle.cert_spec.specs.Text.{SpellsUnmarked}
 use Rattle.cert_spec.specs.Stated.{Stated}
 use Rattle.cert_spec.specs.Verdicts.{Verdict, optimal, bounds, fails, misread, too_long, Why, Older, serves, serves_not, unread, over_limit, IsOlder}
 use Rattle.cert_spec.proofs.OlderTexts.{one_older_from}
 use Rattle.cert_spec.proofs.OneText.{one_certificate_lem}
 use Rattle.cert_spec.proofs.TextOrFault.{each_is_text_or_fault_lem}
+use Rattle.search_spec.specs.Again.{start_of}
 use Rattle.hub_make.specs.Contents.{made_problem}
 use Rattle.closing_search.specs.Gaps.{IsWithinGap}
 use Rattle.closing_search.proofs.Gaps.{no_gap}
-use Rattle.hub_words.specs.Requests.{Source, Solving, SearchRule, Resolving, Making, Search, Request, instance}
-use Rattle.hub_words.specs.Requests.{solve, optimize, resolve, check, report, make, demo}
+use Rattle.hub_words.specs.Requests.{Source, SearchRule, How, follow, again, freely, older_named, gap_of, Solving, Making, Search, Request, instance}
+use Rattle.hub_words.specs.Requests.{solve, check, report, make, demo}
 use Rattle.hub_top.specs.declared.status.Status.{Status}
 use Rattle.hub_top.specs.declared.status.Status.TheVariants.{Done, Stopped, No, Usage, Instance, Memory, Read, Write, Lacking}
-use Rattle.hub_top.specs.Commands.{HoldsInstance, Method, SpellsBy, method_by, demo_method, again_method, IsEnoughFor, Solves, Stops, LacksNetwork, HoldsOlder, MayBegin, BeginsInstance, JudgesFile, ReportsFile}
-use Rattle.old_duals.specs.Sized.{IsSized}
-use Rattle.old_duals.proofs.Sizes.{IsServing, still_serving}
-use Rattle.hub_top.specs.Answers.{Answers, TellsFirst, Demonstrates, found_status, rule_status, solve_status, older_status, verdict_status, report_status}
+use Rattle.hub_top.specs.Commands.{HoldsInstance, cold, warm, Method, method_of, SpellsBy, demo_method, IsEnoughFor, Solves, Stops, SolvesBy, StopsBy, SolvesInstance, StopsInstance, FromOlder, LacksNetwork, IsSaid, HoldsOlder, MayBegin, JudgesFile, ReportsFile}
+use Rattle.hub_top.specs.Answers.{Answers, TellsOlder, Demonstrates, found_status, rule_status, solve_status, older_status, verdict_status, report_status}
 use Rattle.hub_top.specs.Texts.{older_line}
 use Rattle.hub_top.proofs.OneReading.{same_bytes, one_instance}
 use Rattle.hub_top.proofs.OneTexts.{only_verdict}
+use Rattle.hub_top.proofs.OlderCertificates.{no_line_where_begun}
 use Rattle.hub_top.proofs.Networks.{plan_serves}
+
+-- ---- what solves
+
+-- a command that solves has an answer with three statuses
+pub solve_cases : (held : Option Files) (x : Solving) (text : List ℕ) (P : Status → Type 0) → (SolvesInstance held x text → P Done)
+    → (StopsInstance held x text → P Stopped) → (TellsOlder held x text → P No) → (status : Status) → Answers (solve x) status held text → P status
+solve_cases held x text P done stopped refuses Done h = done h
+solve_cases held x text P done stopped refuses Stopped h = stopped h
+solve_cases held x text P done stopped refuses No h = refuses h
+solve_cases held x text P done stopped refuses Usage h = absurd h
+solve_cases held x text P done stopped refuses Instance h = absurd h
+solve_cases held x text P done stopped refuses Memory h = absurd h
+solve_cases held x text P done stopped refuses Read h = absurd h
+solve_cases held x text P done stopped refuses Write h = absurd h
+solve_cases held x text P done stopped refuses Lacking h = absurd h
 
 -- ---- the instance
 
@@ -37,41 +51,12 @@ pub record HasInstance (files : Files) (s : Source) : Type 0 where
   pub problem : Problem
   pub instance : HoldsInstance files s problem
 
-solve_instance : (files : Files) (x : Solving) (rule : SearchRule) (status : Status) (text : List ℕ) → Answers (solve x rule) status (Some files) text
+solve_instance : (files : Files) (x : Solving) (status : Status) (text : List ℕ) → Answers (solve x) status (Some files) text
     → HasInstance files x.source
-solve_instance files x rule Done text h = record { problem = h.problem; instance = h.instance }
-solve_instance files x rule Stopped text h = record { problem = h.problem; instance = h.instance }
-solve_instance files x rule No text h = absurd h
-solve_instance files x rule Usage text h = absurd h
-solve_instance files x rule Instance text h = absurd h
-solve_instance files x rule Memory text h = absurd h
-solve_instance files x rule Read text h = absurd h
-solve_instance files x rule Write text h = absurd h
-solve_instance files x rule Lacking text h = absurd h
-
-optimize_instance : (files : Files) (x : Solving) (gap : ℕ) (from : Option (List ℕ)) (status : Status) (text : List ℕ) → Answers (optimize x gap from) status (Some files) text
-    → HasInstance files x.source
-optimize_instance files x gap from Done text h = record { problem = h.0.problem; instance = h.0.instance }
-optimize_instance files x gap from Stopped text h = record { problem = h.0.problem; instance = h.0.instance }
-optimize_instance files x gap from No text h = record { problem = h.refuses.problem; instance = h.refuses.instance }
-optimize_instance files x gap from Usage text h = absurd h
-optimize_instance files x gap from Instance text h = absurd h
-optimize_instance files x gap from Memory text h = absurd h
-optimize_instance files x gap from Read text h = absurd h
-optimize_instance files x gap from Write text h = absurd h
-optimize_instance files x gap from Lacking text h = absurd h
-
-resolve_instance : (files : Files) (x : Resolving) (status : Status) (text : List ℕ) → Answers (resolve x) status (Some files) text
-    → HasInstance files x.source
-resolve_instance files x Done text h = record { problem = h.problem; instance = h.instance }
-resolve_instance files x Stopped text h = record { problem = h.problem; instance = h.instance }
-resolve_instance files x No text h = record { problem = h.refuses.problem; instance = h.refuses.instance }
-resolve_instance files x Usage text h = absurd h
-resolve_instance files x Instance text h = absurd h
-resolve_instance files x Memory text h = absurd h
-resolve_instance files x Read text h = absurd h
-resolve_instance files x Write text h = absurd h
-resolve_instance files x Lacking text h = absurd h
+solve_instance files x status text h =
+    solve_cases (Some files) x text (λ _. HasInstance files x.source) (λ k. record { problem = k.problem; instance = k.instance })
+    (λ k. record { problem = k.problem; instance = k.instance })
+    (λ k. record { problem = k.refuses.problem; instance = k.refuses.instance }) status h
 
 report_instance : (files : Files) (s : Source) (file : List ℕ) (status : Status) (text : List ℕ) → Answers (report s file) status (Some files) text
     → HasInstance files s
@@ -87,12 +72,8 @@ report_instance files s file Lacking text h = absurd h
 
 pub answered_instance : (files : Files) (request : Request) (s : Source) (status : Status) (text : List ℕ) → instance request ≡ Some s
     → Answers request status (Some files) text → HasInstance files s
-answered_instance files (solve x rule) s status text named h =
-    let e : x.source ≡ s = cc in subst (HasInstance files) e (solve_instance files x rule status text h)
-answered_instance files (optimize x gap from) s status text named h =
-    let e : x.source ≡ s = cc in subst (HasInstance files) e (optimize_instance files x gap from status text h)
-answered_instance files (resolve x) s status text named h =
-    let e : x.source ≡ s = cc in subst (HasInstance files) e (resolve_instance files x status text h)
+answered_instance files (solve x) s status text named h =
+    let e : x.source ≡ s = cc in subst (HasInstance files) e (solve_instance files x status text h)
 answered_instance files (check t file) s status text named h =
     let e : t ≡ s = cc in subst (HasInstance files) e (record { problem = h.judges.problem; instance = h.judges.instance })
 answered_instance files (report t file) s status text named h =
@@ -122,30 +103,30 @@ unfolding solve_status
 served_status p m plan is =
     sym (ap (λ (o : Option (ℕ × ℕ)). cond (is_some o) Lacking (rule_status p m)) (plan_serves p plan is))
 
-pub solve_status_is : (files : Files) (x : Solving) (rule : SearchRule) (p : Problem) (status : Status) (text : List ℕ) → HoldsInstance files x.source p
-    → Answers (solve x rule) status (Some files) text → status ≡ solve_status p (method_by x rule)
-solve_status_is files x rule p Done text instance h =
-    let m = method_by x rule in
-    solves_status h.problem m (SpellsBy h.problem m text) h.solves ∙ served_status h.problem m h.solves.certificate.plan h.solves.finds.holds.plan
-    ∙ ap (λ q. solve_status q m) (one_instance files x.source h.problem p h.instance instance)
-solve_status_is files x rule p Stopped text instance h =
-    let m = method_by x rule in
-    stops_status h.problem m (SpellsBy h.problem m text) h.stops ∙ served_status h.problem m h.stops.certificate.plan h.stops.finds.holds.plan
-    ∙ ap (λ q. solve_status q m) (one_instance files x.source h.problem p h.instance instance)
-solve_status_is files x rule p No text instance h = absurd h
-solve_status_is files x rule p Usage text instance h = absurd h
-solve_status_is files x rule p Instance text instance h = absurd h
-solve_status_is files x rule p Memory text instance h = absurd h
-solve_status_is files x rule p Read text instance h = absurd h
-solve_status_is files x rule p Write text instance h = absurd h
-solve_status_is files x rule p Lacking text instance h = absurd h
+-- who follows a rule reads no older certificate
+names_none : (x : Solving) (rule : SearchRule) (older : List ℕ) → x.how ≡ follow rule → older_named x.how ≡ Some older → ⊥
+names_none x rule older e named = none-some older (subst (λ (w : How). older_named w ≡ Some older) e named)
+
+pub solve_status_is : (files : Files) (x : Solving) (rule : SearchRule) (p : Problem) (status : Status) (text : List ℕ) → x.how ≡ follow rule
+    → HoldsInstance files x.source p → Answers (solve x) status (Some files) text → status ≡ solve_status p (method_of x.search (cold rule))
+solve_status_is files x rule p status text e instance h =
+    let m = method_of x.search (cold rule) in
+    solve_cases (Some files) x text (λ (y : Status). y ≡ solve_status p m)
+    (λ k. (let solves : Solves k.problem m (SpellsBy k.problem m text) =
+    subst (λ (w : How). SolvesBy (Some files) k.problem w x.search text) e k.solves in
+    solves_status k.problem m (SpellsBy k.problem m text) solves ∙ served_status k.problem m solves.certificate.plan solves.finds.holds.plan
+    ∙ ap (λ q. solve_status q m) (one_instance files x.source k.problem p k.instance instance)))
+    (λ k. (let stops : Stops k.problem m (SpellsBy k.problem m text) =
+    subst (λ (w : How). StopsBy (Some files) k.problem w x.search text) e k.stops in
+    stops_status k.problem m (SpellsBy k.problem m text) stops ∙ served_status k.problem m stops.certificate.plan stops.finds.holds.plan
+    ∙ ap (λ q. solve_status q m) (one_instance files x.source k.problem p k.instance instance)))
+    (λ k. absurd (names_none x rule k.refuses.older_held.older e k.refuses.older_held.named)) status h
 
 -- and so it is where all candidates together lack a commodity
-pub lacking_status : (files : Files) (x : Solving) (rule : SearchRule) (p : Problem) (commodity : ℕ × ℕ) → HoldsInstance files x.source p
-    → LacksNetwork (Some files) x.source commodity → Lacking ≡ solve_status p (method_by x rule)
+pub lacking_status : (files : Files) (x : Solving) (m : Method) (p : Problem) (commodity : ℕ × ℕ) → HoldsInstance files x.source p
+    → LacksNetwork (Some files) x.source commodity → Lacking ≡ solve_status p m
 unfolding solve_status
-lacking_status files x rule p commodity instance h =
-    let m = method_by x rule in
+lacking_status files x m p commodity instance h =
     sym (ap (λ (o : Option (ℕ × ℕ)). cond (is_some o) Lacking (rule_status h.problem m)) h.lacks)
     ∙ ap (λ q. solve_status q m) (one_instance files x.source h.problem p h.instance instance)
 
@@ -156,34 +137,112 @@ lacks_none files s p commodity instance none h =
     let same : h.problem ≡ p = one_instance files s h.problem p h.instance instance in
     none-some commodity (sym none ∙ subst (λ (q : Problem). lacking q q.candidates ≡ Some commodity) same h.lacks)
 
-pub solve_enough : (files : Files) (x : Solving) (rule : SearchRule) (p : Problem) (status : Status) (text : List ℕ) → HoldsInstance files x.source p
-    → IsEnoughFor p x.search.nodes → Answers (solve x rule) status (Some files) text → status ≡ Done
-solve_enough files x rule p Done text instance enough h = refl
-solve_enough files x rule p Stopped text instance enough h =
-    let same : p ≡ h.problem = one_instance files x.source p h.problem instance h.instance in
-    absurd (h.stops.not_enough (subst (λ (q : Problem). IsEnoughFor q x.search.nodes) same enough))
-solve_enough files x rule p No text instance enough h = absurd h
-solve_enough files x rule p Usage text instance enough h = absurd h
-solve_enough files x rule p Instance text instance enough h = absurd h
-solve_enough files x rule p Memory text instance enough h = absurd h
-solve_enough files x rule p Read text instance enough h = absurd h
-solve_enough files x rule p Write text instance enough h = absurd h
-solve_enough files x rule p Lacking text instance enough h = absurd h
+-- ---- where a search may begin
 
--- no line tells of one that serves
-no_line : (said : Older) (line : List ℕ) → IsServing said → older_line said ≡ Some line → ⊥
-no_line (serves older) line serving e = absurd (none-some line e)
-no_line (serves_not kind place) line serving e = serving
-no_line (unread fault) line serving e = serving
-no_line over_limit line serving e = serving
+-- where it solves or stops it began
+begun_solved : (held : Option Files) (p : Problem) (how : How) (q : Search) (text : List ℕ) → SolvesBy held p how q text → MayBegin held p how
+begun_solved held p (follow rule) q text h = inl refl
+begun_solved held p (again older) q text h = inr (h.older, h.older_held)
+begun_solved held p (freely gap from) q text h = h.1
+
+begun_stopped : (held : Option Files) (p : Problem) (how : How) (q : Search) (text : List ℕ) → StopsBy held p how q text → MayBegin held p how
+begun_stopped held p (follow rule) q text h = inl refl
+begun_stopped held p (again older) q text h = inr (h.older, h.older_held)
+begun_stopped held p (freely gap from) q text h = h.1
+
+-- and no line tells why the older certificate does not serve
+refused_begun : (files : Files) (x : Solving) (p : Problem) (text : List ℕ) → HoldsInstance files x.source p → MayBegin (Some files) p x.how
+    → TellsOlder (Some files) x text → ⊥
+refused_begun files x p text instance may h =
+    let k = h.refuses in
+    let same : k.problem ≡ p = one_instance files x.source k.problem p k.instance instance in
+    no_line_where_begun files p x.how h.said text may (subst (λ (r : Problem). HoldsOlder (Some files) r x.how h.said) same k.older_held) h.of_text
+
+-- where the search may begin so, it has one of two statuses
+pub begun_status : (files : Files) (x : Solving) (p : Problem) (status : Status) (text : List ℕ) → HoldsInstance files x.source p
+    → MayBegin (Some files) p x.how → Answers (solve x) status (Some files) text → (status ≡ Done) ⊎ (status ≡ Stopped)
+begun_status files x p status text instance may h =
+    solve_cases (Some files) x text (λ (y : Status). (y ≡ Done) ⊎ (y ≡ Stopped)) (λ k. inl refl) (λ k. inr refl)
+    (λ k. absurd (refused_begun files x p text instance may k)) status h
+
+-- no bound below the cost is within no gap
+closed : (k : Proof) → IsWithinGap 0 k.bound k.cost → k.bound < k.cost → ⊥
+closed k near below = absurd (omega (arith, below, no_gap k.bound k.cost near (omega (arith, below))))
+
+-- where no gap is allowed, and as many nodes as a whole tree has, none stops
+never_stops : (held : Option Files) (p : Problem) (how : How) (q : Search) (text : List ℕ) → gap_of how ≡ 0 → IsEnoughFor p q.nodes
+    → StopsBy held p how q text → ⊥
+never_stops held p (follow rule) q text none enough h = h.not_enough enough
+never_stops held p (again older) q text none enough h = h.is.not_enough enough
+never_stops held p (freely gap from) q text none enough h =
+    let k = h.0.certificate in
+    ⊎_elim (λ spent. spent.1 enough) (λ near. closed k (subst (λ (g : ℕ). IsWithinGap g k.bound k.cost) none near) h.0.gap) h.0.reason
+
+-- and it has one alone
+pub enough_status : (files : Files) (x : Solving) (p : Problem) (status : Status) (text : List ℕ) → HoldsInstance files x.source p
+    → MayBegin (Some files) p x.how → gap_of x.how ≡ 0 → IsEnoughFor p x.search.nodes → Answers (solve x) status (Some files) text
+    → status ≡ Done
+enough_status files x p status text instance may none enough h =
+    solve_cases (Some files) x text (λ (y : Status). y ≡ Done) (λ k. refl)
+    (λ k. (let same : p ≡ k.problem = one_instance files x.source p k.problem instance k.instance in
+    absurd (never_stops (Some files) k.problem x.how x.search text none (subst (λ (r : Problem). IsEnoughFor r x.search.nodes) same enough) k.stops)))
+    (λ k. absurd (refused_begun files x p text instance may k)) status h
+
+-- where the bytes that are named do not serve, it has one alone too
+pub refused_status_is : (files : Files) (x : Solving) (older bytes line : List ℕ) (said : Older) (p : Problem) (status : Status) (text : List ℕ)
+    → older_named x.how ≡ Some older → HoldsInstance files x.source p → files older ≡ Some bytes → IsSaid x.how p bytes said
+    → older_line said ≡ Some line → Answers (solve x) status (Some files) text → status ≡ No
+refused_status_is files x older bytes line said p status text named instance held is tells h =
+    let there : HoldsOlder (Some files) p x.how said = record { older = older; named = named; bytes = bytes; bytes_held = held; is = is } in
+    solve_cases (Some files) x text (λ (y : Status). y ≡ No)
+    (λ k. (let same : k.problem ≡ p = one_instance files x.source k.problem p k.instance instance in
+    let may = subst (λ (r : Problem). MayBegin (Some files) r x.how) same (begun_solved (Some files) k.problem x.how x.search text k.solves) in
+    absurd (no_line_where_begun files p x.how said line may there tells)))
+    (λ k. (let same : k.problem ≡ p = one_instance files x.source k.problem p k.instance instance in
+    let may = subst (λ (r : Problem). MayBegin (Some files) r x.how) same (begun_stopped (Some files) k.problem x.how x.search text k.stops) in
+    absurd (no_line_where_begun files p x.how said line may there tells)))
+    (λ k. refl) status h
+
+-- ---- where all candidates together lack a commodity
+
+solved_serves : (held : Option Files) (p : Problem) (how : How) (q : Search) (text : List ℕ) → SolvesBy held p how q text
+    → lacking p p.candidates ≡ None
+solved_serves held p (follow rule) q text h = plan_serves p h.certificate.plan h.finds.holds.plan
+solved_serves held p (again older) q text h = plan_serves p h.is.certificate.plan h.is.finds.holds.plan
+solved_serves held p (freely gap from) q text h = plan_serves p h.0.certificate.plan h.0.finds.holds.plan
+
+stopped_serves : (held : Option Files) (p : Problem) (how : How) (q : Search) (text : List ℕ) → StopsBy held p how q text
+    → lacking p p.candidates ≡ None
+stopped_serves held p (follow rule) q text h = plan_serves p h.certificate.plan h.finds.holds.plan
+stopped_serves held p (again older) q text h = plan_serves p h.is.certificate.plan h.is.finds.holds.plan
+stopped_serves held p (freely gap from) q text h = plan_serves p h.0.certificate.plan h.0.finds.holds.plan
+
+-- one instance does not both lack a commodity and lack none
+not_both_lack : (files : Files) (x : Solving) (p q : Problem) (commodity : ℕ × ℕ) → HoldsInstance files x.source p → HoldsInstance files x.source q
+    → lacking p p.candidates ≡ Some commodity → lacking q q.candidates ≡ None → ⊥
+not_both_lack files x p q commodity instance other lacks none =
+    let same : q ≡ p = one_instance files x.source q p other instance in
+    none-some commodity (sym (subst (λ (r : Problem). lacking r r.candidates ≡ None) same none) ∙ lacks)
+
+-- so there is no answer
+pub lacking_answers : (files : Files) (x : Solving) (p : Problem) (commodity : ℕ × ℕ) (status : Status) (text : List ℕ)
+    → HoldsInstance files x.source p → lacking p p.candidates ≡ Some commodity → Answers (solve x) status (Some files) text → ⊥
+lacking_answers files x p commodity status text instance lacks h =
+    solve_cases (Some files) x text (λ _. ⊥)
+    (λ k. not_both_lack files x p k.problem commodity instance k.instance lacks (solved_serves (Some files) k.problem x.how x.search text k.solves))
+    (λ k. not_both_lack files x p k.problem commodity instance k.instance lacks (stopped_serves (Some files) k.problem x.how x.search text k.stops))
+    (λ k. not_both_lack files x p k.refuses.problem commodity instance k.refuses.instance lacks k.refuses.lacks_none) status h
 
 -- ---- `resolve`
 
 -- the older certificate of the answer is the one that is said of the bytes
-older_is : (files : Files) (x : Resolving) (p q : Problem) (bytes : List ℕ) (said other : Older) → q ≡ p → files x.older ≡ Some bytes
-    → IsOlder p bytes said → HoldsOlder (Some files) q x.older other → other ≡ said
-older_is files x p q bytes said other same held is k =
-    let there : k.bytes ≡ bytes = same_bytes files x.older k.bytes bytes k.bytes_held held in
+older_is : (files : Files) (older : List ℕ) (p q : Problem) (bytes : List ℕ) (said other : Older) → q ≡ p → files older ≡ Some bytes
+    → IsOlder p bytes said → HoldsOlder (Some files) q (again older) other → other ≡ said
+older_is files older p q bytes said other same held is k =
+    let named : Some older ≡ Some k.older = k.named in
+    let name : k.older ≡ older = cc in
+    let there : k.bytes ≡ bytes =
+    same_bytes files older k.bytes bytes (subst (λ (f : List ℕ). files f ≡ Some k.bytes) name k.bytes_held) held in
     let one = one_older_from one_certificate_lem each_is_text_or_fault_lem p bytes in
     let moved : IsOlder p bytes other = subst (λ (b : List ℕ). IsOlder p b other) there (subst (λ (r : Problem). IsOlder r k.bytes other) same k.is) in
     one.2 other moved ∙ sym (one.2 said is)
@@ -197,199 +256,44 @@ refused_older p search (unread fault) text e = refl
 refused_older p search over_limit text e = refl
 
 served_older : (p : Problem) (search : Search) (older : Stated) (said : Older) (status : Status) → serves older ≡ said
-    → status ≡ rule_status p (again_method search older.proof) → status ≡ older_status p search said
+    → status ≡ rule_status p (method_of search (warm (start_of older.proof))) → status ≡ older_status p search said
 unfolding older_status
 served_older p search older said status same is = subst (λ (o : Older). status ≡ older_status p search o) same is
 
-pub resolve_status_is : (files : Files) (x : Resolving) (p : Problem) (bytes : List ℕ) (said : Older) (status : Status) (text : List ℕ)
-    → HoldsInstance files x.source p → files x.older ≡ Some bytes → IsOlder p bytes said → Answers (resolve x) status (Some files) text
-    → status ≡ older_status p x.search said
-resolve_status_is files x p bytes said Done text instance held is h =
-    let same : h.problem ≡ p = one_instance files x.source h.problem p h.instance instance in
-    served_older p x.search h.older said Done (older_is files x p h.problem bytes said (serves h.older) same held is h.older_held)
-    (subst (λ (q : Problem). Done ≡ rule_status q (again_method x.search h.older.proof)) same
-    (solves_status h.problem (again_method x.search h.older.proof) (SpellsUnmarked text) h.solves))
-resolve_status_is files x p bytes said Stopped text instance held is h =
-    let same : h.problem ≡ p = one_instance files x.source h.problem p h.instance instance in
-    served_older p x.search h.older said Stopped (older_is files x p h.problem bytes said (serves h.older) same held is h.older_held)
-    (subst (λ (q : Problem). Stopped ≡ rule_status q (again_method x.search h.older.proof)) same
-    (stops_status h.problem (again_method x.search h.older.proof) (SpellsUnmarked text) h.stops))
-resolve_status_is files x p bytes said No text instance held is h =
-    let k = h.refuses in
-    let same : k.problem ≡ p = one_instance files x.source k.problem p k.instance instance in
-    let one = older_is files x p k.problem bytes said h.said same held is k.older_held in
-    refused_older p x.search said text (subst (λ (o : Older). older_line o ≡ Some text) one h.of_text)
-resolve_status_is files x p bytes said Usage text instance held is h = absurd h
-resolve_status_is files x p bytes said Instance text instance held is h = absurd h
-resolve_status_is files x p bytes said Memory text instance held is h = absurd h
-resolve_status_is files x p bytes said Read text instance held is h = absurd h
-resolve_status_is files x p bytes said Write text instance held is h = absurd h
-resolve_status_is files x p bytes said Lacking text instance held is h = absurd h
+pub resolve_status_is : (files : Files) (x : Solving) (older : List ℕ) (p : Problem) (bytes : List ℕ) (said : Older) (status : Status) (text : List ℕ)
+    → x.how ≡ again older → HoldsInstance files x.source p → files older ≡ Some bytes → IsOlder p bytes said
+    → Answers (solve x) status (Some files) text → status ≡ older_status p x.search said
+resolve_status_is files x older p bytes said status text e instance held is h =
+    solve_cases (Some files) x text (λ (y : Status). y ≡ older_status p x.search said)
+    (λ k. (let same : k.problem ≡ p = one_instance files x.source k.problem p k.instance instance in
+    let from_older : FromOlder (Some files) k.problem (again older) x.search (λ m. Solves k.problem m (SpellsBy k.problem m text)) =
+    subst (λ (w : How). SolvesBy (Some files) k.problem w x.search text) e k.solves in
+    let m = method_of x.search (warm (start_of from_older.older.proof)) in
+    served_older p x.search from_older.older said Done
+    (older_is files older p k.problem bytes said (serves from_older.older) same held is from_older.older_held)
+    (subst (λ (q : Problem). Done ≡ rule_status q m) same (solves_status k.problem m (SpellsBy k.problem m text) from_older.is))))
+    (λ k. (let same : k.problem ≡ p = one_instance files x.source k.problem p k.instance instance in
+    let from_older : FromOlder (Some files) k.problem (again older) x.search (λ m. Stops k.problem m (SpellsBy k.problem m text)) =
+    subst (λ (w : How). StopsBy (Some files) k.problem w x.search text) e k.stops in
+    let m = method_of x.search (warm (start_of from_older.older.proof)) in
+    served_older p x.search from_older.older said Stopped
+    (older_is files older p k.problem bytes said (serves from_older.older) same held is from_older.older_held)
+    (subst (λ (q : Problem). Stopped ≡ rule_status q m) same (stops_status k.problem m (SpellsBy k.problem m text) from_older.is))))
+    (λ k. (let w = k.refuses in
+    let same : w.problem ≡ p = one_instance files x.source w.problem p w.instance instance in
+    let there = subst (λ (y : How). HoldsOlder (Some files) w.problem y k.said) e w.older_held in
+    let one = older_is files older p w.problem bytes said k.said same held is there in
+    refused_older p x.search said text (subst (λ (o : Older). older_line o ≡ Some text) one k.of_text))) status h
 
--- where the older certificate serves, it has one of two statuses
-pub resolve_served : (files : Files) (x : Resolving) (p : Problem) (bytes : List ℕ) (older : Stated) (status : Status) (text : List ℕ)
-    → HoldsInstance files x.source p → files x.older ≡ Some bytes → IsOlder p bytes (serves older) → Answers (resolve x) status (Some files) text
-    → (status ≡ Done) ⊎ (status ≡ Stopped)
-resolve_served files x p bytes older Done text instance held is h = inl refl
-resolve_served files x p bytes older Stopped text instance held is h = inr refl
-resolve_served files x p bytes older No text instance held is h =
-    let k = h.refuses in
-    let same : k.problem ≡ p = one_instance files x.source k.problem p k.instance instance in
-    let one = older_is files x p k.problem bytes (serves older) h.said same held is k.older_held in
-    absurd (none-some text (subst (λ (o : Older). older_line o ≡ Some text) one h.of_text))
-resolve_served files x p bytes older Usage text instance held is h = absurd h
-resolve_served files x p bytes older Instance text instance held is h = absurd h
-resolve_served files x p bytes older Memory text instance held is h = absurd h
-resolve_served files x p bytes older Read text instance held is h = absurd h
-resolve_served files x p bytes older Write text instance held is h = absurd h
-resolve_served files x p bytes older Lacking text instance held is h = absurd h
+-- one that serves is held under the name that is given
+pub serves_held : (files : Files) (x : Solving) (older : List ℕ) (p : Problem) (bytes : List ℕ) (k : Stated) → x.how ≡ again older
+    → files older ≡ Some bytes → IsOlder p bytes (serves k) → MayBegin (Some files) p x.how
+serves_held files x older p bytes k e held is =
+    let there : HoldsOlder (Some files) p (again older) (serves k) =
+    record { older = older; named = refl; bytes = bytes; bytes_held = held; is = is } in
+    subst (λ (w : How). MayBegin (Some files) p w) (sym e) (inr (k, there))
 
--- and one alone where as many nodes are allowed as a whole tree has
-pub resolve_enough : (files : Files) (x : Resolving) (p : Problem) (bytes : List ℕ) (older : Stated) (status : Status) (text : List ℕ)
-    → HoldsInstance files x.source p → files x.older ≡ Some bytes → IsOlder p bytes (serves older) → IsEnoughFor p x.search.nodes
-    → Answers (resolve x) status (Some files) text → status ≡ Done
-resolve_enough files x p bytes older Done text instance held is enough h = refl
-resolve_enough files x p bytes older Stopped text instance held is enough h =
-    let same : p ≡ h.problem = one_instance files x.source p h.problem instance h.instance in
-    absurd (h.stops.not_enough (subst (λ (q : Problem). IsEnoughFor q x.search.nodes) same enough))
-resolve_enough files x p bytes older No text instance held is enough h =
-    let k = h.refuses in
-    let same : k.problem ≡ p = one_instance files x.source k.problem p k.instance instance in
-    let one = older_is files x p k.problem bytes (serves older) h.said same held is k.older_held in
-    absurd (none-some text (subst (λ (o : Older). older_line o ≡ Some text) one h.of_text))
-resolve_enough files x p bytes older Usage text instance held is enough h = absurd h
-resolve_enough files x p bytes older Instance text instance held is enough h = absurd h
-resolve_enough files x p bytes older Memory text instance held is enough h = absurd h
-resolve_enough files x p bytes older Read text instance held is enough h = absurd h
-resolve_enough files x p bytes older Write text instance held is enough h = absurd h
-resolve_enough files x p bytes older Lacking text instance held is enough h = absurd h
-
--- where all candidates together lack a commodity it has no answer
-pub resolve_lacks : (files : Files) (x : Resolving) (p : Problem) (commodity : ℕ × ℕ) (status : Status) (text : List ℕ)
-    → HoldsInstance files x.source p → lacking p p.candidates ≡ Some commodity → Answers (resolve x) status (Some files) text → ⊥
-resolve_lacks files x p commodity Done text instance lacks h =
-    let same : h.problem ≡ p = one_instance files x.source h.problem p h.instance instance in
-    none-some commodity (sym (subst (λ (q : Problem). lacking q q.candidates ≡ None) same
-    (plan_serves h.problem h.solves.certificate.plan h.solves.finds.holds.plan)) ∙ lacks)
-resolve_lacks files x p commodity Stopped text instance lacks h =
-    let same : h.problem ≡ p = one_instance files x.source h.problem p h.instance instance in
-    none-some commodity (sym (subst (λ (q : Problem). lacking q q.candidates ≡ None) same
-    (plan_serves h.problem h.stops.certificate.plan h.stops.finds.holds.plan)) ∙ lacks)
-resolve_lacks files x p commodity No text instance lacks h =
-    let k = h.refuses in
-    let same : k.problem ≡ p = one_instance files x.source k.problem p k.instance instance in
-    none-some commodity (sym (subst (λ (q : Problem). lacking q q.candidates ≡ None) same k.lacks_none) ∙ lacks)
-resolve_lacks files x p commodity Usage text instance lacks h = h
-resolve_lacks files x p commodity Instance text instance lacks h = h
-resolve_lacks files x p commodity Memory text instance lacks h = h
-resolve_lacks files x p commodity Read text instance lacks h = h
-resolve_lacks files x p commodity Write text instance lacks h = h
-resolve_lacks files x p commodity Lacking text instance lacks h = h
-
--- ---- `optimize`
-
--- the answer tells why the older certificate does not serve, and it does
-refused_first : (files : Files) (x : Solving) (from : Option (List ℕ)) (p : Problem) (text : List ℕ) → HoldsInstance files x.source p
-    → MayBegin (Some files) p from → TellsFirst (Some files) x.source from text → ⊥
-refused_first files x None p text instance may h = (let named = h.refuses.named in cc)
-refused_first files x (Some older) p text instance may h =
-    let k = h.refuses in
-    let same : k.problem ≡ p = one_instance files x.source k.problem p k.instance instance in
-    let named : Some older ≡ Some k.older = k.named in
-    let name : older ≡ k.older = cc in
-    let there : k.older_held.bytes ≡ may.1.bytes =
-    same_bytes files older k.older_held.bytes may.1.bytes (subst (λ (f : List ℕ). files f ≡ Some k.older_held.bytes) (sym name) k.older_held.bytes_held)
-    may.1.bytes_held in
-    let said : IsSized p may.1.bytes h.said =
-    subst (λ (b : List ℕ). IsSized p b h.said) there (subst (λ (q : Problem). IsSized q k.older_held.bytes h.said) same k.older_held.is) in
-    no_line h.said text (still_serving p may.1.bytes may.0 h.said may.1.is said) h.of_text
-
--- where the search may begin so, it has one of two statuses
-pub optimize_status : (files : Files) (x : Solving) (gap : ℕ) (from : Option (List ℕ)) (p : Problem) (status : Status) (text : List ℕ)
-    → HoldsInstance files x.source p → MayBegin (Some files) p from → Answers (optimize x gap from) status (Some files) text
-    → (status ≡ Done) ⊎ (status ≡ Stopped)
-optimize_status files x gap from p Done text instance may h = inl refl
-optimize_status files x gap from p Stopped text instance may h = inr refl
-optimize_status files x gap from p No text instance may h = absurd (refused_first files x from p text instance may h)
-optimize_status files x gap from p Usage text instance may h = absurd h
-optimize_status files x gap from p Instance text instance may h = absurd h
-optimize_status files x gap from p Memory text instance may h = absurd h
-optimize_status files x gap from p Read text instance may h = absurd h
-optimize_status files x gap from p Write text instance may h = absurd h
-optimize_status files x gap from p Lacking text instance may h = absurd h
-
--- where the bytes that are named are none of a certificate of its size, it has one alone
-may_not : (files : Files) (x : Solving) (older bytes line : List ℕ) (said : Older) (p : Problem) → HoldsInstance files x.source p
-    → files older ≡ Some bytes → IsSized p bytes said → older_line said ≡ Some line → BeginsInstance (Some files) x.source (Some older) → ⊥
-may_not files x older bytes line said p instance held is tells h =
-    let same : h.problem ≡ p = one_instance files x.source h.problem p h.instance instance in
-    let k = h.may.1 in
-    let there : k.bytes ≡ bytes = same_bytes files older k.bytes bytes k.bytes_held held in
-    let serving : IsSized p bytes (serves h.may.0) =
-    subst (λ (b : List ℕ). IsSized p b (serves h.may.0)) there (subst (λ (q : Problem). IsSized q k.bytes (serves h.may.0)) same k.is) in
-    no_line said line (still_serving p bytes h.may.0 said serving is) tells
-
-pub optimize_misled : (files : Files) (x : Solving) (gap : ℕ) (older bytes line : List ℕ) (said : Older) (p : Problem) (status : Status) (text : List ℕ)
-    → HoldsInstance files x.source p → files older ≡ Some bytes → IsSized p bytes said → older_line said ≡ Some line
-    → Answers (optimize x gap (Some older)) status (Some files) text → status ≡ No
-optimize_misled files x gap older bytes line said p Done text instance held is tells h =
-    absurd (may_not files x older bytes line said p instance held is tells h.1)
-optimize_misled files x gap older bytes line said p Stopped text instance held is tells h =
-    absurd (may_not files x older bytes line said p instance held is tells h.1)
-optimize_misled files x gap older bytes line said p No text instance held is tells h = refl
-optimize_misled files x gap older bytes line said p Usage text instance held is tells h = absurd h
-optimize_misled files x gap older bytes line said p Instance text instance held is tells h = absurd h
-optimize_misled files x gap older bytes line said p Memory text instance held is tells h = absurd h
-optimize_misled files x gap older bytes line said p Read text instance held is tells h = absurd h
-optimize_misled files x gap older bytes line said p Write text instance held is tells h = absurd h
-optimize_misled files x gap older bytes line said p Lacking text instance held is tells h = absurd h
-
--- where all candidates together lack a commodity it has no answer
-pub optimize_lacks : (files : Files) (x : Solving) (gap : ℕ) (from : Option (List ℕ)) (p : Problem) (commodity : ℕ × ℕ) (status : Status) (text : List ℕ)
-    → HoldsInstance files x.source p → lacking p p.candidates ≡ Some commodity → Answers (optimize x gap from) status (Some files) text → ⊥
-optimize_lacks files x gap from p commodity Done text instance lacks h =
-    let k = h.0 in
-    let same : k.problem ≡ p = one_instance files x.source k.problem p k.instance instance in
-    none-some commodity (sym (subst (λ (q : Problem). lacking q q.candidates ≡ None) same
-    (plan_serves k.problem k.optimizes.certificate.plan k.optimizes.finds.holds.plan)) ∙ lacks)
-optimize_lacks files x gap from p commodity Stopped text instance lacks h =
-    let k = h.0 in
-    let same : k.problem ≡ p = one_instance files x.source k.problem p k.instance instance in
-    none-some commodity (sym (subst (λ (q : Problem). lacking q q.candidates ≡ None) same
-    (plan_serves k.problem k.bounds.certificate.plan k.bounds.finds.holds.plan)) ∙ lacks)
-optimize_lacks files x gap from p commodity No text instance lacks h =
-    let k = h.refuses in
-    let same : k.problem ≡ p = one_instance files x.source k.problem p k.instance instance in
-    none-some commodity (sym (subst (λ (q : Problem). lacking q q.candidates ≡ None) same k.lacks_none) ∙ lacks)
-optimize_lacks files x gap from p commodity Usage text instance lacks h = h
-optimize_lacks files x gap from p commodity Instance text instance lacks h = h
-optimize_lacks files x gap from p commodity Memory text instance lacks h = h
-optimize_lacks files x gap from p commodity Read text instance lacks h = h
-optimize_lacks files x gap from p commodity Write text instance lacks h = h
-optimize_lacks files x gap from p commodity Lacking text instance lacks h = h
-
--- no bound below the cost is within no gap
-closed : (k : Proof) → IsWithinGap 0 k.bound k.cost → k.bound < k.cost → ⊥
-closed k near below = absurd (omega (arith, below, no_gap k.bound k.cost near (omega (arith, below))))
-
--- and one alone where as many nodes are allowed as a whole tree has, and no gap
-pub optimize_enough : (files : Files) (x : Solving) (from : Option (List ℕ)) (p : Problem) (status : Status) (text : List ℕ)
-    → HoldsInstance files x.source p → MayBegin (Some files) p from → IsEnoughFor p x.search.nodes
-    → Answers (optimize x 0 from) status (Some files) text → status ≡ Done
-optimize_enough files x from p Done text instance may enough h = refl
-optimize_enough files x from p Stopped text instance may enough h =
-    let k = h.0 in
-    let same : p ≡ k.problem = one_instance files x.source p k.problem instance k.instance in
-    absurd
-    (⊎_elim (λ spent. spent.1 (subst (λ (q : Problem). IsEnoughFor q x.search.nodes) same enough))
-    (λ near. closed k.bounds.certificate near k.bounds.gap) k.bounds.reason)
-optimize_enough files x from p No text instance may enough h = absurd (refused_first files x from p text instance may h)
-optimize_enough files x from p Usage text instance may enough h = absurd h
-optimize_enough files x from p Instance text instance may enough h = absurd h
-optimize_enough files x from p Memory text instance may enough h = absurd h
-optimize_enough files x from p Read text instance may enough h = absurd h
-optimize_enough files x from p Write text instance may enough h = absurd h
-optimize_enough files x from p Lacking text instance may enough h = absurd h
+-- ---- `demo` and `make`
 
 pub demo_status : (held : Option Files) (m : Making) (search : Search) (status : Status) (text : List ℕ)
     → Answers (demo m search) status held text → status ≡ rule_status (made_problem m.seed m.size) (demo_method search)

@@ -8,13 +8,13 @@ use Rattle.file_spec.specs.Faults.{Fault}
 use Rattle.hub_make.specs.Contents.{made_problem}
 use Rattle.hub_top.specs.declared.status.Status.{Status}
 use Rattle.hub_top.specs.declared.status.Status.TheVariants.{Done, Stopped, No, Usage, Instance, Lacking}
-use Rattle.hub_words.specs.Requests.{Source, Resolving, Request, solve, optimize, resolve, check, report, make, demo, instance}
-use Rattle.hub_top.specs.Commands.{WhereTold, Blame, HasBlame, HoldsInstance, LacksNetwork, method_by, demo_method}
+use Rattle.hub_words.specs.Requests.{Source, Solving, Request, solve, check, report, make, demo, instance}
+use Rattle.hub_top.specs.Commands.{WhereTold, Blame, HasBlame, HoldsInstance, LacksNetwork, cold, method_of, demo_method}
 use Rattle.hub_top.specs.Answers.{Answers, verdict_status, report_status, rule_status, solve_status, older_status}
 use Rattle.hub_top.specs.Outcomes.{Outcome, answered, usage, faulty, no_network, memory, read, status_of, to_solve, ShelfFails, Quiet, MayComeTo, Written, whole, out_cut, err_cut}
 use Rattle.hub_top.specs.Completeness.{Completeness, EndsAs, EndsWith}
 use Rattle.hub_top.proofs.OneReading.{no_blame}
-use Rattle.hub_top.proofs.Answered.{answered_instance, solve_status_is, lacking_status, lacks_none, solve_enough, resolve_status_is, resolve_served, resolve_enough, resolve_lacks, optimize_lacks, optimize_misled, optimize_status, optimize_enough, check_status, report_status_is, make_status, demo_status, demo_enough}
+use Rattle.hub_top.proofs.Answered.{answered_instance, solve_status_is, lacking_status, lacks_none, begun_status, enough_status, refused_status_is, lacking_answers, resolve_status_is, serves_held, check_status, report_status_is, make_status, demo_status, demo_enough}
 
 -- an ending that is written whole has its status, and a sink that fails counts it
 written_status : {O E : Type 0} (out_taken : O → Option (List ℕ)) (out_faults : O → ℕ) (err_taken : E → Option (List ℕ)) (err_faults : E → ℕ)
@@ -33,9 +33,7 @@ same_source request s t e f = cc
 
 -- an instance that a request asks to solve is the one that it names
 instance_to_solve : (request : Request) (s : Source) → to_solve request ≡ Some s → instance request ≡ Some s
-instance_to_solve (solve x rule) s e = e
-instance_to_solve (optimize x gap from) s e = e
-instance_to_solve (resolve x) s e = e
+instance_to_solve (solve x) s e = e
 instance_to_solve (check t file) s e = cc
 instance_to_solve (report t file) s e = cc
 instance_to_solve (make m) s e = cc
@@ -93,11 +91,11 @@ MayLack held request wanted =
     (s : Source) (commodity : ℕ × ℕ) → to_solve request ≡ Some s → LacksNetwork held s commodity → wanted Lacking
 
 -- no run tells so of an instance whose candidates together lack none
-no_lack : (files : Files) (r : Resolving) (p : Problem) (wanted : Status → Type 0) → HoldsInstance files r.source p → lacking p p.candidates ≡ None
-    → MayLack (Some files) (resolve r) wanted
-no_lack files r p wanted h none t commodity same k =
-    let own : t ≡ r.source = cc in
-    absurd (lacks_none files r.source p commodity h none (subst (λ (x : Source). LacksNetwork (Some files) x commodity) own k))
+no_lack : (files : Files) (x : Solving) (p : Problem) (wanted : Status → Type 0) → HoldsInstance files x.source p → lacking p p.candidates ≡ None
+    → MayLack (Some files) (solve x) wanted
+no_lack files x p wanted h none t commodity same k =
+    let own : t ≡ x.source = cc in
+    absurd (lacks_none files x.source p commodity h none (subst (λ (y : Source). LacksNetwork (Some files) y commodity) own k))
 
 -- how a request ends without a fault, where its answers have such a status
 ends_by : (request : Request) (held : Option Files) (wanted : Status → Type 0) → IsBlameless held request → MayLack held request wanted
@@ -148,42 +146,34 @@ module _ (asked : Option Request) (held : Option Files) (fails : Request → Typ
         let P : Option Request → Type 0 = λ x. MayComeTo x held fails e in
         let Q : Option Files → Type 0 = λ x. MayComeTo (Some request) x fails e in
         status_by status e (λ (x : Status). x ≡ Instance) (written calm) (ends_faulty files request s blame fault named has fails (no_fault calm) e (subst Q told (subst P is may)));
-    solved = λ files s rule p told is h. told_ends files (solve s rule) s.source p (λ (x : Status). x ≡ solve_status p (method_by s rule)) told is refl h
-        (λ t commodity same k. (let own : t ≡ s.source = cc in
-        lacking_status files s rule p commodity h (subst (λ (x : Source). LacksNetwork (Some files) x commodity) own k)))
-        (λ other text answers. solve_status_is files s rule p other text h answers);
-    enough = λ files s rule p told is h none many. told_ends files (solve s rule) s.source p (λ (x : Status). x ≡ Done) told is refl h
-        (λ t commodity same k. (let own : t ≡ s.source = cc in
-        absurd (lacks_none files s.source p commodity h none (subst (λ (x : Source). LacksNetwork (Some files) x commodity) own k))))
-        (λ other text answers. solve_enough files s rule p other text h many answers);
-    networkless = λ files r p commodity told is h lacks. told_ends files (resolve r) r.source p (λ (x : Status). x ≡ Lacking) told is refl h
+    networkless = λ files s p commodity told is h lacks. told_ends files (solve s) s.source p (λ (x : Status). x ≡ Lacking) told is refl h
         (λ t other same k. refl)
-        (λ other text answers. absurd (resolve_lacks files r p commodity other text h lacks answers));
-    resolved = λ files r p bytes said told is h none there older. told_ends files (resolve r) r.source p (λ (x : Status). x ≡ older_status p r.search said) told is refl h
-        (no_lack files r p (λ (x : Status). x ≡ older_status p r.search said) h none)
-        (λ other text answers. resolve_status_is files r p bytes said other text h there older answers);
-    resolved_whole = λ files r p bytes older told is h none there serving many. told_ends files (resolve r) r.source p (λ (x : Status). x ≡ Done) told is refl h
-        (no_lack files r p (λ (x : Status). x ≡ Done) h none)
-        (λ other text answers. resolve_enough files r p bytes older other text h there serving many answers);
-    served = λ files r p before bytes bound cost told is h none there same certifies. (let serving = certified_serves_lem before p bytes bound cost same certifies in
-        told_ends files (resolve r) r.source p (λ (x : Status). (x ≡ Done) ⊎ (x ≡ Stopped)) told is refl h
-        (no_lack files r p (λ (x : Status). (x ≡ Done) ⊎ (x ≡ Stopped)) h none)
-        (λ other text answers. resolve_served files r p bytes serving.0 other text h there serving.1 answers));
-    unconnected = λ files s gap from p commodity told is h lacks. told_ends files (optimize s gap from) s.source p (λ (x : Status). x ≡ Lacking) told is refl h
-        (λ t other same k. refl)
-        (λ other text answers. absurd (optimize_lacks files s gap from p commodity other text h lacks answers));
-    optimized = λ files s from p told is h none may many. told_ends files (optimize s 0 from) s.source p (λ (x : Status). x ≡ Done) told is refl h
+        (λ other text answers. absurd (lacking_answers files s p commodity other text h lacks answers));
+    refused = λ files s older bytes line said p told is named h none there says tells.
+        told_ends files (solve s) s.source p (λ (x : Status). x ≡ No) told is refl h
+        (no_lack files s p (λ (x : Status). x ≡ No) h none)
+        (λ other text answers. refused_status_is files s older bytes line said p other text named h there says tells answers);
+    bounded = λ files s p told is h none may. told_ends files (solve s) s.source p (λ (x : Status). (x ≡ Done) ⊎ (x ≡ Stopped)) told is refl h
+        (no_lack files s p (λ (x : Status). (x ≡ Done) ⊎ (x ≡ Stopped)) h none)
+        (λ other text answers. begun_status files s p other text h may answers);
+    enough = λ files s p told is h none may no_gap many. told_ends files (solve s) s.source p (λ (x : Status). x ≡ Done) told is refl h
+        (no_lack files s p (λ (x : Status). x ≡ Done) h none)
+        (λ other text answers. enough_status files s p other text h may no_gap many answers);
+    solved = λ files s rule p told is by h. (let m = method_of s.search (cold rule) in
+        told_ends files (solve s) s.source p (λ (x : Status). x ≡ solve_status p m) told is refl h
         (λ t commodity same k. (let own : t ≡ s.source = cc in
-        absurd (lacks_none files s.source p commodity h none (subst (λ (x : Source). LacksNetwork (Some files) x commodity) own k))))
-        (λ other text answers. optimize_enough files s from p other text h may many answers);
-    bounded = λ files s gap from p told is h none may. told_ends files (optimize s gap from) s.source p (λ (x : Status). (x ≡ Done) ⊎ (x ≡ Stopped)) told is refl h
-        (λ t commodity same k. (let own : t ≡ s.source = cc in
-        absurd (lacks_none files s.source p commodity h none (subst (λ (x : Source). LacksNetwork (Some files) x commodity) own k))))
-        (λ other text answers. optimize_status files s gap from p other text h may answers);
-    misled = λ files s gap older bytes line said p told is h none there says tells. told_ends files (optimize s gap (Some older)) s.source p (λ (x : Status). x ≡ No) told is refl h
-        (λ t commodity same k. (let own : t ≡ s.source = cc in
-        absurd (lacks_none files s.source p commodity h none (subst (λ (x : Source). LacksNetwork (Some files) x commodity) own k))))
-        (λ other text answers. optimize_misled files s gap older bytes line said p other text h there says tells answers);
+        lacking_status files s m p commodity h (subst (λ (x : Source). LacksNetwork (Some files) x commodity) own k)))
+        (λ other text answers. solve_status_is files s rule p other text by h answers));
+    resolved = λ files s older p bytes said told is by h none there says.
+        told_ends files (solve s) s.source p (λ (x : Status). x ≡ older_status p s.search said) told is refl h
+        (no_lack files s p (λ (x : Status). x ≡ older_status p s.search said) h none)
+        (λ other text answers. resolve_status_is files s older p bytes said other text by h there says answers);
+    served = λ files s older p before bytes bound cost told is by h none there same certifies.
+        (let serving = certified_serves_lem before p bytes bound cost same certifies in
+        let may = serves_held files s older p bytes serving.0 by there serving.1 in
+        told_ends files (solve s) s.source p (λ (x : Status). (x ≡ Done) ⊎ (x ≡ Stopped)) told is refl h
+        (no_lack files s p (λ (x : Status). (x ≡ Done) ⊎ (x ≡ Stopped)) h none)
+        (λ other text answers. begun_status files s p other text h may answers));
     judged = λ files s certificate p bytes verdict told is h there why. told_ends files (check s certificate) s p (λ (x : Status). x ≡ verdict_status verdict) told is refl h
         (λ t commodity same k. cc)
         (λ other text answers. check_status files s certificate p bytes verdict other text h there why answers);

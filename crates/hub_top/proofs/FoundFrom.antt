@@ -6,7 +6,8 @@ use Rattle.search_progress.proofs.FoundCertificates as findings
 use Rattle.separators.specs.Kinds.{minimal, core}
 use Rattle.branch_tree.proofs.RuleFindings.{rule_searched, again_searched}
 use Rattle.node_rounds.proofs.RoundFindings.{rounds_searched}
-use Rattle.hub_top.specs.Commands.{Course, node_by_node, by_core_cuts, again, by_rounds, found_from}
+use Rattle.hub_words.specs.Requests.{node_by_node, by_core_cuts, by_rounds}
+use Rattle.hub_top.specs.Commands.{Course, cold, warm, found_from}
 use Rattle.hub_top.specs.Solving.{MayGo}
 
 -- the problem can be searched so: all candidates together lack no commodity
@@ -17,7 +18,7 @@ pub record IsSearchable (p : Problem) (course : Course) : Type 0 where
 
 -- what is known of what is found, however the search goes
 pub found_searched : (p : Problem) (n : Option ℕ) (course : Course) → IsSearchable p course → findings.IsSearched p n (found_from p n course)
-found_searched p n node_by_node ok = rule_searched minimal p n (record { problem = ok.problem; lacks_none = ok.lacks_none })
-found_searched p n by_core_cuts ok = rule_searched core p n (record { problem = ok.problem; lacks_none = ok.lacks_none })
-found_searched p n (again start) ok = again_searched minimal p n start (record { problem = ok.problem; lacks_none = ok.lacks_none }) ok.may_go
-found_searched p n by_rounds ok = rounds_searched p n (record { problem = ok.problem; lacks_none = ok.lacks_none })
+found_searched p n (cold node_by_node) ok = rule_searched minimal p n (record { problem = ok.problem; lacks_none = ok.lacks_none })
+found_searched p n (cold by_core_cuts) ok = rule_searched core p n (record { problem = ok.problem; lacks_none = ok.lacks_none })
+found_searched p n (warm start) ok = again_searched minimal p n start (record { problem = ok.problem; lacks_none = ok.lacks_none }) ok.may_go
+found_searched p n (cold by_rounds) ok = rounds_searched p n (record { problem = ok.problem; lacks_none = ok.lacks_none })

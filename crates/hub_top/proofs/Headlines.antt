@@ -7,16 +7,16 @@ use Rattle.cert_spec.specs.Verdicts.{Verdict, optimal, bounds, misread, too_long
 use Rattle.cert_spec.specs.Verdicts as verdicts
 use Rattle.hub_top.specs.declared.status.Status.{Status}
 use Rattle.hub_top.specs.declared.status.Status.TheVariants.{Done, Memory}
-use Rattle.hub_words.specs.Requests.{Source, Solving, SearchRule, Resolving, Request, solve, optimize, resolve, check}
+use Rattle.hub_words.specs.Requests.{Source, Solving, Request, solve, check}
 use Rattle.hub_top.specs.Texts.{optimal_line, verdict_text}
-use Rattle.hub_top.specs.Commands.{HoldsInstance, method_of, method_by, again_method, SolvesInstance, ResolvesInstance, OptimizesInstance, JudgesFile}
+use Rattle.hub_top.specs.Commands.{HoldsInstance, SolvesInstance, JudgesFile}
 use Rattle.cert_checker.specs.Shows.{ProvesOptimal}
 use Rattle.hub_top.specs.Answers.{verdict_status, Answers}
 use Rattle.hub_top.specs.Meanings.{Answered, Means}
 use Rattle.hub_top.specs.Headline.{IsSameInstance, Headline}
 use Rattle.hub_top.specs.Completeness.{Completeness}
 use Rattle.hub_top.proofs.OneReading.{held_again}
-use Rattle.hub_top.proofs.OneTexts.{solved_verdict, optimized_verdict}
+use Rattle.hub_top.proofs.OneTexts.{solving_why}
 
 -- the answer to the request that was asked for
 answers_to : (asked : Option Request) (held : Option Files) (old new : Option (List ℕ)) (h : Answered asked held old new Done)
@@ -27,20 +27,9 @@ answers_to asked held old new h files request told is =
     subst (λ (x : Request). Answers x Done (Some files) h.text) r (subst (λ (x : Option Files). Answers h.request Done x h.text) told h.answers)
 
 solved_of : (asked : Option Request) (held : Option Files) (old new : Option (List ℕ)) → Answered asked held old new Done
-    → (files : Files) (s : Solving) (rule : SearchRule) → held ≡ Some files → asked ≡ Some (solve s rule)
-    → (text : List ℕ) × Appends old new text × SolvesInstance (Some files) s rule text
-solved_of asked held old new h files s rule told is = (h.text, h.taken, answers_to asked held old new h files (solve s rule) told is)
-
-resolved_of : (asked : Option Request) (held : Option Files) (old new : Option (List ℕ)) → Answered asked held old new Done
-    → (files : Files) (r : Resolving) → held ≡ Some files → asked ≡ Some (resolve r)
-    → (text : List ℕ) × Appends old new text × ResolvesInstance (Some files) r text
-resolved_of asked held old new h files r told is = (h.text, h.taken, answers_to asked held old new h files (resolve r) told is)
-
-optimized_of : (asked : Option Request) (held : Option Files) (old new : Option (List ℕ)) → Answered asked held old new Done
-    → (files : Files) (s : Solving) (gap : ℕ) (from : Option (List ℕ)) → held ≡ Some files → asked ≡ Some (optimize s gap from)
-    → (text : List ℕ) × Appends old new text × OptimizesInstance (Some files) s text
-optimized_of asked held old new h files s gap from told is =
-    (h.text, h.taken, (answers_to asked held old new h files (optimize s gap from) told is).0)
+    → (files : Files) (s : Solving) → held ≡ Some files → asked ≡ Some (solve s)
+    → (text : List ℕ) × Appends old new text × SolvesInstance (Some files) s text
+solved_of asked held old new h files s told is = (h.text, h.taken, answers_to asked held old new h files (solve s) told is)
 
 -- what a verdict says whose status is 0
 certifies : (files : Files) (s : Source) (certificate text : List ℕ) (old new : Option (List ℕ)) (v : Verdict) → verdict_status v ≡ Done
@@ -67,36 +56,14 @@ certified_of asked held old new h files s certificate told is =
 
 -- a check of a text that solves the same instance
 checked_of : (asked : Option Request) (held : Option Files) (quiet : Type 0) (status : Status) → Completeness asked held quiet status
-    → (before files : Files) (s : Solving) (rule : SearchRule) (t : Source) (certificate text : List ℕ) → held ≡ Some files
-    → asked ≡ Some (check t certificate) → SolvesInstance (Some before) s rule text → length text ≤ certificate_limit
+    → (before files : Files) (s : Solving) (t : Source) (certificate text : List ℕ) → held ≡ Some files
+    → asked ≡ Some (check t certificate) → SolvesInstance (Some before) s text → length text ≤ certificate_limit
     → IsSameInstance before s.source files t → files certificate ≡ Some text → quiet
     → (status ≡ Done) ⊎ (status ≡ Memory)
-checked_of asked held quiet status complete before files s rule t certificate text told asks h short same there calm =
-    complete.judged files t certificate h.problem text (optimal h.solves.certificate.cost) told asks
-    (held_again before files s.source t h.problem h.instance same) there
-    (solved_verdict h.problem (method_by s rule) text h.solves short).0 calm
-
--- a check of a text that solves the same instance again
-resolved_checked_of : (asked : Option Request) (held : Option Files) (quiet : Type 0) (status : Status) → Completeness asked held quiet status
-    → (before files : Files) (r : Resolving) (t : Source) (certificate text : List ℕ) → held ≡ Some files → asked ≡ Some (check t certificate)
-    → ResolvesInstance (Some before) r text → length text ≤ certificate_limit
-    → IsSameInstance before r.source files t → files certificate ≡ Some text → quiet
-    → (status ≡ Done) ⊎ (status ≡ Memory)
-resolved_checked_of asked held quiet status complete before files r t certificate text told asks h short same there calm =
-    complete.judged files t certificate h.problem text (optimal h.solves.certificate.cost) told asks
-    (held_again before files r.source t h.problem h.instance same) there
-    (solved_verdict h.problem (again_method r.search h.older.proof) text h.solves short).0 calm
-
--- a check of a text that optimizes the same instance
-optimum_checked : (asked : Option Request) (held : Option Files) (quiet : Type 0) (status : Status) → Completeness asked held quiet status
-    → (before files : Files) (s : Solving) (t : Source) (certificate text : List ℕ) → held ≡ Some files → asked ≡ Some (check t certificate)
-    → OptimizesInstance (Some before) s text → length text ≤ certificate_limit
-    → IsSameInstance before s.source files t → files certificate ≡ Some text → quiet
-    → (status ≡ Done) ⊎ (status ≡ Memory)
-optimum_checked asked held quiet status complete before files s t certificate text told asks h short same there calm =
-    complete.judged files t certificate h.problem text (optimal h.optimizes.certificate.cost) told asks
-    (held_again before files s.source t h.problem h.instance same) there
-    (optimized_verdict h.problem (method_of s) text h.optimizes short).0 calm
+checked_of asked held quiet status complete before files s t certificate text told asks h short same there calm =
+    let why = solving_why (Some before) h.problem s.how s.search text h.solves short in
+    complete.judged files t certificate h.problem text (optimal why.0) told asks
+    (held_again before files s.source t h.problem h.instance same) there why.1 calm
 
 pub headline : (asked : Option Request) (held : Option Files) (fails : Request → Type 0) (old new : Option (List ℕ)) (rose quiet : Type 0) (status : Status)
     → Means asked held fails old new rose status → Completeness asked held quiet status
@@ -104,14 +71,8 @@ pub headline : (asked : Option Request) (held : Option Files) (fails : Request �
 headline asked held fails old new rose quiet status means complete =
     let P : Status → Type 0 = λ x. Means asked held fails old new rose x in
     record {
-      solved = λ files s rule told is done. solved_of asked held old new (subst P done means) files s rule told is;
-      checked = λ before files s rule t certificate text told is h short same there calm.
-          checked_of asked held quiet status complete before files s rule t certificate text told is h short same there calm;
-      resolved = λ files r told is done. resolved_of asked held old new (subst P done means) files r told is;
-      resolved_checked = λ before files r t certificate text told is h short same there calm.
-          resolved_checked_of asked held quiet status complete before files r t certificate text told is h short same there calm;
-      optimized = λ files s gap from told is done. optimized_of asked held old new (subst P done means) files s gap from told is;
-      optimized_checked = λ before files s t certificate text told is h short same there calm.
-          optimum_checked asked held quiet status complete before files s t certificate text told is h short same there calm;
+      solved = λ files s told is done. solved_of asked held old new (subst P done means) files s told is;
+      checked = λ before files s t certificate text told is h short same there calm.
+          checked_of asked held quiet status complete before files s t certificate text told is h short same there calm;
       certified = λ files s certificate told is done. certified_of asked held old new (subst P done means) files s certificate told is;
     }

@@ -1,5 +1,5 @@
 pub mod TooLong
-pub mod Resolved
+pub mod OlderCertificates
 pub mod Writing
 pub mod FoundFrom
 pub mod RuleCertificates
@@ -9,6 +9,7 @@ pub mod Versions
 pub mod Networks
 pub mod Searched
 pub mod Optimized
+pub mod Solutions
 pub mod Answered
 pub mod StatusMeanings
 pub mod OneReading

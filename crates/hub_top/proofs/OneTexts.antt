@@ -12,8 +12,11 @@ use Rattle.cert_spec.proofs.Unmarked.{unmarked_holds}
 use Rattle.cert_spec.proofs.VerdictLemmas.{one_verdict_from}
 use Rattle.separators.specs.Kinds.{core}
 use Rattle.branch_tree.specs.Findings.{found_by}
-use Rattle.hub_top.specs.Commands.{Course, node_by_node, by_core_cuts, again, by_rounds, Method, SpellsFound, SpellsBy, rule_certificate}
-use Rattle.hub_top.specs.Commands.{Finds, Solves, Stops, Optimizes, Bounds}
+use Rattle.hub_words.specs.Requests.{How, follow, again, freely, node_by_node, by_core_cuts, by_rounds, Search}
+use Rattle.hub_io.specs.Outside.{Files}
+use Rattle.hub_top.specs.Commands.{Course, cold, warm, Method, method_of, free_method, SpellsFound, SpellsBy, rule_certificate}
+use Rattle.hub_top.specs.Commands.{Finds, Solves, Stops, Optimizes, Bounds, SolvesBy}
+use Rattle.search_spec.specs.Again.{start_of}
 use Rattle.hub_top.specs.Theorems.{IsOneVerdict, Ends}
 
 -- the verdict on any bytes is the only one
@@ -26,7 +29,7 @@ only_verdict p bytes v w why also =
 
 -- what the text of a search that goes so states of the proof: by core cuts with the marks of what is found, else with none
 abbrev pub stated_so : Problem → Option ℕ → Course → Proof → Stated
-stated_so p nodes by_core_cuts k = record { proof = k; marks = (found_by core p nodes).state.marks }
+stated_so p nodes (cold by_core_cuts) k = record { proof = k; marks = (found_by core p nodes).state.marks }
 stated_so p nodes course k = unmarked k
 
 -- the text states this, which holds, with the proof's bound and cost
@@ -41,11 +44,11 @@ unmarked_text p text k holds told = record { spelled = told; holds = unmarked_ho
 
 found_is_text : (p : Problem) (nodes : Option ℕ) (course : Course) (text : List ℕ) (k : Proof) → Holds p k
     → SpellsFound p nodes course text k → IsText p text k (stated_so p nodes course k)
-found_is_text p nodes node_by_node text k holds told = unmarked_text p text k holds told
-found_is_text p nodes by_core_cuts text k holds told =
+found_is_text p nodes (cold node_by_node) text k holds told = unmarked_text p text k holds told
+found_is_text p nodes (cold by_core_cuts) text k holds told =
     record { spelled = told.spelled; holds = record { holds = holds; marks = told.as_marked }; bound = refl; cost = refl }
-found_is_text p nodes (again start) text k holds told = unmarked_text p text k holds told
-found_is_text p nodes by_rounds text k holds told = unmarked_text p text k holds told
+found_is_text p nodes (warm start) text k holds told = unmarked_text p text k holds told
+found_is_text p nodes (cold by_rounds) text k holds told = unmarked_text p text k holds told
 
 rule_is_text : (p : Problem) (m : Method) (text : List ℕ) (k : Proof) → Finds p m (SpellsBy p m text) k
     → IsText p text k (stated_so p m.nodes m.course k)
@@ -71,6 +74,14 @@ pub optimized_verdict : (p : Problem) (m : Method) (text : List ℕ) (h : Optimi
     → IsOneVerdict p text (optimal h.certificate.cost)
 optimized_verdict p m text h short =
     let k = h.certificate in closed_verdict p text k (unmarked k) (unmarked_text p text k h.finds.holds h.finds.told) h.no_gap short
+
+-- so of a text that solves an instance, however it is asked for
+pub solving_why : (held : Option Files) (p : Problem) (how : How) (q : Search) (text : List ℕ) → SolvesBy held p how q text
+    → length text ≤ certificate_limit → (cost : ℕ) × Why p text (optimal cost)
+solving_why held p (follow rule) q text h short = (h.certificate.cost, (solved_verdict p (method_of q (cold rule)) text h short).0)
+solving_why held p (again older) q text h short =
+    (h.is.certificate.cost, (solved_verdict p (method_of q (warm (start_of h.older.proof))) text h.is short).0)
+solving_why held p (freely gap from) q text h short = (h.0.certificate.cost, (optimized_verdict p (free_method q) text h.0 short).0)
 
 -- where the bound is below the cost
 gap_verdict : (p : Problem) (text : List ℕ) (k : Proof) (s : Stated) → IsText p text k s → k.bound < k.cost

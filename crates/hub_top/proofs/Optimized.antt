@@ -1,10 +1,9 @@
--- What `optimize` found is told by its text.
+-- What a search that follows no rule found is told by its text.
 use Rattle.std.proofs.Common.{◌≡◌, ℕ, ◌+◌, ◌^◌, ◌<◌, ◌≤◌, List, length, Option, None, Some, Ok, Err, ◌⊎◌, inl, inr, ⊎_elim, refl, sym, subst, ap, ◌∙◌, arith, nat_eq}
 use Rattle.std.proofs.lemmas.List.{length-map}
 use Rattle.std.proofs.lemmas.Bool.{cases_lt, cond_both, eqb-true, eqb-false}
 use Rattle.std.specs.Prelude.{Result, IfOk}
 use Rattle.std.specs.List.{AllZip}
-use Rattle.hub_io.specs.Outside.{Files}
 use Rattle.hub_spec.specs.Problem.{Problem, IsProblem, commodities}
 use Rattle.hub_spec.specs.Plans.{NoPlanBelow, IsSetCost, IsLeastRoute}
 use Rattle.hub_spec.specs.Trees.{Tree, line_count, preorder}
@@ -17,13 +16,12 @@ use Rattle.kept_cuts.specs.declared.found.Found.{Found}
 use Rattle.kept_cuts.specs.Findings.{AreRemade, IsProved, IsVersionFor, proof_of, lines_of}
 use Rattle.proof_text.specs.Texts.{found_text}
 use Rattle.closing_search.specs.Gaps.{IsWithinGap}
-use Rattle.hub_words.specs.Requests.{Solving, optimize}
+use Rattle.hub_words.specs.Requests.{Search}
 use Rattle.hub_top.specs.declared.status.Status.{Status}
 use Rattle.hub_top.specs.declared.status.Status.TheVariants.{Done, Stopped}
-use Rattle.hub_top.specs.Commands.{Method, method_of, IsEnoughFor, Finds, MayBegin, BeginsInstance, Optimizes, Bounds}
-use Rattle.hub_top.specs.Answers.{Answers}
+use Rattle.hub_top.specs.Commands.{Method, free_method, IsEnoughFor, Finds, Optimizes, Bounds}
 use Rattle.hub_top.specs.Views.{finding_status}
-use Rattle.hub_top.specs.Solving.{IsClosed, IsOptimum}
+use Rattle.hub_top.specs.Solving.{IsClosed}
 use Rattle.hub_top.proofs.Spelled.{spells_unmarked}
 
 -- what the search found is such a network, if it found one
@@ -103,21 +101,13 @@ leaves m gap p found h version below = record {
   at_most = h.at_most;
 }
 
--- `optimize` answers so, in a version that there is for the instance
-pub optimize_answers : (held : Option Files) (s : Solving) (gap : ℕ) (from : Option (List ℕ)) (p : Problem) (found : Found)
-    → IsVersionFor p found.cuts.cuts s.version → IsOptimum held s.source s.search.nodes gap p found → MayBegin held p from
-    → Answers (optimize s gap from) (finding_status found) held (found_text s.version p found)
-optimize_answers held s gap from p found version h may =
-    let m = method_of s in
-    let begins : BeginsInstance held s.source from = record { problem = p; instance = h.instance; may = may } in
-    cond_both (nat_eq found.bound found.cost) Done Stopped (λ (x : Status). Answers (optimize s gap from) x held (found_text s.version p found))
-    (λ e. (record { problem = p; instance = h.instance; optimizes = closes m gap p found h.closed version (eqb-true found.bound found.cost e) }, begins))
-    (λ e. (
-      record {
-        problem = p;
-        instance = h.instance;
-        bounds = leaves m gap p found h.closed version
-            (let apart = eqb-false found.bound found.cost e in let within = h.closed.within in omega (arith, within, apart));
-      },
-      begins,
-    ))
+-- so its text optimizes the instance, or bounds it
+pub free_status : (p : Problem) (q : Search) (gap : ℕ) (found : Found) (P : Status → Type 0) → IsVersionFor p found.cuts.cuts q.version
+    → IsClosed p q.nodes gap found → (Optimizes p (free_method q) (found_text q.version p found) → P Done)
+    → (Bounds p (free_method q) gap (found_text q.version p found) → P Stopped) → P (finding_status found)
+free_status p q gap found P version h done stopped =
+    let m = free_method q in
+    cond_both (nat_eq found.bound found.cost) Done Stopped P
+    (λ e. done (closes m gap p found h version (eqb-true found.bound found.cost e)))
+    (λ e. stopped (leaves m gap p found h version
+    (let apart = eqb-false found.bound found.cost e in let within = h.within in omega (arith, within, apart))))

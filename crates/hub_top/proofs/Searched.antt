@@ -1,4 +1,4 @@
--- What the code of a search found is told as the commands ask: `solve` by its text, `demo` by five lines.
+-- What the code of a search by a rule found is told as the commands ask: by its text, or by five lines.
 use Rattle.std.proofs.Common.{◌≡◌, ℕ, ◌<◌, ◌≤◌, length, Option, Result, Ok, Err, inr, refl, sym, subst, ap, ◌∙◌, arith, nat_eq, cond}
 use Rattle.std.specs.Prelude.{IfOk, IfSome, map}
 use Rattle.std.proofs.lemmas.List.{length-map}
@@ -21,20 +21,19 @@ use Rattle.proof_text.specs.Certificates.{mark_said, stated_by}
 use Rattle.proof_text.proofs.StatedFindings.{stated_is_of}
 use Rattle.separators.specs.Kinds.{core}
 use Rattle.branch_tree.specs.Findings.{found_by}
+use Rattle.file_spec.specs.Options.{Options}
 use Rattle.file_spec.specs.Instances.{made}
 use Rattle.hub_make.specs.Contents.{made_contents, made_problem}
-use Rattle.hub_words.specs.Requests as words
-use Rattle.hub_words.specs.Requests.{Source, Solving, SearchRule, Resolving, Making, Search, solve, resolve, demo}
-use Rattle.hub_words.specs.Requests.{AsksAnyNumber, solved_by_rounds}
+use Rattle.hub_words.specs.Requests.{node_by_node, by_core_cuts, by_rounds, How, follow, again, freely, IsAllowed, Making, Search, demo}
 use Rattle.hub_demo.specs.Texts as lines
 use Rattle.hub_top.specs.declared.status.Status.{Status}
 use Rattle.hub_top.specs.declared.status.Status.TheVariants.{Done, Stopped}
-use Rattle.hub_top.specs.Commands.{WhereTold, HoldsInstance, Course, node_by_node, by_core_cuts, again, by_rounds, course_of, Method, method_by, demo_method, again_method}
-use Rattle.hub_top.specs.Commands.{found_from, rule_certificate, SpellsMarked, SpellsFound, SpellsBy}
+use Rattle.hub_top.specs.Commands.{Course, cold, warm, Method, demo_method}
+use Rattle.hub_top.specs.Commands.{found_from, rule_certificate, SpellsMarked, SpellsFound, SpellsBy, Solves, Stops}
 use Rattle.hub_top.specs.Answers.{found_status, demo_text, Demonstrates, Answers}
 use Rattle.hub_top.specs.Views.{finding_status}
 use Rattle.hub_top.specs.Building.{KeepsLimits}
-use Rattle.hub_top.specs.Solving.{MayGo, MayFollow, IsRemadeCourse, IsSearched, IsResolution}
+use Rattle.hub_top.specs.Solving.{MayGo, IsRemadeCourse, IsSearched, GoesBy}
 use Rattle.hub_top.proofs.FoundFrom.{IsSearchable, found_searched}
 use Rattle.hub_top.proofs.Spelled.{spells_stated, spells_unmarked}
 use Rattle.hub_top.proofs.Versions.{IsVersionBy}
@@ -92,7 +91,7 @@ spells_rule p version nodes course found h there =
     (spells_unmarked version p found (found_from p nodes course).tree h.proved h.finding.lines there)
 
 -- what is stated of what is found by core cuts in the third version: the rule's certificate with the marks that are found
-marked_stated : (p : Problem) (version : ℕ) (nodes : Option ℕ) (found : Found) (h : IsSearched p nodes by_core_cuts found) → version ≡ 3
+marked_stated : (p : Problem) (version : ℕ) (nodes : Option ℕ) (found : Found) (h : IsSearched p nodes (cold by_core_cuts) found) → version ≡ 3
     → stated_by version p found (found_by core p nodes).tree
     ≡ record { proof = certificate_of p version (found_by core p nodes); marks = (found_by core p nodes).state.marks }
 marked_stated p version nodes found h third =
@@ -101,7 +100,7 @@ marked_stated p version nodes found h third =
     ap (λ (v : ℕ). map (mark_said v) found.cuts.cuts) third ∙ h.finding.marks in
     λ t. record { proof = h.certificate version t; marks = marks t }
 
-spells_marks : (p : Problem) (version : ℕ) (nodes : Option ℕ) (found : Found) → IsSearched p nodes by_core_cuts found → version ≡ 3
+spells_marks : (p : Problem) (version : ℕ) (nodes : Option ℕ) (found : Found) → IsSearched p nodes (cold by_core_cuts) found → version ≡ 3
     → SpellsMarked p (found_by core p nodes).state.marks (found_text version p found) (certificate_of p version (found_by core p nodes))
 spells_marks p version nodes found h third =
     let g = found_by core p nodes in
@@ -117,46 +116,21 @@ spells_marks p version nodes found h third =
 pub spells_found : (p : Problem) (version : ℕ) (nodes : Option ℕ) (course : Course) (found : Found) → IsSearched p nodes course found
     → IsVersionBy p found.cuts.cuts course version
     → SpellsFound p nodes course (found_text version p found) (certificate_of p version (found_from p nodes course))
-spells_found p version nodes node_by_node found h there = spells_rule p version nodes node_by_node found h there
-spells_found p version nodes by_core_cuts found h there = spells_marks p version nodes found h there
-spells_found p version nodes (again start) found h there = spells_rule p version nodes (again start) found h there
-spells_found p version nodes by_rounds found h there = spells_rule p version nodes by_rounds found h there
+spells_found p version nodes (cold node_by_node) found h there = spells_rule p version nodes (cold node_by_node) found h there
+spells_found p version nodes (cold by_core_cuts) found h there = spells_marks p version nodes found h there
+spells_found p version nodes (cold by_rounds) found h there = spells_rule p version nodes (cold by_rounds) found h there
+spells_found p version nodes (warm start) found h there = spells_rule p version nodes (warm start) found h there
 
--- `solve` answers so, in the version of the rule
-pub solve_answers : (held : Option Files) (s : Solving) (rule : SearchRule) (p : Problem) (found : Found)
-    → IsVersionBy p found.cuts.cuts (course_of rule) s.version
-    → WhereTold held (λ files. HoldsInstance files s.source p) → IsSearched p s.search.nodes (course_of rule) found
-    → Answers (solve s rule) (finding_status found) held (found_text s.version p found)
-solve_answers held s rule p found version instance h =
-    let m = method_by s rule in
-    let text = found_text s.version p found in
+-- so its text solves the instance or stops, in the version of the rule
+pub ruled_status : (p : Problem) (m : Method) (found : Found) (P : Status → Type 0) → IsVersionBy p found.cuts.cuts m.course m.version
+    → IsSearched p m.nodes m.course found
+    → (Solves p m (SpellsBy p m (found_text m.version p found)) → P Done)
+    → (Stops p m (SpellsBy p m (found_text m.version p found)) → P Stopped) → P (finding_status found)
+ruled_status p m found P version h done stopped =
+    let tells = SpellsBy p m (found_text m.version p found) in
     let spelled = spells_found p m.version m.nodes m.course found h version in
-    by_status p m found (λ x. Answers (solve s rule) x held text) h
-    (λ closed. record { problem = p; instance = instance; solves = rule_solves p m (SpellsBy p m text) (searchable h) spelled closed })
-    (λ gap. record { problem = p; instance = instance; stops = rule_stops p m (SpellsBy p m text) (searchable h) spelled gap })
-
--- `resolve` answers so, in the second version
-pub resolve_answers : (held : Option Files) (r : Resolving) (p : Problem) (found : Found) → IsResolution held r p found
-    → Answers (resolve r) (finding_status found) held (found_text 2 p found)
-resolve_answers held r p found h =
-    let m = again_method r.search h.older.proof in
-    let text = found_text 2 p found in
-    let spelled = spells_rule p m.version m.nodes m.course found h.searched (inr refl) in
-    by_status p m found (λ x. Answers (resolve r) x held text) h.searched
-    (λ closed. record {
-      problem = p;
-      instance = h.instance;
-      older = h.older;
-      older_held = h.older_held;
-      solves = rule_solves p m (SpellsUnmarked text) (searchable h.searched) spelled closed;
-    })
-    (λ gap. record {
-      problem = p;
-      instance = h.instance;
-      older = h.older;
-      older_held = h.older_held;
-      stops = rule_stops p m (SpellsUnmarked text) (searchable h.searched) spelled gap;
-    })
+    by_status p m found P h (λ closed. done (rule_solves p m tells (searchable h) spelled closed))
+    (λ gap. stopped (rule_stops p m tells (searchable h) spelled gap))
 
 -- a line of what was found for each of the rule's tree
 lines_long : (p : Problem) (n : Option ℕ) (course : Course) (found : Found) → IsSearched p n course found
@@ -175,7 +149,7 @@ five_lines p m found h =
 
 -- `demo` answers so
 pub demo_answers : (held : Option Files) (m : Making) (search : Search) (size : ℕ) (found : Found) → size ≡ (made_problem m.seed m.size).size
-    → IsSearched (made_problem m.seed m.size) search.nodes node_by_node found
+    → IsSearched (made_problem m.seed m.size) search.nodes (cold node_by_node) found
     → Answers (demo m search) (finding_status found) held (lines.demo_text size found.cost found.bound found.plan.hubs (length found.tree.items))
 demo_answers held m search size found sized h =
     let p = made_problem m.seed m.size in
@@ -187,17 +161,14 @@ demo_answers held m search size found sized h =
     (λ closed. rule_solves p by (Demonstrates text) (searchable h) told closed)
     (λ gap. rule_stops p by (Demonstrates text) (searchable h) told gap)
 
--- where the search of a source may follow the rule, that of its instance may go so
-pub may_go_by : (rule : SearchRule) (s : Source) (p : Problem) → KeepsLimits s.options p → MayFollow rule s → MayGo p (course_of rule)
-may_go_by words.node_by_node s p keeps may = tt
-may_go_by words.by_core_cuts s p keeps may = tt
-may_go_by words.by_rounds s p keeps may = keeps.wanted may
-
--- the words ask for no number of hubs where they ask for a search by rounds
-pub may_follow_by : (s : Solving) (rule : SearchRule) → IfSome (solved_by_rounds (solve s rule)) AsksAnyNumber → MayFollow rule s.source
-may_follow_by s words.node_by_node any = tt
-may_follow_by s words.by_core_cuts any = tt
-may_follow_by s words.by_rounds any = any
+-- a search goes as it may, where its rule is allowed
+pub may_go_by : (held : Option Files) (p : Problem) (how : How) (course : Course) (o : Options) (version : ℕ) → KeepsLimits o p
+    → IsAllowed how o version → GoesBy held p how course → MayGo p course
+may_go_by held p (follow node_by_node) course o version keeps allowed goes = subst (MayGo p) (sym goes) tt
+may_go_by held p (follow by_core_cuts) course o version keeps allowed goes = subst (MayGo p) (sym goes) tt
+may_go_by held p (follow by_rounds) course o version keeps allowed goes = subst (MayGo p) (sym goes) (keeps.wanted allowed.0)
+may_go_by held p (again older) course o version keeps allowed goes = goes.3
+may_go_by held p (freely gap from) course o version keeps allowed goes = absurd goes
 
 -- a made instance has the size that was asked for
 pub made_size : (m : Making) → m.size ≡ (made_problem m.seed m.size).size

@@ -4,12 +4,13 @@ use Rattle.std.specs.Io.KnownBytes.{Appends}
 use Rattle.hub_io.specs.Outside.{Files, Rose}
 use Rattle.cert_spec.specs.Verdicts.{Verdict, optimal, bounds, misread, too_long}
 use Rattle.cert_spec.specs.Verdicts as verdicts
-use Rattle.hub_words.specs.Requests.{Source, Solving, SearchRule, Resolving, Making, Search, Request, solve, optimize, resolve, check, report, make, demo}
+use Rattle.hub_words.specs.Requests.{Source, Solving, Making, Search, Request, solve, check, report, make, demo}
 use Rattle.hub_top.specs.declared.status.Status.{Status}
 use Rattle.hub_top.specs.declared.status.Status.TheVariants.{Done, Stopped, No, Usage, Instance, Memory, Read, Write, Lacking}
 use Rattle.hub_top.specs.Answers.{Answers, verdict_status}
 use Rattle.hub_top.specs.Outcomes.{Outcome, answered, usage, faulty, no_network, memory, read, status_of, out_text, MayComeTo, Written, whole, out_cut, err_cut}
 use Rattle.hub_top.specs.Meanings.{Means}
+use Rattle.hub_top.proofs.Answered.{solve_cases}
 
 -- a status with which no command answers
 abbrev HasNoAnswer : Status → Type 0
@@ -30,39 +31,9 @@ of_verdict (verdicts.fails kind line) status none e = subst HasNoAnswer (sym e) 
 of_verdict (misread fault) status none e = subst HasNoAnswer (sym e) none
 of_verdict too_long status none e = subst HasNoAnswer (sym e) none
 
-of_solve : (s : Solving) (rule : SearchRule) (status : Status) (held : Option Files) (text : List ℕ) → HasNoAnswer status
-    → Answers (solve s rule) status held text → ⊥
-of_solve s rule Done held text none h = none
-of_solve s rule Stopped held text none h = none
-of_solve s rule No held text none h = none
-of_solve s rule Usage held text none h = h
-of_solve s rule Instance held text none h = h
-of_solve s rule Memory held text none h = h
-of_solve s rule Read held text none h = h
-of_solve s rule Write held text none h = h
-of_solve s rule Lacking held text none h = h
-
-of_optimize : (s : Solving) (gap : ℕ) (from : Option (List ℕ)) (status : Status) (held : Option Files) (text : List ℕ) → HasNoAnswer status → Answers (optimize s gap from) status held text → ⊥
-of_optimize s gap from Done held text none h = none
-of_optimize s gap from Stopped held text none h = none
-of_optimize s gap from No held text none h = none
-of_optimize s gap from Usage held text none h = h
-of_optimize s gap from Instance held text none h = h
-of_optimize s gap from Memory held text none h = h
-of_optimize s gap from Read held text none h = h
-of_optimize s gap from Write held text none h = h
-of_optimize s gap from Lacking held text none h = h
-
-of_resolve : (r : Resolving) (status : Status) (held : Option Files) (text : List ℕ) → HasNoAnswer status → Answers (resolve r) status held text → ⊥
-of_resolve r Done held text none h = none
-of_resolve r Stopped held text none h = none
-of_resolve r No held text none h = none
-of_resolve r Usage held text none h = h
-of_resolve r Instance held text none h = h
-of_resolve r Memory held text none h = h
-of_resolve r Read held text none h = h
-of_resolve r Write held text none h = h
-of_resolve r Lacking held text none h = h
+of_solve : (s : Solving) (status : Status) (held : Option Files) (text : List ℕ) → HasNoAnswer status → Answers (solve s) status held text → ⊥
+of_solve s status held text none h =
+    solve_cases held s text (λ (x : Status). HasNoAnswer x → ⊥) (λ k no. no) (λ k no. no) (λ k no. no) status h none
 
 of_report : (s : Source) (file : List ℕ) (status : Status) (held : Option Files) (text : List ℕ) → HasNoAnswer status → Answers (report s file) status held text → ⊥
 of_report s file Done held text none h = none
@@ -98,9 +69,7 @@ of_demo m search Write held text none h = h
 of_demo m search Lacking held text none h = h
 
 no_answer : (request : Request) (status : Status) (held : Option Files) (text : List ℕ) → HasNoAnswer status → Answers request status held text → ⊥
-no_answer (solve s rule) status held text none h = of_solve s rule status held text none h
-no_answer (optimize s gap from) status held text none h = of_optimize s gap from status held text none h
-no_answer (resolve r) status held text none h = of_resolve r status held text none h
+no_answer (solve s) status held text none h = of_solve s status held text none h
 no_answer (check s file) status held text none h = of_verdict h.verdict status none h.of_status
 no_answer (report s file) status held text none h = of_report s file status held text none h
 no_answer (make m) status held text none h = of_make m status held text none h

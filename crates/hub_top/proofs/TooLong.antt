@@ -2,10 +2,9 @@
 use Rattle.std.proofs.Common.{ℕ, List, Option, Some, None}
 use Rattle.hub_io.specs.Outside.{Files, HoldsMore}
 use Rattle.hub_spec.specs.Problem.{Problem}
-use Rattle.cert_spec.specs.Verdicts.{Verdict, too_long, over_limit, certificate_limit}
+use Rattle.cert_spec.specs.Verdicts.{Verdict, too_long, certificate_limit}
 use Rattle.stream_check.specs.Held.{IsVerdictOnHeld}
 use Rattle.stream_check.proofs.TooLong.{too_long_held}
-use Rattle.hub_top.specs.Commands.{HoldsOlder, HoldsSized}
 use Rattle.hub_top.specs.Judging.{IsVerdictOn}
 
 pub verdict_on_held : (p : Problem) (held : Option Files) (file : List ℕ) (verdict : Verdict) → IsVerdictOnHeld p held file verdict → IsVerdictOn p held file verdict
@@ -14,12 +13,3 @@ verdict_on_held p (Some files) file verdict v = record { bytes = v.bytes; bytes_
 
 pub too_long_verdict : (p : Problem) (held : Option Files) (file : List ℕ) → HoldsMore held file certificate_limit → IsVerdictOn p held file too_long
 too_long_verdict p held file more = verdict_on_held p held file too_long (too_long_held p held file more)
-
--- and so it is said of an older certificate
-pub too_long_older : (p : Problem) (held : Option Files) (older : List ℕ) → HoldsMore held older certificate_limit → HoldsOlder held p older over_limit
-too_long_older p held older more =
-    let v = too_long_verdict p held older more in record { bytes = v.bytes; bytes_held = v.bytes_held; is = v.why }
-
-pub too_long_sized : (p : Problem) (held : Option Files) (older : List ℕ) → HoldsMore held older certificate_limit → HoldsSized held p older over_limit
-too_long_sized p held older more =
-    let v = too_long_verdict p held older more in record { bytes = v.bytes; bytes_held = v.bytes_held; is = v.why }

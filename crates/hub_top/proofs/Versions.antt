@@ -1,6 +1,6 @@
 -- The versions that words can ask for have a text for what is found.
 use Rattle.std.proofs.Common.{◌≡◌, ℕ, false, List, All, ◌⊎◌, inl, inr, ⊎_elim, ◌∙◌, arith}
-use Rattle.std.specs.Prelude.{is_some, IfSome}
+use Rattle.std.specs.Prelude.{is_some}
 use Rattle.std.proofs.lemmas.Bool.{cases_lt, or_parts}
 use Rattle.hub_spec.specs.Problem.{Problem}
 use Rattle.hub_spec.proofs.SumLemmas.{by_test}
@@ -10,8 +10,8 @@ use Rattle.kept_cuts.specs.Kept.{Kept, IsRemade}
 use Rattle.kept_cuts.specs.Findings.{IsUnlimited, AreRemade, IsVersionFor}
 use Rattle.kept_cuts.specs.declared.found.Found.{Found}
 use Rattle.hub_words.specs.Requests as words
-use Rattle.hub_words.specs.Requests.{Solving, SearchRule, SaysLimits, AsksCoreCuts, solve, version_of, solved_by_core_cuts}
-use Rattle.hub_top.specs.Commands.{Course, by_core_cuts, course_of}
+use Rattle.hub_words.specs.Requests.{node_by_node, by_core_cuts, by_rounds, SearchRule, follow, IsAllowed, SaysLimits}
+use Rattle.hub_top.specs.Commands.{Course, cold}
 use Rattle.hub_top.specs.Building.{KeepsLimits}
 use Rattle.hub_top.specs.Solving.{IsRemadeCourse}
 
@@ -31,22 +31,20 @@ either_version : (p : Problem) (cuts : List Kept) (v : ℕ) → IsUnlimited p �
 either_version p cuts v unlimited own asked = ⊎_elim (λ one. inl (one, unlimited, own)) (λ two. inr two) (first_or_second v asked)
 
 -- and any that may be asked for, since limits are said in the second alone
-pub said_version : (s : Solving) (p : Problem) (cuts : List Kept) → KeepsLimits s.source.options p → All IsRemade cuts → words.IsVersion s.version
-    → SaysLimits s → IsVersionFor p cuts s.version
-said_version s p cuts keeps own asked says =
-    by_test (words.is_limited s.source.options) (λ limited. inr (says limited))
-    (λ not. either_version p cuts s.version (unlimited_when s.source.options p keeps not) own asked)
+pub said_version : (o : Options) (v : ℕ) (p : Problem) (cuts : List Kept) → KeepsLimits o p → All IsRemade cuts → words.IsVersion v
+    → SaysLimits o v → IsVersionFor p cuts v
+said_version o v p cuts keeps own asked says =
+    by_test (words.is_limited o) (λ limited. inr (says limited)) (λ not. either_version p cuts v (unlimited_when o p keeps not) own asked)
 
 -- the version of a search that goes so: by core cuts the third, else one that has a text for each finding with these cuts
 abbrev pub IsVersionBy : Problem → List Kept → Course → ℕ → Type 0
-IsVersionBy p cuts by_core_cuts version = version ≡ 3
+IsVersionBy p cuts (cold by_core_cuts) version = version ≡ 3
 IsVersionBy p cuts course version = IsVersionFor p cuts version
 
 -- so is the version in which words ask to solve by a rule
-pub rule_version : (s : Solving) (rule : SearchRule) (p : Problem) (found : Found) → KeepsLimits s.source.options p
-    → (IsRemadeCourse (course_of rule) → AreRemade found) → IfSome (version_of (solve s rule)) words.IsVersion
-    → IfSome (solved_by_core_cuts (solve s rule)) AsksCoreCuts → SaysLimits s
-    → IsVersionBy p found.cuts.cuts (course_of rule) s.version
-rule_version s words.node_by_node p found keeps remade asked core says = said_version s p found.cuts.cuts keeps (remade tt) asked says
-rule_version s words.by_core_cuts p found keeps remade asked core says = core.third
-rule_version s words.by_rounds p found keeps remade asked core says = said_version s p found.cuts.cuts keeps (remade tt) asked says
+pub rule_version : (o : Options) (v : ℕ) (rule : SearchRule) (p : Problem) (found : Found) → KeepsLimits o p
+    → (IsRemadeCourse (cold rule) → AreRemade found) → IsAllowed (follow rule) o v → SaysLimits o v
+    → IsVersionBy p found.cuts.cuts (cold rule) v
+rule_version o v node_by_node p found keeps remade asked says = said_version o v p found.cuts.cuts keeps (remade tt) asked says
+rule_version o v by_core_cuts p found keeps remade asked says = asked.third
+rule_version o v by_rounds p found keeps remade asked says = said_version o v p found.cuts.cuts keeps (remade tt) asked.1 says

@@ -9,11 +9,12 @@ use Rattle.cert_spec.specs.Verdicts.{Verdict, optimal, bounds, Older, serves}
 use Rattle.hub_make.specs.Texts.{made_text}
 use Rattle.hub_make.specs.Contents.{made_problem}
 use Rattle.hub_demo.specs.Texts as lines
-use Rattle.hub_words.specs.Requests.{Source, Search, Resolving, Request, solve, optimize, resolve, check, report, make, demo}
+use Rattle.search_spec.specs.Again.{start_of}
+use Rattle.hub_words.specs.Requests.{Source, Search, Solving, Request, solve, check, report, make, demo}
 use Rattle.hub_top.specs.declared.status.Status.{Status}
 use Rattle.hub_top.specs.declared.status.Status.TheVariants.{Done, Stopped, No, Lacking}
 use Rattle.hub_top.specs.Texts.{verdict_text, older_line}
-use Rattle.hub_top.specs.Commands.{Method, demo_method, again_method, rule_certificate, Solves, Stops, SolvesInstance, StopsInstance, ResolvesInstance, StopsAgain, RefusesOlder, BeginsInstance, RefusesFirst, OptimizesInstance, BoundsInstance, JudgesFile, ReportsFile}
+use Rattle.hub_top.specs.Commands.{warm, Method, method_of, demo_method, rule_certificate, Solves, Stops, SolvesInstance, StopsInstance, RefusesOlder, JudgesFile, ReportsFile}
 
 -- ---- statuses
 
@@ -43,22 +44,16 @@ solve_status p m = if is_some (lacking p p.candidates) then Lacking else rule_st
 
 -- of `resolve`, where all candidates together lack no commodity: 2 where the older certificate does not serve
 unfoldable pub older_status : Problem → Search → Older → Status
-older_status p search (serves older) = rule_status p (again_method search older.proof)
+older_status p search (serves older) = rule_status p (method_of search (warm (start_of older.proof)))
 older_status p search said = No
 
 -- ---- answers
 
--- the text is the line that tells why the older certificate does not serve
-pub record TellsOlder (held : Option Files) (r : Resolving) (text : List ℕ) : Type 0 where
+-- the text is the line that tells why the older certificate that is named does not serve
+pub record TellsOlder (held : Option Files) (s : Solving) (text : List ℕ) : Type 0 where
   pub said : Older
   pub of_text : older_line said ≡ Some text
-  pub refuses : RefusesOlder held r said
-
--- the text is the line that tells why the bytes of the older certificate that is named do not
-pub record TellsFirst (held : Option Files) (s : Source) (from : Option (List ℕ)) (text : List ℕ) : Type 0 where
-  pub said : Older
-  pub of_text : older_line said ≡ Some text
-  pub refuses : RefusesFirst held s from said
+  pub refuses : RefusesOlder held s said
 
 -- the text is the line of a verdict with this status, which is the verdict on the certificate
 pub record Judges (held : Option Files) (s : Source) (certificate : List ℕ) (status : Status) (text : List ℕ) : Type 0 where
@@ -77,17 +72,10 @@ Demonstrates text k = text ≡ demo_text k
 
 -- what a command says that ends with this status and this text on out
 abbrev pub Answers : Request → Status → Option Files → List ℕ → Type 0
-Answers (solve s rule) Done held text = SolvesInstance held s rule text
-Answers (solve s rule) Stopped held text = StopsInstance held s rule text
-Answers (solve s rule) status held text = ⊥
-Answers (optimize s gap from) Done held text = OptimizesInstance held s text × BeginsInstance held s.source from
-Answers (optimize s gap from) Stopped held text = BoundsInstance held s gap text × BeginsInstance held s.source from
-Answers (optimize s gap from) No held text = TellsFirst held s.source from text
-Answers (optimize s gap from) status held text = ⊥
-Answers (resolve r) Done held text = ResolvesInstance held r text
-Answers (resolve r) Stopped held text = StopsAgain held r text
-Answers (resolve r) No held text = TellsOlder held r text
-Answers (resolve r) status held text = ⊥
+Answers (solve s) Done held text = SolvesInstance held s text
+Answers (solve s) Stopped held text = StopsInstance held s text
+Answers (solve s) No held text = TellsOlder held s text
+Answers (solve s) status held text = ⊥
 Answers (check s certificate) status held text = Judges held s certificate status text
 Answers (report s certificate) Done held text = ReportsFile held s certificate text
 Answers (report s certificate) No held text = Judges held s certificate No text

@@ -24,8 +24,7 @@ use Rattle.branch_tree.specs.Findings.{found_by, found_again}
 use Rattle.node_rounds.specs.Findings.{found_by_rounds}
 use Rattle.closing_search.specs.Gaps.{IsWithinGap}
 use Rattle.network_report.specs.Texts.{report_text}
-use Rattle.hub_words.specs.Requests as words
-use Rattle.hub_words.specs.Requests.{Source, Search, Solving, SearchRule, Resolving, Request, solve, optimize, resolve, check, report, make, demo}
+use Rattle.hub_words.specs.Requests.{Source, Search, SearchRule, node_by_node, by_core_cuts, by_rounds, How, follow, again, freely, older_named, Solving, Request, solve, check, report, make, demo}
 use Rattle.cert_checker.specs.Shows.{Proves, ProvesMarks}
 use Rattle.old_duals.specs.Sized.{IsSized}
 
@@ -86,19 +85,10 @@ HasBlame files s on_costs fault = HoldsCostFault files s fault
 
 -- ---- what a search comes to
 
--- how a search goes: node by node from its beginning, the same with core cuts where there are, node by node from a start, or by
--- rounds
+-- how a search goes that follows a rule: by which one from its beginning, or node by node from a start
 pub data Course : Type 0 where
-  node_by_node : Course
-  by_core_cuts : Course
-  again : Start → Course
-  by_rounds : Course
-
--- by the rule that is asked for
-abbrev pub course_of : SearchRule → Course
-course_of words.node_by_node = node_by_node
-course_of words.by_core_cuts = by_core_cuts
-course_of words.by_rounds = by_rounds
+  cold : SearchRule → Course
+  warm : Start → Course
 
 -- how a search is asked for, as far as its certificate depends on it: the version of the text, the most nodes, and how it goes
 pub record Method : Type 0 where
@@ -106,21 +96,17 @@ pub record Method : Type 0 where
   pub nodes : Option ℕ
   pub course : Course
 
--- of `solve` by this rule
-abbrev pub method_by : Solving → SearchRule → Method
-method_by s rule = record { version = s.version; nodes = s.search.nodes; course = course_of rule }
+-- of a search that goes so
+abbrev pub method_of : Search → Course → Method
+method_of q course = record { version = q.version; nodes = q.nodes; course = course }
 
--- of `optimize`, whose answers read no course
-abbrev pub method_of : Solving → Method
-method_of s = record { version = s.version; nodes = s.search.nodes; course = node_by_node }
+-- of one that follows no rule, whose answers read no course
+abbrev pub free_method : Search → Method
+free_method q = method_of q (cold node_by_node)
 
 -- of `demo`, which tells of a certificate of the first version
 abbrev pub demo_method : Search → Method
-demo_method search = record { version = 1; nodes = search.nodes; course = node_by_node }
-
--- of `resolve` with this older certificate, which writes the second version
-abbrev pub again_method : Search → Proof → Method
-again_method search older = record { version = 2; nodes = search.nodes; course = again (start_of older) }
+demo_method q = record { version = 1; nodes = q.nodes; course = cold node_by_node }
 
 -- what is told is a certificate of the version that holds for the instance: its hubs and routes are a plan that costs exactly its cost,
 -- with as many hubs as are wanted, if a number is; each route is allowed, and a least one through its hubs, and no
@@ -136,14 +122,14 @@ pub record Finds (p : Problem) (m : Method) (tells : Proof → Type 0) (k : Proo
   pub allowed : AreWithin m.nodes (line_count k.tree)
   pub most : line_count k.tree + 1 ≤ 2 ^ (length p.candidates + 1)
 
--- ---- what `solve`, `resolve` and `demo` come to
+-- ---- what a search by a rule comes to
 
 -- what the search rule finds that goes so
 abbrev pub found_from : Problem → Option ℕ → Course → Grown
-found_from p nodes node_by_node = found_by minimal p nodes
-found_from p nodes by_core_cuts = found_by core p nodes
-found_from p nodes (again start) = found_again minimal p nodes start
-found_from p nodes by_rounds = found_by_rounds p nodes
+found_from p nodes (cold node_by_node) = found_by minimal p nodes
+found_from p nodes (cold by_core_cuts) = found_by core p nodes
+found_from p nodes (cold by_rounds) = found_by_rounds p nodes
+found_from p nodes (warm start) = found_again minimal p nodes start
 
 -- the certificate that the search rule defines for the instance, the most nodes and the course, in the version; it reads no
 -- number of workers
@@ -162,7 +148,7 @@ pub record SpellsMarked (p : Problem) (marks : List (Option Mark)) (text : List 
 -- the bytes are the text of this proof, as a search that goes so writes it: by core cuts with the marks of what it finds, else with
 -- none
 abbrev pub SpellsFound : Problem → Option ℕ → Course → List ℕ → Proof → Type 0
-SpellsFound p nodes by_core_cuts text k = SpellsMarked p (found_by core p nodes).state.marks text k
+SpellsFound p nodes (cold by_core_cuts) text k = SpellsMarked p (found_by core p nodes).state.marks text k
 SpellsFound p nodes course text k = SpellsUnmarked text k
 
 abbrev pub SpellsBy : Problem → Method → List ℕ → Proof → Type 0
@@ -189,87 +175,7 @@ pub record Stops (p : Problem) (m : Method) (tells : Proof → Type 0) : Type 0 
   pub spent : IsSpent m.nodes (line_count certificate.tree)
   pub not_enough : IsEnoughFor p m.nodes → ⊥
 
--- the files give an instance, which the text solves by the rule
-pub record SolvesInstance (held : Option Files) (s : Solving) (rule : SearchRule) (text : List ℕ) : Type 0 where
-  pub problem : Problem
-  pub instance : WhereTold held (λ files. HoldsInstance files s.source problem)
-  pub solves : Solves problem (method_by s rule) (SpellsBy problem (method_by s rule) text)
-
--- the files give an instance, for which the text stops by the rule
-pub record StopsInstance (held : Option Files) (s : Solving) (rule : SearchRule) (text : List ℕ) : Type 0 where
-  pub problem : Problem
-  pub instance : WhereTold held (λ files. HoldsInstance files s.source problem)
-  pub stops : Stops problem (method_by s rule) (SpellsBy problem (method_by s rule) text)
-
--- the files give an instance whose candidates lack this commodity, all of them together, and none before it: there is no plan
-pub record LacksNetwork (held : Option Files) (s : Source) (commodity : ℕ × ℕ) : Type 0 where
-  pub problem : Problem
-  pub instance : WhereTold held (λ files. HoldsInstance files s problem)
-  pub lacks : lacking problem problem.candidates ≡ Some commodity
-  pub no_plan : (plan : Plan) → IsPlan problem plan → ⊥
-
--- ---- the older certificate of `resolve`
-
--- the file holds bytes of which this is said as an older certificate
-pub record HoldsOlder (held : Option Files) (p : Problem) (older : List ℕ) (said : Older) : Type 0 where
-  pub bytes : List ℕ
-  pub bytes_held : WhereTold held (λ files. files older ≡ Some bytes)
-  pub is : IsOlder p bytes said
-
--- the files give an instance and an older certificate whose cuts are cuts of it, and the text solves the instance from these
-pub record ResolvesInstance (held : Option Files) (r : Resolving) (text : List ℕ) : Type 0 where
-  pub problem : Problem
-  pub instance : WhereTold held (λ files. HoldsInstance files r.source problem)
-  pub older : Stated
-  pub older_held : HoldsOlder held problem r.older (serves older)
-  pub solves : Solves problem (again_method r.search older.proof) (SpellsUnmarked text)
-
--- they do, and the text stops
-pub record StopsAgain (held : Option Files) (r : Resolving) (text : List ℕ) : Type 0 where
-  pub problem : Problem
-  pub instance : WhereTold held (λ files. HoldsInstance files r.source problem)
-  pub older : Stated
-  pub older_held : HoldsOlder held problem r.older (serves older)
-  pub stops : Stops problem (again_method r.search older.proof) (SpellsUnmarked text)
-
--- the files give an instance whose candidates together lack no commodity, and bytes that do not serve as an older certificate,
--- for this reason
-pub record RefusesOlder (held : Option Files) (r : Resolving) (said : Older) : Type 0 where
-  pub problem : Problem
-  pub instance : WhereTold held (λ files. HoldsInstance files r.source problem)
-  pub lacks_none : lacking problem problem.candidates ≡ None
-  pub older_held : HoldsOlder held problem r.older said
-
--- ---- the older certificate from which `optimize` begins
-
--- the file holds bytes of which this is said by their text and their size alone
-pub record HoldsSized (held : Option Files) (p : Problem) (older : List ℕ) (said : Older) : Type 0 where
-  pub bytes : List ℕ
-  pub bytes_held : WhereTold held (λ files. files older ≡ Some bytes)
-  pub is : IsSized p bytes said
-
--- no older certificate is named, or its file holds one of the instance's size
-abbrev pub MayBegin : Option Files → Problem → Option (List ℕ) → Type 0
-MayBegin held p None = Unit {0}
-MayBegin held p (Some older) = (k : Stated) × HoldsSized held p older (serves k)
-
--- the files give an instance, for which that is so
-pub record BeginsInstance (held : Option Files) (s : Source) (from : Option (List ℕ)) : Type 0 where
-  pub problem : Problem
-  pub instance : WhereTold held (λ files. HoldsInstance files s problem)
-  pub may : MayBegin held problem from
-
--- the files give an instance whose candidates together lack no commodity, and in the file that is named bytes that are no certificate
--- of its size, for this reason
-pub record RefusesFirst (held : Option Files) (s : Source) (from : Option (List ℕ)) (said : Older) : Type 0 where
-  pub problem : Problem
-  pub instance : WhereTold held (λ files. HoldsInstance files s problem)
-  pub lacks_none : lacking problem problem.candidates ≡ None
-  pub older : List ℕ
-  pub named : from ≡ Some older
-  pub older_held : HoldsSized held problem older said
-
--- ---- what `optimize` comes to
+-- ---- what a search that follows no rule comes to
 
 -- where any number of hubs will do, it costs at most what all candidates as hubs cost
 abbrev pub IsAtMostAll : Problem → Proof → Type 0
@@ -293,17 +199,74 @@ pub record Bounds (p : Problem) (m : Method) (allowed : ℕ) (text : List ℕ) :
       ⊎ IsWithinGap allowed certificate.bound certificate.cost
   pub at_most : IsAtMostAll p certificate
 
--- the files give an instance, which the text optimizes
-pub record OptimizesInstance (held : Option Files) (s : Solving) (text : List ℕ) : Type 0 where
-  pub problem : Problem
-  pub instance : WhereTold held (λ files. HoldsInstance files s.source problem)
-  pub optimizes : Optimizes problem (method_of s) text
+-- ---- the older certificate
 
--- the files give an instance, which the text bounds
-pub record BoundsInstance (held : Option Files) (s : Solving) (gap : ℕ) (text : List ℕ) : Type 0 where
+-- of the bytes of an older certificate this is said: where its cuts are given to the search, by its text, its size and each cut, else
+-- by its text and its size alone
+abbrev pub IsSaid : How → Problem → List ℕ → Older → Type 0
+IsSaid (follow rule) p bytes said = IsSized p bytes said
+IsSaid (again older) p bytes said = IsOlder p bytes said
+IsSaid (freely gap from) p bytes said = IsSized p bytes said
+
+-- the file that is named holds bytes of which this is said
+pub record HoldsOlder (held : Option Files) (p : Problem) (how : How) (said : Older) : Type 0 where
+  pub older : List ℕ
+  pub named : older_named how ≡ Some older
+  pub bytes : List ℕ
+  pub bytes_held : WhereTold held (λ files. files older ≡ Some bytes)
+  pub is : IsSaid how p bytes said
+
+-- no older certificate is named, or its file holds one that serves
+abbrev pub MayBegin : Option Files → Problem → How → Type 0
+MayBegin held p how = (older_named how ≡ None) ⊎ ((older : Stated) × HoldsOlder held p how (serves older))
+
+-- the file holds an older certificate that serves, and this is so of the search from its cuts, which is told in the second version
+pub record FromOlder (held : Option Files) (p : Problem) (how : How) (q : Search) (so : Method → Type 0) : Type 0 where
+  pub older : Stated
+  pub older_held : HoldsOlder held p how (serves older)
+  pub second : q.version ≡ 2
+  pub is : so (method_of q (warm (start_of older.proof)))
+
+-- ---- what `solve`, `resolve` and `optimize` come to
+
+-- the text solves the instance by this search, as it is asked for
+abbrev pub SolvesBy : Option Files → Problem → How → Search → List ℕ → Type 0
+SolvesBy held p (follow rule) q text = Solves p (method_of q (cold rule)) (SpellsBy p (method_of q (cold rule)) text)
+SolvesBy held p (again older) q text = FromOlder held p (again older) q (λ m. Solves p m (SpellsBy p m text))
+SolvesBy held p (freely gap from) q text = Optimizes p (free_method q) text × MayBegin held p (freely gap from)
+
+-- the text stops by it: its bound is below its cost
+abbrev pub StopsBy : Option Files → Problem → How → Search → List ℕ → Type 0
+StopsBy held p (follow rule) q text = Stops p (method_of q (cold rule)) (SpellsBy p (method_of q (cold rule)) text)
+StopsBy held p (again older) q text = FromOlder held p (again older) q (λ m. Stops p m (SpellsBy p m text))
+StopsBy held p (freely gap from) q text = Bounds p (free_method q) gap text × MayBegin held p (freely gap from)
+
+-- the files give an instance, which the text solves
+pub record SolvesInstance (held : Option Files) (s : Solving) (text : List ℕ) : Type 0 where
   pub problem : Problem
   pub instance : WhereTold held (λ files. HoldsInstance files s.source problem)
-  pub bounds : Bounds problem (method_of s) gap text
+  pub solves : SolvesBy held problem s.how s.search text
+
+-- the files give an instance, for which the text stops
+pub record StopsInstance (held : Option Files) (s : Solving) (text : List ℕ) : Type 0 where
+  pub problem : Problem
+  pub instance : WhereTold held (λ files. HoldsInstance files s.source problem)
+  pub stops : StopsBy held problem s.how s.search text
+
+-- the files give an instance whose candidates lack this commodity, all of them together, and none before it: there is no plan
+pub record LacksNetwork (held : Option Files) (s : Source) (commodity : ℕ × ℕ) : Type 0 where
+  pub problem : Problem
+  pub instance : WhereTold held (λ files. HoldsInstance files s problem)
+  pub lacks : lacking problem problem.candidates ≡ Some commodity
+  pub no_plan : (plan : Plan) → IsPlan problem plan → ⊥
+
+-- the files give an instance whose candidates together lack no commodity, and bytes that do not serve as an older certificate,
+-- for this reason
+pub record RefusesOlder (held : Option Files) (s : Solving) (said : Older) : Type 0 where
+  pub problem : Problem
+  pub instance : WhereTold held (λ files. HoldsInstance files s.source problem)
+  pub lacks_none : lacking problem problem.candidates ≡ None
+  pub older_held : HoldsOlder held problem s.how said
 
 -- ---- what `check` and `report` come to
 
@@ -345,31 +308,21 @@ pub record LacksCertificate (files : Files) (s : Source) (certificate : List ℕ
   pub instance : HoldsInstance files s problem
   pub lacks : files certificate ≡ None
 
--- the file of the older certificate is not held, where there is an instance whose candidates together lack no commodity
-pub record LacksOlder (files : Files) (r : Resolving) : Type 0 where
-  pub problem : Problem
-  pub instance : HoldsInstance files r.source problem
-  pub lacks_none : lacking problem problem.candidates ≡ None
-  pub lacks : files r.older ≡ None
-
 -- a file of this name is not held, if one is named
 abbrev pub LacksNamed : Option (List ℕ) → Files → Type 0
 LacksNamed None files = ⊥
 LacksNamed (Some name) files = files name ≡ None
 
--- the file of the older certificate from which `optimize` is to begin is not held, where there is an instance whose candidates together
--- lack no commodity
-pub record LacksFirst (files : Files) (s : Source) (from : Option (List ℕ)) : Type 0 where
+-- the file of the older certificate that is named is not held, where there is an instance whose candidates together lack no commodity
+pub record LacksOlder (files : Files) (s : Solving) : Type 0 where
   pub problem : Problem
-  pub instance : HoldsInstance files s problem
+  pub instance : HoldsInstance files s.source problem
   pub lacks_none : lacking problem problem.candidates ≡ None
-  pub lacks : LacksNamed from files
+  pub lacks : LacksNamed (older_named s.how) files
 
 -- a file that the request names is not held, when its turn comes
 abbrev pub Lacks : Files → Request → Type 0
-Lacks files (solve solving rule) = LacksSource files solving.source
-Lacks files (optimize solving gap from) = LacksSource files solving.source ⊎ LacksFirst files solving.source from
-Lacks files (resolve resolving) = LacksSource files resolving.source ⊎ LacksOlder files resolving
+Lacks files (solve s) = LacksSource files s.source ⊎ LacksOlder files s
 Lacks files (check s certificate) = LacksSource files s ⊎ LacksCertificate files s certificate
 Lacks files (report s certificate) = LacksSource files s ⊎ LacksCertificate files s certificate
 Lacks files (make making) = ⊥

@@ -2,17 +2,15 @@
 use Rattle.std.specs.Prelude.{◌≡◌, ℕ, List, Option, Some, None, ◌⊎◌}
 use Rattle.hub_io.specs.Outside.{Files}
 use Rattle.hub_spec.specs.Problem.{Problem, IsSameNetwork}
-use Rattle.cert_spec.specs.Stated.{Stated}
 use Rattle.hub_spec.specs.Lacking.{lacking}
-use Rattle.cert_spec.specs.Verdicts.{Verdict, Why, Certifies, Older, serves, IsOlder}
+use Rattle.cert_spec.specs.Verdicts.{Verdict, Why, Certifies, Older, IsOlder}
 use Rattle.file_spec.specs.Faults.{Fault}
 use Rattle.hub_make.specs.Contents.{made_problem}
 use Rattle.hub_top.specs.declared.status.Status.{Status}
 use Rattle.hub_top.specs.declared.status.Status.TheVariants.{Done, Stopped, No, Usage, Instance, Memory, Lacking}
-use Rattle.hub_words.specs.Requests.{Source, Solving, SearchRule, Resolving, Making, Search, Request, instance}
-use Rattle.hub_words.specs.Requests.{solve, optimize, resolve, check, report, make, demo}
-use Rattle.hub_top.specs.Commands.{Blame, HasBlame, HoldsInstance, MayBegin, method_by, demo_method, IsEnoughFor}
-use Rattle.old_duals.specs.Sized.{IsSized}
+use Rattle.hub_words.specs.Requests.{Source, SearchRule, How, follow, again, older_named, gap_of, Solving, Making, Search, Request, instance}
+use Rattle.hub_words.specs.Requests.{solve, check, report, make, demo}
+use Rattle.hub_top.specs.Commands.{Blame, HasBlame, HoldsInstance, cold, method_of, demo_method, IsEnoughFor, IsSaid, MayBegin}
 use Rattle.hub_top.specs.Texts.{older_line}
 use Rattle.hub_top.specs.Answers.{verdict_status, report_status, rule_status, solve_status, older_status}
 
@@ -31,45 +29,34 @@ pub record Completeness (asked : Option Request) (held : Option Files) (quiet : 
   -- any command whose instance has a fault
   pub fault : (files : Files) (request : Request) (s : Source) (blame : Blame) (fault : Fault) → held ≡ Some files → asked ≡ Some request
       → instance request ≡ Some s → HasBlame files s blame fault → quiet → EndsWith Instance status
-  -- `solve` with an instance: 8 where all candidates together lack a commodity, else the status of what the rule that is asked for
-  -- finds
-  pub solved : (files : Files) (s : Solving) (rule : SearchRule) (p : Problem) → held ≡ Some files → asked ≡ Some (solve s rule)
-      → HoldsInstance files s.source p → quiet → EndsWith (solve_status p (method_by s rule)) status
-  -- and where they lack none, with as many nodes as a whole tree has it is solved
-  pub enough : (files : Files) (s : Solving) (rule : SearchRule) (p : Problem) → held ≡ Some files → asked ≡ Some (solve s rule)
-      → HoldsInstance files s.source p → lacking p p.candidates ≡ None → IsEnoughFor p s.search.nodes → quiet → EndsWith Done status
-  -- `resolve` with an instance: 8 where all candidates together lack a commodity, whatever is held of the older certificate
-  pub networkless : (files : Files) (r : Resolving) (p : Problem) (commodity : ℕ × ℕ) → held ≡ Some files → asked ≡ Some (resolve r)
-      → HoldsInstance files r.source p → lacking p p.candidates ≡ Some commodity → quiet → EndsWith Lacking status
-  -- and where they lack none, with an older certificate: 2 where this does not serve, else the status of what the search rule finds
-  -- from its start
-  pub resolved : (files : Files) (r : Resolving) (p : Problem) (bytes : List ℕ) (said : Older) → held ≡ Some files → asked ≡ Some (resolve r)
-      → HoldsInstance files r.source p → lacking p p.candidates ≡ None → files r.older ≡ Some bytes → IsOlder p bytes said → quiet
-      → EndsWith (older_status p r.search said) status
-  -- and with one that serves and as many nodes as a whole tree has it is solved
-  pub resolved_whole : (files : Files) (r : Resolving) (p : Problem) (bytes : List ℕ) (older : Stated) → held ≡ Some files
-      → asked ≡ Some (resolve r) → HoldsInstance files r.source p → lacking p p.candidates ≡ None → files r.older ≡ Some bytes
-      → IsOlder p bytes (serves older) → IsEnoughFor p r.search.nodes → quiet → EndsWith Done status
+  -- `solve`, `resolve` and `optimize` with an instance: 8 where all candidates together lack a commodity, whatever is held of an older
+  -- certificate
+  pub networkless : (files : Files) (s : Solving) (p : Problem) (commodity : ℕ × ℕ) → held ≡ Some files → asked ≡ Some (solve s)
+      → HoldsInstance files s.source p → lacking p p.candidates ≡ Some commodity → quiet → EndsWith Lacking status
+  -- and where they lack none, with bytes that do not serve as the older certificate that is named: 2
+  pub refused : (files : Files) (s : Solving) (older bytes line : List ℕ) (said : Older) (p : Problem) → held ≡ Some files
+      → asked ≡ Some (solve s) → older_named s.how ≡ Some older → HoldsInstance files s.source p → lacking p p.candidates ≡ None
+      → files older ≡ Some bytes → IsSaid s.how p bytes said → older_line said ≡ Some line → quiet → EndsWith No status
+  -- and with one that serves, or where none is named: the bound is the cost, or it is below
+  pub bounded : (files : Files) (s : Solving) (p : Problem) → held ≡ Some files → asked ≡ Some (solve s) → HoldsInstance files s.source p
+      → lacking p p.candidates ≡ None → MayBegin (Some files) p s.how → quiet → EndsAs (λ x. (x ≡ Done) ⊎ (x ≡ Stopped)) status
+  -- and where no gap is allowed too, and as many nodes as a whole tree has, it is solved
+  pub enough : (files : Files) (s : Solving) (p : Problem) → held ≡ Some files → asked ≡ Some (solve s) → HoldsInstance files s.source p
+      → lacking p p.candidates ≡ None → MayBegin (Some files) p s.how → gap_of s.how ≡ 0 → IsEnoughFor p s.search.nodes → quiet
+      → EndsWith Done status
+  -- `solve`: 8 where all candidates together lack a commodity, else the status of what the rule that is asked for finds
+  pub solved : (files : Files) (s : Solving) (rule : SearchRule) (p : Problem) → held ≡ Some files → asked ≡ Some (solve s)
+      → s.how ≡ follow rule → HoldsInstance files s.source p → quiet → EndsWith (solve_status p (method_of s.search (cold rule))) status
+  -- `resolve`, where they lack none: 2 where the older certificate does not serve, else the status of what the search rule finds from
+  -- its start
+  pub resolved : (files : Files) (s : Solving) (older : List ℕ) (p : Problem) (bytes : List ℕ) (said : Older) → held ≡ Some files
+      → asked ≡ Some (solve s) → s.how ≡ again older → HoldsInstance files s.source p → lacking p p.candidates ≡ None
+      → files older ≡ Some bytes → IsOlder p bytes said → quiet → EndsWith (older_status p s.search said) status
   -- one that certifies for an instance that differs in fixed costs and numbers of hubs alone serves
-  pub served : (files : Files) (r : Resolving) (p before : Problem) (bytes : List ℕ) (bound cost : ℕ) → held ≡ Some files
-      → asked ≡ Some (resolve r) → HoldsInstance files r.source p → lacking p p.candidates ≡ None → files r.older ≡ Some bytes
-      → IsSameNetwork before p → Certifies before bytes bound cost → quiet → EndsAs (λ x. (x ≡ Done) ⊎ (x ≡ Stopped)) status
-  -- `optimize` with an instance: 8 where all candidates together lack a commodity
-  pub unconnected : (files : Files) (s : Solving) (gap : ℕ) (from : Option (List ℕ)) (p : Problem) (commodity : ℕ × ℕ) → held ≡ Some files
-      → asked ≡ Some (optimize s gap from) → HoldsInstance files s.source p → lacking p p.candidates ≡ Some commodity → quiet
-      → EndsWith Lacking status
-  -- and where they lack none, and an older certificate of its size is held or none is named, with no gap and as many nodes as a whole
-  -- tree has, or any number
-  pub optimized : (files : Files) (s : Solving) (from : Option (List ℕ)) (p : Problem) → held ≡ Some files → asked ≡ Some (optimize s 0 from)
-      → HoldsInstance files s.source p → lacking p p.candidates ≡ None → MayBegin (Some files) p from → IsEnoughFor p s.search.nodes → quiet → EndsWith Done status
-  -- and with any gap and limit of nodes: the bound is the cost, or it is below
-  pub bounded : (files : Files) (s : Solving) (gap : ℕ) (from : Option (List ℕ)) (p : Problem) → held ≡ Some files
-      → asked ≡ Some (optimize s gap from) → HoldsInstance files s.source p → lacking p p.candidates ≡ None
-      → MayBegin (Some files) p from → quiet → EndsAs (λ x. (x ≡ Done) ⊎ (x ≡ Stopped)) status
-  -- and where the bytes that are held under the name of the older certificate are none of its size, 2
-  pub misled : (files : Files) (s : Solving) (gap : ℕ) (older bytes line : List ℕ) (said : Older) (p : Problem) → held ≡ Some files
-      → asked ≡ Some (optimize s gap (Some older)) → HoldsInstance files s.source p → lacking p p.candidates ≡ None
-      → files older ≡ Some bytes → IsSized p bytes said → older_line said ≡ Some line → quiet → EndsWith No status
+  pub served : (files : Files) (s : Solving) (older : List ℕ) (p before : Problem) (bytes : List ℕ) (bound cost : ℕ) → held ≡ Some files
+      → asked ≡ Some (solve s) → s.how ≡ again older → HoldsInstance files s.source p → lacking p p.candidates ≡ None
+      → files older ≡ Some bytes → IsSameNetwork before p → Certifies before bytes bound cost → quiet
+      → EndsAs (λ x. (x ≡ Done) ⊎ (x ≡ Stopped)) status
   -- `check` with an instance and a certificate: the status of the verdict on its bytes
   pub judged : (files : Files) (s : Source) (certificate : List ℕ) (p : Problem) (bytes : List ℕ) (verdict : Verdict)
       → held ≡ Some files → asked ≡ Some (check s certificate) → HoldsInstance files s p → files certificate ≡ Some bytes

@@ -6,9 +6,9 @@ use Rattle.hub_spec.specs.Problem.{Problem}
 use Rattle.cert_spec.specs.Verdicts.{certificate_limit}
 use Rattle.hub_top.specs.declared.status.Status.{Status}
 use Rattle.hub_top.specs.declared.status.Status.TheVariants.{Done, Memory}
-use Rattle.hub_words.specs.Requests.{Source, Solving, SearchRule, Resolving, Request, solve, optimize, resolve, check}
+use Rattle.hub_words.specs.Requests.{Source, Solving, Request, solve, check}
 use Rattle.hub_top.specs.Texts.{optimal_line}
-use Rattle.hub_top.specs.Commands.{HoldsInstance, SolvesInstance, ResolvesInstance, OptimizesInstance}
+use Rattle.hub_top.specs.Commands.{HoldsInstance, SolvesInstance}
 use Rattle.cert_checker.specs.Shows.{ProvesOptimal}
 
 -- the costs files named hold the same bytes, or none is named
@@ -27,29 +27,14 @@ pub record IsSameInstance (before : Files) (s : Source) (now : Files) (t : Sourc
 
 -- the headline, for what the words ask for, the files held, what out took, whether no fault rose, and the status
 pub record Headline (asked : Option Request) (held : Option Files) (old new : Option (List ℕ)) (quiet : Type 0) (status : Status) : Type 0 where
-  -- where `solve` by any rule ends with status 0, the text it wrote names hubs and routes that cost exactly the printed
-  -- cost, and no nonempty set of candidate hubs with any routing costs less
-  pub solved : (files : Files) (s : Solving) (rule : SearchRule) → held ≡ Some files → asked ≡ Some (solve s rule) → status ≡ Done
-      → (text : List ℕ) × Appends old new text × SolvesInstance (Some files) s rule text
+  -- where `solve` by any rule, `resolve`, or `optimize`, whatever the gap and the older certificate, ends with status 0, the text it
+  -- wrote names hubs and routes that cost exactly the printed cost, and no nonempty set of candidate hubs with any routing costs less
+  pub solved : (files : Files) (s : Solving) → held ≡ Some files → asked ≡ Some (solve s) → status ≡ Done
+      → (text : List ℕ) × Appends old new text × SolvesInstance (Some files) s text
   -- `check` on the same instance and that text ends with status 0, where no fault rises, memory is not wanting and the
   -- text has at most 2^30 bytes
-  pub checked : (before files : Files) (s : Solving) (rule : SearchRule) (t : Source) (certificate text : List ℕ) → held ≡ Some files
-      → asked ≡ Some (check t certificate) → SolvesInstance (Some before) s rule text → length text ≤ certificate_limit
-      → IsSameInstance before s.source files t → files certificate ≡ Some text → quiet
-      → (status ≡ Done) ⊎ (status ≡ Memory)
-  -- both hold with `resolve` for `solve`
-  pub resolved : (files : Files) (r : Resolving) → held ≡ Some files → asked ≡ Some (resolve r) → status ≡ Done
-      → (text : List ℕ) × Appends old new text × ResolvesInstance (Some files) r text
-  pub resolved_checked : (before files : Files) (r : Resolving) (t : Source) (certificate text : List ℕ) → held ≡ Some files
-      → asked ≡ Some (check t certificate) → ResolvesInstance (Some before) r text → length text ≤ certificate_limit
-      → IsSameInstance before r.source files t → files certificate ≡ Some text → quiet
-      → (status ≡ Done) ⊎ (status ≡ Memory)
-  -- and with `optimize`, whatever the gap and the older certificate
-  pub optimized : (files : Files) (s : Solving) (gap : ℕ) (from : Option (List ℕ)) → held ≡ Some files
-      → asked ≡ Some (optimize s gap from) → status ≡ Done
-      → (text : List ℕ) × Appends old new text × OptimizesInstance (Some files) s text
-  pub optimized_checked : (before files : Files) (s : Solving) (t : Source) (certificate text : List ℕ) → held ≡ Some files → asked ≡ Some (check t certificate)
-      → OptimizesInstance (Some before) s text → length text ≤ certificate_limit
+  pub checked : (before files : Files) (s : Solving) (t : Source) (certificate text : List ℕ) → held ≡ Some files
+      → asked ≡ Some (check t certificate) → SolvesInstance (Some before) s text → length text ≤ certificate_limit
       → IsSameInstance before s.source files t → files certificate ≡ Some text → quiet
       → (status ≡ Done) ⊎ (status ≡ Memory)
   -- wherever `check` ends with status 0, on any bytes whatever, the named network attains its cost and no plan costs less

@@ -5,16 +5,14 @@ use Rattle.hub_io.specs.declared.Failed.{Failed}
 use Rattle.file_spec.specs.Faults.{Fault}
 use Rattle.hub_top.specs.declared.status.Status.{Status}
 use Rattle.hub_top.specs.declared.status.Status.TheVariants.{Usage, Instance, Memory, Read, Write, Lacking}
-use Rattle.hub_words.specs.Requests.{Source, Request, solve, optimize, resolve, instance}
+use Rattle.hub_words.specs.Requests.{Source, Request, solve, instance}
 use Rattle.hub_top.specs.Texts.{usage_text, fault_text, no_network_text, memory_text, read_text}
 use Rattle.hub_top.specs.Commands.{Blame, HasBlame, WhereTold, Lacks, LacksNetwork}
 use Rattle.hub_top.specs.Answers.{Answers}
 
 -- the instance that a request asks to solve, if it names one
 abbrev pub to_solve : Request → Option Source
-to_solve (solve solving rule) = Some solving.source
-to_solve (optimize solving gap from) = Some solving.source
-to_solve (resolve resolving) = Some resolving.source
+to_solve (solve solving) = Some solving.source
 to_solve request = None
 
 -- what a run came to, before it was written

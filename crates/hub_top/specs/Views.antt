@@ -1,8 +1,9 @@
 -- What a run of the code came to, as contracts see it.
-use Rattle.std.specs.Prelude.{ℕ, ◌≤◌, List, length, nat_eq, if◌then◌else◌, Result, Ok, Err}
+use Rattle.std.specs.Prelude.{ℕ, List, length, nat_eq, if◌then◌else◌, Result, Ok, Err}
 use Rattle.cert_spec.specs.Stated.{IsStatedOf}
 use Rattle.hub_model.specs.Faults.{fault_of}
-use Rattle.hub_words.specs.Limits.{most_workers}
+use Rattle.hub_words.specs.Requests.{IsSearch}
+use Rattle.hub_words.specs.Views.{search_seen}
 use Rattle.kept_cuts.specs.declared.found.Found.{Found as Finding}
 use Rattle.kept_cuts.specs.Findings.{IsProved}
 use Rattle.cert_scan.specs.Versions.{version_number}
@@ -17,7 +18,6 @@ use Rattle.hub_top.specs.declared.halts.Halt.{Halt}
 use Rattle.hub_top.specs.declared.halts.Halt.TheVariants as halts
 use Rattle.hub_top.specs.declared.answers.Answer.{Answer}
 use Rattle.hub_top.specs.declared.answers.Answer.TheVariants.{Judged, Reported, Made, Demonstrated}
-use Rattle.hub_top.specs.declared.outcomes.Writing.{Writing}
 use Rattle.hub_top.specs.declared.outcomes.Settled.{Settled}
 use Rattle.hub_top.specs.declared.outcomes.Settled.TheVariants.{Answered, Found, NoNetwork, Usage, Halted}
 use Rattle.hub_top.specs.declared.outcomes.Intended.{Intended}
@@ -62,19 +62,15 @@ IsWritable (Demonstrated size found) = Unit {0}
 -- what a run settled on
 abbrev pub came_to : Settled → Outcome
 came_to (Answered answer) = answered (answer_status answer) (answer_text answer)
-came_to (Found instance found writing) = answered (finding_status found) (found_text (version_number writing.version) instance found)
+came_to (Found instance found search) = answered (finding_status found) (found_text (version_number search.version) instance found)
 came_to (NoNetwork i j) = no_network (i, j)
 came_to Usage = usage
 came_to (Halted halt) = halted halt
 
--- a certificate is written by one worker to as many as may be
-abbrev pub HasWorkers : Writing → Type 0
-HasWorkers writing = (1 ≤ writing.workers) × (writing.workers ≤ most_workers)
-
 -- what was found is proved of the instance
 abbrev pub CanBeWritten : Settled → Type 0
 CanBeWritten (Answered answer) = IsWritable answer
-CanBeWritten (Found instance found writing) = IsProved instance found × HasWorkers writing
+CanBeWritten (Found instance found search) = IsProved instance found × IsSearch (search_seen search)
 CanBeWritten (NoNetwork i j) = Unit {0}
 CanBeWritten Usage = Unit {0}
 CanBeWritten (Halted halt) = Unit {0}
@@ -87,8 +83,8 @@ ended (Err halt) = halted halt
 -- what a run came to
 abbrev pub outcome : Intended → Outcome
 outcome (intended.Answered answer) = answered (answer_status answer.now) (answer_text answer.now)
-outcome (intended.Found instance found writing lender) =
-    answered (finding_status found.now) (found_text (version_number writing.version) instance.now found.now)
+outcome (intended.Found instance found search lender) =
+    answered (finding_status found.now) (found_text (version_number search.version) instance.now found.now)
 outcome (intended.NoNetwork i j) = no_network (i, j)
 outcome intended.Usage = usage
 outcome (intended.Halted halt) = halted halt
@@ -96,8 +92,8 @@ outcome (intended.Halted halt) = halted halt
 -- what was found is proved of the instance, and the lender is for it
 abbrev pub IsReady : Intended → Type 0
 IsReady (intended.Answered answer) = IsWritable answer.now
-IsReady (intended.Found instance found writing lender) =
-    IsProved instance.now found.now × IsLenderFor instance.now lender × HasWorkers writing
+IsReady (intended.Found instance found search lender) =
+    IsProved instance.now found.now × IsLenderFor instance.now lender × IsSearch (search_seen search)
 IsReady (intended.NoNetwork i j) = Unit {0}
 IsReady intended.Usage = Unit {0}
 IsReady (intended.Halted halt) = Unit {0}

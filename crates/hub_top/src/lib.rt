@@ -10,15 +10,16 @@
 
 mod answers;
 mod checking;
+mod closing;
 mod costs;
 mod files;
 mod halts;
 mod instances;
 mod laws;
-mod optimizing;
 mod outcomes;
+mod preparing;
 mod reporting;
-mod resolving;
+mod searching;
 mod solving;
 mod status;
 mod texts;

@@ -6,41 +6,34 @@ ghost use Rattle.cert_scan.specs.Versions.{version_number};
 ghost use Rattle.kept_cuts.specs.Findings.{IsProved};
 ghost use Rattle.dual_lender.specs.Lenders.{IsLenderFor};
 ghost use Rattle.proof_text.specs.Texts.{found_text};
+ghost use Rattle.hub_words.specs.Requests.{IsSearch};
+ghost use Rattle.hub_words.specs.Views.{search_seen};
 ghost use Rattle.hub_top.specs.Texts.{no_network_text, usage_text};
 ghost use Rattle.hub_top.specs.Outcomes.{IsTold, Written, err_text, memory, status_of};
-ghost use Rattle.hub_top.specs.Views.{CanBeWritten, HasWorkers, IsReady, IsWritable, answer_status, answer_text, came_to, finding_status, halted, outcome};
+ghost use Rattle.hub_top.specs.Views.{CanBeWritten, IsReady, IsWritable, answer_status, answer_text, came_to, finding_status, halted, outcome};
 ghost use Rattle.hub_top.specs.declared.status.Status.TheVariants.{Lacking, Usage};
 
 use crate::Status;
 use crate::answers::{Answer, put_answer, status_of_answer, status_of_finding};
 use crate::halts::Halt;
 use crate::texts::{put_fault, put_memory, put_no_network, put_read, put_usage};
-use cert_format::Version;
 use dual_lender::DualLender;
 use hub_io::{Failed, Sink};
 use hub_model::Instance;
+use hub_words::Search;
 use kept_cuts::Found;
 use proof_text::write_found;
 use std::alloc::Global;
 use std::thread::Threads;
-
-/// How a certificate is written.
-#[derive(Clone, Copy)]
-pub struct Writing {
-    /// The version of its text.
-    pub version: Version,
-    /// By how many workers its text is worked out: 1 to 64.
-    pub workers: u32,
-}
 
 /// What a run settled on.
 #[derive(Drop)]
 pub enum Settled {
     /// The answer of a command.
     Answered(Answer),
-    /// What `solve`, `resolve` or `optimize` found for the instance, whose certificate is wanted so.
-    Found(Instance, Found, Writing),
-    /// `solve`, `optimize`, `resolve`: all candidates together lack the commodity from `i` to `j`.
+    /// What this search found for the instance, whose certificate is wanted.
+    Found(Instance, Found, Search),
+    /// All candidates together lack the commodity from `i` to `j`.
     NoNetwork { i: u32, j: u32 },
     /// The words are no command.
     Usage,
@@ -53,8 +46,8 @@ pub enum Settled {
 pub enum Intended<'a> {
     /// The answer of a command.
     Answered(&'a Answer),
-    /// The certificate of what was found for the instance, written so, with room to make its duals in.
-    Found(&'a Instance, &'a Found, Writing, DualLender<'a>),
+    /// The certificate of what this search found for the instance, with room to make its duals in.
+    Found(&'a Instance, &'a Found, Search, DualLender<'a>),
     /// All candidates together lack the commodity from `i` to `j`.
     NoNetwork { i: u32, j: u32 },
     /// The words are no command.
@@ -71,8 +64,8 @@ pub fn intend<'a>(alloc: Global, what: &'a Settled) -> Intended<'a>
 {
     match what {
         Settled::Answered(answer) => Intended::Answered(answer),
-        Settled::Found(instance, found, writing) => match DualLender::new(alloc, instance) {
-            Ok(lender) => Intended::Found(instance, found, *writing, lender),
+        Settled::Found(instance, found, search) => match DualLender::new(alloc, instance) {
+            Ok(lender) => Intended::Found(instance, found, *search, lender),
             Err(_) => Intended::Halted(Halt::Memory),
         },
         Settled::NoNetwork { i, j } => Intended::NoNetwork { i: *i, j: *j },
@@ -95,8 +88,8 @@ pub fn write<R: Threads + Sync, O: Sink, E: Sink>(
 {
     match intended {
         Intended::Answered(answer) => write_answer(answer, out),
-        Intended::Found(instance, found, writing, mut lender) => {
-            write_certificate(rt, alloc, instance, found, writing, &mut lender, out)
+        Intended::Found(instance, found, search, mut lender) => {
+            write_certificate(rt, alloc, instance, found, search, &mut lender, out)
         }
         Intended::NoNetwork { i, j } => write_no_network(i, j, err),
         Intended::Usage => write_usage(err),
@@ -120,17 +113,17 @@ fn write_certificate<R: Threads + Sync, O: Sink>(
     alloc: Global,
     instance: &Instance,
     found: &Found,
-    writing: Writing,
+    search: Search,
     lender: &mut DualLender,
     out: &mut O,
 ) -> Status
     requires lender { IsLenderFor instance.now lender.old }
     requires proved { IsProved instance.now found.now }
-    requires workers { HasWorkers writing }
+    requires search { IsSearch (search_seen search) }
     ensures { IsTold O.taken O.faults out.old out.new result (finding_status found.now)
-        (found_text (version_number writing.version) instance.now found.now) }
+        (found_text (version_number search.version) instance.now found.now) }
 {
-    let Writing { version, workers } = writing;
+    let (version, workers) = (search.version, search.workers);
     match write_found(rt, alloc, instance, found, version, lender, workers, out) {
         Ok(()) => status_of_finding(found),
         Err(_) => Status::Write,

@@ -3,7 +3,7 @@
 ghost use Rattle.std.specs.Prelude.{◌≡◌, ◌⊎◌, IfOk, IfSome, None, Some};
 ghost use Rattle.hub_io.specs.Outside.{Rose};
 ghost use Rattle.hub_words.specs.Words as spec;
-ghost use Rattle.hub_words.specs.Requests.{AreSources, AsksAnyNumber, AsksCoreCuts, AsksListed, IsGap, IsMaking, IsSearch, IsVersion, Request, SaysLimits, gap_of, instance, making_of, search_of, solved, solved_by_core_cuts, solved_by_rounds, version_of};
+ghost use Rattle.hub_words.specs.Requests.{AreSources, AsksListed, IsMaking, IsSearch, IsSolving, Request, instance, making_of, search_of, solved};
 ghost use Rattle.hub_words.specs.Views.{request_of, texts};
 ghost use Rattle.hub_top.specs.Views.{CanBeWritten, came_to, ended};
 ghost use Rattle.hub_top.specs.Outcomes.{Outcome, MayComeTo, ShelfFails, Quiet, Written};
@@ -15,12 +15,10 @@ use crate::Status;
 use crate::answers::Answer;
 use crate::checking::check;
 use crate::halts::Halt;
-use crate::optimizing::optimize;
-use crate::outcomes::{Settled, Writing, intend, write};
+use crate::outcomes::{Settled, intend, write};
 use crate::reporting::report;
-use crate::resolving::{Resolved, resolve};
-use crate::solving::{Solved, demonstrate, solve};
-use cert_format::Version;
+use crate::searching::demonstrate;
+use crate::solving::{Solved, solve};
 use hub_io::{Gate, Shelf, Sink};
 use hub_make::instance_text;
 use hub_words::{Command, asked};
@@ -105,12 +103,8 @@ fn answer<R: Threads + Sync, S: Shelf, G: Gate>(
 ) -> Result<Settled, Halt>
     requires sources { IfSome (instance (request_of command.now)) AreSources }
     requires searches { IfSome (search_of (request_of command.now)) IsSearch }
-    requires gaps { IfSome (gap_of (request_of command.now)) IsGap }
-    requires versions { IfSome (version_of (request_of command.now)) IsVersion }
     requires listed { IfSome (instance (request_of command.now)) AsksListed }
-    requires any_number { IfSome (solved_by_rounds (request_of command.now)) AsksAnyNumber }
-    requires core_cuts { IfSome (solved_by_core_cuts (request_of command.now)) AsksCoreCuts }
-    requires sayable { IfSome (solved (request_of command.now)) SaysLimits }
+    requires solvings { IfSome (solved (request_of command.now)) IsSolving }
     requires makings { IfSome (making_of (request_of command.now)) IsMaking }
     ensures may { MayComeTo (Some (request_of command.now)) (S.held shelf.old)
         (ShelfFails S.held S.faults S.sound shelf.old shelf.new) (ended result) }
@@ -119,47 +113,10 @@ fn answer<R: Threads + Sync, S: Shelf, G: Gate>(
     ensures untouched { instance (request_of command.now) ≡ None → shelf.new ≡ shelf.old }
 {
     match command {
-        Command::Solve(solving, rule) => {
-            match solve(
-                rt,
-                alloc,
-                &solving.source,
-                solving.search,
-                *rule,
-                shelf,
-                gate,
-            )? {
-                Solved::Found(instance, found) => {
-                    let writing = Writing {
-                        version: solving.version,
-                        workers: solving.search.workers,
-                    };
-                    Ok(Settled::Found(instance, found, writing))
-                }
-                Solved::NoNetwork { i, j } => Ok(Settled::NoNetwork { i, j }),
-            }
-        }
-        Command::Optimize(optimizing) => match optimize(rt, alloc, optimizing, shelf)? {
-            Resolved::Found(instance, found) => {
-                let writing = Writing {
-                    version: optimizing.solving.version,
-                    workers: optimizing.solving.search.workers,
-                };
-                Ok(Settled::Found(instance, found, writing))
-            }
-            Resolved::NoNetwork { i, j } => Ok(Settled::NoNetwork { i, j }),
-            Resolved::Refused(ending) => Ok(Settled::Answered(Answer::Judged(ending))),
-        },
-        Command::Resolve(resolving) => match resolve(rt, alloc, resolving, shelf, gate)? {
-            Resolved::Found(instance, found) => {
-                let writing = Writing {
-                    version: Version::Second,
-                    workers: resolving.search.workers,
-                };
-                Ok(Settled::Found(instance, found, writing))
-            }
-            Resolved::NoNetwork { i, j } => Ok(Settled::NoNetwork { i, j }),
-            Resolved::Refused(ending) => Ok(Settled::Answered(Answer::Judged(ending))),
+        Command::Solve(solving) => match solve(rt, alloc, solving, shelf, gate)? {
+            Solved::Found(instance, found) => Ok(Settled::Found(instance, found, solving.search)),
+            Solved::NoNetwork { i, j } => Ok(Settled::NoNetwork { i, j }),
+            Solved::Refused(ending) => Ok(Settled::Answered(Answer::Judged(ending))),
         },
         Command::Check(source, certificate) => {
             let ending = check(alloc, source, certificate, shelf)?;

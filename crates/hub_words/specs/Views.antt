@@ -11,13 +11,14 @@ use Rattle.hub_words.specs.declared.requests.Layout.{Layout}
 use Rattle.hub_words.specs.declared.requests.Layout.TheVariants.{CabMatrix, CabRows, AustraliaPost}
 use Rattle.hub_words.specs.declared.requests.Source.{Source}
 use Rattle.hub_words.specs.declared.requests.Solving.{Solving}
-use Rattle.hub_words.specs.declared.requests.Resolving.{Resolving}
 use Rattle.hub_words.specs.declared.requests.Search.{Search}
 use Rattle.hub_words.specs.declared.requests.Making.{Making}
 use Rattle.hub_words.specs.declared.requests.SearchRule.{SearchRule}
 use Rattle.hub_words.specs.declared.requests.SearchRule.TheVariants.{NodeByNode, ByCoreCuts, ByRounds}
+use Rattle.hub_words.specs.declared.requests.How.{How}
+use Rattle.hub_words.specs.declared.requests.How.TheVariants.{Follow, Again, Freely}
 use Rattle.hub_words.specs.declared.requests.Command.{Command}
-use Rattle.hub_words.specs.declared.requests.Command.TheVariants.{Solve, Optimize, Resolve, Check, Report, Make, Demo}
+use Rattle.hub_words.specs.declared.requests.Command.TheVariants.{Solve, Check, Report, Make, Demo}
 
 -- the bytes of the words
 abbrev pub texts : List (String Global) → List (List ℕ)
@@ -35,19 +36,11 @@ source_of s = record { layout = layout_of s.layout; file = s.file.now; options =
 
 -- the search that is asked for
 abbrev pub search_seen : Search → request.Search
-search_seen s = record { nodes = s.nodes; workers = s.workers }
+search_seen s = record { nodes = s.nodes; workers = s.workers; version = version_number s.version }
 
 -- the instance that is to be made
 abbrev pub making_seen : Making → request.Making
 making_seen m = record { seed = m.seed; size = m.size }
-
--- what is to be solved
-abbrev pub solving_of : Solving → request.Solving
-solving_of s = record { source = source_of s.source; search = search_seen s.search; version = version_number s.version }
-
--- what is to be solved again
-abbrev pub resolving_of : Resolving → request.Resolving
-resolving_of r = record { source = source_of r.source; older = r.older.now; search = search_seen r.search }
 
 -- the rule of a search
 abbrev pub rule_seen : SearchRule → request.SearchRule
@@ -55,16 +48,23 @@ rule_seen NodeByNode = request.node_by_node
 rule_seen ByCoreCuts = request.by_core_cuts
 rule_seen ByRounds = request.by_rounds
 
+-- how an instance is solved
+abbrev pub how_seen : How → request.How
+how_seen (Follow rule) = request.follow (rule_seen rule)
+how_seen (Again older) = request.again older.now
+how_seen (Freely gap from) = request.freely gap (option_map (λ name. name.now) from)
+
+-- what is to be solved
+abbrev pub solving_of : Solving → request.Solving
+solving_of s = record { source = source_of s.source; how = how_seen s.how; search = search_seen s.search }
+
 -- the values that a command was given, in rows
 abbrev pub rows_found : ArgMatches → List Row
 rows_found found = rows_of (found_of found)
 
 -- the request
 abbrev pub request_of : Command → request.Request
-request_of (Solve solving rule) = request.solve (solving_of solving) (rule_seen rule)
-request_of (Optimize optimizing) =
-    request.optimize (solving_of optimizing.solving) optimizing.gap (option_map (λ name. name.now) optimizing.from)
-request_of (Resolve resolving) = request.resolve (resolving_of resolving)
+request_of (Solve solving) = request.solve (solving_of solving)
 request_of (Check source certificate) = request.check (source_of source) certificate.now
 request_of (Report source certificate) = request.report (source_of source) certificate.now
 request_of (Make making) = request.make (making_seen making)

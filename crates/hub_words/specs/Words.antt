@@ -2,7 +2,7 @@
 use Rattle.std.specs.Prelude.{ℕ, Bool, true, false, ◌&&◌, ◌||◌, not, List, codes, bytes_eq, Option, Some, None, option_map, option_and_then, is_some, if◌then◌else◌}
 use Rattle.clap.specs.Words.{Row, Text, first_of}
 use Rattle.file_spec.specs.Options.{Layout, Order, Tail, tail_ignored, tail_costs, HubNumber, Options}
-use Rattle.hub_words.specs.Requests.{Source, Search, Solving, Resolving, Making, SearchRule, node_by_node, by_core_cuts, by_rounds, Request, solve, optimize, resolve, check, report, make, demo, is_limited}
+use Rattle.hub_words.specs.Requests.{Source, Search, Solving, Making, SearchRule, node_by_node, by_core_cuts, by_rounds, How, follow, again, freely, Request, solve, check, report, make, demo, is_limited}
 use Rattle.hub_words.specs.Values.{layout_named, order_asked, tail_asked, divide_asked, factor_asked, fixed_asked, longest_asked, hubs_asked, candidates_asked, is_set, nodes_asked, workers_asked, gap_asked, rule_asked, core_cuts_asked, version_asked, seed_asked, size_asked}
 use Rattle.hub_words.specs.Parses.{parsed}
 
@@ -93,14 +93,14 @@ source_from rows layout file = None
 unfoldable pub source_asked : List Row → Option Source
 source_asked rows = source_from rows (layout_asked rows) (given rows (codes "file"))
 
--- a search, where both of its numbers are within their forms
-abbrev pub search_from : Option (Option ℕ) → Option ℕ → Option Search
-search_from (Some nodes) (Some workers) = Some (record { nodes = nodes; workers = workers })
-search_from nodes workers = None
+-- a search with this version of the certificate, where both of its numbers are within their forms
+abbrev pub search_from : (version : ℕ) → Option (Option ℕ) → Option ℕ → Option Search
+search_from version (Some nodes) (Some workers) = Some (record { nodes = nodes; workers = workers; version = version })
+search_from version nodes workers = None
 
 -- the search that the words ask for
-unfoldable pub search_asked : List Row → Option Search
-search_asked rows = search_from (nodes_asked (given rows (codes "nodes"))) (workers_asked (given rows (codes "workers")))
+unfoldable pub search_asked : List Row → (version : ℕ) → Option Search
+search_asked rows version = search_from version (nodes_asked (given rows (codes "nodes"))) (workers_asked (given rows (codes "workers")))
 
 -- a made instance, where both of its numbers are given within their forms
 abbrev pub making_from : Option ℕ → Option ℕ → Option Making
@@ -111,66 +111,56 @@ making_from seed size = None
 unfoldable pub making_asked : List Row → Option Making
 making_asked rows = making_from (seed_asked (given rows (codes "seed"))) (size_asked (given rows (codes "size")))
 
--- the instance with a search, and the version that is given by a word or none
-abbrev pub solving_with : Source → Search → Option Text → Option Solving
-solving_with source run word =
-    option_map (λ version. record { source = source; search = run; version = version }) (version_asked (is_limited source.options) word)
+-- ---- how an instance is solved
 
--- an instance, a search and a version, where each is within its form
-abbrev pub solving_from : Option Source → Option Search → Option Text → Option Solving
-solving_from (Some source) (Some run) word = solving_with source run word
-solving_from source run word = None
+-- a rule, with core cuts where these are asked for; the rule by rounds knows none
+abbrev pub with_cuts : (core : Bool) → SearchRule → Option SearchRule
+with_cuts false rule = Some rule
+with_cuts true by_rounds = None
+with_cuts true rule = Some by_core_cuts
 
--- what is to be solved
-abbrev pub solving_asked : List Row → Option Solving
-solving_asked rows = solving_from (source_asked rows) (search_asked rows) (given rows (codes "format"))
+-- where the rule and the kind of its cuts are within their forms
+abbrev pub by_rule_from : Option SearchRule → Option Bool → Option How
+by_rule_from (Some rule) (Some core) = option_map follow (with_cuts core rule)
+by_rule_from rule core = None
 
--- a call to solve an instance with core cuts: it names no version, which is the third, and limits neither routes nor hubs
-abbrev pub solve_by_core_cuts : Option Text → Solving → Option Request
-solve_by_core_cuts format solving =
-    if is_some format || is_limited solving.source.options then None
-    else Some (solve (record solving { version = 3 }) by_core_cuts)
+-- by a rule, which `solve` asks for
+unfoldable pub by_rule_asked : List Row → Option How
+by_rule_asked rows = by_rule_from (rule_asked (given rows (codes "rule"))) (core_cuts_asked (given rows (codes "cuts")))
 
--- a call to solve an instance by a rule, and with core cuts where these are asked for; the rule by rounds knows neither them nor a
--- wanted number of hubs
-abbrev pub solve_by : Option Text → Solving → SearchRule → (core : Bool) → Option Request
-solve_by format solving by_rounds core = if core || is_some solving.source.options.hubs then None else Some (solve solving by_rounds)
-solve_by format solving rule true = solve_by_core_cuts format solving
-solve_by format solving rule false = Some (solve solving rule)
+-- by no rule, which `optimize` asks for, with the older certificate that is named
+unfoldable pub freely_asked : List Row → Option How
+freely_asked rows = option_map (λ gap. freely gap (given rows (codes "from"))) (gap_asked (given rows (codes "gap")))
 
--- what is to be solved, the rule, and whether with core cuts, where each is within its form
-abbrev pub solve_from : Option Text → Option Solving → Option SearchRule → Option Bool → Option Request
-solve_from format (Some solving) (Some rule) (Some core) = solve_by format solving rule core
-solve_from format solving rule core = None
+-- again, which `resolve` asks for
+unfoldable pub again_asked : List Row → Option How
+again_asked rows = option_map again (given rows (codes "older"))
 
--- a call to solve the instance
-abbrev pub solve_asked : List Row → Option Request
-solve_asked rows =
-    solve_from (given rows (codes "format")) (solving_asked rows) (rule_asked (given rows (codes "rule")))
-    (core_cuts_asked (given rows (codes "cuts")))
+-- ---- what is to be solved
 
--- what is to be solved, and the gap, where each is within its form, with the older certificate that is named
-abbrev pub optimize_from : Option Solving → Option ℕ → Option Text → Option Request
-optimize_from (Some solving) (Some gap) from = Some (optimize solving gap from)
-optimize_from solving gap from = None
+-- the version of the certificate, where the options allow to solve so: with core cuts the third, where none is named and neither
+-- routes nor hubs are limited; by rounds no number of hubs is wanted; what is solved again is written in the second
+abbrev pub version_by : How → Options → Option Text → Option ℕ
+version_by (follow node_by_node) o word = version_asked (is_limited o) word
+version_by (follow by_core_cuts) o word = if is_some word || is_limited o then None else Some 3
+version_by (follow by_rounds) o word = if is_some o.hubs then None else version_asked (is_limited o) word
+version_by (again older) o word = Some 2
+version_by (freely gap from) o word = version_asked (is_limited o) word
 
--- a call to solve the instance by that search
-abbrev pub optimize_asked : List Row → Option Request
-optimize_asked rows =
-    optimize_from (solving_asked rows) (gap_asked (given rows (codes "gap"))) (given rows (codes "from"))
+-- the instance with the search of this version, where there is one
+abbrev pub solving_in : List Row → How → Source → Option ℕ → Option Solving
+solving_in rows how source (Some version) = option_map (λ run. record { source = source; how = how; search = run }) (search_asked rows version)
+solving_in rows how source None = None
 
--- an instance, an older certificate and a search, where each is given within its form
-abbrev pub resolving_from : Option Text → Option Source → Option Search → Option Resolving
-resolving_from (Some older) (Some source) (Some run) = Some (record { source = source; older = older; search = run })
-resolving_from older source run = None
+-- the instance that is named, solved so
+abbrev pub solving_with : List Row → How → Option Source → Option Solving
+solving_with rows how (Some source) = solving_in rows how source (version_by how source.options (given rows (codes "format")))
+solving_with rows how None = None
 
--- what is to be solved again
-abbrev pub resolving_asked : List Row → Option Resolving
-resolving_asked rows = resolving_from (given rows (codes "older")) (source_asked rows) (search_asked rows)
-
--- a call to solve the instance again from an older certificate
-abbrev pub resolve_asked : List Row → Option Request
-resolve_asked rows = option_map resolve (resolving_asked rows)
+-- a call to solve the instance that the words name, where how is within its form
+abbrev pub solve_asked : List Row → Option How → Option Request
+solve_asked rows (Some how) = option_map solve (solving_with rows how (source_asked rows))
+solve_asked rows None = None
 
 -- an instance and a certificate, where both are given
 abbrev pub certificate_from : Option Text → Option Source → Option (Source × Text)
@@ -200,14 +190,14 @@ demonstrated making run = None
 
 -- a call to make an instance and to solve it
 abbrev pub demo_asked : List Row → Option Request
-demo_asked rows = demonstrated (making_asked rows) (search_asked rows)
+demo_asked rows = demonstrated (making_asked rows) (search_asked rows 1)
 
 -- what a subcommand asks for with what the words give to it
 abbrev pub request_asked : Text → List Row → Option Request
 request_asked name rows =
-    if bytes_eq name (codes "solve") then solve_asked rows
-    else if bytes_eq name (codes "optimize") then optimize_asked rows
-    else if bytes_eq name (codes "resolve") then resolve_asked rows
+    if bytes_eq name (codes "solve") then solve_asked rows (by_rule_asked rows)
+    else if bytes_eq name (codes "optimize") then solve_asked rows (freely_asked rows)
+    else if bytes_eq name (codes "resolve") then solve_asked rows (again_asked rows)
     else if bytes_eq name (codes "check") then check_asked rows
     else if bytes_eq name (codes "report") then report_asked rows
     else if bytes_eq name (codes "make") then make_asked rows

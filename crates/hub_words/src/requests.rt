@@ -22,50 +22,14 @@ pub struct Source<'a> {
     pub costs: Option<&'a str>,
 }
 
-/// How long and by how many workers a search may run.
+/// How long and by how many workers a search may run, and in which version its certificate is written.
 #[derive(Clone, Copy, Debug, PartialEq, Eq)]
 pub struct Search {
     /// At most how many nodes the search makes, if it is held to a number: 1 to 2^63.
     pub nodes: Option<u64>,
     /// 1 to 64.
     pub workers: u32,
-}
-
-/// What is to be solved, by which search, and in which version the certificate is written.
-#[derive(Drop)]
-pub struct Solving<'a> {
-    pub source: Source<'a>,
-    pub search: Search,
     pub version: Version,
-}
-
-/// What is to be solved by the search that follows no rule, how far its bound may be below the cost, and what it begins
-/// with.
-#[derive(Drop)]
-pub struct Optimizing<'a> {
-    pub solving: Solving<'a>,
-    /// In thousandths of a per cent of the cost: 0 to 100,000.
-    pub gap: u32,
-    /// The name of an older certificate's file, where the search is to begin with what it says.
-    pub from: Option<&'a str>,
-}
-
-/// What is to be solved again, from which older certificate, and by which search.
-#[derive(Drop)]
-pub struct Resolving<'a> {
-    pub source: Source<'a>,
-    /// The name of the older certificate's file.
-    pub older: &'a str,
-    pub search: Search,
-}
-
-/// An instance to be made.
-#[derive(Clone, Copy, Debug, PartialEq, Eq)]
-pub struct Making {
-    /// 0 to 1,000,000.
-    pub seed: u32,
-    /// The number of nodes, 1 to 200.
-    pub size: u32,
 }
 
 /// The rules of a search.
@@ -79,15 +43,44 @@ pub enum SearchRule {
     ByRounds,
 }
 
+/// How an instance is solved.
+#[derive(Clone, Copy)]
+pub enum How<'a> {
+    /// By this rule of the search.
+    Follow(SearchRule),
+    /// Again, node by node, beginning with the cuts of the older certificate in the file of this name.
+    Again(&'a str),
+    /// By a search that follows no rule.
+    Freely {
+        /// How far the bound may be below the cost, in thousandths of a per cent of the cost: 0 to 100,000.
+        gap: u32,
+        /// The name of an older certificate's file, where the search is to begin with what it says.
+        from: Option<&'a str>,
+    },
+}
+
+/// What is to be solved, how, and by which search.
+#[derive(Drop)]
+pub struct Solving<'a> {
+    pub source: Source<'a>,
+    pub how: How<'a>,
+    pub search: Search,
+}
+
+/// An instance to be made.
+#[derive(Clone, Copy, Debug, PartialEq, Eq)]
+pub struct Making {
+    /// 0 to 1,000,000.
+    pub seed: u32,
+    /// The number of nodes, 1 to 200.
+    pub size: u32,
+}
+
 /// A command that the words give.
 #[derive(Drop)]
 pub enum Command<'a> {
-    /// Solve the instance by this rule of the search.
-    Solve(Solving<'a>, SearchRule),
-    /// Solve the instance by a search that follows no rule, up to a gap, and from an older certificate, if one is named.
-    Optimize(Optimizing<'a>),
-    /// Solve the instance again node by node, beginning with the cuts of an older certificate.
-    Resolve(Resolving<'a>),
+    /// Solve the instance.
+    Solve(Solving<'a>),
     /// Check the certificate in the file of this name against the instance.
     Check(Source<'a>, &'a str),
     /// Report on the certificate in the file of this name, which is one of the instance.

@@ -2,9 +2,7 @@
 
 use crate::cases::Wrong;
 use hub_model::Terms;
-use hub_words::{
-    Command, Making, Optimizing, Resolving, Search, SearchRule, Solving, Source, asked,
-};
+use hub_words::{Command, How, Making, Search, SearchRule, Solving, Source, asked};
 use std::alloc::{AllocError, Global};
 
 /// The command that the words of a text are, which single spaces separate.
@@ -29,9 +27,7 @@ fn words_of(alloc: Global, text: &str) -> Result<Vec<String>, AllocError> {
 
 fn command_told(alloc: Global, command: &Command) -> Result<String, AllocError> {
     match command {
-        Command::Solve(solving, rule) => solving_told(alloc, solve_named(*rule), solving),
-        Command::Optimize(optimizing) => optimizing_told(alloc, optimizing),
-        Command::Resolve(resolving) => resolving_told(alloc, resolving),
+        Command::Solve(solving) => solving_told(alloc, solving),
         Command::Check(source, certificate) => judging_told(alloc, "check", source, certificate),
         Command::Report(source, certificate) => judging_told(alloc, "report", source, certificate),
         Command::Make(making) => making_told(alloc, making),
@@ -47,24 +43,24 @@ fn solve_named(rule: SearchRule) -> &'static str {
     }
 }
 
-fn solving_told(alloc: Global, name: &str, solving: &Solving) -> Result<String, AllocError> {
-    let Search { nodes, workers } = solving.search;
+fn solving_told(alloc: Global, solving: &Solving) -> Result<String, AllocError> {
     let source = source_told(alloc, &solving.source)?;
-    let version = solving.version;
-    format!(in alloc; "{name} {source}, nodes {nodes:?}, workers {workers}, {version:?} version")
-}
-
-fn optimizing_told(alloc: Global, optimizing: &Optimizing) -> Result<String, AllocError> {
-    let solving = solving_told(alloc, "optimize", &optimizing.solving)?;
-    let gap = optimizing.gap;
-    format!(in alloc; "{solving}, gap {gap}")
-}
-
-fn resolving_told(alloc: Global, resolving: &Resolving) -> Result<String, AllocError> {
-    let Search { nodes, workers } = resolving.search;
-    let source = source_told(alloc, &resolving.source)?;
-    let older = resolving.older;
-    format!(in alloc; "resolve {source}, older {older:?}, nodes {nodes:?}, workers {workers}")
+    let Search {
+        nodes,
+        workers,
+        version,
+    } = solving.search;
+    let search = format!(in alloc; "nodes {nodes:?}, workers {workers}")?;
+    match solving.how {
+        How::Follow(rule) => {
+            let name = solve_named(rule);
+            format!(in alloc; "{name} {source}, {search}, {version:?} version")
+        }
+        How::Again(older) => format!(in alloc; "resolve {source}, older {older:?}, {search}"),
+        How::Freely { gap, .. } => {
+            format!(in alloc; "optimize {source}, {search}, {version:?} version, gap {gap}")
+        }
+    }
 }
 
 fn judging_told(
@@ -84,7 +80,7 @@ fn making_told(alloc: Global, making: &Making) -> Result<String, AllocError> {
 
 fn demo_told(alloc: Global, making: &Making, search: &Search) -> Result<String, AllocError> {
     let Making { seed, size } = *making;
-    let Search { nodes, workers } = *search;
+    let (nodes, workers) = (search.nodes, search.workers);
     format!(in alloc; "demo seed {seed}, size {size}, nodes {nodes:?}, workers {workers}")
 }
 

@@ -15,7 +15,7 @@ pub returns-in-Found : goal.returns-in-Found
 returns-in-Found g c =
     let p = c.in-Found.instance.now in
     let found = c.in-Found.found.now in
-    let text = found_text (version_number c.in-Found.writing.version) p found in
+    let text = found_text (version_number c.in-Found.search.version) p found in
     rw c.in-Found.is (written_out _ _ _ _ _ _ _ _ (answered (finding_status found) text) refl c.write_certificate.ensures)
 
 pub returns-in-NoNetwork : goal.returns-in-NoNetwork

@@ -1,11 +1,10 @@
 use Rattle.hub_top.proofs.Optimized.{closed_by}
-use Rattle.hub_top.proofs.optimizing.close.Goals as goal
+use Rattle.hub_top.proofs.closing.close.Goals as goal
 
 pub returns : goal.returns
 returns g c =
     let found = c.optimize_within.ensures in
-    let asked = c.args.asked.now in
     record {
-      closed = closed_by c.args.instance.now asked.solving.search.nodes asked.gap c.optimize_within.result c.requires.problem
+      closed = closed_by c.args.instance.now c.args.asked.nodes c.args.gap c.optimize_within.result c.requires.problem
           found.proved found.own found.routes found.at_most found.within found.most found.allowed found.spent found.enough;
     }

@@ -2,7 +2,7 @@ use Rattle.std.proofs.Common.{sym, subst, ◌∙◌}
 use Rattle.hub_spec.specs.Problem.{Problem, IsProblem}
 use Rattle.hub_spec.specs.Plans.{IsHubSet}
 use Rattle.hub_top.proofs.Networks.{made_network}
-use Rattle.hub_top.proofs.solving.demonstrate.Goals as goal
+use Rattle.hub_top.proofs.searching.demonstrate.Goals as goal
 
 pub find-requires-clause-lacks_none : goal.find-requires-clause-lacks_none
 find-requires-clause-lacks_none g c κs within =
