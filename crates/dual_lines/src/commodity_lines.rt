@@ -11,7 +11,7 @@ use crate::limited::is_covered;
 use crate::places::{clear, put_anew, put_steps, set_places};
 use crate::step_lengths::StepLengths;
 use crate::step_tables::StepLegs;
-use crate::steps::{step_cost_of, value_in_steps};
+use crate::steps::{ListedValues, step_cost_of, value_in_steps};
 use crate::units::inverse_of;
 use hub_model::Instance;
 use std::alloc::{AllocError, Global};
@@ -160,15 +160,18 @@ impl<'a> CommodityLine<'a> {
     pub(crate) fn holds(&self) -> bool
         ensures { IsTrue result ↔ IsDual self.now.problem self.now.part self.now.commodity self.now.dual }
     {
+        let values = ListedValues {
+            amounts: &self.amounts,
+            steps: &self.steps,
+            step_cost: self.step_cost,
+        };
         self.are_candidates
             && is_covered(
                 &self.legs,
                 self.lengths.as_ref(),
                 self.line,
                 self.carried,
-                self.step_cost,
-                &self.amounts,
-                &self.steps,
+                &values,
             )
     }
 

@@ -17,20 +17,17 @@ ghost use Rattle.dual_lines.specs.Lengths.{distance_beyond};
 use crate::amounts::{Priced, is_covered_by_amounts, is_covered_first};
 use crate::step_lengths::StepLengths;
 use crate::step_tables::StepLegs;
-use crate::steps::{is_covered_by_all, price_in_steps, set_ends};
+use crate::steps::{ListedValues, StepPrice, is_covered_by_all, price_in_steps, set_ends};
 use crate::units::MOST_PLACES;
 
 /// Tells whether the price is covered with each candidate as the first hub. There are lengths where they are limited; a
-/// commodity without flow may go any way. `amounts` has a value for each node, `values` for each place in steps;
-/// `carried` is the flow times the part, and `step_cost` what a step costs, by `step_cost_of`.
+/// commodity without flow may go any way. `carried` is the flow times the part.
 pub(crate) fn is_covered(
     legs: &StepLegs,
     lengths: Option<&StepLengths>,
     line: Priced,
     carried: u64,
-    step_cost: u64,
-    amounts: &[u128],
-    values: &[u32],
+    values: &ListedValues<'_, '_>,
 ) -> bool
     requires same { IfSome lengths (λ l. l.now.problem ≡ legs.now.problem) }
     requires from { line.from < legs.now.problem.size }
@@ -38,17 +35,15 @@ pub(crate) fn is_covered(
     requires part { line.part ≤ most_part }
     requires price { IsAmount line.price }
     requires carried { carried ≡ weighted_flow legs.now.problem line.part (line.from, line.to) }
-    requires cost { IsStepCost carried legs.now.step step_cost }
-    requires long { length amounts.now ≡ legs.now.problem.size }
-    requires short { All IsAmount amounts.now }
-    requires values { AreStepValues legs.now.problem step_cost (slice_index amounts.now) values.now }
-    ensures { IsTrue result ↔ IsCovered legs.now.problem line.part (line.from, line.to) line.price amounts.now }
+    requires cost { IsStepCost carried legs.now.step values.now.step_cost }
+    requires long { length values.now.amounts.now ≡ legs.now.problem.size }
+    requires short { All IsAmount values.now.amounts.now }
+    requires values { AreStepValues legs.now.problem values.now.step_cost (slice_index values.now.amounts.now) values.now.steps.now }
+    ensures { IsTrue result ↔ IsCovered legs.now.problem line.part (line.from, line.to) line.price values.now.amounts.now }
 {
     match lengths {
-        Some(lengths) if carried > 0 => {
-            is_covered_within(legs, lengths, line, step_cost, amounts, values)
-        }
-        _ => is_covered_by_all(legs, line, carried, step_cost, amounts, values),
+        Some(lengths) if carried > 0 => { is_covered_within(legs, lengths, line, values) }
+        _ => is_covered_by_all(legs, line, carried, values),
     }
 }
 
@@ -57,9 +52,7 @@ fn is_covered_within(
     legs: &StepLegs,
     lengths: &StepLengths,
     line: Priced,
-    step_cost: u64,
-    amounts: &[u128],
-    values: &[u32],
+    values: &ListedValues<'_, '_>,
 ) -> bool
     requires same { lengths.now.problem ≡ legs.now.problem }
     requires from { line.from < legs.now.problem.size }
@@ -67,15 +60,15 @@ fn is_covered_within(
     requires flows { 1 ≤ flow legs.now.problem line.from line.to }
     requires part { line.part ≤ most_part }
     requires price { IsAmount line.price }
-    requires cost { IsStepCost (weighted_flow legs.now.problem line.part (line.from, line.to)) legs.now.step step_cost }
-    requires long { length amounts.now ≡ legs.now.problem.size }
-    requires short { All IsAmount amounts.now }
-    requires values { AreStepValues legs.now.problem step_cost (slice_index amounts.now) values.now }
-    ensures { IsTrue result ↔ IsCovered legs.now.problem line.part (line.from, line.to) line.price amounts.now }
+    requires cost { IsStepCost (weighted_flow legs.now.problem line.part (line.from, line.to)) legs.now.step values.now.step_cost }
+    requires long { length values.now.amounts.now ≡ legs.now.problem.size }
+    requires short { All IsAmount values.now.amounts.now }
+    requires values { AreStepValues legs.now.problem values.now.step_cost (slice_index values.now.amounts.now) values.now.steps.now }
+    ensures { IsTrue result ↔ IsCovered legs.now.problem line.part (line.from, line.to) line.price values.now.amounts.now }
 {
-    match price_in_steps(line.price, step_cost) {
-        Some(price) => is_covered_by_places(legs, lengths, line, price, step_cost, amounts, values),
-        None => is_covered_by_amounts(legs.long().instance(), line, amounts),
+    match price_in_steps(line.price, values.step_cost) {
+        Some(price) => is_covered_by_places(legs, lengths, line, price, values),
+        None => is_covered_by_amounts(legs.long().instance(), line, values.amounts),
     }
 }
 
@@ -85,32 +78,36 @@ fn is_covered_by_places(
     lengths: &StepLengths,
     line: Priced,
     price: u32,
-    step_cost: u64,
-    amounts: &[u128],
-    values: &[u32],
+    values: &ListedValues<'_, '_>,
 ) -> bool
     requires same { lengths.now.problem ≡ legs.now.problem }
     requires from { line.from < legs.now.problem.size }
     requires to { line.to < legs.now.problem.size }
     requires flows { 1 ≤ flow legs.now.problem line.from line.to }
     requires part { line.part ≤ most_part }
-    requires price { line.price ≤ step_cost * price }
-    requires cost { IsStepCost (weighted_flow legs.now.problem line.part (line.from, line.to)) legs.now.step step_cost }
-    requires long { length amounts.now ≡ legs.now.problem.size }
-    requires short { All IsAmount amounts.now }
-    requires values { AreStepValues legs.now.problem step_cost (slice_index amounts.now) values.now }
-    ensures { IsTrue result ↔ IsCovered legs.now.problem line.part (line.from, line.to) line.price amounts.now }
+    requires price { line.price ≤ values.now.step_cost * price }
+    requires cost { IsStepCost (weighted_flow legs.now.problem line.part (line.from, line.to)) legs.now.step values.now.step_cost }
+    requires long { length values.now.amounts.now ≡ legs.now.problem.size }
+    requires short { All IsAmount values.now.amounts.now }
+    requires values { AreStepValues legs.now.problem values.now.step_cost (slice_index values.now.amounts.now) values.now.steps.now }
+    ensures { IsTrue result ↔ IsCovered legs.now.problem line.part (line.from, line.to) line.price values.now.amounts.now }
 {
     let places = legs.places();
     let mut ends = [0; MOST_PLACES];
-    let last = set_ends(legs.delivery_steps(line.to), values, &mut ends);
+    let least_end = set_ends(legs.delivery_steps(line.to), values.steps, &mut ends);
     let mut beyond = [0; MOST_PLACES];
     lengths.set_beyond(line.to, &mut beyond);
+    let tried = StepPrice {
+        from: line.from,
+        to: line.to,
+        price,
+        values: values.steps,
+        ends: &ends,
+        least_end,
+    };
     for x in 0..places {
-        let is_sure = is_surely_covered(
-            legs, lengths, line.from, line.to, price, last, &ends, &beyond, values, x,
-        );
-        if !is_place_covered(legs, line, is_sure, amounts, x) {
+        let is_sure = is_surely_covered(legs, lengths, &tried, &beyond, x);
+        if !is_place_covered(legs, line, is_sure, values.amounts, x) {
             return false;
         }
     }
@@ -149,50 +146,52 @@ fn is_place_covered(
 fn is_surely_covered(
     legs: &StepLegs,
     lengths: &StepLengths,
-    i: u32,
-    j: u32,
-    price: u32,
-    last: u32,
-    ends: &[u32],
+    tried: &StepPrice<'_, '_>,
     beyond: &[u32],
-    values: &[u32],
     x: usize,
 ) -> bool
     requires same { lengths.now.problem ≡ legs.now.problem }
-    requires from { i < legs.now.problem.size }
-    requires to { j < legs.now.problem.size }
-    requires flows { 1 ≤ flow legs.now.problem i j }
-    requires long { length values.now ≡ length legs.now.problem.candidates }
-    requires short { All (λ v. v ≤ most_steps) values.now }
-    requires room { length legs.now.problem.candidates ≤ length ends.now }
-    requires ends { (y : ℕ) → y < length legs.now.problem.candidates → slice_index ends.now y ≤ 2 * most_steps }
+    requires from { tried.now.from < legs.now.problem.size }
+    requires to { tried.now.to < legs.now.problem.size }
+    requires flows { 1 ≤ flow legs.now.problem tried.now.from tried.now.to }
+    requires long { length tried.now.values.now ≡ length legs.now.problem.candidates }
+    requires short { All (λ v. v ≤ most_steps) tried.now.values.now }
+    requires room { length legs.now.problem.candidates ≤ length tried.now.ends.now }
+    requires ends { (y : ℕ) → y < length legs.now.problem.candidates → slice_index tried.now.ends.now y ≤ 2 * most_steps }
     requires each { (y : ℕ) → y < length legs.now.problem.candidates
-        → legs.now.step * slice_index ends.now y
-        ≤ delivery_length legs.now.problem j y + legs.now.step * slice_index values.now y }
-    requires last { (y : ℕ) → y < length legs.now.problem.candidates → last ≤ slice_index ends.now y }
-    requires last_limit { last ≤ 2 * most_steps }
+        → legs.now.step * slice_index tried.now.ends.now y
+        ≤ delivery_length legs.now.problem tried.now.to y + legs.now.step * slice_index tried.now.values.now y }
+    requires last { (y : ℕ) → y < length legs.now.problem.candidates → tried.now.least_end ≤ slice_index tried.now.ends.now y }
+    requires last_limit { tried.now.least_end ≤ 2 * most_steps }
     requires beyond_room { length legs.now.problem.candidates ≤ length beyond.now }
     requires beyond { (y : ℕ) → y < length legs.now.problem.candidates
-        → lengths.now.step * slice_index beyond.now y ≤ distance_beyond legs.now.problem j y }
+        → lengths.now.step * slice_index beyond.now y ≤ distance_beyond legs.now.problem tried.now.to y }
     requires beyond_limit { (y : ℕ) → y < length legs.now.problem.candidates → slice_index beyond.now y ≤ most_steps }
     requires place { x < length legs.now.problem.candidates }
-    ensures { IsTrue result → IsCoveredInSteps legs.now (i, j) price values.now x }
+    ensures { IsTrue result → IsCoveredInSteps legs.now (tried.now.from, tried.now.to) tried.now.price tried.now.values.now x }
 {
-    let before = lengths.before(i, x);
+    let price = tried.price;
+    let least_end = tried.least_end;
+    let before = lengths.before(tried.from, x);
     let most = lengths.most();
     if before > most {
         return true;
     }
     let rest = most - before;
-    let first = legs.collection_steps(i)[x] + values[x];
-    if !is_alone_covered(price, first + legs.delivery_steps(j)[x], rest, beyond[x]) {
+    let first = legs.collection_steps(tried.from)[x] + tried.values[x];
+    if !is_alone_covered(
+        price,
+        first + legs.delivery_steps(tried.to)[x],
+        rest,
+        beyond[x],
+    ) {
         return false;
     }
-    first + last >= price
+    first + least_end >= price
         || are_beyond(
             price - first,
             legs.trunk_steps(x),
-            ends,
+            tried.ends,
             rest,
             lengths.between(x),
             beyond,

@@ -16,32 +16,49 @@ use crate::step_tables::StepLegs;
 use crate::stepping::MOST_STEPS;
 use crate::units::{MOST_PLACES, is_covered_by_flow, unit_value};
 
+/// The values of a dual: an amount for each node, and for each place its value in steps of this cost, by `step_cost_of`.
+#[derive(Clone, Copy)]
+pub(crate) struct ListedValues<'a, 'b> {
+    pub(crate) amounts: &'a [u128],
+    pub(crate) steps: &'b [u32],
+    pub(crate) step_cost: u64,
+}
+
+/// A price in steps of a commodity, with what covers it: by place a value and the end of the last hub there, a leg of
+/// delivery and the value together; and what the ends are at least.
+#[derive(Clone, Copy)]
+pub(crate) struct StepPrice<'a, 'b> {
+    pub(crate) from: u32,
+    pub(crate) to: u32,
+    pub(crate) price: u32,
+    pub(crate) values: &'a [u32],
+    pub(crate) ends: &'b [u32],
+    pub(crate) least_end: u32,
+}
+
 /// Tells whether the price is covered with each candidate as the first hub, by all routes first, whether they are allowed
-/// or not. `amounts` has a value for each node, `values` for each place in steps; `carried` is the flow times the part,
-/// and `step_cost` what a step costs, by `step_cost_of`.
+/// or not. `carried` is the flow times the part.
 pub(crate) fn is_covered_by_all(
     legs: &StepLegs,
     line: Priced,
     carried: u64,
-    step_cost: u64,
-    amounts: &[u128],
-    values: &[u32],
+    values: &ListedValues<'_, '_>,
 ) -> bool
     requires from { line.from < legs.now.problem.size }
     requires to { line.to < legs.now.problem.size }
     requires part { line.part ≤ most_part }
     requires price { IsAmount line.price }
     requires carried { carried ≡ weighted_flow legs.now.problem line.part (line.from, line.to) }
-    requires cost { IsStepCost carried legs.now.step step_cost }
-    requires long { length amounts.now ≡ legs.now.problem.size }
-    requires short { All IsAmount amounts.now }
-    requires values { AreStepValues legs.now.problem step_cost (slice_index amounts.now) values.now }
-    ensures { IsTrue result ↔ IsCovered legs.now.problem line.part (line.from, line.to) line.price amounts.now }
+    requires cost { IsStepCost carried legs.now.step values.now.step_cost }
+    requires long { length values.now.amounts.now ≡ legs.now.problem.size }
+    requires short { All IsAmount values.now.amounts.now }
+    requires values { AreStepValues legs.now.problem values.now.step_cost (slice_index values.now.amounts.now) values.now.steps.now }
+    ensures { IsTrue result ↔ IsCovered legs.now.problem line.part (line.from, line.to) line.price values.now.amounts.now }
 {
-    if is_covered_surely(legs, line, step_cost, values) {
+    if is_covered_surely(legs, line, values.step_cost, values.steps) {
         return true;
     }
-    is_covered_by_flow(legs.long(), line, carried, amounts)
+    is_covered_by_flow(legs.long(), line, carried, values.amounts)
 }
 
 /// Tells for sure that the price is covered with each candidate as the first hub. It may be, too, where this says no.
@@ -108,9 +125,17 @@ fn is_covered_in_steps(legs: &StepLegs, i: u32, j: u32, price: u32, values: &[u3
 {
     let places = legs.places();
     let mut ends = [0; MOST_PLACES];
-    let last = set_ends(legs.delivery_steps(j), values, &mut ends);
+    let least_end = set_ends(legs.delivery_steps(j), values, &mut ends);
+    let tried = StepPrice {
+        from: i,
+        to: j,
+        price,
+        values,
+        ends: &ends,
+        least_end,
+    };
     for x in 0..places {
-        if !is_place_covered(legs, i, j, price, last, &ends, values, x) {
+        if !is_place_covered(legs, &tried, x) {
             return false;
         }
     }
@@ -119,35 +144,28 @@ fn is_covered_in_steps(legs: &StepLegs, i: u32, j: u32, price: u32, values: &[u3
 
 /// Tells for sure that the price in steps is covered with the candidate at the place as the first hub. Where collection
 /// and the nearest end cover the price, no last hub is visited.
-fn is_place_covered(
-    legs: &StepLegs,
-    i: u32,
-    j: u32,
-    price: u32,
-    last: u32,
-    ends: &[u32],
-    values: &[u32],
-    x: usize,
-) -> bool
-    requires from { i < legs.now.problem.size }
-    requires to { j < legs.now.problem.size }
-    requires long { length values.now ≡ length legs.now.problem.candidates }
-    requires short { All (λ v. v ≤ most_steps) values.now }
-    requires room { length legs.now.problem.candidates ≤ length ends.now }
-    requires ends { (y : ℕ) → y < length legs.now.problem.candidates → slice_index ends.now y ≤ 2 * most_steps }
+fn is_place_covered(legs: &StepLegs, tried: &StepPrice<'_, '_>, x: usize) -> bool
+    requires from { tried.now.from < legs.now.problem.size }
+    requires to { tried.now.to < legs.now.problem.size }
+    requires long { length tried.now.values.now ≡ length legs.now.problem.candidates }
+    requires short { All (λ v. v ≤ most_steps) tried.now.values.now }
+    requires room { length legs.now.problem.candidates ≤ length tried.now.ends.now }
+    requires ends { (y : ℕ) → y < length legs.now.problem.candidates → slice_index tried.now.ends.now y ≤ 2 * most_steps }
     requires each { (y : ℕ) → y < length legs.now.problem.candidates
-        → legs.now.step * slice_index ends.now y
-        ≤ delivery_length legs.now.problem j y + legs.now.step * slice_index values.now y }
-    requires last { (y : ℕ) → y < length legs.now.problem.candidates → last ≤ slice_index ends.now y }
-    requires last_limit { last ≤ 2 * most_steps }
+        → legs.now.step * slice_index tried.now.ends.now y
+        ≤ delivery_length legs.now.problem tried.now.to y + legs.now.step * slice_index tried.now.values.now y }
+    requires last { (y : ℕ) → y < length legs.now.problem.candidates → tried.now.least_end ≤ slice_index tried.now.ends.now y }
+    requires last_limit { tried.now.least_end ≤ 2 * most_steps }
     requires place { x < length legs.now.problem.candidates }
-    ensures { IsTrue result → IsCoveredInSteps legs.now (i, j) price values.now x }
+    ensures { IsTrue result → IsCoveredInSteps legs.now (tried.now.from, tried.now.to) tried.now.price tried.now.values.now x }
 {
-    let first = legs.collection_steps(i)[x] + values[x];
-    if first + legs.delivery_steps(j)[x] < price {
+    let price = tried.price;
+    let least_end = tried.least_end;
+    let first = legs.collection_steps(tried.from)[x] + tried.values[x];
+    if first + legs.delivery_steps(tried.to)[x] < price {
         return false;
     }
-    first + last >= price || are_beyond(price - first, legs.trunk_steps(x), ends)
+    first + least_end >= price || are_beyond(price - first, legs.trunk_steps(x), tried.ends)
 }
 
 /// Sets the ends of the last hubs, each a leg of delivery and its value together, and gives the least.

@@ -15,6 +15,16 @@ ghost use Rattle.dual_lines.specs.Units.{most_unit, AreUnits, IsNearestFirst, Is
 use crate::amounts::{Priced, is_covered_by_amounts, is_covered_first};
 use leg_tables::CandidateLegs;
 
+/// A price by unit of flow, with what covers it: a value for each place, what the ends of last hubs are at least, a leg of
+/// delivery and the value together, and the ends that not every first hub covers.
+#[derive(Clone, Copy)]
+struct UnitPrice<'a, 'b> {
+    price: u64,
+    units: &'a [u64],
+    least_end: u64,
+    near: &'b [(usize, u64)],
+}
+
 /// What a price or a value by unit of flow is cut to. No route is as long.
 const MOST_UNIT: u64 = 100_000_000_000_000_000;
 
@@ -161,12 +171,17 @@ fn is_covered_by_units(
     ensures { IsTrue result ↔ IsCovered legs.now line.part (line.from, line.to) line.price amounts.now }
 {
     let places = legs.places();
-    let last = nearest_last(legs, line.to, units);
+    let least_end = nearest_last(legs, line.to, units);
     let mut ends = [(0, 0); MOST_PLACES];
     let count = set_near_ends(legs, line.from, line.to, price, units, &mut ends);
-    let near = &ends[..count];
+    let tried = UnitPrice {
+        price,
+        units,
+        least_end,
+        near: &ends[..count],
+    };
     for x in 0..places {
-        if !is_place_covered(legs, line, price, last, near, amounts, units, x) {
+        if !is_place_covered(legs, line, &tried, amounts, x) {
             return false;
         }
     }
@@ -177,29 +192,26 @@ fn is_covered_by_units(
 fn is_place_covered(
     legs: &CandidateLegs,
     line: Priced,
-    price: u64,
-    last: u64,
-    near: &[(usize, u64)],
+    tried: &UnitPrice<'_, '_>,
     amounts: &[u128],
-    units: &[u64],
     x: usize,
 ) -> bool
     requires from { line.from < legs.now.size }
     requires to { line.to < legs.now.size }
     requires part { line.part ≤ most_part }
-    requires price { line.price ≤ weighted_flow legs.now line.part (line.from, line.to) * price }
-    requires limit { price ≤ most_unit }
-    requires last { IsNearestLast legs.now line.to units.now last }
-    requires near { AreNearEnds legs.now (line.from, line.to) price units.now near.now }
+    requires price { line.price ≤ weighted_flow legs.now line.part (line.from, line.to) * tried.now.price }
+    requires limit { tried.now.price ≤ most_unit }
+    requires last { IsNearestLast legs.now line.to tried.now.units.now tried.now.least_end }
+    requires near { AreNearEnds legs.now (line.from, line.to) tried.now.price tried.now.units.now tried.now.near.now }
     requires long { length amounts.now ≡ legs.now.size }
     requires short { All IsAmount amounts.now }
     requires units { AreUnits legs.now (weighted_flow legs.now line.part (line.from, line.to))
-        (slice_index amounts.now) units.now }
+        (slice_index amounts.now) tried.now.units.now }
     requires place { x < length legs.now.candidates }
     ensures { IsTrue result
         ↔ IsCoveredFirst legs.now line.part (line.from, line.to) line.price amounts.now (candidate_at legs.now x) }
 {
-    if is_covered_in_units(legs, line.from, line.to, price, last, near, units, x) {
+    if is_covered_in_units(legs, line.from, line.to, tried, x) {
         return true;
     }
     let instance = legs.instance();
@@ -213,27 +225,26 @@ fn is_covered_in_units(
     legs: &CandidateLegs,
     i: u32,
     j: u32,
-    price: u64,
-    last: u64,
-    near: &[(usize, u64)],
-    units: &[u64],
+    tried: &UnitPrice<'_, '_>,
     x: usize,
 ) -> bool
     requires from { i < legs.now.size }
     requires to { j < legs.now.size }
-    requires limit { price ≤ most_unit }
-    requires last { IsNearestLast legs.now j units.now last }
-    requires near { AreNearEnds legs.now (i, j) price units.now near.now }
-    requires long { length units.now ≡ length legs.now.candidates }
-    requires short { All (λ v. v ≤ most_unit) units.now }
+    requires limit { tried.now.price ≤ most_unit }
+    requires last { IsNearestLast legs.now j tried.now.units.now tried.now.least_end }
+    requires near { AreNearEnds legs.now (i, j) tried.now.price tried.now.units.now tried.now.near.now }
+    requires long { length tried.now.units.now ≡ length legs.now.candidates }
+    requires short { All (λ v. v ≤ most_unit) tried.now.units.now }
     requires place { x < length legs.now.candidates }
-    ensures { IsTrue result → IsCoveredInUnits legs.now (i, j) price units.now x }
+    ensures { IsTrue result → IsCoveredInUnits legs.now (i, j) tried.now.price tried.now.units.now x }
 {
-    let first = legs.collection_legs(i)[x] + units[x];
+    let price = tried.price;
+    let least_end = tried.least_end;
+    let first = legs.collection_legs(i)[x] + tried.units[x];
     if first + legs.delivery_legs(j)[x] < price {
         return false;
     }
-    first + last >= price || are_beyond(price - first, legs.trunk_legs(x), near)
+    first + least_end >= price || are_beyond(price - first, legs.trunk_legs(x), tried.near)
 }
 
 /// Sets the ends of the last hubs that not every first hub covers, and gives their number: each place, with its leg of
