@@ -8,7 +8,8 @@ use Rattle.std.proofs.lemmas.Slice.Zip.{get_or-zip, length-zip}
 use Rattle.hub_spec.specs.Problem.{Problem}
 use Rattle.hub_spec.specs.Cuts.{Cut}
 use Rattle.core_spec.specs.CoreCuts.{Mark}
-use Rattle.cert_spec.specs.PartConditions.{cut_lines, one_cut_claims, cut_claims}
+use Rattle.cert_spec.specs.Stated.{Stated}
+use Rattle.cert_spec.specs.PartConditions.{cut_lines, first_cut_line, one_cut_claims, cut_claims, all_cut_claims}
 
 pub has_at : {X : Type 0} (P : X → Type 0) (xs : List X) (i : ℕ) (d : X) → i < length xs → d ≡ get_or xs i d → All P xs → P d
 has_at P xs i d below is h = rw is (All-get_or P xs i d below h)
@@ -59,3 +60,10 @@ pub lines_of_all : (v n : ℕ) (cuts : List Cut) (marks : List (Option Mark)) (i
 lines_of_all v n cuts marks i all =
     let past : length (zip cuts marks) ≤ i = omega (arith, all, length-zip cuts marks) in
     ap (sum_by (cut_lines v n)) (take_all i (zip cuts marks) past)
+
+-- the conditions of a certificate's cuts, by its parts
+pub certificate_cuts : (p : Problem) (asked : Bool) (version line : ℕ) (cuts : List Cut) (marks : List (Option Mark)) (k : Stated)
+    → version ≡ k.proof.version → line ≡ first_cut_line k.proof.size → cuts ≡ k.proof.cuts → marks ≡ k.marks
+    → cut_claims p asked version line (zip cuts marks) ≡ all_cut_claims p asked k
+certificate_cuts p asked version line cuts marks k version_is line_is cuts_are marks_are = λ i.
+    cut_claims p asked (version_is i) (line_is i) (zip (cuts_are i) (marks_are i))

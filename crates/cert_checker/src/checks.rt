@@ -8,13 +8,13 @@ ghost use Rattle.cert_spec.specs.Conditions.{AllHold};
 ghost use Rattle.cert_spec.specs.PartConditions.{size_claim, size_claims, all_cut_claims, all_tree_claims, claims};
 ghost use Rattle.cert_checker.specs.Answers.{IsFailure, IsOfSize, hub_claims_of, IsVerdict, ShowsBound, ShowsOptimal, ShowsMarks};
 
-use crate::cuts::check_each_cut;
+use crate::cuts::{CutSection, check_each_cut};
 use crate::failures::Failure;
 use crate::kinds::{Kind, Verdict};
-use crate::lines::{BOUND_LINE, SIZE_LINE, first_cut_line, first_tree_line};
+use crate::lines::{BOUND_LINE, SIZE_LINE, first_tree_line};
 use crate::plans::check_plan;
 use crate::sums::SummedCut;
-use crate::walks::check_tree;
+use crate::walks::{TreeTest, check_tree};
 use cert_format::Certificate;
 use hub_model::Instance;
 use std::alloc::{AllocError, Global};
@@ -144,17 +144,8 @@ fn check_cuts_of<'a, R: Threads + Sync>(
     ensures are_cuts { IfOk result (λ cuts. All (IsCut instance.now) cuts.items) }
     ensures fails { IfErr result (IsFailure (all_cut_claims instance.now true certificate.now)) }
 {
-    let version = certificate.version();
-    let first = first_cut_line(instance.size());
-    check_each_cut(
-        rt,
-        alloc,
-        instance,
-        version,
-        first,
-        certificate.cuts(),
-        certificate.marks(),
-    )
+    let section = CutSection::of(instance, certificate);
+    check_each_cut(rt, alloc, instance, &section)
 }
 
 fn check_tree_of(
@@ -178,5 +169,10 @@ fn check_tree_of(
         certificate.marks(),
     );
     let target = certificate.bound();
-    check_tree(alloc, instance, cuts, target, first, lines)
+    let test = TreeTest {
+        instance,
+        cuts,
+        target,
+    };
+    check_tree(alloc, &test, first, lines)
 }

@@ -27,6 +27,15 @@ const DUALS_OF_A_THREAD: usize = 512;
 /// Room for a value of each node.
 pub(crate) const ROOM: usize = MOST_NODES as usize;
 
+/// A dual of a commodity with this part, its values listed by node.
+#[derive(Clone, Copy)]
+struct SpreadDual<'a> {
+    commodity: (u32, u32),
+    part: u32,
+    price: u128,
+    values: &'a [u128],
+}
+
 /// Tries the duals of a cut, whose lines are those of their runs in this version; the first of them stands at this line.
 pub(crate) fn check_duals<R: Threads + Sync>(
     rt: &R,
@@ -98,27 +107,27 @@ fn is_dual(instance: &Instance, part: u32, commodity: (u32, u32), dual: &StatedD
     let mut room = [0; ROOM];
     let values = &mut room[..instance.size() as usize];
     spread(dual, values);
-    is_covered_by_all(instance, part, commodity, dual.price(), values)
+    let price = dual.price();
+    let tried = SpreadDual {
+        commodity,
+        part,
+        price,
+        values,
+    };
+    is_covered_by_all(instance, &tried)
 }
 
 /// Tells whether the price is covered by the routes that are allowed, as often as the part says, and the values of each
 /// candidate and of each two.
-fn is_covered_by_all(
-    instance: &Instance,
-    part: u32,
-    commodity: (u32, u32),
-    a: u128,
-    values: &[u128],
-) -> bool
-    requires part { part ≤ most_part }
-    requires from { commodity.0 < instance.now.size }
-    requires to { commodity.1 < instance.now.size }
-    requires long { length values.now ≡ instance.now.size }
-    requires short { All IsAmount values.now }
-    ensures { IsTrue result ↔ IsCoveredByAll instance.now part commodity a values.now }
+fn is_covered_by_all(instance: &Instance, dual: &SpreadDual<'_>) -> bool
+    requires part { dual.now.part ≤ most_part }
+    requires from { dual.now.commodity.0 < instance.now.size }
+    requires to { dual.now.commodity.1 < instance.now.size }
+    requires long { length dual.now.values.now ≡ instance.now.size }
+    requires short { All IsAmount dual.now.values.now }
+    ensures { IsTrue result ↔ IsCoveredByAll instance.now dual.now.part dual.now.commodity dual.now.price dual.now.values.now }
 {
-    is_covered_by_singles(instance, part, commodity, a, values)
-        && is_covered_by_pairs(instance, part, commodity, a, values)
+    is_covered_by_singles(instance, dual) && is_covered_by_pairs(instance, dual)
 }
 
 fn lists_candidates(instance: &Instance, dual: &StatedDual<'_>) -> bool
@@ -138,66 +147,48 @@ fn is_candidate(instance: &Instance, k: u32) -> bool
     is_among(instance.candidates(), k)
 }
 
-fn is_covered_by_singles(
-    instance: &Instance,
-    part: u32,
-    commodity: (u32, u32),
-    a: u128,
-    values: &[u128],
-) -> bool
-    requires part { part ≤ most_part }
-    requires from { commodity.0 < instance.now.size }
-    requires to { commodity.1 < instance.now.size }
-    requires long { length values.now ≡ instance.now.size }
-    requires short { All IsAmount values.now }
-    ensures { IsTrue result ↔ All (IsCoveredSingle instance.now part commodity a values.now) instance.now.candidates }
+fn is_covered_by_singles(instance: &Instance, dual: &SpreadDual<'_>) -> bool
+    requires part { dual.now.part ≤ most_part }
+    requires from { dual.now.commodity.0 < instance.now.size }
+    requires to { dual.now.commodity.1 < instance.now.size }
+    requires long { length dual.now.values.now ≡ instance.now.size }
+    requires short { All IsAmount dual.now.values.now }
+    ensures { IsTrue result ↔ All (IsCoveredSingle instance.now dual.now.part dual.now.commodity dual.now.price dual.now.values.now) instance.now.candidates }
 {
     let candidates = instance.candidates();
     for k in candidates {
-        if !is_covered_by(instance, part, commodity, a, values, *k) {
+        if !is_covered_by(instance, dual, *k) {
             return false;
         }
     }
     true
 }
 
-fn is_covered_by(
-    instance: &Instance,
-    part: u32,
-    commodity: (u32, u32),
-    a: u128,
-    values: &[u128],
-    k: u32,
-) -> bool
-    requires part { part ≤ most_part }
-    requires from { commodity.0 < instance.now.size }
-    requires to { commodity.1 < instance.now.size }
-    requires long { length values.now ≡ instance.now.size }
-    requires short { All IsAmount values.now }
+fn is_covered_by(instance: &Instance, dual: &SpreadDual<'_>, k: u32) -> bool
+    requires part { dual.now.part ≤ most_part }
+    requires from { dual.now.commodity.0 < instance.now.size }
+    requires to { dual.now.commodity.1 < instance.now.size }
+    requires long { length dual.now.values.now ≡ instance.now.size }
+    requires short { All IsAmount dual.now.values.now }
     requires hub { k < instance.now.size }
-    ensures { IsTrue result ↔ IsCoveredSingle instance.now part commodity a values.now k }
+    ensures { IsTrue result ↔ IsCoveredSingle instance.now dual.now.part dual.now.commodity dual.now.price dual.now.values.now k }
 {
-    let cost = instance.cost_of_route(commodity.0, commodity.1, k, k);
-    a <= times(part, cost) + values[k as usize] || !instance.allowed(commodity.0, commodity.1, k, k)
+    let cost = instance.cost_of_route(dual.commodity.0, dual.commodity.1, k, k);
+    dual.price <= times(dual.part, cost) + dual.values[k as usize]
+        || !instance.allowed(dual.commodity.0, dual.commodity.1, k, k)
 }
 
-fn is_covered_by_pairs(
-    instance: &Instance,
-    part: u32,
-    commodity: (u32, u32),
-    a: u128,
-    values: &[u128],
-) -> bool
-    requires part { part ≤ most_part }
-    requires from { commodity.0 < instance.now.size }
-    requires to { commodity.1 < instance.now.size }
-    requires long { length values.now ≡ instance.now.size }
-    requires short { All IsAmount values.now }
-    ensures { IsTrue result ↔ All (IsCoveredFrom instance.now part commodity a values.now) instance.now.candidates }
+fn is_covered_by_pairs(instance: &Instance, dual: &SpreadDual<'_>) -> bool
+    requires part { dual.now.part ≤ most_part }
+    requires from { dual.now.commodity.0 < instance.now.size }
+    requires to { dual.now.commodity.1 < instance.now.size }
+    requires long { length dual.now.values.now ≡ instance.now.size }
+    requires short { All IsAmount dual.now.values.now }
+    ensures { IsTrue result ↔ All (IsCoveredFrom instance.now dual.now.part dual.now.commodity dual.now.price dual.now.values.now) instance.now.candidates }
 {
     let candidates = instance.candidates();
     for k in candidates {
-        if !is_covered_from(instance, part, commodity, a, values, *k) {
+        if !is_covered_from(instance, dual, *k) {
             return false;
         }
     }
@@ -206,59 +197,45 @@ fn is_covered_by_pairs(
 
 /// Tells whether the first hub `k` is covered with each last hub. Where collection and its value alone cover the price,
 /// it is, and no last hub is visited.
-fn is_covered_from(
-    instance: &Instance,
-    part: u32,
-    commodity: (u32, u32),
-    a: u128,
-    values: &[u128],
-    k: u32,
-) -> bool
-    requires part { part ≤ most_part }
-    requires from { commodity.0 < instance.now.size }
-    requires to { commodity.1 < instance.now.size }
-    requires long { length values.now ≡ instance.now.size }
-    requires short { All IsAmount values.now }
+fn is_covered_from(instance: &Instance, dual: &SpreadDual<'_>, k: u32) -> bool
+    requires part { dual.now.part ≤ most_part }
+    requires from { dual.now.commodity.0 < instance.now.size }
+    requires to { dual.now.commodity.1 < instance.now.size }
+    requires long { length dual.now.values.now ≡ instance.now.size }
+    requires short { All IsAmount dual.now.values.now }
     requires hub { k < instance.now.size }
-    ensures { IsTrue result ↔ IsCoveredFrom instance.now part commodity a values.now k }
+    ensures { IsTrue result ↔ IsCoveredFrom instance.now dual.now.part dual.now.commodity dual.now.price dual.now.values.now k }
 {
-    let collection = instance.collection_cost(commodity.0, commodity.1, k);
-    if a <= times(part, collection) + values[k as usize] {
+    let collection = instance.collection_cost(dual.commodity.0, dual.commodity.1, k);
+    let price = dual.price;
+    if price <= times(dual.part, collection) + dual.values[k as usize] {
         return true;
     }
     let candidates = instance.candidates();
     for m in candidates {
-        if !is_covered(instance, part, commodity, a, values, k, *m) {
+        if !is_covered(instance, dual, k, *m) {
             return false;
         }
     }
     true
 }
 
-fn is_covered(
-    instance: &Instance,
-    part: u32,
-    commodity: (u32, u32),
-    a: u128,
-    values: &[u128],
-    k: u32,
-    m: u32,
-) -> bool
-    requires part { part ≤ most_part }
-    requires from { commodity.0 < instance.now.size }
-    requires to { commodity.1 < instance.now.size }
-    requires long { length values.now ≡ instance.now.size }
-    requires short { All IsAmount values.now }
+fn is_covered(instance: &Instance, dual: &SpreadDual<'_>, k: u32, m: u32) -> bool
+    requires part { dual.now.part ≤ most_part }
+    requires from { dual.now.commodity.0 < instance.now.size }
+    requires to { dual.now.commodity.1 < instance.now.size }
+    requires long { length dual.now.values.now ≡ instance.now.size }
+    requires short { All IsAmount dual.now.values.now }
     requires first { k < instance.now.size }
     requires last { m < instance.now.size }
-    ensures { IsTrue result ↔ IsCovered instance.now part commodity a values.now k m }
+    ensures { IsTrue result ↔ IsCovered instance.now dual.now.part dual.now.commodity dual.now.price dual.now.values.now k m }
 {
     if k == m {
         return true;
     }
-    let cost = instance.cost_of_route(commodity.0, commodity.1, k, m);
-    a <= times(part, cost) + values[k as usize] + values[m as usize]
-        || !instance.allowed(commodity.0, commodity.1, k, m)
+    let cost = instance.cost_of_route(dual.commodity.0, dual.commodity.1, k, m);
+    dual.price <= times(dual.part, cost) + dual.values[k as usize] + dual.values[m as usize]
+        || !instance.allowed(dual.commodity.0, dual.commodity.1, k, m)
 }
 
 /// The cost as often as the part says.

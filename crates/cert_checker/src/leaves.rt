@@ -16,41 +16,39 @@ use crate::failures::Failure;
 use crate::kinds::Kind;
 use crate::mixes::part_at;
 use crate::sums::SummedCut;
-use hub_model::Instance;
+use crate::walks::TreeTest;
 use plan_model::{Branch, Mix};
 use std::alloc::Global;
 
 /// Tries the conditions of a leaf of the branch with this mix of the cuts, which stands at this line.
 pub(crate) fn check_leaf(
     alloc: Global,
-    instance: &Instance,
-    cuts: &[SummedCut<'_>],
-    target: u128,
+    test: &TreeTest<'_, '_, '_>,
     line: u64,
     branch: &Branch,
     mix: &Mix,
 ) -> Result<(), Failure>
-    requires problem { IsProblem instance.now }
-    requires cuts { All (IsCut instance.now) cuts.now }
-    requires target { IsShort target }
-    requires branch { IsBranch instance.now branch.now }
-    requires mix { IsLineInRange instance.now.size (leaf_of mix.now.denom mix.now.weights) }
-    ensures holds { OnOk result (AllHold (leaf_claims instance.now cuts.now target line branch.now mix.now)) }
-    ensures fails { IfErr result (IsFailure (leaf_claims instance.now cuts.now target line branch.now mix.now)) }
+    requires problem { IsProblem test.now.instance.now }
+    requires cuts { All (IsCut test.now.instance.now) test.now.cuts.now }
+    requires target { IsShort test.now.target }
+    requires branch { IsBranch test.now.instance.now branch.now }
+    requires mix { IsLineInRange test.now.instance.now.size (leaf_of mix.now.denom mix.now.weights) }
+    ensures holds { OnOk result (AllHold (leaf_claims test.now.instance.now test.now.cuts.now test.now.target line branch.now mix.now)) }
+    ensures fails { IfErr result (IsFailure (leaf_claims test.now.instance.now test.now.cuts.now test.now.target line branch.now mix.now)) }
 {
-    if !has_room(instance, branch) {
+    if !has_room(test.instance, branch) {
         return Err(Failure::Fails {
             kind: Kind::Count,
             line,
         });
     }
-    if !are_within_cuts(cuts, mix) {
+    if !are_within_cuts(test.cuts, mix) {
         return Err(Failure::Fails {
             kind: Kind::CutNumber,
             line,
         });
     }
-    if !are_multiples(cuts, mix) {
+    if !are_multiples(test.cuts, mix) {
         return Err(Failure::Fails {
             kind: Kind::Multiple,
             line,
@@ -62,8 +60,8 @@ pub(crate) fn check_leaf(
             line,
         });
     }
-    let bound = leaf_bound(alloc, instance, cuts, branch, mix)?;
-    if !closes(mix.denominator(), target, bound) {
+    let bound = leaf_bound(alloc, test.instance, test.cuts, branch, mix)?;
+    if !closes(mix.denominator(), test.target, bound) {
         return Err(Failure::Fails {
             kind: Kind::Leaf,
             line,

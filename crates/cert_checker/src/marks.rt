@@ -33,29 +33,34 @@ const LEAST_CANDIDATES: usize = 3;
 /// The most candidates of one.
 const MOST_CANDIDATES: usize = 20;
 
-/// Tries the conditions of a marked cut, which stands at this line, those of its mark too if marks are asked, and gives
-/// the cut with its sums.
+/// A marked cut that stands at this line.
+#[derive(Clone, Copy)]
+pub(crate) struct MarkedCut<'a> {
+    pub(crate) line: u64,
+    pub(crate) cut: &'a StatedCut,
+    pub(crate) mark: &'a Mark,
+}
+
+/// Tries the conditions of the cut, those of its mark too if marks are asked, and gives the cut with its sums.
 pub(crate) fn check_marked<'a, R: Threads + Sync>(
     rt: &R,
     alloc: Global,
     instance: &Instance,
     asked: bool,
-    line: u64,
-    stated: &'a StatedCut,
-    mark: &Mark,
+    marked: &MarkedCut<'a>,
 ) -> Result<SummedCut<'a>, Failure>
-    requires line { line < 2 ^ 59 }
-    requires cut { IsCutInRange instance.now.size stated.now }
-    requires mark { IsMarkInRange instance.now.size mark.now }
-    ensures cut { IfOk result (λ cut. cut ≡ stated.now) }
-    ensures holds { OnOk result (AllHold (marked_claims instance.now asked line stated.now mark.now)) }
+    requires line { marked.now.line < 2 ^ 59 }
+    requires cut { IsCutInRange instance.now.size marked.now.cut.now }
+    requires mark { IsMarkInRange instance.now.size marked.now.mark.now }
+    ensures cut { IfOk result (λ cut. cut ≡ marked.now.cut.now) }
+    ensures holds { OnOk result (AllHold (marked_claims instance.now asked marked.now.line marked.now.cut.now marked.now.mark.now)) }
     ensures is_cut { IfOk result (IsCut instance.now) }
-    ensures fails { IfErr result (IsFailure (marked_claims instance.now asked line stated.now mark.now)) }
+    ensures fails { IfErr result (IsFailure (marked_claims instance.now asked marked.now.line marked.now.cut.now marked.now.mark.now)) }
 {
-    check_mark(instance, asked, line, mark.hubs())?;
-    match first_failing(rt, instance, stated) {
-        None => check_feasible(alloc, instance, asked, line, stated, mark),
-        Some(t) => Err(failure_at(alloc, instance, asked, line, stated, mark, t)),
+    check_mark(instance, asked, marked.line, marked.mark.hubs())?;
+    match first_failing(rt, instance, marked.cut) {
+        None => check_feasible(alloc, instance, asked, marked),
+        Some(t) => Err(failure_at(alloc, instance, asked, marked, t)),
     }
 }
 
@@ -96,22 +101,20 @@ fn failure_at(
     alloc: Global,
     instance: &Instance,
     asked: bool,
-    line: u64,
-    stated: &StatedCut,
-    mark: &Mark,
+    marked: &MarkedCut<'_>,
     t: u32,
 ) -> Failure
-    requires line { line < 2 ^ 59 }
-    requires cut { IsCutInRange instance.now.size stated.now }
-    requires mark { IsMarkInRange instance.now.size mark.now }
-    requires may { AllHold (mark_claims instance.now asked line mark.now.hubs) }
-    requires dual { FailsAt instance.now stated.now.part stated.now.duals t }
-    ensures { IsFailure (marked_claims instance.now asked line stated.now mark.now) result }
+    requires line { marked.now.line < 2 ^ 59 }
+    requires cut { IsCutInRange instance.now.size marked.now.cut.now }
+    requires mark { IsMarkInRange instance.now.size marked.now.mark.now }
+    requires may { AllHold (mark_claims instance.now asked marked.now.line marked.now.mark.now.hubs) }
+    requires dual { FailsAt instance.now marked.now.cut.now.part marked.now.cut.now.duals t }
+    ensures { IsFailure (marked_claims instance.now asked marked.now.line marked.now.cut.now marked.now.mark.now) result }
 {
-    match check_proofs(alloc, instance, asked, line, stated, mark, 0, t) {
+    match check_proofs(alloc, instance, asked, marked, 0, t) {
         Ok(()) => Failure::Fails {
             kind: Kind::Dual,
-            line: marked_dual_line(line, t),
+            line: marked_dual_line(marked.line, t),
         },
         Err(failure) => failure,
     }
@@ -123,54 +126,55 @@ fn check_feasible<'a>(
     alloc: Global,
     instance: &Instance,
     asked: bool,
-    line: u64,
-    stated: &'a StatedCut,
-    mark: &Mark,
+    marked: &MarkedCut<'a>,
 ) -> Result<SummedCut<'a>, Failure>
-    requires line { line < 2 ^ 59 }
-    requires cut { IsCutInRange instance.now.size stated.now }
-    requires mark { IsMarkInRange instance.now.size mark.now }
-    requires may { AllHold (mark_claims instance.now asked line mark.now.hubs) }
-    requires duals { (t : ℕ) → t < instance.now.size * instance.now.size → IsDualAt instance.now stated.now.part stated.now.duals t }
-    ensures cut { IfOk result (λ cut. cut ≡ stated.now) }
-    ensures holds { OnOk result (AllHold (marked_claims instance.now asked line stated.now mark.now)) }
+    requires line { marked.now.line < 2 ^ 59 }
+    requires cut { IsCutInRange instance.now.size marked.now.cut.now }
+    requires mark { IsMarkInRange instance.now.size marked.now.mark.now }
+    requires may { AllHold (mark_claims instance.now asked marked.now.line marked.now.mark.now.hubs) }
+    requires duals { (t : ℕ) → t < instance.now.size * instance.now.size → IsDualAt instance.now marked.now.cut.now.part marked.now.cut.now.duals t }
+    ensures cut { IfOk result (λ cut. cut ≡ marked.now.cut.now) }
+    ensures holds { OnOk result (AllHold (marked_claims instance.now asked marked.now.line marked.now.cut.now marked.now.mark.now)) }
     ensures is_cut { IfOk result (IsCut instance.now) }
-    ensures fails { IfErr result (IsFailure (marked_claims instance.now asked line stated.now mark.now)) }
+    ensures fails { IfErr result (IsFailure (marked_claims instance.now asked marked.now.line marked.now.cut.now marked.now.mark.now)) }
 {
     let n = instance.size();
     let last = n * n - 1;
-    check_proofs(alloc, instance, asked, line, stated, mark, 0, last)?;
-    let cut = summed(alloc, instance, marked_dual_line(line, last), stated)?;
-    check_proofs(alloc, instance, asked, line, stated, mark, last, n * n)?;
+    check_proofs(alloc, instance, asked, marked, 0, last)?;
+    let cut = summed(
+        alloc,
+        instance,
+        marked_dual_line(marked.line, last),
+        marked.cut,
+    )?;
+    check_proofs(alloc, instance, asked, marked, last, n * n)?;
     Ok(cut)
 }
 
-/// Tries the proofs from this number on, one after another, if proofs are asked. The cut stands at this line.
+/// Tries the proofs from this number on, one after another, if proofs are asked.
 fn check_proofs(
     alloc: Global,
     instance: &Instance,
     asked: bool,
-    line: u64,
-    stated: &StatedCut,
-    mark: &Mark,
+    marked: &MarkedCut<'_>,
     first: u32,
     end: u32,
 ) -> Result<(), Failure>
-    requires line { line < 2 ^ 59 }
-    requires may { asked ≡ true → MayTryProofs instance.now stated.now mark.now }
+    requires line { marked.now.line < 2 ^ 59 }
+    requires may { asked ≡ true → MayTryProofs instance.now marked.now.cut.now marked.now.mark.now }
     requires end { end ≤ instance.now.size * instance.now.size }
-    ensures holds { OnOk result (AreCore instance.now asked stated.now mark.now first end) }
-    ensures fails { IfErr result (IsCoreFailure instance.now asked line stated.now mark.now first end) }
+    ensures holds { OnOk result (AreCore instance.now asked marked.now.cut.now marked.now.mark.now first end) }
+    ensures fails { IfErr result (IsCoreFailure instance.now asked marked.now.line marked.now.cut.now marked.now.mark.now first end) }
 {
     if !asked {
         return Ok(());
     }
     let mut proof = ProofLine::new(alloc, instance)?;
     for t in first..end {
-        if !is_core_at(instance, &mut proof, stated, mark, t) {
+        if !is_core_at(instance, &mut proof, marked, t) {
             return Err(Failure::Fails {
                 kind: Kind::Core,
-                line: proof_line(line, t),
+                line: proof_line(marked.line, t),
             });
         }
     }
@@ -181,19 +185,25 @@ fn check_proofs(
 fn is_core_at(
     instance: &Instance,
     proof: &mut ProofLine<'_>,
-    stated: &StatedCut,
-    mark: &Mark,
+    marked: &MarkedCut<'_>,
     t: u32,
 ) -> bool
     requires same { proof.old.problem ≡ instance.now }
-    requires may { MayTryProofs instance.now stated.now mark.now }
+    requires may { MayTryProofs instance.now marked.now.cut.now marked.now.mark.now }
     requires within { t < instance.now.size * instance.now.size }
     ensures same { proof.new.problem ≡ instance.now }
-    ensures is { IsTrue result ↔ IsCoreAt instance.now stated.now mark.now t }
+    ensures is { IsTrue result ↔ IsCoreAt instance.now marked.now.cut.now marked.now.mark.now t }
 {
     let n = instance.size();
-    take_proof(proof, t / n, t % n, &mark.proofs()[t as usize]);
-    is_core_dual(instance, proof, mark.hubs(), stated.part(), &stated.dual(t))
+    take_proof(proof, t / n, t % n, &marked.mark.proofs()[t as usize]);
+    let dual = marked.cut.dual(t);
+    is_core_dual(
+        instance,
+        proof,
+        marked.mark.hubs(),
+        marked.cut.part(),
+        &dual,
+    )
 }
 
 /// Takes a proof of the commodity from `i` to `j`, way by way.

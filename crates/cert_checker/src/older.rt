@@ -11,10 +11,9 @@ ghost use Rattle.cert_checker.specs.Answers.{kind_of, IsFailure};
 ghost use Rattle.cert_checker.specs.Shows.{older_of, older_on};
 
 use crate::checks::check_size;
-use crate::cuts::try_each_cut;
+use crate::cuts::{CutSection, try_each_cut};
 use crate::failures::Failure;
 use crate::kinds::Kind;
-use crate::lines::first_cut_line;
 use crate::sure_cuts::are_cuts;
 use crate::texts::MOST_CERTIFICATE_BYTES;
 use cert_format::{CertFault, Certificate, read_cert};
@@ -137,15 +136,6 @@ fn try_cuts_of<R: Threads + Sync>(
     ensures holds { OnOk result (AllHold (all_cut_claims instance.now false certificate.now)) }
     ensures fails { IfErr result (IsFailure (all_cut_claims instance.now false certificate.now)) }
 {
-    let version = certificate.version();
-    let first = first_cut_line(instance.size());
-    try_each_cut(
-        rt,
-        alloc,
-        instance,
-        version,
-        first,
-        certificate.cuts(),
-        certificate.marks(),
-    )
+    let section = CutSection::of(instance, certificate);
+    try_each_cut(rt, alloc, instance, &section)
 }

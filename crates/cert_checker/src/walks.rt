@@ -19,38 +19,38 @@ use hub_model::Instance;
 use plan_model::{Branch, TreeLine, is_among};
 use std::alloc::{AllocError, Global};
 
+/// What the lines of a tree are tried by: the instance, the cuts that leaves mix, and the target that their bounds are to reach.
+#[derive(Clone, Copy)]
+pub(crate) struct TreeTest<'a, 'b, 'c> {
+    pub(crate) instance: &'a Instance,
+    pub(crate) cuts: &'b [SummedCut<'c>],
+    pub(crate) target: u128,
+}
+
 /// Tries the conditions of the lines of a tree, the first of which stands at this line. The branches that are still to
 /// be filled wait in a stack.
 pub(crate) fn check_tree(
     alloc: Global,
-    instance: &Instance,
-    cuts: &[SummedCut<'_>],
-    target: u128,
+    test: &TreeTest<'_, '_, '_>,
     line: u64,
     lines: &[TreeLine],
 ) -> Result<(), Failure>
-    requires problem { IsProblem instance.now }
-    requires cuts { All (IsCut instance.now) cuts.now }
-    requires target { IsShort target }
+    requires problem { IsProblem test.now.instance.now }
+    requires cuts { All (IsCut test.now.instance.now) test.now.cuts.now }
+    requires target { IsShort test.now.target }
     requires room { line + length lines.now < 2 ^ 60 }
-    requires lines { All (λ l. IsLineInRange instance.now.size (tree_line_of l)) lines.now }
-    ensures holds { OnOk result (AllHold (root_claims instance.now cuts.now target line (map tree_line_of lines.now))) }
-    ensures fails { IfErr result (IsFailure (root_claims instance.now cuts.now target line (map tree_line_of lines.now))) }
+    requires lines { All (λ l. IsLineInRange test.now.instance.now.size (tree_line_of l)) lines.now }
+    ensures holds { OnOk result (AllHold (root_claims test.now.instance.now test.now.cuts.now test.now.target line (map tree_line_of lines.now))) }
+    ensures fails { IfErr result (IsFailure (root_claims test.now.instance.now test.now.cuts.now test.now.target line (map tree_line_of lines.now))) }
 {
-    let mut pending = root_alone(alloc, instance)?;
+    let mut pending = root_alone(alloc, test.instance)?;
     for i in 0..lines.len() {
         match pending.pop() {
             None => return Ok(()),
-            Some(branch) => check_line(
-                alloc,
-                instance,
-                cuts,
-                target,
-                line + i as u64,
-                &branch,
-                &lines[i],
-                &mut pending,
-            )?,
+            Some(branch) => {
+                let at = line + i as u64;
+                check_line(alloc, test, at, &branch, &lines[i], &mut pending)?
+            }
         }
     }
     Ok(())
@@ -67,24 +67,22 @@ fn root_alone(alloc: Global, instance: &Instance) -> Result<Vec<Branch>, AllocEr
 /// Tries the conditions of a line of the branch's tree, and puts the branch's children on the branches to be filled.
 fn check_line(
     alloc: Global,
-    instance: &Instance,
-    cuts: &[SummedCut<'_>],
-    target: u128,
+    test: &TreeTest<'_, '_, '_>,
     line: u64,
     branch: &Branch,
     tree_line: &TreeLine,
     pending: &mut Vec<Branch>,
 ) -> Result<(), Failure>
-    requires problem { IsProblem instance.now }
-    requires cuts { All (IsCut instance.now) cuts.now }
-    requires target { IsShort target }
-    requires branch { IsBranch instance.now branch.now }
-    requires text { IsLineInRange instance.now.size (tree_line_of tree_line.now) }
-    requires branches { All (IsBranch instance.now) pending.old.items }
-    ensures holds { OnOk result (AllHold (coded_claims instance.now cuts.now target line branch.now tree_line.now)) }
-    ensures fails { IfErr result (IsFailure (coded_claims instance.now cuts.now target line branch.now tree_line.now)) }
+    requires problem { IsProblem test.now.instance.now }
+    requires cuts { All (IsCut test.now.instance.now) test.now.cuts.now }
+    requires target { IsShort test.now.target }
+    requires branch { IsBranch test.now.instance.now branch.now }
+    requires text { IsLineInRange test.now.instance.now.size (tree_line_of tree_line.now) }
+    requires branches { All (IsBranch test.now.instance.now) pending.old.items }
+    ensures holds { OnOk result (AllHold (coded_claims test.now.instance.now test.now.cuts.now test.now.target line branch.now tree_line.now)) }
+    ensures fails { IfErr result (IsFailure (coded_claims test.now.instance.now test.now.cuts.now test.now.target line branch.now tree_line.now)) }
     ensures pending { OnOk result (IsStackAfter branch.now tree_line.now pending.old.items pending.new.items) }
-    ensures branches { OnOk result (All (IsBranch instance.now) pending.new.items) }
+    ensures branches { OnOk result (All (IsBranch test.now.instance.now) pending.new.items) }
 {
     match tree_line {
         TreeLine::BranchOn(k) => {
@@ -92,10 +90,10 @@ fn check_line(
             put_children(alloc, branch, *k, pending)?;
             Ok(())
         }
-        TreeLine::Leaf(mix) => check_leaf(alloc, instance, cuts, target, line, branch, mix),
+        TreeLine::Leaf(mix) => check_leaf(alloc, test, line, branch, mix),
         TreeLine::Empty => check_empty(line, branch),
-        TreeLine::Block { i, j } => check_block(instance, line, branch, (*i, *j)),
-        TreeLine::Count => check_count(instance, line, branch),
+        TreeLine::Block { i, j } => check_block(test.instance, line, branch, (*i, *j)),
+        TreeLine::Count => check_count(test.instance, line, branch),
     }
 }
 

@@ -8,9 +8,9 @@ use Rattle.cert_checker.proofs.cuts.check_each_cut.Given as goal
 
 abbrev pub invariant-loop-x : goal.invariant-loop-x
 invariant-loop-x g l = record {
-  line : l.at ≤ l.line + l.x * (2 * (l.instance.size * l.instance.size) + 1);
-  rest : Reduces (cut_claims l.instance true (version_number l.version) l.line (zip l.cuts l.marks))
-      (cut_claims l.instance true (version_number l.version) l.at (cuts_left l.cuts l.marks l.x));
-  same : l.summed.items ≡ take l.x l.cuts;
+  line : l.line ≤ l.section.line + l.x * (2 * (l.instance.size * l.instance.size) + 1);
+  rest : Reduces (cut_claims l.instance true (version_number l.section.version) l.section.line (zip l.section.cuts.now l.section.marks.now))
+      (cut_claims l.instance true (version_number l.section.version) l.line (cuts_left l.section.cuts.now l.section.marks.now l.x));
+  same : l.summed.items ≡ take l.x l.section.cuts.now;
   are_cuts : All (IsCut l.instance) l.summed.items;
 }

@@ -9,33 +9,33 @@ use Rattle.cert_checker.proofs.cuts.try_each_cut.Goals as goal
 pub returns-in_err-check_cut-clause-fails : goal.returns-in_err-check_cut-clause-fails
 returns-in_err-check_cut-clause-fails g c =
     let p = c.args.instance.now in
-    let v = version_number c.args.version in
-    let pairs = zip c.args.cuts.now c.args.marks.now in
+    let v = version_number c.args.section.now.version in
+    let pairs = zip c.args.section.now.cuts.now c.args.section.now.marks.now in
     let e = err_from_is_err_and c.from_residual.result c.from_residual.ensures.1 in
-    rw (e.1, e.2) (part_fails (cut_claims p false v c.args.line pairs) _
-    (one_cut_claims p false v c.loop-x.at (c.index-cuts-x.result, c.index-marks-x.result)) _ _
+    rw (e.1, e.2) (part_fails (cut_claims p false v c.args.section.now.line pairs) _
+    (one_cut_claims p false v c.loop-x.line (c.index-cuts-x.result, c.index-marks-x.result)) _ _
     c.loop-x.invariant.rest
-    (cut_claims_at p false v c.loop-x.at c.args.cuts.now c.args.marks.now c.loop-x.x c.index-cuts-x.result c.index-marks-x.result c.loop-x-test.true
+    (cut_claims_at p false v c.loop-x.line c.args.section.now.cuts.now c.args.section.now.marks.now c.loop-x.x c.index-cuts-x.result c.index-marks-x.result c.loop-x-test.true
     c.requires.one_for_each c.index-cuts-x.is c.index-marks-x.is)
     c.in_err-check_cut.ensures.fails)
 
 pub loop-x-preserved : goal.loop-x-preserved
 loop-x-preserved g c =
     let p = c.args.instance.now in
-    let v = version_number c.args.version in
-    let pairs = zip c.args.cuts.now c.args.marks.now in
+    let v = version_number c.args.section.now.version in
+    let pairs = zip c.args.section.now.cuts.now c.args.section.now.marks.now in
     let d = c.index-cuts-x.result in
     let m = c.index-marks-x.result in
     let x = c.loop-x.x in
-    let lines : c.cut_lines-at.result ≡ cut_lines v p.size (d, m) =
-    c.cut_lines-at.ensures.value ∙ ap (λ n. cut_lines v n (d, m)) c.size-n.ensures.value in
+    let lines : c.cut_lines-line.result ≡ cut_lines v p.size (d, m) =
+    c.cut_lines-line.ensures.value ∙ ap (λ n. cut_lines v n (d, m)) c.size-n.ensures.value in
     let square : c.size-n.result * c.size-n.result ≡ p.size * p.size = ap (λ n. n * n) c.size-n.ensures.value in
     record {
-      line = omega (arith, c.loop-x.invariant.line, c.cut_lines-at.ensures.limit, square);
-      rest = reduces_same _ (cut_claims p false v c.args.line pairs) _
-          (ap (λ k. cut_claims p false v (c.loop-x.at + k) (cuts_left c.args.cuts.now c.args.marks.now (x + 1))) (sym lines))
-          (part_holds (cut_claims p false v c.args.line pairs) _ (one_cut_claims p false v c.loop-x.at (d, m)) _ c.loop-x.invariant.rest
-          (cut_claims_at p false v c.loop-x.at c.args.cuts.now c.args.marks.now x d m c.loop-x-test.true c.requires.one_for_each c.index-cuts-x.is
+      line = omega (arith, c.loop-x.invariant.line, c.cut_lines-line.ensures.limit, square);
+      rest = reduces_same _ (cut_claims p false v c.args.section.now.line pairs) _
+          (ap (λ k. cut_claims p false v (c.loop-x.line + k) (cuts_left c.args.section.now.cuts.now c.args.section.now.marks.now (x + 1))) (sym lines))
+          (part_holds (cut_claims p false v c.args.section.now.line pairs) _ (one_cut_claims p false v c.loop-x.line (d, m)) _ c.loop-x.invariant.rest
+          (cut_claims_at p false v c.loop-x.line c.args.section.now.cuts.now c.args.section.now.marks.now x d m c.loop-x-test.true c.requires.one_for_each c.index-cuts-x.is
           c.index-marks-x.is)
           c.in_ok-check_cut.ensures.holds);
     }

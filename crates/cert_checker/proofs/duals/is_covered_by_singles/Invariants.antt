@@ -3,4 +3,4 @@ use Rattle.cert_checker.specs.Duals.{IsCoveredSingle}
 use Rattle.cert_checker.proofs.duals.is_covered_by_singles.Given as goal
 
 abbrev pub invariant-loop-k : goal.invariant-loop-k
-invariant-loop-k l = All (IsCoveredSingle l.instance l.part l.commodity l.a l.values) (take l.k-index l.candidates)
+invariant-loop-k l = All (IsCoveredSingle l.instance l.dual.part l.dual.commodity l.dual.price l.dual.values.now) (take l.k-index l.candidates)

@@ -9,7 +9,7 @@ returns c =
     dual_by_values p c.args.part c.args.commodity c.args.dual.now c.spread.new.values c.is_covered_by_all.result
     c.spread.ensures.values
     (c.lists_candidates.ensures.0 c.if-not-lists_candidates.false)
-    (subst (λ (a : ℕ). IsTrue c.is_covered_by_all.result ↔ IsCoveredByAll p c.args.part c.args.commodity a c.spread.new.values) c.price.ensures.value
+    (subst (λ (a : ℕ). IsTrue c.is_covered_by_all.result ↔ IsCoveredByAll p c.args.part c.args.commodity a c.spread.new.values) c.price-price.ensures.value
     c.is_covered_by_all.ensures)
 
 pub spread-requires-clause-cleared : goal.spread-requires-clause-cleared

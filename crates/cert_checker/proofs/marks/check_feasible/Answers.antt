@@ -27,14 +27,14 @@ returns-in_err-check_proofs-clause-fails c =
     let last = last_of at in
     let one_more = is_last at in
     let e = err_from_is_err_and c.from_residual.result c.from_residual.ensures.1 in
-    rw (e.1, e.2) (early_failure c.args.instance.now c.args.asked c.args.line c.args.stated.now c.args.mark.now c.requires.cut c.requires.mark c.requires.may
+    rw (e.1, e.2) (early_failure c.args.instance.now c.args.asked c.args.marked.now.line c.args.marked.now.cut.now c.args.marked.now.mark.now c.requires.cut c.requires.mark c.requires.may
     last _ (omega (arith, one_more)) (λ s less. c.requires.duals s (omega (arith, less, one_more))) c.in_err-check_proofs.ensures.fails)
 
 pub returns-in_err-cut-clause-fails : goal.returns-in_err-cut-clause-fails
 returns-in_err-cut-clause-fails c =
     let at = (goal.at.returns-in_err-cut-clause-fails c).After-size-n in
     let e = err_from_is_err_and c.from_residual-in_err-cut.result c.from_residual-in_err-cut.ensures.1 in
-    rw (e.1, e.2) (sums_fail c.args.instance.now c.args.asked c.args.line c.args.stated.now c.args.mark.now c.requires.cut c.requires.mark c.requires.may
+    rw (e.1, e.2) (sums_fail c.args.instance.now c.args.asked c.args.marked.now.line c.args.marked.now.cut.now c.args.marked.now.mark.now c.requires.cut c.requires.mark c.requires.may
     (last_of at) c.marked_dual_line.result _ (is_last at) c.requires.duals c.in_ok-check_proofs.ensures.holds c.marked_dual_line.ensures.value
     c.in_err-cut.ensures.fails)
 
@@ -42,22 +42,22 @@ pub returns-in_err-check_proofs-2-clause-fails : goal.returns-in_err-check_proof
 returns-in_err-check_proofs-2-clause-fails c =
     let at = (goal.at.returns-in_err-check_proofs-2-clause-fails c).After-size-n in
     let e = err_from_is_err_and c.from_residual-in_err-check_proofs-2.result c.from_residual-in_err-check_proofs-2.ensures.1 in
-    rw (e.1, e.2) (last_failure c.args.instance.now c.args.asked c.args.line c.args.stated.now c.args.mark.now c.requires.cut c.requires.mark c.requires.may
+    rw (e.1, e.2) (last_failure c.args.instance.now c.args.asked c.args.marked.now.line c.args.marked.now.cut.now c.args.marked.now.mark.now c.requires.cut c.requires.mark c.requires.may
     (last_of at) _ _ (is_last at) (square at) c.requires.duals c.in_ok-check_proofs.ensures.holds c.in_ok-cut.ensures.holds
     c.in_err-check_proofs-2.ensures.fails)
 
 pub returns-clause-holds : goal.returns-clause-holds
 returns-clause-holds c =
     let at = (goal.at.returns-clause-holds c).After-size-n in
-    marked_hold c.args.instance.now c.args.asked c.args.line c.args.stated.now c.args.mark.now c.requires.cut c.requires.mark c.requires.may
+    marked_hold c.args.instance.now c.args.asked c.args.marked.now.line c.args.marked.now.cut.now c.args.marked.now.mark.now c.requires.cut c.requires.mark c.requires.may
     (last_of at) (is_last at) c.requires.duals c.in_ok-check_proofs.ensures.holds c.in_ok-cut.ensures.holds
-    (subst (λ (end : ℕ). AreCore c.args.instance.now c.args.asked c.args.stated.now c.args.mark.now (last_of at) end) (square at)
+    (subst (λ (end : ℕ). AreCore c.args.instance.now c.args.asked c.args.marked.now.cut.now c.args.marked.now.mark.now (last_of at) end) (square at)
     c.in_ok-check_proofs-2.ensures.holds)
 
 pub returns-clause-is_cut : goal.returns-clause-is_cut
 returns-clause-is_cut c =
     let p = c.args.instance.now in
-    let cut = c.args.stated.now in
+    let cut = c.args.marked.now.cut.now in
     subst (IsCut p) (sym c.in_ok-cut.ensures.cut)
     (cut_from_duals p cut c.requires.cut
     (duals_zipped p cut.part cut.duals c.requires.cut.one_for_each (λ s less. c.requires.duals s (omega (arith, less, c.requires.cut.one_for_each))))

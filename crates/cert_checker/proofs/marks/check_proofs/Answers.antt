@@ -10,6 +10,6 @@ loop-t-preserved c =
     record {
       same = c.is_core_at.ensures.same;
       so_far = λ s from less.
-          ⊎_elim (λ (same : t ≡ s). subst (IsCoreAt c.args.instance.now c.args.stated.now c.args.mark.now) same here)
+          ⊎_elim (λ (same : t ≡ s). subst (IsCoreAt c.args.instance.now c.args.marked.now.cut.now c.args.marked.now.mark.now) same here)
           (λ apart. c.loop-t.invariant.so_far s from (omega (arith, less, apart))) (cases_eq t s);
     }

@@ -7,12 +7,12 @@ use Rattle.cert_checker.proofs.walks.check_line.Goals as goal
 
 pub returns-in_ok-put_children-in-BranchOn-clause-branches : goal.returns-in_ok-put_children-in-BranchOn-clause-branches
 returns-in_ok-put_children-in-BranchOn-clause-branches c =
-    let P = IsBranch c.args.instance.now in
+    let P = IsBranch c.args.test.now.instance.now in
     let b = c.args.branch.now in
     let free = c.in_ok-check_branch-in-BranchOn.ensures.holds in
     let k = c.in-BranchOn.k in
-    let closed = closed_branch c.args.instance.now b k c.requires.branch free in
-    let opened = open_branch c.args.instance.now b k c.requires.branch free in
+    let closed = closed_branch c.args.test.now.instance.now b k c.requires.branch free in
+    let opened = open_branch c.args.test.now.instance.now b k c.requires.branch free in
     subst (All P) (sym c.in_ok-put_children-in-BranchOn.ensures)
     (All-append P c.args.pending.now.items (children b k) c.requires.branches
     (All-cons P (closed_child b k) (open_child b k ∷ []) closed (All-cons P (open_child b k) [] opened (All-nil P))))

@@ -7,7 +7,7 @@ use Rattle.cert_checker.proofs.walks.check_tree.Given as goal
 
 abbrev pub invariant-loop-i : goal.invariant-loop-i
 invariant-loop-i l = record {
-  rest : Reduces (walk_claims l.instance l.cuts l.target l.line (root l.instance ∷ []) (map tree_line_of l.lines))
-      (walk_claims l.instance l.cuts l.target (l.line + l.i) (reverse l.pending.items) (drop l.i (map tree_line_of l.lines)));
-  branches : All (IsBranch l.instance) l.pending.items;
+  rest : Reduces (walk_claims l.test.instance.now l.test.cuts.now l.test.target l.line (root l.test.instance.now ∷ []) (map tree_line_of l.lines))
+      (walk_claims l.test.instance.now l.test.cuts.now l.test.target (l.line + l.i) (reverse l.pending.items) (drop l.i (map tree_line_of l.lines)));
+  branches : All (IsBranch l.test.instance.now) l.pending.items;
 }
