@@ -15,7 +15,7 @@ use crate::hub_model::{HubNumber, Instance, Nodes, Tail, Terms};
 use crate::kept_cuts::Found;
 use crate::node_rounds::search_rounds;
 use crate::price_passes::Adviser;
-use crate::proof_text::write_found;
+use crate::proof_text::{Finding, Workers, write_found};
 use crate::rattle_std::Vec;
 use crate::rattle_std::alloc::Global;
 use crate::rattle_std::thread::Host;
@@ -136,9 +136,10 @@ pub fn main() {
     let found = words.found(&instance);
     let searched = Instant::now();
     let mut lender = DualLender::new(Global, &instance).unwrap();
-    let (version, workers) = (words.version(), words.workers());
+    let workers = Workers { rt: &Host, alloc: Global, count: words.workers() };
+    let finding = Finding { instance: &instance, found: &found, version: words.version() };
     let mut out = Out(stdout());
-    write_found(&Host, Global, &instance, &found, version, &mut lender, workers, &mut out).unwrap();
+    write_found(&workers, &finding, &mut lender, &mut out).unwrap();
     let seconds = [read - start, searched - read, searched.elapsed()].map(|time| time.as_secs_f64());
     eprintln!("read {:.2} s, search {:.2} s, text {:.2} s", seconds[0], seconds[1], seconds[2]);
 }

@@ -22,7 +22,7 @@ use hub_io::{Failed, Sink};
 use hub_model::Instance;
 use hub_words::Search;
 use kept_cuts::Found;
-use proof_text::write_found;
+use proof_text::{Finding, Workers, write_found};
 use std::alloc::Global;
 use std::thread::Threads;
 
@@ -123,8 +123,17 @@ fn write_certificate<R: Threads + Sync, O: Sink>(
     ensures { IsTold O.taken O.faults out.old out.new result (finding_status found.now)
         (found_text (version_number search.version) instance.now found.now) }
 {
-    let (version, workers) = (search.version, search.workers);
-    match write_found(rt, alloc, instance, found, version, lender, workers, out) {
+    let workers = Workers {
+        rt,
+        alloc,
+        count: search.workers,
+    };
+    let finding = Finding {
+        instance,
+        found,
+        version: search.version,
+    };
+    match write_found(&workers, &finding, lender, out) {
         Ok(()) => status_of_finding(found),
         Err(_) => Status::Write,
     }

@@ -11,6 +11,7 @@ ghost use Rattle.proof_text.specs.Texts.{head_item, duals_with, kept_dual_items}
 
 use crate::dual_runs::put_runs;
 use crate::marks::said_mark;
+use crate::numbered::NumberedCut;
 use crate::proved_duals::put_proved;
 use cert_format::{Version, put_cut, put_dual, put_marked_cut};
 use dual_lender::DualLender;
@@ -18,41 +19,38 @@ use hub_io::{Buffer, Failed, Sink};
 use hub_model::Instance;
 use kept_cuts::KeptCut;
 
-/// Puts the line that begins the cut of this number, with the mark that the version says.
+/// Puts the line that begins the cut, with the mark that the version says.
 pub(crate) fn put_cut_line<K: Sink>(
-    version: Version,
-    c: u64,
-    kept: &KeptCut,
+    cut: &NumberedCut<'_>,
     buffer: &mut Buffer,
     sink: &mut K,
 ) -> Result<(), Failed>
-    ensures { let v = version_number version in let k = kept_of kept.now in
-        PutsLine K.taken K.faults sink.old sink.new buffer.old buffer.new result (head_item v c k (mark_said v k)) }
+    ensures { let v = version_number cut.now.version in let k = kept_of cut.now.kept.now in
+        PutsLine K.taken K.faults sink.old sink.new buffer.old buffer.new result (head_item v cut.now.number k (mark_said v k)) }
 {
-    match said_mark(version, kept) {
-        Some(mark) => put_marked_cut(c, kept.part(), mark.hubs(), buffer, sink),
-        None => put_cut(version, c, kept.part(), buffer, sink),
+    let part = cut.kept.part();
+    match said_mark(cut.version, cut.kept) {
+        Some(mark) => put_marked_cut(cut.number, part, mark.hubs(), buffer, sink),
+        None => put_cut(cut.version, cut.number, part, buffer, sink),
     }
 }
 
 /// Puts the lines of the duals of the cut, origin by origin. It takes no memory.
 pub(crate) fn put_kept_duals<K: Sink>(
-    version: Version,
-    instance: &Instance,
-    kept: &KeptCut,
+    cut: &NumberedCut<'_>,
     lender: &mut DualLender,
     buffer: &mut Buffer,
     sink: &mut K,
 ) -> Result<(), Failed>
-    requires lender { IsLenderFor instance.now lender.old }
-    requires fits { IsKeptFor instance.now (kept_of kept.now) }
-    ensures lender { IsLenderFor instance.now lender.new }
+    requires lender { IsLenderFor cut.now.instance.now lender.old }
+    requires fits { IsKeptFor cut.now.instance.now (kept_of cut.now.kept.now) }
+    ensures lender { IsLenderFor cut.now.instance.now lender.new }
     ensures lines { PutsLines K.taken K.faults sink.old sink.new buffer.old buffer.new result
-        (kept_dual_items (version_number version) instance.now (kept_of kept.now)) }
+        (kept_dual_items (version_number cut.now.version) cut.now.instance.now (kept_of cut.now.kept.now)) }
 {
-    lender.begin(instance, kept);
-    for i in 0..instance.size() {
-        put_origin(version, instance, kept, i, lender, buffer, sink)?;
+    lender.begin(cut.instance, cut.kept);
+    for i in 0..cut.instance.size() {
+        put_origin(cut, i, lender, buffer, sink)?;
     }
     Ok(())
 }
@@ -60,48 +58,46 @@ pub(crate) fn put_kept_duals<K: Sink>(
 /// Puts the lines of the duals of the commodities from `i`, each with its proof where the version says a mark of the cut. The
 /// lender stays ready for the cut.
 pub(crate) fn put_origin<K: Sink>(
-    version: Version,
-    instance: &Instance,
-    kept: &KeptCut,
+    cut: &NumberedCut<'_>,
     i: u32,
     lender: &mut DualLender,
     buffer: &mut Buffer,
     sink: &mut K,
 ) -> Result<(), Failed>
-    requires fits { IsKeptFor instance.now (kept_of kept.now) }
-    requires ready { IsReady instance.now (kept_of kept.now) lender.old }
-    requires origin { i < instance.now.size }
-    ensures ready { IsReady instance.now (kept_of kept.now) lender.new }
-    ensures lines { let v = version_number version in let k = kept_of kept.now in
-        PutsLines K.taken K.faults sink.old sink.new buffer.old buffer.new result (duals_with v instance.now k (mark_said v k) i) }
+    requires fits { IsKeptFor cut.now.instance.now (kept_of cut.now.kept.now) }
+    requires ready { IsReady cut.now.instance.now (kept_of cut.now.kept.now) lender.old }
+    requires origin { i < cut.now.instance.now.size }
+    ensures ready { IsReady cut.now.instance.now (kept_of cut.now.kept.now) lender.new }
+    ensures lines { let v = version_number cut.now.version in let k = kept_of cut.now.kept.now in
+        PutsLines K.taken K.faults sink.old sink.new buffer.old buffer.new result (duals_with v cut.now.instance.now k (mark_said v k) i) }
 {
-    lender.work_out(instance, kept, i);
-    match said_mark(version, kept) {
-        Some(mark) => put_proved(instance, kept, mark.proofs(), i, lender, buffer, sink),
-        None => put_unmarked(version, instance, kept, i, lender, buffer, sink),
+    lender.work_out(cut.instance, cut.kept, i);
+    match said_mark(cut.version, cut.kept) {
+        Some(mark) => put_proved(cut, mark.proofs(), i, lender, buffer, sink),
+        None => put_unmarked(cut, i, lender, buffer, sink),
     }
 }
 
 // Puts the lines of the duals of the commodities from `i` without proofs.
 fn put_unmarked<K: Sink>(
-    version: Version,
-    instance: &Instance,
-    kept: &KeptCut,
+    cut: &NumberedCut<'_>,
     i: u32,
     lender: &mut DualLender,
     buffer: &mut Buffer,
     sink: &mut K,
 ) -> Result<(), Failed>
-    requires fits { IsKeptFor instance.now (kept_of kept.now) }
-    requires duals { HasDuals instance.now (kept_of kept.now) i lender.old }
-    requires origin { i < instance.now.size }
-    ensures duals { HasDuals instance.now (kept_of kept.now) i lender.new }
+    requires fits { IsKeptFor cut.now.instance.now (kept_of cut.now.kept.now) }
+    requires duals { HasDuals cut.now.instance.now (kept_of cut.now.kept.now) i lender.old }
+    requires origin { i < cut.now.instance.now.size }
+    ensures duals { HasDuals cut.now.instance.now (kept_of cut.now.kept.now) i lender.new }
     ensures lines { PutsLines K.taken K.faults sink.old sink.new buffer.old buffer.new result
-        (dual_items_from (version_number version) instance.now.size (kept_dual instance.now (kept_of kept.now)) i) }
+        (dual_items_from (version_number cut.now.version) cut.now.instance.now.size (kept_dual cut.now.instance.now (kept_of cut.now.kept.now)) i) }
 {
-    match version {
-        Version::First => put_each(instance, kept, i, lender, buffer, sink),
-        Version::Second | Version::Third => put_runs(instance, kept, i, lender, buffer, sink),
+    match cut.version {
+        Version::First => put_each(cut.instance, cut.kept, i, lender, buffer, sink),
+        Version::Second | Version::Third => {
+            put_runs(cut.instance, cut.kept, i, lender, buffer, sink)
+        }
     }
 }
 

@@ -8,10 +8,10 @@
 //! the next. [`found_text_is_certificate`] says that the text that is put is that certificate's, and [`stated_holds`] that
 //! what it states holds. Costs are in 10^-12.
 //!
-//! In order: `marks` (which a text says), `dual_runs`, `proved_duals` and `dual_lines` (the lines of a cut and of its duals),
-//! `places` (the lines of one origin of one cut), `memory_texts` (a text in memory), `stretches` (the work of a worker),
-//! `together` (the lines of all cuts by workers), `headings` (the first lines), `written` (the text), `certificates` (the
-//! value), `laws`.
+//! In order: `marks` (which a text says), `numbered` (a cut, as its lines are put), `dual_runs`, `proved_duals` and
+//! `dual_lines` (the lines of a cut and of its duals), `places` (the lines of one origin of one cut), `memory_texts` (a text
+//! in memory), `stretches` (the work of a worker), `together` (the lines of all cuts by workers), `headings` (the first
+//! lines), `written` (the text), `certificates` (the value), `laws`.
 #![tactic(auto)]
 
 mod certificates;
@@ -21,6 +21,7 @@ mod headings;
 mod laws;
 mod marks;
 mod memory_texts;
+mod numbered;
 mod places;
 mod proved_duals;
 mod stretches;
@@ -29,4 +30,5 @@ mod written;
 
 pub use certificates::certificate_of;
 pub use laws::{found_text_is_certificate, stated_holds, stated_is_unmarked};
-pub use written::write_found;
+pub use together::Workers;
+pub use written::{Finding, write_found};

@@ -9,6 +9,7 @@ ghost use Rattle.proof_text.specs.Texts.{head_items, origin_items};
 ghost use Rattle.proof_text.specs.Places.{AreLines, place_count, cut_of, items_of};
 
 use crate::dual_lines::{put_cut_line, put_origin};
+use crate::numbered::NumberedCut;
 use cert_format::Version;
 use dual_lender::DualLender;
 use hub_io::{Buffer, Failed, Sink};
@@ -84,58 +85,50 @@ impl CutLines<'_> {
         ensures ready { IsReady self.now.instance.now (cut_of self.now place) lender.new }
         ensures lines { PutsLines K.taken K.faults sink.old sink.new buffer.old buffer.new result (items_of self.now place) }
     {
-        let c = self.cut_number(place);
+        let number = self.cut_number(place);
         let i = self.origin(place);
         let kept = self.kept(place);
-        put_cut_origin(
-            self.version,
-            self.instance,
-            c,
+        let cut = NumberedCut {
+            instance: self.instance,
+            version: self.version,
+            number,
             kept,
-            i,
-            lender,
-            buffer,
-            sink,
-        )
+        };
+        put_cut_origin(&cut, i, lender, buffer, sink)
     }
 }
 
-// Puts the lines of the origin of the cut of this number.
+// Puts the lines of the origin of the cut.
 fn put_cut_origin<K: Sink>(
-    version: Version,
-    instance: &Instance,
-    c: u64,
-    kept: &KeptCut,
+    cut: &NumberedCut<'_>,
     i: u32,
     lender: &mut DualLender,
     buffer: &mut Buffer,
     sink: &mut K,
 ) -> Result<(), Failed>
-    requires fits { IsKeptFor instance.now (kept_of kept.now) }
-    requires ready { IsReady instance.now (kept_of kept.now) lender.old }
-    requires origin { i < instance.now.size }
-    ensures ready { IsReady instance.now (kept_of kept.now) lender.new }
+    requires fits { IsKeptFor cut.now.instance.now (kept_of cut.now.kept.now) }
+    requires ready { IsReady cut.now.instance.now (kept_of cut.now.kept.now) lender.old }
+    requires origin { i < cut.now.instance.now.size }
+    ensures ready { IsReady cut.now.instance.now (kept_of cut.now.kept.now) lender.new }
     ensures lines { PutsLines K.taken K.faults sink.old sink.new buffer.old buffer.new result
-        (origin_items (version_number version) instance.now c (kept_of kept.now) i) }
+        (origin_items (version_number cut.now.version) cut.now.instance.now cut.now.number (kept_of cut.now.kept.now) i) }
 {
-    put_head(version, c, kept, i, buffer, sink)?;
-    put_origin(version, instance, kept, i, lender, buffer, sink)
+    put_head(cut, i, buffer, sink)?;
+    put_origin(cut, i, lender, buffer, sink)
 }
 
-// Puts the line of the cut of this number, where the origin is the first.
+// Puts the line that begins the cut, where the origin is the first.
 fn put_head<K: Sink>(
-    version: Version,
-    c: u64,
-    kept: &KeptCut,
+    cut: &NumberedCut<'_>,
     i: u32,
     buffer: &mut Buffer,
     sink: &mut K,
 ) -> Result<(), Failed>
     ensures { PutsLines K.taken K.faults sink.old sink.new buffer.old buffer.new result
-        (head_items (version_number version) c (kept_of kept.now) i) }
+        (head_items (version_number cut.now.version) cut.now.number (kept_of cut.now.kept.now) i) }
 {
     if i > 0 {
         return Ok(());
     }
-    put_cut_line(version, c, kept, buffer, sink)
+    put_cut_line(cut, buffer, sink)
 }

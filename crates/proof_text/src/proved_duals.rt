@@ -7,45 +7,43 @@ ghost use Rattle.kept_cuts.specs.Kept.{kept_of, IsKeptFor};
 ghost use Rattle.dual_lender.specs.Lenders.{kept_dual, HasDuals, made_dual};
 ghost use Rattle.proof_text.specs.Texts.{proved_from};
 
+use crate::numbered::NumberedCut;
 use cert_format::{put_dual, put_proof};
 use core_marks::DualProof;
 use dual_lender::DualLender;
 use hub_io::{Buffer, Failed, Sink};
-use hub_model::Instance;
 use kept_cuts::KeptCut;
 
 /// Puts a line for the dual of each commodity from `i`, and behind it that of its proof, which stands at the number of the
 /// commodity. It takes no memory.
 pub(crate) fn put_proved<K: Sink>(
-    instance: &Instance,
-    kept: &KeptCut,
+    cut: &NumberedCut<'_>,
     proofs: &[DualProof],
     i: u32,
     lender: &mut DualLender,
     buffer: &mut Buffer,
     sink: &mut K,
 ) -> Result<(), Failed>
-    requires fits { IsKeptFor instance.now (kept_of kept.now) }
-    requires duals { HasDuals instance.now (kept_of kept.now) i lender.old }
-    requires origin { i < instance.now.size }
-    requires proved { length proofs.now ≡ instance.now.size * instance.now.size }
-    ensures duals { HasDuals instance.now (kept_of kept.now) i lender.new }
+    requires fits { IsKeptFor cut.now.instance.now (kept_of cut.now.kept.now) }
+    requires duals { HasDuals cut.now.instance.now (kept_of cut.now.kept.now) i lender.old }
+    requires origin { i < cut.now.instance.now.size }
+    requires proved { length proofs.now ≡ cut.now.instance.now.size * cut.now.instance.now.size }
+    ensures duals { HasDuals cut.now.instance.now (kept_of cut.now.kept.now) i lender.new }
     ensures lines { PutsLines K.taken K.faults sink.old sink.new buffer.old buffer.new result
-        (proved_from instance.now.size (kept_dual instance.now (kept_of kept.now)) proofs.now i) }
+        (proved_from cut.now.instance.now.size (kept_dual cut.now.instance.now (kept_of cut.now.kept.now)) proofs.now i) }
 {
-    let n = instance.size();
+    let n = cut.instance.size();
     for j in 0..n {
-        lender.make(instance, kept, i, j);
+        lender.make(cut.instance, cut.kept, i, j);
         let proof = &proofs[(i * n + j) as usize];
-        put_proved_dual(i, j, kept, proof, lender, buffer, sink)?;
+        put_proved_dual((i, j), cut.kept, proof, lender, buffer, sink)?;
     }
     Ok(())
 }
 
-// Puts the line of the dual that was made last of the cut, for the commodity from `i` to `j`, and that of its proof.
+// Puts the line of the dual that was made last of the cut, for this commodity, and that of its proof.
 fn put_proved_dual<K: Sink>(
-    i: u32,
-    j: u32,
+    commodity: (u32, u32),
     kept: &KeptCut,
     proof: &DualProof,
     lender: &DualLender,
@@ -53,9 +51,9 @@ fn put_proved_dual<K: Sink>(
     sink: &mut K,
 ) -> Result<(), Failed>
     ensures { PutsLines K.taken K.faults sink.old sink.new buffer.old buffer.new result
-        (says_dual (i, j) 1 (made_dual (kept_of kept.now) lender.now) ∷ says_proof proof.now ∷ []) }
+        (says_dual commodity 1 (made_dual (kept_of kept.now) lender.now) ∷ says_proof proof.now ∷ []) }
 {
     let (a, u) = lender.dual(kept);
-    put_dual(i, j, 1, a, u, buffer, sink)?;
+    put_dual(commodity.0, commodity.1, 1, a, u, buffer, sink)?;
     put_proof(proof, buffer, sink)
 }

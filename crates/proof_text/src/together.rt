@@ -17,23 +17,30 @@ use hub_io::{Buffer, Failed, OpenGate, Sink};
 use std::alloc::Global;
 use std::thread::Threads;
 
+/// Who works out texts side by side: so many workers, 1 to 64, each in a thread of its own where one can be made, and the
+/// memory that they take.
+#[derive(Clone, Copy)]
+pub struct Workers<'a, R> {
+    pub rt: &'a R,
+    pub alloc: Global,
+    pub count: u32,
+}
+
 // How many commodities a stretch has at most, where it has more than one place: so its texts take little memory, and the
 // work is worth the start of the workers.
 const COMMODITIES: u32 = 16_384;
 
-/// Puts the lines of the cuts. Their texts are worked out by so many workers, 1 to 64, a stretch of places at a time; where
+/// Puts the lines of the cuts. Their texts are worked out by the workers, a stretch of places at a time; where
 /// memory runs out, the lender works out the stretch on this thread.
 pub(crate) fn put_cuts_together<'a, R: Threads + Sync, K: Sink>(
-    rt: &R,
-    alloc: Global,
+    workers: &Workers<R>,
     lines: &'a CutLines<'a>,
-    workers: u32,
     lender: &mut DualLender,
     buffer: &mut Buffer,
     sink: &mut K,
 ) -> Result<(), Failed>
     requires lines { AreLines lines.now }
-    requires workers { (1 ≤ workers) × (workers ≤ 64) }
+    requires workers { (1 ≤ workers.now.count) × (workers.now.count ≤ 64) }
     requires lender { IsLenderFor lines.now.instance.now lender.old }
     ensures lender { IsLenderFor lines.now.instance.now lender.new }
     ensures lines { PutsLines K.taken K.faults sink.old sink.new buffer.old buffer.new result
@@ -49,7 +56,7 @@ pub(crate) fn put_cuts_together<'a, R: Threads + Sync, K: Sink>(
             first,
             count,
         };
-        put_stretch(rt, alloc, &stretch, workers, lender, buffer, sink)?;
+        put_stretch(workers, &stretch, lender, buffer, sink)?;
         first += count as u64;
     }
     Ok(())
@@ -66,21 +73,20 @@ fn stretch_length(size: u32) -> u64
 
 // Puts the lines of the stretch.
 fn put_stretch<R: Threads + Sync, K: Sink>(
-    rt: &R,
-    alloc: Global,
+    workers: &Workers<R>,
     stretch: &Stretch,
-    workers: u32,
     lender: &mut DualLender,
     buffer: &mut Buffer,
     sink: &mut K,
 ) -> Result<(), Failed>
     requires stretch { IsStretch stretch.now }
-    requires workers { (1 ≤ workers) × (workers ≤ 64) }
+    requires workers { (1 ≤ workers.now.count) × (workers.now.count ≤ 64) }
     requires lender { IsLenderFor stretch.now.lines.now.instance.now lender.old }
     ensures lender { IsLenderFor stretch.now.lines.now.instance.now lender.new }
     ensures lines { PutsLines K.taken K.faults sink.old sink.new buffer.old buffer.new result (items_along stretch.now) }
 {
-    match answers(rt, alloc, stretch, stretch.count, workers, &OpenGate) {
+    let Workers { rt, alloc, count } = *workers;
+    match answers(rt, alloc, stretch, stretch.count, count, &OpenGate) {
         Ok(texts) => put_texts(&texts, buffer, sink),
         Err(_) => put_places(stretch, lender, buffer, sink),
     }

@@ -9,9 +9,8 @@ use cert_format::{Version, put_tree, write_cert};
 use dual_lender::DualLender;
 use hub_io::{Buffer, Failed, MemSink, Partial, Sink};
 use hub_model::Instance;
-use kept_cuts::Found;
 use plan_model::TreeLine;
-use proof_text::{certificate_of, write_found};
+use proof_text::{Finding, Workers, certificate_of, write_found};
 use std::alloc::{AllocError, Global};
 use std::thread::Threads;
 
@@ -44,7 +43,17 @@ pub(crate) fn text<R: Threads + Sync>(
 {
     let found = found_of(alloc, instance, line)?;
     let mut sink = MemSink::new(alloc, ROOM)?;
-    let done = put_found(rt, alloc, instance, &found, version, workers, &mut sink)?;
+    let workers = Workers {
+        rt,
+        alloc,
+        count: workers,
+    };
+    let finding = Finding {
+        instance,
+        found: &found,
+        version,
+    };
+    let done = put_found(&workers, &finding, &mut sink)?;
     told(alloc, done, &sink)
 }
 
@@ -64,34 +73,30 @@ pub(crate) fn failing<R: Threads + Sync>(
     }
     let found = found_of(alloc, instance, "search all")?;
     let mut sink = MemSink::with_faults(alloc, ROOM, failing)?;
-    let done = put_found(rt, alloc, instance, &found, Version::First, 1, &mut sink)?;
+    let one = Workers {
+        rt,
+        alloc,
+        count: 1,
+    };
+    let finding = Finding {
+        instance,
+        found: &found,
+        version: Version::First,
+    };
+    let done = put_found(&one, &finding, &mut sink)?;
     told(alloc, done, &sink)
 }
 
 fn put_found<R: Threads + Sync>(
-    rt: &R,
-    alloc: Global,
-    instance: &Instance,
-    found: &Found,
-    version: Version,
-    workers: u32,
+    workers: &Workers<R>,
+    finding: &Finding<'_>,
     sink: &mut MemSink,
 ) -> Result<Result<(), Failed>, AllocError>
-    requires proved { IsProved instance.now found.now }
-    requires workers { (1 ≤ workers) × (workers ≤ 64) }
+    requires proved { IsProved finding.now.instance.now finding.now.found.now }
+    requires workers { (1 ≤ workers.now.count) × (workers.now.count ≤ 64) }
 {
-    let mut lender = DualLender::new(alloc, instance)?;
-    let done = write_found(
-        rt,
-        alloc,
-        instance,
-        found,
-        version,
-        &mut lender,
-        workers,
-        sink,
-    );
-    Ok(done)
+    let mut lender = DualLender::new(workers.alloc, finding.instance)?;
+    Ok(write_found(workers, finding, &mut lender, sink))
 }
 
 /// The text of the certificate that is made of what the search finds, in the first version.

@@ -16,9 +16,9 @@ returns-in_err-put_origin-clause-lender g c = c.put_origin.ensures.ready.lender
 
 pub returns-in_err-put_origin-clause-lines : goal.returns-in_err-put_origin-clause-lines
 returns-in_err-put_origin-clause-lines g c =
-    let v = version_number c.args.version in
-    let p = c.args.instance.now in
-    let kept = kept_of c.args.kept.now in
+    let v = version_number c.args.cut.now.version in
+    let p = c.args.cut.now.instance.now in
+    let kept = kept_of c.args.cut.now.kept.now in
     let items = duals_with v p kept (mark_said v kept) in
     as_text (texts_joined items (range_with_len 0 p.size))
     (list_stop 0 c.loop-i.invariant.put c.put_origin.ensures.lines (ap is_err c.in_err-put_origin.was) c.from_residual.ensures.0
@@ -27,9 +27,9 @@ returns-in_err-put_origin-clause-lines g c =
 
 pub loop-i-preserved : goal.loop-i-preserved
 loop-i-preserved g c =
-    let v = version_number c.args.version in
-    let p = c.args.instance.now in
-    let kept = kept_of c.args.kept.now in
+    let v = version_number c.args.cut.now.version in
+    let p = c.args.cut.now.instance.now in
+    let kept = kept_of c.args.cut.now.kept.now in
     record {
       ready = c.put_origin.ensures.ready;
       put = list_more 0 c.loop-i.invariant.put c.put_origin.ensures.lines (ap is_ok c.in_ok-put_origin.was)
@@ -42,8 +42,8 @@ returns-clause-lender g c = c.loop-i.invariant.ready.lender
 
 pub returns-clause-lines : goal.returns-clause-lines
 returns-clause-lines g c =
-    let v = version_number c.args.version in
-    let p = c.args.instance.now in
-    let kept = kept_of c.args.kept.now in
+    let v = version_number c.args.cut.now.version in
+    let p = c.args.cut.now.instance.now in
+    let kept = kept_of c.args.cut.now.kept.now in
     as_text (texts_joined (duals_with v p kept (mark_said v kept)) (range_with_len 0 p.size))
     (list_end c.loop-i.invariant.put (omega (arith, length-range_with_len 0 p.size)))

@@ -11,6 +11,6 @@ use Rattle.proof_text.proofs.dual_lines.put_kept_duals.Given as goal
 
 abbrev pub invariant-loop-i : goal.invariant-loop-i
 invariant-loop-i g l = record {
-  ready : IsReady l.instance (kept_of l.kept) l.lender;
-  put : (let s = g.K.Sink in HasPut s.taken s.faults l.initial.sink l.sink l.initial.buffer l.buffer (λ i. flat_map line_bytes (duals_with (version_number l.version) l.instance (kept_of l.kept) (mark_said (version_number l.version) (kept_of l.kept)) i)) (range_with_len 0 l.instance.size) l.i);
+  ready : IsReady l.cut.instance.now (kept_of l.cut.kept.now) l.lender;
+  put : (let s = g.K.Sink in HasPut s.taken s.faults l.initial.sink l.sink l.initial.buffer l.buffer (λ i. flat_map line_bytes (duals_with (version_number l.cut.version) l.cut.instance.now (kept_of l.cut.kept.now) (mark_said (version_number l.cut.version) (kept_of l.cut.kept.now)) i)) (range_with_len 0 l.cut.instance.now.size) l.i);
 }

@@ -7,10 +7,10 @@ use Rattle.proof_text.proofs.places.put_cut_origin.Goals as goal
 
 pub returns-in_err-put_head-clause-lines : goal.returns-in_err-put_head-clause-lines
 returns-in_err-put_head-clause-lines g c =
-    as_text (origin_text (version_number c.args.version) c.args.instance.now c.args.c (kept_of c.args.kept.now) c.args.i)
+    as_text (origin_text (version_number c.args.cut.now.version) c.args.cut.now.instance.now c.args.cut.now.number (kept_of c.args.cut.now.kept.now) c.args.i)
     (then_none _ c.put_head.ensures (ap is_err c.in_err-put_head.was) c.from_residual.ensures.0)
 
 pub returns-clause-lines : goal.returns-clause-lines
 returns-clause-lines g c =
-    as_text (origin_text (version_number c.args.version) c.args.instance.now c.args.c (kept_of c.args.kept.now) c.args.i)
+    as_text (origin_text (version_number c.args.cut.now.version) c.args.cut.now.instance.now c.args.cut.now.number (kept_of c.args.cut.now.kept.now) c.args.i)
     (then_put c.put_head.ensures (ap is_ok c.in_ok-put_head.was) c.put_origin.ensures.lines)

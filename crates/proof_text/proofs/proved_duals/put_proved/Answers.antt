@@ -11,8 +11,8 @@ use Rattle.proof_text.proofs.proved_duals.put_proved.Goals as goal
 
 pub returns-in_err-put_proved_dual-clause-lines : goal.returns-in_err-put_proved_dual-clause-lines
 returns-in_err-put_proved_dual-clause-lines g c =
-    let p = c.args.instance.now in
-    let kept = kept_of c.args.kept.now in
+    let p = c.args.cut.now.instance.now in
+    let kept = kept_of c.args.cut.now.kept.now in
     let proofs = c.args.proofs.now in
     as_text (texts_joined (proved_pair p.size (kept_dual p kept) proofs c.args.i) (range_with_len 0 p.size))
     (list_stop 0 c.loop-j.invariant.put c.put_proved_dual.ensures (ap is_err c.in_err-put_proved_dual.was) c.from_residual.ensures.0
@@ -22,8 +22,8 @@ returns-in_err-put_proved_dual-clause-lines g c =
 
 pub loop-j-preserved : goal.loop-j-preserved
 loop-j-preserved g c =
-    let p = c.args.instance.now in
-    let kept = kept_of c.args.kept.now in
+    let p = c.args.cut.now.instance.now in
+    let kept = kept_of c.args.cut.now.kept.now in
     record {
       duals = c.make.ensures.duals;
       put = list_more 0 c.loop-j.invariant.put c.put_proved_dual.ensures (ap is_ok c.in_ok-put_proved_dual.was)
@@ -35,6 +35,6 @@ loop-j-preserved g c =
 
 pub returns-clause-lines : goal.returns-clause-lines
 returns-clause-lines g c =
-    let p = c.args.instance.now in
-    as_text (texts_joined (proved_pair p.size (kept_dual p (kept_of c.args.kept.now)) c.args.proofs.now c.args.i) (range_with_len 0 p.size))
+    let p = c.args.cut.now.instance.now in
+    as_text (texts_joined (proved_pair p.size (kept_dual p (kept_of c.args.cut.now.kept.now)) c.args.proofs.now c.args.i) (range_with_len 0 p.size))
     (list_end c.loop-j.invariant.put (omega (arith, length-range_with_len 0 p.size, c.size-n.ensures.value)))

@@ -10,9 +10,9 @@ use Rattle.proof_text.proofs.proved_duals.put_proved.Given as goal
 abbrev pub invariant-loop-j : goal.invariant-loop-j
 invariant-loop-j g l =
     let s = g.K.Sink in
-    let n = l.instance.size in
+    let n = l.cut.instance.now.size in
     record {
-      duals : HasDuals l.instance (kept_of l.kept) l.i l.lender;
+      duals : HasDuals l.cut.instance.now (kept_of l.cut.kept.now) l.i l.lender;
       put : HasPut s.taken s.faults l.initial.sink l.sink l.initial.buffer l.buffer
-          (λ j. flat_map line_bytes (proved_pair n (kept_dual l.instance (kept_of l.kept)) l.proofs l.i j)) (range_with_len 0 n) l.j;
+          (λ j. flat_map line_bytes (proved_pair n (kept_dual l.cut.instance.now (kept_of l.cut.kept.now)) l.proofs l.i j)) (range_with_len 0 n) l.j;
     }

@@ -16,12 +16,12 @@ put_dual-requires-clause-values g c =
 
 pub returns-in_err-put_dual : goal.returns-in_err-put_dual
 returns-in_err-put_dual g c =
-    as_text (pair_text c.args.i c.args.j (made_dual (kept_of c.args.kept.now) c.args.lender.now) c.args.proof.now
+    as_text (pair_text c.args.commodity.0 c.args.commodity.1 (made_dual (kept_of c.args.kept.now) c.args.lender.now) c.args.proof.now
     (same_amount c.dual-a.result.0 (search rules) ∙ ap natural c.dual-a.ensures.price) c.dual-a.ensures.values)
     (then_none (line_bytes (says_proof c.args.proof.now)) c.put_dual.ensures (ap is_err c.in_err-put_dual.was) c.from_residual.ensures.0)
 
 pub returns : goal.returns
 returns g c =
-    as_text (pair_text c.args.i c.args.j (made_dual (kept_of c.args.kept.now) c.args.lender.now) c.args.proof.now
+    as_text (pair_text c.args.commodity.0 c.args.commodity.1 (made_dual (kept_of c.args.kept.now) c.args.lender.now) c.args.proof.now
     (same_amount c.dual-a.result.0 (search rules) ∙ ap natural c.dual-a.ensures.price) c.dual-a.ensures.values)
     (then_put c.put_dual.ensures (ap is_ok c.in_ok-put_dual.was) c.put_proof.ensures)

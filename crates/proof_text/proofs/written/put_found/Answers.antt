@@ -6,21 +6,21 @@ use Rattle.proof_text.proofs.PlaceCuts.{cuts_found}
 use Rattle.proof_text.proofs.written.put_found.Goals as goal
 
 pub put_cuts-requires-clause-lines : goal.put_cuts-requires-clause-lines
-put_cuts-requires-clause-lines g c κs within = cuts_found _ c.args.found.now c.requires.proved (λ _. c.args.found.now.cuts)
+put_cuts-requires-clause-lines g c κs within = cuts_found _ c.args.finding.now.found.now c.requires.proved (λ _. c.args.finding.now.found.now.cuts)
 
 pub returns-in_err-put_found_top-clause-lines : goal.returns-in_err-put_found_top-clause-lines
 returns-in_err-put_found_top-clause-lines g c =
-    as_text (found_lines (version_number c.args.version) c.args.instance.now c.args.found.now (λ _. c.args.found.now.cuts) (λ _. c.args.found.now.tree.items))
+    as_text (found_lines (version_number c.args.finding.now.version) c.args.finding.now.instance.now c.args.finding.now.found.now (λ _. c.args.finding.now.found.now.cuts) (λ _. c.args.finding.now.found.now.tree.items))
     (then_none _ c.put_found_top.ensures (ap is_err c.in_err-put_found_top.was) c.from_residual.ensures.0)
 
 pub returns-in_err-put_cuts-clause-lines : goal.returns-in_err-put_cuts-clause-lines
 returns-in_err-put_cuts-clause-lines g c =
-    as_text (found_lines (version_number c.args.version) c.args.instance.now c.args.found.now (λ _. c.args.found.now.cuts) (λ _. c.args.found.now.tree.items))
+    as_text (found_lines (version_number c.args.finding.now.version) c.args.finding.now.instance.now c.args.finding.now.found.now (λ _. c.args.finding.now.found.now.cuts) (λ _. c.args.finding.now.found.now.tree.items))
     (then_put c.put_found_top.ensures (ap is_ok c.in_ok-put_found_top.was)
     (then_none _ c.put_cuts.ensures.lines (ap is_err c.in_err-put_cuts.was) c.from_residual-in_err-put_cuts.ensures.0))
 
 pub returns-clause-lines : goal.returns-clause-lines
 returns-clause-lines g c =
-    as_text (found_lines (version_number c.args.version) c.args.instance.now c.args.found.now (λ _. c.args.found.now.cuts) c.deref.ensures.value)
+    as_text (found_lines (version_number c.args.finding.now.version) c.args.finding.now.instance.now c.args.finding.now.found.now (λ _. c.args.finding.now.found.now.cuts) c.deref.ensures.value)
     (then_put c.put_found_top.ensures (ap is_ok c.in_ok-put_found_top.was)
     (then_put c.put_cuts.ensures.lines (ap is_ok c.in_ok-put_cuts.was) c.put_tree.ensures))

@@ -8,20 +8,20 @@ use Rattle.proof_text.proofs.written.put_found_top.Goals as goal
 pub put_top-requires-clause-some : goal.put_top-requires-clause-some
 put_top-requires-clause-some g c =
     let is = c.heading_of-heading.ensures.heading empty in
-    omega (arith, is.size, (found_in_range c.args.instance.now c.args.found.now c.requires).some_node)
+    omega (arith, is.size, (found_in_range c.args.finding.now.instance.now c.args.finding.now.found.now c.requires).some_node)
 
 pub put_top-requires-clause-few : goal.put_top-requires-clause-few
 put_top-requires-clause-few g c =
     let is = c.heading_of-heading.ensures.heading empty in
-    omega (arith, is.size, (found_in_range c.args.instance.now c.args.found.now c.requires).size)
+    omega (arith, is.size, (found_in_range c.args.finding.now.instance.now c.args.finding.now.found.now c.requires).size)
 
 pub put_top-requires-clause-whole : goal.put_top-requires-clause-whole
 put_top-requires-clause-whole g c =
-    (found_in_range c.args.instance.now c.args.found.now c.requires).one_route_each
+    (found_in_range c.args.finding.now.instance.now c.args.finding.now.found.now c.requires).one_route_each
     ∙ sym (ap (λ n. n * n) (c.heading_of-heading.ensures.heading empty).size)
 
 pub returns : goal.returns
 returns g c =
-    as_text (top_text (version_number c.args.version) c.args.instance.now c.args.found.now c.heading_of-heading.result
-    (c.heading_of-heading.ensures.heading empty) (λ _. c.args.found.now.plan) c.len-cuts.ensures)
+    as_text (top_text (version_number c.args.finding.now.version) c.args.finding.now.instance.now c.args.finding.now.found.now c.heading_of-heading.result
+    (c.heading_of-heading.ensures.heading empty) (λ _. c.args.finding.now.found.now.plan) c.len-cuts.ensures)
     c.put_top.ensures

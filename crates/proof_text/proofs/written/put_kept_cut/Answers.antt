@@ -7,10 +7,10 @@ use Rattle.proof_text.proofs.written.put_kept_cut.Goals as goal
 
 pub returns-in_err-put_cut_line-clause-lines : goal.returns-in_err-put_cut_line-clause-lines
 returns-in_err-put_cut_line-clause-lines g c =
-    as_text (kept_cut_text (version_number c.args.version) c.args.instance.now c.args.c (kept_of c.args.kept.now) c.requires.some c.requires.fits)
+    as_text (kept_cut_text (version_number c.args.cut.now.version) c.args.cut.now.instance.now c.args.cut.now.number (kept_of c.args.cut.now.kept.now) c.requires.some c.requires.fits)
     (then_none _ c.put_cut_line.ensures (ap is_err c.in_err-put_cut_line.was) c.from_residual.ensures.0)
 
 pub returns-clause-lines : goal.returns-clause-lines
 returns-clause-lines g c =
-    as_text (kept_cut_text (version_number c.args.version) c.args.instance.now c.args.c (kept_of c.args.kept.now) c.requires.some c.requires.fits)
+    as_text (kept_cut_text (version_number c.args.cut.now.version) c.args.cut.now.instance.now c.args.cut.now.number (kept_of c.args.cut.now.kept.now) c.requires.some c.requires.fits)
     (then_put c.put_cut_line.ensures (ap is_ok c.in_ok-put_cut_line.was) c.put_kept_duals.ensures.lines)

@@ -13,7 +13,7 @@ pub put_kept_cut-requires-clause-fits : goal.put_kept_cut-requires-clause-fits
 put_kept_cut-requires-clause-fits g c =
     let p = c.args.instance.now in
     let kept = c.args.cuts.now.cuts in
-    subst (IsKeptFor p) (sym (c.cut.ensures ∙ same_place kept c.loop-place.place))
+    subst (IsKeptFor p) (sym (c.cut-kept.ensures ∙ same_place kept c.loop-place.place))
     (All-get_or (IsKeptFor p) kept c.loop-place.place (by_set [] []) (omega (arith, c.len-place-end.ensures)) c.requires.fit)
 
 pub returns-in_err-put_kept_cut-clause-lender : goal.returns-in_err-put_kept_cut-clause-lender
@@ -26,8 +26,8 @@ returns-in_err-put_kept_cut-clause-lines g c =
     as_text (texts_joined (cut_items (version_number c.args.version) p.size) (numbered (version_number c.args.version) p kept))
     (list_stop (0, (cut_by [], None)) c.loop-place.invariant.put c.put_kept_cut.ensures.lines (ap is_err c.in_err-put_kept_cut.was) c.from_residual.ensures.0
     (omega (arith, length_numbered (version_number c.args.version) p kept, c.len-place-end.ensures))
-    (kept_cut_at (version_number c.args.version) p kept c.loop-place.place (0, (cut_by [], None)) (kept_of c.cut.result.now)
-    (omega (arith, c.len-place-end.ensures)) c.cut.ensures))
+    (kept_cut_at (version_number c.args.version) p kept c.loop-place.place (0, (cut_by [], None)) (kept_of c.cut-kept.result.now)
+    (omega (arith, c.len-place-end.ensures)) c.cut-kept.ensures))
 
 pub loop-place-preserved : goal.loop-place-preserved
 loop-place-preserved g c =
@@ -37,8 +37,8 @@ loop-place-preserved g c =
       lender = c.put_kept_cut.ensures.lender;
       put = list_more (0, (cut_by [], None)) c.loop-place.invariant.put c.put_kept_cut.ensures.lines (ap is_ok c.in_ok-put_kept_cut.was)
           (omega (arith, length_numbered (version_number c.args.version) p kept, c.len-place-end.ensures))
-          (kept_cut_at (version_number c.args.version) p kept c.loop-place.place (0, (cut_by [], None)) (kept_of c.cut.result.now)
-          (omega (arith, c.len-place-end.ensures)) c.cut.ensures);
+          (kept_cut_at (version_number c.args.version) p kept c.loop-place.place (0, (cut_by [], None)) (kept_of c.cut-kept.result.now)
+          (omega (arith, c.len-place-end.ensures)) c.cut-kept.ensures);
     }
 
 pub returns-clause-lender : goal.returns-clause-lender

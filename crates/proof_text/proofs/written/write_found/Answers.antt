@@ -6,10 +6,10 @@ use Rattle.proof_text.proofs.written.write_found.Goals as goal
 
 pub returns-in_err-put_found-clause-text : goal.returns-in_err-put_found-clause-text
 returns-in_err-put_found-clause-text g c =
-    put_front (as_text (found_text_is (version_number c.args.version) c.args.instance.now c.args.found.now) c.put_found.ensures.lines)
+    put_front (as_text (found_text_is (version_number c.args.finding.now.version) c.args.finding.now.instance.now c.args.finding.now.found.now) c.put_found.ensures.lines)
     (ap is_err c.in_err-put_found.was) c.from_residual.ensures.0 c.new-buffer.ensures
 
 pub returns-clause-text : goal.returns-clause-text
 returns-clause-text g c =
-    put_whole (as_text (found_text_is (version_number c.args.version) c.args.instance.now c.args.found.now) c.put_found.ensures.lines)
+    put_whole (as_text (found_text_is (version_number c.args.finding.now.version) c.args.finding.now.instance.now c.args.finding.now.found.now) c.put_found.ensures.lines)
     (ap is_ok c.in_ok-put_found.was) c.new-buffer.ensures c.finish.ensures.through c.finish.ensures.none_waits
