@@ -3,6 +3,7 @@
 ghost use Rattle.std.specs.Prelude.{◌≤◌};
 
 use crate::distances::Distances;
+use crate::places::Commodity;
 use crate::rows::{FAR, at, least_sum, put, row, row_mut};
 use crate::units::{Units, distance_unit};
 use hub_model::Instance;
@@ -47,7 +48,7 @@ impl Lengths {
         let flows = flows_in(alloc, instance, units.flow)?;
         let fixed_costs = fixed_costs(alloc, instance)?;
         let lack_cost = lack_cost(&flows, units, &fixed_costs);
-        Ok(Lengths {
+        let mut lengths = Lengths {
             size,
             places,
             wanted: wanted_hubs(instance),
@@ -65,7 +66,26 @@ impl Lengths {
             fixed_costs,
             distances: distances(alloc, instance, width)?,
             lack_cost,
-        })
+        };
+        lengths.set_safe(alloc)?;
+        Ok(lengths)
+    }
+
+    /// Sets the lengths below which all routes are allowed, where none may be longer than a limit.
+    fn set_safe(&mut self, alloc: Global) -> Result<(), AllocError> {
+        let Some(distances) = &self.distances else {
+            return Ok(());
+        };
+        let mut safe = vec![in alloc; FAR; self.commodities()]?;
+        for i in 0..self.size {
+            for (j, safe) in row_mut(&mut safe, i, self.size).iter_mut().enumerate() {
+                *safe = Commodity::of(self, i, j).shortest_barred(self, distances.reach(i, j));
+            }
+        }
+        if let Some(distances) = &mut self.distances {
+            distances.safe_below = safe;
+        }
+        Ok(())
     }
 
     /// The number of nodes.
@@ -289,12 +309,14 @@ fn distances(
     let legs = Legs::plain(instance, unit, width);
     let trunk = legs.trunk(alloc)?;
     Ok(Some(Distances {
+        size: instance.size() as usize,
         width,
         collect: legs.collection(alloc)?,
         deliver: legs.delivery(alloc)?,
         trunk_back: turned(alloc, &trunk, width)?,
         trunk,
         limit: (limit / unit.max(1)).min(FAR as u64 - 1) as u32,
+        safe_below: Vec::new(alloc),
     }))
 }
 

@@ -135,10 +135,15 @@ impl Opening {
                 let forth = straight.wrapping_add(at(&self.onward, j));
                 let back = turned.wrapping_add(at(&self.last, j));
                 let mut length = at(base, j);
-                // No route by the place is shorter than these.
-                if *flow > 0 && forth.min(back) < length {
+                // No route by the place is shorter.
+                let least = forth.min(back);
+                if *flow > 0 && least < length {
                     let legs = Commodity::of(lengths, i, j);
-                    length = length_with(&legs, lengths, &set.routes, closed, k, length);
+                    length = if legs.is_safe(least.wrapping_add(1)) {
+                        least
+                    } else {
+                        length_with(&legs, lengths, &set.routes, closed, k, length)
+                    };
                 }
                 weight.add(*flow, length);
             }
@@ -157,11 +162,12 @@ fn length_with(
     k: usize,
     than: u32,
 ) -> u32 {
-    let mut least = legs.shorter(lengths, k, k, than);
+    let onward = legs.onward(lengths, k);
+    let before = legs.before(lengths, k);
+    let mut least = than.min(onward.length(k));
     for m in routes.hubs() {
         if closed != Some(*m) {
-            least = legs.shorter(lengths, k, *m, least);
-            least = legs.shorter(lengths, *m, k, least);
+            least = least.min(onward.length(*m)).min(before.length(*m));
         }
     }
     least

@@ -56,16 +56,17 @@ impl Oracle {
     ) -> u32 {
         match legs.reach {
             None => self.list_singles(legs, prices),
-            Some(_) => self.list_allowed_singles(lengths, legs, prices),
+            Some(reach) => self.list_allowed_singles(legs, reach, prices),
         }
         let cap = cap.min(self.single_cap());
-        self.list_priced(legs, prices, cap);
+        let legs = legs.below(cap);
+        self.list_priced(&legs, prices, cap);
         match legs.reach {
-            None => self.connect(lengths, legs, prices),
-            Some(_) => self.connect_allowed(lengths, legs, prices),
+            None => self.connect(lengths, &legs, prices),
+            Some(reach) => self.connect_allowed(lengths, &legs, reach, prices),
         }
         let price = self.network.solve(cap);
-        self.set_priced(legs, price);
+        self.set_priced(&legs, price);
         price
     }
 
@@ -89,7 +90,8 @@ impl Oracle {
         prices: &[i64],
         order: &[Turn],
     ) {
-        if let Some(reach) = legs.reach {
+        let near = legs.below(self.values.price);
+        if let Some(reach) = near.reach {
             self.complete_allowed(lengths, legs, reach, prices, order);
             return;
         }
@@ -131,13 +133,13 @@ impl Oracle {
     }
 
     /// The same, where no route may be longer than a limit.
-    fn list_allowed_singles(&mut self, lengths: &Lengths, legs: &Commodity<'_>, prices: &[i64]) {
+    fn list_allowed_singles(&mut self, legs: &Commodity<'_>, reach: Reach<'_>, prices: &[i64]) {
         self.singles.clear();
         for (k, price) in prices.iter().enumerate() {
             if *price > 0 {
                 // It succeeds, since there is room for all places.
                 let _ = self.singles.push(Single {
-                    length: legs.length(lengths, k, k),
+                    length: legs.allowed_alone(reach, k),
                     price: *price,
                 });
             }
@@ -196,7 +198,13 @@ impl Oracle {
     }
 
     /// The same, where no route may be longer than a limit.
-    fn connect_allowed(&mut self, lengths: &Lengths, legs: &Commodity<'_>, prices: &[i64]) {
+    fn connect_allowed(
+        &mut self,
+        lengths: &Lengths,
+        legs: &Commodity<'_>,
+        reach: Reach<'_>,
+        prices: &[i64],
+    ) {
         let count = self.priced.len();
         self.network.begin(count);
         for (x, k) in self.priced.iter().enumerate() {
@@ -204,8 +212,8 @@ impl Oracle {
             legs.set_allowed_pairs(lengths, *k, before, self.network.costs_mut(x));
             let price = amount_at(prices, *k).clamp(0, FULL_PRICE) as i32;
             self.network.limit(x, price);
-            let alone = legs.length(lengths, *k, *k);
-            self.network.set_cost(count, x, alone);
+            self.network
+                .set_cost(count, x, legs.allowed_alone(reach, *k));
         }
         self.network.mirror();
     }

@@ -255,13 +255,18 @@ impl SetRoutes {
     /// The shortest route that is allowed, or none.
     pub(crate) fn shortest_allowed(&self, lengths: &Lengths, i: usize, j: usize) -> Route {
         let legs = Commodity::of(lengths, i, j);
+        let shortest = self.shortest(i, j);
+        if legs.is_safe(shortest.length.wrapping_add(1)) {
+            return shortest;
+        }
         let hops = row(&self.hops, j, self.width);
         let mut found = NO_ROUTE;
         for (k, hops) in self.hubs.iter().zip(hops) {
             // No route by this first hub is shorter.
             if at(legs.collect, *k).wrapping_add(hops.first.length) < found.length {
+                let onward = legs.onward(lengths, *k);
                 for m in &self.hubs {
-                    let length = legs.shorter(lengths, *k, *m, found.length);
+                    let length = onward.length(*m);
                     if length < found.length {
                         found = Route {
                             first: *k,
@@ -285,14 +290,19 @@ impl SetRoutes {
         other: usize,
     ) -> u32 {
         let legs = Commodity::of(lengths, i, j);
+        let shortest = self.without(i, j, some, other);
+        if legs.is_safe(shortest.wrapping_add(1)) {
+            return shortest;
+        }
         let hops = row(&self.hops, j, self.width);
         let mut least = FAR;
         for (k, hops) in self.hubs.iter().zip(hops) {
             let near = at(legs.collect, *k).wrapping_add(hops.first.length);
             if near < least && *k != some && *k != other {
+                let onward = legs.onward(lengths, *k);
                 for m in &self.hubs {
                     if *m != some && *m != other {
-                        least = legs.shorter(lengths, *k, *m, least);
+                        least = least.min(onward.length(*m));
                     }
                 }
             }

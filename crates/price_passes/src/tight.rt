@@ -145,7 +145,8 @@ impl TightSet {
 
     /// Gives each place outside the set, in their order, the least value that is asked of it.
     fn settle_others(&self, lengths: &Lengths, legs: &Commodity<'_>, found: &mut PlaceValues) {
-        match legs.reach {
+        let near = legs.below(found.price);
+        match near.reach {
             None => {
                 for turn in &self.order {
                     found.settle_asked(lengths, legs, turn.place);
