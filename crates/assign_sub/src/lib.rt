@@ -16,4 +16,4 @@ mod set_costs;
 
 pub use assignments::{Assignment, assign};
 pub use serving::lacking;
-pub use set_costs::set_cost;
+pub use set_costs::{cost_of_set, set_cost};

@@ -21,10 +21,11 @@ pub fn set_cost(instance: &Instance, set: &HubSet) -> i128
     ensures value { IsSetCost instance.now set.now (natural result) }
     ensures sign { IsNatural result }
 {
-    signed(cost_of(instance, set.members()))
+    signed(cost_of_set(instance, set.members()))
 }
 
-fn cost_of(instance: &Instance, hubs: &[u32]) -> u128
+/// The same of these hubs, as a number that can't be below 0.
+pub fn cost_of_set(instance: &Instance, hubs: &[u32]) -> u128
     requires { IsHubSet instance.now hubs.now }
     ensures value { IsSetCost instance.now hubs.now result }
     ensures limit { result ≤ most_cost }

@@ -9,7 +9,6 @@ use Rattle.cert_spec.specs.Lines.{Item, says_hubs, says_dual, says_tree, keyword
 use Rattle.cert_spec.specs.Text.{line_bytes}
 use Rattle.hub_model.specs.Amounts.{natural, IsNatural}
 use Rattle.plan_model.specs.Prices.{natural_values, signed_values}
-use Rattle.plan_model.specs.Mixtures.{signed_weights}
 use Rattle.cert_format.proofs.Amounts.{natural_pos}
 use Rattle.plan_model.proofs.ListedValues.{listed_again}
 use Rattle.cert_format.specs.Spaced.{spaced, words_text, words_line, spaced_node, spaced_value, spaced_entry, spaced_weight, run_text}
@@ -71,14 +70,14 @@ stated_text i j run price dual e =
     ∙ dual_text i j run price (pos dual.a) (signed_values dual.u) e
     ∙ ap (λ (u : List (ℕ × ℕ)). line_bytes (says_dual (i, j) run (record { a = dual.a; u = u }))) (listed_again dual.u)
 
-weight_words : (w : List (ℕ × ℕ)) → flat_map spaced_weight (signed_weights w) ≡ flat_map spaced (weight_numbers w)
+weight_words : (w : List (ℕ × ℕ)) → flat_map spaced_weight w ≡ flat_map spaced (weight_numbers w)
 weight_words [] = refl
 weight_words (e ∷ w) = ap (λ bs. flat_map spaced (e.0 ∷ e.1 ∷ []) ++ bs) (weight_words w) ∙ sym (flat_map-append spaced (e.0 ∷ e.1 ∷ []) (weight_numbers w))
 
-pub leaf_text : (d denom : ℕ) (w : List (ℕ × ℕ)) (weights : List (ℤ × ℤ)) → d ≡ denom → weights ≡ signed_weights w
-    → words_text (codes "leaf") (d ∷ []) ++ (flat_map spaced_weight weights ++ 10 ∷ []) ≡ line_bytes (says_tree (leaf_of denom w))
-leaf_text d denom w weights e v =
-    (λ k. words_text (codes "leaf") (e k ∷ []) ++ (flat_map spaced_weight (v k) ++ 10 ∷ []))
+pub leaf_text : (d denom : ℕ) (w : List (ℕ × ℕ)) → d ≡ denom
+    → words_text (codes "leaf") (d ∷ []) ++ (flat_map spaced_weight w ++ 10 ∷ []) ≡ line_bytes (says_tree (leaf_of denom w))
+leaf_text d denom w e =
+    ap (λ (n : ℕ). words_text (codes "leaf") (n ∷ []) ++ (flat_map spaced_weight w ++ 10 ∷ [])) e
     ∙ ap (λ bs. words_text (codes "leaf") (denom ∷ []) ++ (bs ++ 10 ∷ [])) (weight_words w)
     ∙ more_numbers (codes "leaf") (denom ∷ []) (weight_numbers w)
     ∙ line_of (says_tree (leaf_of denom w)) refl
@@ -91,9 +90,3 @@ values_natural u values e =
     subst (All (λ e. IsNatural e.1)) (sym e)
     (All-map (λ (e : ℕ × ℤ). IsNatural e.1) (λ (e : ℕ × ℕ). (e.0, pos e.1)) u
     (All-always (λ (e : ℕ × ℕ). IsNatural (pos e.1)) u (λ e. natural_pos e.1)))
-
-pub weights_natural : (w : List (ℕ × ℕ)) (weights : List (ℤ × ℤ)) → weights ≡ signed_weights w → All (λ e. IsNatural e.0 × IsNatural e.1) weights
-weights_natural w weights e =
-    subst (All (λ e. IsNatural e.0 × IsNatural e.1)) (sym e)
-    (All-map (λ (e : ℤ × ℤ). IsNatural e.0 × IsNatural e.1) (λ (e : ℕ × ℕ). (pos e.0, pos e.1)) w
-    (All-always (λ (e : ℕ × ℕ). IsNatural (pos e.0) × IsNatural (pos e.1)) w (λ e. (natural_pos e.0, natural_pos e.1))))

@@ -33,8 +33,8 @@ abbrev pub spaced_way : Way → List ℕ
 spaced_way w = flat_map spaced ((w.0 + 1) ∷ (w.1 + 1) ∷ w.2 ∷ [])
 
 -- the number of a cut and its weight, each behind a space
-abbrev pub spaced_weight : ℤ × ℤ → List ℕ
-spaced_weight e = flat_map spaced (natural e.0 ∷ natural e.1 ∷ [])
+abbrev pub spaced_weight : ℕ × ℕ → List ℕ
+spaced_weight e = flat_map spaced (e.0 ∷ e.1 ∷ [])
 
 -- the first words of the line of a dual for a run, up to its price
 abbrev pub run_text : (i j run price : ℕ) → List ℕ

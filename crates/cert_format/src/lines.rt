@@ -209,25 +209,18 @@ fn put_leaf<K: Sink>(mix: &Mix, buffer: &mut Buffer, sink: &mut K) -> Result<(),
         (says_tree (leaf_of mix.now.denom mix.now.weights)) }
 {
     let denominator = mix.denominator();
-    let weights = mix.weights();
     put_words(b"leaf", &[denominator], buffer, sink)?;
-    put_weights(weights, buffer, sink)?;
+    put_weights(mix, buffer, sink)?;
     buffer.put(b"\n", sink)
 }
 
-fn put_weights<K: Sink>(
-    weights: &[(i128, i128)],
-    buffer: &mut Buffer,
-    sink: &mut K,
-) -> Result<(), Failed>
-    requires { All (λ e. IsNatural e.0 × IsNatural e.1) weights.now }
+fn put_weights<K: Sink>(mix: &Mix, buffer: &mut Buffer, sink: &mut K) -> Result<(), Failed>
     ensures { PutsThrough K.taken K.faults sink.old sink.new buffer.old buffer.new result
-        (flat_map spaced_weight weights.now) }
+        (flat_map spaced_weight mix.now.weights) }
 {
-    for weight in weights {
-        let cut = unsigned(weight.0);
-        let number = unsigned(weight.1);
-        put_pair(cut, number, buffer, sink)?;
+    for at in 0..mix.count() {
+        let (cut, weight) = mix.weight(at);
+        put_pair(cut, weight, buffer, sink)?;
     }
     Ok(())
 }

@@ -8,7 +8,7 @@ ghost use Rattle.core_spec.specs.CoreCuts.{pair_cost};
 ghost use Rattle.core_runs.specs.CoreTables.{is_needed, edge_right};
 ghost use Rattle.core_cuts.specs.Bodies.{most_unit};
 
-use hub_model::{Instance, unsigned};
+use hub_model::Instance;
 use hub_plain::least_route;
 use std::alloc::{AllocError, Global};
 
@@ -138,7 +138,7 @@ pub(crate) fn least_right(instance: &Instance, i: u32, j: u32, hubs: &[u32]) -> 
 {
     let _ = instance.size();
     let route = least_route(instance, hubs, i, j);
-    by_unit(unsigned(route.cost), instance.flow_between(i, j))
+    by_unit(route.cost, instance.flow_between(i, j))
 }
 
 /// The cost over the flow; 0 where nothing flows. A cost of 64 bits is divided as such, which takes less time.

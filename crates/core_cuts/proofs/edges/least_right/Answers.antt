@@ -1,22 +1,16 @@
-use Rattle.std.proofs.Common.{ℕ, ◌≡◌, ◌≤◌, ◌/◌, ap₂, sym, ◌∙◌, subst, arith}
-use Rattle.std.proofs.lemmas.Int.{ints}
+use Rattle.std.proofs.Common.{ℕ, ◌≡◌, ◌≤◌, ◌/◌, ap₂, sym, ◌∙◌, subst}
 use Rattle.hub_spec.specs.Edges.{least_cost}
-use Rattle.hub_spec.specs.Plans.{cost_of_route}
-use Rattle.hub_spec.proofs.BestRoutes.{least_cost_of_route}
 use Rattle.hub_spec.proofs.SetCutFunction.{price_same}
 use Rattle.core_cuts.specs.Bodies.{most_unit}
 use Rattle.core_cuts.proofs.Duals.{least_is, least_limit}
 use Rattle.core_cuts.proofs.edges.least_right.Goals as goal
 use Rattle.core_cuts.proofs.edges.least_right.Goals.{After-flow_between}
 
-cost_is : (c : After-flow_between) → c.unsigned.result ≡ least_cost c.args.instance.now c.args.hubs.now (c.args.i, c.args.j)
+cost_is : (c : After-flow_between) → c.least_route-route.result.cost ≡ least_cost c.args.instance.now c.args.hubs.now (c.args.i, c.args.j)
 cost_is c =
     let p = c.args.instance.now in
-    let route : ℕ × ℕ = (c.least_route-route.result.first, c.least_route-route.result.last) in
-    let cost : c.unsigned.result ≡ cost_of_route p ((c.args.i, c.args.j), route) = omega (arith, ints, c.unsigned.ensures.same, c.least_route-route.ensures.cost) in
-    price_same p c.args.hubs.now (c.args.i, c.args.j) c.unsigned.result (least_cost p c.args.hubs.now (c.args.i, c.args.j))
-    (least_cost_of_route p c.args.hubs.now (c.args.i, c.args.j) route c.unsigned.result c.least_route-route.ensures.least cost)
-    (least_is p c.args.hubs.now (c.args.i, c.args.j) c.requires.any_length c.requires.set)
+    price_same p c.args.hubs.now (c.args.i, c.args.j) c.least_route-route.result.cost (least_cost p c.args.hubs.now (c.args.i, c.args.j))
+    c.least_route-route.ensures.price (least_is p c.args.hubs.now (c.args.i, c.args.j) c.requires.any_length c.requires.set)
 
 pub by_unit-requires : goal.by_unit-requires
 by_unit-requires c =
