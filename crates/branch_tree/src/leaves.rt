@@ -1,9 +1,8 @@
 //! The leaves of the tree.
 
-ghost use Rattle.std.specs.Prelude.{◌≡◌, Some, length, All, OnOk};
+ghost use Rattle.std.specs.Prelude.{◌≡◌, ◌≤◌, Some, length, All, OnOk};
 ghost use Rattle.hub_spec.specs.Plans.{IsHubSet};
 ghost use Rattle.hub_spec.specs.Trees.{IsBranch, HasRoom, leaf};
-ghost use Rattle.hub_model.specs.Amounts.{IsNatural};
 ghost use Rattle.search_spec.specs.States.{denominator};
 ghost use Rattle.search_spec.specs.Steps.{full_on, stopped_leaf, ended};
 ghost use Rattle.search_steps.specs.Weights.{AreNodeWeights, pairs_of};
@@ -24,10 +23,10 @@ use std::alloc::AllocError;
 
 impl<R: Rule> Walk<'_, R> {
     /// Adds the leaf with these weights.
-    pub(crate) fn add_leaf(&mut self, weights: &[i128]) -> Result<(), AllocError>
+    pub(crate) fn add_leaf(&mut self, weights: &[u128]) -> Result<(), AllocError>
         requires serves { R.serves self.old.rule.now self.old.task.now.instance.now }
         requires going { IsGoing self.old.task.now self.old.progress }
-        requires weights { All IsNatural weights.now }
+        requires weights { All (λ w. w ≤ denominator) weights.now }
         ensures same { self.new.task.now ≡ self.old.task.now }
         ensures serves { R.serves self.new.rule.now self.new.task.now.instance.now }
         ensures added { let p = self.old.task.now.instance.now in
@@ -42,7 +41,7 @@ impl<R: Rule> Walk<'_, R> {
     pub(crate) fn stopped_leaf(
         &mut self,
         branch: &Branch,
-        weights: &[i128],
+        weights: &[u128],
     ) -> Result<(), AllocError>
         requires serves { R.serves self.old.rule.now self.old.task.now.instance.now }
         requires going { IsGoing self.old.task.now self.old.progress }

@@ -23,7 +23,7 @@ use std::alloc::AllocError;
 /// follow.
 #[derive(Drop)]
 pub(crate) struct RoundEnd {
-    pub(crate) weights: Vec<i128>,
+    pub(crate) weights: Vec<u128>,
     pub(crate) advice: Advice,
     pub(crate) again: bool,
 }
@@ -34,7 +34,7 @@ impl<R: Rule> Walk<'_, R> {
         &mut self,
         separator: &mut S,
         branch: &Branch,
-        weights: &[i128],
+        weights: &[u128],
     ) -> Result<RoundEnd, AllocError>
         requires ready { S.ready separator.old }
         requires serves { R.serves self.old.rule.now self.old.task.now.instance.now }
@@ -86,7 +86,7 @@ impl<R: Rule> Walk<'_, R> {
         &mut self,
         separator: &mut S,
         branch: &Branch,
-        weights: &[i128],
+        weights: &[u128],
     ) -> Result<RoundEnd, AllocError>
         requires ready { S.ready separator.old }
         requires serves { R.serves self.old.rule.now self.old.task.now.instance.now }

@@ -30,7 +30,7 @@ impl<R: Rule> Walk<'_, R> {
         depth: u32,
         separator: &mut S,
         branch: &Branch,
-        weights: &[i128],
+        weights: &[u128],
     ) -> Result<(), AllocError>
         requires ready { S.ready separator.old }
         requires serves { R.serves self.old.rule.now self.old.task.now.instance.now }

@@ -19,9 +19,9 @@ impl<R: Rule> Walk<'_, R> {
     pub(crate) fn better_weights(
         &self,
         branch: &Branch,
-        present: &[i128],
-        advised: &[i128],
-    ) -> Result<Vec<i128>, AllocError>
+        present: &[u128],
+        advised: &[u128],
+    ) -> Result<Vec<u128>, AllocError>
         requires serves { R.serves self.now.rule.now self.now.task.now.instance.now }
         requires going { IsGoing self.now.task.now self.now.progress }
         requires branch { IsBranch self.now.task.now.instance.now branch.now }
@@ -46,7 +46,7 @@ impl<R: Rule> Walk<'_, R> {
     }
 
     /// Tells whether the weights close the incumbent's cost in the branch.
-    pub(crate) fn closes_cost(&self, branch: &Branch, weights: &[i128]) -> bool
+    pub(crate) fn closes_cost(&self, branch: &Branch, weights: &[u128]) -> bool
         requires serves { R.serves self.now.rule.now self.now.task.now.instance.now }
         requires going { IsGoing self.now.task.now self.now.progress }
         requires branch { IsBranch self.now.task.now.instance.now branch.now }
@@ -68,7 +68,7 @@ impl<R: Rule> Walk<'_, R> {
     pub(crate) fn fixings(
         &self,
         branch: &Branch,
-        weights: &[i128],
+        weights: &[u128],
     ) -> Result<Vec<(u32, Side)>, AllocError>
         requires serves { R.serves self.now.rule.now self.now.task.now.instance.now }
         requires going { IsGoing self.now.task.now self.now.progress }

@@ -1,5 +1,5 @@
 -- The sums of kept cuts.
-use Rattle.std.proofs.Common.{◌≡◌, ℕ, ◌+◌, ◌-◌, ◌<◌, ◌≤◌, ℤ, pos, List, [], ◌∷◌, ◌++◌, length, map, get_or, All, take, drop, slice_range, refl, sym, ap, ap₂, subst, ◌∙◌, arith}
+use Rattle.std.proofs.Common.{◌≡◌, ℕ, ◌+◌, ◌-◌, ◌<◌, ◌≤◌, List, [], ◌∷◌, ◌++◌, length, map, get_or, All, take, drop, slice_range, refl, sym, ap, ap₂, subst, ◌∙◌, arith}
 use Rattle.std.proofs.Math.Seq.{drop-cons}
 use Rattle.std.proofs.lemmas.List.{length-map, get_or-map, map_push, take-map, drop-map}
 use Rattle.std.proofs.lemmas.List.Elements.{All-nil, All-cons, All-head, All-tail, All-push, All-get_or}
@@ -41,8 +41,8 @@ kept_are_whole p (k ∷ ks) own =
 -- ---- the numbers of a kept cut
 
 pub kept_at_number : (p : Problem) (k : KeptList) (c : ℕ) → IsProblem p → AreKeptFor p k → All IsRemade k.cuts → 1 ≤ c → c ≤ length k.cuts
-    → AreLentOf p (cut_at (kept_cuts p k.cuts) c) (slice_range (map pos k.totals) (c - 1) (c - 1 + 1))
-    (slice_range (map (λ xs. map pos xs) k.loads) (c - 1) (c - 1 + 1))
+    → AreLentOf p (cut_at (kept_cuts p k.cuts) c) (slice_range k.totals (c - 1) (c - 1 + 1))
+    (slice_range k.loads (c - 1) (c - 1 + 1))
     (slice_range (map kept_part k.cuts) (c - 1) (c - 1 + 1))
 kept_at_number p k c ok are own least most =
     let i = c - 1 in
@@ -67,10 +67,8 @@ kept_at_number p k c ok are own least most =
         long = ap length row_is ∙ length-map-range_with_len (load cut) 0 p.size;
         are_loads = λ n node. ap (λ (xs : List ℕ). get_or xs n 0) row_is ∙ get_or-map-range_with_len (load cut) 0 p.size n n 0 node (omega arith);
       };
-      totals_are = one_item (map pos k.totals) i (pos 0) (omega (arith, length-map k.totals pos, sums_long))
-          ∙ ap (λ (z : ℤ). z ∷ []) (get_or-map pos k.totals i 0 (pos 0) sums_long);
-      rows_are = one_item (map (λ xs. map pos xs) k.loads) i [] (omega (arith, length-map k.loads (λ xs. map pos xs), rows_long))
-          ∙ ap (λ (zs : List ℤ). zs ∷ []) (get_or-map (λ xs. map pos xs) k.loads i [] [] rows_long);
+      totals_are = one_item k.totals i 0 sums_long;
+      rows_are = one_item k.loads i [] rows_long;
       parts_are = one_item (map kept_part k.cuts) i 0 (omega (arith, length-map k.cuts kept_part, here))
           ∙ ap (λ (e : ℕ). e ∷ [])
           (get_or-map kept_part k.cuts i (by_set [] []) 0 here ∙ part_is_one (get_or k.cuts i (by_set [] [])) (All-get_or IsRemade k.cuts i (by_set [] []) here own));

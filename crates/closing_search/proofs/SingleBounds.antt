@@ -1,10 +1,9 @@
 -- The bound of a branch by one cut alone, and by none.
-use Rattle.std.proofs.Common.{◌≡◌, ℕ, ◌-◌, ◌*◌, ◌<◌, ◌≤◌, ℤ, pos, ◌≤ℤ◌, List, [], ◌∷◌, length, map, get_or, sum_by, All, Contains, Option, Some, None, refl, sym, ap, ap₂, subst, ◌∙◌, true≢false, arith}
+use Rattle.std.proofs.Common.{◌≡◌, ℕ, ◌-◌, ◌*◌, ◌<◌, ◌≤◌, pos, ◌≤ℤ◌, List, [], ◌∷◌, length, get_or, sum_by, All, Contains, Option, Some, None, refl, sym, ap, ap₂, subst, ◌∙◌, true≢false, arith}
 use Rattle.std.specs.List.{AllZip}
 use Rattle.std.specs.Int.{int_min}
 use Rattle.std.proofs.lemmas.Int.{ints, clamps}
-use Rattle.std.proofs.lemmas.List.{length-map}
-use Rattle.std.proofs.lemmas.List.Elements.{All-nil, All-cons, All-map, All-from_get_or, All-contains}
+use Rattle.std.proofs.lemmas.List.Elements.{All-nil, All-cons, All-from_get_or, All-contains}
 use Rattle.std.proofs.lemmas.List.Sums.{sum_by-cons}
 use Rattle.hub_spec.specs.Limits.{most_part, most_cost, most_fixed_cost}
 use Rattle.hub_spec.specs.Sums.{sum_ints}
@@ -15,16 +14,14 @@ use Rattle.hub_spec.proofs.LeastSums.{least_not_below}
 use Rattle.hub_spec.proofs.SumLemmas.{by_test}
 use Rattle.hub_spec.proofs.Sets.{is_in, is_in-yes, Contains-from_is_in}
 use Rattle.hub_spec.proofs.SetCuts.{unlisted_value}
-use Rattle.hub_model.specs.Amounts.{natural, IsNatural}
-use Rattle.hub_model.proofs.Signs.{natural-pos}
 use Rattle.leaf_bound.specs.declared.weightings.Weighting as lent
 use Rattle.leaf_bound.specs.Bounds.{Weighting}
-use Rattle.leaf_bound.specs.Numbers.{naturals, IsSumOf, AreWeightingNumbers, IsBranchBelow, weighting_of}
+use Rattle.leaf_bound.specs.Numbers.{IsSumOf, AreWeightingNumbers, IsBranchBelow, weighting_of}
 use Rattle.leaf_bound.specs.Theorems.{weight_pairs, AreLoadsOf, IsWeightingOf}
 use Rattle.leaf_bound.proofs.LeafWeights.{leaf_has_bound}
 use Rattle.p_hub.proofs.CountedBounds.{leaf_counted}
 use Rattle.search_spec.specs.States.{denominator}
-use Rattle.search_core.proofs.Weightings.{is_sum, below_size}
+use Rattle.search_core.proofs.Weightings.{below_size}
 use Rattle.closing_search.specs.SingleCuts.{AreLoads, IsOnCut, IsOnNone, bound_for, cut_bound}
 
 -- ---- the loads of a cut are within their limit, at each node
@@ -49,13 +46,6 @@ load_within p cut k is whole =
     (λ e. let outside : Contains p.candidates k → ⊥ = λ c. absurd (true≢false (sym (is_in-yes p.candidates k c) ∙ e)) in
     let none = no_loads p k cut.part (commodities p.size) cut.duals outside is.duals in omega (arith, none))
 
-pub loads_within : (p : Problem) (cut : Cut) (sum : ℕ) (loads : List ℕ) → AreLoads p cut sum loads
-    → All (λ l. l ≤ most_cost) loads
-loads_within p cut sum loads are =
-    All-from_get_or (λ (l : ℕ). l ≤ most_cost) loads 0
-    (λ k low. let node : k < p.size = omega (arith, low, are.long) in
-    omega (arith, are.are_loads k node, load_within p cut k are.is_cut are.whole))
-
 pub total_within : (p : Problem) (cut : Cut) (sum : ℕ) (loads : List ℕ) → AreLoads p cut sum loads → sum ≤ most_cost
 total_within p cut sum loads are =
     let times = ap (λ (e : ℕ). e * most_cost) are.whole in
@@ -68,11 +58,11 @@ abbrev IsFixedCost : ℕ → Type 0
 IsFixedCost cost = cost ≤ most_fixed_cost
 
 row_sums : (p : Problem) (cut : Cut) (sum : ℕ) (loads : List ℕ) → AreLoads p cut sum loads
-    → All (IsSumOf 1) (map pos loads)
+    → All (IsSumOf 1) loads
 row_sums p cut sum loads are =
-    All-map (IsSumOf 1) pos loads (All-from_get_or (λ (x : ℕ). IsSumOf 1 (pos x)) loads 0
+    All-from_get_or (IsSumOf 1) loads 0
     (λ k low. let node : k < p.size = omega (arith, low, are.long) in
-    is_sum (get_or loads k 0) (omega (arith, are.are_loads k node, load_within p cut k are.is_cut are.whole))))
+    omega (arith, are.are_loads k node, load_within p cut k are.is_cut are.whole))
 
 -- the limits of a part
 abbrev IsPart : ℕ → Type 0
@@ -88,16 +78,14 @@ cut_numbers p cut m ok on =
       few_weights = omega (arith, ap length on.weights_are, ap length ns.totals_are);
       are_parts = subst (All IsPart) (sym ns.parts_are)
           (All-cons IsPart 1 [] (omega arith, omega arith) (All-nil IsPart));
-      are_totals = rw (ns.parts_are, ns.totals_are) (is_sum ns.sum (total_within p cut ns.sum ns.loads ns.are), tt);
+      are_totals = rw (ns.parts_are, ns.totals_are) (omega (arith, total_within p cut ns.sum ns.loads ns.are), tt);
       are_loads = rw (ns.parts_are, ns.rows_are)
-          ((length-map ns.loads pos ∙ ns.are.long ∙ sym long, row_sums p cut ns.sum ns.loads ns.are), tt);
+          ((ns.are.long ∙ sym long, row_sums p cut ns.sum ns.loads ns.are), tt);
       are_fixed_costs = subst (All IsFixedCost) (sym on.fixed_are) ok.cost_limit;
-      are_weights = subst (All IsNatural) (sym on.weights_are)
-          (All-cons IsNatural (pos denominator) [] (omega (arith, ints)) (All-nil IsNatural));
       are_multiples = rw (on.weights_are, ns.parts_are) (refl, tt);
       weights_limit = rw (on.weights_are, on.denom_is) (omega arith);
-      denom_least = rw on.denom_is (omega (arith, ints));
-      denom_most = rw on.denom_is (omega (arith, ints));
+      denom_least = omega (arith, on.denom_is);
+      denom_most = omega (arith, on.denom_is);
     }
 
 pub none_numbers : (p : Problem) (m : lent.Weighting) → IsProblem p → IsOnNone p m → AreWeightingNumbers m
@@ -108,11 +96,10 @@ none_numbers p m ok on = record {
   are_totals = rw (on.parts_are, on.totals_are) tt;
   are_loads = rw (on.parts_are, on.rows_are) tt;
   are_fixed_costs = subst (All IsFixedCost) (sym on.fixed_are) ok.cost_limit;
-  are_weights = subst (All IsNatural) (sym on.weights_are) (All-nil IsNatural);
   are_multiples = rw on.weights_are tt;
   weights_limit = rw on.weights_are (omega arith);
-  denom_least = rw on.denom_is (omega (arith, ints));
-  denom_most = rw on.denom_is (omega (arith, ints));
+  denom_least = omega (arith, on.denom_is);
+  denom_most = omega (arith, on.denom_is);
 }
 
 -- ---- bounds
@@ -125,12 +112,11 @@ on_cut : (p : Problem) (cut : Cut) (m : lent.Weighting) → IsOnCut p cut m → 
 on_cut p cut m on =
     let ns = on.lent_of in
     record {
-      totals = ap naturals ns.totals_are ∙ ap (λ (x : ℕ). x ∷ []) ns.are.is_total;
-      loads = subst (λ (rows : List (List ℤ)). AllZip (AreLoadsOf p) (cut ∷ []) (map naturals rows)) (sym ns.rows_are)
-          (λ k node. ap (λ (row : List ℕ). get_or row k 0) (natural-pos ns.loads) ∙ ns.are.are_loads k node, tt);
+      totals = ns.totals_are ∙ ap (λ (x : ℕ). x ∷ []) ns.are.is_total;
+      loads = subst (AllZip (AreLoadsOf p) (cut ∷ [])) (sym ns.rows_are) (ns.are.are_loads, tt);
       fixed = λ k node. fixed_at p m.fixed.now k on.fixed_are;
       parts = ns.parts_are ∙ ap (λ (e : ℕ). e ∷ []) (sym ns.are.whole);
-      few_weights = omega (arith, length-map m.weights.now natural, ap length on.weights_are);
+      few_weights = omega (arith, ap length on.weights_are);
     }
 
 -- by the number of hubs that is wanted, if one is
@@ -140,25 +126,25 @@ leaf_has p None cuts m b any on below = leaf_has_bound p cuts m b any on below
 leaf_has p (Some n) cuts m b wanted on below = leaf_counted n p cuts m b wanted on below
 
 -- the bound by these weights, as they are lent
-lent_bound : (p : Problem) (cuts : List Cut) (m : lent.Weighting) (ws : List ℤ) (b : Branching) → IsProblem p
+lent_bound : (p : Problem) (cuts : List Cut) (m : lent.Weighting) (ws : List ℕ) (b : Branching) → IsProblem p
     → IsBranch p b → IsWeightingOf p cuts (weighting_of m) → m.weights.now ≡ ws
-    → m.denom ≡ pos denominator → bound_for p.wanted (weighting_of m) b ≡ leaf_bound p cuts denominator (weight_pairs (naturals ws)) b
+    → m.denom ≡ denominator → bound_for p.wanted (weighting_of m) b ≡ leaf_bound p cuts denominator (weight_pairs ws) b
 lent_bound p cuts m ws b ok is on weights denom =
     sym (leaf_has p p.wanted cuts (weighting_of m) b refl on (below_size p b ok is))
-    ∙ ap₂ (λ (d : ℕ) (xs : List ℤ). leaf_bound p cuts d (weight_pairs (naturals xs)) b) (ap natural denom) weights
+    ∙ ap₂ (λ (d : ℕ) (xs : List ℕ). leaf_bound p cuts d (weight_pairs xs) b) denom weights
 
 pub cut_bound_is : (p : Problem) (cut : Cut) (m : lent.Weighting) (b : Branching) → IsProblem p
     → IsBranch p b → IsOnCut p cut m → bound_for p.wanted (weighting_of m) b ≡ cut_bound p cut b
 cut_bound_is p cut m b ok is on =
-    lent_bound p (cut ∷ []) m (pos denominator ∷ []) b ok is (on_cut p cut m on) on.weights_are on.denom_is
+    lent_bound p (cut ∷ []) m (denominator ∷ []) b ok is (on_cut p cut m on) on.weights_are on.denom_is
 
 on_none : (p : Problem) (m : lent.Weighting) → IsOnNone p m → IsWeightingOf p [] (weighting_of m)
 on_none p m on = record {
-  totals = ap naturals on.totals_are;
-  loads = subst (λ (rows : List (List ℤ)). AllZip (AreLoadsOf p) [] (map naturals rows)) (sym on.rows_are) tt;
+  totals = on.totals_are;
+  loads = subst (AllZip (AreLoadsOf p) []) (sym on.rows_are) tt;
   fixed = λ k node. fixed_at p m.fixed.now k on.fixed_are;
   parts = on.parts_are;
-  few_weights = omega (arith, length-map m.weights.now natural, ap length on.weights_are);
+  few_weights = omega (arith, ap length on.weights_are);
 }
 
 pub none_bound_is : (p : Problem) (m : lent.Weighting) (b : Branching) → IsProblem p → IsBranch p b

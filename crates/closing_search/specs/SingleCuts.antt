@@ -1,5 +1,5 @@
 -- One cut alone: its sums, and the bound of a branch by it.
-use Rattle.std.specs.Prelude.{◌≡◌, ℕ, ◌<◌, ◌≤◌, ℤ, pos, ◌≤ℤ◌, List, [], ◌∷◌, map, length, slice_index, Option, Some, None, IfSome}
+use Rattle.std.specs.Prelude.{◌≡◌, ℕ, ◌<◌, ◌≤◌, ℤ, pos, ◌≤ℤ◌, List, [], ◌∷◌, length, slice_index, Option, Some, None, IfSome}
 use Rattle.hub_spec.specs.Problem.{Problem}
 use Rattle.hub_spec.specs.Plans.{IsHubSet}
 use Rattle.hub_spec.specs.Cuts.{Cut, total, load, IsCut}
@@ -22,20 +22,20 @@ pub record AreLoads (p : Problem) (cut : Cut) (sum : ℕ) (loads : List ℕ) : T
   pub are_loads : (k : ℕ) → k < p.size → slice_index loads k ≡ load cut k
 
 -- the total, the loads and the part of the cut as they are lent, each in a list of one
-pub record AreLentOf (p : Problem) (cut : Cut) (totals : List ℤ) (rows : List (List ℤ)) (parts : List ℕ) : Type 0 where
+pub record AreLentOf (p : Problem) (cut : Cut) (totals : List ℕ) (rows : List (List ℕ)) (parts : List ℕ) : Type 0 where
   pub sum : ℕ
   pub loads : List ℕ
   pub are : AreLoads p cut sum loads
-  pub totals_are : totals ≡ pos sum ∷ []
-  pub rows_are : rows ≡ map pos loads ∷ []
+  pub totals_are : totals ≡ sum ∷ []
+  pub rows_are : rows ≡ loads ∷ []
   pub parts_are : parts ≡ 1 ∷ []
 
 -- the weighting has the problem's fixed costs, and the whole weight on the cut alone
 pub record IsOnCut (p : Problem) (cut : Cut) (m : lent.Weighting) : Type 0 where
   pub lent_of : AreLentOf p cut m.totals.now (rows_of m) m.parts.now
   pub fixed_are : m.fixed.now ≡ p.fixed_costs
-  pub weights_are : m.weights.now ≡ pos denominator ∷ []
-  pub denom_is : m.denom ≡ pos denominator
+  pub weights_are : m.weights.now ≡ denominator ∷ []
+  pub denom_is : m.denom ≡ denominator
 
 -- the weighting has the problem's fixed costs, and no cut
 pub record IsOnNone (p : Problem) (m : lent.Weighting) : Type 0 where
@@ -44,7 +44,7 @@ pub record IsOnNone (p : Problem) (m : lent.Weighting) : Type 0 where
   pub parts_are : m.parts.now ≡ []
   pub fixed_are : m.fixed.now ≡ p.fixed_costs
   pub weights_are : m.weights.now ≡ []
-  pub denom_is : m.denom ≡ pos denominator
+  pub denom_is : m.denom ≡ denominator
 
 -- the bound of a branch under weights that are lent, by the number of hubs that is wanted, if one is
 abbrev pub bound_for : Option ℕ → Weighting → Branching → ℤ

@@ -15,8 +15,7 @@ ghost use Rattle.closing_search.specs.SingleCuts.{AreLoads, AreLentOf, IsOnCut, 
 use crate::progress::{Progress, goal};
 use crate::task::Task;
 use crate::walk::Walk;
-use hub_model::{Instance, signed};
-use kept_cuts::signed_row;
+use hub_model::Instance;
 use leaf_bound::{Weighting, bound, threshold};
 use p_hub::bound_p;
 use plan_model::Branch;
@@ -24,7 +23,7 @@ use search_core::WHOLE_WEIGHT;
 use std::alloc::AllocError;
 
 /// The whole weight, on one cut.
-static WHOLE: [i128; 1] = [WHOLE_WEIGHT as i128];
+static WHOLE: [u128; 1] = [WHOLE_WEIGHT];
 
 /// The part of each cut whose sums the bench works out.
 static PART: [u32; 1] = [1];
@@ -32,8 +31,8 @@ static PART: [u32; 1] = [1];
 // What the bound by one cut is made of: its numbers, each in a list of one, and the whole weight on it.
 fn cut_weighting<'a>(
     instance: &'a Instance,
-    totals: &'a [i128],
-    loads: &'a [Vec<i128>],
+    totals: &'a [u128],
+    loads: &'a [Vec<u128>],
     parts: &'a [u32],
 ) -> Weighting<'a>
     ensures { (cut : Cut) → AreLentOf instance.now cut totals.now (map (λ v. v.items) loads.now) parts.now
@@ -45,7 +44,7 @@ fn cut_weighting<'a>(
         parts,
         fixed: instance.fixed_costs(),
         weights: &WHOLE,
-        denom: WHOLE_WEIGHT as i128,
+        denom: WHOLE_WEIGHT,
     }
 }
 
@@ -60,7 +59,7 @@ fn bare_weighting<'a>(instance: &'a Instance) -> Weighting<'a>
         parts: &[],
         fixed: instance.fixed_costs(),
         weights: &[],
-        denom: WHOLE_WEIGHT as i128,
+        denom: WHOLE_WEIGHT,
     }
 }
 
@@ -118,9 +117,9 @@ impl Walk<'_> {
             IfOk result (λ yes. (cut : Cut) → AreLoads p cut total self.now.bench.loads → IsTrue yes
             → ClosesBy p cut (goal_of self.now.task.now.gap self.now.progress.cost) branch.now) }
     {
-        let row = signed_row(self.alloc, self.bench.loads())?;
+        let row = self.bench.loads().to_vec(self.alloc)?;
         let rows = vec![in self.alloc; row]?;
-        let totals = [signed(total)];
+        let totals = [total];
         let weighting = cut_weighting(self.task.instance, &totals, &rows, &PART);
         let by_cut = bound_by_number(self.task.instance, &weighting, branch);
         Ok(is_above(by_cut, goal(self.task, &self.progress)))
@@ -132,5 +131,5 @@ pub(crate) fn is_above(bound: i128, target: u128) -> bool
     requires target { target ≤ most_cost }
     ensures { IsTrue result → Closes denominator target bound }
 {
-    bound > threshold(WHOLE_WEIGHT as i128, signed(target))
+    bound > threshold(WHOLE_WEIGHT, target)
 }

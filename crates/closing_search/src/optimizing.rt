@@ -13,8 +13,8 @@ ghost use Rattle.closing_search.specs.Progressing.{AreFirstHubs, IsGoing, IsDone
 use crate::progress::{Progress, offer_nodes, target};
 use crate::task::Task;
 use crate::walker::Walker;
-use assign_sub::{assign, set_cost};
-use hub_model::{Instance, unsigned};
+use assign_sub::{assign, cost_of_set};
+use hub_model::Instance;
 use kept_cuts::{Found, KeptCuts};
 use plan_model::{Branch, HubSet, Plan};
 use search_advice::Advice;
@@ -142,7 +142,7 @@ fn bare_progress(alloc: Global, task: &Task) -> Result<Progress, AllocError>
     ensures no_stop { IfOk result (λ s. s.stopped ≡ false) }
 {
     let hubs = HubSet::of(alloc, first_hubs(task.instance))?;
-    let cost = unsigned(set_cost(task.instance, &hubs));
+    let cost = cost_of_set(task.instance, hubs.members());
     Ok(Progress {
         cuts: KeptCuts::new(alloc),
         lines: Vec::new(alloc),

@@ -14,8 +14,7 @@ ghost use Rattle.closing_search.specs.Gaps.{goal_of};
 ghost use Rattle.closing_search.specs.Progressing.{cuts_of, target_of, IsGoing, IsAt, IsDone, IsHalved};
 
 use crate::task::{MOST_GAP, Task};
-use assign_sub::{lacking, set_cost};
-use hub_model::unsigned;
+use assign_sub::{cost_of_set, lacking};
 use hub_plain::{has_wanted, is_candidate_set};
 use kept_cuts::KeptCuts;
 use plan_model::{Branch, HubSet, TreeLine};
@@ -130,7 +129,7 @@ pub(crate) fn offer_nodes(
     if lacking(task.instance, &set).is_some() {
         return Ok(());
     }
-    let cost = unsigned(set_cost(task.instance, &set));
+    let cost = cost_of_set(task.instance, set.members());
     offer(task, set, cost, progress);
     Ok(())
 }

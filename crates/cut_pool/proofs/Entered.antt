@@ -1,6 +1,5 @@
 -- The entries of a pool, and what is read of its cuts.
-use Rattle.std.proofs.Common.{⊎_elim, ◌≡◌, ◌≢◌, ℕ, ◌+◌, ◌-◌, ◌<◌, List, [], Some, None, length, map, get_or, slice_index, sym, ap, ◌∙◌, pos, Vec, Global, arith}
-use Rattle.std.specs.Prelude.{ℤ}
+use Rattle.std.proofs.Common.{⊎_elim, ◌≡◌, ◌≢◌, ℕ, ◌+◌, ◌-◌, ◌<◌, List, [], Some, None, length, map, get_or, sym, ap, ◌∙◌, Vec, Global, arith}
 use Rattle.std.proofs.lemmas.List.{length-map, get_or-map}
 use Rattle.std.proofs.lemmas.Bool.{cases_lt}
 use Rattle.kept_cuts.specs.Kept.{kept_of, kept_set}
@@ -42,33 +41,13 @@ module _ (s : Inside) (is : IsPool s) (c : ℕ) (number : IsNumber (state_of s).
         kept_there cuts s.cuts.kept.cuts (c - 1) x same place_within read
         ∙ column_at (λ e. e.cut) _ s.cuts.kept.cuts c (kept_of x) (pool_columns s is).cuts number
 
-  pub total_read : (totals : List ℤ) (d : ℤ) → totals ≡ map pos s.cuts.kept.totals
-      → get_or totals (c - 1) d ≡ pos (entry_at (state_of s).entries c).total
-  total_read totals d same =
-      ap (λ (zs : List ℤ). get_or zs (c - 1) d) same
-      ∙ get_or-map pos s.cuts.kept.totals (c - 1) 0 d (omega (arith, place_within, is.totals))
-      ∙ ap pos (column_at (λ e. e.total) _ s.cuts.kept.totals c 0 (pool_columns s is).totals number)
-
-  module _ (rows : List (Vec ℤ Global)) (v : Vec ℤ Global) (same : map (λ v. v.items) rows ≡ map (λ xs. map pos xs) s.cuts.kept.loads)
-      (read : v ≡ get_or rows (c - 1) v) where
-    pub loads_read : v.items ≡ map pos (entry_at (state_of s).entries c).loads
+  module _ (rows : List (Vec ℕ Global)) (v : Vec ℕ Global) (same : map (λ v. v.items) rows ≡ s.cuts.kept.loads) (read : v ≡ get_or rows (c - 1) v) where
+    pub loads_read : v.items ≡ (entry_at (state_of s).entries c).loads
     loads_read =
-        let within : c - 1 < length s.cuts.kept.loads = omega (arith, place_within, is.loads) in
-        let long : length rows ≡ length s.cuts.kept.loads =
-        sym (length-map rows (λ v. v.items)) ∙ ap length same ∙ length-map s.cuts.kept.loads (λ xs. map pos xs) in
-        ap (λ (w : Vec ℤ Global). w.items) read
-        ∙ sym (get_or-map (λ w. w.items) rows (c - 1) v [] (omega (arith, within, long)))
-        ∙ ap (λ (ys : List (List ℤ)). get_or ys (c - 1) []) same
-        ∙ get_or-map (λ xs. map pos xs) s.cuts.kept.loads (c - 1) [] [] within
-        ∙ ap (map pos) (column_at (λ e. e.loads) _ s.cuts.kept.loads c [] (pool_columns s is).loads number)
-
-    pub load_within : (k : ℕ) → k < length (entry_at (state_of s).entries c).loads → k < length v.items
-    load_within k below = omega (arith, below, ap length loads_read, length-map (entry_at (state_of s).entries c).loads pos)
-
-    pub load_read : (k : ℕ) (z : ℤ) → k < length (entry_at (state_of s).entries c).loads → z ≡ get_or v.items k z
-        → z ≡ pos (slice_index (entry_at (state_of s).entries c).loads k)
-    load_read k z below at =
-        at ∙ ap (λ (zs : List ℤ). get_or zs k z) loads_read ∙ get_or-map pos (entry_at (state_of s).entries c).loads k 0 z below
+        let items = λ (w : Vec ℕ Global). w.items in
+        ap items read
+        ∙ sym (get_or-map items rows (c - 1) v [] (omega (arith, place_within, is.loads, ap length same, length-map rows items)))
+        ∙ column_at (λ e. e.loads) _ (map items rows) c [] ((pool_columns s is).loads ∙ sym same) number
 
 -- ---- the cut at a place, and sets that no cut has
 

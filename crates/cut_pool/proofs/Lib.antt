@@ -6,4 +6,3 @@ pub mod Entered
 pub mod Grown
 pub mod ShortRows
 pub mod UnitSums
-pub mod GivenSums

@@ -1,14 +1,13 @@
 -- Rows of loads in 32 bits, and what is added to them.
-use Rattle.std.proofs.Common.{◌≡◌, ◌≢◌, ℕ, ◌+◌, ◌-◌, ◌/◌, ◌^◌, ◌<◌, ◌≤◌, ◌==◌, Bool, false, List, [], ◌∷◌, ◌++◌, slice_index, Option, Some, None, unwrap_or, length, map, get_or, set, pos, refl, sym, ap, ap₂, subst, ◌∙◌, ⊎_elim, Vec, Global, arith}
-use Rattle.std.specs.Prelude.{ℤ, IfSome, SomeIff}
+use Rattle.std.proofs.Common.{◌≡◌, ◌≢◌, ℕ, ◌+◌, ◌-◌, ◌/◌, ◌^◌, ◌<◌, ◌≤◌, ◌==◌, Bool, false, List, [], ◌∷◌, ◌++◌, slice_index, Option, Some, None, unwrap_or, length, map, get_or, set, refl, sym, ap, ap₂, subst, ◌∙◌, ⊎_elim, Vec, Global, arith}
+use Rattle.std.specs.Prelude.{IfSome, SomeIff}
 use Rattle.std.proofs.Math.Nat.{div-eq_of_lt, div-div-eq-div-mul, div-le_self}
 use Rattle.std.proofs.lemmas.Nat.{pow-add, pow_below}
 use Rattle.std.proofs.lemmas.Bool.{cases_lt}
 use Rattle.std.proofs.lemmas.List.{length-map, map-set, map_push, get_or-map, get_or_past, get_or-set_same, get_or-set_other, ext_get_or}
 use Rattle.std.proofs.lemmas.Bool.Decides.{nat_tests}
-use Rattle.hub_model.specs.Amounts.{natural}
 use Rattle.cut_pool.specs.Entries.{Entry}
-use Rattle.cut_pool.specs.Shorts.{Shorts, unit_row, AreShortLoads, AreShortIfKept, IsStarted, ArePushed, IsWith, IsWithCut}
+use Rattle.cut_pool.specs.Shorts.{Shorts, unit_row, AreShortLoads, AreShortIfKept, ArePushed, IsWithCut}
 use Rattle.cut_pool.proofs.Columns.{map-map}
 
 -- ---- halvings
@@ -42,14 +41,14 @@ all_halved h n old new long all each =
 -- ---- rows that are pushed to
 
 -- the first n rows have their loads more, and the others are as they were
-pub record ArePushedTo (more halvings : ℕ) (before after : List (Vec ℕ Global)) (loads : List ℤ) (n : ℕ) : Type 0 where
+pub record ArePushedTo (more halvings : ℕ) (before after : List (Vec ℕ Global)) (loads : List ℕ) (n : ℕ) : Type 0 where
   pub done : (i : ℕ) → i < n → get_or (map (λ v. v.items) after) i []
-      ≡ map (λ x. x / 2 ^ more) (get_or (map (λ v. v.items) before) i []) ++ natural (get_or loads i (pos 0)) / 2 ^ halvings ∷ []
+      ≡ map (λ x. x / 2 ^ more) (get_or (map (λ v. v.items) before) i []) ++ get_or loads i 0 / 2 ^ halvings ∷ []
   pub rest : (i : ℕ) → n ≤ i → get_or (map (λ v. v.items) after) i [] ≡ get_or (map (λ v. v.items) before) i []
 
-pub pushed_next : (more h n : ℕ) (before old : List (Vec ℕ Global)) (v w : Vec ℕ Global) (loads : List ℤ) (number : ℕ)
+pub pushed_next : (more h n : ℕ) (before old : List (Vec ℕ Global)) (v w : Vec ℕ Global) (loads : List ℕ) (number : ℕ)
     → n < length old → w ≡ get_or old n w → v.items ≡ map (λ x. x / 2 ^ more) w.items ++ number ∷ []
-    → number ≡ natural (get_or loads n (pos 0)) / 2 ^ h → ArePushedTo more h before old loads n
+    → number ≡ get_or loads n 0 / 2 ^ h → ArePushedTo more h before old loads n
     → ArePushedTo more h before (set old n v) loads (n + 1)
 pushed_next more h n before old v w loads number low at is number_is to =
     let items = λ (u : Vec ℕ Global). u.items in
@@ -58,7 +57,7 @@ pushed_next more h n before old v w loads number low at is number_is to =
     let row : w.items ≡ get_or (map items before) n [] =
     ap items at ∙ sym (get_or-map items old n w [] low) ∙ to.rest n (omega arith) in
     let here : get_or (map items (set old n v)) n []
-    ≡ map (λ x. x / 2 ^ more) (get_or (map items before) n []) ++ natural (get_or loads n (pos 0)) / 2 ^ h ∷ [] =
+    ≡ map (λ x. x / 2 ^ more) (get_or (map items before) n []) ++ get_or loads n 0 / 2 ^ h ∷ [] =
     ap (λ (rows : List (List ℕ)). get_or rows n []) put ∙ get_or-set_same (map items old) n v.items [] (omega (arith, long)) ∙ is
     ∙ ap₂ (λ (xs : List ℕ) (x : ℕ). map (λ x. x / 2 ^ more) xs ++ x ∷ []) row number_is in
     let other : (i : ℕ) → i ≢ n → get_or (map items (set old n v)) i [] ≡ get_or (map items old) i [] = λ i apart.
@@ -69,21 +68,10 @@ pushed_next more h n before old v w loads number low at is number_is to =
           (λ from. let same : n ≡ i = omega arith in
           subst
           (λ j. get_or (map items (set old n v)) j []
-          ≡ map (λ x. x / 2 ^ more) (get_or (map items before) j []) ++ natural (get_or loads j (pos 0)) / 2 ^ h ∷ []) same here)
+          ≡ map (λ x. x / 2 ^ more) (get_or (map items before) j []) ++ get_or loads j 0 / 2 ^ h ∷ []) same here)
           (cases_lt i n);
       rest = λ i past. other i (omega arith) ∙ to.rest i (omega arith);
     }
-
-pub pushed_all : (more h n : ℕ) (before after : List (Vec ℕ Global)) (loads : List ℤ) → length after ≤ n → length loads ≡ length after
-    → ArePushedTo more h before after loads n
-    → ArePushed more h (map (λ v. v.items) before) (map (λ v. v.items) after) (map natural loads)
-pushed_all more h n before after loads all long to = record {
-  row = λ k low.
-      let of_map = length-map after (λ (v : Vec ℕ Global). v.items) in
-      to.done k (omega (arith, of_map))
-      ∙ ap (λ x. map (λ x. x / 2 ^ more) (get_or (map (λ v. v.items) before) k []) ++ x / 2 ^ h ∷ [])
-      (sym (get_or-map natural loads k (pos 0) 0 (omega (arith, of_map))));
-}
 
 -- ---- rows that stand for entries
 
@@ -119,21 +107,6 @@ entries_with es e s t is_first are first later above pushed = record {
       ap (map (λ x. x / 2 ^ more)) before ∙ map-map (λ x. x / 2 ^ more) f es
       ∙ map-all (λ x. f x / 2 ^ more) g es (λ x. halved_again s.halvings more (slice_index (unit_row x) k) ∙ ap (λ n. slice_index (unit_row x) k / 2 ^ n) sum) in
       pushed.row k low ∙ ap (λ xs. xs ++ g e ∷ []) halved ∙ sym (map_push g es e);
-}
-
-pub cut_started : (kept : Option Shorts) (is_first : Bool) (s u t : Shorts) (loads : List ℕ) → kept ≡ Some s → IsStarted is_first s u
-    → IsWith u t loads → IsWithCut kept is_first t loads
-cut_started kept is_first s u t loads was started with = record {
-  s = s;
-  was_kept = was;
-  later = λ no. with.long ∙ ap length (started.later no);
-  above = omega (arith, started.halvings, with.above);
-  pushed = record {
-    row = λ k low.
-        with.pushed.row k low
-        ∙ ap₂ (λ (h : ℕ) (xs : List ℕ). map (λ x. x / 2 ^ (t.halvings - h)) xs ++ slice_index loads k / 2 ^ t.halvings ∷ []) started.halvings
-        (started.row k);
-  };
 }
 
 pub short_more : (es : List Entry) (e : Entry) (kept taken after : Option Shorts) (is_first : Bool) (loads : List ℕ) → AreShortIfKept es kept

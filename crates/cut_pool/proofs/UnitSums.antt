@@ -1,6 +1,5 @@
 -- Sums for one unit of the parts of cuts.
-use Rattle.std.proofs.Common.{◌≡◌, ℕ, ◌/◌, max, List, [], ◌∷◌, ◌++◌, Option, Some, None, unwrap_or, map, pos, All, refl, sym, ap, ap₂, ◌∙◌, arith}
-use Rattle.std.specs.Prelude.{ℤ}
+use Rattle.std.proofs.Common.{◌≡◌, ℕ, ◌/◌, max, List, [], ◌∷◌, ◌++◌, Option, Some, None, unwrap_or, map, All, refl, sym, ap, ap₂, ◌∙◌, arith}
 use Rattle.std.specs.Ordering.{nat_cmp, ord_max}
 use Rattle.std.proofs.Math.Nat.{div-one}
 use Rattle.std.proofs.lemmas.Bool.Decides.{nat_tests}
@@ -39,18 +38,15 @@ pub whole_units : (es : List Entry) (kept : KeptList) → AreColumns es kept.cut
 whole_units es kept are whole =
     let totals : kept.totals ≡ unit_totals es = sym are.totals ∙ sym (whole_totals es whole) in
     let loads : kept.loads ≡ unit_loads es = sym are.loads ∙ sym (whole_loads es whole) in
-    ap₂ (λ (ts : List ℕ) (ls : List (List ℕ)). let u : Units = record { totals = map pos ts; loads = map (map pos) ls } in u) totals loads
+    λ i. record { totals = totals i; loads = loads i }
 
 -- ---- a cut added
 
-units_push : (es : List Entry) (e : Entry) → with_unit (units_of es) (pos (e.total / entry_part e)) (map pos (unit_row e)) ≡ units_of (es ++ e ∷ [])
+units_push : (es : List Entry) (e : Entry) → with_unit (units_of es) (e.total / entry_part e) (unit_row e) ≡ units_of (es ++ e ∷ [])
 units_push es e =
-    let total = λ (e : Entry). e.total / entry_part e in
-    let totals : map pos (unit_totals es) ++ pos (total e) ∷ [] ≡ map pos (unit_totals (es ++ e ∷ [])) =
-    sym (map_push pos (unit_totals es) (total e)) ∙ ap (map pos) (sym (map_push total es e)) in
-    let loads : map (map pos) (unit_loads es) ++ map pos (unit_row e) ∷ [] ≡ map (map pos) (unit_loads (es ++ e ∷ [])) =
-    sym (map_push (map pos) (unit_loads es) (unit_row e)) ∙ ap (map (map pos)) (sym (map_push unit_row es e)) in
-    ap₂ (λ (ts : List ℤ) (ls : List (List ℤ)). let u : Units = record { totals = ts; loads = ls } in u) totals loads
+    let totals = sym (map_push (λ (e : Entry). e.total / entry_part e) es e) in
+    let loads = sym (map_push unit_row es e) in
+    λ i. record { totals = totals i; loads = loads i }
 
 all_before : (P : Entry → Type 0) (es : List Entry) (e : Entry) → All P (es ++ e ∷ []) → All P es
 all_before P [] e all = λ i d low. absurd (omega (arith, low))
@@ -70,9 +66,9 @@ needed_more : (es : List Entry) (e : Entry) (before : Option Units) → AreUnits
 needed_more es e None are first whole = first refl (all_last (λ e. entry_part e ≡ 1) es e whole)
 needed_more es e (Some u) are first whole = are.needed u refl (all_before (λ e. entry_part e ≡ 1) es e whole)
 
-pub units_more : (es : List Entry) (e : Entry) (kept : KeptList) (before after : Option Units) (part : ℕ) (total : ℤ) (loads : List ℤ)
+pub units_more : (es : List Entry) (e : Entry) (kept : KeptList) (before after : Option Units) (part total : ℕ) (loads : List ℕ)
     → AreUnitsIfKept es before → AreColumns es kept.cuts kept.totals kept.loads → IsEntered before after (whole_of kept) part total loads
-    → part ≡ entry_part e → total ≡ pos (e.total / entry_part e) → loads ≡ map pos (unit_row e) → AreUnitsIfKept (es ++ e ∷ []) after
+    → part ≡ entry_part e → total ≡ e.total / entry_part e → loads ≡ unit_row e → AreUnitsIfKept (es ++ e ∷ []) after
 units_more es e kept before after part total loads are columns entered part_is total_is loads_are = record {
   none = λ h.
       let is = entered.none h in

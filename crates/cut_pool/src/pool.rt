@@ -1,6 +1,6 @@
 //! Cuts under their numbers.
 
-ghost use Rattle.std.specs.Prelude.{◌≡◌, ℕ, ◌+◌, ◌<◌, ◌≤◌, List, [], ◌∷◌, ◌++◌, Some, length, map, pos, slice_index, IfSome, IfNone, IsOk, IfOk, OnOk, OnErr, IfErr};
+ghost use Rattle.std.specs.Prelude.{◌≡◌, ℕ, ◌+◌, ◌<◌, ◌≤◌, List, [], ◌∷◌, ◌++◌, Some, length, map, slice_index, IfSome, IfNone, IsOk, IfOk, OnOk, OnErr, IfErr};
 ghost use Rattle.hub_spec.specs.Limits.{most_nodes};
 ghost use Rattle.hub_spec.specs.Ranges.{IsCutInRange};
 ghost use Rattle.kept_cuts.specs.Kept.{kept_of, kept_set, kept_part};
@@ -246,18 +246,18 @@ impl Pool {
     }
 
     /// The total of cut `c`, in 10^-12.
-    pub fn total(&self, c: u64) -> i128
+    pub fn total(&self, c: u64) -> u128
         requires { IsNumber self.now.entries c }
-        ensures { result ≡ pos (entry_at self.now.entries c).total }
+        ensures { result ≡ (entry_at self.now.entries c).total }
     {
         self.cuts.totals()[(c - 1) as usize]
     }
 
     /// The load of node `k` in cut `c`, in 10^-12.
-    pub fn load(&self, c: u64, k: u32) -> i128
+    pub fn load(&self, c: u64, k: u32) -> u128
         requires number { IsNumber self.now.entries c }
         requires node { k < length (entry_at self.now.entries c).loads }
-        ensures { result ≡ pos (slice_index (entry_at self.now.entries c).loads k) }
+        ensures { result ≡ slice_index (entry_at self.now.entries c).loads k }
     {
         self.cuts.loads()[(c - 1) as usize][k as usize]
     }
@@ -278,22 +278,22 @@ impl Pool {
     }
 
     /// The total of each cut, in 10^-12, in the order of their numbers.
-    pub fn totals(&self) -> &[i128]
-        ensures { result.now ≡ map (λ e. pos e.total) self.now.entries }
+    pub fn totals(&self) -> &[u128]
+        ensures { result.now ≡ map (λ e. e.total) self.now.entries }
     {
         self.cuts.totals()
     }
 
     /// The loads of each cut, in 10^-12, in the order of their numbers.
-    pub fn loads(&self) -> &[Vec<i128>]
-        ensures { map (λ v. v.items) result.now ≡ map (λ e. map pos e.loads) self.now.entries }
+    pub fn loads(&self) -> &[Vec<u128>]
+        ensures { map (λ v. v.items) result.now ≡ map (λ e. e.loads) self.now.entries }
     {
         self.cuts.loads()
     }
 
     /// The total of each cut for one unit of its part, in 10^-12, rounded down, in the order of their numbers.
-    pub fn unit_totals(&self) -> &[i128]
-        ensures { result.now ≡ map pos (unit_totals self.now.entries) }
+    pub fn unit_totals(&self) -> &[u128]
+        ensures { result.now ≡ unit_totals self.now.entries }
     {
         match &self.units {
             Some(units) => units.totals(),
@@ -302,8 +302,8 @@ impl Pool {
     }
 
     /// The loads of each cut for one unit of its part, in 10^-12, rounded down, in the order of their numbers.
-    pub fn unit_loads(&self) -> &[Vec<i128>]
-        ensures { map (λ v. v.items) result.now ≡ map (map pos) (unit_loads self.now.entries) }
+    pub fn unit_loads(&self) -> &[Vec<u128>]
+        ensures { map (λ v. v.items) result.now ≡ unit_loads self.now.entries }
     {
         match &self.units {
             Some(units) => units.loads(),

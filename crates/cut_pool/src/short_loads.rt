@@ -1,10 +1,8 @@
 //! Loads in 32 bits.
 
-ghost use Rattle.std.specs.Prelude.{◌≡◌, ℕ, ◌+◌, ◌-◌, ◌/◌, ◌^◌, ◌<◌, ◌≤◌, ◌++◌, ◌∷◌, [], false, Option, Some, length, map, pos, slice_index, slice_index_or, All, IfSome, OnOk};
-ghost use Rattle.hub_model.specs.Amounts.{natural, IsNatural};
+ghost use Rattle.std.specs.Prelude.{◌≡◌, ℕ, ◌+◌, ◌-◌, ◌/◌, ◌^◌, ◌<◌, ◌≤◌, ◌++◌, ◌∷◌, [], false, Option, Some, length, map, slice_index, slice_index_or, IfSome, OnOk};
 ghost use Rattle.cut_pool.specs.Shorts.{Shorts, IsRaised, IsStarted, ArePushed, IsWith, IsWithCut};
 
-use hub_model::unsigned;
 use std::alloc::{AllocError, Global};
 use std::marker::Model;
 
@@ -85,10 +83,9 @@ impl ShortLoads {
     }
 
     // Adds the loads of a cut, one to each row, and first halves all rows as often as it takes.
-    fn push(&mut self, loads: &[i128]) -> Result<(), AllocError>
-        requires loads { All IsNatural loads.now }
-        requires long { length loads.now ≡ length self.old.rows }
-        ensures { OnOk result (IsWith self.old self.new (map natural loads.now)) }
+    fn push(&mut self, loads: &[u128]) -> Result<(), AllocError>
+        requires { length loads.now ≡ length self.old.rows }
+        ensures { OnOk result (IsWith self.old self.new loads.now) }
     {
         let halvings = halvings_for(loads, self.halvings);
         push_each(&mut self.rows, halvings - self.halvings, loads, halvings)?;
@@ -113,10 +110,9 @@ pub(crate) fn reserve_kept(kept: &mut Option<ShortLoads>, cuts: usize) -> Result
 pub(crate) fn with_cut(
     kept: Option<ShortLoads>,
     is_first: bool,
-    loads: &[i128],
+    loads: &[u128],
 ) -> Option<ShortLoads>
-    requires { All IsNatural loads.now }
-    ensures { IfSome result (λ t. IsWithCut kept is_first t (map natural loads.now)) }
+    ensures { IfSome result (λ t. IsWithCut kept is_first t loads.now) }
 {
     let mut short = started(kept?, is_first, loads.len())?;
     if short.rows.len() != loads.len() {
@@ -143,16 +139,15 @@ fn started(short: ShortLoads, is_first: bool, rows: usize) -> Option<ShortLoads>
 }
 
 // The least number of halvings, from this one on, after which each load fits 31 bits.
-fn halvings_for(loads: &[i128], least: u32) -> u32
-    requires loads { All IsNatural loads.now }
-    requires few { least ≤ 97 }
+fn halvings_for(loads: &[u128], least: u32) -> u32
+    requires { least ≤ 97 }
     ensures few { result ≤ 97 }
     ensures least { least ≤ result }
-    ensures fit { (k : ℕ) → k < length loads.now → natural (slice_index_or loads.now k (pos 0)) / 2 ^ result < 2 ^ 31 }
+    ensures fit { (k : ℕ) → k < length loads.now → slice_index_or loads.now k 0 / 2 ^ result < 2 ^ 31 }
 {
     let mut halvings = least;
     for load in loads {
-        halvings = halvings_of(unsigned(*load), halvings);
+        halvings = halvings_of(*load, halvings);
     }
     halvings
 }
@@ -171,27 +166,25 @@ fn halvings_of(load: u128, least: u32) -> u32
 }
 
 // The load after so many halvings.
-fn short(load: i128, halvings: u32) -> u32
-    requires low { IsNatural load }
+fn short(load: u128, halvings: u32) -> u32
     requires few { halvings ≤ 97 }
-    requires fits { natural load / 2 ^ halvings < 2 ^ 31 }
-    ensures { result ≡ natural load / 2 ^ halvings }
+    requires fits { load / 2 ^ halvings < 2 ^ 31 }
+    ensures { result ≡ load / 2 ^ halvings }
 {
-    (unsigned(load) >> halvings) as u32
+    (load >> halvings) as u32
 }
 
 // Halves each row's numbers `more` times, and adds the load of its node after all halvings.
 fn push_each(
     rows: &mut [Vec<u32>],
     more: u32,
-    loads: &[i128],
+    loads: &[u128],
     halvings: u32,
 ) -> Result<(), AllocError>
     requires long { length loads.now ≡ length rows.old }
-    requires low { All IsNatural loads.now }
     requires few { halvings ≤ 97 }
-    requires fit { (k : ℕ) → k < length loads.now → natural (slice_index_or loads.now k (pos 0)) / 2 ^ halvings < 2 ^ 31 }
-    ensures { OnOk result (ArePushed more halvings (map (λ v. v.items) rows.old) (map (λ v. v.items) rows.new) (map natural loads.now)) }
+    requires fit { (k : ℕ) → k < length loads.now → slice_index_or loads.now k 0 / 2 ^ halvings < 2 ^ 31 }
+    ensures { OnOk result (ArePushed more halvings (map (λ v. v.items) rows.old) (map (λ v. v.items) rows.new) loads.now) }
 {
     for k in 0..loads.len() {
         push_halved(&mut rows[k], more, short(loads[k], halvings))?;

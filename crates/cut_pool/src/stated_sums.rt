@@ -7,8 +7,6 @@ ghost use Rattle.hub_spec.specs.Ranges.{IsCutInRange};
 ghost use Rattle.kept_cuts.specs.Kept.{node_loads};
 
 use crate::unit_columns::{most_per_unit, per_unit};
-use hub_model::signed;
-use kept_cuts::signed_row;
 use stated_cuts::StatedCut;
 use std::alloc::{AllocError, Global};
 use std::marker::Model;
@@ -19,13 +17,13 @@ pub(crate) struct StatedSums {
     /// The part of the cut.
     pub(crate) part: u32,
     /// Its total.
-    pub(crate) total: i128,
+    pub(crate) total: u128,
     /// Its load of each node.
-    pub(crate) loads: Vec<i128>,
+    pub(crate) loads: Vec<u128>,
     /// The total for one unit of the part, rounded down.
-    pub(crate) unit_total: i128,
+    pub(crate) unit_total: u128,
     /// The load of each node for one unit of the part, rounded down.
-    pub(crate) unit_loads: Vec<i128>,
+    pub(crate) unit_loads: Vec<u128>,
     /// The greatest of these, 0 for none.
     pub(crate) most: u128,
 }
@@ -51,13 +49,15 @@ impl StatedSums {
         let part = cut.part();
         let total = cut.total();
         let loads = cut.loads(alloc, size)?;
+        let unit_loads = per_unit(alloc, part, &loads)?;
+        let most = most_per_unit(part, &loads);
         Ok(StatedSums {
             part,
-            total: signed(total),
-            loads: signed_row(alloc, &loads)?,
-            unit_total: signed(total / u128::from(part)),
-            unit_loads: per_unit(alloc, part, &loads)?,
-            most: most_per_unit(part, &loads),
+            total,
+            loads,
+            unit_total: total / u128::from(part),
+            unit_loads,
+            most,
         })
     }
 }

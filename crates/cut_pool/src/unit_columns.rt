@@ -1,10 +1,9 @@
 //! Totals and loads for one unit of the parts of cuts.
 
-ghost use Rattle.std.specs.Prelude.{◌≡◌, ℕ, ◌/◌, ◌^◌, ◌<◌, ◌≤◌, false, None, is_some, map, pos, All, IsOk, IfOk, OnOk, OnErr};
+ghost use Rattle.std.specs.Prelude.{◌≡◌, ℕ, ◌/◌, ◌≤◌, false, None, is_some, map, IsOk, IfOk, OnOk, OnErr};
 ghost use Rattle.cut_pool.specs.Entries.{most_unit};
 ghost use Rattle.cut_pool.specs.Units.{with_unit, whole_of, IsEntered};
 
-use hub_model::signed;
 use kept_cuts::CutStore;
 use std::alloc::{AllocError, Global};
 use std::marker::Model;
@@ -12,8 +11,8 @@ use std::marker::Model;
 /// The total of each cut and its load of each node for one unit of the cut's part, in 10^-12, rounded down.
 #[derive(Drop)]
 pub(crate) struct UnitColumns {
-    totals: Vec<i128>,
-    loads: Vec<Vec<i128>>,
+    totals: Vec<u128>,
+    loads: Vec<Vec<u128>>,
 }
 
 impl Model for UnitColumns {
@@ -37,21 +36,21 @@ impl UnitColumns {
     }
 
     /// The totals.
-    pub(crate) fn totals(&self) -> &[i128]
+    pub(crate) fn totals(&self) -> &[u128]
         ensures { result.now ≡ self.now.totals }
     {
         &self.totals
     }
 
     /// The loads.
-    pub(crate) fn loads(&self) -> &[Vec<i128>]
+    pub(crate) fn loads(&self) -> &[Vec<u128>]
         ensures { map (λ v. v.items) result.now ≡ self.now.loads }
     {
         &self.loads
     }
 
     // Adds the total and the loads of a cut. Where memory runs out nothing is added.
-    fn push(&mut self, total: i128, loads: Vec<i128>) -> Result<(), AllocError>
+    fn push(&mut self, total: u128, loads: Vec<u128>) -> Result<(), AllocError>
         ensures added { OnOk result (self.new ≡ with_unit self.old total loads.items) }
         ensures refused { OnErr result (self.new ≡ self.old) }
     {
@@ -64,7 +63,7 @@ impl UnitColumns {
 }
 
 // The rows, copied.
-fn copied(alloc: Global, rows: &[Vec<i128>]) -> Result<Vec<Vec<i128>>, AllocError>
+fn copied(alloc: Global, rows: &[Vec<u128>]) -> Result<Vec<Vec<u128>>, AllocError>
     ensures { IfOk result (λ copies. map (λ v. v.items) copies.items ≡ map (λ v. v.items) rows.now) }
 {
     let mut copies = Vec::with_capacity(alloc, rows.len())?;
@@ -83,8 +82,8 @@ pub(crate) fn enter(
     kept: &mut Option<UnitColumns>,
     store: &CutStore,
     part: u32,
-    total: i128,
-    loads: &[i128],
+    total: u128,
+    loads: &[u128],
 ) -> Result<(), AllocError>
     ensures entered { OnOk result (IsEntered kept.old kept.new (whole_of store.now.kept) part total loads.now) }
     ensures succeeds { part ≡ 1 → kept.old ≡ None → IsOk result }
@@ -103,14 +102,13 @@ pub(crate) fn enter(
 }
 
 /// The loads for one unit of the part, rounded down.
-pub(crate) fn per_unit(alloc: Global, part: u32, loads: &[u128]) -> Result<Vec<i128>, AllocError>
-    requires part { 1 ≤ part }
-    requires loads { All (λ u. u < 2 ^ 127) loads.now }
-    ensures { IfOk result (λ units. units.items ≡ map pos (map (λ u. u / part) loads.now)) }
+pub(crate) fn per_unit(alloc: Global, part: u32, loads: &[u128]) -> Result<Vec<u128>, AllocError>
+    requires { 1 ≤ part }
+    ensures { IfOk result (λ units. units.items ≡ map (λ u. u / part) loads.now) }
 {
     let mut units = Vec::with_capacity(alloc, loads.len())?;
     for load in loads {
-        units.push(signed(*load / u128::from(part)))?;
+        units.push(*load / u128::from(part))?;
     }
     Ok(units)
 }

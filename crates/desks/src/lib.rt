@@ -5,8 +5,9 @@
 //! whoever hears it knows as much, and nothing of when or by whom it was told. An item may be lost where too many lie between
 //! two desks, so a listener has to get on without.
 //!
-//! Several who do the same can share its turns over their desks, as [`Partner`]s: a turn is worked out by one of them, who
-//! drew its number, and heard by the others. No proof rests on who draws what.
+//! Several who do the same can share its turns over their desks, as [`Partner`]s: each draws a number, works out the turn that
+//! this number stands for among them, and tells it to the others, who hear it. Which turn a number stands for is theirs to
+//! settle, and no proof rests on who draws what.
 //!
 //! In the order of reading: `telling` (what may be told), `posts` (what lies between two desks), `places` (the desks), `tickets`
 //! (the numbers of turns) and `partners` (who share turns).

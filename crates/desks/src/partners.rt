@@ -12,7 +12,7 @@ use std::marker::Model;
 use std::sync::Arc;
 use std::thread::yield_now;
 
-// How often a partner looks for a turn that another has drawn.
+// How often a partner looks for a turn that another works out.
 const MOST_LOOKS: u32 = 1 << 24;
 
 // After so many looks a partner lets another thread run.
@@ -27,7 +27,7 @@ pub struct Partner<'t, K: Drop, T: Told<K> + Drop> {
     desk: Desk<K, T>,
     // What was told and not used yet, its own among it.
     kept: Vec<Arc<T, Global>>,
-    // The turn that it has drawn.
+    // The number that it has drawn.
     ticket: u64,
 }
 
@@ -43,7 +43,7 @@ impl<'t, K: Drop, T: Told<K> + Drop> Model for Partner<'t, K, T> {
 }
 
 impl<'t, K: Copy + Drop, T: Told<K> + Drop> Partner<'t, K, T> {
-    /// The partner at this desk, with a first turn drawn.
+    /// The partner at this desk, with a first number drawn.
     pub fn new(alloc: Global, tickets: &'t Tickets, desk: Desk<K, T>) -> Partner<'t, K, T>
         ensures { result ≡ desk }
     {
@@ -55,12 +55,12 @@ impl<'t, K: Copy + Drop, T: Told<K> + Drop> Partner<'t, K, T> {
         }
     }
 
-    /// The turn that it has drawn and is to tell.
+    /// The number that it has drawn: the turn that this stands for among the partners is for it to work out and to tell.
     pub fn ticket(&self) -> u64 {
         self.ticket
     }
 
-    /// Tells what the turn that it has drawn came to, and draws another.
+    /// Tells what a turn came to that it worked out, and draws another number.
     pub fn tell(&mut self, alloc: Global, told: T) -> Result<(), AllocError>
         requires holds { T.holds self.old told }
         ensures { self.new ≡ self.old }

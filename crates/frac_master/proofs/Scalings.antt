@@ -1,18 +1,16 @@
 -- How often numbers are halved, and what is small then.
-use Rattle.std.proofs.Common.{◌≡◌, ℕ, zero, suc, ◌/◌, ◌^◌, ◌<◌, ◌≤◌, false, List, [], ◌∷◌, ◌++◌, map, get_or, max, not, All, ℤ, Vec, Global, refl, sym, ap, ◌∙◌, ⊎_elim, arith}
+use Rattle.std.proofs.Common.{◌≡◌, ℕ, zero, suc, ◌/◌, ◌^◌, ◌<◌, ◌≤◌, false, List, [], ◌∷◌, ◌++◌, get_or, max, not, All, refl, sym, ap, ◌∙◌, ⊎_elim, arith}
 use Rattle.std.specs.Prelude.{fold, nat_le, slice_index}
 use Rattle.std.specs.List.{flat_map, range_with_len, position_or_len}
 use Rattle.std.proofs.Math.Nat.{le-max_left, le-max_right, le-div_iff_mul-le, div-eq_of_lt, pow-suc}
 use Rattle.std.proofs.lemmas.Nat.{pow_pos}
 use Rattle.std.proofs.lemmas.Bool.{leb-true, cases_lt}
 use Rattle.std.proofs.lemmas.Bool.Decides.{nat_tests}
-use Rattle.std.proofs.lemmas.List.{map-append}
 use Rattle.std.proofs.lemmas.List.Elements.{All-nil, All-cons, All-head, All-tail, All-append, All-map, All-weaker}
 use Rattle.std.proofs.lemmas.List.Sums.{fold-append, position_or_len_is, fails_before_first, passes_at_first, prefix_len-le-length}
 use Rattle.std.proofs.lemmas.List.FromFn.{length-range_with_len, get_or-range_with_len}
 use Rattle.hub_spec.specs.Problem.{greatest}
 use Rattle.hub_spec.specs.Trees.{Branching}
-use Rattle.hub_model.specs.Amounts.{natural}
 use Rattle.frac_master.specs.Masters.{MasterNumbers, AreWithinTotals, master_of, candidates_of, at_nodes, greatest_number, most_scaled, halved, halvings}
 use Rattle.frac_master.specs.Theorems.{AreHalvings, LeastHalvings}
 use Rattle.frac_master.specs.Scaled.{AreSmallAt, AreScaled}
@@ -45,35 +43,15 @@ loads_below m b =
     All-weaker (λ row. All (λ x. x ≤ g) (at_nodes nodes row)) (λ row. All (λ k. slice_index row k ≤ g) nodes)
     (λ row all. all_mapped (λ x. x ≤ g) (slice_index row) nodes all) m.loads (all_parts (λ x. x ≤ g) (at_nodes nodes) m.loads low)
 
--- node by node, as the code goes
-pub fold_candidates : (most : ℕ) (b : Branching) (row : List ℕ)
-    → fold max most (at_nodes (candidates_of b) row)
-    ≡ fold max (fold max (fold max most (at_nodes b.inside row)) (at_nodes b.outside row)) (at_nodes b.free row)
-fold_candidates most b row =
-    let f = slice_index row in
-    ap (fold max most) (map-append f b.inside (b.outside ++ b.free) ∙ ap (λ ys. map f b.inside ++ ys) (map-append f b.outside b.free))
-    ∙ fold-append max most (map f b.inside) (map f b.outside ++ map f b.free)
-    ∙ fold-append max (fold max most (map f b.inside)) (map f b.outside) (map f b.free)
-
-parts_of_rows : (f : List ℕ → List ℕ) (loads : List (Vec ℤ Global))
-    → flat_map f (map (map natural) (map (λ (v : Vec ℤ Global). v.items) loads)) ≡ flat_map (λ (v : Vec ℤ Global). f (map natural v.items)) loads
-parts_of_rows f [] = refl
-parts_of_rows f (v ∷ loads) = ap (λ ys. f (map natural v.items) ++ ys) (parts_of_rows f loads)
-
-pub greatest_by : (totals : List ℤ) (fixed : List ℕ) (loads : List (Vec ℤ Global)) (b : Branching) (most result : ℕ)
-    → most ≡ fold max 0 (map natural totals ++ flat_map (λ (v : Vec ℤ Global). at_nodes (candidates_of b) (map natural v.items)) loads)
-    → result ≡ fold max most (at_nodes (candidates_of b) fixed)
-    → result ≡ greatest_number (master_of totals (map (λ (v : Vec ℤ Global). v.items) loads) fixed) b
+pub greatest_by : (totals fixed : List ℕ) (loads : List (List ℕ)) (b : Branching) (most result : ℕ)
+    → most ≡ fold max 0 (totals ++ flat_map (at_nodes (candidates_of b)) loads) → result ≡ fold max most (at_nodes (candidates_of b) fixed)
+    → result ≡ greatest_number (master_of totals loads fixed) b
 unfolding greatest_number greatest
 greatest_by totals fixed loads b most result most_is result_is =
-    let nodes = candidates_of b in
-    let m = master_of totals (map (λ (v : Vec ℤ Global). v.items) loads) fixed in
-    let of_fixed = at_nodes nodes m.fixed in
-    let of_loads = flat_map (at_nodes nodes) m.loads in
-    result_is
-    ∙ ap (λ n. fold max n of_fixed)
-    (most_is ∙ ap (λ ys. fold max 0 (m.totals ++ ys)) (sym (parts_of_rows (at_nodes nodes) loads)) ∙ fold-append max 0 m.totals of_loads)
-    ∙ sym (fold-append max (fold max 0 m.totals) of_loads of_fixed) ∙ sym (fold-append max 0 m.totals (of_loads ++ of_fixed))
+    let of_fixed = at_nodes (candidates_of b) fixed in
+    let of_loads = flat_map (at_nodes (candidates_of b)) loads in
+    result_is ∙ ap (λ n. fold max n of_fixed) (most_is ∙ fold-append max 0 totals of_loads)
+    ∙ sym (fold-append max (fold max 0 totals) of_loads of_fixed) ∙ sym (fold-append max 0 totals (of_loads ++ of_fixed))
 
 -- ---- the greatest where no load is above both its cut's total and a number
 
@@ -93,45 +71,34 @@ row_within : (a : ℕ) (nodes row : List ℕ) → All (λ x. x ≤ a) row → Al
 row_within a nodes row within =
     All-map (λ x. x ≤ a) (slice_index row) nodes (λ k d l. get_within a row (get_or nodes k d) within)
 
-mapped_within : (a : ℕ) (xs : List ℤ) → All (λ x. natural x ≤ a) xs → All (λ x. x ≤ a) (map natural xs)
-mapped_within a [] within = All-nil (λ x. x ≤ a)
-mapped_within a (x ∷ xs) within =
-    All-cons (λ y. y ≤ a) (natural x) (map natural xs) (All-head (λ y. natural y ≤ a) x xs within)
-    (mapped_within a xs (All-tail (λ y. natural y ≤ a) x xs within))
-
-rows_within : (a c : ℕ) (nodes : List ℕ) (totals : List ℤ) (loads : List (Vec ℤ Global))
-    → AreWithinTotals c totals (map (λ (v : Vec ℤ Global). v.items) loads) → c ≤ a → All (λ x. x ≤ a) (map natural totals)
-    → All (λ x. x ≤ a) (flat_map (λ (v : Vec ℤ Global). at_nodes nodes (map natural v.items)) loads)
+rows_within : (a c : ℕ) (nodes totals : List ℕ) (loads : List (List ℕ)) → AreWithinTotals c totals loads → c ≤ a → All (λ x. x ≤ a) totals
+    → All (λ x. x ≤ a) (flat_map (at_nodes nodes) loads)
 rows_within a c nodes [] [] within top low = All-nil (λ x. x ≤ a)
-rows_within a c nodes [] (v ∷ loads) within top low = absurd within
+rows_within a c nodes [] (row ∷ loads) within top low = absurd within
 rows_within a c nodes (t ∷ totals) [] within top low = absurd within
-rows_within a c nodes (t ∷ totals) (v ∷ loads) within top low =
-    let total = All-head (λ x. x ≤ a) (natural t) (map natural totals) low in
-    let row : All (λ x. natural x ≤ a) v.items =
-    All-weaker (λ x. natural x ≤ max (natural t) c) (λ x. natural x ≤ a) (λ x le. omega (arith, le, total, top)) v.items within.0 in
-    All-append (λ x. x ≤ a) (at_nodes nodes (map natural v.items)) (flat_map (λ (v : Vec ℤ Global). at_nodes nodes (map natural v.items)) loads)
-    (row_within a nodes (map natural v.items) (mapped_within a v.items row))
-    (rows_within a c nodes totals loads within.1 top (All-tail (λ x. x ≤ a) (natural t) (map natural totals) low))
+rows_within a c nodes (t ∷ totals) (row ∷ loads) within top low =
+    let total = All-head (λ x. x ≤ a) t totals low in
+    All-append (λ x. x ≤ a) (at_nodes nodes row) (flat_map (at_nodes nodes) loads)
+    (row_within a nodes row (All-weaker (λ x. x ≤ max t c) (λ x. x ≤ a) (λ x le. omega (arith, le, total, top)) row within.0))
+    (rows_within a c nodes totals loads within.1 top (All-tail (λ x. x ≤ a) t totals low))
 
 -- folds of max, with more at the start
 fold_from : (a c : ℕ) (xs : List ℕ) → fold max (max a c) xs ≡ max (fold max a xs) c
 fold_from a c [] = refl
 fold_from a c (x ∷ xs) = let same : max (max a c) x ≡ max (max a x) c = omega arith in ap (λ n. fold max n xs) same ∙ fold_from (max a x) c xs
 
-pub greatest_within : (totals : List ℤ) (fixed : List ℕ) (loads : List (Vec ℤ Global)) (b : Branching) (c most result : ℕ)
-    → AreWithinTotals c totals (map (λ (v : Vec ℤ Global). v.items) loads)
-    → c ≤ greatest_number (master_of totals (map (λ (v : Vec ℤ Global). v.items) loads) fixed) b
-    → most ≡ fold max 0 (map natural totals) → result ≡ fold max most (at_nodes (candidates_of b) fixed)
-    → max result c ≡ greatest_number (master_of totals (map (λ (v : Vec ℤ Global). v.items) loads) fixed) b
+pub greatest_within : (totals fixed : List ℕ) (loads : List (List ℕ)) (b : Branching) (c most result : ℕ)
+    → AreWithinTotals c totals loads → c ≤ greatest_number (master_of totals loads fixed) b
+    → most ≡ fold max 0 totals → result ≡ fold max most (at_nodes (candidates_of b) fixed)
+    → max result c ≡ greatest_number (master_of totals loads fixed) b
 greatest_within totals fixed loads b c most result within reached most_is result_is =
-    let of_totals = map natural totals in
     let of_fixed = at_nodes (candidates_of b) fixed in
-    let of_loads = flat_map (λ (v : Vec ℤ Global). at_nodes (candidates_of b) (map natural v.items)) loads in
-    let top = fold max 0 of_totals in
+    let of_loads = flat_map (at_nodes (candidates_of b)) loads in
+    let top = fold max 0 totals in
     let high = max top c in
-    let lows : All (λ x. x ≤ high) of_totals = All-weaker (λ x. x ≤ top) (λ x. x ≤ high) (λ x le. omega (arith, le)) of_totals (fold_max 0 of_totals).1 in
+    let lows : All (λ x. x ≤ high) totals = All-weaker (λ x. x ≤ top) (λ x. x ≤ high) (λ x le. omega (arith, le)) totals (fold_max 0 totals).1 in
     let below = rows_within high c (candidates_of b) totals loads within (omega arith) lows in
-    let whole = greatest_by totals fixed loads b (fold max top of_loads) (fold max (fold max top of_loads) of_fixed) (sym (fold-append max 0 of_totals of_loads)) refl in
+    let whole = greatest_by totals fixed loads b (fold max top of_loads) (fold max (fold max top of_loads) of_fixed) (sym (fold-append max 0 totals of_loads)) refl in
     let with_loads : max (fold max top of_loads) c ≡ high = sym (fold_from top c of_loads) ∙ fold_within high of_loads below in
     let same : max result c ≡ max (fold max (fold max top of_loads) of_fixed) c =
     ap (λ n. max n c) (result_is ∙ ap (λ n. fold max n of_fixed) most_is)

@@ -3,7 +3,6 @@ use Rattle.std.specs.Prelude.{◌≡◌, ℕ, ◌+◌, ◌/◌, ◌^◌, ◌==�
 use Rattle.std.specs.List.{range_with_len, flat_map, position_or_len, AllZip}
 use Rattle.hub_spec.specs.Problem.{greatest}
 use Rattle.hub_spec.specs.Trees.{Branching}
-use Rattle.hub_model.specs.Amounts.{natural, IsNatural}
 use Rattle.frac_rows.specs.Rows.{Table}
 use Rattle.frac_rows.specs.Starts.{start}
 
@@ -15,29 +14,26 @@ pub record MasterNumbers : Type 0 where
   pub loads : List (List ℕ)
   pub fixed : List ℕ
 
--- the numbers of a master, of which totals and loads come as signed ones
-abbrev pub master_of : List ℤ → List (List ℤ) → List ℕ → MasterNumbers
-master_of totals loads fixed =
-    record { totals = map natural totals; loads = map (map natural) loads; fixed = fixed }
+-- the numbers of a master
+abbrev pub master_of : List ℕ → List (List ℕ) → List ℕ → MasterNumbers
+master_of totals loads fixed = record { totals = totals; loads = loads; fixed = fixed }
 
--- each cut has a load of each node, and no number is below 0
-pub record AreMasterNumbers (totals : List ℤ) (loads : List (List ℤ)) (fixed : List ℕ) : Type 0 where
+-- each cut has a load of each node
+pub record AreMasterNumbers (totals : List ℕ) (loads : List (List ℕ)) (fixed : List ℕ) : Type 0 where
   pub one_each : length loads ≡ length totals
   pub as_long : All (λ row. length row ≡ length fixed) loads
-  pub totals_low : All IsNatural totals
-  pub loads_low : All (λ row. All IsNatural row) loads
 
 -- the number after h halvings, each of them rounded down
 abbrev pub halved : ℕ → ℕ → ℕ
 halved h x = x / 2 ^ h
 
 -- no load is above both its cut's total and this number
-abbrev pub AreWithinTotals : ℕ → List ℤ → List (List ℤ) → Type 0
-AreWithinTotals most totals loads = AllZip (λ total row. All (λ x. natural x ≤ max (natural total) most) row) totals loads
+abbrev pub AreWithinTotals : ℕ → List ℕ → List (List ℕ) → Type 0
+AreWithinTotals most totals loads = AllZip (λ total row. All (λ x. x ≤ max total most) row) totals loads
 
 -- the row of each node has the cuts' loads of it, halved h times
-pub record AreShortRows (h : ℕ) (rows : List (List ℕ)) (loads : List (List ℤ)) : Type 0 where
-  pub row : (k : ℕ) → k < length rows → slice_index_or rows k [] ≡ map (λ load. halved h (slice_index (map natural load) k)) loads
+pub record AreShortRows (h : ℕ) (rows loads : List (List ℕ)) : Type 0 where
+  pub row : (k : ℕ) → k < length rows → slice_index_or rows k [] ≡ map (λ load. halved h (slice_index load k)) loads
 
 -- the nodes that the branch speaks of
 abbrev pub candidates_of : Branching → List ℕ

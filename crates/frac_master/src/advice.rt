@@ -15,8 +15,8 @@ use std::alloc::{AllocError, Global};
 /// What the last table of a master's run advises.
 #[derive(Clone, Drop)]
 pub struct Advice {
-    /// The weight of each cut, in 10^-6 and rounded down; they are not below 0, and at most 10^6 together.
-    pub weights: Vec<i128>,
+    /// The weight of each cut, in 10^-6 and rounded down; they are at most 10^6 together.
+    pub weights: Vec<u128>,
     /// For each node how much of it the mixture would open, where `scale` stands for the whole of it.
     pub point: Vec<i128>,
     /// The number of the point that stands for 1.
@@ -32,8 +32,8 @@ pub struct Advice {
 /// Where memory runs out, and where the master is beyond what `Rows` can hold, the answer is `AllocError`.
 pub fn advise(
     alloc: Global,
-    totals: &[i128],
-    loads: &[Vec<i128>],
+    totals: &[u128],
+    loads: &[Vec<u128>],
     fixed: &[u128],
     branch: &Branch,
 ) -> Result<Advice, AllocError>
@@ -54,8 +54,8 @@ pub fn advise(
 /// the master is made from them, and else from `loads`: the advice is the same.
 pub fn advise_by_totals(
     alloc: Global,
-    totals: &[i128],
-    loads: &[Vec<i128>],
+    totals: &[u128],
+    loads: &[Vec<u128>],
     short: Option<ShortRows<'_>>,
     most_load: u128,
     fixed: &[u128],
@@ -77,8 +77,8 @@ pub fn advise_by_totals(
 // The same, where the greatest number is known.
 fn advise_under(
     alloc: Global,
-    totals: &[i128],
-    loads: &[Vec<i128>],
+    totals: &[u128],
+    loads: &[Vec<u128>],
     short: Option<ShortRows<'_>>,
     fixed: &[u128],
     branch: &Branch,

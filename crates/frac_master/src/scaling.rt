@@ -1,10 +1,8 @@
 //! How often the numbers of a master are halved.
 
 ghost use Rattle.std.specs.Prelude.{◌≡◌, ◌<◌, ◌≤◌, length, map, fold, max, All};
-ghost use Rattle.hub_model.specs.Amounts.{natural, IsNatural};
 ghost use Rattle.frac_master.specs.Masters.{AreMasterNumbers, AreWithinTotals, master_of, candidates_of, at_nodes, greatest_number, most_scaled, halved, halvings};
 
-use hub_model::unsigned;
 use plan_model::Branch;
 
 /// The greatest scaled number.
@@ -12,8 +10,8 @@ const MOST_SCALED: u128 = 4095;
 
 /// The greatest among all totals, all loads of candidates and all fixed costs of candidates.
 pub(crate) fn greatest_number(
-    totals: &[i128],
-    loads: &[Vec<i128>],
+    totals: &[u128],
+    loads: &[Vec<u128>],
     fixed: &[u128],
     branch: &Branch,
 ) -> u128
@@ -23,18 +21,18 @@ pub(crate) fn greatest_number(
 {
     let mut most = 0;
     for total in totals {
-        most = unsigned(*total).max(most);
+        most = (*total).max(most);
     }
     for row in loads {
         most = greatest_of_candidates(most, row, branch);
     }
-    greatest_cost(most, fixed, branch)
+    greatest_of_candidates(most, fixed, branch)
 }
 
 /// The same where no load is above both its cut's total and this number, so that the loads are not looked at.
 pub(crate) fn greatest_by_totals(
-    totals: &[i128],
-    loads: &[Vec<i128>],
+    totals: &[u128],
+    loads: &[Vec<u128>],
     most_load: u128,
     fixed: &[u128],
     branch: &Branch,
@@ -47,51 +45,28 @@ pub(crate) fn greatest_by_totals(
 {
     let mut most = 0;
     for total in totals {
-        most = unsigned(*total).max(most);
+        most = (*total).max(most);
     }
-    greatest_cost(most, fixed, branch).max(most_load)
-}
-
-// The greatest of this number and the candidates' fixed costs.
-fn greatest_cost(most: u128, fixed: &[u128], branch: &Branch) -> u128
-    requires { All (λ k. k < length fixed.now) (candidates_of branch.now) }
-    ensures { result ≡ fold max most (at_nodes (candidates_of branch.now) fixed.now) }
-{
-    let most = greatest_cost_of(most, fixed, branch.inside());
-    let most = greatest_cost_of(most, fixed, branch.outside());
-    greatest_cost_of(most, fixed, branch.free())
-}
-
-fn greatest_cost_of(most: u128, fixed: &[u128], nodes: &[u32]) -> u128
-    requires { All (λ k. k < length fixed.now) nodes.now }
-    ensures { result ≡ fold max most (at_nodes nodes.now fixed.now) }
-{
-    let mut greatest = most;
-    for k in nodes {
-        greatest = greatest.max(fixed[*k as usize]);
-    }
-    greatest
+    greatest_of_candidates(most, fixed, branch).max(most_load)
 }
 
 // The greatest of this number and the candidates' numbers of the row.
-fn greatest_of_candidates(most: u128, row: &[i128], branch: &Branch) -> u128
-    requires numbers { All IsNatural row.now }
-    requires nodes { All (λ k. k < length row.now) (candidates_of branch.now) }
-    ensures { result ≡ fold max most (at_nodes (candidates_of branch.now) (map natural row.now)) }
+fn greatest_of_candidates(most: u128, row: &[u128], branch: &Branch) -> u128
+    requires { All (λ k. k < length row.now) (candidates_of branch.now) }
+    ensures { result ≡ fold max most (at_nodes (candidates_of branch.now) row.now) }
 {
     let most = greatest_of_nodes(most, row, branch.inside());
     let most = greatest_of_nodes(most, row, branch.outside());
     greatest_of_nodes(most, row, branch.free())
 }
 
-fn greatest_of_nodes(most: u128, row: &[i128], nodes: &[u32]) -> u128
-    requires numbers { All IsNatural row.now }
-    requires nodes { All (λ k. k < length row.now) nodes.now }
-    ensures { result ≡ fold max most (at_nodes nodes.now (map natural row.now)) }
+fn greatest_of_nodes(most: u128, row: &[u128], nodes: &[u32]) -> u128
+    requires { All (λ k. k < length row.now) nodes.now }
+    ensures { result ≡ fold max most (at_nodes nodes.now row.now) }
 {
     let mut greatest = most;
     for k in nodes {
-        greatest = greatest.max(unsigned(row[*k as usize]));
+        greatest = greatest.max(row[*k as usize]);
     }
     greatest
 }

@@ -1,7 +1,6 @@
 //! The free candidates of which a side stays.
 
-ghost use Rattle.std.specs.Prelude.{◌≡◌, ◌^◌, false, pos, ◌≤ℤ◌, length, IfOk};
-ghost use Rattle.hub_model.specs.Amounts.{natural};
+ghost use Rattle.std.specs.Prelude.{◌≡◌, ◌^◌, ◌≤◌, false, length, IfOk};
 ghost use Rattle.leaf_bound.specs.Numbers.{AreWeightingNumbers, IsBranchBelow, weighting_of};
 ghost use Rattle.hub_fixing.specs.Fixing.{closes_by, fixings};
 
@@ -21,13 +20,13 @@ pub fn fix(
     alloc: Global,
     weighting: &Weighting,
     branch: &Branch,
-    target: i128,
+    target: u128,
 ) -> Result<Vec<(u32, Side)>, AllocError>
     requires numbers { AreWeightingNumbers weighting.now }
     requires nodes { IsBranchBelow (length weighting.now.fixed.now) branch.now }
-    requires target { (pos 0 ≤ℤ target) × (target ≤ℤ pos (10 ^ 30)) }
-    requires not_closed { closes_by (weighting_of weighting.now) (natural target) branch.now ≡ false }
-    ensures { IfOk result (λ sides. sides.items ≡ fixings (weighting_of weighting.now) (natural target) branch.now) }
+    requires target { target ≤ 10 ^ 30 }
+    requires not_closed { closes_by (weighting_of weighting.now) target branch.now ≡ false }
+    ensures { IfOk result (λ sides. sides.items ≡ fixings (weighting_of weighting.now) target branch.now) }
 {
     let threshold = threshold(weighting.denom, target);
     let mut room = [0; ROOM];

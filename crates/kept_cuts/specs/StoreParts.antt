@@ -1,6 +1,5 @@
 -- What the columns of a store stand for.
-use Rattle.std.specs.Prelude.{◌≡◌, ℕ, ◌-◌, min, length, map, All, Vec, vec_len, vec_capacity}
-use Rattle.hub_model.specs.Amounts.{natural, IsNatural}
+use Rattle.std.specs.Prelude.{◌≡◌, ℕ, ◌-◌, min, length, map, Vec, vec_len, vec_capacity}
 use Rattle.kept_cuts.specs.Kept.{KeptList, Stored, kept_of, kept_part}
 use Rattle.kept_cuts.specs.declared.store.CutStore.TheInside.{Inside}
 
@@ -8,8 +7,8 @@ use Rattle.kept_cuts.specs.declared.store.CutStore.TheInside.{Inside}
 abbrev pub list_of : Inside → KeptList
 list_of s = record {
   cuts = map kept_of s.cuts.items;
-  totals = map natural s.totals.items;
-  loads = map (λ v. map natural v.items) s.loads.items;
+  totals = s.totals.items;
+  loads = map (λ v. v.items) s.loads.items;
 }
 
 -- how many more items have a place
@@ -20,10 +19,8 @@ free v = vec_capacity v - vec_len v
 abbrev pub stored_of : Inside → Stored
 stored_of s = record { kept = list_of s; spare = min (min (min (free s.cuts) (free s.parts)) (free s.totals)) (free s.loads) }
 
--- the part of each cut, and as many totals and rows of loads as cuts, none below 0
+-- the part of each cut, and as many totals and rows of loads as cuts
 pub record AreColumns (s : Inside) : Type 0 where
   pub parts : s.parts.items ≡ map kept_part (map kept_of s.cuts.items)
   pub totals : length s.totals.items ≡ length s.cuts.items
   pub loads : length s.loads.items ≡ length s.cuts.items
-  pub natural_totals : All IsNatural s.totals.items
-  pub natural_loads : All (λ v. All IsNatural v.items) s.loads.items

@@ -1,12 +1,10 @@
 //! Cuts under their numbers.
 
-ghost use Rattle.std.specs.Prelude.{◌≡◌, ◌+◌, ◌-◌, ◌^◌, ◌<◌, ◌≤◌, [], ◌∷◌, ◌++◌, length, map, pos, slice_index, option_map, All, IfOk, OnOk, OnErr};
-ghost use Rattle.hub_spec.specs.Limits.{most_cost};
+ghost use Rattle.std.specs.Prelude.{◌≡◌, ◌+◌, ◌-◌, ◌≤◌, [], ◌∷◌, ◌++◌, length, map, slice_index, option_map, IfOk, OnOk, OnErr};
 ghost use Rattle.kept_cuts.specs.Kept.{kept_of, kept_at, kept_part, kept_mark};
 
 use crate::{CutStore, PackedValues};
 use core_marks::Mark;
-use hub_model::signed;
 use marked_cuts::MarkedCut;
 use plan_model::HubSet;
 use stated_cuts::StatedCut;
@@ -90,8 +88,6 @@ impl KeptCuts {
         total: u128,
         loads: &[u128],
     ) -> Result<u64, AllocError>
-        requires total { total ≤ most_cost }
-        requires loads { All (λ l. l ≤ most_cost) loads.now }
         ensures number { IfOk result (λ c. c ≡ length self.old.cuts + 1) }
         ensures kept { OnOk result (self.new ≡ record {
           cuts = self.old.cuts ++ kept_of cut ∷ [];
@@ -100,9 +96,9 @@ impl KeptCuts {
         }) }
         ensures refused { OnErr result (self.new ≡ self.old) }
     {
-        let row = signed_row(alloc, loads)?;
+        let row = loads.to_vec(alloc)?;
         self.store.reserve(1)?;
-        self.store.put(cut, signed(total), row);
+        self.store.put(cut, total, row);
         Ok(self.store.len() as u64)
     }
 
@@ -131,30 +127,18 @@ impl KeptCuts {
     }
 
     /// The total of each, in 10^-12, in the order of their numbers.
-    pub fn totals(&self) -> &[i128]
-        ensures value { result.now ≡ map pos self.now.totals }
+    pub fn totals(&self) -> &[u128]
+        ensures value { result.now ≡ self.now.totals }
         ensures long { length result.now ≡ length self.now.cuts }
     {
         self.store.totals()
     }
 
     /// The load of each node in each, in 10^-12, in the order of their numbers.
-    pub fn loads(&self) -> &[Vec<i128>]
-        ensures value { map (λ v. v.items) result.now ≡ map (map pos) self.now.loads }
+    pub fn loads(&self) -> &[Vec<u128>]
+        ensures value { map (λ v. v.items) result.now ≡ self.now.loads }
         ensures long { length result.now ≡ length self.now.cuts }
     {
         self.store.loads()
     }
-}
-
-/// The same amounts, signed: loads as a store has them.
-pub fn signed_row(alloc: Global, amounts: &[u128]) -> Result<Vec<i128>, AllocError>
-    requires { All (λ l. l < 2 ^ 127) amounts.now }
-    ensures { IfOk result (λ row. row.items ≡ map pos amounts.now) }
-{
-    let mut row = Vec::with_capacity(alloc, amounts.len())?;
-    for amount in amounts {
-        row.push(signed(*amount))?;
-    }
-    Ok(row)
 }

@@ -14,7 +14,7 @@ mod packed;
 mod store;
 
 pub use found::Found;
-pub use kept::{KeptCut, KeptCuts, signed_row};
+pub use kept::{KeptCut, KeptCuts};
 pub use laws::{
     kept_cut_is_cut, kept_cut_is_first, kept_cut_is_in_range, kept_mark_is_mark, kept_part_is_part,
 };

@@ -1,7 +1,6 @@
 //! Cuts side by side with their sums, and room for more.
 
-ghost use Rattle.std.specs.Prelude.{◌≡◌, ◌+◌, ◌≤◌, [], ◌∷◌, ◌++◌, length, map, pos, All, IsOk, OnOk};
-ghost use Rattle.hub_model.specs.Amounts.{natural, IsNatural};
+ghost use Rattle.std.specs.Prelude.{◌≡◌, ◌+◌, ◌≤◌, [], ◌∷◌, ◌++◌, length, map, IsOk, OnOk};
 ghost use Rattle.kept_cuts.specs.Kept.{kept_of, kept_part};
 
 use crate::KeptCut;
@@ -16,8 +15,8 @@ use std::marker::Model;
 pub struct CutStore {
     cuts: Vec<KeptCut>,
     parts: Vec<u32>,
-    totals: Vec<i128>,
-    loads: Vec<Vec<i128>>,
+    totals: Vec<u128>,
+    loads: Vec<Vec<u128>>,
 }
 
 impl Model for CutStore {
@@ -68,14 +67,12 @@ impl CutStore {
     }
 
     /// Puts a cut with its total and its loads, for which there is room, at the end. It takes no memory.
-    pub fn put(&mut self, cut: KeptCut, total: i128, loads: Vec<i128>)
+    pub fn put(&mut self, cut: KeptCut, total: u128, loads: Vec<u128>)
         requires spare { 1 ≤ self.old.spare }
-        requires total { IsNatural total }
-        requires loads { All IsNatural loads.items }
         ensures kept { self.new.kept ≡ record {
           cuts = self.old.kept.cuts ++ kept_of cut ∷ [];
-          totals = self.old.kept.totals ++ natural total ∷ [];
-          loads = self.old.kept.loads ++ map natural loads.items ∷ [];
+          totals = self.old.kept.totals ++ total ∷ [];
+          loads = self.old.kept.loads ++ loads.items ∷ [];
         } }
         ensures spare { self.old.spare ≤ self.new.spare + 1 }
     {
@@ -109,16 +106,16 @@ impl CutStore {
     }
 
     /// The total of each, in 10^-12.
-    pub fn totals(&self) -> &[i128]
-        ensures value { result.now ≡ map pos self.now.kept.totals }
+    pub fn totals(&self) -> &[u128]
+        ensures value { result.now ≡ self.now.kept.totals }
         ensures long { length result.now ≡ length self.now.kept.cuts }
     {
         &self.totals
     }
 
     /// The load of each node in each, in 10^-12.
-    pub fn loads(&self) -> &[Vec<i128>]
-        ensures value { map (λ v. v.items) result.now ≡ map (map pos) self.now.kept.loads }
+    pub fn loads(&self) -> &[Vec<u128>]
+        ensures value { map (λ v. v.items) result.now ≡ self.now.kept.loads }
         ensures long { length result.now ≡ length self.now.kept.cuts }
     {
         &self.loads

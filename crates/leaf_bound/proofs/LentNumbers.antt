@@ -1,24 +1,22 @@
 -- What the limits of the lent numbers keep: weighted sums, gains and bounds.
-use Rattle.std.proofs.Common.{◌≡◌, ℕ, ℤ, pos, zero, suc, ◌+◌, ◌*◌, ◌/◌, ◌<◌, ◌≤◌, ◌+ℤ◌, ◌-ℤ◌, ◌≤ℤ◌, ◌*ℤ◌, ◌^◌, FitsSigned, to_z, of_z, List, [], ◌∷◌, length, get_or, take, map, sum, All, refl, sym, subst, ap, ap₂, ◌∙◌, arith}
+use Rattle.std.proofs.Common.{◌≡◌, ℕ, ℤ, pos, suc, ◌+◌, ◌*◌, ◌/◌, ◌<◌, ◌≤◌, ◌+ℤ◌, ◌^◌, FitsSigned, to_z, of_z, List, [], ◌∷◌, length, get_or, take, map, All, refl, sym, subst, ap, ap₂, ◌∙◌, arith}
 use Rattle.std.specs.Int.{w128, int_min}
 use Rattle.std.specs.List.{AllZip}
 use Rattle.std.specs.List.Sorted.{IsStrictlyIncreasing}
-use Rattle.std.proofs.Math.Nat.{mul-le-mul, zero-div}
+use Rattle.std.proofs.Math.Nat.{zero-div}
 use Rattle.std.proofs.lemmas.Int.{ints, clamps, to_z-of_z}
 use Rattle.std.proofs.lemmas.List.{length-map, get_or-map, take_more}
 use Rattle.std.proofs.lemmas.List.Elements.{All-nil, All-cons, All-get_or, All-weaker}
-use Rattle.hub_spec.specs.Limits.{most_nodes, most_fixed_cost, most_denominator, most_part}
+use Rattle.hub_spec.specs.Limits.{most_nodes, most_part}
 use Rattle.hub_spec.specs.Sums.{sum_ints}
 use Rattle.hub_spec.specs.Trees.{Branching, branch_bound}
 use Rattle.hub_spec.proofs.Limits.{few_candidates}
 use Rattle.hub_spec.proofs.SumLemmas.{sum_ints-append}
-use Rattle.hub_model.specs.Amounts.{natural}
-use Rattle.hub_model.proofs.Signs.{pos-natural}
 use Rattle.leaf_bound.specs.declared.weightings.Weighting as lent
-use Rattle.leaf_bound.specs.Bounds.{Weighting, loads_of, weighted_total, gain_of, bound_of}
-use Rattle.leaf_bound.specs.Numbers.{naturals, rows_of, IsSumOf, AreSumsOf, AreWeightingNumbers, IsBranchBelow}
+use Rattle.leaf_bound.specs.Bounds.{Weighting, weighted_total, gain_of, bound_of}
+use Rattle.leaf_bound.specs.Numbers.{rows_of, IsSumOf, AreSumsOf, AreWeightingNumbers, IsBranchBelow}
 use Rattle.leaf_bound.specs.Weighing.{most_gain, most_bound, share_at, AreWeighed, AreWeighedLoads, IsWeighedTo, AreLoadsTo, column, IsWithin}
-use Rattle.leaf_bound.proofs.WeightedSums.{natural_le, weighed_next, weighed_limit}
+use Rattle.leaf_bound.proofs.WeightedSums.{weighed_next, weighed_limit}
 
 length-zip : {A B : Type 0} (R : A → B → Type 0) (xs : List A) (ys : List B) → AllZip R xs ys → length xs ≡ length ys
 length-zip R [] [] are = refl
@@ -26,26 +24,25 @@ length-zip R [] (y ∷ ys) are = absurd are
 length-zip R (x ∷ xs) [] are = absurd are
 length-zip R (x ∷ xs) (y ∷ ys) are = omega (arith, length-zip R xs ys are.1)
 
-sums_column : (n k : ℕ) (parts : List ℕ) (loads : List (List ℤ)) → k < n → AllZip (AreSumsOf n) parts loads → AllZip IsSumOf parts (column loads k)
+sums_column : (n k : ℕ) (parts : List ℕ) (loads : List (List ℕ)) → k < n → AllZip (AreSumsOf n) parts loads → AllZip IsSumOf parts (column loads k)
 sums_column n k [] [] node are = tt
 sums_column n k [] (row ∷ loads) node are = absurd are
 sums_column n k (part ∷ parts) [] node are = absurd are
 sums_column n k (part ∷ parts) (row ∷ loads) node are =
-    (All-get_or (IsSumOf part) row k (pos 0) (omega (arith, are.0.0, node)) are.0.1, sums_column n k parts loads node are.1)
+    (All-get_or (IsSumOf part) row k 0 (omega (arith, are.0.0, node)) are.0.1, sums_column n k parts loads node are.1)
 
-rows_wide : (n : ℕ) (parts : List ℕ) (loads : List (List ℤ)) → AllZip (AreSumsOf n) parts loads → All (λ (row : List ℤ). n ≤ length row) loads
-rows_wide n [] [] are = All-nil (λ (row : List ℤ). n ≤ length row)
+rows_wide : (n : ℕ) (parts : List ℕ) (loads : List (List ℕ)) → AllZip (AreSumsOf n) parts loads → All (λ (row : List ℕ). n ≤ length row) loads
+rows_wide n [] [] are = All-nil (λ (row : List ℕ). n ≤ length row)
 rows_wide n [] (row ∷ loads) are = absurd are
 rows_wide n (part ∷ parts) [] are = absurd are
 rows_wide n (part ∷ parts) (row ∷ loads) are =
-    All-cons (λ (row : List ℤ). n ≤ length row) row loads (omega (arith, are.0.0)) (rows_wide n parts loads are.1)
+    All-cons (λ (row : List ℕ). n ≤ length row) row loads (omega (arith, are.0.0)) (rows_wide n parts loads are.1)
 
 pub weighed_totals : (m : lent.Weighting) → AreWeightingNumbers m → AreWeighed m.weights.now m.parts.now m.totals.now
 weighed_totals m are = record {
   few = are.few_weights;
   few_parts = omega (arith, are.few_weights, length-zip IsSumOf m.parts.now m.totals.now are.are_totals);
-  are_weights = are.are_weights;
-  weights_limit = omega (arith, are.weights_limit, natural_le m.denom most_denominator are.denom_most);
+  weights_limit = omega (arith, are.weights_limit, are.denom_most);
   are_parts = All-weaker (λ (part : ℕ). (1 ≤ part) × (part ≤ most_part)) (λ (part : ℕ). 1 ≤ part) (λ part is. is.0) m.parts.now are.are_parts;
   are_numbers = are.are_totals;
 }
@@ -61,12 +58,10 @@ weighed_loads m n are room =
     record {
       few = few;
       few_parts = totals.few_parts;
-      are_weights = are.are_weights;
       wide = rows_wide n m.parts.now (rows_of m) sums;
       weighed = λ k node. record {
-        few = omega (arith, few, length-map (rows_of m) (λ (row : List ℤ). get_or row k (pos 0)));
+        few = omega (arith, few, length-map (rows_of m) (λ (row : List ℕ). get_or row k 0));
         few_parts = totals.few_parts;
-        are_weights = are.are_weights;
         weights_limit = totals.weights_limit;
         are_parts = totals.are_parts;
         are_numbers = sums_column n k m.parts.now (rows_of m) node sums;
@@ -188,95 +183,58 @@ parts_fit base inside free b i f =
       to_z-of_z w128 (base +ℤ inside) (within_fits most_bound (base +ℤ inside) (omega arith) sum),
     ) (within_fits most_bound (base +ℤ inside +ℤ free) (omega arith) (parts_within base inside free b i f))
 
--- the denominator times one less than the target
-pub threshold_passed : (d t : ℤ) → (pos 1 ≤ℤ d) × (d ≤ℤ pos most_denominator) → (pos 0 ≤ℤ t) × (t ≤ℤ pos (10 ^ 30))
-    → FitsSigned w128 d → FitsSigned w128 t
-    → to_z w128 (of_z w128 (to_z w128 (of_z w128 (to_z w128 (of_z w128 d) *ℤ to_z w128 (of_z w128 t))) -ℤ to_z w128 (of_z w128 d)))
-    ≡ pos (natural d * natural t) -ℤ pos (natural d)
-threshold_passed d t within target fits_d fits_t =
-    let low : pos 0 ≤ℤ d = omega (arith, ints, within.0) in
-    let is_d = pos-natural d low in
-    let is_t = pos-natural t target.0 in
-    let product : d *ℤ t ≡ pos (natural d * natural t) = ap₂ (λ (x y : ℤ). x *ℤ y) (sym is_d) (sym is_t) in
-    let most : natural d * natural t ≤ most_denominator * 10 ^ 30 =
-    mul-le-mul (natural_le d most_denominator within.1) (natural_le t (10 ^ 30) target.1) in
-    let fits_product : FitsSigned w128 (d *ℤ t) = rw product (omega (arith, ints, most)) in
-    let fits_all : FitsSigned w128 (d *ℤ t -ℤ d) = rw product (omega (arith, ints, most, within.0, within.1)) in
-    rw (to_z-of_z w128 d fits_d, to_z-of_z w128 t fits_t, to_z-of_z w128 (d *ℤ t) fits_product, to_z-of_z w128 (d *ℤ t -ℤ d) fits_all)
-    (ap₂ (λ (x y : ℤ). x -ℤ y) product (sym is_d))
-
 -- ---- the numbers of a node
 
-row_at : {V : Type 0} (f : V → List ℤ) (vs : List V) (c : ℕ) (v : V) → c < length vs → v ≡ get_or vs c v → get_or (map f vs) c [] ≡ f v
+row_at : {V : Type 0} (f : V → List ℕ) (vs : List V) (c : ℕ) (v : V) → c < length vs → v ≡ get_or vs c v → get_or (map f vs) c [] ≡ f v
 row_at f vs c v low is = get_or-map f vs c v [] low ∙ ap f (sym is)
 
-pub row_long : {V : Type 0} (f : V → List ℤ) (vs : List V) (c n : ℕ) (v : V) → c < length vs → v ≡ get_or vs c v
+pub row_long : {V : Type 0} (f : V → List ℕ) (vs : List V) (c n : ℕ) (v : V) → c < length vs → v ≡ get_or vs c v
     → All (λ row. n ≤ length row) (map f vs) → n ≤ length (f v)
 row_long f vs c n v low is wide =
-    let here = All-get_or (λ (row : List ℤ). n ≤ length row) (map f vs) c [] (omega (arith, length-map vs f, low)) wide in
+    let here = All-get_or (λ (row : List ℕ). n ≤ length row) (map f vs) c [] (omega (arith, length-map vs f, low)) wide in
     omega (arith, here, ap length (row_at f vs c v low is))
 
-pub load_at : {V : Type 0} (f : V → List ℤ) (vs : List V) (c k : ℕ) (v : V) → c < length vs → v ≡ get_or vs c v
-    → get_or (column (map f vs) k) c (pos 0) ≡ get_or (f v) k (pos 0)
+pub load_at : {V : Type 0} (f : V → List ℕ) (vs : List V) (c k : ℕ) (v : V) → c < length vs → v ≡ get_or vs c v
+    → get_or (column (map f vs) k) c 0 ≡ get_or (f v) k 0
 load_at f vs c k v low is =
-    get_or-map (λ (row : List ℤ). get_or row k (pos 0)) (map f vs) c [] (pos 0) (omega (arith, length-map vs f, low))
-    ∙ ap (λ (row : List ℤ). get_or row k (pos 0)) (row_at f vs c v low is)
-
-pub length-column : {V : Type 0} (f : V → List ℤ) (vs : List V) (k : ℕ) → length (column (map f vs) k) ≡ length vs
-length-column f vs k = length-map (map f vs) (λ (row : List ℤ). get_or row k (pos 0)) ∙ length-map vs f
-
-natural_index : (row : List ℤ) (k : ℕ) → get_or (naturals row) k 0 ≡ natural (get_or row k (pos 0))
-natural_index [] k = refl
-natural_index (z ∷ row) zero = refl
-natural_index (z ∷ row) (suc k) = natural_index row k
-
-pub loads_of-naturals : (rows : List (List ℤ)) (k : ℕ) → naturals (column rows k) ≡ loads_of (map naturals rows) k
-loads_of-naturals [] k = refl
-loads_of-naturals (row ∷ rows) k = ap₂ (λ (x : ℕ) xs. x ∷ xs) (sym (natural_index row k)) (loads_of-naturals rows k)
-
--- a gain, by its parts
-pub gain_within : (d s x : ℕ) (z : ℤ) → d ≤ most_denominator → x ≤ most_fixed_cost → s ≤ most_gain → z ≡ pos (d * x) -ℤ pos s → IsWithin most_gain z
-gain_within d s x z denom cost sum is =
-    let most : d * x ≤ most_denominator * most_fixed_cost = mul-le-mul denom cost in
-    record { least = omega (arith, ints, is, sum); most = omega (arith, ints, is, most) }
+    get_or-map (λ (row : List ℕ). get_or row k 0) (map f vs) c [] 0 (omega (arith, length-map vs f, low))
+    ∙ ap (λ (row : List ℕ). get_or row k 0) (row_at f vs c v low is)
 
 -- ---- the loads of a cut
 
-pub loads_kept : (ws : List ℤ) (es : List ℕ) (rows : List (List ℤ)) (i : ℕ) (sums : List ℕ)
-    → i < length ws → AreWeighedLoads ws es rows (length sums)
-    → get_or ws i (pos 0) ≡ pos 0 → AreLoadsTo ws es rows i sums → AreLoadsTo ws es rows (i + 1) sums
+pub loads_kept : (ws es : List ℕ) (rows : List (List ℕ)) (i : ℕ) (sums : List ℕ) → i < length ws → AreWeighedLoads ws es rows (length sums)
+    → get_or ws i 0 ≡ 0 → AreLoadsTo ws es rows i sums → AreLoadsTo ws es rows (i + 1) sums
 loads_kept ws es rows i sums low are none before = record {
   each = λ k less.
-      let x = natural (get_or (column rows k) i (pos 0)) in
-      let same : get_or sums k 0 + 0 * x ≡ get_or sums k 0 = omega arith in
-      let share : 0 ≡ share_at ws es i = sym (ap (λ (z : ℤ). natural z / get_or es i 0) none ∙ zero-div (get_or es i 0)) in
+      let same : get_or sums k 0 + 0 * get_or (column rows k) i 0 ≡ get_or sums k 0 = omega arith in
+      let share : 0 ≡ share_at ws es i = sym (ap (λ (w : ℕ). w / get_or es i 0) none ∙ zero-div (get_or es i 0)) in
       subst (IsWeighedTo ws es (column rows k) (i + 1)) same
-      (weighed_next ws es (column rows k) i (get_or sums k 0) 0 x low (are.weighed k less) share refl (before.each k less));
+      (weighed_next ws es (column rows k) i (get_or sums k 0) 0 low (are.weighed k less) share (before.each k less));
 }
 
-next : (ws : List ℤ) (es : List ℕ) (rows : List (List ℤ)) (i : ℕ) (sums : List ℕ) (w : ℕ) (row : List ℤ) (k : ℕ)
+next : (ws es : List ℕ) (rows : List (List ℕ)) (i : ℕ) (sums : List ℕ) (w : ℕ) (row : List ℕ) (k : ℕ)
     → i < length ws → AreWeighedLoads ws es rows (length sums)
-    → w ≡ share_at ws es i → get_or (column rows k) i (pos 0) ≡ get_or row k (pos 0) → AreLoadsTo ws es rows i sums → k < length sums
-    → IsWeighedTo ws es (column rows k) (i + 1) (get_or sums k 0 + w * natural (get_or row k (pos 0)))
+    → w ≡ share_at ws es i → get_or (column rows k) i 0 ≡ get_or row k 0 → AreLoadsTo ws es rows i sums → k < length sums
+    → IsWeighedTo ws es (column rows k) (i + 1) (get_or sums k 0 + w * get_or row k 0)
 next ws es rows i sums w row k low are weight at before less =
-    weighed_next ws es (column rows k) i (get_or sums k 0) w (natural (get_or row k (pos 0))) low (are.weighed k less) weight
-    (ap natural (sym at)) (before.each k less)
+    subst (λ (v : ℕ). IsWeighedTo ws es (column rows k) (i + 1) (get_or sums k 0 + w * v)) at
+    (weighed_next ws es (column rows k) i (get_or sums k 0) w low (are.weighed k less) weight (before.each k less))
 
-pub loads_fit : (ws : List ℤ) (es : List ℕ) (rows : List (List ℤ)) (i : ℕ) (sums : List ℕ) (w : ℕ) (row : List ℤ) (k : ℕ)
+pub loads_fit : (ws es : List ℕ) (rows : List (List ℕ)) (i : ℕ) (sums : List ℕ) (w : ℕ) (row : List ℕ) (k : ℕ)
     → i < length ws → AreWeighedLoads ws es rows (length sums)
-    → w ≡ share_at ws es i → get_or (column rows k) i (pos 0) ≡ get_or row k (pos 0) → AreLoadsTo ws es rows i sums → k < length sums
-    → get_or sums k 0 + w * natural (get_or row k (pos 0)) < 2 ^ 128
+    → w ≡ share_at ws es i → get_or (column rows k) i 0 ≡ get_or row k 0 → AreLoadsTo ws es rows i sums → k < length sums
+    → get_or sums k 0 + w * get_or row k 0 < 2 ^ 128
 loads_fit ws es rows i sums w row k low are weight at before less =
     omega (
       arith,
-      weighed_limit ws es (column rows k) (i + 1) (get_or sums k 0 + w * natural (get_or row k (pos 0))) (are.weighed k less)
+      weighed_limit ws es (column rows k) (i + 1) (get_or sums k 0 + w * get_or row k 0) (are.weighed k less)
           (next ws es rows i sums w row k low are weight at before less),
     )
 
-pub loads_added : (ws : List ℤ) (es : List ℕ) (rows : List (List ℤ)) (i : ℕ) (sums new : List ℕ) (w : ℕ) (row : List ℤ)
+pub loads_added : (ws es : List ℕ) (rows : List (List ℕ)) (i : ℕ) (sums new : List ℕ) (w : ℕ) (row : List ℕ)
     → i < length ws → AreWeighedLoads ws es rows (length sums)
-    → w ≡ share_at ws es i → ((k : ℕ) → k < length sums → get_or (column rows k) i (pos 0) ≡ get_or row k (pos 0)) → AreLoadsTo ws es rows i sums
-    → length new ≡ length sums → ((k : ℕ) → k < length sums → get_or new k 0 ≡ get_or sums k 0 + w * natural (get_or row k (pos 0)))
+    → w ≡ share_at ws es i → ((k : ℕ) → k < length sums → get_or (column rows k) i 0 ≡ get_or row k 0) → AreLoadsTo ws es rows i sums
+    → length new ≡ length sums → ((k : ℕ) → k < length sums → get_or new k 0 ≡ get_or sums k 0 + w * get_or row k 0)
     → AreLoadsTo ws es rows (i + 1) new
 loads_added ws es rows i sums new w row low are weight at before long added = record {
   each = λ k below.

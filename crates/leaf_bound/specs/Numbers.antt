@@ -1,26 +1,21 @@
 -- The numbers that are lent, and their limits.
-use Rattle.std.specs.Prelude.{◌≡◌, ℕ, ◌<◌, ◌≤◌, ◌*◌, ℤ, pos, ◌≤ℤ◌, List, length, map, sum, All}
+use Rattle.std.specs.Prelude.{◌≡◌, ℕ, ◌<◌, ◌≤◌, ◌*◌, List, length, map, sum, All}
 use Rattle.std.specs.List.{AllZip}
 use Rattle.hub_spec.specs.Limits.{most_nodes, most_cost, most_fixed_cost, most_denominator, most_part}
 use Rattle.hub_spec.specs.Trees.{Branching}
-use Rattle.hub_model.specs.Amounts.{natural, IsNatural}
 use Rattle.leaf_bound.specs.declared.weightings.Weighting as lent
 use Rattle.leaf_bound.specs.Bounds.{Weighting, AreMultiples}
 
--- natural numbers of a list of signed ones
-abbrev pub naturals : List ℤ → List ℕ
-naturals xs = map natural xs
-
--- a sum of a cut with this part: at least 0, and at most 10^29 for each unit of the part
-abbrev pub IsSumOf : ℕ → ℤ → Type 0
-IsSumOf part z = (pos 0 ≤ℤ z) × (z ≤ℤ pos (part * most_cost))
+-- a sum of a cut with this part: at most 10^29 for each unit of the part
+abbrev pub IsSumOf : ℕ → ℕ → Type 0
+IsSumOf part x = x ≤ part * most_cost
 
 -- the loads of a cut with this part, one for each of n nodes
-abbrev pub AreSumsOf : ℕ → ℕ → List ℤ → Type 0
+abbrev pub AreSumsOf : ℕ → ℕ → List ℕ → Type 0
 AreSumsOf n part row = (length row ≡ n) × All (IsSumOf part) row
 
 -- the loads that are lent, a row for each cut
-abbrev pub rows_of : lent.Weighting → List (List ℤ)
+abbrev pub rows_of : lent.Weighting → List (List ℕ)
 rows_of m = map (λ v. v.items) m.loads.now
 
 -- the numbers that are lent are within their limits
@@ -31,11 +26,10 @@ pub record AreWeightingNumbers (m : lent.Weighting) : Type 0 where
   pub are_totals : AllZip IsSumOf m.parts.now m.totals.now
   pub are_loads : AllZip (AreSumsOf (length m.fixed.now)) m.parts.now (rows_of m)
   pub are_fixed_costs : All (λ cost. cost ≤ most_fixed_cost) m.fixed.now
-  pub are_weights : All IsNatural m.weights.now
-  pub are_multiples : AreMultiples (naturals m.weights.now) m.parts.now
-  pub weights_limit : sum (naturals m.weights.now) ≤ natural m.denom
-  pub denom_least : pos 1 ≤ℤ m.denom
-  pub denom_most : m.denom ≤ℤ pos most_denominator
+  pub are_multiples : AreMultiples m.weights.now m.parts.now
+  pub weights_limit : sum m.weights.now ≤ m.denom
+  pub denom_least : 1 ≤ m.denom
+  pub denom_most : m.denom ≤ most_denominator
 
 -- the branch's nodes are nodes
 pub record IsBranchBelow (n : ℕ) (b : Branching) : Type 0 where
@@ -43,14 +37,14 @@ pub record IsBranchBelow (n : ℕ) (b : Branching) : Type 0 where
   pub outside : All (λ k. k < n) b.outside
   pub free : All (λ k. k < n) b.free
 
--- the natural numbers that these are
+-- the weights on cuts that these are
 abbrev pub weighting_of : lent.Weighting → Weighting
 weighting_of m =
     record {
-      totals = naturals m.totals.now;
-      loads = map naturals (rows_of m);
+      totals = m.totals.now;
+      loads = rows_of m;
       parts = m.parts.now;
       fixed = m.fixed.now;
-      weights = naturals m.weights.now;
-      denom = natural m.denom;
+      weights = m.weights.now;
+      denom = m.denom;
     }

@@ -1,16 +1,15 @@
 //! The bound of a branch, and whether it closes a target.
 
-ghost use Rattle.std.specs.Prelude.{◌≡◌, ℕ, ◌^◌, ◌*◌, ◌↔◌, ◌<◌, ◌≤◌, pos, ◌-ℤ◌, ◌≤ℤ◌, length, slice_index_or, IsTrue};
+ghost use Rattle.std.specs.Prelude.{◌≡◌, ℕ, ◌^◌, ◌*◌, ◌↔◌, ◌<◌, ◌≤◌, pos, ◌-ℤ◌, length, slice_index_or, IsTrue};
 ghost use Rattle.hub_spec.specs.Limits.{most_nodes, most_denominator};
 ghost use Rattle.hub_spec.specs.Trees.{Closes, branch_bound};
-ghost use Rattle.hub_model.specs.Amounts.{natural};
 ghost use Rattle.leaf_bound.specs.Bounds.{bound_of};
 ghost use Rattle.leaf_bound.specs.Numbers.{AreWeightingNumbers, IsBranchBelow, weighting_of};
 ghost use Rattle.leaf_bound.specs.Weighing.{most_gain, most_bound, IsWithin};
 
 use crate::Weighting;
 use crate::gains::{ROOM, sum_of_gains, sum_of_losses, write_gains_and_base};
-use hub_model::signed;
+use hub_model::{difference, signed};
 use plan_model::Branch;
 
 /// The bound of the branch under these weights, in 10^-12, times the denominator.
@@ -45,20 +44,20 @@ pub fn bound_by(base: u128, gains: &[i128], branch: &Branch) -> i128
 
 /// Tells whether the bound of the branch under these weights closes the target, which is in 10^-12: no plan of the
 /// branch then costs less than the target.
-pub fn closes(weighting: &Weighting, branch: &Branch, target: i128) -> bool
+pub fn closes(weighting: &Weighting, branch: &Branch, target: u128) -> bool
     requires numbers { AreWeightingNumbers weighting.now }
     requires nodes { IsBranchBelow (length weighting.now.fixed.now) branch.now }
-    requires target { (pos 0 ≤ℤ target) × (target ≤ℤ pos (10 ^ 30)) }
-    ensures { IsTrue result ↔ Closes (natural weighting.now.denom) (natural target) (bound_of (weighting_of weighting.now) branch.now) }
+    requires target { target ≤ 10 ^ 30 }
+    ensures { IsTrue result ↔ Closes weighting.now.denom target (bound_of (weighting_of weighting.now) branch.now) }
 {
     bound(weighting, branch) > threshold(weighting.denom, target)
 }
 
 /// What a bound has to be above to close the target: the denominator times one less than the target.
-pub fn threshold(denom: i128, target: i128) -> i128
-    requires denom { (pos 1 ≤ℤ denom) × (denom ≤ℤ pos most_denominator) }
-    requires target { (pos 0 ≤ℤ target) × (target ≤ℤ pos (10 ^ 30)) }
-    ensures { result ≡ pos (natural denom * natural target) -ℤ pos (natural denom) }
+pub fn threshold(denom: u128, target: u128) -> i128
+    requires denom { denom ≤ most_denominator }
+    requires target { target ≤ 10 ^ 30 }
+    ensures { result ≡ pos (denom * target) -ℤ pos denom }
 {
-    denom * target - denom
+    difference(denom * target, denom)
 }

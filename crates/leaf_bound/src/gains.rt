@@ -10,7 +10,7 @@ ghost use Rattle.leaf_bound.specs.Weighing.{most_gain, IsWithin};
 
 use crate::Weighting;
 use crate::weighing::weigh;
-use hub_model::{MOST_NODES, unsigned};
+use hub_model::{MOST_NODES, difference};
 
 /// Room for a number of each node.
 pub(crate) const ROOM: usize = MOST_NODES as usize;
@@ -51,7 +51,7 @@ pub fn write_gains_and_base(weighting: &Weighting, gains: &mut [i128]) -> u128
     let mut room = [0; ROOM];
     let sums = &mut room[..weighting.fixed.len()];
     let base = weigh(weighting, sums);
-    write_differences(weighting.fixed, unsigned(weighting.denom), sums, gains);
+    write_differences(weighting.fixed, weighting.denom, sums, gains);
     base
 }
 
@@ -68,15 +68,6 @@ fn write_differences(fixed: &[u128], denom: u128, sums: &[u128], gains: &mut [i1
     for k in 0..gains.len() {
         gains[k] = difference(denom * fixed[k], sums[k]);
     }
-}
-
-fn difference(more: u128, less: u128) -> i128
-    requires more { more ≤ most_gain }
-    requires less { less ≤ most_gain }
-    ensures value { result ≡ pos more -ℤ pos less }
-    ensures limit { IsWithin most_gain result }
-{
-    more as i128 - less as i128
 }
 
 /// The sum of the gains of these nodes.

@@ -1,7 +1,7 @@
 //! The bound of a branch under weights on the cuts of a pool.
 //!
-//! A [`Weighting`] lends each cut's total, its loads by node and its part, and the fixed costs of the nodes. None of the
-//! numbers is below 0: totals, loads and fixed costs in 10^-12, weights as shares of a denominator D. A weight counts as often as it has its
+//! A [`Weighting`] lends each cut's total, its loads by node and its part, and the fixed costs of the nodes:
+//! totals, loads and fixed costs in 10^-12, weights as shares of a denominator D. A weight counts as often as it has its
 //! cut's part. For such weights the gain of a node is D times its fixed cost, less the weighted loads of the node. The
 //! bound of a branch is the weighted sum of the totals, with the gain of each node inside, and with that of each free node
 //! where it is below 0; so bounds and gains are in 10^-12, times D. A bound closes a target t where it is above

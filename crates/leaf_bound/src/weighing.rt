@@ -1,13 +1,11 @@
 //! Weighted sums over the cuts. Most weights of a large pool are 0: a cut that has none is not looked at.
 
-ghost use Rattle.std.specs.Prelude.{◌≡◌, ℕ, ◌+◌, ◌*◌, ◌/◌, ◌<◌, ◌≤◌, ◌^◌, length, slice_index_or, pos};
-ghost use Rattle.hub_model.specs.Amounts.{natural, IsNatural};
+ghost use Rattle.std.specs.Prelude.{◌≡◌, ℕ, ◌+◌, ◌*◌, ◌/◌, ◌<◌, ◌≤◌, ◌^◌, length, slice_index_or};
 ghost use Rattle.leaf_bound.specs.Bounds.{weighted_total, weighted_load};
 ghost use Rattle.leaf_bound.specs.Numbers.{AreWeightingNumbers, rows_of, weighting_of};
 ghost use Rattle.leaf_bound.specs.Weighing.{most_gain, share_at, AreLoadsTo};
 
 use crate::Weighting;
-use hub_model::unsigned;
 
 /// Writes for each node the weighted sum of the cuts' loads of it, and gives that of their totals, all by one pass over
 /// the weights.
@@ -42,7 +40,7 @@ fn add_cut(weighting: &Weighting, c: usize, sums: &mut [u128]) -> u128
     requires within { c < length weighting.now.weights.now }
     requires before { AreLoadsTo weighting.now.weights.now weighting.now.parts.now (rows_of weighting.now) c sums.old }
     ensures total { result ≡ share_at weighting.now.weights.now weighting.now.parts.now c
-        * natural (slice_index_or weighting.now.totals.now c (pos 0)) }
+        * slice_index_or weighting.now.totals.now c 0 }
     ensures loads { AreLoadsTo weighting.now.weights.now weighting.now.parts.now (rows_of weighting.now) (c + 1) sums.new }
 {
     if weighting.weights[c] == 0 {
@@ -50,16 +48,14 @@ fn add_cut(weighting: &Weighting, c: usize, sums: &mut [u128]) -> u128
     }
     let share = share_of(weighting.weights[c], weighting.parts[c]);
     add_products(sums, share, &weighting.loads[c]);
-    share * unsigned(weighting.totals[c])
+    share * weighting.totals[c]
 }
 
 // How often the weight has the part, with no division where that is 1.
-fn share_of(weight: i128, part: u32) -> u128
-    requires weight { IsNatural weight }
-    requires part { 1 ≤ part }
-    ensures { result ≡ natural weight / part }
+fn share_of(weight: u128, part: u32) -> u128
+    requires { 1 ≤ part }
+    ensures { result ≡ weight / part }
 {
-    let weight = unsigned(weight);
     if part == 1 {
         return weight;
     }
@@ -67,15 +63,14 @@ fn share_of(weight: i128, part: u32) -> u128
 }
 
 // Adds the products of the share and the row's numbers.
-fn add_products(sums: &mut [u128], share: u128, row: &[i128])
+fn add_products(sums: &mut [u128], share: u128, row: &[u128])
     requires long { length sums.old ≤ length row.now }
-    requires numbers { (k : ℕ) → k < length sums.old → IsNatural (slice_index_or row.now k (pos 0)) }
     requires fit { (k : ℕ) → k < length sums.old
-        → slice_index_or sums.old k 0 + share * natural (slice_index_or row.now k (pos 0)) < 2 ^ 128 }
+        → slice_index_or sums.old k 0 + share * slice_index_or row.now k 0 < 2 ^ 128 }
     ensures { (k : ℕ) → k < length sums.old → slice_index_or sums.new k 0
-        ≡ slice_index_or sums.old k 0 + share * natural (slice_index_or row.now k (pos 0)) }
+        ≡ slice_index_or sums.old k 0 + share * slice_index_or row.now k 0 }
 {
     for k in 0..sums.len() {
-        sums[k] += share * unsigned(row[k]);
+        sums[k] += share * row[k];
     }
 }

@@ -30,8 +30,8 @@ pub(crate) fn parted(text: &str, mark: char) -> (&str, &str) {
 /// Cuts as they are lent: the total of each, its load of each node and its part, and the fixed cost of each node.
 #[derive(Drop)]
 pub(crate) struct Lent {
-    pub(crate) totals: Vec<i128>,
-    pub(crate) loads: Vec<Vec<i128>>,
+    pub(crate) totals: Vec<u128>,
+    pub(crate) loads: Vec<Vec<u128>>,
     pub(crate) parts: Vec<u32>,
     pub(crate) fixed: Vec<u128>,
 }
@@ -48,11 +48,11 @@ pub(crate) fn cuts_of(alloc: Global, text: &str) -> Result<Lent, AllocError> {
         fixed: numbers(alloc, fixed)?,
     };
     for cut in cuts.split(';') {
-        let numbers: Vec<i128> = numbers(alloc, cut)?;
+        let numbers: Vec<u128> = numbers(alloc, cut)?;
         match numbers.as_slice() {
             [count, total, loads @ ..] if cut.contains("cuts") => {
                 for more in 0..u32::try_from(*count).unwrap_or(0) {
-                    let total = total.saturating_add(i128::from(more));
+                    let total = total.saturating_add(u128::from(more));
                     push_cut(alloc, &mut lent, 1, total, loads)?;
                 }
             }
@@ -71,8 +71,8 @@ fn push_cut(
     alloc: Global,
     lent: &mut Lent,
     part: u32,
-    total: i128,
-    loads: &[i128],
+    total: u128,
+    loads: &[u128],
 ) -> Result<(), AllocError> {
     lent.parts.push(part)?;
     lent.totals.push(total)?;

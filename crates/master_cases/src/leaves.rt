@@ -11,7 +11,7 @@ use plan_model::Branch;
 use std::alloc::{AllocError, Global};
 
 // The greatest target that there may be.
-const MOST_TARGET: i128 = 1_000_000_000_000_000_000_000_000_000_000;
+const MOST_TARGET: u128 = 1_000_000_000_000_000_000_000_000_000_000;
 
 /// The bound of the line's branch, the gain of each node, and for each target whether the bound closes it, and else
 /// which candidates it fixes.
@@ -32,9 +32,9 @@ pub(crate) fn told(alloc: Global, text: &str) -> Result<String, AllocError> {
 fn weighed(
     alloc: Global,
     lent: &Lent,
-    weights: &[i128],
+    weights: &[u128],
     branch: &Branch,
-    targets: &[i128],
+    targets: &[u128],
 ) -> Result<String, AllocError> {
     let [weights @ .., denom] = weights else {
         return String::from_str(alloc, "no denominator\n");
@@ -80,12 +80,12 @@ fn tell_target(
     told: &mut String,
     weighting: &Weighting,
     branch: &Branch,
-    target: i128,
+    target: u128,
 ) -> Result<(), AllocError>
     requires numbers { AreWeightingNumbers weighting.now }
     requires nodes { IsBranchBelow (length weighting.now.fixed.now) branch.now }
 {
-    if target < 0 || target > MOST_TARGET {
+    if target > MOST_TARGET {
         return writeln!(told, "{target} is no target");
     }
     if closes(weighting, branch, target) {

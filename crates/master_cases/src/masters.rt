@@ -1,14 +1,12 @@
 //! Masters of branches, and what they advise.
 
 ghost use Rattle.std.specs.Prelude.{◌≡◌, ◌<◌, ◌≤◌, length, map, max, All, IsTrue};
-ghost use Rattle.hub_model.specs.Amounts.{natural, IsNatural};
 ghost use Rattle.frac_master.specs.Masters.{AreMasterNumbers, AreWithinTotals, candidates_of};
 
 use crate::fields::{Lent, branch, cuts_of, parted};
-use crate::limits::{are_below, are_low};
+use crate::limits::are_below;
 use crate::tables;
 use frac_master::{Advice, advise, advise_by_totals, rows_of};
-use hub_model::unsigned;
 use plan_model::Branch;
 use std::alloc::{AllocError, Global};
 
@@ -94,20 +92,18 @@ fn is_master(lent: &Lent, branch: &Branch) -> bool
 {
     let nodes = lent.fixed.len();
     lent.loads.len() == lent.totals.len()
-        && are_low(&lent.totals)
         && are_rows(&lent.loads, nodes)
         && are_below(branch.inside(), nodes)
         && are_below(branch.outside(), nodes)
         && are_below(branch.free(), nodes)
 }
 
-// Whether each row has a number for each node, none below 0.
-fn are_rows(rows: &[Vec<i128>], nodes: usize) -> bool
-    ensures long { IsTrue result → All (λ row. length row ≡ nodes) (map (λ v. v.items) rows.now) }
-    ensures low { IsTrue result → All (λ row. All IsNatural row) (map (λ v. v.items) rows.now) }
+// Whether each row has a number for each node.
+fn are_rows(rows: &[Vec<u128>], nodes: usize) -> bool
+    ensures { IsTrue result → All (λ row. length row ≡ nodes) (map (λ v. v.items) rows.now) }
 {
     for row in rows {
-        if row.len() != nodes || !are_low(row) {
+        if row.len() != nodes {
             return false;
         }
     }
@@ -115,7 +111,7 @@ fn are_rows(rows: &[Vec<i128>], nodes: usize) -> bool
 }
 
 // Whether no load is above its cut's total.
-fn are_within(totals: &[i128], loads: &[Vec<i128>]) -> bool
+fn are_within(totals: &[u128], loads: &[Vec<u128>]) -> bool
     ensures { IsTrue result → AreWithinTotals 0 totals.now (map (λ v. v.items) loads.now) }
 {
     if totals.len() != loads.len() {
@@ -129,14 +125,8 @@ fn are_within(totals: &[i128], loads: &[Vec<i128>]) -> bool
     true
 }
 
-fn are_up_to(loads: &[i128], total: i128) -> bool
-    ensures { IsTrue result → All (λ x. natural x ≤ max (natural total) 0) loads.now }
+fn are_up_to(loads: &[u128], total: u128) -> bool
+    ensures { IsTrue result → All (λ x. x ≤ max total 0) loads.now }
 {
-    loads.iter().all(|x| is_up_to(*x, total))
-}
-
-fn is_up_to(x: i128, total: i128) -> bool
-    ensures { IsTrue result → natural x ≤ max (natural total) 0 }
-{
-    0 <= x && 0 <= total && unsigned(x) <= unsigned(total)
+    loads.iter().all(|x| *x <= total)
 }

@@ -1,7 +1,6 @@
 //! A pool of cuts, the steps that are made on it, and what it keeps.
 
 use crate::fields::{numbers, parted};
-use crate::limits::are_low;
 use cut_pool::{CutSums, Pool};
 use hub_model::is_node_list;
 use kept_cuts::KeptCut;
@@ -69,8 +68,8 @@ fn add_of(
     pool: &mut Pool,
     set: HubSet,
     order: Vec<u32>,
-    total: &[i128],
-    loads: Vec<i128>,
+    total: &[u128],
+    loads: Vec<u128>,
 ) -> Result<(), AllocError> {
     if let Some(c) = pool.find(&set) {
         return writeln!(told, "has {c}");
@@ -78,9 +77,6 @@ fn add_of(
     let [total] = total else {
         return told.push_str("no total\n");
     };
-    if *total < 0 || !are_low(&loads) {
-        return told.push_str("an amount below 0\n");
-    }
     match pool.add(CutSums::new(set, *total, loads), order) {
         Ok(c) => writeln!(told, "added {c}"),
         Err(_) => Err(AllocError),

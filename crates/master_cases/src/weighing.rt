@@ -3,17 +3,16 @@
 ghost use Rattle.std.specs.Prelude.{◌≡◌, ◌*◌, ◌/◌, ◌≤◌, length, sum, All, IsTrue};
 ghost use Rattle.std.specs.List.{AllZip};
 ghost use Rattle.hub_spec.specs.Limits.{most_part, most_fixed_cost};
-ghost use Rattle.hub_model.specs.Amounts.{natural, IsNatural};
 ghost use Rattle.leaf_bound.specs.Bounds.{AreMultiples};
-ghost use Rattle.leaf_bound.specs.Numbers.{naturals, rows_of, IsSumOf, AreSumsOf, AreWeightingNumbers, IsBranchBelow};
+ghost use Rattle.leaf_bound.specs.Numbers.{rows_of, IsSumOf, AreSumsOf, AreWeightingNumbers, IsBranchBelow};
 
 use crate::limits::are_below;
-use hub_model::{MOST_FIXED_COST, unsigned};
+use hub_model::MOST_FIXED_COST;
 use leaf_bound::Weighting;
 use plan_model::Branch;
 
 // The most that a sum of a cut may be for each unit of its part.
-const MOST_COST: i128 = 100_000_000_000_000_000_000_000_000_000;
+const MOST_COST: u128 = 100_000_000_000_000_000_000_000_000_000;
 
 /// Whether bounds of the branch may be made of these cuts and weights.
 pub(crate) fn serve(weighting: &Weighting, branch: &Branch) -> bool
@@ -32,7 +31,7 @@ fn are_numbers(weighting: &Weighting) -> bool
         && weighting.denom <= 1_000_000
         && are_cuts(weighting)
         && are_costs(weighting.fixed)
-        && are_shares(weighting.weights, unsigned(weighting.denom))
+        && are_shares(weighting.weights, weighting.denom)
         && are_multiples(weighting.weights, weighting.parts)
 }
 
@@ -70,40 +69,35 @@ fn is_part(part: u32) -> bool
     1 <= part && part <= 1000
 }
 
-fn is_sum_of(part: u32, sum: i128) -> bool
+fn is_sum_of(part: u32, sum: u128) -> bool
     ensures { IsTrue result → IsSumOf part sum }
 {
-    part <= 1000 && 0 <= sum && sum <= MOST_COST * i128::from(part)
+    part <= 1000 && sum <= MOST_COST * u128::from(part)
 }
 
-fn are_sums_of(part: u32, loads: &[i128], nodes: usize) -> bool
+fn are_sums_of(part: u32, loads: &[u128], nodes: usize) -> bool
     ensures { IsTrue result → AreSumsOf nodes part loads.now }
 {
     loads.len() == nodes && loads.iter().all(|load| is_sum_of(part, *load))
 }
 
-// Whether none is below 0, and all are at most this together.
-fn are_shares(weights: &[i128], most: u128) -> bool
-    ensures natural { IsTrue result → All IsNatural weights.now }
-    ensures sum { IsTrue result → (sum (naturals weights.now) ≤ most) }
+// Whether all are at most this together.
+fn are_shares(weights: &[u128], most: u128) -> bool
+    ensures { IsTrue result → (sum weights.now ≤ most) }
 {
     let mut left = most;
     for weight in weights {
-        if *weight < 0 {
+        if *weight > left {
             return false;
         }
-        let share = unsigned(*weight);
-        if share > left {
-            return false;
-        }
-        left -= share;
+        left -= *weight;
     }
     true
 }
 
 // Whether each weight is a multiple of its cut's part.
-fn are_multiples(weights: &[i128], parts: &[u32]) -> bool
-    ensures { IsTrue result → AreMultiples (naturals weights.now) parts.now }
+fn are_multiples(weights: &[u128], parts: &[u32]) -> bool
+    ensures { IsTrue result → AreMultiples weights.now parts.now }
 {
     if weights.len() > parts.len() {
         return false;
@@ -116,10 +110,10 @@ fn are_multiples(weights: &[i128], parts: &[u32]) -> bool
     true
 }
 
-fn is_multiple(weight: i128, part: u32) -> bool
-    ensures { IsTrue result → natural weight / part * part ≡ natural weight }
+fn is_multiple(weight: u128, part: u32) -> bool
+    ensures { IsTrue result → weight / part * part ≡ weight }
 {
-    0 <= weight && 1 <= part && unsigned(weight) % u128::from(part) == 0
+    1 <= part && weight % u128::from(part) == 0
 }
 
 // Whether the branch's nodes are below `nodes`.

@@ -1,5 +1,5 @@
 -- What two searchers have that have come as far: the same turns.
-use Rattle.std.proofs.Common.{◌≡◌, ℕ, suc, ℤ, ◌+◌, ◌-◌, ◌<◌, List, [], ◌∷◌, ◌++◌, length, map, drop, min, get_or, Option, refl, ap, ap₂, sym, subst, ◌∙◌, arith}
+use Rattle.std.proofs.Common.{◌≡◌, ℕ, suc, ◌+◌, ◌-◌, ◌<◌, List, [], ◌∷◌, ◌++◌, length, map, drop, min, get_or, Option, refl, ap, ap₂, sym, subst, ◌∙◌, arith}
 use Rattle.std.specs.List.{HoldsAt}
 use Rattle.std.proofs.lemmas.List.{drop-map, get_or-map, length-map}
 use Rattle.hub_spec.specs.Cuts.{Cut}
@@ -11,7 +11,6 @@ use Rattle.kept_cuts.specs.Findings.{lines_of}
 use Rattle.kept_cuts.proofs.KeptCutLaws.{kept_part_is}
 use Rattle.cut_pool.specs.Entries.{Entry, entry_part}
 use Rattle.leaf_bound.specs.Bounds.{AreMultiples}
-use Rattle.leaf_bound.specs.Numbers.{naturals}
 use Rattle.search_spec.specs.States.{State}
 use Rattle.search_core.specs.declared.tasks.Task.{Task}
 use Rattle.search_steps.specs.Advising.{parts_of}
@@ -115,13 +114,13 @@ parts_by_cuts p (e ∷ es) = ap₂ (λ (n : ℕ) (ns : List ℕ). n ∷ ns) (sym
 parts_alike : (p : Problem) (es fs : List Entry) → pool_cuts p es ≡ pool_cuts p fs → map entry_part es ≡ map entry_part fs
 parts_alike p es fs same = parts_by_cuts p es ∙ ap (map (λ (c : Cut). c.part)) same ∙ sym (parts_by_cuts p fs)
 
-weights_alike : (p : Problem) (es fs : List Entry) (weights : List ℤ) → pool_cuts p es ≡ pool_cuts p fs → AreNodeWeights es weights → AreNodeWeights fs weights
+weights_alike : (p : Problem) (es fs : List Entry) (weights : List ℕ) → pool_cuts p es ≡ pool_cuts p fs → AreNodeWeights es weights → AreNodeWeights fs weights
 weights_alike p es fs weights same is =
     let parts = parts_alike p es fs same in
     record {
       few = omega (arith, is.few, length-map es entry_part, ap length parts, length-map fs entry_part);
-      low = is.low;
-      multiples = subst (AreMultiples (naturals weights)) parts is.multiples;
+      each = is.each;
+      multiples = subst (AreMultiples weights) parts is.multiples;
       most = is.most;
     }
 

@@ -2,6 +2,7 @@
 use Rattle.std.proofs.Common.{◌≡◌, ℕ, zero, suc, ◌+◌, ◌<◌, List, [], ◌∷◌, ◌++◌, length, get_or, refl, ap, sym, subst, ◌∙◌, map-id, arith}
 use Rattle.std.specs.List.{AllZip, HoldsAt, range_with_len}
 use Rattle.std.proofs.lemmas.List.FromFn.{get_or-range_with_len, length-range_with_len, map-range_with_len_more}
+use Rattle.std.proofs.lemmas.Slice.Zip.{all_zipped_more}
 use Rattle.node_rounds.specs.declared.outcomes.Outcome.{Outcome}
 use Rattle.node_rounds.specs.declared.rounds.Round.{Round}
 use Rattle.node_rounds.specs.Outcomes.{IsTurnOf, IsOutcomeOf}
@@ -75,14 +76,8 @@ range_further : (n : ℕ) → range_with_len 0 (n + 1) ≡ range_with_len 0 n ++
 range_further n =
     sym (map-id (range_with_len 0 (n + 1))) ∙ map-range_with_len_more (λ (x : ℕ). x) 0 n n (omega arith) ∙ ap (λ (ns : List ℕ). ns ++ n ∷ []) (map-id (range_with_len 0 n))
 
-zip_further : {B : Type 0} (R : ℕ → B → Type 0) (ns : List ℕ) (ys : List B) (n : ℕ) (y : B) → AllZip R ns ys → R n y → AllZip R (ns ++ n ∷ []) (ys ++ y ∷ [])
-zip_further R [] [] n y all here = (here, tt)
-zip_further R [] (z ∷ ys) n y all here = absurd all
-zip_further R (m ∷ ns) [] n y all here = absurd all
-zip_further R (m ∷ ns) (z ∷ ys) n y all here = (all.0, zip_further R ns ys n y all.1 here)
-
 pub further : {B : Type 0} (R : ℕ → B → Type 0) (n : ℕ) (ys more : List B) (y : B) → AllZip R (range_with_len 0 n) ys → R n y → more ≡ ys ++ y ∷ []
     → AllZip R (range_with_len 0 (n + 1)) more
 further R n ys more y all here is =
     subst (AllZip R (range_with_len 0 (n + 1))) (sym is)
-    (subst (λ (ns : List ℕ). AllZip R ns (ys ++ y ∷ [])) (sym (range_further n)) (zip_further R (range_with_len 0 n) ys n y all here))
+    (subst (λ (ns : List ℕ). AllZip R ns (ys ++ y ∷ [])) (sym (range_further n)) (all_zipped_more R (range_with_len 0 n) ys n y all here))

@@ -17,7 +17,7 @@ pub struct Pending {
     /// Its branch.
     pub branch: Branch,
     /// Its weights on the first cuts, in 10^-6.
-    pub weights: Vec<i128>,
+    pub weights: Vec<u128>,
     /// How often it waited for a set by its advice.
     pub waits: u32,
 }
@@ -34,7 +34,7 @@ pub enum Outcome {
         /// The order.
         order: Vec<u32>,
         /// The weights.
-        weights: Vec<i128>,
+        weights: Vec<u128>,
         /// Whether this counts as a wait.
         waited: bool,
         /// The sums of the cut, where it was worked out along with the turn.
@@ -43,7 +43,7 @@ pub enum Outcome {
     /// The node is split.
     Split {
         /// The weights.
-        weights: Vec<i128>,
+        weights: Vec<u128>,
         /// The free nodes of which a side stays, ascending, each with that side.
         fixings: Vec<(u32, Side)>,
         /// The advice, whose point names the node that is branched on.
@@ -70,7 +70,7 @@ impl Outcome {
                 weights: weights.to_vec(alloc)?,
                 waited: *waited,
                 sums: match sums {
-                    Some(sums) => Some(copied_sums(alloc, sums)?),
+                    Some(sums) => Some(sums.copy(alloc)?),
                     None => None,
                 },
             }),
@@ -98,23 +98,6 @@ fn copied_line(alloc: Global, line: &TreeLine) -> Result<TreeLine, AllocError>
         TreeLine::Block { i, j } => TreeLine::Block { i: *i, j: *j },
         TreeLine::Count => TreeLine::Count,
     })
-}
-
-// The same numbers again.
-fn copied_numbers(alloc: Global, numbers: &[i128]) -> Result<Vec<i128>, AllocError>
-    ensures { IfOk result (λ v. v.items ≡ numbers.now) }
-{
-    numbers.to_vec(alloc)
-}
-
-// The same sums again.
-fn copied_sums(alloc: Global, sums: &CutSums) -> Result<CutSums, AllocError>
-    ensures { IfOk result (λ copy. copy ≡ sums.now) }
-{
-    let set = sums.set().copy(alloc)?;
-    let total = sums.total();
-    let loads = copied_numbers(alloc, sums.loads())?;
-    Ok(CutSums::new(set, total, loads))
 }
 
 // The same advice again.

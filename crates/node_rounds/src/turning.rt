@@ -198,8 +198,8 @@ fn better_of(
     alloc: Global,
     present: &NodeWeights,
     branch: &Branch,
-    advised: &[i128],
-) -> Result<Vec<i128>, AllocError>
+    advised: &[u128],
+) -> Result<Vec<u128>, AllocError>
     requires plain { present.now.instance.now.wanted ≡ None }
     requires present { AreWeighed present.now }
     requires branch { IsBranch present.now.instance.now branch.now }

@@ -1,9 +1,8 @@
 //! The bound of a branch where just so many hubs are wanted, and whether it closes a target.
 
-ghost use Rattle.std.specs.Prelude.{◌≡◌, ℕ, ◌^◌, ◌↔◌, ◌<◌, ◌≤◌, pos, ◌≤ℤ◌, length, slice_index_or, IsTrue, Some};
+ghost use Rattle.std.specs.Prelude.{◌≡◌, ℕ, ◌^◌, ◌↔◌, ◌<◌, ◌≤◌, pos, length, slice_index_or, IsTrue, Some};
 ghost use Rattle.hub_spec.specs.Limits.{most_nodes};
 ghost use Rattle.hub_spec.specs.Trees.{Closes, HasRoom, counted_bound};
-ghost use Rattle.hub_model.specs.Amounts.{natural};
 ghost use Rattle.leaf_bound.specs.Numbers.{AreWeightingNumbers, IsBranchBelow, weighting_of};
 ghost use Rattle.leaf_bound.specs.Weighing.{most_gain, most_bound, IsWithin};
 ghost use Rattle.p_hub.specs.Counted.{counted_of, gain_in, AreRising};
@@ -60,13 +59,13 @@ pub(crate) fn bound_by_rising(
 
 /// Tells whether the bound of the branch with `p` wanted hubs under these weights closes the target, which is in
 /// 10^-12: no plan of the branch with `p` hubs then costs less than the target.
-pub fn closes_p(weighting: &Weighting, branch: &Branch, target: i128, p: u32) -> bool
+pub fn closes_p(weighting: &Weighting, branch: &Branch, target: u128, p: u32) -> bool
     requires numbers { AreWeightingNumbers weighting.now }
     requires nodes { IsBranchBelow (length weighting.now.fixed.now) branch.now }
-    requires target { (pos 0 ≤ℤ target) × (target ≤ℤ pos (10 ^ 30)) }
+    requires target { target ≤ 10 ^ 30 }
     requires room { HasRoom (Some p) branch.now }
     ensures { IsTrue result
-        ↔ Closes (natural weighting.now.denom) (natural target) (counted_of p (weighting_of weighting.now) branch.now) }
+        ↔ Closes weighting.now.denom target (counted_of p (weighting_of weighting.now) branch.now) }
 {
     bound_p(weighting, branch, p) > threshold(weighting.denom, target)
 }

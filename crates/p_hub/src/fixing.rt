@@ -1,7 +1,6 @@
 //! The free candidates of which a side stays.
 
-ghost use Rattle.std.specs.Prelude.{◌≡◌, ◌^◌, false, pos, ◌≤ℤ◌, length, IfOk};
-ghost use Rattle.hub_model.specs.Amounts.{natural};
+ghost use Rattle.std.specs.Prelude.{◌≡◌, ◌^◌, ◌≤◌, false, length, IfOk};
 ghost use Rattle.leaf_bound.specs.Numbers.{AreWeightingNumbers, IsBranchBelow, weighting_of};
 ghost use Rattle.p_hub.specs.Fixing.{counted_closes, counted_fixings, IsBetween};
 
@@ -21,16 +20,16 @@ pub fn fix_p(
     alloc: Global,
     weighting: &Weighting,
     branch: &Branch,
-    target: i128,
+    target: u128,
     p: u32,
 ) -> Result<Vec<(u32, Side)>, AllocError>
     requires numbers { AreWeightingNumbers weighting.now }
     requires nodes { IsBranchBelow (length weighting.now.fixed.now) branch.now }
-    requires target { (pos 0 ≤ℤ target) × (target ≤ℤ pos (10 ^ 30)) }
+    requires target { target ≤ 10 ^ 30 }
     requires between { IsBetween p branch.now }
-    requires not_closed { counted_closes p (weighting_of weighting.now) (natural target) branch.now ≡ false }
+    requires not_closed { counted_closes p (weighting_of weighting.now) target branch.now ≡ false }
     ensures { IfOk result (λ sides. sides.items
-        ≡ counted_fixings p (weighting_of weighting.now) (natural target) branch.now) }
+        ≡ counted_fixings p (weighting_of weighting.now) target branch.now) }
 {
     let mut room = [0; ROOM];
     let gains = &mut room[..weighting.fixed.len()];

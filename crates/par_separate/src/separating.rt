@@ -20,7 +20,6 @@ use hub_io::Gate;
 use hub_model::Instance;
 use pareto_cuts::{Separation, SetTables};
 use plan_model::{Dual, HubSet};
-use separators::kept_sums;
 use std::alloc::{AllocError, Global};
 use std::thread::Threads;
 
@@ -100,7 +99,7 @@ pub fn separate_sums<R: Threads + Sync, G: Gate>(
     };
     let rows = answers(rt, alloc, &origins, instance.size(), workers, gate)?;
     let OriginSums { total, loads } = added(alloc, &separation, &rows)?;
-    kept_sums(alloc, set, total, &loads)
+    Ok(CutSums::new(set, total, loads))
 }
 
 // The tables of the hub set and the order, to all nodes.

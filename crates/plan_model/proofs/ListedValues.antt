@@ -1,5 +1,5 @@
 -- Values of nodes above 0, listed one by one, with signed values as a dual is made of them.
-use Rattle.std.proofs.Common.{◌≡◌, ℕ, ◌+◌, ◌<◌, ◌≤◌, ◌^◌, ℤ, pos, ◌≤ℤ◌, FitsSigned, to_z, of_z, false, nat_eq, List, [], ◌∷◌, ◌++◌, length, get_or, take, map, refl, ap, ap₂, sym, subst, ◌∙◌, ne_eqb, rules, arith}
+use Rattle.std.proofs.Common.{◌≡◌, ℕ, ◌+◌, ◌<◌, ◌≤◌, ◌^◌, ℤ, pos, ◌≤ℤ◌, FitsSigned, to_z, of_z, nat_eq, List, [], ◌∷◌, ◌++◌, length, get_or, take, map, refl, ap, ap₂, sym, subst, ◌∙◌, rules, arith}
 use Rattle.std.specs.Int.{w128}
 use Rattle.std.specs.List.Sorted.{IsStrictlyIncreasing}
 use Rattle.std.proofs.lemmas.Int.{ints, to_z-of_z}
@@ -30,15 +30,6 @@ listed_append v (m ∷ ms) k =
 signed_append : (es fs : List (ℕ × ℕ)) → signed_values (es ++ fs) ≡ signed_values es ++ signed_values fs
 signed_append [] fs = refl
 signed_append (e ∷ es) fs = ap (λ xs. (e.0, pos e.1) ∷ xs) (signed_append es fs)
-
--- the node with the value n, if that is above 0
-pub one_with : (k n : ℕ) (z : ℤ) → 0 < n → z ≡ pos n → (k, z) ∷ [] ≡ signed_values (values_listed (λ _. n) (k ∷ []))
-one_with k n z some is =
-    let apart : nat_eq n 0 ≡ false = ne_eqb n 0 (λ e. absurd (omega (arith, e, some))) in
-    rw apart (ap (λ (y : ℤ). (k, y) ∷ []) is)
-
-pub one_without : (k n : ℕ) → n ≤ 0 → [] ≡ signed_values (values_listed (λ _. n) (k ∷ []))
-one_without k n none = let nothing : n ≡ 0 = omega (arith, none) in rw nothing refl
 
 -- these are the values of the first i nodes
 pub record AreListedUpTo (v : ℕ → ℕ) (ks : List ℕ) (i : ℕ) (u : List (ℕ × ℤ)) : Type 0 where

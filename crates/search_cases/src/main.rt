@@ -11,7 +11,6 @@
 //!   row by row, but for the trunk's factor, which is in 10^-3
 //! - `fixed`: the fixed costs of its nodes, in 10^-12
 //! - `leaf WEIGHT ..`: the leaf with these weights on the first cuts
-//! - `kept TOTAL LOAD ..`: the sums of the cut of node 0, as a search keeps them
 //! - `sums HUB .. by fixed .. candidates .. trunk .. flows .. distances ..`: the sums of the cut of these hubs, by a
 //!   separator that was made for another instance
 //! - `search NODES`: what the search finds with this most number of nodes, or `all`
@@ -58,7 +57,6 @@ fn answer<R: Threads + Sync>(
     match first_word(line) {
         "#" => String::from_str(alloc, line),
         "leaf" => steps::leaf(alloc, line),
-        "kept" => steps::kept(alloc, line),
         _ => match instance_of(alloc, instance)? {
             Some(instance) => of_instance(rt, alloc, &instance, line),
             None => String::from_str(alloc, "no instance"),

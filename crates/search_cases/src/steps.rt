@@ -3,14 +3,14 @@
 ghost use Rattle.std.specs.Prelude.{IfOk, IfSome};
 ghost use Rattle.hub_spec.specs.Plans.{IsHubSet};
 
-use crate::instances::{instance_of, numbers, scaled};
+use crate::instances::{instance_of, numbers};
 use crate::texts::tree_text;
 use cut_pool::CutSums;
 use hub_model::Instance;
 use hub_plain::{is_hub_set, outside};
 use plan_model::HubSet;
 use search_steps::leaf_line;
-use separators::{Solo, kept_sums};
+use separators::Solo;
 use std::alloc::{AllocError, Global};
 
 /// The fixed costs of the nodes.
@@ -21,39 +21,13 @@ pub(crate) fn fixed(alloc: Global, instance: &Instance) -> Result<String, AllocE
 
 /// The leaf with the weights of the line.
 pub(crate) fn leaf(alloc: Global, line: &str) -> Result<String, AllocError> {
-    let weights = scaled(alloc, line, "leaf", 1)?;
+    let weights = numbers(alloc, line, "leaf")?;
+    let weights: Vec<u128> = weights.iter().map(|w| u128::from(*w)).collect(alloc)?;
     let mut lines = Vec::new(alloc);
-    if weights.iter().all(|weight| *weight >= 0) {
+    if weights.iter().all(|weight| *weight <= 1_000_000) {
         lines.push(leaf_line(alloc, &weights)?)?;
     }
     tree_text(alloc, &lines)
-}
-
-/// The sums of the line, as a search keeps them.
-pub(crate) fn kept(alloc: Global, line: &str) -> Result<String, AllocError> {
-    let amounts = amounts(alloc, line)?;
-    let [total, loads @ ..] = amounts.as_slice() else {
-        return String::from_str(alloc, "no total");
-    };
-    if *total > MOST || loads.iter().any(|load| *load > MOST) {
-        return String::from_str(alloc, "above the limit");
-    }
-    let sums = kept_sums(alloc, HubSet::of(alloc, &[0])?, *total, loads)?;
-    sums_told(alloc, &sums)
-}
-
-// The greatest amount that is kept.
-const MOST: u128 = 1_000_000_000_000_000_000_000_000_000_000;
-
-// The amounts behind the first word; a word that is none is left out.
-fn amounts(alloc: Global, line: &str) -> Result<Vec<u128>, AllocError> {
-    let mut amounts = Vec::new(alloc);
-    for word in line.split_whitespace() {
-        if let Ok(amount) = word.parse() {
-            amounts.push(amount)?;
-        }
-    }
-    Ok(amounts)
 }
 
 /// The sums of the cut of the line's hubs, by a separator made for the line's instance.

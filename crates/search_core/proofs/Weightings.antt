@@ -1,16 +1,10 @@
 -- What the weightings of a search are made of is within its limits.
-use Rattle.std.proofs.Common.{◌≡◌, ℕ, ◌<◌, ◌≤◌, pos, List, length, All, Contains, sym, ap, subst, ◌∙◌, arith}
-use Rattle.std.proofs.lemmas.Int.{ints}
+use Rattle.std.proofs.Common.{◌≡◌, ℕ, ◌<◌, List, length, All, Contains, sym, ap, subst, ◌∙◌}
 use Rattle.std.proofs.lemmas.List.Elements.{All-weaker}
-use Rattle.hub_spec.specs.Limits.{most_cost}
 use Rattle.hub_spec.specs.Problem.{Problem, IsProblem}
 use Rattle.hub_spec.specs.Trees.{Branching, IsBranch}
 use Rattle.hub_spec.proofs.Mixes.{candidate_is_node}
-use Rattle.leaf_bound.specs.Numbers.{IsSumOf, IsBranchBelow}
-
--- with the part 1 the limit of a sum is that of a cost
-pub is_sum : (n : ℕ) → n ≤ most_cost → IsSumOf 1 (pos n)
-is_sum n low = (omega (arith, ints), omega (arith, ints, low))
+use Rattle.leaf_bound.specs.Numbers.{IsBranchBelow}
 
 nodes_below : (p : Problem) (ks : List ℕ) → IsProblem p → All (Contains p.candidates) ks → All (λ k. k < p.size) ks
 nodes_below p ks ok are = All-weaker (Contains p.candidates) (λ k. k < p.size) (λ k c. candidate_is_node p k ok c) ks are

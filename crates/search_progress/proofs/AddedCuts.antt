@@ -1,5 +1,5 @@
 -- One more cut: the definition's state once the set is separated.
-use Rattle.std.proofs.Common.{◌≡◌, ℕ, ℤ, pos, ◌+◌, ◌<◌, ◌≤◌, List, [], ◌∷◌, ◌++◌, length, Option, Some, Result, Ok, Err, IsOk, OnOk, true≢false, Vec, Global, refl, ap, ap₂, sym, subst, ◌∙◌, arith}
+use Rattle.std.proofs.Common.{◌≡◌, ℕ, ◌+◌, ◌<◌, ◌≤◌, List, [], ◌∷◌, ◌++◌, length, Option, Some, Result, Ok, Err, IsOk, OnOk, true≢false, Vec, Global, refl, ap, ap₂, sym, subst, ◌∙◌, arith}
 use Rattle.std.proofs.lemmas.List.{map-append, length_push}
 use Rattle.std.proofs.lemmas.List.Elements.{All-push}
 use Rattle.hub_spec.specs.Limits.{most_cost, most_cuts}
@@ -8,7 +8,6 @@ use Rattle.hub_spec.specs.Plans.{IsHubSet, IsSetCost}
 use Rattle.hub_spec.specs.Cuts.{Cut}
 use Rattle.hub_spec.proofs.SetCosts.{one_set_cost}
 use Rattle.core_spec.specs.CoreCuts.{Mark}
-use Rattle.hub_model.specs.Amounts.{natural}
 use Rattle.plan_model.specs.declared.tree_lines.TreeLine.{TreeLine}
 use Rattle.marked_cuts.specs.MarkedCuts.{MarkedCut}
 use Rattle.kept_cuts.specs.Kept.{Kept, kept_set, kept_cut, kept_mark}
@@ -114,13 +113,13 @@ ok_gives (Ok x) ok told = told
 ok_gives (Err e) ok told = absurd (true≢false (sym ok))
 
 -- the entry that was added, with the sums that were told of its cut
-pub sums_added : (p : Problem) (kept more : List Entry) (r : Result ℕ Refused) (sums : Sums) (order : List ℕ) (signed_total : ℤ) (least opening : ℕ)
+pub sums_added : (p : Problem) (kept more : List Entry) (r : Result ℕ Refused) (sums : Sums) (order : List ℕ) (least opening : ℕ)
     → IsProblem p → IsOk r → OnOk r (more ≡ kept ++ entry_of sums order ∷ []) → IsSumsOf p (entry_of sums order)
-    → signed_total ≡ pos sums.total → least ≡ natural signed_total → opening ≡ opening_cost p sums.hubs
+    → least ≡ sums.total → opening ≡ opening_cost p sums.hubs
     → IsAdded p kept more (entry_of sums order) sums.hubs (least + opening)
-sums_added p kept more r sums order signed_total least opening ok succeeds added is signed_is total_is opening_is = record {
+sums_added p kept more r sums order least opening ok succeeds added is total_is opening_is = record {
   entries = ok_gives r succeeds added;
-  cost = sums_cost p sums order least opening ok is (total_is ∙ ap natural signed_is) opening_is;
+  cost = sums_cost p sums order least opening ok is total_is opening_is;
 }
 
 -- the entry of a core cut, whose set has this cost

@@ -14,9 +14,9 @@ ghost use Rattle.search_progress.specs.Progressing.{state_of, IsGoing, IsAt};
 ghost use Rattle.search_progress.specs.Separating.{HasCut, IsAdded};
 
 use crate::progress::Progress;
-use assign_sub::assign;
+use assign_sub::cost_of_set;
 use cut_pool::{CutSums, Pool};
-use hub_model::{Instance, MOST_CUTS, unsigned};
+use hub_model::{Instance, MOST_CUTS};
 use marked_cuts::MarkedCut;
 use plan_model::HubSet;
 use search_core::Task;
@@ -91,7 +91,7 @@ fn add_sums(
     ensures { IfOk result (IsAdded instance.now pool.old.entries pool.new.entries (entry_of sums order.items) sums.hubs) }
 {
     let opening = instance.opening_cost(sums.set().members());
-    let cost = unsigned(sums.total()) + opening;
+    let cost = sums.total() + opening;
     if pool.add(sums, order).is_err() {
         return Err(AllocError);
     }
@@ -112,8 +112,7 @@ fn add_core(
     ensures { let p = instance.now in
         IfOk result (IsAdded p pool.old.entries pool.new.entries (core_entry p.size cut) cut.mark.hubs) }
 {
-    let set = HubSet::of(alloc, cut.mark.hubs())?;
-    let cost = unsigned(assign(alloc, instance, &set)?.cost);
+    let cost = cost_of_set(instance, cut.mark.hubs());
     if pool.add_core(alloc, instance.size(), cut).is_err() {
         return Err(AllocError);
     }

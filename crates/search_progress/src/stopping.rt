@@ -21,7 +21,7 @@ pub fn stopped_leaf<R: Rule>(
     task: &Task,
     progress: &mut Progress,
     branch: &Branch,
-    weights: &[i128],
+    weights: &[u128],
 ) -> Result<TreeLine, AllocError>
     requires serves { R.serves rule.now task.now.instance.now }
     requires going { IsGoing task.now progress.old }

@@ -1,5 +1,5 @@
 -- A pool that grows, by separated cuts and by given ones, and the numbers that it finds.
-use Rattle.std.proofs.Common.{◌≡◌, ◌≢◌, ℕ, ◌+◌, ◌-◌, ◌<◌, ℤ, true, false, nat_lt, List, [], ◌∷◌, ◌++◌, length, map, get_or, Option, Some, None, IfSome, IfNone, position, option_map, refl, sym, subst, ap, ◌∙◌, append-nil, lt-ltb, le-ltb, arith}
+use Rattle.std.proofs.Common.{◌≡◌, ◌≢◌, ℕ, ◌+◌, ◌-◌, ◌<◌, true, false, nat_lt, List, [], ◌∷◌, ◌++◌, length, map, get_or, Option, Some, None, IfSome, IfNone, position, option_map, refl, sym, subst, ap, ◌∙◌, append-nil, lt-ltb, le-ltb, arith}
 use Rattle.std.specs.List.{position_or_len}
 use Rattle.std.proofs.lemmas.Bool.{false_from_ne_true}
 use Rattle.std.proofs.lemmas.List.{append_assoc, length-append, length-map, get_or-map, map-append}
@@ -9,7 +9,6 @@ use Rattle.std.proofs.lemmas.Slice.Eq.{bytes_eq-Decides}
 use Rattle.hub_spec.specs.Problem.{Problem}
 use Rattle.hub_spec.specs.Cuts.{Cut}
 use Rattle.leaf_bound.specs.Bounds.{AreMultiples}
-use Rattle.leaf_bound.specs.Numbers.{naturals}
 use Rattle.kept_cuts.specs.Kept.{by_set, kept_set, kept_mark}
 use Rattle.search_spec.specs.States.{is_of, number_in_pool}
 use Rattle.search_spec.specs.Again.{with_given}
@@ -38,12 +37,12 @@ multiples_stay (w ∷ ws) [] more are = absurd are
 multiples_stay (w ∷ ws) (e ∷ parts) more are = (are.0, multiples_stay ws parts more are.1)
 
 -- a node's weights are a node's weights where the pool has grown
-pub weights_stay : (before after : List Entry) (ws : List ℤ) → HasGrown before after → AreNodeWeights before ws → AreNodeWeights after ws
+pub weights_stay : (before after : List Entry) (ws : List ℕ) → HasGrown before after → AreNodeWeights before ws → AreNodeWeights after ws
 weights_stay before after ws grown are = record {
   few = omega (arith, are.few, ap length grown.is, length-append before grown.more);
-  low = are.low;
-  multiples = subst (AreMultiples (naturals ws)) (sym (ap (map entry_part) grown.is ∙ map-append entry_part before grown.more))
-      (multiples_stay (naturals ws) (map entry_part before) (map entry_part grown.more) are.multiples);
+  each = are.each;
+  multiples = subst (AreMultiples ws) (sym (ap (map entry_part) grown.is ∙ map-append entry_part before grown.more))
+      (multiples_stay ws (map entry_part before) (map entry_part grown.more) are.multiples);
   most = are.most;
 }
 

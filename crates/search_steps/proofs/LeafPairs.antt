@@ -1,17 +1,15 @@
 -- The weights of a leaf, listed cut by cut.
-use Rattle.std.proofs.Common.{◌≡◌, ℕ, ◌+◌, ◌<◌, ◌≤◌, ℤ, pos, negsuc, ◌≤ℤ◌, ◌<ℤ◌, List, [], ◌∷◌, ◌++◌, length, take, get_or, map, filter, nat_lt, All, Bool, true, if◌then◌else◌, refl, sym, ap, ap₂, subst, ◌∙◌, append-nil, ltb-true, arith}
+use Rattle.std.proofs.Common.{◌≡◌, ℕ, ◌+◌, ◌<◌, ◌≤◌, ℤ, pos, ◌≤ℤ◌, List, [], ◌∷◌, ◌++◌, length, take, get_or, map, filter, nat_lt, All, Bool, true, if◌then◌else◌, refl, sym, ap, subst, ◌∙◌, append-nil, lt-ltb, ltb-true, arith}
 use Rattle.std.specs.List.{enumerate_from}
 use Rattle.std.specs.List.Sorted.{IsStrictlyIncreasing}
-use Rattle.std.proofs.lemmas.Bool.{ltb-false}
 use Rattle.std.proofs.lemmas.Int.{ints}
-use Rattle.std.proofs.lemmas.List.{length-map, map-append, take_more, length-take}
+use Rattle.std.proofs.lemmas.List.{map-append, take_more, length-take}
 use Rattle.std.proofs.lemmas.List.FromFn.{length-enumerate_from, get_or-enumerate_from}
 use Rattle.std.proofs.lemmas.List.Elements.{All-map, All-weaker, All-filter, All-contains, All-from_get_or, filter-append, filter_passes}
 use Rattle.hub_spec.proofs.Ascending.{ascend_nil, ascend_cons}
 use Rattle.hub_spec.proofs.SumLemmas.{by_test}
 use Rattle.hub_model.specs.Amounts.{natural}
 use Rattle.plan_model.specs.Mixtures.{natural_weights, signed_weights, IsSignedMixture}
-use Rattle.leaf_bound.specs.Numbers.{naturals}
 use Rattle.leaf_bound.specs.Theorems.{weight_pairs}
 use Rattle.search_steps.specs.Weights.{pairs_of}
 
@@ -78,43 +76,30 @@ pairs_push ws w =
     ap (filter has_weight) (enumerate_push 1 ws w) ∙ filter-append has_weight (enumerate_from 1 ws) ((1 + length ws, w) ∷ [])
 
 -- the weights so far, with the next
-next_weights : (weights : List ℤ) (i : ℕ) → i < length weights
-    → naturals (take (i + 1) weights) ≡ naturals (take i weights) ++ natural (get_or weights i (pos 0)) ∷ []
-next_weights weights i low =
-    ap naturals (take_more weights i (pos 0) low) ∙ map-append natural (take i weights) (get_or weights i (pos 0) ∷ [])
+pairs_next : (weights : List ℕ) (i : ℕ) → i < length weights
+    → pairs_of (take (i + 1) weights) ≡ pairs_of (take i weights) ++ (if nat_lt 0 (get_or weights i 0) then (1 + i, get_or weights i 0) ∷ [] else [])
+pairs_next weights i low =
+    let w = get_or weights i 0 in
+    let many : length (take i weights) ≡ i = omega (arith, length-take i weights, low) in
+    ap weight_pairs (take_more weights i 0 low) ∙ pairs_push (take i weights) w
+    ∙ ap (λ (n : ℕ). pairs_of (take i weights) ++ (if nat_lt 0 w then (1 + n, w) ∷ [] else [])) many
 
-many_so_far : (weights : List ℤ) (i : ℕ) → i < length weights → length (naturals (take i weights)) ≡ i
-many_so_far weights i low = omega (arith, length-map (take i weights) natural, length-take i weights, low)
-
-pairs_next : (weights : List ℤ) (i : ℕ) (z : ℤ) → i < length weights → z ≡ get_or weights i (pos 0)
-    → pairs_of (take (i + 1) weights) ≡ pairs_of (take i weights) ++ (if nat_lt 0 (natural z) then (1 + i, natural z) ∷ [] else [])
-pairs_next weights i z low is =
-    ap weight_pairs (next_weights weights i low) ∙ pairs_push (naturals (take i weights)) (natural (get_or weights i (pos 0)))
-    ∙ ap₂ (λ (n : ℕ) (x : ℤ). pairs_of (take i weights) ++ (if nat_lt 0 (natural x) then (1 + n, natural x) ∷ [] else []))
-    (many_so_far weights i low) (sym is)
-
-none_above : (z : ℤ) → z ≤ℤ pos 0 → natural z ≡ 0
-none_above (pos n) none = omega (arith, ints, none)
-none_above (negsuc n) none = refl
-
-pub pair_passed : (weights : List ℤ) (i : ℕ) (pairs : List (ℤ × ℤ)) (z : ℤ) → i < length weights → z ≡ get_or weights i (pos 0) → z ≤ℤ pos 0
+pub pair_passed : (weights : List ℕ) (i : ℕ) (pairs : List (ℤ × ℤ)) → i < length weights → get_or weights i 0 ≤ 0
     → pairs ≡ signed_weights (pairs_of (take i weights)) → pairs ≡ signed_weights (pairs_of (take (i + 1) weights))
-pair_passed weights i pairs z low is none so_far =
+pair_passed weights i pairs low none so_far =
     let before = pairs_of (take i weights) in
-    so_far ∙ ap signed_weights (sym (pairs_next weights i z low is
-    ∙ ap (λ (n : ℕ). before ++ (if nat_lt 0 n then (1 + i, n) ∷ [] else [])) (none_above z none) ∙ append-nil before))
+    let is_none : get_or weights i 0 ≡ 0 = omega (arith, none) in
+    so_far ∙ ap signed_weights (sym (pairs_next weights i low
+    ∙ ap (λ (n : ℕ). before ++ (if nat_lt 0 n then (1 + i, n) ∷ [] else [])) is_none ∙ append-nil before))
 
-is_above : (n : ℕ) → pos 0 <ℤ pos n → nat_lt 0 n ≡ true
-is_above n some = by_test (nat_lt 0 n) (λ e. e) (λ e. let none = ltb-false 0 n e in absurd (omega (arith, ints, none, some)))
-
-pub pair_pushed : (weights : List ℤ) (i : ℕ) (pairs : List (ℤ × ℤ)) (z number : ℤ) → i < length weights → z ≡ get_or weights i (pos 0) → pos 0 <ℤ z
-    → number ≡ pos (i + 1) → pairs ≡ signed_weights (pairs_of (take i weights))
-    → pairs ++ (number, z) ∷ [] ≡ signed_weights (pairs_of (take (i + 1) weights))
-pair_pushed weights i pairs (pos n) number low is some is_number so_far =
+pub pair_pushed : (weights : List ℕ) (i : ℕ) (pairs : List (ℤ × ℤ)) (number weight : ℤ) → i < length weights → 0 < get_or weights i 0
+    → number ≡ pos (i + 1) → weight ≡ pos (get_or weights i 0) → pairs ≡ signed_weights (pairs_of (take i weights))
+    → pairs ++ (number, weight) ∷ [] ≡ signed_weights (pairs_of (take (i + 1) weights))
+pair_pushed weights i pairs number weight low some is_number is_weight so_far =
     let before = pairs_of (take i weights) in
+    let n = get_or weights i 0 in
     let first : number ≡ pos (1 + i) = is_number ∙ ap pos (omega arith) in
-    ap₂ (λ (ps : List (ℤ × ℤ)) (m : ℤ). ps ++ (m, pos n) ∷ []) so_far first
+    (λ j. so_far j ++ (first j, is_weight j) ∷ [])
     ∙ sym (map-append (λ (e : ℕ × ℕ). (pos e.0, pos e.1)) before ((1 + i, n) ∷ []))
-    ∙ ap signed_weights (sym (pairs_next weights i (pos n) low is
-    ∙ ap (λ (t : Bool). before ++ (if t then (1 + i, n) ∷ [] else [])) (is_above n some)))
-pair_pushed weights i pairs (negsuc n) number low is some is_number so_far = absurd (omega (arith, ints, some))
+    ∙ ap signed_weights (sym (pairs_next weights i low
+    ∙ ap (λ (t : Bool). before ++ (if t then (1 + i, n) ∷ [] else [])) (lt-ltb 0 n some)))

@@ -1,20 +1,18 @@
 -- The master of a pool's cuts, and what it advises a search.
-use Rattle.std.proofs.Common.{◌≡◌, ℕ, zero, suc, ◌*◌, ◌/◌, ◌<◌, ◌≤◌, ℤ, pos, List, [], ◌∷◌, ◌++◌, length, map, get_or, sum, All, Contains, inl, inr, refl, sym, ap, ap₂, subst, ◌∙◌, Option, div-mul-le_self, arith, ◌+◌, Some, None}
+use Rattle.std.proofs.Common.{◌≡◌, ℕ, zero, suc, ◌*◌, ◌/◌, ◌<◌, ◌≤◌, List, [], ◌∷◌, ◌++◌, length, map, get_or, sum, All, Contains, inl, inr, refl, sym, ap, ap₂, subst, ◌∙◌, Option, div-mul-le_self, arith, ◌+◌, Some, None}
 use Rattle.std.specs.Prelude.{slice_index}
 use Rattle.std.proofs.Math.Nat.{mul-div_cancel}
-use Rattle.std.proofs.lemmas.List.{length-map, get_or-map}
+use Rattle.std.proofs.lemmas.List.{length-map}
 use Rattle.std.proofs.lemmas.Grind.{same_number_lists}
 use Rattle.std.proofs.lemmas.List.FromFn.{length-map-range_with_len}
-use Rattle.std.proofs.lemmas.List.Elements.{All-head, All-tail, All-append, All-map, All-weaker, All-contains, Contains-append_left, Contains-append_right}
-use Rattle.std.proofs.lemmas.List.Sums.{sum_by-cons}
+use Rattle.std.proofs.lemmas.List.Elements.{All-head, All-tail, All-append, All-map, All-weaker, All-contains, All-from_get_or, Contains-append_left, Contains-append_right}
+use Rattle.std.proofs.lemmas.List.Sums.{sum_by-cons, get_or-le-sum_by}
 use Rattle.hub_spec.specs.Limits.{most_part}
 use Rattle.hub_spec.specs.Problem.{Problem, IsProblem}
 use Rattle.hub_spec.proofs.Sets.{All-from_contains}
 use Rattle.hub_spec.specs.Cuts.{Cut, IsCut}
 use Rattle.hub_spec.specs.Trees.{Branching, IsBranch}
-use Rattle.hub_model.specs.Amounts.{natural, IsNatural}
 use Rattle.leaf_bound.specs.Bounds.{AreMultiples}
-use Rattle.leaf_bound.specs.Numbers.{naturals}
 use Rattle.leaf_bound.proofs.LeafWeights.{pairs_mix}
 use Rattle.frac_master.specs.Masters.{MasterNumbers, AreMasterNumbers, AreWithinTotals, master_of, candidates_of, greatest_number}
 use Rattle.frac_master.specs.Advice.{Advised, advice, AreMixWeights}
@@ -29,7 +27,7 @@ use Rattle.search_steps.specs.Pools.{IsPoolOf, pool_cuts, state_by}
 use Rattle.search_steps.specs.Advising.{with_share, advised_costs, unit_total, master_numbers, told_by, in_parts, advised_on, master_advising}
 use Rattle.search_steps.specs.Weights.{AreNodeWeights}
 use Rattle.search_steps.specs.Theorems.{AdvisingIsSound}
-use Rattle.search_steps.proofs.PoolNumbers.{lent_parts, lent_unit_totals, lent_unit_loads, parts_are, parts_least, naturals_rows, naturals_unit_totals, naturals_unit_loads, loads_least, totals_least, loads_below, loads_long}
+use Rattle.search_steps.proofs.PoolNumbers.{lent_parts, parts_are, parts_least, told_totals, told_loads, loads_below, loads_long}
 use Rattle.search_steps.proofs.PoolLoads.{AreAtMost, most_reached}
 
 -- ---- the fixed costs that the master is asked with
@@ -45,30 +43,27 @@ costs_long p cost fixed ok costs = ap length costs ∙ share_long p.wanted cost 
 -- ---- the numbers
 
 -- the numbers are those that the pool lends for one unit of its cuts' parts, with the fixed costs for an incumbent of this cost
-pub record AreMasters (p : Problem) (entries : List Entry) (cost : ℕ) (totals : List ℤ) (loads : List (List ℤ)) (fixed : List ℕ) : Type 0 where
+pub record AreMasters (p : Problem) (entries : List Entry) (cost : ℕ) (totals : List ℕ) (loads : List (List ℕ)) (fixed : List ℕ) : Type 0 where
   pub problem : IsProblem p
   pub pool : IsPoolOf p entries
   pub costs : fixed ≡ advised_costs p cost
-  pub are_totals : totals ≡ lent_unit_totals entries
-  pub are_loads : loads ≡ lent_unit_loads entries
+  pub are_totals : totals ≡ unit_totals entries
+  pub are_loads : loads ≡ unit_loads entries
 
-pub many_totals : (p : Problem) (entries : List Entry) (cost : ℕ) (totals : List ℤ) (loads : List (List ℤ)) (fixed : List ℕ)
+pub many_totals : (p : Problem) (entries : List Entry) (cost : ℕ) (totals : List ℕ) (loads : List (List ℕ)) (fixed : List ℕ)
     → AreMasters p entries cost totals loads fixed → length totals ≡ length entries
 many_totals p entries cost totals loads fixed are =
-    ap length are.are_totals ∙ length-map (unit_totals entries) pos ∙ length-map entries (λ (e : Entry). e.total / entry_part e)
+    ap length are.are_totals ∙ length-map entries (λ (e : Entry). e.total / entry_part e)
 
-pub numbers_serve : (p : Problem) (entries : List Entry) (cost : ℕ) (totals : List ℤ) (loads : List (List ℤ)) (fixed : List ℕ)
+pub numbers_serve : (p : Problem) (entries : List Entry) (cost : ℕ) (totals : List ℕ) (loads : List (List ℕ)) (fixed : List ℕ)
     → AreMasters p entries cost totals loads fixed → AreMasterNumbers totals loads fixed
 numbers_serve p entries cost totals loads fixed are = record {
-  one_each = ap length are.are_loads ∙ length-map (unit_loads entries) (map pos) ∙ length-map entries unit_row
-      ∙ sym (many_totals p entries cost totals loads fixed are);
-  as_long = subst (All (λ (row : List ℤ). length row ≡ length fixed)) (sym are.are_loads)
+  one_each = ap length are.are_loads ∙ length-map entries unit_row ∙ sym (many_totals p entries cost totals loads fixed are);
+  as_long = subst (All (λ (row : List ℕ). length row ≡ length fixed)) (sym are.are_loads)
       (loads_long p entries (length fixed) are.pool (costs_long p cost fixed are.problem are.costs));
-  totals_low = subst (All IsNatural) (sym are.are_totals) (totals_least entries);
-  loads_low = subst (All (λ (row : List ℤ). All IsNatural row)) (sym are.are_loads) (loads_least entries);
 }
 
-pub within_totals : (p : Problem) (entries : List Entry) (cost : ℕ) (totals : List ℤ) (loads : List (List ℤ)) (fixed : List ℕ)
+pub within_totals : (p : Problem) (entries : List Entry) (cost : ℕ) (totals : List ℕ) (loads : List (List ℕ)) (fixed : List ℕ)
     → AreMasters p entries cost totals loads fixed → AreWithinTotals (most_stated entries) totals loads
 within_totals p entries cost totals loads fixed are =
     rw (are.are_totals, are.are_loads) (loads_below p entries are.problem are.pool)
@@ -91,11 +86,11 @@ is_master p cuts cost b ok is =
     }
 
 -- the numbers are those of the master of the cuts
-masters_same : (p : Problem) (entries : List Entry) (cost : ℕ) (totals : List ℤ) (loads : List (List ℤ)) (fixed : List ℕ)
+masters_same : (p : Problem) (entries : List Entry) (cost : ℕ) (totals : List ℕ) (loads : List (List ℕ)) (fixed : List ℕ)
     → AreMasters p entries cost totals loads fixed → master_of totals loads fixed ≡ master_numbers p (pool_cuts p entries) cost
 masters_same p entries cost totals loads fixed are =
     let of : List ℕ → List (List ℕ) → MasterNumbers = λ t l. record { totals = t; loads = l; fixed = fixed } in
-    ap₂ of (ap naturals are.are_totals ∙ naturals_unit_totals p entries are.pool) (ap (map naturals) are.are_loads ∙ naturals_unit_loads p entries are.pool)
+    ap₂ of (are.are_totals ∙ told_totals p entries are.pool) (are.are_loads ∙ told_loads p entries are.pool)
     ∙ ap (λ (f : List ℕ). record (master_numbers p (pool_cuts p entries) cost) { fixed = f }) are.costs
 
 -- the greatest load of the cuts that are kept with their duals is not above the greatest number of the master
@@ -115,13 +110,12 @@ at_candidates p b m rows is low =
     (λ row all. All-from_contains (λ k. slice_index row k ≤ m) p.candidates
     (λ k c. All-contains (λ k. slice_index row k ≤ m) (candidates_of b) k all (candidate_there p b k is c))) rows low
 
-pub most_serves : (p : Problem) (entries : List Entry) (cost : ℕ) (totals : List ℤ) (loads : List (List ℤ)) (fixed : List ℕ) (b : Branching)
+pub most_serves : (p : Problem) (entries : List Entry) (cost : ℕ) (totals : List ℕ) (loads : List (List ℕ)) (fixed : List ℕ) (b : Branching)
     → AreMasters p entries cost totals loads fixed → IsBranch p b → most_stated entries ≤ greatest_number (master_of totals loads fixed) b
 most_serves p entries cost totals loads fixed b are is =
     let m = master_of totals loads fixed in
     let g = greatest_number m b in
-    let same : m.loads ≡ unit_loads entries = ap (map naturals) are.are_loads ∙ naturals_rows (unit_loads entries) in
-    most_reached p entries g are.pool (subst (AreAtMost p g) same (at_candidates p b g m.loads is (loads_under m b)))
+    most_reached p entries g are.pool (subst (AreAtMost p g) are.are_loads (at_candidates p b g m.loads is (loads_under m b)))
 
 -- ---- weights lowered to multiples of the parts
 
@@ -154,21 +148,15 @@ parts_below (w ∷ ws) (e ∷ parts) =
     omega (arith, div-mul-le_self w e, parts_below ws parts, sum_by-cons (λ (n : ℕ). n) w ws, sum_by-cons (λ (n : ℕ). n) (w / e * e) (in_parts ws parts))
 
 -- weights that were lowered one by one
-pub lowered_each : (old new : List ℤ) (parts : List ℕ) → length new ≡ length old → length old ≤ length parts
-    → ((k : ℕ) → k < length old → get_or new k (pos 0) ≡ pos (natural (get_or old k (pos 0)) / get_or parts k 0 * get_or parts k 0))
-    → naturals new ≡ in_parts (naturals old) parts
+pub lowered_each : (old new parts : List ℕ) → length new ≡ length old → length old ≤ length parts
+    → ((k : ℕ) → k < length old → get_or new k 0 ≡ get_or old k 0 / get_or parts k 0 * get_or parts k 0) → new ≡ in_parts old parts
 lowered_each old new parts same few each =
-    let long : length (naturals old) ≡ length old = length-map old natural in
-    same_number_lists (naturals new) (in_parts (naturals old) parts)
-    (length-map new natural ∙ same ∙ sym (parts_long (naturals old) parts (omega (arith, long, few)) ∙ long))
-    (λ k low. let here : k < length old = omega (arith, low, length-map new natural, same) in
-    get_or-map natural new k (pos 0) 0 (omega (arith, here, same)) ∙ ap natural (each k here)
-    ∙ ap (λ (w : ℕ). w / get_or parts k 0 * get_or parts k 0) (sym (get_or-map natural old k (pos 0) 0 here))
-    ∙ sym (in_parts_at (naturals old) parts k (omega (arith, here, long)) (omega (arith, long, few))))
+    same_number_lists new (in_parts old parts) (same ∙ sym (parts_long old parts few))
+    (λ k low. let here : k < length old = omega (arith, low, same) in each k here ∙ sym (in_parts_at old parts k here few))
 
 -- ---- what is advised
 
-pub advice_is : (p : Problem) (entries : List Entry) (cost : ℕ) (totals : List ℤ) (loads : List (List ℤ)) (fixed : List ℕ) (b : Branching) (a : Advised) (ws : List ℕ)
+pub advice_is : (p : Problem) (entries : List Entry) (cost : ℕ) (totals : List ℕ) (loads : List (List ℕ)) (fixed : List ℕ) (b : Branching) (a : Advised) (ws : List ℕ)
     → AreMasters p entries cost totals loads fixed → a ≡ advice (master_of totals loads fixed) b → ws ≡ in_parts a.weights (lent_parts entries)
     → (hubs : List ℕ) (made : ℕ) (stop : Option ℕ) → told_by (record a { weights = ws }) ≡ master_advising p (state_by p entries hubs cost made stop) b
 unfolding master_advising
@@ -177,27 +165,28 @@ advice_is p entries cost totals loads fixed b a ws are is lowered hubs made stop
     ap (λ (xs : List ℕ). told_by (record a { weights = xs })) (lowered ∙ ap (in_parts a.weights) (parts_are p entries are.pool))
     ∙ ap (λ (x : Advised). told_by (advised_on cuts x)) (is ∙ ap (λ (n : MasterNumbers). advice n b) (masters_same p entries cost totals loads fixed are))
 
-pub point_long : (p : Problem) (entries : List Entry) (cost : ℕ) (totals : List ℤ) (loads : List (List ℤ)) (fixed : List ℕ) (b : Branching) (a : Advised)
+pub point_long : (p : Problem) (entries : List Entry) (cost : ℕ) (totals : List ℕ) (loads : List (List ℕ)) (fixed : List ℕ) (b : Branching) (a : Advised)
     → AreMasters p entries cost totals loads fixed → a ≡ advice (master_of totals loads fixed) b → length a.point ≡ p.size
 unfolding advice
 point_long p entries cost totals loads fixed b a are is =
     ap (λ (x : Advised). length x.point) is ∙ length-map-range_with_len _ 0 (length fixed) ∙ costs_long p cost fixed are.problem are.costs
 
-pub node_weights : (p : Problem) (entries : List Entry) (cost : ℕ) (totals : List ℤ) (loads : List (List ℤ)) (fixed : List ℕ) (weights lowered : List ℤ)
-    → AreMasters p entries cost totals loads fixed → AreMixWeights (length totals) weights → All IsNatural lowered
-    → naturals lowered ≡ in_parts (naturals weights) (lent_parts entries) → AreNodeWeights entries lowered
-node_weights p entries cost totals loads fixed weights lowered are mix low is =
+pub node_weights : (p : Problem) (entries : List Entry) (cost : ℕ) (totals : List ℕ) (loads : List (List ℕ)) (fixed weights lowered : List ℕ)
+    → AreMasters p entries cost totals loads fixed → AreMixWeights (length totals) weights
+    → lowered ≡ in_parts weights (lent_parts entries) → AreNodeWeights entries lowered
+node_weights p entries cost totals loads fixed weights lowered are mix is =
     let parts = lent_parts entries in
-    let long : length (naturals weights) ≡ length weights = length-map weights natural in
-    let few : length (naturals weights) ≤ length parts =
-    omega (arith, long, mix.one_each, many_totals p entries cost totals loads fixed are, length-map entries entry_part) in
+    let few : length weights ≤ length parts =
+    omega (arith, mix.one_each, many_totals p entries cost totals loads fixed are, length-map entries entry_part) in
     let least = All-weaker (λ (part : ℕ). (1 ≤ part) × (part ≤ most_part)) (λ (part : ℕ). 1 ≤ part) (λ part limits. limits.0) parts
     (parts_least p entries are.problem are.pool) in
+    let most : sum lowered ≤ denominator = omega (arith, ap sum is, parts_below weights parts, mix.most) in
     record {
-      few = omega (arith, length-map lowered natural, ap length is, parts_long (naturals weights) parts few, few, length-map entries entry_part);
-      low = low;
-      multiples = subst (λ (ws : List ℕ). AreMultiples ws parts) (sym is) (parts_multiple (naturals weights) parts few least);
-      most = omega (arith, ap sum is, parts_below (naturals weights) parts, mix.most);
+      few = omega (arith, ap length is, parts_long weights parts few, few, length-map entries entry_part);
+      each = All-from_get_or (λ (w : ℕ). w ≤ denominator) lowered 0
+          (λ k low. let within = get_or-le-sum_by (λ (n : ℕ). n) lowered k 0 low in omega (arith, within, most));
+      multiples = subst (λ (ws : List ℕ). AreMultiples ws parts) (sym is) (parts_multiple weights parts few least);
+      most = most;
     }
 
 -- ---- the advice is sound

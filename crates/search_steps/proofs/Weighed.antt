@@ -1,15 +1,13 @@
 -- The bound that a node's weights give is the bound in the search's state.
-use Rattle.std.proofs.Common.{◌≡◌, ℕ, ◌*◌, ◌≤◌, ℤ, pos, ◌-ℤ◌, List, length, map, get_or, All, Option, Some, None, if◌then◌else◌, int_lt, sym, ap, ap₂, subst, ◌∙◌, arith}
+use Rattle.std.proofs.Common.{◌≡◌, ℕ, ◌*◌, ◌≤◌, ℤ, pos, ◌-ℤ◌, List, length, get_or, All, Option, Some, None, if◌then◌else◌, int_lt, sym, ap, ap₂, subst, ◌∙◌, arith}
 use Rattle.std.specs.List.{AllZip}
-use Rattle.std.proofs.lemmas.Int.{ints}
 use Rattle.std.proofs.lemmas.List.{length-map}
 use Rattle.hub_spec.specs.Limits.{most_part, most_fixed_cost}
 use Rattle.hub_spec.specs.Problem.{Problem, IsProblem, fixed_cost}
 use Rattle.hub_spec.specs.Trees.{Branching, leaf_bound, IsBranch}
-use Rattle.hub_model.specs.Amounts.{natural, IsNatural}
 use Rattle.leaf_bound.specs.declared.weightings.Weighting as lent
 use Rattle.leaf_bound.specs.Bounds.{bound_of}
-use Rattle.leaf_bound.specs.Numbers.{naturals, AreWeightingNumbers, IsBranchBelow, weighting_of}
+use Rattle.leaf_bound.specs.Numbers.{AreWeightingNumbers, IsBranchBelow, weighting_of}
 use Rattle.leaf_bound.specs.Theorems.{weight_pairs, AreLoadsOf, IsWeightingOf}
 use Rattle.leaf_bound.proofs.LeafWeights.{leaf_has_bound}
 use Rattle.search_spec.specs.States.{State, denominator}
@@ -20,22 +18,22 @@ use Rattle.cut_pool.specs.Entries.{Entry}
 use Rattle.search_core.proofs.Weightings.{below_size, branch_below}
 use Rattle.search_steps.specs.Pools.{entry_cut, IsPoolOf, pool_cuts, state_by}
 use Rattle.search_steps.specs.Weights.{AreNodeWeights, IsNodeWeighting, pairs_of}
-use Rattle.search_steps.proofs.PoolNumbers.{totals_sums, loads_sums, parts_least, parts_are, naturals_totals, loads_zip}
+use Rattle.search_steps.proofs.PoolNumbers.{totals_sums, loads_sums, parts_least, parts_are, totals_are, loads_zip}
 
 -- the weighting has the pool's numbers and the problem's fixed costs, and the weights are a node's
-pub record AreLent (p : Problem) (entries : List Entry) (weights : List ℤ) (m : lent.Weighting) : Type 0 where
+pub record AreLent (p : Problem) (entries : List Entry) (weights : List ℕ) (m : lent.Weighting) : Type 0 where
   pub problem : IsProblem p
   pub pool : IsPoolOf p entries
   pub are_weights : AreNodeWeights entries weights
   pub is : IsNodeWeighting p entries weights m
 
-pub weighting_numbers : (p : Problem) (entries : List Entry) (weights : List ℤ) (m : lent.Weighting)
+pub weighting_numbers : (p : Problem) (entries : List Entry) (weights : List ℕ) (m : lent.Weighting)
     → AreLent p entries weights m → AreWeightingNumbers m
 weighting_numbers p entries weights m lent =
     let ok = lent.problem in
     let n = length m.fixed.now in
     let size : n ≡ p.size = ap length lent.is.are_fixed ∙ ok.cost_for_each_node in
-    let many : length m.totals.now ≡ length entries = ap length lent.is.are_totals ∙ length-map entries (λ (e : Entry). pos e.total) in
+    let many : length m.totals.now ≡ length entries = ap length lent.is.are_totals ∙ length-map entries (λ (e : Entry). e.total) in
     let few : length m.weights.now ≤ length entries = omega (arith, ap length lent.is.are_weights, lent.are_weights.few) in
     record {
       some_nodes = omega (arith, size, ok.size_limit);
@@ -44,39 +42,38 @@ weighting_numbers p entries weights m lent =
       are_totals = rw (lent.is.are_parts, lent.is.are_totals) (totals_sums p entries ok lent.pool);
       are_loads = rw (lent.is.are_parts, lent.is.are_loads) (loads_sums p entries n ok lent.pool size);
       are_fixed_costs = subst (All (λ (cost : ℕ). cost ≤ most_fixed_cost)) (sym lent.is.are_fixed) ok.cost_limit;
-      are_weights = subst (All IsNatural) (sym lent.is.are_weights) lent.are_weights.low;
       are_multiples = rw (lent.is.are_weights, lent.is.are_parts) lent.are_weights.multiples;
       weights_limit = rw (lent.is.are_weights, lent.is.is_denom) lent.are_weights.most;
-      denom_least = rw lent.is.is_denom (omega (arith, ints));
-      denom_most = rw lent.is.is_denom (omega (arith, ints));
+      denom_least = omega (arith, lent.is.is_denom);
+      denom_most = omega (arith, lent.is.is_denom);
     }
 
-pub weighted_below : (p : Problem) (entries : List Entry) (weights : List ℤ) (m : lent.Weighting) (b : Branching)
+pub weighted_below : (p : Problem) (entries : List Entry) (weights : List ℕ) (m : lent.Weighting) (b : Branching)
     → AreLent p entries weights m → IsBranch p b → IsBranchBelow (length m.fixed.now) b
 weighted_below p entries weights m b lent is =
     branch_below p m.fixed.now b lent.problem lent.is.are_fixed is
 
-weighting_is : (p : Problem) (entries : List Entry) (weights : List ℤ) (m : lent.Weighting)
+weighting_is : (p : Problem) (entries : List Entry) (weights : List ℕ) (m : lent.Weighting)
     → AreLent p entries weights m → IsWeightingOf p (pool_cuts p entries) (weighting_of m)
 unfolding fixed_cost
 weighting_is p entries weights m lent = record {
-  totals = ap naturals lent.is.are_totals ∙ naturals_totals p entries lent.pool;
-  loads = subst (λ (rows : List (List ℤ)). AllZip (AreLoadsOf p) (pool_cuts p entries) (map naturals rows)) (sym lent.is.are_loads) (loads_zip p entries lent.pool);
+  totals = lent.is.are_totals ∙ totals_are p entries lent.pool;
+  loads = subst (AllZip (AreLoadsOf p) (pool_cuts p entries)) (sym lent.is.are_loads) (loads_zip p entries lent.pool);
   fixed = λ k node. ap (λ (costs : List ℕ). get_or costs k 0) lent.is.are_fixed;
   parts = lent.is.are_parts ∙ parts_are p entries lent.pool;
-  few_weights = omega (arith, length-map m.weights.now natural, ap length lent.is.are_weights, length-map entries (entry_cut p), lent.are_weights.few);
+  few_weights = omega (arith, ap length lent.is.are_weights, length-map entries (entry_cut p), lent.are_weights.few);
 }
 
 -- the bound of a leaf with the weighting's numbers is the bound in each state with these entries
-lent_bound : (p : Problem) (entries : List Entry) (weights : List ℤ) (m : lent.Weighting) (b : Branching) (z : ℤ)
-    → AreLent p entries weights m → leaf_bound p (pool_cuts p entries) (natural m.denom) (weight_pairs (naturals m.weights.now)) b ≡ z
+lent_bound : (p : Problem) (entries : List Entry) (weights : List ℕ) (m : lent.Weighting) (b : Branching) (z : ℤ)
+    → AreLent p entries weights m → leaf_bound p (pool_cuts p entries) m.denom (weight_pairs m.weights.now) b ≡ z
     → (hubs : List ℕ) (cost made : ℕ) (stop : Option ℕ) → z ≡ bound_at p (state_by p entries hubs cost made stop) b (pairs_of weights)
 unfolding bound_at
 lent_bound p entries weights m b z lent is hubs cost made stop =
-    sym is ∙ ap₂ (λ (d : ℕ) (ws : List ℤ). leaf_bound p (pool_cuts p entries) d (pairs_of ws) b) (ap natural lent.is.is_denom) lent.is.are_weights
+    sym is ∙ ap₂ (λ (d : ℕ) (ws : List ℕ). leaf_bound p (pool_cuts p entries) d (pairs_of ws) b) lent.is.is_denom lent.is.are_weights
 
 -- where any number of hubs will do
-pub plain_lent : (p : Problem) (entries : List Entry) (weights : List ℤ) (m : lent.Weighting) (b : Branching) → p.wanted ≡ None
+pub plain_lent : (p : Problem) (entries : List Entry) (weights : List ℕ) (m : lent.Weighting) (b : Branching) → p.wanted ≡ None
     → AreLent p entries weights m → IsBranch p b → (hubs : List ℕ) (cost made : ℕ) (stop : Option ℕ)
     → bound_of (weighting_of m) b ≡ bound_at p (state_by p entries hubs cost made stop) b (pairs_of weights)
 plain_lent p entries weights m b any lent is =
@@ -84,7 +81,7 @@ plain_lent p entries weights m b any lent is =
     (leaf_has_bound p (pool_cuts p entries) (weighting_of m) b any (weighting_is p entries weights m lent) (below_size p b lent.problem is))
 
 -- where just so many are wanted
-pub counted_lent : (n : ℕ) (p : Problem) (entries : List Entry) (weights : List ℤ) (m : lent.Weighting) (b : Branching) → p.wanted ≡ Some n
+pub counted_lent : (n : ℕ) (p : Problem) (entries : List Entry) (weights : List ℕ) (m : lent.Weighting) (b : Branching) → p.wanted ≡ Some n
     → AreLent p entries weights m → IsBranch p b → (hubs : List ℕ) (cost made : ℕ) (stop : Option ℕ)
     → counted_of n (weighting_of m) b ≡ bound_at p (state_by p entries hubs cost made stop) b (pairs_of weights)
 counted_lent n p entries weights m b wanted lent is =
@@ -92,12 +89,12 @@ counted_lent n p entries weights m b wanted lent is =
     (leaf_counted n p (pool_cuts p entries) (weighting_of m) b wanted (weighting_is p entries weights m lent) (below_size p b lent.problem is))
 
 -- the test of the bound against the cost
-pub lent_closes : (p : Problem) (entries : List Entry) (weights : List ℤ) (m : lent.Weighting) (b : Branching) (z : ℤ) (hubs : List ℕ) (cost made : ℕ)
+pub lent_closes : (p : Problem) (entries : List Entry) (weights : List ℕ) (m : lent.Weighting) (b : Branching) (z : ℤ) (hubs : List ℕ) (cost made : ℕ)
     (stop : Option ℕ) → AreLent p entries weights m → z ≡ bound_at p (state_by p entries hubs cost made stop) b (pairs_of weights)
-    → int_lt (pos (natural m.denom * cost) -ℤ pos (natural m.denom)) z ≡ closes_at p (state_by p entries hubs cost made stop) b (pairs_of weights)
+    → int_lt (pos (m.denom * cost) -ℤ pos m.denom) z ≡ closes_at p (state_by p entries hubs cost made stop) b (pairs_of weights)
 unfolding closes_at
 lent_closes p entries weights m b z hubs cost made stop lent is =
-    ap₂ (λ (d : ℕ) (y : ℤ). int_lt (pos (d * cost) -ℤ pos d) y) (ap natural lent.is.is_denom) is
+    ap₂ (λ (d : ℕ) (y : ℤ). int_lt (pos (d * cost) -ℤ pos d) y) lent.is.is_denom is
 
 -- the test of a bound against what it has to be above
 pub closes_by_bound : (p : Problem) (s : State) (b : Branching) (w : List (ℕ × ℕ)) (x y : ℤ) → x ≡ (pos (denominator * s.cost) -ℤ pos denominator)

@@ -1,10 +1,9 @@
 -- What a node of the search has in code, and what it stands for.
-use Rattle.std.specs.Prelude.{◌≡◌, ℕ, ◌≤◌, ℤ, pos, List, map, length, sum, All}
+use Rattle.std.specs.Prelude.{◌≡◌, ℕ, ◌≤◌, List, map, length, sum, All}
 use Rattle.hub_spec.specs.Problem.{Problem}
-use Rattle.hub_model.specs.Amounts.{IsNatural}
 use Rattle.leaf_bound.specs.declared.weightings.Weighting.{Weighting}
 use Rattle.leaf_bound.specs.Bounds.{AreMultiples}
-use Rattle.leaf_bound.specs.Numbers.{naturals, rows_of}
+use Rattle.leaf_bound.specs.Numbers.{rows_of}
 use Rattle.leaf_bound.specs.Theorems.{weight_pairs}
 use Rattle.search_spec.specs.States.{denominator}
 use Rattle.search_spec.specs.Steps as steps
@@ -14,12 +13,12 @@ use Rattle.search_steps.specs.declared.weightings.NodeWeights.{NodeWeights}
 use Rattle.hub_fixing.specs.declared.sides.Side.{Side}
 use Rattle.hub_fixing.specs.declared.sides.Side.TheVariants.{In, Out}
 
--- weights on the first of the entries: none is below 0, each is a multiple of its cut's part, and together they are at most 10^6
-pub record AreNodeWeights (entries : List Entry) (weights : List ℤ) : Type 0 where
+-- weights on the first of the entries: each is a multiple of its cut's part, and together they are at most 10^6, as is each
+pub record AreNodeWeights (entries : List Entry) (weights : List ℕ) : Type 0 where
   pub few : length weights ≤ length entries
-  pub low : All IsNatural weights
-  pub multiples : AreMultiples (naturals weights) (map entry_part entries)
-  pub most : sum (naturals weights) ≤ denominator
+  pub each : All (λ w. w ≤ denominator) weights
+  pub multiples : AreMultiples weights (map entry_part entries)
+  pub most : sum weights ≤ denominator
 
 -- the pool is one of the instance's cuts, and the weights are a node's
 pub record AreWeighed (n : NodeWeights) : Type 0 where
@@ -27,17 +26,17 @@ pub record AreWeighed (n : NodeWeights) : Type 0 where
   pub weights : AreNodeWeights n.pool.now.entries n.weights.now
 
 -- the weights above 0, by cut number, as a search has them
-abbrev pub pairs_of : List ℤ → List (ℕ × ℕ)
-pairs_of weights = weight_pairs (naturals weights)
+abbrev pub pairs_of : List ℕ → List (ℕ × ℕ)
+pairs_of weights = weight_pairs weights
 
 -- the weighting has the sums and the parts of the pool's entries, the problem's fixed costs and these weights
-pub record IsNodeWeighting (p : Problem) (entries : List Entry) (weights : List ℤ) (m : Weighting) : Type 0 where
-  pub are_totals : m.totals.now ≡ map (λ e. pos e.total) entries
-  pub are_loads : rows_of m ≡ map (λ e. map pos e.loads) entries
+pub record IsNodeWeighting (p : Problem) (entries : List Entry) (weights : List ℕ) (m : Weighting) : Type 0 where
+  pub are_totals : m.totals.now ≡ map (λ e. e.total) entries
+  pub are_loads : rows_of m ≡ map (λ e. e.loads) entries
   pub are_parts : m.parts.now ≡ map entry_part entries
   pub are_fixed : m.fixed.now ≡ p.fixed_costs
   pub are_weights : m.weights.now ≡ weights
-  pub is_denom : m.denom ≡ pos denominator
+  pub is_denom : m.denom ≡ denominator
 
 -- the side as the search has it
 abbrev pub side_as : Side → steps.Side

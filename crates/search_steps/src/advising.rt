@@ -1,10 +1,8 @@
 //! What the master of a node's branch advises.
 
-ghost use Rattle.std.specs.Prelude.{◌≡◌, ◌*◌, ◌/◌, ◌≤◌, length, map, pos, All, IfOk, IfSome};
+ghost use Rattle.std.specs.Prelude.{◌≡◌, ◌*◌, ◌/◌, ◌≤◌, length, map, All, IfOk, IfSome};
 ghost use Rattle.hub_spec.specs.Limits.{most_cost};
 ghost use Rattle.hub_spec.specs.Trees.{IsBranch};
-ghost use Rattle.hub_model.specs.Amounts.{natural, IsNatural};
-ghost use Rattle.leaf_bound.specs.Numbers.{naturals};
 ghost use Rattle.frac_master.specs.Advice.{advice_of_code};
 ghost use Rattle.frac_master.specs.Masters.{AreShortRows};
 ghost use Rattle.cut_pool.specs.Entries.{unit_loads};
@@ -15,7 +13,7 @@ ghost use Rattle.search_steps.specs.Weights.{AreNodeWeights};
 use crate::Rule;
 use cut_pool::Pool;
 use frac_master::{Advice, ShortRows, advise_by_totals};
-use hub_model::{Instance, signed, unsigned};
+use hub_model::Instance;
 use plan_model::Branch;
 use std::alloc::{AllocError, Global};
 
@@ -57,12 +55,10 @@ pub fn node_advice<R: Rule>(
 }
 
 // Lowers each weight to a multiple of its cut's part.
-fn lower(weights: &mut [i128], parts: &[u32])
+fn lower(weights: &mut [u128], parts: &[u32])
     requires long { length weights.old ≤ length parts.now }
-    requires low { All IsNatural weights.old }
     requires least { All (λ part. 1 ≤ part) parts.now }
-    ensures low { All IsNatural weights.new }
-    ensures lowered { naturals weights.new ≡ in_parts (naturals weights.old) parts.now }
+    ensures { weights.new ≡ in_parts weights.old parts.now }
 {
     for c in 0..weights.len() {
         weights[c] = lowered(weights[c], parts[c]);
@@ -70,21 +66,19 @@ fn lower(weights: &mut [i128], parts: &[u32])
 }
 
 // The weight, lowered to a multiple of the part, with no division where that is 1.
-fn lowered(weight: i128, part: u32) -> i128
-    requires weight { IsNatural weight }
-    requires part { 1 ≤ part }
-    ensures { result ≡ pos (natural weight / part * part) }
+fn lowered(weight: u128, part: u32) -> u128
+    requires { 1 ≤ part }
+    ensures { result ≡ weight / part * part }
 {
     if part == 1 {
         return weight;
     }
-    let whole = unsigned(weight);
-    signed(whole - whole % u128::from(part))
+    weight - weight % u128::from(part)
 }
 
 // The short loads of the pool, if it keeps them, for one unit of each cut's part.
 fn short_rows(pool: &Pool) -> Option<ShortRows<'_>>
-    ensures { IfSome result (λ s. AreShortRows s.halvings (map (λ v. v.items) s.rows.now) (map (map pos) (unit_loads pool.now.entries))) }
+    ensures { IfSome result (λ s. AreShortRows s.halvings (map (λ v. v.items) s.rows.now) (unit_loads pool.now.entries)) }
 {
     let short = pool.short_loads()?;
     Some(ShortRows {

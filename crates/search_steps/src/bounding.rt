@@ -8,7 +8,6 @@ ghost use Rattle.search_steps.specs.Pools.{InEachState, InEachStateAt};
 ghost use Rattle.search_steps.specs.Weights.{AreNodeWeights, AreWeighed, pairs_of};
 
 use crate::{NodeWeights, Rule};
-use hub_model::signed;
 use leaf_bound::threshold;
 use plan_model::Branch;
 use search_core::WHOLE_WEIGHT;
@@ -19,7 +18,7 @@ pub fn is_better<R: Rule>(
     rule: &R,
     present: &NodeWeights,
     branch: &Branch,
-    advised: &[i128],
+    advised: &[u128],
 ) -> bool
     requires serves { R.serves rule.now present.now.instance.now }
     requires present { AreWeighed present.now }
@@ -51,5 +50,5 @@ pub fn closes<R: Rule>(rule: &R, weighed: &NodeWeights, branch: &Branch, cost: u
     ensures { let p = weighed.now.instance.now in InEachStateAt p weighed.now.pool.now.entries cost
         (λ s. result ≡ closes_at p s branch.now (pairs_of weighed.now.weights.now)) }
 {
-    rule.bound(weighed, branch) > threshold(WHOLE_WEIGHT as i128, signed(cost))
+    rule.bound(weighed, branch) > threshold(WHOLE_WEIGHT, cost)
 }

@@ -6,7 +6,7 @@ use crate::openings::{all_open, blocked_line};
 use crate::{NodeWeights, Rule};
 use frac_master::Advice;
 use hub_fixing::Side;
-use hub_model::{Instance, signed};
+use hub_model::Instance;
 use p_hub::{bound_p, fix_p};
 use plan_model::{Branch, HubSet, TreeLine};
 use std::alloc::{AllocError, Global};
@@ -95,7 +95,7 @@ impl Rule for Counted {
         branch: &Branch,
         cost: u128,
     ) -> Result<Vec<(u32, Side)>, AllocError> {
-        fix_p(alloc, &weighed.weighting(), branch, signed(cost), self.hubs)
+        fix_p(alloc, &weighed.weighting(), branch, cost, self.hubs)
     }
 
     fn pick(

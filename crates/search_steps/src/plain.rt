@@ -7,7 +7,7 @@ use crate::{NodeWeights, Rule, picking};
 use assign_sub::lacking;
 use frac_master::Advice;
 use hub_fixing::{Side, fix};
-use hub_model::{Instance, signed};
+use hub_model::Instance;
 use plan_model::{Branch, HubSet, TreeLine};
 use std::alloc::{AllocError, Global};
 
@@ -74,7 +74,7 @@ impl Rule for Plain {
         branch: &Branch,
         cost: u128,
     ) -> Result<Vec<(u32, Side)>, AllocError> {
-        fix(alloc, &weighed.weighting(), branch, signed(cost))
+        fix(alloc, &weighed.weighting(), branch, cost)
     }
 
     fn pick(

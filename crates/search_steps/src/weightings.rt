@@ -16,7 +16,7 @@ pub struct NodeWeights<'a> {
     /// The cuts.
     pub pool: &'a Pool,
     /// The weight of each of the first cuts.
-    pub weights: &'a [i128],
+    pub weights: &'a [u128],
 }
 
 impl<'a> NodeWeights<'a> {
@@ -31,7 +31,7 @@ impl<'a> NodeWeights<'a> {
             parts: self.pool.parts(),
             fixed: self.instance.fixed_costs(),
             weights: self.weights,
-            denom: WHOLE_WEIGHT as i128,
+            denom: WHOLE_WEIGHT,
         }
     }
 }

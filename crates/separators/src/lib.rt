@@ -8,12 +8,10 @@
 
 mod asking;
 mod coring;
-mod keeping;
 mod laws;
 mod solos;
 
 pub use asking::{Separated, Separator};
 pub use coring::Coring;
-pub use keeping::kept_sums;
 pub use laws::{kept_is_of_set, minimal_is_rule, parts_are_sound};
 pub use solos::Solo;

@@ -8,7 +8,7 @@ ghost use Rattle.cut_pool.specs.Entries.{entry_of};
 ghost use Rattle.search_steps.specs.Pools.{IsSumsOf};
 ghost use Rattle.separators.specs.Kinds.{minimal};
 
-use crate::{Separated, Separator, kept_sums};
+use crate::{Separated, Separator};
 use cut_pool::CutSums;
 use hub_model::Instance;
 use pareto_cuts::{Scratch, cut_sums};
@@ -88,4 +88,11 @@ impl Separator for Solo {
     ) -> Result<Separated, AllocError> {
         Ok(Separated::Sums(self.sums(alloc, instance, set, order)?))
     }
+}
+
+// The sums of a cut of the hub set, as a search keeps them.
+fn kept_sums(alloc: Global, set: HubSet, total: u128, loads: &[u128]) -> Result<CutSums, AllocError>
+    ensures { IfOk result (λ s. s ≡ record { hubs = set; total = total; loads = loads.now }) }
+{
+    Ok(CutSums::new(set, total, loads.to_vec(alloc)?))
 }

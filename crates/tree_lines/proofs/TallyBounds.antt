@@ -86,19 +86,15 @@ lost_passed signed losses is low =
     to_z-of_z w128 signed (within_fits (most_gains most_nodes) signed short (omega (arith, ints, is)) (omega (arith, ints, is, low))) ∙ is in
     rw one (to_z-of_z w128 (pos 0 -ℤ pos losses) (within_fits (most_gains most_nodes) _ short (omega (arith, ints, low)) (omega (arith, ints))))
 
-pub parts_passed : (first second free : ℤ) (some gone : ℕ) → first ≡ pos some → second ≡ pos gone → AreGains most_nodes free
+pub parts_passed : (first free : ℤ) (some gone : ℕ) → first ≡ pos some -ℤ pos gone → AreGains most_nodes free
     → some ≤ most_gains most_nodes → gone ≤ most_gains most_nodes
-    → to_z w128 (of_z w128 (to_z w128 (of_z w128 (to_z w128 (of_z w128 first) -ℤ to_z w128 (of_z w128 second))) +ℤ to_z w128 (of_z w128 free)))
-    ≡ (pos some -ℤ pos gone) +ℤ free
-parts_passed first second free some gone first_is second_is limit low gone_low =
+    → to_z w128 (of_z w128 (to_z w128 (of_z w128 first) +ℤ to_z w128 (of_z w128 free))) ≡ (pos some -ℤ pos gone) +ℤ free
+parts_passed first free some gone first_is limit low gone_low =
     let short : 3 * most_gains most_nodes < 2 ^ 127 = omega arith in
-    let a : to_z w128 (of_z w128 first) ≡ pos some =
-    to_z-of_z w128 first (within_fits (3 * most_gains most_nodes) first short (omega (arith, ints, first_is)) (omega (arith, ints, first_is, low))) ∙ first_is in
-    let b : to_z w128 (of_z w128 second) ≡ pos gone =
-    to_z-of_z w128 second (within_fits (3 * most_gains most_nodes) second short (omega (arith, ints, second_is)) (omega (arith, ints, second_is, gone_low))) ∙ second_is in
+    let a : to_z w128 (of_z w128 first) ≡ pos some -ℤ pos gone =
+    to_z-of_z w128 first (within_fits (3 * most_gains most_nodes) first short
+    (omega (arith, ints, first_is, low, gone_low)) (omega (arith, ints, first_is, low, gone_low))) ∙ first_is in
     let d : to_z w128 (of_z w128 free) ≡ free =
     to_z-of_z w128 free (within_fits (3 * most_gains most_nodes) free short (omega (arith, ints, limit.least)) (omega (arith, ints, limit.most))) in
-    let e : to_z w128 (of_z w128 (pos some -ℤ pos gone)) ≡ pos some -ℤ pos gone =
-    to_z-of_z w128 _ (within_fits (3 * most_gains most_nodes) _ short (omega (arith, ints, low, gone_low)) (omega (arith, ints, low, gone_low))) in
-    rw (a, b, d, e) (to_z-of_z w128 ((pos some -ℤ pos gone) +ℤ free) (within_fits (3 * most_gains most_nodes) _ short
+    rw (a, d) (to_z-of_z w128 ((pos some -ℤ pos gone) +ℤ free) (within_fits (3 * most_gains most_nodes) _ short
     (omega (arith, ints, low, gone_low, limit.least)) (omega (arith, ints, low, gone_low, limit.most))))

@@ -13,7 +13,7 @@ ghost use Rattle.tree_lines.specs.LeastGains.{AreGains};
 
 use crate::gains::sum_of_least;
 use crate::paths::TreePath;
-use hub_model::{Instance, signed};
+use hub_model::{Instance, difference, signed};
 use std::alloc::{AllocError, Global};
 use std::marker::Model;
 
@@ -94,7 +94,7 @@ impl LeafSums {
         ensures closes { IsTrue result ↔ Closes self.now.denom target (tally_bound instance.now self.now (next path.now.pending)) }
         ensures branch { path.now.candidates ≡ instance.now.candidates → IsBranch instance.now (next path.now.pending) }
     {
-        signed(self.denom * target) - signed(self.denom) < self.bound(path, instance)
+        difference(self.denom * target, self.denom) < self.bound(path, instance)
     }
 
     /// The bound of the path's next branch by these sums.
@@ -108,7 +108,7 @@ impl LeafSums {
         let inside = path.inside();
         let costs = weighted_costs(instance, self.denom, inside);
         let gone = loads_of(instance, &self.loads, inside);
-        signed(self.base + costs) - signed(gone) + self.free_sum(path, instance)
+        difference(self.base + costs, gone) + self.free_sum(path, instance)
     }
 
     /// What the free nodes of the path's next branch add to the bound.

@@ -1,16 +1,22 @@
 -- The least of the valued lengths of allowed routes, found over the first ends of routes.
-use Rattle.std.proofs.Common.{◌≡◌, ◌≢◌, ℕ, zero, suc, ◌+◌, ◌-◌, ◌*◌, ◌<◌, ◌≤◌, nat_eq, true, false, min, None, if◌then◌else◌, List, length, slice_index, ◌⊎◌, inl, inr, ⊎_elim, refl, ap, subst, ◌∙◌, eqb-true, arith}
+use Rattle.std.proofs.Common.{◌≡◌, ◌≢◌, ℕ, zero, suc, ◌+◌, ◌-◌, ◌*◌, ◌<◌, ◌≤◌, nat_eq, true, false, min, None, if◌then◌else◌, List, length, slice_index, ◌⊎◌, inl, inr, ⊎_elim, refl, ap, subst, ◌∙◌, eqb-true, Fits, rules, arith}
 use Rattle.std.proofs.lemmas.Bool.{cases_lt, eqb-false}
 use Rattle.hub_spec.specs.Problem.{Problem, IsProblem, is_allowed}
 use Rattle.hub_spec.proofs.PlanCosts.{any_allowed}
 use Rattle.hub_spec.proofs.SumLemmas.{by_test}
+use mir.Syntax.{w64}
+use Rattle.unit_duals.specs.Limits.{most_length}
 use Rattle.unit_duals.specs.Leasts.{least_of}
 use Rattle.unit_duals.proofs.LeastNumbers.{least_of_le, least_of_le_start}
 use Rattle.leg_tables.specs.CandidateLegs.{candidate_at, collection_length, trunk_length, delivery_length, length_ceiling}
 use Rattle.value_cuts.specs.Values.{route_length, valued_length, if_allowed, allowed_price}
-use Rattle.value_cuts.specs.Ends.{AreEnds}
+use Rattle.value_cuts.specs.Ends.{AreEnds, most_end}
 use Rattle.leg_tables.proofs.CandidateTables.{candidate_node}
 use Rattle.value_cuts.proofs.ValueDuals.{MayGo, length_or_ceiling, whichever, price_within, price_below, price_above, length_alone, length_by_two}
+
+-- a length by an end fits 64 bits
+pub end_fits : (n : ℕ) → n ≤ most_end + most_length → Fits w64 n
+end_fits n low = search (rules, arith)
 
 -- a number that is above neither the start nor any of the numbers is not above the least
 pub least_of_ge : (a start : ℕ) (f : ℕ → ℕ) (k : ℕ) → a ≤ start → ((m : ℕ) → m < k → a ≤ f m) → a ≤ least_of start f k

@@ -165,7 +165,7 @@ fn one_worker_and_more_find_the_same_sums(rt: HostRuntime) -> Result<(), Fail> {
 }
 
 // What a search does with a separator.
-fn asked<S: Separator>(separator: &mut S, alloc: Global, instance: &Instance) -> Result<i128, Fail>
+fn asked<S: Separator>(separator: &mut S, alloc: Global, instance: &Instance) -> Result<u128, Fail>
     requires ready { S.ready separator.old }
 {
     let set = first_alone(alloc, instance)?;

@@ -1,5 +1,4 @@
-use Rattle.std.proofs.Common.{◌≡◌, ℕ, ◌-◌, ◌+◌, ◌≤◌, List, length, map, slice_range, All, pos, ◌∙◌, FitsSigned, Vec, Global, rules}
-use Rattle.std.specs.Prelude.{ℤ}
+use Rattle.std.proofs.Common.{◌≡◌, ℕ, ◌-◌, ◌+◌, ◌≤◌, List, length, map, slice_range, All, ◌∙◌, FitsSigned, Vec, Global, rules}
 use Rattle.std.specs.Int.{w128}
 use Rattle.std.proofs.lemmas.Int.{to_z-of_z}
 use Rattle.hub_spec.specs.Problem.{Problem, IsProblem}
@@ -13,13 +12,13 @@ use Rattle.closing_search.proofs.SingleBounds.{cut_numbers, cut_bound_is}
 use Rattle.closing_search.proofs.bounds.kept_bound.Goals as goal
 use Rattle.closing_search.proofs.bounds.kept_bound.Goals.{After-cut_weighting-weighting}
 
-numbers : (p : Problem) (k : KeptList) (n : ℕ) (totals : List ℤ) (loads : List (Vec ℤ Global)) (parts : List ℕ)
-    → IsProblem p → AreKeptFor p k → All IsRemade k.cuts → 1 ≤ n → n ≤ length k.cuts → totals ≡ map pos k.totals
-    → map (λ v. v.items) loads ≡ map (λ xs. map pos xs) k.loads → parts ≡ map kept_part k.cuts
+numbers : (p : Problem) (k : KeptList) (n : ℕ) (totals : List ℕ) (loads : List (Vec ℕ Global)) (parts : List ℕ)
+    → IsProblem p → AreKeptFor p k → All IsRemade k.cuts → 1 ≤ n → n ≤ length k.cuts → totals ≡ k.totals
+    → map (λ v. v.items) loads ≡ k.loads → parts ≡ map kept_part k.cuts
     → AreLentOf p (cut_at (kept_cuts p k.cuts) n) (slice_range totals (n - 1) (n - 1 + 1))
     (map (λ v. v.items) (slice_range loads (n - 1) (n - 1 + 1))) (slice_range parts (n - 1) (n - 1 + 1))
 numbers p k n totals loads parts ok are own least most is_totals is_loads is_parts =
-    rw (is_totals, map-slice_range (λ (v : Vec ℤ Global). v.items) loads (n - 1) (n - 1 + 1), is_loads, is_parts)
+    rw (is_totals, map-slice_range (λ (v : Vec ℕ Global). v.items) loads (n - 1) (n - 1 + 1), is_loads, is_parts)
     (kept_at_number p k n ok are own least most)
 
 -- the numbers of the kept cut

@@ -1,5 +1,5 @@
-use Rattle.std.proofs.Common.{◌≡◌, ◌/◌, map, pos, take}
+use Rattle.std.proofs.Common.{◌≡◌, ◌/◌, map, take}
 use Rattle.cut_pool.proofs.unit_columns.per_unit.Given as goal
 
 abbrev pub invariant-loop-load : goal.invariant-loop-load
-invariant-loop-load l = l.units.items ≡ map pos (map (λ u. u / l.part) (take l.load-index l.loads))
+invariant-loop-load l = l.units.items ≡ map (λ u. u / l.part) (take l.load-index l.loads)

@@ -1,16 +1,12 @@
-use Rattle.std.proofs.Common.{◌≡◌, ℕ, List, ◌<◌, pos, length, take, get_or, All, subst, arith, ℤ, FitsSigned, to_z, of_z, Contains, sym, ap, ◌∙◌, rules, Vec, Global}
+use Rattle.std.proofs.Common.{◌≡◌, ℕ, List, ◌<◌, pos, length, get_or, All, subst, arith, ℤ, FitsSigned, Contains, sym, ap, ◌∙◌, rules, Vec, Global}
 use Rattle.std.specs.Int.{w128}
-use Rattle.std.specs.Prelude.{filter_map}
-use Rattle.std.proofs.lemmas.Int.{to_z-of_z}
-use Rattle.std.proofs.lemmas.List.{take_all}
 use Rattle.std.proofs.lemmas.List.Elements.{Contains-get_or}
-use Rattle.hub_model.specs.Amounts.{natural}
 use Rattle.leaf_bound.specs.Numbers.{IsBranchBelow, weighting_of}
 use Rattle.leaf_bound.specs.Weighing.{most_gain}
 use Rattle.leaf_bound.proofs.LentNumbers.{within_fits, bound_read}
 use Rattle.hub_fixing.specs.declared.sides.Side.{Side}
 use Rattle.hub_fixing.specs.Fixing.{side_of}
-use Rattle.hub_fixing.proofs.ChildBounds.{with_side, side_found, side_pushed, side_passed}
+use Rattle.hub_fixing.proofs.ChildBounds.{side_found, side_pushed, side_passed}
 use Rattle.hub_fixing.proofs.fixing.fix.Goals as goal
 use Rattle.hub_fixing.proofs.fixing.fix.Goals.{After-side_by, in-Some+in_ok-push, in_default}
 
@@ -21,19 +17,9 @@ below gains items free n i long same nodes low =
     let here : All (λ k. k < n) items = subst (All (λ k. k < n)) (sym same) nodes in
     omega (arith, long, here i 0 low)
 
-pub side_by-requires-clause-gain : goal.side_by-requires-clause-gain
-side_by-requires-clause-gain c =
-    let gains = c.write_gains_and_base-base.new.gains in
-    let gain = get_or gains (get_or c.free-k-items.result.now c.loop-k.k-index 0) (pos 0) in
-    let long : length gains ≡ length c.args.weighting.now.fixed.now = search rules in
-    let node = below gains c.free-k-items.result.now c.args.branch.now.free (length c.args.weighting.now.fixed.now) c.loop-k.k-index long
-    c.free-k-items.ensures.value c.requires.nodes.free c.loop-k-test.true in
-    let within = c.write_gains_and_base-base.ensures.limit (get_or c.free-k-items.result.now c.loop-k.k-index 0) node in
-    rw (to_z-of_z w128 gain (within_fits most_gain gain (omega arith) within)) within
-
 -- the side that is found is the candidate's
 side : (c : After-side_by) → c.side_by.result
-    ≡ side_of (weighting_of c.args.weighting.now) (natural (to_z w128 (of_z w128 c.args.target))) c.args.branch.now
+    ≡ side_of (weighting_of c.args.weighting.now) c.args.target c.args.branch.now
     (get_or c.free-k-items.result.now c.loop-k.k-index 0)
 side c =
     let m = weighting_of c.args.weighting.now in
@@ -48,19 +34,17 @@ side c =
     let gain = get_or gains k (pos 0) in
     let fits_gain : FitsSigned w128 gain = within_fits most_gain gain (omega arith) (c.write_gains_and_base-base.ensures.limit k node) in
     let fits_threshold : FitsSigned w128 c.threshold-threshold.result = search rules in
-    let fits_denom : FitsSigned w128 c.args.weighting.now.denom = search rules in
-    let threshold = rw (to_z-of_z w128 c.args.weighting.now.denom fits_denom) at c.threshold-threshold.ensures in
     let nodes = subst (λ n. IsBranchBelow n c.args.branch.now) (sym long) c.requires.nodes in
     let whole = c.bound_by-whole.ensures.value
     ∙ bound_read m c.write_gains_and_base-base.result gains c.args.branch.now
     c.write_gains_and_base-base.ensures.base c.write_gains_and_base-base.ensures.value nodes in
-    side_found m (natural (to_z w128 (of_z w128 c.args.target))) c.args.branch.now k
+    side_found m c.args.target c.args.branch.now k
     c.bound_by-whole.result gain c.threshold-threshold.result c.side_by.result free
-    whole (c.write_gains_and_base-base.ensures.value k node) threshold fits_whole fits_gain fits_threshold c.side_by.ensures
+    whole (c.write_gains_and_base-base.ensures.value k node) c.threshold-threshold.ensures fits_whole fits_gain fits_threshold c.side_by.ensures
 
 pub loop-k-preserved : goal.loop-k-preserved
 loop-k-preserved c =
-    let found = side_of (weighting_of c.args.weighting.now) (natural (to_z w128 (of_z w128 c.args.target))) c.args.branch.now in
+    let found = side_of (weighting_of c.args.weighting.now) c.args.target c.args.branch.now in
     let is = side (goal.at.loop-k-preserved c).After-side_by in
     elim c.match-side_by.branch [
       | in-Some+in_ok-push w ↦ ap (λ (v : Vec (ℕ × Side) Global). v.items) w.sides-is ∙ w.in_ok-push.ensures.items
@@ -70,11 +54,3 @@ loop-k-preserved c =
           ∙ side_passed found c.free-k-items.result.now c.loop-k.k-index c.loop-k.sides.items c.loop-k-test.true c.loop-k.invariant
           (sym w.in_default.is ∙ is)
     ]
-
-pub returns : goal.returns
-returns c =
-    let target = to_z-of_z w128 c.args.target c.ranges.target in
-    let found = side_of (weighting_of c.args.weighting.now) (natural c.args.target) c.args.branch.now in
-    let ended : c.loop-k.sides.items ≡ filter_map (with_side found) (take c.loop-k.k-index c.free-k-items.result.now) =
-    rw target at c.loop-k.invariant in
-    ended ∙ ap (filter_map (with_side found)) (take_all c.loop-k.k-index c.free-k-items.result.now c.loop-k-test.false ∙ c.free-k-items.ensures.value)

@@ -1,7 +1,7 @@
 use Rattle.std.proofs.Common.{ℕ, ℤ, pos, ◌+ℤ◌, length, get_or, ap, ap₂, ◌∙◌}
 use Rattle.std.specs.Int.{int_min}
 use Rattle.hub_spec.specs.Sums.{sum_ints}
-use Rattle.leaf_bound.proofs.LentNumbers.{few_listed, base_within, parts_within, parts_passed}
+use Rattle.leaf_bound.proofs.LentNumbers.{few_listed, base_within, parts_passed}
 use Rattle.leaf_bound.proofs.bounds.bound_by.Goals as goal
 
 pub sum_of_gains-inside-requires-clause-few : goal.sum_of_gains-inside-requires-clause-few
@@ -23,11 +23,3 @@ returns-clause-value c =
     (base_within c.signed-base.result c.args.base c.signed-base.ensures c.requires.base)
     c.sum_of_gains-inside.ensures.limit c.sum_of_losses-free.ensures.limit
     ∙ ap₂ (λ (x y : ℤ). x +ℤ y) (ap₂ (λ (x y : ℤ). x +ℤ y) c.signed-base.ensures inside) free
-
-pub returns-clause-limit : goal.returns-clause-limit
-returns-clause-limit c =
-    let base = base_within c.signed-base.result c.args.base c.signed-base.ensures c.requires.base in
-    let inside = c.sum_of_gains-inside.ensures.limit in
-    let free = c.sum_of_losses-free.ensures.limit in
-    rw (parts_passed c.signed-base.result c.sum_of_gains-inside.result c.sum_of_losses-free.result base inside free)
-    (parts_within c.signed-base.result c.sum_of_gains-inside.result c.sum_of_losses-free.result base inside free)

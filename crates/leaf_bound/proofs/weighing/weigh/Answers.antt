@@ -1,10 +1,8 @@
-use Rattle.std.proofs.Common.{◌+◌, pos, get_or, ap, refl, subst, sym, ◌∙◌, arith}
-use Rattle.hub_model.specs.Amounts.{natural}
-use Rattle.leaf_bound.specs.Bounds.{weighted_by, shares_of}
-use Rattle.leaf_bound.specs.Numbers.{naturals, rows_of}
+use Rattle.std.proofs.Common.{◌+◌, get_or, refl, subst, sym, arith}
+use Rattle.leaf_bound.specs.Numbers.{rows_of}
 use Rattle.leaf_bound.specs.Weighing.{share_at, IsWeighedTo, column}
 use Rattle.leaf_bound.proofs.WeightedSums.{weighed_next, weighed_limit, weighed_all}
-use Rattle.leaf_bound.proofs.LentNumbers.{weighed_totals, loads_of-naturals}
+use Rattle.leaf_bound.proofs.LentNumbers.{weighed_totals}
 use Rattle.leaf_bound.proofs.weighing.weigh.Goals as goal
 use Rattle.leaf_bound.proofs.weighing.weigh.Goals.{After-add_cut-base}
 
@@ -14,9 +12,8 @@ next c =
     let m = c.args.weighting.now in
     let i = c.loop-c.c in
     let w = share_at m.weights.now m.parts.now i in
-    let x = natural (get_or m.totals.now i (pos 0)) in
     subst (λ n. IsWeighedTo m.weights.now m.parts.now m.totals.now (i + 1) (c.loop-c.base + n)) (sym c.add_cut-base.ensures.total)
-    (weighed_next m.weights.now m.parts.now m.totals.now i c.loop-c.base w x c.loop-c-test.true (weighed_totals m c.requires.numbers) refl refl
+    (weighed_next m.weights.now m.parts.now m.totals.now i c.loop-c.base w c.loop-c-test.true (weighed_totals m c.requires.numbers) refl
     c.loop-c.invariant.base)
 
 pub overflow_add-base : goal.overflow_add-base
@@ -39,7 +36,6 @@ returns-clause-value c = λ k low.
     let few = (weighed_totals m c.requires.numbers).few_parts in
     weighed_all m.weights.now m.parts.now (column (rows_of m) k) c.loop-c.c (get_or c.loop-c.sums k 0) c.loop-c-test.false few
     (c.loop-c.invariant.loads.each k low)
-    ∙ ap (weighted_by (shares_of (naturals m.weights.now) m.parts.now)) (loads_of-naturals (rows_of m) k)
 
 pub returns-clause-base : goal.returns-clause-base
 returns-clause-base c =

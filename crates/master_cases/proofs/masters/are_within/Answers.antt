@@ -1,16 +1,13 @@
-use Rattle.std.proofs.Common.{◌≤◌, ◌+◌, [], ◌∷◌, ◌++◌, List, ℤ, Vec, Global, map, take, get_or, max, pos, All, FitsSigned, subst, sym, ◌∙◌, ap, arith, rules}
+use Rattle.std.proofs.Common.{◌≤◌, ◌+◌, [], ◌∷◌, ◌++◌, List, ℕ, Vec, Global, map, take, get_or, max, All, subst, sym, ◌∙◌, ap, arith, rules}
 use Rattle.std.specs.List.{AllZip}
-use Rattle.std.specs.Int.{w128}
-use Rattle.std.proofs.lemmas.Int.{to_z-of_z}
 use Rattle.std.proofs.lemmas.List.{take_all, take_more, map-append}
 use Rattle.std.proofs.lemmas.Slice.Zip.{all_zipped_more}
-use Rattle.hub_model.specs.Amounts.{natural}
 use Rattle.master_cases.proofs.masters.are_within.Goals as goal
 
-abbrev R : ℤ → List ℤ → Type 0
-R total row = All (λ x. natural x ≤ max (natural total) 0) row
+abbrev R : ℕ → List ℕ → Type 0
+R total row = All (λ x. x ≤ max total 0) row
 
-abbrev items : Vec ℤ Global → List ℤ
+abbrev items : Vec ℕ Global → List ℕ
 items v = v.items
 
 pub loop-i-preserved : goal.loop-i-preserved
@@ -19,18 +16,16 @@ loop-i-preserved c =
     let loads = c.args.loads.now in
     let i = c.loop-i.i in
     let v = c.index-loads-i.result in
-    let z = get_or totals i (pos 0) in
-    let fits : FitsSigned w128 z = search rules in
-    let within : R z v.items = subst (R z) c.deref.ensures.value
-    (subst (λ (t : ℤ). R t c.deref.result.now) (to_z-of_z w128 z fits) (c.are_up_to.ensures c.if-not-are_up_to.false)) in
+    let z = get_or totals i 0 in
+    let within : R z v.items = subst (R z) c.deref.ensures.value (c.are_up_to.ensures c.if-not-are_up_to.false) in
     let more = all_zipped_more R (take i totals) (map items (take i loads)) z v.items c.loop-i.invariant within in
-    subst (λ (rows : List (List ℤ)). AllZip R (take (i + 1) totals) rows)
-    (sym (ap (map items) (take_more loads i v (search rules) ∙ ap (λ (w : Vec ℤ Global). take i loads ++ w ∷ []) (sym c.index-loads-i.is)) ∙ map-append items (take i loads) (v ∷ [])))
-    (subst (λ (xs : List ℤ). AllZip R xs (map items (take i loads) ++ v.items ∷ [])) (sym (take_more totals i (pos 0) (search rules))) more)
+    subst (λ (rows : List (List ℕ)). AllZip R (take (i + 1) totals) rows)
+    (sym (ap (map items) (take_more loads i v (search rules) ∙ ap (λ (w : Vec ℕ Global). take i loads ++ w ∷ []) (sym c.index-loads-i.is)) ∙ map-append items (take i loads) (v ∷ [])))
+    (subst (λ (xs : List ℕ). AllZip R xs (map items (take i loads) ++ v.items ∷ [])) (sym (take_more totals i 0 (search rules))) more)
 
 pub returns : goal.returns
 returns c = λ _.
     let all_totals = take_all c.loop-i.i c.args.totals.now c.loop-i-test.false in
     let all_loads = take_all c.loop-i.i c.args.loads.now (omega (arith, c.loop-i-test.false, c.if-totals-loads.false)) in
-    subst (λ (xs : List ℤ). AllZip R xs (map items c.args.loads.now)) all_totals
-    (subst (λ (rows : List (Vec ℤ Global)). AllZip R (take c.loop-i.i c.args.totals.now) (map items rows)) all_loads c.loop-i.invariant)
+    subst (λ (xs : List ℕ). AllZip R xs (map items c.args.loads.now)) all_totals
+    (subst (λ (rows : List (Vec ℕ Global)). AllZip R (take c.loop-i.i c.args.totals.now) (map items rows)) all_loads c.loop-i.invariant)

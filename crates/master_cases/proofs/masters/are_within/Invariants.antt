@@ -1,7 +1,6 @@
 use Rattle.std.proofs.Common.{◌≤◌, map, max, take, All}
 use Rattle.std.specs.List.{AllZip}
-use Rattle.hub_model.specs.Amounts.{natural}
 use Rattle.master_cases.proofs.masters.are_within.Given as goal
 
 abbrev pub invariant-loop-i : goal.invariant-loop-i
-invariant-loop-i l = AllZip (λ total row. All (λ x. natural x ≤ max (natural total) 0) row) (take l.i l.totals) (map (λ v. v.items) (take l.i l.loads))
+invariant-loop-i l = AllZip (λ total row. All (λ x. x ≤ max total 0) row) (take l.i l.totals) (map (λ v. v.items) (take l.i l.loads))

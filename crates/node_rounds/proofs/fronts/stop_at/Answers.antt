@@ -1,4 +1,4 @@
-use Rattle.std.proofs.Common.{ℤ, List, ap, ◌∙◌}
+use Rattle.std.proofs.Common.{ℕ, List, ap, ◌∙◌}
 use Rattle.plan_model.specs.Lines.{tree_line_of}
 use Rattle.search_spec.specs.Steps.{stopped_leaf}
 use Rattle.search_steps.specs.Weights.{pairs_of}
@@ -23,5 +23,5 @@ returns c =
     let own = c.in_ok-line.line in
     let told = c.in_ok-line.ensures in
     let g = stopped_leaf p b (pairs_of c.deref.result.now) s in
-    let is = one_line g.tree (tree_line_of own) g.state told.line ∙ ap (λ (ws : List ℤ). stops_at p b (pairs_of ws) s) c.deref.ensures.value in
+    let is = one_line g.tree (tree_line_of own) g.state told.line ∙ ap (λ (ws : List ℕ). stops_at p b (pairs_of ws) s) c.deref.ensures.value in
     taken_as t front after _ _ is (pushed_at t front after g.state (Line own) c.requires.front told.at c.in_ok-push.ensures.items tt)

@@ -1,8 +1,8 @@
-use Rattle.std.proofs.Common.{List, [], ◌∷◌, ◌++◌, All, sym, subst, ap, ◌∙◌, rules, arith}
+use Rattle.std.proofs.Common.{ℕ, ◌≤◌, List, [], ◌∷◌, ◌++◌, All, sym, subst, ap, ◌∙◌, rules, arith}
 use Rattle.std.proofs.lemmas.List.Elements.{All-nil, All-cons}
 use Rattle.hub_spec.specs.Trees.{IsBranch}
 use Rattle.hub_spec.proofs.ChildLists.{root_branch}
-use Rattle.hub_model.specs.Amounts.{IsNatural}
+use Rattle.search_spec.specs.States.{denominator}
 use Rattle.search_steps.specs.Weights.{AreNodeWeights}
 use Rattle.node_rounds.specs.declared.outcomes.Pending.{Pending}
 use Rattle.node_rounds.specs.Outcomes.{IsPendingOf}
@@ -10,7 +10,7 @@ use Rattle.node_rounds.proofs.searching.at_root.Goals as goal
 
 -- no weights, on no cut
 no_weights : AreNodeWeights [] []
-no_weights = record { few = omega arith; low = All-nil IsNatural; multiples = search (rules, arith); most = omega arith }
+no_weights = record { few = omega arith; each = All-nil (λ (w : ℕ). w ≤ denominator); multiples = search (rules, arith); most = omega arith }
 
 pub returns-clause-nodes : goal.returns-clause-nodes
 returns-clause-nodes c =

@@ -1,4 +1,4 @@
-use Rattle.std.proofs.Common.{◌≡◌, ℕ, ℤ, List, ap, sym, subst, [], ◌∷◌, ◌++◌, ◌∙◌, rules, arith}
+use Rattle.std.proofs.Common.{◌≡◌, ℕ, List, ap, sym, subst, [], ◌∷◌, ◌++◌, ◌∙◌, rules, arith}
 use Rattle.std.proofs.lemmas.Result.{on_ok_weaker}
 use Rattle.hub_spec.specs.Trees.{IsBranch, Branching, branch_on, leaf_of}
 use Rattle.hub_spec.proofs.ChildLists.{open_branch, closed_branch}
@@ -100,7 +100,7 @@ returns-in-In t c =
     let second = c.in_ok-split_up-in-In.ensures in
     let leaf = tree_line_of c.in_ok-leaf.leaf in
     let is_leaf : leaf ≡ leaf_of denominator x.weights =
-    c.in_ok-leaf.ensures ∙ ap (λ (ws : List ℤ). leaf_of denominator (pairs_of ws)) c.deref.ensures.value in
+    c.in_ok-leaf.ensures ∙ ap (λ (ws : List ℕ). leaf_of denominator (pairs_of ws)) c.deref.ensures.value in
     let child = on_child x c.in_ok-child-in-In.child in
     let kept = split_up p (parts_of p) task.nodes a rest child (state_of p one.progress) in
     let from_one : Standing = record { state = two_more s; places = line (branch_on k) ∷ [] } in
@@ -166,7 +166,7 @@ returns t c =
     let second = c.in_ok-add_line-in-Out.ensures in
     let leaf = tree_line_of c.in_ok-leaf.leaf in
     let is_leaf : leaf ≡ leaf_of denominator x.weights =
-    c.in_ok-leaf.ensures ∙ ap (λ (ws : List ℤ). leaf_of denominator (pairs_of ws)) c.deref.ensures.value in
+    c.in_ok-leaf.ensures ∙ ap (λ (ws : List ℕ). leaf_of denominator (pairs_of ws)) c.deref.ensures.value in
     let child = on_child x c.in_ok-child-in-Out.child in
     let kept = split_up p (parts_of p) task.nodes a rest child (state_of p two.progress) in
     let from_one : Standing = record { state = two_more s; places = line (branch_on k) ∷ [] } in

@@ -1,4 +1,4 @@
-use Rattle.std.proofs.Common.{◌≡◌, ℤ, List, ap, sym, subst, [], ◌∷◌, ◌∙◌}
+use Rattle.std.proofs.Common.{◌≡◌, ℕ, List, ap, sym, subst, [], ◌∷◌, ◌∙◌}
 use Rattle.std.proofs.lemmas.Result.{on_ok_weaker}
 use Rattle.hub_spec.specs.Trees.{IsBranch, branch_on}
 use Rattle.hub_spec.proofs.ChildLists.{open_branch, closed_branch}
@@ -78,7 +78,7 @@ returns c =
     let same : record { state = state_of p two.progress; places = total.places } ≡ total = λ i. record { state = state i; places = total.places } in
     let copied = c.in_ok-weights.ensures.items_if_clones_equal (λ x y e. e) ∙ c.deref.ensures.value in
     let is = same ∙ halved_as p t.nodes a x s w k opened closed (sym c.may_split.ensures ∙ c.if-not-may_split.false) c.nearest-k.ensures.nearest
-    (ap (λ (ws : List ℤ). pairs_of ws) copied) c.in_ok-opened.ensures c.in_ok-closed.ensures in
+    (ap (λ (ws : List ℕ). pairs_of ws) copied) c.in_ok-opened.ensures c.in_ok-closed.ensures in
     on_ok_weaker c.add_node-2.result
     (λ last. taken_as t before three _ _ is
     (taken_then t before two three from_both from_three (taken_then t before one two from_one from_two split first) last))

@@ -1,4 +1,4 @@
-use Rattle.std.proofs.Common.{[], None, ℤ, pos, List, slice_index_or, subst, ap, sym, ◌∙◌}
+use Rattle.std.proofs.Common.{ℕ, [], None, ℤ, pos, List, slice_index_or, subst, ap, sym, ◌∙◌}
 use Rattle.hub_spec.specs.Trees.{TreeLine, leaf_of}
 use Rattle.frac_master.specs.Advice.{advice_of_code}
 use Rattle.search_spec.specs.States.{denominator}
@@ -25,12 +25,12 @@ returns-then-closes-clause-turn c = λ hubs made stop.
     let taken : IsAdvisedBy p s (pending_of node) a best = record {
       advice = c.in_ok-advice.ensures.advice hubs made stop;
       weights = c.in_ok-weights.ensures.better hubs c.args.cost made stop
-          ∙ ap (λ (ws : List ℤ). better p s b (pairs_of ws) (pairs_of c.deref-2.result.now)) c.deref.ensures.value
-          ∙ ap (λ (ws : List ℤ). better p s b (pairs_of node.weights.items) (pairs_of ws)) c.deref-2.ensures.value;
+          ∙ ap (λ (ws : List ℕ). better p s b (pairs_of ws) (pairs_of c.deref-2.result.now)) c.deref.ensures.value
+          ∙ ap (λ (ws : List ℕ). better p s b (pairs_of node.weights.items) (pairs_of ws)) c.deref-2.ensures.value;
     } in
-    let closes = c.closes.ensures hubs made stop ∙ ap (λ (ws : List ℤ). closes_at p s b (pairs_of ws)) c.deref-3.ensures.value in
+    let closes = c.closes.ensures hubs made stop ∙ ap (λ (ws : List ℕ). closes_at p s b (pairs_of ws)) c.deref-3.ensures.value in
     ap (λ (l : TreeLine). ends (tree_of l))
-    (c.in_ok-leaf_line.ensures ∙ ap (λ (ws : List ℤ). leaf_of denominator (pairs_of ws)) c.deref-then-closes.ensures.value)
+    (c.in_ok-leaf_line.ensures ∙ ap (λ (ws : List ℕ). leaf_of denominator (pairs_of ws)) c.deref-then-closes.ensures.value)
     ∙ advised_leaf p s (pending_of node) a best taken (sym closes ∙ c.if-closes.true)
 
 pub order_of-requires-clause-set : goal.order_of-requires-clause-set
@@ -47,10 +47,10 @@ returns-then-may_ask-clause-turn c = λ hubs made stop.
     let taken : IsAdvisedBy p s (pending_of node) a best = record {
       advice = c.in_ok-advice.ensures.advice hubs made stop;
       weights = c.in_ok-weights.ensures.better hubs c.args.cost made stop
-          ∙ ap (λ (ws : List ℤ). better p s b (pairs_of ws) (pairs_of c.deref-2.result.now)) c.deref.ensures.value
-          ∙ ap (λ (ws : List ℤ). better p s b (pairs_of node.weights.items) (pairs_of ws)) c.deref-2.ensures.value;
+          ∙ ap (λ (ws : List ℕ). better p s b (pairs_of ws) (pairs_of c.deref-2.result.now)) c.deref.ensures.value
+          ∙ ap (λ (ws : List ℕ). better p s b (pairs_of node.weights.items) (pairs_of ws)) c.deref-2.ensures.value;
     } in
-    let closes = c.closes.ensures hubs made stop ∙ ap (λ (ws : List ℤ). closes_at p s b (pairs_of ws)) c.deref-3.ensures.value in
+    let closes = c.closes.ensures hubs made stop ∙ ap (λ (ws : List ℕ). closes_at p s b (pairs_of ws)) c.deref-3.ensures.value in
     let order = c.in_ok-order.ensures.is
     ∙ ap (λ (point : List ℤ). by_falling (λ k. slice_index_or point k (pos 0)) (others p c.in_ok-set.set)) c.deref-then-may_ask.ensures.value in
     advised_ask p s (pending_of node) a best c.in_ok-set.set c.in_ok-order.order.items taken (sym closes ∙ c.if-closes.false)
@@ -77,11 +77,11 @@ returns-clause-turn c = λ hubs made stop.
     let taken : IsAdvisedBy p s (pending_of node) a best = record {
       advice = c.in_ok-advice.ensures.advice hubs made stop;
       weights = c.in_ok-weights.ensures.better hubs c.args.cost made stop
-          ∙ ap (λ (ws : List ℤ). better p s b (pairs_of ws) (pairs_of c.deref-2.result.now)) c.deref.ensures.value
-          ∙ ap (λ (ws : List ℤ). better p s b (pairs_of node.weights.items) (pairs_of ws)) c.deref-2.ensures.value;
+          ∙ ap (λ (ws : List ℕ). better p s b (pairs_of ws) (pairs_of c.deref-2.result.now)) c.deref.ensures.value
+          ∙ ap (λ (ws : List ℕ). better p s b (pairs_of node.weights.items) (pairs_of ws)) c.deref-2.ensures.value;
     } in
-    let closes = c.closes.ensures hubs made stop ∙ ap (λ (ws : List ℤ). closes_at p s b (pairs_of ws)) c.deref-3.ensures.value in
-    let are = c.in_ok-fixings.ensures hubs made stop ∙ ap (λ (ws : List ℤ). fixings p s b (pairs_of ws)) c.deref-3.ensures.value in
+    let closes = c.closes.ensures hubs made stop ∙ ap (λ (ws : List ℕ). closes_at p s b (pairs_of ws)) c.deref-3.ensures.value in
+    let are = c.in_ok-fixings.ensures hubs made stop ∙ ap (λ (ws : List ℕ). fixings p s b (pairs_of ws)) c.deref-3.ensures.value in
     advised_split p s (pending_of node) a best c.in_ok-set.set (sides_as c.in_ok-fixings.fixings.items) taken (sym closes ∙ c.if-closes.false)
     c.in_ok-set.ensures.picked (sym (c.may_ask.ensures p hubs c.args.cost made stop) ∙ c.if-may_ask.false) are
 

@@ -1,4 +1,4 @@
-use Rattle.std.proofs.Common.{◌≡◌, ℕ, ℤ, List, Some, None, false, ap, sym, ◌∙◌}
+use Rattle.std.proofs.Common.{◌≡◌, ℕ, List, Some, None, false, ap, sym, ◌∙◌}
 use Rattle.hub_spec.specs.Trees.{TreeLine}
 use Rattle.search_spec.specs.States.{number_in_pool}
 use Rattle.search_spec.specs.Choices.{others}
@@ -37,6 +37,6 @@ returns-clause-turn c = λ hubs cost made stop.
     ap (λ (ks : List ℕ). number_in_pool s ks) (sym c.in_ok-set.ensures) ∙ sym number ∙ c.in_default.is in
     let ascends = outside_is p c.in_ok-set.set c.in_ok-order.order.items c.requires.problem c.in_ok-order.ensures.order c.in_ok-order.ensures.ascend
     ∙ ap (others p) c.in_ok-set.ensures ∙ sym (parts_ascending p set) in
-    ap (λ (ws : List ℤ). asks c.in_ok-set.set c.in_ok-order.order.items (pairs_of ws) false)
+    ap (λ (ws : List ℕ). asks c.in_ok-set.set c.in_ok-order.order.items (pairs_of ws) false)
     (c.in_ok-weights.ensures.items_if_clones_equal (λ x y e. e) ∙ c.deref.ensures.value)
     ∙ alone_new (parts_of p) x set c.in_ok-set.set c.in_ok-order.order.items (number_in_pool s set) unknown c.in_ok-set.ensures ascends

@@ -1,15 +1,12 @@
-use Rattle.std.proofs.Common.{◌≡◌, ℕ, List, ◌<◌, ◌-◌, pos, length, take, get_or, All, subst, arith, ℤ, FitsSigned, to_z, of_z, Contains, sym, ap, ◌∙◌, rules, Vec, Global}
+use Rattle.std.proofs.Common.{◌≡◌, ℕ, List, ◌<◌, ◌-◌, pos, length, take, get_or, All, subst, arith, ℤ, FitsSigned, Contains, sym, ap, ◌∙◌, rules, Vec, Global}
 use Rattle.std.specs.Int.{w128}
-use Rattle.std.specs.Prelude.{filter_map}
 use Rattle.std.proofs.lemmas.Int.{to_z-of_z}
-use Rattle.std.proofs.lemmas.List.{take_all}
 use Rattle.std.proofs.lemmas.List.Elements.{Contains-get_or}
-use Rattle.hub_model.specs.Amounts.{natural}
 use Rattle.leaf_bound.specs.Numbers.{IsBranchBelow, weighting_of}
 use Rattle.leaf_bound.specs.Weighing.{most_gain, most_bound, IsWithin}
 use Rattle.leaf_bound.proofs.LentNumbers.{few_listed, within_fits}
 use Rattle.hub_fixing.specs.declared.sides.Side.{Side}
-use Rattle.hub_fixing.proofs.ChildBounds.{with_side, side_pushed, side_passed}
+use Rattle.hub_fixing.proofs.ChildBounds.{side_pushed, side_passed}
 use Rattle.p_hub.specs.Fixing.{counted_side, side_by}
 use Rattle.p_hub.proofs.RisingGains.{value_within}
 use Rattle.p_hub.proofs.CountedBounds.{counted_read}
@@ -76,12 +73,9 @@ side_of-requires-clause-last c = rw (to_z-of_z w128 (value c (missing c - 1)) (f
 pub side_of-requires-clause-next : goal.side_of-requires-clause-next
 side_of-requires-clause-next c = rw (to_z-of_z w128 (value c (missing c)) (fits (value c (missing c)) (next_within c))) (next_within c)
 
-pub side_of-requires-clause-gain : goal.side_of-requires-clause-gain
-side_of-requires-clause-gain c = rw (to_z-of_z w128 (gain c) (fits (gain c) (gain_within c))) (gain_within c)
-
 -- the side that is found is the candidate's
 side : (c : goal.Joined-side_of) → c.side_of.result
-    ≡ counted_side c.args.p (weighting_of c.args.weighting.now) (natural (to_z w128 (of_z w128 c.args.target))) c.args.branch.now
+    ≡ counted_side c.args.p (weighting_of c.args.weighting.now) c.args.target c.args.branch.now
     (get_or c.free-free.result.now c.loop-k.k-index 0)
 side c =
     let d = (goal.at.loop-k-preserved c).After-side_of-arg-1 in
@@ -90,7 +84,6 @@ side c =
     let own = c.write_gains_and_base-base.ensures.value in
     let free : Contains c.args.branch.now.free (node d) = rw (← c.free-free.ensures.value)
     (Contains-get_or c.free-free.result.now c.loop-k.k-index 0 c.loop-k-test.true) in
-    let fits_denom : FitsSigned w128 c.args.weighting.now.denom = search rules in
     let fits_threshold : FitsSigned w128 c.threshold.result = search rules in
     let whole = c.bound_by_rising.ensures.value
     ∙ counted_read c.args.p m c.write_gains_and_base-base.result gains c.args.branch.now c.write_gains_and_base-base.ensures.base own (below d) in
@@ -99,7 +92,6 @@ side c =
     c.rising_gains-free_room.ensures.rising c.free-free.ensures.value own (below d).free (ap (λ (n : ℕ). n - 1) inside) in
     let next = value_read m gains c.free-free.result.now c.args.branch.now.free (values d) (missing d) (c.args.p - length c.args.branch.now.inside)
     c.rising_gains-free_room.ensures.rising c.free-free.ensures.value own (below d).free inside in
-    let threshold = rw (to_z-of_z w128 c.args.weighting.now.denom fits_denom) at c.threshold.ensures in
     let found : c.side_of.result ≡ side_by c.bound_by_rising.result (value d (missing d - 1)) (value d (missing d)) c.threshold.result (gain d) =
     rw (
       to_z-of_z w128 c.bound_by_rising.result (within_fits most_bound c.bound_by_rising.result (omega arith) c.bound_by_rising.ensures.limit),
@@ -108,13 +100,13 @@ side c =
       to_z-of_z w128 c.threshold.result fits_threshold,
       to_z-of_z w128 (gain d) (fits (gain d) (gain_within d)),
     ) at c.side_of.ensures in
-    side_found c.args.p m (natural (to_z w128 (of_z w128 c.args.target))) c.args.branch.now (node d)
+    side_found c.args.p m c.args.target c.args.branch.now (node d)
     c.bound_by_rising.result (value d (missing d - 1)) (value d (missing d)) c.threshold.result (gain d) c.side_of.result
-    free c.requires.between whole last next threshold (own (node d) (is_node d)) found
+    free c.requires.between whole last next c.threshold.ensures (own (node d) (is_node d)) found
 
 pub loop-k-preserved : goal.loop-k-preserved
 loop-k-preserved c =
-    let found = counted_side c.args.p (weighting_of c.args.weighting.now) (natural (to_z w128 (of_z w128 c.args.target))) c.args.branch.now in
+    let found = counted_side c.args.p (weighting_of c.args.weighting.now) c.args.target c.args.branch.now in
     elim c.match-side_of.branch [
       | in-Some+in_ok-push w ↦ ap (λ (v : Vec (ℕ × Side) Global). v.items) w.sides-is ∙ w.in_ok-push.ensures.items
           ∙ side_pushed found c.free-free.result.now c.loop-k.k-index c.loop-k.sides.items w.in-Some.side c.loop-k-test.true c.loop-k.invariant
@@ -123,11 +115,3 @@ loop-k-preserved c =
           ∙ side_passed found c.free-free.result.now c.loop-k.k-index c.loop-k.sides.items c.loop-k-test.true c.loop-k.invariant
           (sym w.in_default.is ∙ side c)
     ]
-
-pub returns : goal.returns
-returns c =
-    let target = to_z-of_z w128 c.args.target c.ranges.target in
-    let found = counted_side c.args.p (weighting_of c.args.weighting.now) (natural c.args.target) c.args.branch.now in
-    let ended : c.loop-k.sides.items ≡ filter_map (with_side found) (take c.loop-k.k-index c.free-free.result.now) =
-    rw target at c.loop-k.invariant in
-    ended ∙ ap (filter_map (with_side found)) (take_all c.loop-k.k-index c.free-free.result.now c.loop-k-test.false ∙ c.free-free.ensures.value)

@@ -1,9 +1,8 @@
-use Rattle.std.proofs.Common.{◌≡◌, ◌≤◌, ℕ, ℤ, map, All, Vec, Global, ap, ap₂, subst, sym, ◌∙◌, arith}
+use Rattle.std.proofs.Common.{◌≡◌, ◌≤◌, ℕ, map, All, Vec, Global, ap₂, subst, sym, ◌∙◌, arith}
 use Rattle.std.specs.Vec.{with_items}
 use Rattle.std.proofs.lemmas.List.{with_items_is}
 use Rattle.std.proofs.lemmas.List.Elements.{All-weaker}
 use Rattle.hub_spec.specs.Limits.{most_part}
-use Rattle.leaf_bound.specs.Numbers.{naturals}
 use Rattle.frac_master.specs.Masters.{master_of, greatest_number}
 use Rattle.frac_master.specs.Advice.{advice_of_code}
 use Rattle.cut_pool.specs.Entries.{entry_part}
@@ -17,7 +16,7 @@ use Rattle.search_steps.proofs.advising.node_advice.Goals.{After-short_rows, Aft
 
 -- what the pool and the instance lend
 lent : (g : Over) (c : After-short_rows g) → AreMasters c.args.instance.now c.args.pool.now.entries c.args.cost c.unit_totals.result.now
-    (map (λ (v : Vec ℤ Global). v.items) c.unit_loads.result.now) c.in_ok-fixed.fixed.now
+    (map (λ (v : Vec ℕ Global). v.items) c.unit_loads.result.now) c.in_ok-fixed.fixed.now
 lent g c = record {
   problem = c.advised_costs.ensures.problem;
   pool = c.requires.pool;
@@ -28,7 +27,7 @@ lent g c = record {
 
 pub advise_by_totals-requires-clause-numbers : goal.advise_by_totals-requires-clause-numbers
 advise_by_totals-requires-clause-numbers g c =
-    numbers_serve c.args.instance.now c.args.pool.now.entries c.args.cost c.unit_totals.result.now (map (λ (v : Vec ℤ Global). v.items) c.unit_loads.result.now)
+    numbers_serve c.args.instance.now c.args.pool.now.entries c.args.cost c.unit_totals.result.now (map (λ (v : Vec ℕ Global). v.items) c.unit_loads.result.now)
     c.in_ok-fixed.fixed.now (lent g (goal.at.advise_by_totals-requires-clause-numbers g c).After-short_rows)
 
 pub advise_by_totals-requires-clause-nodes : goal.advise_by_totals-requires-clause-nodes
@@ -38,12 +37,12 @@ advise_by_totals-requires-clause-nodes g c =
 pub advise_by_totals-requires-clause-within : goal.advise_by_totals-requires-clause-within
 advise_by_totals-requires-clause-within g c =
     rw c.most_stated.ensures
-    (within_totals c.args.instance.now c.args.pool.now.entries c.args.cost c.unit_totals.result.now (map (λ (v : Vec ℤ Global). v.items) c.unit_loads.result.now)
+    (within_totals c.args.instance.now c.args.pool.now.entries c.args.cost c.unit_totals.result.now (map (λ (v : Vec ℕ Global). v.items) c.unit_loads.result.now)
     c.in_ok-fixed.fixed.now (lent g (goal.at.advise_by_totals-requires-clause-within g c).After-short_rows))
 
 pub advise_by_totals-requires-clause-reached : goal.advise_by_totals-requires-clause-reached
 advise_by_totals-requires-clause-reached g c =
-    let loads = map (λ (v : Vec ℤ Global). v.items) c.unit_loads.result.now in
+    let loads = map (λ (v : Vec ℕ Global). v.items) c.unit_loads.result.now in
     subst (λ (m : ℕ). m ≤ greatest_number (master_of c.unit_totals.result.now loads c.in_ok-fixed.fixed.now) c.args.branch.now) (sym c.most_stated.ensures)
     (most_serves c.args.instance.now c.args.pool.now.entries c.args.cost c.unit_totals.result.now loads
     c.in_ok-fixed.fixed.now c.args.branch.now (lent g (goal.at.advise_by_totals-requires-clause-reached g c).After-short_rows) c.requires.branch)
@@ -64,27 +63,27 @@ written g c = with_items_is c.in_ok-advice.advice.weights c.lower.new.weights (o
 
 -- and they are the master's, lowered by the pool's parts
 lowered : (g : Over) (c : After-lower g)
-    → naturals c.lower.new.weights ≡ in_parts (naturals c.in_ok-advice.advice.weights.items) (map entry_part c.args.pool.now.entries)
-lowered g c = c.lower.ensures.lowered ∙ ap₂ (λ ws parts. in_parts (naturals ws) parts) c.deref_mut.ensures.value c.parts.ensures
+    → c.lower.new.weights ≡ in_parts c.in_ok-advice.advice.weights.items (map entry_part c.args.pool.now.entries)
+lowered g c = c.lower.ensures ∙ ap₂ in_parts c.deref_mut.ensures.value c.parts.ensures
 
 pub returns-clause-advice : goal.returns-clause-advice
 returns-clause-advice g c =
     let at = goal.at.returns-clause-advice g c in
-    advice_is c.args.instance.now c.args.pool.now.entries c.args.cost c.unit_totals.result.now (map (λ (v : Vec ℤ Global). v.items) c.unit_loads.result.now)
+    advice_is c.args.instance.now c.args.pool.now.entries c.args.cost c.unit_totals.result.now (map (λ (v : Vec ℕ Global). v.items) c.unit_loads.result.now)
     c.in_ok-fixed.fixed.now c.args.branch.now (advice_of_code c.in_ok-advice.advice)
-    (naturals (with_items c.in_ok-advice.advice.weights c.lower.new.weights).items) (lent g at.After-short_rows) c.in_ok-advice.ensures.advice
-    (ap naturals (written g at.After-lower) ∙ lowered g at.After-lower)
+    (with_items c.in_ok-advice.advice.weights c.lower.new.weights).items (lent g at.After-short_rows) c.in_ok-advice.ensures.advice
+    (written g at.After-lower ∙ lowered g at.After-lower)
 
 pub returns-clause-weights : goal.returns-clause-weights
 returns-clause-weights g c =
     let at = goal.at.returns-clause-weights g c in
     subst (AreNodeWeights c.args.pool.now.entries) (sym (written g at.After-lower))
-    (node_weights c.args.instance.now c.args.pool.now.entries c.args.cost c.unit_totals.result.now (map (λ (v : Vec ℤ Global). v.items) c.unit_loads.result.now)
+    (node_weights c.args.instance.now c.args.pool.now.entries c.args.cost c.unit_totals.result.now (map (λ (v : Vec ℕ Global). v.items) c.unit_loads.result.now)
     c.in_ok-fixed.fixed.now c.in_ok-advice.advice.weights.items c.lower.new.weights (lent g at.After-short_rows) c.in_ok-advice.ensures.weights
-    c.lower.ensures.low (lowered g at.After-lower))
+    (lowered g at.After-lower))
 
 pub returns-clause-point : goal.returns-clause-point
 returns-clause-point g c =
-    point_long c.args.instance.now c.args.pool.now.entries c.args.cost c.unit_totals.result.now (map (λ (v : Vec ℤ Global). v.items) c.unit_loads.result.now)
+    point_long c.args.instance.now c.args.pool.now.entries c.args.cost c.unit_totals.result.now (map (λ (v : Vec ℕ Global). v.items) c.unit_loads.result.now)
     c.in_ok-fixed.fixed.now c.args.branch.now (advice_of_code c.in_ok-advice.advice)
     (lent g (goal.at.returns-clause-point g c).After-short_rows) c.in_ok-advice.ensures.advice

@@ -1,18 +1,13 @@
-use Rattle.std.proofs.Common.{◌≡◌, ℕ, ◌+◌, ◌-◌, ◌≤◌, Fits, length, slice_index, ap, ◌∙◌, arith, rules}
+use Rattle.std.proofs.Common.{◌≡◌, ℕ, ◌+◌, ◌-◌, ◌≤◌, length, slice_index, ap, ◌∙◌, arith}
 use Rattle.std.proofs.lemmas.List.Elements.{All-get_or}
-use mir.Syntax.{w64}
-use Rattle.unit_duals.specs.Limits.{most_length}
 use Rattle.unit_duals.specs.Leasts.{least_of}
 use Rattle.unit_duals.proofs.LeastNumbers.{least_of_le_start}
 use Rattle.leg_tables.specs.CandidateLegs.{trunk_length, length_ceiling}
 use Rattle.value_cuts.specs.Values.{if_allowed}
 use Rattle.value_cuts.specs.Ends.{most_end}
-use Rattle.value_cuts.proofs.LeastLengths.{one_or_ceiling, two_or_ceiling, least_start, least_kept, least_lowered, onward_where, beyond_where, least_is_price}
+use Rattle.value_cuts.proofs.LeastLengths.{end_fits, one_or_ceiling, two_or_ceiling, least_start, least_kept, least_lowered, onward_where, beyond_where, least_is_price}
 use Rattle.value_cuts.proofs.allowed.least_allowed_length.Goals as goal
 use Rattle.value_cuts.proofs.allowed.least_allowed_length.Goals.{then-end-nearest, else-end-nearest}
-
-fits : (n : ℕ) → n ≤ most_end + most_length → Fits w64 n
-fits n low = search (rules, arith)
 
 pub loop-x-init : goal.loop-x-init
 loop-x-init c =
@@ -29,7 +24,7 @@ pub overflow_add-end : goal.overflow_add-end
 overflow_add-end c =
     let end = All-get_or (λ d. d ≤ most_end) c.args.first.now c.loop-x.x 0 c.loop-x-test.true c.requires.first_limit in
     let near = least_of_le_start c.ceiling.result (slice_index c.args.last.now) (length c.args.last.now) in
-    fits (slice_index c.args.first.now c.loop-x.x + c.least_end-nearest.result)
+    end_fits (slice_index c.args.first.now c.loop-x.x + c.least_end-nearest.result)
     (omega (arith, end, near, c.least_end-nearest.ensures, c.ceiling.ensures.limit))
 
 pub overflow_add-least : goal.overflow_add-least
@@ -38,7 +33,7 @@ overflow_add-least c =
     let end = slice_index c.args.first.now c.loop-x.x in
     let sums : ℕ → ℕ = λ y. if_allowed p (c.args.i, c.args.j) c.loop-x.x y (trunk_length p c.loop-x.x y + slice_index c.args.last.now y) (c.loop-x.least - end) in
     let low = least_of_le_start (c.loop-x.least - end) sums (length c.args.last.now) in
-    fits (end + c.least_onward.result)
+    end_fits (end + c.least_onward.result)
     (omega (arith, low, c.least_onward.ensures, c.if-end-nearest.true, c.loop-x.invariant.low, c.ceiling.ensures.value, c.ceiling.ensures.limit))
 
 pub loop-x-preserved : goal.loop-x-preserved

@@ -1,17 +1,12 @@
-use Rattle.std.proofs.Common.{◌≡◌, ℕ, ◌+◌, ◌-◌, ◌≤◌, Fits, length, slice_index, inl, inr, ap, ◌∙◌, arith, rules}
+use Rattle.std.proofs.Common.{◌≡◌, ℕ, ◌+◌, ◌-◌, ◌≤◌, length, slice_index, inl, inr, ap, ◌∙◌, arith}
 use Rattle.std.proofs.lemmas.List.Elements.{All-get_or}
-use mir.Syntax.{w64}
-use Rattle.unit_duals.specs.Limits.{most_length}
 use Rattle.unit_duals.specs.Leasts.{least_of}
 use Rattle.unit_duals.proofs.LeastNumbers.{least_of_le_start}
 use Rattle.leg_tables.specs.CandidateLegs.{trunk_length, delivery_length, length_ceiling}
 use Rattle.value_cuts.specs.Ends.{most_end}
-use Rattle.value_cuts.proofs.LeastLengths.{least_start, least_kept, least_lowered, least_of_any, least_is_price}
+use Rattle.value_cuts.proofs.LeastLengths.{end_fits, least_start, least_kept, least_lowered, least_of_any, least_is_price}
 use Rattle.value_cuts.proofs.pricing.least_length.Goals as goal
 use Rattle.value_cuts.proofs.pricing.least_length.Goals.{then-end-nearest, else-end-nearest}
-
-fits : (n : ℕ) → n ≤ most_end + most_length → Fits w64 n
-fits n low = search (rules, arith)
 
 pub loop-x-init : goal.loop-x-init
 loop-x-init c =
@@ -29,7 +24,7 @@ pub overflow_add-end : goal.overflow_add-end
 overflow_add-end c =
     let end = All-get_or (λ d. d ≤ most_end) c.args.first.now c.loop-x.x 0 c.loop-x-test.true c.requires.first_limit in
     let near = least_of_le_start c.ceiling.result (slice_index c.args.last.now) (length c.args.last.now) in
-    fits (slice_index c.args.first.now c.loop-x.x + c.least_end-nearest.result)
+    end_fits (slice_index c.args.first.now c.loop-x.x + c.least_end-nearest.result)
     (omega (arith, end, near, c.least_end-nearest.ensures, c.ceiling.ensures.limit))
 
 pub overflow_add-least : goal.overflow_add-least
@@ -37,7 +32,7 @@ overflow_add-least c =
     let end = slice_index c.args.first.now c.loop-x.x in
     let sums : ℕ → ℕ = λ y. slice_index c.trunk_legs.result.now y + slice_index c.args.last.now y in
     let low = least_of_le_start (c.loop-x.least - end) sums (length c.trunk_legs.result.now) in
-    fits (end + c.least_sum.result)
+    end_fits (end + c.least_sum.result)
     (omega (arith, low, c.least_sum.ensures, c.if-end-nearest.true, c.loop-x.invariant.low, c.ceiling.ensures.value, c.ceiling.ensures.limit))
 
 pub loop-x-preserved : goal.loop-x-preserved

@@ -1,4 +1,4 @@
-use Rattle.std.proofs.Common.{◌≡◌, ◌+◌, ◌-◌, ℕ, ℤ, List, ◌∷◌, length, Some, ap, sym, subst, ◌∙◌, rules, arith}
+use Rattle.std.proofs.Common.{◌≡◌, ◌+◌, ◌-◌, ℕ, List, ◌∷◌, length, Some, ap, sym, subst, ◌∙◌, rules, arith}
 use Rattle.std.proofs.lemmas.Result.{on_ok_weaker}
 use Rattle.hub_spec.specs.Trees.{Branching, IsBranch, HasRoom, branch_on, leaf}
 use Rattle.hub_spec.proofs.ChildLists.{open_branch, closed_branch}
@@ -60,7 +60,7 @@ fixed-returns-then-not-may_split-clause-done g t c =
     let b = c.args.branch.now in
     let s = state_of p before in
     let only = told_none_alone ((parts_of p).only b) c.in_ok-hubs.field-0 c.in_ok-hubs.ensures c.in_default.is in
-    let is = ap (λ (ws : List ℤ). stopped_leaf p b (pairs_of ws) s) c.deref-then-not-may_split.ensures.value
+    let is = ap (λ (ws : List ℕ). stopped_leaf p b (pairs_of ws) s) c.deref-then-not-may_split.ensures.value
     ∙ fixed_stopped kind task (handling kind task c.args.depth) (told_by (advice_of_code c.args.round.now.advice)) (sides_as c.args.fixings.now) b
     (pairs_of c.args.round.now.weights.items) s only (sym c.may_split.ensures ∙ c.if-not-may_split.true) in
     on_ok_weaker c.stopped_leaf.result (λ done. done_as task before c.stopped_leaf.new.self.progress _ _ is done) c.stopped_leaf.ensures.stopped
@@ -249,7 +249,7 @@ fixed-returns-in_ok-fixed-in-In-clause-done g t c =
     (λ done. done_as task before after _ _ is
     (open_done task before begun middle after k (before.made + 2) before.stop w kept c.in_ok-split_on.ensures.line c.in_ok-fixed-in-In.ensures.done
     (done_as task middle after _ _
-    (ap (λ (ws : List ℤ). record { state = state_of p middle; tree = leaf denominator (pairs_of ws) }) c.deref-in-In.ensures.value)
+    (ap (λ (ws : List ℕ). record { state = state_of p middle; tree = leaf denominator (pairs_of ws) }) c.deref-in-In.ensures.value)
     (done_by task c.fixed.new.self.task.now middle after
     (λ x. record { state = state_of x.instance.now middle; tree = leaf denominator (pairs_of c.deref-in-In.result.now) })
     c.in_ok-fixed-in-In.ensures.same done))))
@@ -277,7 +277,7 @@ fixed-returns-in_ok-add_leaf-in-Out-clause-done g t c =
     let on_side = all ∙ ap (λ (x : code.Side). (k, side_as x) ∷ rest) c.in-Out.is in
     let kept = fixed p (parts_for kind p) task.nodes go a rest c.in_ok-child-in-Out.child w (state_of p middle) in
     let leaf_added = done_as task begun middle _ _
-    (ap (λ (ws : List ℤ). record { state = state_of p begun; tree = leaf denominator (pairs_of ws) }) c.deref-in-Out.ensures.value)
+    (ap (λ (ws : List ℕ). record { state = state_of p begun; tree = leaf denominator (pairs_of ws) }) c.deref-in-Out.ensures.value)
     c.in_ok-add_leaf-in-Out.ensures.added in
     let next = leaf_added.state ∙ begun_state p before begun k c.in_ok-split_on.ensures.line in
     let is = fixed_next kind task go a (k, stays_closed) rest (sides_as c.args.fixings.now) b c.in_ok-child-in-Out.child w s (state_of p middle)
@@ -398,8 +398,8 @@ node-returns-then-closes_cost-clause-done g t c =
     let same = c.in_ok-round.ensures.same in
     let closes = c.closes_cost.ensures
     ∙ ap (λ (x : Task). steps.closes_at x.instance.now (state_of x.instance.now middle) b (pairs_of c.deref-2.result.now)) same
-    ∙ ap (λ (ws : List ℤ). steps.closes_at p (state_of p middle) b (pairs_of ws)) c.deref-2.ensures.value in
-    let is = ap (λ (ws : List ℤ). record { state = state_of p middle; tree = leaf denominator (pairs_of ws) }) c.deref-then-closes_cost.ensures.value
+    ∙ ap (λ (ws : List ℕ). steps.closes_at p (state_of p middle) b (pairs_of ws)) c.deref-2.ensures.value in
+    let is = ap (λ (ws : List ℕ). record { state = state_of p middle; tree = leaf denominator (pairs_of ws) }) c.deref-then-closes_cost.ensures.value
     ∙ sym (after_closed p (parts_for kind p) task.nodes go b r (sym closes ∙ c.if-closes_cost.true))
     ∙ node_explored kind task c.args.depth b (pairs_of c.args.weights.now) s r (omega (arith, c.requires.deep)) on
     (sym c.is_some.ensures ∙ c.if-is_some.false) left.is in
@@ -436,7 +436,7 @@ node-fixed-requires g t c κs within =
     let left = c.in_ok-round.ensures.rounds in
     let w = pairs_of c.in_ok-round.round.weights.items in
     let are = ap (λ (fs : List (ℕ × code.Side)). sides_as fs) c.deref-4.ensures.value ∙ c.in_ok-fixings.ensures
-    ∙ ap (λ (ws : List ℤ). fixings p (state_of p middle) b (pairs_of ws)) c.deref-3.ensures.value in (
+    ∙ ap (λ (ws : List ℕ). fixings p (state_of p middle) b (pairs_of ws)) c.deref-3.ensures.value in (
       search (rules, arith),
       (
         within.0,
@@ -487,10 +487,10 @@ node-returns-clause-done g t c =
     let same = c.in_ok-round.ensures.same in
     let are = ap (λ (fs : List (ℕ × code.Side)). sides_as fs) c.deref-4.ensures.value ∙ c.in_ok-fixings.ensures
     ∙ ap (λ (x : Task). fixings x.instance.now (state_of x.instance.now middle) b (pairs_of c.deref-3.result.now)) same
-    ∙ ap (λ (ws : List ℤ). fixings p (state_of p middle) b (pairs_of ws)) c.deref-3.ensures.value in
+    ∙ ap (λ (ws : List ℕ). fixings p (state_of p middle) b (pairs_of ws)) c.deref-3.ensures.value in
     let closes = c.closes_cost.ensures
     ∙ ap (λ (x : Task). steps.closes_at x.instance.now (state_of x.instance.now middle) b (pairs_of c.deref-2.result.now)) same
-    ∙ ap (λ (ws : List ℤ). steps.closes_at p (state_of p middle) b (pairs_of ws)) c.deref-2.ensures.value in
+    ∙ ap (λ (ws : List ℕ). steps.closes_at p (state_of p middle) b (pairs_of ws)) c.deref-2.ensures.value in
     let is = ap (λ (fs : List (ℕ × steps.Side)). fixed p (parts_for kind p) task.nodes go r.advice fs b r.weights r.state) are
     ∙ sym (after_open p (parts_for kind p) task.nodes go b r (sym closes ∙ c.if-closes_cost.false))
     ∙ node_explored kind task c.args.depth b (pairs_of c.args.weights.now) s r (omega (arith, c.requires.deep)) on
@@ -606,13 +606,13 @@ halved-returns-clause-done g t c =
     let next = begun_state p before begun k c.in_ok-split_on.ensures.line in
     let is = halved_both go b first second w s (state_of p begun) k _ c.nearest-k.ensures.nearest c.in_ok-opened.ensures c.in_ok-closed.ensures next in
     let opened = done_as task begun middle _ (go first w (state_of p begun))
-    (ap (λ (ws : List ℤ). go first (pairs_of ws) (state_of p begun)) c.deref.ensures.value) c.in_ok-node.ensures.done in
+    (ap (λ (ws : List ℕ). go first (pairs_of ws) (state_of p begun)) c.deref.ensures.value) c.in_ok-node.ensures.done in
     on_ok_weaker c.node-2.result
     (λ done. done_as task before after _ _ is
     (both_done task before begun middle after k (before.made + 2) before.stop (go first w (state_of p begun)) (go second w (go first w (state_of p begun)).state)
     c.in_ok-split_on.ensures.line opened
     (done_as task middle after _ _
-    (ap (λ (ws : List ℤ). go second (pairs_of ws) (state_of p middle)) c.deref-2.ensures.value ∙ ap (λ (x : State). go second w x) opened.state)
+    (ap (λ (ws : List ℕ). go second (pairs_of ws) (state_of p middle)) c.deref-2.ensures.value ∙ ap (λ (x : State). go second w x) opened.state)
     (done_by task c.node.new.self.task.now middle after
     (λ x. handling kind x c.args.depth second (pairs_of c.deref-2.result.now) (state_of x.instance.now middle)) c.in_ok-node.ensures.same done))))
     c.node-2.ensures.done

@@ -1,4 +1,4 @@
-use Rattle.std.proofs.Common.{ℤ, List, refl, sym, ap, ◌∙◌}
+use Rattle.std.proofs.Common.{ℕ, List, refl, sym, ap, ◌∙◌}
 use Rattle.std.proofs.lemmas.Result.{IfOk-weaker}
 use Rattle.search_spec.specs.Steps.{round}
 use Rattle.search_spec.proofs.StepCases.{rounds_over}
@@ -31,7 +31,7 @@ returns-clause-round g c =
     let after = c.round.new.self.progress in
     IfOk-weaker c.round.result _ _
     (λ r one. record {
-      is = one.is ∙ ap (λ (ws : List ℤ). round p parts c.args.branch.now (pairs_of ws) (state_of p before)) c.deref.ensures.value
+      is = one.is ∙ ap (λ (ws : List ℕ). round p parts c.args.branch.now (pairs_of ws) (state_of p before)) c.deref.ensures.value
           ∙ sym (one_round p parts c.args.branch.now (round_as p before c.args.last) c.if-not-last.false);
       lines = one.lines;
       going = one.going;

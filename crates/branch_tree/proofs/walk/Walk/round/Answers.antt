@@ -28,9 +28,9 @@ returns-then-closes_cost-clause-round g c =
     let best = pairs_of c.in_ok-weights.weights.items in
     let taken : IsTaken p b w s a best = record {
       advice = c.in_ok-advice.ensures.advice before.hubs before.made before.stop;
-      weights = c.in_ok-weights.ensures.better ∙ ap (λ (ws : List ℤ). better p s b w (pairs_of ws)) c.deref.ensures.value;
+      weights = c.in_ok-weights.ensures.better ∙ ap (λ (ws : List ℕ). better p s b w (pairs_of ws)) c.deref.ensures.value;
     } in
-    let closes = c.closes_cost.ensures ∙ ap (λ (ws : List ℤ). closes_at p s b (pairs_of ws)) c.deref-2.ensures.value in
+    let closes = c.closes_cost.ensures ∙ ap (λ (ws : List ℕ). closes_at p s b (pairs_of ws)) c.deref-2.ensures.value in
     record {
       is = round_ends g.S.Separator.kind p b w s a best taken (inl (sym closes ∙ c.if-closes_cost.true));
       lines = refl;
@@ -50,9 +50,9 @@ returns-then-is_some-clause-round g c =
     let best = pairs_of c.in_ok-weights.weights.items in
     let taken : IsTaken p b w s a best = record {
       advice = c.in_ok-advice.ensures.advice before.hubs before.made before.stop;
-      weights = c.in_ok-weights.ensures.better ∙ ap (λ (ws : List ℤ). better p s b w (pairs_of ws)) c.deref.ensures.value;
+      weights = c.in_ok-weights.ensures.better ∙ ap (λ (ws : List ℕ). better p s b w (pairs_of ws)) c.deref.ensures.value;
     } in
-    let closes = c.closes_cost.ensures ∙ ap (λ (ws : List ℤ). closes_at p s b (pairs_of ws)) c.deref-2.ensures.value in
+    let closes = c.closes_cost.ensures ∙ ap (λ (ws : List ℕ). closes_at p s b (pairs_of ws)) c.deref-2.ensures.value in
     let set = c.in_ok-set.ensures.picked in
     let known : is_some (number_in_pool s c.in_ok-set.set) ≡ true =
     ap (λ (o : Option ℕ). is_some o) (sym (c.number_of.ensures.number p)) ∙ sym c.is_some.ensures ∙ c.if-is_some.true in
@@ -75,9 +75,9 @@ returns-clause-round g c =
     let best = pairs_of c.in_ok-weights.weights.items in
     let taken : IsTaken p b w s a best = record {
       advice = c.in_ok-advice.ensures.advice before.hubs before.made before.stop;
-      weights = c.in_ok-weights.ensures.better ∙ ap (λ (ws : List ℤ). better p s b w (pairs_of ws)) c.deref.ensures.value;
+      weights = c.in_ok-weights.ensures.better ∙ ap (λ (ws : List ℕ). better p s b w (pairs_of ws)) c.deref.ensures.value;
     } in
-    let closes = c.closes_cost.ensures ∙ ap (λ (ws : List ℤ). closes_at p s b (pairs_of ws)) c.deref-2.ensures.value in
+    let closes = c.closes_cost.ensures ∙ ap (λ (ws : List ℕ). closes_at p s b (pairs_of ws)) c.deref-2.ensures.value in
     let set = c.in_ok-set.ensures.picked in
     let unknown : is_some (number_in_pool s c.in_ok-set.set) ≡ false =
     ap (λ (o : Option ℕ). is_some o) (sym (c.number_of.ensures.number p)) ∙ sym c.is_some.ensures ∙ c.if-is_some.false in

@@ -1,22 +1,9 @@
-use Rattle.std.proofs.Common.{◌≤◌, All, refl, sym, subst, arith}
+use Rattle.std.proofs.Common.{refl, sym, subst, arith}
 use Rattle.std.proofs.lemmas.Result.{on_ok_weaker}
-use Rattle.hub_spec.specs.Limits.{most_cost}
 use Rattle.kept_cuts.specs.Kept.{kept_of, kept_cut}
 use Rattle.closing_search.specs.SingleCuts.{AreLoads}
-use Rattle.closing_search.proofs.SingleBounds.{loads_within, total_within}
 use Rattle.closing_search.proofs.Steps.{cut_at_step}
 use Rattle.closing_search.proofs.walk.Walk.keep.Goals as goal
-
-pub keep-requires-clause-total : goal.keep-requires-clause-total
-keep-requires-clause-total c =
-    let p = c.args.self.now.task.now.instance.now in
-    total_within p (kept_cut p (kept_of c.args.cut)) c.args.total c.args.self.now.bench.loads c.requires.sums
-
-pub keep-requires-clause-loads : goal.keep-requires-clause-loads
-keep-requires-clause-loads c =
-    let p = c.args.self.now.task.now.instance.now in
-    subst (All (λ l. l ≤ most_cost)) (sym c.loads.ensures)
-    (loads_within p (kept_cut p (kept_of c.args.cut)) c.args.total c.args.self.now.bench.loads c.requires.sums)
 
 pub returns-clause-at : goal.returns-clause-at
 returns-clause-at c =

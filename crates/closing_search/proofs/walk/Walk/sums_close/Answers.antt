@@ -1,42 +1,23 @@
-use Rattle.std.proofs.Common.{◌≡◌, ◌≤◌, ◌<◌, ◌^◌, ℕ, ℤ, pos, [], ◌∷◌, map, refl, ap, ◌∙◌, to_z, of_z, FitsSigned, Vec, Global, rules, arith}
+use Rattle.std.proofs.Common.{◌≡◌, ℕ, [], ◌∷◌, map, refl, ◌∙◌, FitsSigned, Vec, Global, rules}
 use Rattle.std.specs.Int.{w128}
 use Rattle.std.proofs.lemmas.Int.{to_z-of_z}
-use Rattle.std.proofs.lemmas.List.Elements.{All-weaker}
-use Rattle.hub_spec.specs.Limits.{most_cost}
 use Rattle.hub_spec.specs.Cuts.{Cut}
 use Rattle.search_core.proofs.Weightings.{branch_below}
 use Rattle.closing_search.specs.SingleCuts.{AreLoads, IsOnCut}
-use Rattle.closing_search.proofs.SingleBounds.{loads_within, total_within, cut_numbers, cut_bound_is}
+use Rattle.closing_search.proofs.SingleBounds.{cut_numbers, cut_bound_is}
 use Rattle.closing_search.proofs.walk.Walk.sums_close.Goals as goal
 use Rattle.closing_search.proofs.walk.Walk.sums_close.Goals.{After-cut_weighting-weighting}
-
-pub signed_row-requires : goal.signed_row-requires
-signed_row-requires c =
-    let sums = c.requires.sums in
-    let loads = c.args.self.now.bench.loads in
-    rw c.loads.ensures
-    (All-weaker (λ (l : ℕ). l ≤ most_cost) (λ (l : ℕ). l < 2 ^ 127) (λ l low. omega (arith, low)) loads
-    (loads_within c.args.self.now.task.now.instance.now sums.0 c.args.total loads sums.1))
-
-pub signed-requires : goal.signed-requires
-signed-requires c =
-    let sums = c.requires.sums in
-    let low = total_within c.args.self.now.task.now.instance.now sums.0 c.args.total c.args.self.now.bench.loads sums.1 in
-    omega (arith, low)
 
 -- the numbers of the cut, as they are lent
 on_cut : (c : After-cut_weighting-weighting) (cut : Cut) → let t = c.args.self.now.task.now in
     AreLoads t.instance.now cut c.args.total c.args.self.now.bench.loads
     → IsOnCut t.instance.now cut c.cut_weighting-weighting.result
 on_cut c cut are =
-    let fits_sum : FitsSigned w128 c.signed.result = search rules in
-    let totals_are : to_z w128 (of_z w128 c.signed.result) ∷ [] ≡ pos c.args.total ∷ [] =
-    ap (λ (z : ℤ). z ∷ []) (to_z-of_z w128 c.signed.result fits_sum ∙ c.signed.ensures) in
     let sum = c.args.total in
     let loads = c.args.self.now.bench.loads in
-    let rows_are : map (λ (v : Vec ℤ Global). v.items) c.deref.result.now ≡ map pos loads ∷ [] = search rules in
+    let rows_are : map (λ (v : Vec ℕ Global). v.items) c.deref.result.now ≡ loads ∷ [] = search rules in
     c.cut_weighting-weighting.ensures cut
-    (record { sum = sum; loads = loads; are = are; totals_are = totals_are; rows_are = rows_are; parts_are = refl })
+    (record { sum = sum; loads = loads; are = are; totals_are = refl; rows_are = rows_are; parts_are = refl })
 
 pub bound_by_number-by_cut-requires-clause-numbers : goal.bound_by_number-by_cut-requires-clause-numbers
 bound_by_number-by_cut-requires-clause-numbers c =

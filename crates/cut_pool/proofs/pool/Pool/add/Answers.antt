@@ -1,9 +1,5 @@
-use Rattle.std.proofs.Common.{◌≡◌, ◌+◌, ◌≤◌, ◌==◌, ◌++◌, ◌∷◌, [], ℕ, List, length, map, pos, Some, All, to_z, of_z, FitsSigned, refl, ap, subst, sym, rules, ◌∙◌, arith}
-use Rattle.std.specs.Int.{w128}
+use Rattle.std.proofs.Common.{◌≡◌, ◌+◌, ◌≤◌, ◌==◌, ◌++◌, ◌∷◌, [], ℕ, List, length, Some, refl, ap, subst, sym, ◌∙◌, arith}
 use Rattle.std.proofs.Math.Nat.{div-one}
-use Rattle.std.proofs.lemmas.Int.{to_z-of_z}
-use Rattle.hub_model.specs.Amounts.{natural, IsNatural}
-use Rattle.hub_model.proofs.Signs.{natural-pos, pos_least}
 use Rattle.kept_cuts.specs.Kept.{Kept, by_set}
 use Rattle.cut_pool.specs.Entries.{PoolState, entry_of, Lacks}
 use Rattle.cut_pool.specs.Kept.{sets_of}
@@ -27,12 +23,6 @@ index_next-requires-clause-first_time c = λ hubs of.
     (subst (Lacks (state_of c.self.inside).entries) (sym c.into_parts-set.ensures.set ∙ some_same c.into_parts-set.result.0 hubs of)
     (rw entries c.requires))
 
-pub with_cut-requires : goal.with_cut-requires
-with_cut-requires c = subst (All IsNatural) (sym (c.deref.ensures.value ∙ c.into_parts-set.ensures.loads)) (pos_least c.args.cut.loads)
-
-pub put-requires-clause-loads : goal.put-requires-clause-loads
-put-requires-clause-loads c = subst (All IsNatural) (sym c.into_parts-set.ensures.loads) (pos_least c.args.cut.loads)
-
 grown : (c : After-put)
     → HasGrown c.self.inside
     (record {
@@ -47,28 +37,21 @@ grown c =
     let s = c.self.inside in
     let es = (state_of s).entries in
     let e = entry_of c.args.cut c.args.order.items in
-    let fits : FitsSigned w128 c.into_parts-set.result.1 = search rules in
-    let total : natural (to_z w128 (of_z w128 c.into_parts-set.result.1)) ≡ c.args.cut.total =
-    ap natural (to_z-of_z w128 c.into_parts-set.result.1 fits ∙ c.into_parts-set.ensures.total) in
-    let loads : map natural c.into_parts-set.result.2.items ≡ c.args.cut.loads =
-    ap (map natural) c.into_parts-set.ensures.loads ∙ natural-pos c.args.cut.loads in
-    let hubs = c.into_parts-set.ensures.set in
-    let total_fits : FitsSigned w128 c.total-total.result = search rules in
+    let sums = c.into_parts-set.ensures in
+    let row = sym (whole_row c.args.cut.loads) in
     let entered = on_ok_at c.enter.result (sym c.is_err-2.ensures.value ∙ c.if-is_err-2.false) c.enter.ensures.entered in
     record {
       kept = c.put.ensures.kept
           ∙ (λ i. record {
-            cuts = s.cuts.kept.cuts ++ by_set (hubs i) c.args.order.items ∷ [];
-            totals = s.cuts.kept.totals ++ total i ∷ [];
-            loads = s.cuts.kept.loads ++ loads i ∷ [];
+            cuts = s.cuts.kept.cuts ++ by_set (sums.set i) c.args.order.items ∷ [];
+            totals = s.cuts.kept.totals ++ sums.total i ∷ [];
+            loads = s.cuts.kept.loads ++ sums.loads i ∷ [];
           });
-      short = short_more es e s.short c.take.result c.with_cut.result (c.len-place.result == 0)
-          (map natural c.deref.result.now) c.self.invariant.short c.take.ensures.value c.with_cut.ensures
-          (ap (λ n. n == 0) (c.len-place.ensures ∙ sym (length-entries s c.self.invariant)))
-          (ap (map natural) c.deref.ensures.value ∙ loads ∙ sym (whole_row c.args.cut.loads));
+      short = short_more es e s.short c.take.result c.with_cut.result (c.len-place.result == 0) c.deref.result.now c.self.invariant.short
+          c.take.ensures.value c.with_cut.ensures (ap (λ n. n == 0) (c.len-place.ensures ∙ sym (length-entries s c.self.invariant)))
+          (c.deref.ensures.value ∙ sums.loads ∙ row);
       units = units_more es e s.cuts.kept s.units c.enter.new.kept 1 _ _ c.self.invariant.units (pool_columns s c.self.invariant) entered refl
-          (to_z-of_z w128 c.total-total.result total_fits ∙ c.total-total.ensures ∙ ap pos (sym (div-one c.args.cut.total)))
-          (c.loads-loads.ensures ∙ ap (map pos) (sym (whole_row c.args.cut.loads)));
+          (c.total-total.ensures ∙ sym (div-one c.args.cut.total)) (c.loads-loads.ensures ∙ row);
       greatest = let more = most_more es e in omega (arith, more, c.self.invariant.greatest);
     }
 

@@ -1,8 +1,4 @@
-use Rattle.std.proofs.Common.{◌≡◌, ◌+◌, ◌/◌, ◌≤◌, ◌==◌, ◌++◌, ◌∷◌, [], max, List, length, map, pos, All, to_z, of_z, FitsSigned, ap, ap₂, subst, sym, rules, ◌∙◌, arith}
-use Rattle.std.specs.Int.{w128}
-use Rattle.std.proofs.lemmas.Int.{to_z-of_z}
-use Rattle.hub_model.specs.Amounts.{natural, IsNatural}
-use Rattle.hub_model.proofs.Signs.{natural-pos, pos_least}
+use Rattle.std.proofs.Common.{◌≡◌, ◌+◌, ◌/◌, ◌≤◌, ◌==◌, ◌++◌, ◌∷◌, [], max, List, length, map, ap, ap₂, subst, sym, ◌∙◌, arith}
 use Rattle.kept_cuts.specs.Kept.{Kept, kept_of, kept_set, kept_part}
 use Rattle.cut_pool.specs.Entries.{PoolState, Entry, most_unit, kept_most}
 use Rattle.cut_pool.specs.Kept.{sets_of}
@@ -23,9 +19,6 @@ index_next-requires-clause-first_time c = λ hubs of.
     ap (λ (p : PoolState). p.entries) c.self.view_is ∙ c.reserve.ensures.entries in
     none_of_these c.self.inside c.self.invariant c.cuts.result.now c.cuts.ensures.value hubs (rw entries (c.requires.first_time hubs of))
 
-pub with_cut-requires : goal.with_cut-requires
-with_cut-requires c = subst (All IsNatural) (sym (c.deref-2.ensures.value ∙ c.sums.invariant.loads)) (pos_least _)
-
 -- what the cut becomes
 abbrev entry : After-put → Entry
 entry c = record { cut = kept_of c.args.cut; total = c.args.sums.total; loads = c.args.sums.loads }
@@ -33,11 +26,14 @@ entry c = record { cut = kept_of c.args.cut; total = c.args.sums.total; loads = 
 part_is : (c : After-put) → c.sums.inside.part ≡ kept_part (kept_of c.args.cut)
 part_is c = ap (λ (s : PartSums). s.part) c.sums.view_is ∙ c.requires.part
 
-loads_are : (c : After-put) → map natural c.sums.inside.loads.items ≡ c.args.sums.loads
+total_is : (c : After-put) → c.sums.inside.total ≡ c.args.sums.total
+total_is c = ap (λ (s : PartSums). s.total) c.sums.view_is
+
+loads_are : (c : After-put) → c.sums.inside.loads.items ≡ c.args.sums.loads
 loads_are c = ap (λ (s : PartSums). s.loads) c.sums.view_is
 
-units_are : (c : After-put) → c.sums.inside.unit_loads.items ≡ map pos (unit_row (entry c))
-units_are c = c.sums.invariant.loads ∙ ap₂ (λ part loads. map pos (map (λ u. u / part) loads)) (part_is c) (loads_are c)
+units_are : (c : After-put) → c.sums.inside.unit_loads.items ≡ unit_row (entry c)
+units_are c = c.sums.invariant.loads ∙ ap₂ (λ part loads. map (λ u. u / part) loads) (part_is c) (loads_are c)
 
 grown : (c : After-put)
     → HasGrown c.self.inside
@@ -53,14 +49,9 @@ grown c =
     let s = c.self.inside in
     let es = (state_of s).entries in
     let e = entry c in
-    let fits : FitsSigned w128 c.sums.inside.total = search rules in
-    let total_is : natural c.sums.inside.total ≡ c.args.sums.total = ap (λ (x : PartSums). x.total) c.sums.view_is in
-    let total : natural (to_z w128 (of_z w128 c.sums.inside.total)) ≡ c.args.sums.total =
-    ap natural (to_z-of_z w128 c.sums.inside.total fits) ∙ total_is in
+    let total = total_is c in
     let loads = loads_are c in
-    let unit_fits : FitsSigned w128 c.sums.inside.unit_total = search rules in
-    let unit_total =
-    to_z-of_z w128 c.sums.inside.unit_total unit_fits ∙ c.sums.invariant.total ∙ ap₂ (λ t part. pos (t / part)) total_is (part_is c) in
+    let unit_total = c.sums.invariant.total ∙ ap₂ (λ t part. t / part) total (part_is c) in
     let most : c.sums.inside.most ≡ kept_most e.cut e.loads =
     c.sums.invariant.most ∙ (λ i. most_unit (part_is c i) (loads i)) ∙ sym (stated_most e.cut e.loads c.requires.stated) in
     let entered = on_ok_at c.enter.result (sym c.is_err.ensures.value ∙ c.if-is_err.false) c.enter.ensures.entered in
@@ -71,10 +62,9 @@ grown c =
             totals = s.cuts.kept.totals ++ total i ∷ [];
             loads = s.cuts.kept.loads ++ loads i ∷ [];
           });
-      short = short_more es e s.short c.take.result c.with_cut.result (c.len-place.result == 0)
-          (map natural c.deref-2.result.now) c.self.invariant.short c.take.ensures.value c.with_cut.ensures
-          (ap (λ n. n == 0) (c.len-place.ensures ∙ sym (length-entries s c.self.invariant)))
-          (ap (map natural) (c.deref-2.ensures.value ∙ units_are c) ∙ natural-pos (unit_row e));
+      short = short_more es e s.short c.take.result c.with_cut.result (c.len-place.result == 0) c.deref-2.result.now c.self.invariant.short
+          c.take.ensures.value c.with_cut.ensures (ap (λ n. n == 0) (c.len-place.ensures ∙ sym (length-entries s c.self.invariant)))
+          (c.deref-2.ensures.value ∙ units_are c);
       units = units_more es e s.cuts.kept s.units c.enter.new.kept c.sums.inside.part _ _ c.self.invariant.units
           (pool_columns s c.self.invariant) entered (part_is c) unit_total (c.deref.ensures.value ∙ units_are c);
       greatest = c.max-self-inside.ensures ∙ ap₂ max c.self.invariant.greatest most ∙ sym (most_more es e);

@@ -1,4 +1,4 @@
-use Rattle.std.proofs.Common.{map, pos, ap, sym, ◌∙◌}
+use Rattle.std.proofs.Common.{ap, sym, ◌∙◌}
 use Rattle.cut_pool.specs.Entries.{PoolState, unit_loads}
 use Rattle.cut_pool.specs.PoolParts.{state_of}
 use Rattle.cut_pool.proofs.Entered.{pool_columns}
@@ -10,5 +10,5 @@ returns-in-None c =
     let s = c.self.inside in
     let whole = c.self.invariant.units.none c.in-None.is in
     c.loads-in-None.ensures.value
-    ∙ ap (map (map pos)) (sym (pool_columns s c.self.invariant).loads ∙ sym (whole_loads (state_of s).entries whole))
-    ∙ ap (λ (p : PoolState). map (map pos) (unit_loads p.entries)) c.self.view_is
+    ∙ sym (pool_columns s c.self.invariant).loads ∙ sym (whole_loads (state_of s).entries whole)
+    ∙ ap (λ (p : PoolState). unit_loads p.entries) c.self.view_is

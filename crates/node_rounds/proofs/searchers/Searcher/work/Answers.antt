@@ -1,4 +1,4 @@
-use Rattle.std.proofs.Common.{List, length, ap, refl, sym, subst, ◌∙◌, arith}
+use Rattle.std.proofs.Common.{List, length, ap, refl, sym, subst, arith}
 use Rattle.search_core.specs.declared.tasks.Task.{Task}
 use Rattle.node_rounds.specs.declared.outcomes.Pending.{Pending}
 use Rattle.node_rounds.specs.declared.posts.Worked.{Worked}

@@ -1,8 +1,5 @@
-use Rattle.std.proofs.Common.{◌≡◌, ℕ, [], None, ℤ, Vec, Global, FitsSigned, to_z, of_z, ap, ◌∙◌, rules}
-use Rattle.std.specs.Int.{w128}
-use Rattle.std.proofs.lemmas.Int.{to_z-of_z}
+use Rattle.std.proofs.Common.{◌≡◌, ℕ, [], None, Vec, Global, ap, ◌∙◌}
 use Rattle.std.proofs.lemmas.Result.{IfOk-weaker}
-use Rattle.hub_model.specs.Amounts.{natural}
 use Rattle.leaf_bound.specs.Bounds.{bound_of}
 use Rattle.leaf_bound.specs.Numbers.{weighting_of}
 use Rattle.search_spec.specs.Steps as steps
@@ -41,10 +38,8 @@ fix-requires-clause-not_closed c =
     let weights = c.args.weighed.now.weights.now in
     let b = c.args.branch.now in
     let m = weighting_of c.weighting.result in
-    let fits : FitsSigned w128 c.signed.result = search rules in
     let lends = lent (goal.at.fix-requires-clause-not_closed c).After-weighting in
-    ap (λ (z : ℤ). closes_by m (natural z) b) (to_z-of_z w128 c.signed.result fits ∙ c.signed.ensures)
-    ∙ lent_closes p entries weights c.weighting.result b (bound_of m b) [] c.args.cost 0 None lends
+    lent_closes p entries weights c.weighting.result b (bound_of m b) [] c.args.cost 0 None lends
     (plain_lent p entries weights c.weighting.result b c.requires.serves lends c.requires.branch [] c.args.cost 0 None)
     ∙ c.requires.not_closed [] 0 None
 
@@ -56,12 +51,10 @@ returns c =
     let b = c.args.branch.now in
     let cost = c.args.cost in
     let m = weighting_of c.weighting.result in
-    let fits : FitsSigned w128 c.signed.result = search rules in
-    let target : natural (to_z w128 (of_z w128 c.signed.result)) ≡ cost = ap natural (to_z-of_z w128 c.signed.result fits ∙ c.signed.ensures) in
     let lends = lent (goal.at.returns c).After-weighting in
-    IfOk-weaker c.fix.result (λ (v : Vec (ℕ × Side) Global). v.items ≡ fixings m (natural (to_z w128 (of_z w128 c.signed.result))) b)
+    IfOk-weaker c.fix.result (λ (v : Vec (ℕ × Side) Global). v.items ≡ fixings m cost b)
     (λ (v : Vec (ℕ × Side) Global). InEachStateAt p entries cost (λ s. sides_as v.items ≡ steps.fixings p s b (pairs_of weights)))
-    (λ v is hubs made stop. ap sides_as (is ∙ ap (λ (t : ℕ). fixings m t b) target)
+    (λ v is hubs made stop. ap sides_as is
     ∙ sides_are p (state_by p entries hubs cost made stop) b (pairs_of weights) (closes_by m cost) c.requires.branch
     (λ child is_child. lent_closes p entries weights c.weighting.result child (bound_of m child) hubs cost made stop lends
     (plain_lent p entries weights c.weighting.result child c.requires.serves lends is_child hubs cost made stop))) c.fix.ensures

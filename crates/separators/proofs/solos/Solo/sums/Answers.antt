@@ -1,25 +1,10 @@
-use Rattle.std.proofs.Common.{◌≡◌, ◌<◌, List, ℕ, sym, subst, ◌∙◌, arith}
-use Rattle.std.specs.Prelude.{All, ◌^◌}
+use Rattle.std.proofs.Common.{◌≡◌, List, ℕ, sym, subst, ◌∙◌, arith}
 use Rattle.std.proofs.lemmas.List.{take_at}
 use Rattle.std.proofs.lemmas.Result.{IfOk-weaker}
 use Rattle.cut_pool.specs.Entries.{Sums, entry_of}
 use Rattle.search_steps.specs.Pools.{IsSumsOf}
-use Rattle.separators.proofs.WholeCuts.{total_fits, loads_fit, are_sums}
+use Rattle.separators.proofs.WholeCuts.{are_sums}
 use Rattle.separators.proofs.solos.Solo.sums.Goals as goal
-
-pub kept_sums-requires-clause-total : goal.kept_sums-requires-clause-total
-kept_sums-requires-clause-total c =
-    let fits = total_fits c.args.instance.now c.args.set c.args.order.now c.size-nodes.ensures.problem c.requires.set c.requires.order in
-    omega (arith, fits, c.cut_sums-total.ensures.total)
-
-pub kept_sums-requires-clause-loads : goal.kept_sums-requires-clause-loads
-kept_sums-requires-clause-loads c =
-    let read : c.deref.result.now ≡ c.cut_sums-total.new.loads =
-    c.deref.ensures.value ∙ take_at c.cut_sums-total.new.loads _ _
-    (omega (arith, c.cut_sums-total.ensures.long, c.in_ok-resize.ensures.len, c.size-nodes.ensures.value)) in
-    subst (All (λ v. v < 2 ^ 127)) (sym read)
-    (loads_fit c.args.instance.now c.args.set c.args.order.now c.cut_sums-total.new.loads c.size-nodes.ensures.problem c.requires.set c.requires.order
-    c.cut_sums-total.ensures.long c.cut_sums-total.ensures.loads)
 
 pub returns-clause-sums : goal.returns-clause-sums
 returns-clause-sums c =

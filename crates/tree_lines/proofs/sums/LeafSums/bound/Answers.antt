@@ -22,11 +22,10 @@ returns-clause-value c =
     let free : c.free_sum.result ≡ free_sum p.wanted (tally_gain p tally) b =
     c.free_sum.ensures.value ∙ ap (λ (t : Tally). free_sum p.wanted (tally_gain p t) b) (sym c.self.view_is) in
     let some = s.base + c.weighted_costs-costs.result in
-    let passed = parts_passed c.signed.result c.signed-2.result c.free_sum.result some c.loads_of-gone.result c.signed.ensures c.signed-2.ensures
+    let passed = parts_passed c.difference.result c.free_sum.result some c.loads_of-gone.result c.difference.ensures
     c.free_sum.ensures.limit
     (omega (arith, c.weighted_costs-costs.ensures.limit, c.self.invariant.base_limit, c.self.invariant.weight_limit, c.self.invariant.denom_limit))
     c.loads_of-gone.ensures.limit in
-    subst (λ (t : Tally). to_z w128 (of_z w128 (to_z w128 (of_z w128 (to_z w128 (of_z w128 c.signed.result) -ℤ to_z w128 (of_z w128 c.signed-2.result)))
-    +ℤ to_z w128 (of_z w128 c.free_sum.result))) ≡ tally_bound p t b) c.self.view_is
+    subst (λ (t : Tally). to_z w128 (of_z w128 (to_z w128 (of_z w128 c.difference.result) +ℤ to_z w128 (of_z w128 c.free_sum.result))) ≡ tally_bound p t b) c.self.view_is
     (passed ∙ ap (λ (z : ℤ). (pos some -ℤ pos c.loads_of-gone.result) +ℤ z) free
     ∙ bound_of_parts p tally b c.weighted_costs-costs.result c.loads_of-gone.result costs gone)
