@@ -24,9 +24,7 @@ pub(crate) fn leaf(alloc: Global, line: &str) -> Result<String, AllocError> {
     let weights = numbers(alloc, line, "leaf")?;
     let weights: Vec<u128> = weights.iter().map(|w| u128::from(*w)).collect(alloc)?;
     let mut lines = Vec::new(alloc);
-    if weights.iter().all(|weight| *weight <= 1_000_000) {
-        lines.push(leaf_line(alloc, &weights)?)?;
-    }
+    lines.push(leaf_line(alloc, &weights)?)?;
     tree_text(alloc, &lines)
 }
 

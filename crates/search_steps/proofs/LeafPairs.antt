@@ -1,5 +1,5 @@
 -- The weights of a leaf, listed cut by cut.
-use Rattle.std.proofs.Common.{◌≡◌, ℕ, ◌+◌, ◌<◌, ◌≤◌, ℤ, pos, ◌≤ℤ◌, List, [], ◌∷◌, ◌++◌, length, take, get_or, map, filter, nat_lt, All, Bool, true, if◌then◌else◌, refl, sym, ap, subst, ◌∙◌, append-nil, lt-ltb, ltb-true, arith}
+use Rattle.std.proofs.Common.{◌≡◌, ℕ, ◌+◌, ◌^◌, ◌<◌, ◌≤◌, ℤ, pos, ◌≤ℤ◌, List, [], ◌∷◌, ◌++◌, length, take, get_or, map, filter, nat_lt, All, Bool, true, if◌then◌else◌, refl, sym, ap, subst, ◌∙◌, append-nil, lt-ltb, ltb-true, arith}
 use Rattle.std.specs.List.{enumerate_from}
 use Rattle.std.specs.List.Sorted.{IsStrictlyIncreasing}
 use Rattle.std.proofs.lemmas.Int.{ints}
@@ -11,7 +11,12 @@ use Rattle.hub_spec.proofs.SumLemmas.{by_test}
 use Rattle.hub_model.specs.Amounts.{natural}
 use Rattle.plan_model.specs.Mixtures.{natural_weights, signed_weights, IsSignedMixture}
 use Rattle.leaf_bound.specs.Theorems.{weight_pairs}
+use Rattle.search_spec.specs.States.{denominator}
 use Rattle.search_steps.specs.Weights.{pairs_of}
+
+-- the weights of a node can be written with a sign
+pub weights_fit : (ws : List ℕ) → All (λ (w : ℕ). w ≤ denominator) ws → All (λ (w : ℕ). w < 2 ^ 127) ws
+weights_fit ws each = All-weaker (λ (w : ℕ). w ≤ denominator) (λ (w : ℕ). w < 2 ^ 127) (λ w low. omega (arith, low)) ws each
 
 abbrev has_weight : ℕ × ℕ → Bool
 has_weight e = nat_lt 0 e.1

@@ -1,6 +1,6 @@
 //! The leaf of a node.
 
-ghost use Rattle.std.specs.Prelude.{◌≡◌, ◌≤◌, All, IfOk};
+ghost use Rattle.std.specs.Prelude.{◌≡◌, ◌^◌, ◌<◌, All, IfOk};
 ghost use Rattle.hub_spec.specs.Trees.{leaf_of};
 ghost use Rattle.plan_model.specs.Lines.{tree_line_of};
 ghost use Rattle.search_spec.specs.States.{denominator};
@@ -15,7 +15,7 @@ use std::alloc::{AllocError, Global};
 ///
 /// The answer is `AllocError` where memory runs out.
 pub fn leaf_line(alloc: Global, weights: &[u128]) -> Result<TreeLine, AllocError>
-    requires { All (λ w. w ≤ denominator) weights.now }
+    requires { All (λ w. w < 2 ^ 127) weights.now }
     ensures { IfOk result (λ line. tree_line_of line ≡ leaf_of denominator (pairs_of weights.now)) }
 {
     let mut pairs = Vec::new(alloc);

@@ -1,8 +1,8 @@
 //! What a search does at one node, short of walking the tree.
 //!
-//! At a node a search has a branch, the pool of its cuts, and weights on the first cuts of the pool: one number for each
-//! of them in 10^-6, none below 0 and each a multiple of its cut's part, which are at most 10^6 together. A separated cut
-//! has the part 1, a given one its own. `node_advice` asks the master of the branch for other weights and for a point;
+//! At a node a search has a branch, the pool of its cuts, and weights on the first cuts of the pool: one number for
+//! each of them in 10^-6, each a multiple of its cut's part, which are at most 10^6 together. A separated cut has the
+//! part 1, a given one its own. `node_advice` asks the master of the branch for other weights and for a point;
 //! `is_better` tells whether their bound is above that of the present ones, and `closes` whether the bound of weights
 //! closes the incumbent's cost. `nearest` chooses by the point the node that is branched on, and `leaf_line` writes a
 //! leaf.

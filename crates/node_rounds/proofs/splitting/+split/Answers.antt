@@ -10,6 +10,7 @@ use Rattle.search_spec.specs.Steps as steps
 use Rattle.search_spec.specs.Steps.{two_more, stays_open, stays_closed}
 use Rattle.search_steps.specs.Advising.{told_by, master_advising, parts_of}
 use Rattle.search_steps.specs.Weights.{pairs_of, side_as, sides_as}
+use Rattle.search_steps.proofs.LeafPairs.{weights_fit}
 use Rattle.search_steps.proofs.GivenPools.{weights_stay, grown_twice}
 use Rattle.search_progress.specs.Progressing.{state_of}
 use Rattle.search_progress.specs.FixingsLeft.{AreOnFree}
@@ -50,6 +51,9 @@ returns-then-not-may_split t c =
     (sym c.may_split.ensures ∙ c.if-not-may_split.true)
     ∙ ap (λ (fs : List (ℕ × steps.Side)). split_up p (parts_of p) task.nodes a fs x s) (sym all) in
     on_ok_weaker c.stop_at.result (λ taken. taken_as task front c.stop_at.new.front _ _ is taken) c.stop_at.ensures
+
+pub leaf_line-requires : goal.leaf_line-requires
+leaf_line-requires t c = weights_fit c.deref.result.now (search rules)
 
 pub split_up-requires : goal.split_up-requires
 split_up-requires t c =

@@ -1,4 +1,4 @@
-use Rattle.std.proofs.Common.{ℕ, [], None, ℤ, pos, List, slice_index_or, subst, ap, sym, ◌∙◌}
+use Rattle.std.proofs.Common.{ℕ, [], None, ℤ, pos, List, slice_index_or, subst, ap, sym, ◌∙◌, rules}
 use Rattle.hub_spec.specs.Trees.{TreeLine, leaf_of}
 use Rattle.frac_master.specs.Advice.{advice_of_code}
 use Rattle.search_spec.specs.States.{denominator}
@@ -7,12 +7,16 @@ use Rattle.search_spec.specs.Choices.{others, by_falling}
 use Rattle.search_steps.specs.Pools.{state_by}
 use Rattle.search_steps.specs.Advising.{told_by}
 use Rattle.search_steps.specs.Weights.{pairs_of, sides_as}
+use Rattle.search_steps.proofs.LeafPairs.{weights_fit}
 use Rattle.search_progress.specs.FixingsLeft.{AreOnFree}
 use Rattle.rounds_spec.specs.Places.{ends}
 use Rattle.node_rounds.specs.Outcomes.{pending_of, tree_of}
 use Rattle.search_progress.proofs.LeftFixings.{fixings_on_free}
 use Rattle.node_rounds.proofs.TurnCases.{few_waits, IsAdvisedBy, advised_leaf, advised_ask, advised_split}
 use Rattle.node_rounds.proofs.turning.turn_advised.Goals as goal
+
+pub leaf_line-requires : goal.leaf_line-requires
+leaf_line-requires c = weights_fit c.deref-then-closes.result.now (search rules)
 
 pub returns-then-closes-clause-turn : goal.returns-then-closes-clause-turn
 returns-then-closes-clause-turn c = λ hubs made stop.

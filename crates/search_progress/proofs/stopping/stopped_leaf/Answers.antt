@@ -6,6 +6,7 @@ use Rattle.hub_spec.specs.Trees.{TreeLine, preorder}
 use Rattle.search_spec.specs.States.{Grown, lesser, rounded_up}
 use Rattle.search_steps.specs.Weights.{pairs_of}
 use Rattle.search_steps.proofs.GivenPools.{grown_same}
+use Rattle.search_steps.proofs.LeafPairs.{weights_fit}
 use Rattle.search_progress.specs.Progressing.{state_of}
 use Rattle.search_progress.proofs.Stops.{stopped_is}
 use Rattle.search_progress.proofs.stopping.stopped_leaf.Goals as goal
@@ -13,6 +14,9 @@ use Rattle.search_progress.proofs.stopping.stopped_leaf.Goals as goal
 on_each : {X Y P : Type 0} (r : Result X Y) → P → OnOk r P
 on_each (Ok x) told = told
 on_each (Err e) told = tt
+
+pub leaf_line-requires : goal.leaf_line-requires
+leaf_line-requires g c = weights_fit c.args.weights.now c.requires.weights.each
 
 pub returns : goal.returns
 returns g c =
