@@ -24,7 +24,6 @@
 #![tactic(auto)]
 
 mod checks;
-mod instances;
 mod names;
 mod reports;
 mod scans;
@@ -33,8 +32,8 @@ mod sinks;
 mod streams;
 mod texts;
 
+use case_lines::instance_of_fields;
 use hub_model::Instance;
-use instances::instance;
 use names::{instance_in, is_name, text_in};
 use std::alloc::Global;
 use std::io;
@@ -80,7 +79,7 @@ fn of_given<R: Print + Threads + Sync>(
     word: &str,
     rest: &str,
 ) -> io::Result<()> {
-    match instance(alloc, instance_in(kept))? {
+    match instance_of_fields(alloc, instance_in(kept))? {
         Some(instance) => of_instance(rt, alloc, &instance, kept, word, rest),
         None => println!(rt; "  no instance"),
     }

@@ -5,7 +5,7 @@ ghost use Rattle.hub_spec.specs.Plans.{IsHubSet};
 ghost use Rattle.hub_spec.specs.Separation.{IsOrder};
 
 use crate::texts::dual_told;
-use crate::words::node;
+use case_lines::node;
 use dual_cuts::dual_of;
 use hub_edges::EdgeRow;
 use hub_model::Instance;

@@ -14,20 +14,17 @@
 
 mod cuts;
 mod edges;
-mod instances;
 mod legs;
 mod origins;
 mod sets;
 mod texts;
 mod units;
 mod values;
-mod words;
 
+use case_lines::{first, instance_line, named_instance};
 use hub_model::Instance;
-use instances::instance_of;
 use std::alloc::{AllocError, Global};
 use std::io;
-use words::first;
 
 fn main(rt: HostRuntime) -> io::Result<()> {
     let cases = io::read_to_string(rt.alloc(), rt.reader())?;
@@ -40,15 +37,6 @@ fn tell(rt: &HostRuntime, cases: &str) -> io::Result<()> {
         tell_lines(rt, paragraph, instance_line(paragraph))?;
     }
     Ok(())
-}
-
-fn instance_line(paragraph: &str) -> &str {
-    for line in paragraph.lines() {
-        if first(line) == "instance" {
-            return line;
-        }
-    }
-    ""
 }
 
 fn tell_lines(rt: &HostRuntime, paragraph: &str, instance: &str) -> io::Result<()> {
@@ -76,9 +64,9 @@ fn answer(alloc: Global, instance: &str, line: &str) -> Result<String, AllocErro
 
 // What is asked of the instance.
 fn asked(alloc: Global, instance: &str, line: &str) -> Result<String, AllocError> {
-    match instance_of(alloc, instance)? {
-        Some(instance) => of_instance(alloc, &instance, line),
-        None => String::from_str(alloc, "no instance"),
+    match named_instance(alloc, instance) {
+        Ok(instance) => of_instance(alloc, &instance, line),
+        Err(_) => String::from_str(alloc, "no instance"),
     }
 }
 

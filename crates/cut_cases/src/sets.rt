@@ -3,9 +3,9 @@
 ghost use Rattle.hub_spec.specs.Plans.{IsHubSet};
 ghost use Rattle.hub_spec.specs.Separation.{IsOrder};
 
-use crate::words::{first, list, node};
 use crate::{cuts, edges, origins};
 use assign_sub::{assign, set_cost};
+use case_lines::{first, list, node};
 use hub_model::Instance;
 use hub_plain::{is_hub_set, outside};
 use pareto_cuts::order_of;

@@ -4,7 +4,7 @@ ghost use Rattle.std.specs.Prelude.{◌≡◌, ◌+◌, ◌≤◌, All, IsTrue, 
 ghost use Rattle.unit_duals.specs.Limits.{most_leg};
 ghost use Rattle.unit_duals.specs.Lengths.{AreFirstLegs};
 
-use crate::words::{list, number};
+use case_lines::{list, number};
 use std::alloc::{AllocError, Global};
 use unit_duals::{Legs, Tables, UnitDuals};
 

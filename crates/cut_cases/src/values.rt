@@ -5,7 +5,7 @@ ghost use Rattle.value_cuts.specs.Values.{AreValuesFor, allowed_price, node_valu
 ghost use Rattle.value_cuts.specs.HeldRows.{IsSameShape};
 
 use crate::texts::{dual_told, sums_told};
-use crate::words::{list, node};
+use case_lines::{list, node};
 use hub_model::Instance;
 use std::alloc::{AllocError, Global};
 use value_cuts::{CandidateLegs, DualScratch, PriceScratch, Values, cut_sums, price};

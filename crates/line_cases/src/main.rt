@@ -18,15 +18,14 @@
 #![tactic(auto)]
 
 mod duals;
-mod instances;
 mod leaves;
 mod marks;
 mod numbers;
 mod plans;
 mod trees;
 
+use case_lines::instance_of_fields;
 use hub_model::Instance;
-use instances::instance;
 use std::alloc::Global;
 use std::io;
 
@@ -56,7 +55,7 @@ fn answer(rt: &impl Print, alloc: Global, given: &str, line: &str) -> io::Result
 }
 
 fn of_given(rt: &impl Print, alloc: Global, given: &str, word: &str, rest: &str) -> io::Result<()> {
-    match instance(alloc, given)? {
+    match instance_of_fields(alloc, given)? {
         Some(instance) => of_instance(rt, alloc, &instance, word, rest),
         None => println!(rt; "  no instance"),
     }

@@ -5,15 +5,6 @@ use std::alloc::{AllocError, Global};
 /// The greatest part that a cut may have.
 pub const MOST_PART: u32 = 1000;
 
-/// The nodes that the words name; a word that is no number is the greatest number.
-pub fn nodes(alloc: Global, text: &str) -> Result<Vec<u32>, AllocError> {
-    let mut nodes = Vec::new(alloc);
-    for word in text.split_whitespace() {
-        nodes.push(node(word))?;
-    }
-    Ok(nodes)
-}
-
 /// The node that a word names.
 pub fn node(word: &str) -> u32 {
     word.parse().unwrap_or(u32::MAX)
@@ -41,14 +32,4 @@ pub fn amounts(alloc: Global, text: &str) -> Result<Vec<u128>, AllocError> {
 /// The amount that a word tells.
 pub fn amount(word: &str) -> u128 {
     word.parse().unwrap_or(u128::MAX)
-}
-
-/// The whole numbers that the words tell, in units of which so many are a whole one.
-pub fn scaled(alloc: Global, text: &str, units: u32) -> Result<Vec<i128>, AllocError> {
-    let mut scaled = Vec::new(alloc);
-    for word in text.split_whitespace() {
-        let number: u32 = word.parse().unwrap_or(u32::MAX);
-        scaled.push(number as i128 * units as i128)?;
-    }
-    Ok(scaled)
 }

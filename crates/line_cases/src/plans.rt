@@ -2,7 +2,7 @@
 
 ghost use Rattle.std.specs.Prelude.{◌≡◌, ◌<◌, []};
 
-use crate::numbers::nodes;
+use case_lines::nodes;
 use hub_model::Instance;
 use plan_lines::{PlanSums, is_candidate};
 use std::alloc::{AllocError, Global};

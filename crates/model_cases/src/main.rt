@@ -16,13 +16,12 @@ mod instances;
 mod plain;
 mod routes;
 mod texts;
-mod words;
 
+use case_lines::{first, instance_line};
 use hub_model::Instance;
 use instances::instance_of;
 use std::alloc::{AllocError, Global};
 use std::io;
-use words::first;
 
 fn main(rt: HostRuntime) -> io::Result<()> {
     let cases = io::read_to_string(rt.alloc(), rt.reader())?;
@@ -35,15 +34,6 @@ fn tell(rt: &HostRuntime, cases: &str) -> io::Result<()> {
         tell_lines(rt, paragraph, instance_line(paragraph))?;
     }
     Ok(())
-}
-
-fn instance_line(paragraph: &str) -> &str {
-    for line in paragraph.lines() {
-        if first(line) == "instance" {
-            return line;
-        }
-    }
-    ""
 }
 
 fn tell_lines(rt: &HostRuntime, paragraph: &str, instance: &str) -> io::Result<()> {

@@ -3,7 +3,7 @@
 ghost use Rattle.std.specs.Prelude.{◌<◌};
 ghost use Rattle.hub_spec.specs.Plans.{IsHubSet};
 
-use crate::words::{first, list, node};
+use case_lines::{first, list, node};
 use hub_model::Instance;
 use hub_plain::{
     assign, best_plan, is_hub_set, is_plan, least_route, minimal_dual, outside, set_cost,

@@ -1,6 +1,6 @@
 //! Routes and branches of an instance.
 
-use crate::words::{first, node};
+use case_lines::{first, node};
 use hub_model::{Instance, route_cost};
 use plan_model::Branch;
 use std::alloc::{AllocError, Global};

@@ -1,6 +1,6 @@
 //! Made-up instances, and the lines of a demonstration.
 
-use crate::cases::{Wrong, list};
+use case_lines::{Wrong, comma_list};
 use hub_demo::{made_instance, put_demo};
 use hub_io::{Failed, MemSink};
 use hub_model::Instance;
@@ -44,7 +44,7 @@ pub(crate) fn lines(alloc: Global, words: &[&str]) -> Result<String, Wrong> {
     match words {
         [room, nodes, cost, bound, hubs, searched] => {
             let mut sink = MemSink::new(alloc, room.parse()?)?;
-            let hubs = list(alloc, hubs)?;
+            let hubs = comma_list(alloc, hubs)?;
             let (cost, bound) = (cost.parse()?, bound.parse()?);
             let (nodes, searched) = (nodes.parse()?, searched.parse()?);
             let done = put_demo(nodes, cost, bound, &hubs, searched, &mut sink);

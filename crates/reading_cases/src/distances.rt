@@ -1,6 +1,6 @@
 //! Distances in the plane, and roots.
 
-use crate::cases::Wrong;
+use case_lines::Wrong;
 use fixed_distance::{distance, root};
 use std::alloc::Global;
 

@@ -1,6 +1,6 @@
 //! The texts of made-up instances.
 
-use crate::cases::Wrong;
+use case_lines::Wrong;
 use hub_make::instance_text;
 use std::alloc::{AllocError, Global};
 

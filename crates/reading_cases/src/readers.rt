@@ -1,7 +1,7 @@
 //! The tokens of a file in turn, each as what it is to be.
 
-use crate::cases::{Wrong, bytes_of};
 use crate::files::numbers_told;
+use case_lines::{Wrong, bytes_of};
 use hub_model::{InstanceFault, Numbers, Refusal};
 use std::alloc::{AllocError, Global};
 use token_reader::Reader;

@@ -1,6 +1,6 @@
 //! The words of a command line, and what they ask for.
 
-use crate::cases::Wrong;
+use case_lines::Wrong;
 use hub_model::Terms;
 use hub_words::{Command, How, Making, Search, SearchRule, Solving, Source, asked};
 use std::alloc::{AllocError, Global};

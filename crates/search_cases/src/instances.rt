@@ -1,7 +1,8 @@
-//! The numbers of a line, and the instance that they make.
+//! The instance of a line's numbers.
 
 ghost use Rattle.std.specs.Prelude.{◌≡◌, None, IfOk, IfSome};
 
+use case_lines::{list, node};
 use hub_model::{Factors, Instance, Nodes, Parts, Terms, is_cost_list, is_node_list};
 use std::alloc::{AllocError, Global};
 
@@ -38,7 +39,7 @@ fn parts(alloc: Global, line: &str, size: usize) -> Result<Option<Parts>, AllocE
 
 // The factors, of which the line names the trunk's.
 fn factors(alloc: Global, line: &str) -> Result<Option<Factors>, AllocError> {
-    let trunk = first(&numbers(alloc, line, "trunk")?);
+    let trunk = node(line, "trunk");
     if trunk > 1_000_000 {
         return Ok(None);
     }
@@ -49,17 +50,12 @@ fn factors(alloc: Global, line: &str) -> Result<Option<Factors>, AllocError> {
     }))
 }
 
-// The first number, or 0.
-fn first(numbers: &[u32]) -> u32 {
-    if numbers.is_empty() { 0 } else { numbers[0] }
-}
-
 // The terms that name the candidates.
 fn terms(alloc: Global, line: &str) -> Result<Option<Terms>, AllocError>
     ensures fixed { IfOk result (λ found. IfSome found (λ terms. terms.fixed ≡ None)) }
     ensures hubs { IfOk result (λ found. IfSome found (λ terms. terms.hubs ≡ None)) }
 {
-    let candidates = numbers(alloc, line, "candidates")?;
+    let candidates = list::<u32>(alloc, line, "candidates")?;
     if !is_node_list(&candidates) {
         return Ok(None);
     }
@@ -69,29 +65,9 @@ fn terms(alloc: Global, line: &str) -> Result<Option<Terms>, AllocError>
     }))
 }
 
-/// The numbers that follow this word, up to the next word that is none.
-pub(crate) fn numbers(alloc: Global, line: &str, name: &str) -> Result<Vec<u32>, AllocError> {
-    let mut numbers = Vec::new(alloc);
-    let Some((_, behind)) = line.split_once(name) else {
-        return Ok(numbers);
-    };
-    for word in behind.split_whitespace() {
-        match word.parse() {
-            Ok(number) => numbers.push(number)?,
-            Err(_) => break,
-        }
-    }
-    Ok(numbers)
-}
-
-/// The same numbers in units of which so many are a whole one.
-pub(crate) fn scaled(
-    alloc: Global,
-    line: &str,
-    name: &str,
-    units: u32,
-) -> Result<Vec<i128>, AllocError> {
-    let numbers = numbers(alloc, line, name)?;
+// The numbers behind this word, in units of which so many are a whole one.
+fn scaled(alloc: Global, line: &str, name: &str, units: u32) -> Result<Vec<i128>, AllocError> {
+    let numbers = list::<u32>(alloc, line, name)?;
     numbers
         .iter()
         .map(|number| i128::from(*number) * i128::from(units))

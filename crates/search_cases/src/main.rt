@@ -26,6 +26,7 @@ mod searches;
 mod steps;
 mod texts;
 
+use case_lines::first;
 use cert_format::Version;
 use hub_model::Instance;
 use instances::instance_of;
@@ -54,7 +55,7 @@ fn answer<R: Threads + Sync>(
     instance: &str,
     line: &str,
 ) -> Result<String, AllocError> {
-    match first_word(line) {
+    match first(line) {
         "#" => String::from_str(alloc, line),
         "leaf" => steps::leaf(alloc, line),
         _ => match instance_of(alloc, instance)? {
@@ -71,7 +72,7 @@ fn of_instance<R: Threads + Sync>(
     instance: &Instance,
     line: &str,
 ) -> Result<String, AllocError> {
-    match first_word(line) {
+    match first(line) {
         "fixed" => steps::fixed(alloc, instance),
         "sums" => steps::sums(alloc, instance, line),
         "search" => searches::search_told(alloc, instance, line),
@@ -82,8 +83,4 @@ fn of_instance<R: Threads + Sync>(
         "failing" => texts::failing(rt, alloc, instance, line),
         _ => String::from_str(alloc, "no such case"),
     }
-}
-
-fn first_word(line: &str) -> &str {
-    line.split_whitespace().next().unwrap_or("")
 }

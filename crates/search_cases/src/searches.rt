@@ -3,9 +3,9 @@
 ghost use Rattle.std.specs.Prelude.{IfOk};
 ghost use Rattle.kept_cuts.specs.Findings.{AreRemade, IsProved};
 
-use crate::instances::numbers;
 use crate::texts::tree_text;
 use branch_tree::search;
+use case_lines::list;
 use hub_model::Instance;
 use hub_plain::is_hub_set;
 use kept_cuts::Found;
@@ -29,7 +29,7 @@ pub(crate) fn found_of(alloc: Global, instance: &Instance, line: &str) -> Result
 
 // The number behind the first word, or none for `all`.
 fn most_nodes(alloc: Global, line: &str) -> Result<Option<u64>, AllocError> {
-    let nodes = numbers(alloc, line, " ")?;
+    let nodes = list::<u32>(alloc, line, " ")?;
     if nodes.is_empty() {
         return Ok(None);
     }

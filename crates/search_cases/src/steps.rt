@@ -3,8 +3,9 @@
 ghost use Rattle.std.specs.Prelude.{IfOk, IfSome};
 ghost use Rattle.hub_spec.specs.Plans.{IsHubSet};
 
-use crate::instances::{instance_of, numbers};
+use crate::instances::instance_of;
 use crate::texts::tree_text;
+use case_lines::list;
 use cut_pool::CutSums;
 use hub_model::Instance;
 use hub_plain::{is_hub_set, outside};
@@ -21,7 +22,7 @@ pub(crate) fn fixed(alloc: Global, instance: &Instance) -> Result<String, AllocE
 
 /// The leaf with the weights of the line.
 pub(crate) fn leaf(alloc: Global, line: &str) -> Result<String, AllocError> {
-    let weights = numbers(alloc, line, "leaf")?;
+    let weights = list::<u32>(alloc, line, "leaf")?;
     let weights: Vec<u128> = weights.iter().map(|w| u128::from(*w)).collect(alloc)?;
     let mut lines = Vec::new(alloc);
     lines.push(leaf_line(alloc, &weights)?)?;
@@ -30,7 +31,7 @@ pub(crate) fn leaf(alloc: Global, line: &str) -> Result<String, AllocError> {
 
 /// The sums of the cut of the line's hubs, by a separator made for the line's instance.
 pub(crate) fn sums(alloc: Global, instance: &Instance, line: &str) -> Result<String, AllocError> {
-    let hubs = numbers(alloc, line, "sums")?;
+    let hubs = list::<u32>(alloc, line, "sums")?;
     match instance_of(alloc, line)? {
         Some(other) => sums_by(alloc, &other, instance, &hubs),
         None => String::from_str(alloc, "no other instance"),

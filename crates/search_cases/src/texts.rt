@@ -3,8 +3,8 @@
 ghost use Rattle.std.specs.Prelude.{◌≤◌, IsTrue};
 ghost use Rattle.kept_cuts.specs.Findings.{IsUnlimited, IsProved};
 
-use crate::instances::numbers;
 use crate::searches::found_of;
+use case_lines::list;
 use cert_format::{Version, put_tree, write_cert};
 use dual_lender::DualLender;
 use hub_io::{Buffer, Failed, MemSink, Partial, Sink};
@@ -65,7 +65,7 @@ pub(crate) fn failing<R: Threads + Sync>(
     line: &str,
 ) -> Result<String, AllocError> {
     let mut failing = Vec::new(alloc);
-    if let [call, taken] = numbers(alloc, line, "failing")?.as_slice() {
+    if let [call, taken] = list::<u32>(alloc, line, "failing")?.as_slice() {
         failing.push(Partial {
             call: *call as u64,
             taken: *taken as usize,

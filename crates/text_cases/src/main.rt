@@ -24,42 +24,28 @@
 //! commas; calls count from 1, so a list 0 names none. A line that begins with `#` is printed as it is.
 #![tactic(auto)]
 
-mod cases;
+mod pieces;
 mod reading;
 mod shelves;
 mod sinks;
 mod writing;
 
-use cases::{Wrong, parts};
-use std::alloc::{AllocError, Global};
+use case_lines::{Wrong, call_and_text, told};
+use std::alloc::Global;
 use std::io;
 
 fn main(rt: HostRuntime) -> io::Result<()> {
     for line in rt.lines(rt.alloc()) {
         let line = line?;
-        let told = told(rt.alloc(), line.as_str())?;
+        let answer = answer(rt.alloc(), line.as_str());
+        let told = told(rt.alloc(), line.as_str(), answer)?;
         rt.print(told)?;
     }
     Ok(())
 }
 
-// What is printed of a line.
-fn told(alloc: Global, line: &str) -> Result<String, AllocError> {
-    if line.is_empty() {
-        return Ok(String::new(alloc));
-    }
-    if line.starts_with('#') {
-        return format!(in alloc; "{line}\n");
-    }
-    match answer(alloc, line) {
-        Ok(answer) => format!(in alloc; "{line} -> {answer}\n"),
-        Err(Wrong::NoCase) => format!(in alloc; "{line} -> no case\n"),
-        Err(Wrong::OutOfMemory) => Err(AllocError),
-    }
-}
-
 fn answer(alloc: Global, line: &str) -> Result<String, Wrong> {
-    let (call, text) = parts(line);
+    let (call, text) = call_and_text(line);
     let words: Vec<&str> = call.split(' ').collect(alloc)?;
     match words.as_slice() {
         ["decimal", places] => reading::decimal(alloc, places, text),

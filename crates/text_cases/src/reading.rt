@@ -1,6 +1,6 @@
 //! Numbers and tokens that are read.
 
-use crate::cases::{Wrong, bytes_of};
+use case_lines::{Wrong, bytes_of};
 use dec_text::{Tokens, read_count, read_decimal};
 use std::alloc::{AllocError, Global};
 

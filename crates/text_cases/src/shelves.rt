@@ -1,6 +1,7 @@
 //! Files read from a shelf, and a gate that is passed.
 
-use crate::cases::{Wrong, list, piece, shown};
+use crate::pieces::{piece, shown};
+use case_lines::{Wrong, comma_list};
 use hub_io::{Failed, Gate, MemFile, MemShelf, OpenGate, ReadEnd, Shelf, read_whole};
 use std::alloc::{AllocError, Global};
 
@@ -22,10 +23,10 @@ fn shelf_of(alloc: Global, faults: &[&str], text: &str) -> Result<MemShelf, Wron
     let files = files(alloc, text)?;
     match faults {
         [] => Ok(MemShelf::new(alloc, files)),
-        ["fails", calls] => Ok(MemShelf::with_faults(files, list(alloc, calls)?)),
+        ["fails", calls] => Ok(MemShelf::with_faults(files, comma_list(alloc, calls)?)),
         ["fails", calls, "lengths", lengths] => {
-            let failing = list(alloc, calls)?;
-            Ok(MemShelf::with_short_reads(files, failing, lengths_of(alloc, lengths)?))
+            let failing = comma_list(alloc, calls)?;
+            Ok(MemShelf::with_short_reads(files, failing, comma_list(alloc, lengths)?))
         }
         _ => Err(Wrong::NoCase),
     }
@@ -51,16 +52,6 @@ fn push_file(
     let file = MemFile::new(alloc, name, &bytes)?;
     files.push(file).map_err(AllocError::from)?;
     Ok(())
-}
-
-fn lengths_of(alloc: Global, word: &str) -> Result<Vec<usize>, Wrong> {
-    let lengths = list(alloc, word)?;
-    Ok(
-        lengths
-            .iter()
-            .map(|length| *length as usize)
-            .collect(alloc)?,
-    )
 }
 
 fn called(alloc: Global, call: &str, shelf: &mut MemShelf) -> Result<String, Wrong> {
@@ -133,7 +124,7 @@ fn failing_shelf(alloc: Global, call: u64, lengths: &str, text: &str) -> Result<
     let mut files = Vec::new(alloc);
     push_file(alloc, &mut files, "one", text)?;
     let failing = [call].to_vec(alloc)?;
-    Ok(MemShelf::with_short_reads(files, failing, lengths_of(alloc, lengths)?))
+    Ok(MemShelf::with_short_reads(files, failing, comma_list(alloc, lengths)?))
 }
 
 /// A pass of the open gate.

@@ -1,6 +1,7 @@
 //! Pieces put on a sink, and through a buffer.
 
-use crate::cases::{Wrong, piece, shown};
+use crate::pieces::{piece, shown};
+use case_lines::Wrong;
 use hub_io::{Buffer, Failed, MemSink, Partial, Sink};
 use std::alloc::{AllocError, Global};
 

@@ -1,7 +1,8 @@
 //! Numbers and lines that are put.
 
-use crate::cases::{Wrong, shown};
+use crate::pieces::shown;
 use crate::sinks::{sink_of, tell, tell_end};
+use case_lines::Wrong;
 use dec_text::{Piece, put_fixed, put_line, put_number, put_pieces};
 use hub_io::{Buffer, Failed, MemSink};
 use std::alloc::{AllocError, Global};

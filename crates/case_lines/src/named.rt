@@ -1,48 +1,59 @@
-//! Instances, each by the numbers of a line.
+//! Instances by the numbers behind their names.
 
 ghost use Rattle.std.specs.Prelude.{◌≡◌, ◌^◌, pos, ◌≤ℤ◌, None, IfOk, IfSome};
 
 use crate::words::{list, node, number};
 use hub_model::{Factors, Instance, Nodes, Parts, Terms, is_node_list};
 use std::alloc::{AllocError, Global};
+use worked_cases::NoInstance;
 
-/// The factors of a file.
+// The factors of a file.
 const AS_THEY_ARE: Factors = Factors {
     collect: 1000,
     trunk: 1000,
     deliver: 1000,
 };
 
-/// The greatest fixed cost that options give, in 10^-6.
+// The greatest fixed cost that options give, in 10^-6.
 const MOST_FIXED: u64 = 1_000_000_000_000_000_000;
 
-/// The instance of the line, if its numbers are within their limits.
-pub fn instance_of(alloc: Global, line: &str) -> Result<Option<Instance>, AllocError> {
+/// The instance of the numbers that a line has behind `size`, `flows` and `distances`, all as a file's parts have them, and
+/// perhaps behind `listed`, `collect`, `trunk`, `deliver`, `fixed` and `candidates`. A line that ends with `no_self` leaves out
+/// the flow of a node to itself.
+pub fn named_instance(alloc: Global, line: &str) -> Result<Instance, NoInstance> {
     let terms = terms(alloc, line)?;
     built(alloc, &terms, line)
 }
 
-fn built(alloc: Global, terms: &Terms, line: &str) -> Result<Option<Instance>, AllocError>
+/// The instance of the line's numbers.
+fn built(alloc: Global, terms: &Terms, line: &str) -> Result<Instance, NoInstance>
     requires { terms.now.hubs ≡ None }
 {
-    match parts(alloc, line)? {
-        Some(parts) => Ok(Instance::build(alloc, parts, terms, None).ok()),
-        None => Ok(None),
-    }
+    let parts = parts(alloc, line)?;
+    Ok(Instance::build(alloc, parts, terms, None)?)
 }
 
-/// What a file of these numbers would give.
-fn parts(alloc: Global, line: &str) -> Result<Option<Parts>, AllocError>
-    ensures { IfOk result (λ taken. IfSome taken (λ parts. parts.costs ≡ None)) }
+/// What a file of these numbers would give, without fixed costs.
+fn parts(alloc: Global, line: &str) -> Result<Parts, NoInstance>
+    ensures { IfOk result (λ parts. parts.costs ≡ None) }
 {
     let flows = list::<i128>(alloc, line, " flows ")?;
     let distances = list::<i128>(alloc, line, " distances ")?;
     let size = node(line, " size ");
-    Ok(Parts::new(size, flows, distances, AS_THEY_ARE, None, None))
+    match Parts::new(size, flows, distances, AS_THEY_ARE, listed(line), None) {
+        Some(parts) => Ok(parts),
+        None => Err(NoInstance::OutOfLimits),
+    }
 }
 
-/// The options: the candidates, the factors and the fixed cost of each node.
-fn terms(alloc: Global, line: &str) -> Result<Terms, AllocError>
+/// The number of hubs that the file lists.
+fn listed(line: &str) -> Option<u32> {
+    let number = number(line, " listed ")?;
+    u32::try_from(number).ok()
+}
+
+/// The options: factors in place of the file's, a fixed cost, candidates, and no flow of a node to itself.
+fn terms(alloc: Global, line: &str) -> Result<Terms, NoInstance>
     ensures { IfOk result (λ terms. terms.hubs ≡ None) }
 {
     let candidates = candidates(alloc, line)?;
@@ -52,15 +63,19 @@ fn terms(alloc: Global, line: &str) -> Result<Terms, AllocError>
         deliver: Some(factor(line, " deliver ")),
         fixed: fixed(line),
         candidates,
+        no_self: line.ends_with("no_self"),
         ..Terms::plain()
     })
 }
 
-/// The candidates, if they are listed.
-fn candidates(alloc: Global, line: &str) -> Result<Option<Nodes>, AllocError> {
+/// The candidates that are listed.
+fn candidates(alloc: Global, line: &str) -> Result<Option<Nodes>, NoInstance> {
     let listed = list::<u32>(alloc, line, " candidates ")?;
-    if !is_node_list(&listed) {
+    if listed.is_empty() {
         return Ok(None);
+    }
+    if !is_node_list(&listed) {
+        return Err(NoInstance::OutOfLimits);
     }
     Ok(Some(Nodes::from_vec(listed)))
 }

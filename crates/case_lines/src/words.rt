@@ -40,3 +40,13 @@ pub fn behind<'a>(line: &'a str, name: &str) -> &'a str {
         None => "",
     }
 }
+
+/// The first line of the paragraph that begins with the word `instance`.
+pub fn instance_line(paragraph: &str) -> &str {
+    for line in paragraph.lines() {
+        if first(line) == "instance" {
+            return line;
+        }
+    }
+    ""
+}
