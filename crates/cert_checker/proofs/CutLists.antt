@@ -9,7 +9,7 @@ use Rattle.hub_spec.specs.Problem.{Problem}
 use Rattle.hub_spec.specs.Cuts.{Cut}
 use Rattle.core_spec.specs.CoreCuts.{Mark}
 use Rattle.cert_spec.specs.Stated.{Stated}
-use Rattle.cert_spec.specs.PartConditions.{cut_lines, first_cut_line, one_cut_claims, cut_claims, all_cut_claims}
+use Rattle.cert_spec.proofs.PartConditions.{cut_lines, first_cut_line, one_cut_claims, cut_claims, all_cut_claims}
 
 pub has_at : {X : Type 0} (P : X → Type 0) (xs : List X) (i : ℕ) (d : X) → i < length xs → d ≡ get_or xs i d → All P xs → P d
 has_at P xs i d below is h = rw is (All-get_or P xs i d below h)

@@ -1,3 +1,8 @@
+mod Walking
+mod Holding
+mod Refusing
+mod CutLines
+mod Ends
 mod Reductions
 mod Parts
 mod RunPlaces

@@ -9,10 +9,10 @@ use Rattle.hub_spec.specs.Ranges.{IsCutInRange}
 use Rattle.core_spec.specs.CoreCuts.{CoreProof, Mark}
 use Rattle.core_spec.specs.MarkRanges.{IsMarkInRange}
 use Rattle.cert_spec.specs.Conditions.{Claim, claim, AllHold, FailsFirst, if_time, IsDualOfRun, Dual, Sum, Core}
-use Rattle.cert_spec.specs.PartConditions.{first_dual_line, proved_claims}
+use Rattle.cert_spec.proofs.PartConditions.{first_dual_line, proved_claims}
 use Rattle.cert_checker.specs.declared.failures.Failure.{Failure}
 use Rattle.cert_checker.specs.declared.failures.Failure.TheVariants.{Fails, OutOfMemory}
-use Rattle.cert_checker.specs.declared.kinds.Kind as code
+use Rattle.cert_conditions.specs.declared.kinds.Kind as code
 use Rattle.cert_checker.specs.Answers.{IsFailure, AreCore, IsCoreFailure}
 use Rattle.cert_checker.specs.Runs.{no_dual}
 use Rattle.cert_checker.specs.Duals.{IsDualAt, FailsAt}

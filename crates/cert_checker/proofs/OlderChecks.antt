@@ -6,11 +6,11 @@ use Rattle.hub_spec.specs.Certificates.{HasCutsOf}
 use Rattle.cert_spec.specs.Stated.{Stated, IsStatedInRange}
 use Rattle.cert_spec.specs.Text.{Spells}
 use Rattle.cert_spec.specs.Conditions.{FailsFirst}
-use Rattle.cert_spec.specs.PartConditions.{size_claim, all_cut_claims, older_claims}
+use Rattle.cert_spec.proofs.PartConditions.{size_claim, all_cut_claims, older_claims}
 use Rattle.cert_spec.specs.Verdicts.{certificate_limit, IsOlder}
 use Rattle.cert_spec.proofs.Claims.{has_cuts_by_claims}
 use Rattle.cert_spec.proofs.Decided.{failure_or_all}
-use Rattle.cert_checker.specs.declared.kinds.Kind.{Kind}
+use Rattle.cert_conditions.specs.declared.kinds.Kind.{Kind}
 use Rattle.cert_checker.specs.declared.failures.Failure.{Failure}
 use Rattle.cert_checker.specs.Answers.{kind_of, IsFailure, IsOfSize}
 use Rattle.cert_checker.specs.Shows.{older_on}

@@ -9,14 +9,14 @@ use Rattle.hub_spec.specs.Problem.{Problem, commodities}
 use Rattle.hub_spec.specs.Plans.{IsRoute, HasRoute, IsHubSet, plan_cost}
 use Rattle.hub_spec.specs.Cuts.{IsDual, Cut, IsCut, IsWithinSums}
 use Rattle.hub_spec.specs.Ranges.{IsCutInRange}
-use Rattle.cert_spec.specs.PartConditions.{first_route_line, last_route_line, first_dual_line, last_dual_line, route_claims, hub_claims}
+use Rattle.cert_spec.proofs.PartConditions.{first_route_line, last_route_line, first_dual_line, last_dual_line, route_claims, hub_claims}
 use Rattle.cert_spec.specs.Conditions.{AllHold, FailsFirst, Claim, claim, Cost, Sum}
 use Rattle.cert_spec.proofs.Claims.{AllHold-append}
 use Rattle.hub_spec.proofs.Commodities.{length_commodities, commodity_at}
 use Rattle.cert_checker.proofs.Reductions.{Reduces, failure_early, failure_later, part_fails, part_holds}
 use Rattle.cert_checker.specs.declared.failures.Failure.{Failure}
 use Rattle.cert_checker.specs.declared.failures.Failure.TheVariants.{Fails}
-use Rattle.cert_checker.specs.declared.kinds.Kind.TheVariants as code
+use Rattle.cert_conditions.specs.declared.kinds.Kind.TheVariants as code
 use Rattle.cert_checker.specs.Answers.{IsFailure}
 use Rattle.cert_checker.specs.Plans.{set_claims, one_route_claims}
 use Rattle.cert_checker.specs.Duals.{claims_of_duals, unmarked_claims}

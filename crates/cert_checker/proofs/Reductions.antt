@@ -2,7 +2,7 @@
 use Rattle.std.proofs.Common.{◌≡◌, ℕ, List, [], ◌∷◌, ◌++◌, Bool, true, false, IsTrue, ◌↔◌, inl, inr, refl, sym, subst, ◌∙◌}
 use Rattle.cert_spec.specs.Conditions.{Kind, Claim, AllHold, FailsFirst}
 use Rattle.cert_spec.proofs.Claims.{AllHold-append}
-use Rattle.cert_checker.specs.declared.kinds.Kind as code
+use Rattle.cert_conditions.specs.declared.kinds.Kind as code
 use Rattle.cert_checker.specs.declared.failures.Failure.{Failure}
 use Rattle.cert_checker.specs.declared.failures.Failure.TheVariants.{Fails, OutOfMemory}
 use Rattle.cert_checker.specs.Answers.{kind_of, IsFailure}

@@ -10,7 +10,7 @@ use Rattle.hub_spec.proofs.CommodityIndex.{commodities_from, commodities_by_numb
 use Rattle.cert_spec.specs.Runs.{spread}
 use Rattle.cert_spec.specs.Text.{dual_runs}
 use Rattle.cert_spec.specs.Conditions.{Dual, AllHold, FailsFirst, IsDualOfRun}
-use Rattle.cert_spec.specs.PartConditions.{dual_claims}
+use Rattle.cert_spec.proofs.PartConditions.{dual_claims}
 use Rattle.cert_spec.proofs.Claims.{spread_dual_runs}
 use Rattle.cert_spec.proofs.Leads.{length-spread}
 use Rattle.cert_checker.specs.Runs.{place_of, no_dual}

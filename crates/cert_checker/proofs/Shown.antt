@@ -6,7 +6,7 @@ use Rattle.hub_spec.specs.Plans.{NoPlanBelow, IsOptimal}
 use Rattle.cert_spec.specs.Stated.{Stated, IsStatedInRange, IsAsMarked, IsStatedOf}
 use Rattle.cert_spec.specs.Text.{Spells}
 use Rattle.cert_spec.specs.Conditions.{Kind, AllHold, FailsFirst, conditions}
-use Rattle.cert_spec.specs.PartConditions.{claims}
+use Rattle.cert_spec.proofs.PartConditions.{claims}
 use Rattle.cert_spec.specs.Verdicts.{certificate_limit, Why}
 use Rattle.cert_spec.proofs.Claims.{holds_exactly_by_claims}
 use Rattle.cert_spec.proofs.ByLines.{conditions_of_lines}
@@ -16,7 +16,7 @@ use Rattle.hub_spec.specs.Cuts.{Cut}
 use Rattle.hub_spec.proofs.Decisions.{Contains-cases, Contains-none}
 use Rattle.core_spec.specs.CoreCuts.{Mark}
 use Rattle.core_spec.proofs.Undominated.{core_is_undominated}
-use Rattle.cert_checker.specs.declared.kinds.Verdict as answer
+use Rattle.cert_checker.specs.declared.verdicts.Verdict as answer
 use Rattle.cert_checker.specs.Marks.{AreUndominated}
 use Rattle.cert_checker.specs.Answers.{IsVerdict, ShowsBound, ShowsMarks}
 use Rattle.cert_checker.specs.Shows.{verdict_on, ProvesMarks}

@@ -6,7 +6,7 @@ use Rattle.std.proofs.lemmas.List.Elements.{All-nil, All-cons, All-head, All-tai
 use Rattle.hub_spec.specs.Problem.{Problem}
 use Rattle.hub_spec.specs.Cuts.{Cut}
 use Rattle.hub_spec.specs.Trees.{Branching, open_child, closed_child, Tree, branch, leaf, empty, block, count, TreeLine, branch_on, preorder, line_count}
-use Rattle.cert_spec.specs.PartConditions.{tree_claims}
+use Rattle.cert_spec.proofs.PartConditions.{tree_claims}
 use Rattle.cert_checker.specs.Walks.{line_claims, pending_after, walk_claims}
 
 pub walk-tree : (p : Problem) (cuts : List Cut) (target line : ℕ) (b : Branching) (pending : List Branching) (t : Tree) (rest : List TreeLine)

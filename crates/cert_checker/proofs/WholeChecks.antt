@@ -3,7 +3,7 @@ use Rattle.std.proofs.Common.{true, ◌++◌}
 use Rattle.hub_spec.specs.Problem.{Problem}
 use Rattle.cert_spec.specs.Stated.{Stated}
 use Rattle.cert_spec.specs.Conditions.{AllHold}
-use Rattle.cert_spec.specs.PartConditions.{size_claims, plan_claims, all_cut_claims, all_tree_claims, claims}
+use Rattle.cert_spec.proofs.PartConditions.{size_claims, plan_claims, all_cut_claims, all_tree_claims, claims}
 use Rattle.cert_spec.proofs.Claims.{AllHold-append}
 use Rattle.cert_checker.specs.declared.failures.Failure.{Failure}
 use Rattle.cert_checker.specs.Answers.{IsFailure, hub_claims_of}

@@ -7,9 +7,9 @@ use Rattle.hub_spec.specs.Certificates.{Proof}
 use Rattle.core_spec.specs.CoreCuts.{Mark}
 use Rattle.cert_spec.specs.Stated.{Stated, IsStatedOf}
 use Rattle.cert_spec.specs.Conditions.{Claim, Kind, Size, BoundOverCost, Hubs, Number, Route, Length, Cost, Dual, Sum, Core, Branch, Empty, Block, Count, CutNumber, Multiple, Weight, Leaf, AllHold, FailsFirst, conditions}
-use Rattle.cert_spec.specs.PartConditions.{hub_claims}
-use Rattle.cert_checker.specs.declared.kinds.Kind as code
-use Rattle.cert_checker.specs.declared.kinds.Verdict as answer
+use Rattle.cert_spec.proofs.PartConditions.{hub_claims}
+use Rattle.cert_conditions.specs.declared.kinds.Kind as code
+use Rattle.cert_checker.specs.declared.verdicts.Verdict as answer
 use Rattle.cert_checker.specs.declared.failures.Failure.{Failure}
 use Rattle.cert_checker.specs.declared.failures.Failure.TheVariants.{Fails, OutOfMemory}
 use Rattle.cert_checker.specs.Marks.{proof_line, IsCoreAt, FailsCoreAt, AreUndominated}

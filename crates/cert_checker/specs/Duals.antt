@@ -7,7 +7,7 @@ use Rattle.hub_spec.specs.Cuts.{Prices, value_at, IsDual, Cut, total, load, IsWi
 use Rattle.hub_spec.specs.Ranges.{IsDualInRange}
 use Rattle.cert_spec.specs.Text.{dual_runs}
 use Rattle.cert_spec.specs.Conditions.{Claim, claim, Sum}
-use Rattle.cert_spec.specs.PartConditions.{first_dual_line, last_dual_line, dual_claims}
+use Rattle.cert_spec.proofs.PartConditions.{first_dual_line, last_dual_line, dual_claims}
 use Rattle.cert_checker.specs.Runs.{no_dual}
 
 -- the conditions of the duals of a cut, run by run from this line on

@@ -9,7 +9,7 @@ use Rattle.core_spec.specs.CoreCuts.{CoreProof, Mark, IsCoreDual}
 use Rattle.core_spec.specs.MarkRanges.{IsMarkInRange}
 use Rattle.cert_spec.specs.Stated.{Stated, cuts_of}
 use Rattle.cert_spec.specs.Conditions.{Claim, claim, if_time, Core, MayMark}
-use Rattle.cert_spec.specs.PartConditions.{first_dual_line, proved_claims}
+use Rattle.cert_spec.proofs.PartConditions.{first_dual_line, proved_claims}
 use Rattle.cert_checker.specs.Runs.{no_dual}
 
 -- the line of a marked cut's dual of this number, where the cut stands at this line

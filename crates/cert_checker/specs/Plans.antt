@@ -3,7 +3,7 @@ use Rattle.std.specs.Prelude.{◌≡◌, ℕ, true, List, [], ◌∷◌, All, Co
 use Rattle.hub_spec.specs.Problem.{Problem, is_allowed}
 use Rattle.hub_spec.specs.Plans.{HasWanted}
 use Rattle.cert_spec.specs.Conditions.{Claim, claim, Hubs, Number, Route, Length}
-use Rattle.cert_spec.specs.PartConditions.{hubs_line}
+use Rattle.cert_spec.proofs.PartConditions.{hubs_line}
 
 -- the hubs are candidates, and as many as are wanted
 abbrev pub set_claims : Problem → List ℕ → List Claim

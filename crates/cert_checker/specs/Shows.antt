@@ -9,12 +9,12 @@ use Rattle.cert_spec.specs.Stated.{Stated, cuts_of}
 use Rattle.cert_spec.specs.Text.{Spells}
 use Rattle.cert_spec.specs.Grammar.{bad_line, ended}
 use Rattle.cert_spec.specs.Verdicts.{Verdict, optimal, bounds, fails, misread, too_long, Older, serves, serves_not, unread, over_limit}
-use Rattle.cert_checker.specs.declared.kinds.Kind.{Kind}
-use Rattle.cert_checker.specs.declared.kinds.Verdict as answer
+use Rattle.cert_conditions.specs.declared.kinds.Kind.{Kind}
+use Rattle.cert_checker.specs.declared.verdicts.Verdict as answer
 use Rattle.cert_checker.specs.declared.older.Older as said
-use Rattle.cert_checker.specs.declared.texts.Ending.{Ending}
-use Rattle.cert_checker.specs.declared.texts.Ending.TheVariants.{Optimal, Bounds, No, BadLine, Ended, TooLong}
-use Rattle.cert_checker.specs.Answers.{kind_of}
+use Rattle.cert_checker.specs.declared.verdicts.Ending.{Ending}
+use Rattle.cert_checker.specs.declared.verdicts.Ending.TheVariants.{Optimal, Bounds, No, BadLine, Ended, TooLong}
+use Rattle.cert_conditions.specs.Kinds.{kind_of}
 
 -- the verdict that an ending stands for
 abbrev pub verdict_of : Ending → Verdict

@@ -5,7 +5,7 @@ ghost use Rattle.hub_spec.specs.Limits.{most_part, most_cost};
 ghost use Rattle.hub_spec.specs.Cuts.{load, IsCut, IsWithinSums};
 ghost use Rattle.hub_spec.specs.Ranges.{IsCutInRange};
 ghost use Rattle.core_spec.specs.MarkRanges.{IsMarkInRange};
-ghost use Rattle.cert_spec.specs.PartConditions.{first_cut_line, one_cut_claims, cut_claims};
+ghost use Rattle.cert_spec.proofs.PartConditions.{first_cut_line, one_cut_claims, cut_claims};
 ghost use Rattle.cert_spec.specs.Conditions.{claim, Sum, AllHold};
 ghost use Rattle.cert_scan.specs.Versions.{version_number};
 ghost use Rattle.cert_checker.specs.Answers.{IsFailure};

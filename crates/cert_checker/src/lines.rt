@@ -2,7 +2,7 @@
 
 ghost use Rattle.std.specs.Prelude.{◌≡◌, ◌+◌, ◌*◌, ◌^◌, ◌<◌, ◌≤◌, length, zip, All};
 ghost use Rattle.hub_spec.specs.Limits.{most_nodes, most_cuts};
-ghost use Rattle.cert_spec.specs.PartConditions.{last_route_line, first_cut_line, cut_lines, last_dual_line, first_tree_line};
+ghost use Rattle.cert_spec.proofs.PartConditions.{last_route_line, first_cut_line, cut_lines, last_dual_line, first_tree_line};
 ghost use Rattle.cert_scan.specs.Versions.{version_number};
 ghost use Rattle.cert_checker.specs.Marks.{marked_dual_line, proof_line};
 

@@ -5,7 +5,7 @@ ghost use Rattle.std.specs.Option.{IfSome, IfNone, IsNone};
 ghost use Rattle.hub_spec.specs.Certificates.{HasCutsOf};
 ghost use Rattle.cert_spec.specs.Stated.{IsStatedInRange};
 ghost use Rattle.cert_spec.specs.Conditions.{AllHold, FailsFirst};
-ghost use Rattle.cert_spec.specs.PartConditions.{all_cut_claims, older_claims};
+ghost use Rattle.cert_spec.proofs.PartConditions.{all_cut_claims, older_claims};
 ghost use Rattle.cert_spec.specs.Verdicts.{IsOlder};
 ghost use Rattle.cert_checker.specs.Answers.{kind_of, IsFailure};
 ghost use Rattle.cert_checker.specs.Shows.{older_of, older_on};

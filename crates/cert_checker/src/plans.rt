@@ -5,7 +5,7 @@ ghost use Rattle.std.specs.List.Sorted.{IsStrictlyIncreasing};
 ghost use Rattle.hub_spec.specs.Problem.{commodities, IsProblem};
 ghost use Rattle.hub_spec.specs.Plans.{HasWanted};
 ghost use Rattle.cert_spec.specs.Conditions.{AllHold};
-ghost use Rattle.cert_spec.specs.PartConditions.{route_claims, hub_claims};
+ghost use Rattle.cert_spec.proofs.PartConditions.{route_claims, hub_claims};
 ghost use Rattle.cert_checker.specs.Answers.{IsFailure};
 ghost use Rattle.cert_checker.specs.Plans.{set_claims, one_route_claims};
 

@@ -5,7 +5,7 @@ ghost use Rattle.cert_spec.specs.Verdicts.{Why};
 ghost use Rattle.cert_checker.specs.Shows.{verdict_of, verdict_on, Proves, ProvesMarks};
 
 use crate::checks::check;
-use crate::kinds::{Kind, Verdict};
+use crate::verdicts::{Ending, Verdict};
 use cert_format::{CertFault, Certificate, read_cert};
 use hub_model::Instance;
 use std::alloc::{AllocError, Global};
@@ -13,23 +13,6 @@ use std::thread::Threads;
 
 /// The text of a certificate may have at most this many bytes: 2^30.
 pub const MOST_CERTIFICATE_BYTES: usize = 1_073_741_824;
-
-/// How a check of bytes ends. Costs are in 10^-12, and lines count from 1.
-#[derive(Clone, Copy, Debug, PartialEq, Eq)]
-pub enum Ending {
-    /// They name a plan of this cost, and it is optimal.
-    Optimal { cost: u128 },
-    /// They name a plan of this cost, and no plan costs less than the bound, which is below that.
-    Bounds { bound: u128, cost: u128 },
-    /// They are a certificate of which the first condition that fails is of this kind, at this line.
-    No { kind: Kind, line: u64 },
-    /// This line is not as wanted, or something stands after the last line.
-    BadLine { line: u64 },
-    /// They end before this line ends.
-    Ended { line: u64 },
-    /// They are more than 2^30.
-    TooLong,
-}
 
 /// What these bytes show of the plan that they name for the instance. They are read as a certificate, whose conditions
 /// are then tried. The only error is want of memory.

@@ -42,24 +42,33 @@ cut_text v n c = flat_map line_bytes (cut_items v n c)
 abbrev pub numbered : List (Cut × Option Mark) → List (ℕ × (Cut × Option Mark))
 numbered cuts = enumerate_from 1 cuts
 
+numbered_at : (cuts : List (Cut × Option Mark)) (x : ℕ) (d : ℕ × (Cut × Option Mark)) (cut : Cut × Option Mark)
+    → x < length cuts → cut ≡ get_or cuts x d.1 → ◌≡◌ {A = ℕ × (Cut × Option Mark)} (x + 1, cut) (get_or (numbered cuts) x d)
+numbered_at cuts x d cut l is =
+    let at : get_or (numbered cuts) x d ≡ (1 + x, get_or cuts x d.1) = get_or-enumerate_from 1 cuts x d l in
+    let number : x + 1 ≡ 1 + x = omega arith in
+    ap₂ (λ (c : ℕ) (cut : Cut × Option Mark). (c, cut)) number is ∙ sym at
+
 pub cut_at : (v n : ℕ) (cuts : List (Cut × Option Mark)) (x : ℕ) (d : ℕ × (Cut × Option Mark)) (cut : Cut × Option Mark)
     → x < length cuts → cut ≡ get_or cuts x d.1
     → cut_text v n (x + 1, cut) ≡ cut_text v n (get_or (numbered cuts) x d)
-cut_at v n cuts x d cut l is =
-    let at : get_or (numbered cuts) x d ≡ (1 + x, get_or cuts x d.1) = get_or-enumerate_from 1 cuts x d l in
-    let number : x + 1 ≡ 1 + x = omega arith in
-    ap (cut_text v n) (ap₂ (λ (c : ℕ) (cut : Cut × Option Mark). (c, cut)) number is ∙ sym at)
+cut_at v n cuts x d cut l is = ap (cut_text v n) (numbered_at cuts x d cut l is)
 
 -- how many they are
 pub length-marked : (cuts : List Cut) (marks : List (Option Mark)) → length marks ≡ length cuts → length (zip cuts marks) ≡ length cuts
 length-marked cuts marks e = length-zip cuts marks ∙ omega (arith, e)
 
 -- each with its mark
-pub marked_at : (v n : ℕ) (cuts : List Cut) (marks : List (Option Mark)) (x : ℕ) (cut : Cut) (mark : Option Mark) → length marks ≡ length cuts → x < length cuts
+pub marked_cut_at : (cuts : List Cut) (marks : List (Option Mark)) (x : ℕ) (cut : Cut) (mark : Option Mark) → length marks ≡ length cuts → x < length cuts
     → cut ≡ get_or cuts x cut → mark ≡ get_or marks x mark
-    → flat_map line_bytes (cut_items_as v n (x + 1) cut mark) ≡ cut_text v n (get_or (numbered (zip cuts marks)) x (0, (cut, mark)))
-marked_at v n cuts marks x cut mark e l at_cut at_mark =
+    → ◌≡◌ {A = ℕ × (Cut × Option Mark)} (x + 1, (cut, mark)) (get_or (numbered (zip cuts marks)) x (0, (cut, mark)))
+marked_cut_at cuts marks x cut mark e l at_cut at_mark =
     let pair : get_or (zip cuts marks) x (cut, mark) ≡ (get_or cuts x cut, get_or marks x mark) =
     get_or-zip cuts marks x (cut, mark) l (omega (arith, l, e)) in
     let both = ap₂ (λ (c : Cut) (m : Option Mark). (c, m)) at_cut at_mark ∙ sym pair in
-    cut_at v n (zip cuts marks) x (0, (cut, mark)) (cut, mark) (omega (arith, l, length-marked cuts marks e)) both
+    numbered_at (zip cuts marks) x (0, (cut, mark)) (cut, mark) (omega (arith, l, length-marked cuts marks e)) both
+
+pub marked_at : (v n : ℕ) (cuts : List Cut) (marks : List (Option Mark)) (x : ℕ) (cut : Cut) (mark : Option Mark) → length marks ≡ length cuts → x < length cuts
+    → cut ≡ get_or cuts x cut → mark ≡ get_or marks x mark
+    → flat_map line_bytes (cut_items_as v n (x + 1) cut mark) ≡ cut_text v n (get_or (numbered (zip cuts marks)) x (0, (cut, mark)))
+marked_at v n cuts marks x cut mark e l at_cut at_mark = ap (cut_text v n) (marked_cut_at cuts marks x cut mark e l at_cut at_mark)

@@ -6,7 +6,7 @@ use Rattle.std.proofs.lemmas.List.Concat.{flat_map-append}
 use Rattle.core_spec.specs.CoreCuts.{Way, CoreProof, Mark}
 use Rattle.hub_spec.specs.Problem.{commodity_at}
 use Rattle.hub_spec.specs.Cuts.{Prices, Cut}
-use Rattle.cert_spec.specs.Lines.{says_marked, says_dual, says_proof, node_numbers, way_numbers, line_text}
+use Rattle.cert_spec.specs.Lines.{Item, says_marked, says_dual, says_proof, node_numbers, way_numbers, line_text}
 use Rattle.cert_spec.specs.Text.{line_bytes, proved_items}
 use Rattle.cert_format.specs.DualItems.{no_dual}
 use Rattle.cert_format.specs.Spaced.{spaced, words_text, spaced_node, spaced_way}
@@ -53,20 +53,29 @@ proof_text proof same_turns same_scale same_ways =
 -- ---- duals with their proofs
 
 -- from the commodity of number t on
+abbrev pub proved_from : (n t : ℕ) → List Prices → List CoreProof → List Item
+proved_from n t duals proofs = proved_items n t (drop t duals) (drop t proofs)
+
 abbrev pub lines_from : (n t : ℕ) → List Prices → List CoreProof → List ℕ
-lines_from n t duals proofs = flat_map line_bytes (proved_items n t (drop t duals) (drop t proofs))
+lines_from n t duals proofs = flat_map line_bytes (proved_from n t duals proofs)
 
 -- the line of the next dual, and that of its proof
-pub next_proved : (n t : ℕ) (duals : List Prices) (proofs : List CoreProof) (dual : Prices) (proof : CoreProof) → t < length duals
+pub next_proved_items : (n t : ℕ) (duals : List Prices) (proofs : List CoreProof) (dual : Prices) (proof : CoreProof) → t < length duals
     → length proofs ≡ length duals → dual ≡ get_or duals t no_dual → proof ≡ get_or proofs t proof
-    → line_bytes (says_dual (commodity_at n t) 1 dual) ++ (line_bytes (says_proof proof) ++ lines_from n (t + 1) duals proofs) ≡ lines_from n t duals proofs
-next_proved n t duals proofs dual proof below each at_dual at_proof =
+    → says_dual (commodity_at n t) 1 dual ∷ says_proof proof ∷ proved_from n (t + 1) duals proofs ≡ proved_from n t duals proofs
+next_proved_items n t duals proofs dual proof below each at_dual at_proof =
     let in_proofs : t < length proofs = omega (arith, below, each) in
     let all_duals : drop t duals ≡ dual ∷ drop (t + 1) duals =
     drop_more duals t no_dual below ∙ ap (λ (d : Prices). d ∷ drop (t + 1) duals) (sym at_dual) in
     let all_proofs : drop t proofs ≡ proof ∷ drop (t + 1) proofs =
     drop_more proofs t proof in_proofs ∙ ap (λ (p : CoreProof). p ∷ drop (t + 1) proofs) (sym at_proof) in
-    sym (ap₂ (λ (ds : List Prices) (ps : List CoreProof). flat_map line_bytes (proved_items n t ds ps)) all_duals all_proofs)
+    sym (ap₂ (λ (ds : List Prices) (ps : List CoreProof). proved_items n t ds ps) all_duals all_proofs)
+
+pub next_proved : (n t : ℕ) (duals : List Prices) (proofs : List CoreProof) (dual : Prices) (proof : CoreProof) → t < length duals
+    → length proofs ≡ length duals → dual ≡ get_or duals t no_dual → proof ≡ get_or proofs t proof
+    → line_bytes (says_dual (commodity_at n t) 1 dual) ++ (line_bytes (says_proof proof) ++ lines_from n (t + 1) duals proofs) ≡ lines_from n t duals proofs
+next_proved n t duals proofs dual proof below each at_dual at_proof =
+    ap (flat_map line_bytes) (next_proved_items n t duals proofs dual proof below each at_dual at_proof)
 
 -- where there is no proof
 abbrev no_proof : CoreProof
@@ -81,8 +90,11 @@ next_dual n t duals proofs dual below each at_dual =
     let proof = get_or proofs t no_proof in
     next_proved n t duals proofs dual proof below each at_dual (get_or_default proofs t no_proof proof (omega (arith, below, each)))
 
+pub none_proved_items : (n t : ℕ) (duals : List Prices) (proofs : List CoreProof) → length duals ≤ t → proved_from n t duals proofs ≡ []
+none_proved_items n t duals proofs past = ap (λ (ds : List Prices). proved_items n t ds (drop t proofs)) (drop_all t duals past)
+
 pub none_proved : (n t : ℕ) (duals : List Prices) (proofs : List CoreProof) → length duals ≤ t → [] ≡ lines_from n t duals proofs
-none_proved n t duals proofs past = sym (ap (λ (ds : List Prices). flat_map line_bytes (proved_items n t ds (drop t proofs))) (drop_all t duals past))
+none_proved n t duals proofs past = sym (ap (flat_map line_bytes) (none_proved_items n t duals proofs past))
 
 -- ---- the whole cut
 

@@ -61,13 +61,16 @@ top_text v n q c b plan cuts h r =
 pub length_route_items : (n : ℕ) (routes : List (ℕ × ℕ)) → length routes ≡ n * n → length (route_items (zip (commodities n) routes)) ≡ length routes
 length_route_items n routes e = length-map (zip (commodities n) routes) _ ∙ length-zip (commodities n) routes ∙ omega (arith, length_commodities n)
 
+pub route_item_at : (n : ℕ) (routes : List (ℕ × ℕ)) (t : ℕ) (d : Item) → t < length routes → length routes ≡ n * n
+    → says_route (problem.commodity_at n t) (get_or routes t (0, 0)) ≡ get_or (route_items (zip (commodities n) routes)) t d
+route_item_at n routes t d l e =
+    sym (get_or-map (λ (p : (ℕ × ℕ) × (ℕ × ℕ)). says_route p.0 p.1) (zip (commodities n) routes) t ((0, 0), (0, 0)) d (omega (arith, length-zip (commodities n) routes, length_commodities n))
+    ∙ ap (λ (p : (ℕ × ℕ) × (ℕ × ℕ)). says_route p.0 p.1) (get_or-zip (commodities n) routes t ((0, 0), (0, 0)) (omega (arith, length_commodities n)) l)
+    ∙ ap (λ c. says_route c (get_or routes t (0, 0))) (commodity_at n t (0, 0) (omega arith)))
+
 pub route_at : (n : ℕ) (routes : List (ℕ × ℕ)) (t : ℕ) (d : Item) → t < length routes → length routes ≡ n * n
     → line_bytes (says_route (problem.commodity_at n t) (get_or routes t (0, 0))) ≡ line_bytes (get_or (route_items (zip (commodities n) routes)) t d)
-route_at n routes t d l e =
-    ap line_bytes
-    (sym (get_or-map (λ (p : (ℕ × ℕ) × (ℕ × ℕ)). says_route p.0 p.1) (zip (commodities n) routes) t ((0, 0), (0, 0)) d (omega (arith, length-zip (commodities n) routes, length_commodities n))
-    ∙ ap (λ (p : (ℕ × ℕ) × (ℕ × ℕ)). says_route p.0 p.1) (get_or-zip (commodities n) routes t ((0, 0), (0, 0)) (omega (arith, length_commodities n)) l)
-    ∙ ap (λ c. says_route c (get_or routes t (0, 0))) (commodity_at n t (0, 0) (omega arith))))
+route_at n routes t d l e = ap line_bytes (route_item_at n routes t d l e)
 
 -- ---- the cuts
 

@@ -5,6 +5,7 @@
 //!   (`Mark` of `core_marks`), and the lines of a tree. Its text is of the [`Version`] that its first line says.
 //! - [`write_cert`] puts its text on a sink: just `certificate_text` of it. [`put_top`], [`put_cut`], [`put_dual`],
 //!   [`put_marked_cut`], [`put_proof`] and [`put_tree`] put its parts, for a text whose duals are made while they are put.
+//!   [`DualRow`] and [`run_at`] tell which of a cut's duals are one line.
 //! - [`read_cert`] reads bytes back: a certificate exactly where all of the bytes spell it, and otherwise the fault of
 //!   the text that the definitions give it, as a [`CertFault`] with the number of the line.
 //!
@@ -34,4 +35,5 @@ pub use headings::Heading;
 pub use lines::{put_cut, put_dual};
 pub use marked::{put_marked_cut, put_proof};
 pub use reader::{CertFault, read_cert};
+pub use rows::{DualRow, run_at};
 pub use writer::{put_top, put_tree, write_cert};

@@ -12,9 +12,9 @@ use hub_io::{Buffer, Failed, Sink};
 use stated_cuts::{StatedCut, StatedDual};
 use std::marker::Model;
 
-// The duals of the commodities from one node.
+/// The duals of a cut of the commodities from one node.
 #[derive(Drop)]
-struct DualRow<'a> {
+pub struct DualRow<'a> {
     cut: &'a StatedCut,
     // The number of the first of them, and how many they are.
     first: u32,
@@ -33,8 +33,8 @@ impl<'a> Model for DualRow<'a> {
 }
 
 impl<'a> DualRow<'a> {
-    // The duals of the commodities from node i, of n.
-    fn of(cut: &'a StatedCut, n: u32, i: u32) -> DualRow<'a>
+    /// The duals of the commodities from node i, of n.
+    pub fn of(cut: &'a StatedCut, n: u32, i: u32) -> DualRow<'a>
         requires few { n ≤ most_nodes }
         requires whole { length cut.now.duals ≡ n * n }
         requires origin { i < n }
@@ -48,14 +48,15 @@ impl<'a> DualRow<'a> {
         }
     }
 
-    fn len(&self) -> u32
+    /// How many they are.
+    pub fn len(&self) -> u32
         ensures { result ≡ length self.now }
     {
         self.many
     }
 
-    // The dual at this place.
-    fn dual(&self, j: u32) -> StatedDual<'a>
+    /// The dual at this place.
+    pub fn dual(&self, j: u32) -> StatedDual<'a>
         requires { j < length self.now }
         ensures { result ≡ slice_index_or self.now j no_dual }
     {
@@ -117,8 +118,8 @@ fn put_row<K: Sink>(
     Ok(())
 }
 
-// How many duals of the row, from place j on, are one line: from the second version on all that are equal.
-fn run_at(version: Version, row: &DualRow<'_>, j: u32) -> u32
+/// How many duals of the row, from place j on, are one line: from the second version on all that are equal.
+pub fn run_at(version: Version, row: &DualRow<'_>, j: u32) -> u32
     requires { j < length row.now }
     ensures { IsRunAt (version_number version) row.now j result }
 {

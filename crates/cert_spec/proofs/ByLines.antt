@@ -1,22 +1,23 @@
 -- The conditions of a whole certificate, by its lines.
-use Rattle.std.proofs.Common.{◌≡◌, ℕ, ◌+◌, ◌-◌, ◌*◌, ◌≤◌, sum_by, true, eq-eqb, List, [], ◌∷◌, ◌++◌, length, map, All, Contains, Option, Some, None, inl, inr, refl, sym, subst, ap, ap₂, ◌∙◌, append_assoc, append-nil, mul-pos, ⊎_elim, arith}
+use Rattle.std.proofs.Common.{◌≡◌, ◌↔◌, ℕ, ◌+◌, ◌-◌, ◌*◌, ◌≤◌, sum_by, Bool, true, false, nat_eq, eq-eqb, List, [], ◌∷◌, ◌++◌, length, map, All, Contains, Option, Some, None, inl, inr, refl, sym, subst, ap, ap₂, ◌∙◌, append_assoc, append-nil, mul-pos, ⊎_elim, arith}
 use Rattle.std.specs.List.{AllZip}
 use Rattle.std.proofs.lemmas.Bool.{cases_eq}
 use Rattle.std.proofs.lemmas.List.Elements.{All-head, All-tail, All-weaker}
-use Rattle.hub_spec.specs.Problem.{Problem, commodities}
+use Rattle.hub_spec.specs.Problem.{Problem, commodities, commodity_at}
 use Rattle.hub_spec.specs.Plans.{plan_cost, HasWanted}
-use Rattle.hub_spec.specs.Cuts.{Cut}
-use Rattle.hub_spec.specs.Trees.{root, preorder, line_count}
+use Rattle.hub_spec.specs.Cuts.{Prices, Cut, IsWithinSums}
+use Rattle.hub_spec.specs.Trees.{Branching, root, open_child, closed_child, Tree, branch, leaf, empty, block, count, preorder, line_count}
+use Rattle.hub_spec.specs.Certificates.{HasCutsOf}
 use Rattle.hub_spec.specs.Ranges.{IsFirstCut, IsFirst, IsCutInRange}
 use Rattle.hub_spec.proofs.Commodities.{length_commodities}
-use Rattle.core_spec.specs.CoreCuts.{Mark}
+use Rattle.core_spec.specs.CoreCuts.{CoreProof, Mark, IsCoreDual}
 use Rattle.cert_spec.specs.Stated.{Stated, IsLater, cuts_of, IsStatedInRange}
 use Rattle.cert_spec.specs.Lines.{Item, part_of, says_cuts, says_nodes, says_tree, says_end}
-use Rattle.cert_spec.specs.PartConditions.{size_line, hubs_line, first_route_line, last_route_line, cut_lines, first_cut_line, first_tree_line, route_claims, cut_claims, tree_claims, size_claims, claims}
-use Rattle.cert_spec.specs.Text.{part_said, cuts_items, certificate_items}
-use Rattle.cert_spec.specs.Conditions.{conditions, Claim, claim, Kind, Size, Hubs, Number, Cost, FailsFirst, conditions_from, ComesToTheSame}
+use Rattle.cert_spec.proofs.PartConditions.{size_line, hubs_line, first_route_line, last_route_line, cut_lines, first_cut_line, last_dual_line, first_tree_line, route_claims, dual_claims, proved_claims, one_cut_claims, cut_claims, tree_claims, size_claim, size_claims, all_cut_claims, all_tree_claims, claims, older_claims}
+use Rattle.cert_spec.specs.Text.{part_said, dual_runs, cuts_items, certificate_items}
+use Rattle.cert_spec.specs.Conditions.{conditions, Claim, claim, Kind, Size, Hubs, Number, Cost, Dual, Sum, Core, AllHold, FailsFirst, if_time, IsDualOfRun, conditions_from, is_of_cuts, asked, older_conditions, ComesToTheSame}
 use Rattle.cert_spec.specs.Progress.{Progress, at_start, after_lines}
-use Rattle.cert_spec.proofs.Claims.{IsMarkWithin}
+use Rattle.cert_spec.proofs.Claims.{IsMarkWithin, has_cuts_by_claims}
 use Rattle.cert_spec.proofs.Versions.{first_is_no_later, version_said}
 use Rattle.cert_spec.proofs.ByParts.{IsSaidCut, conditions-append, routes_by_lines, cuts_by_lines, tree_by_lines}
 
@@ -141,3 +142,97 @@ conditions_of_lines p k r =
     subst P (sym same) (λ s. same-path (claims p (sized k p.size)) (conditions p (sized k p.size)) (sym (by_lines p k s))) r)
     (λ other. same-head (claim Size size_line ((k.proof.size ≡ p.size) × (k.proof.candidates ≡ length p.candidates))) _ _ (λ h. other h.0))
     (cases_eq k.proof.size p.size)
+
+-- ---- of an older certificate
+
+asked-append : (xs ys : List Claim) → asked is_of_cuts (xs ++ ys) ≡ asked is_of_cuts xs ++ asked is_of_cuts ys
+asked-append [] ys = refl
+asked-append (c ∷ xs) ys =
+    ap (λ cs. if_time (is_of_cuts c.kind) c ++ cs) (asked-append xs ys)
+    ∙ sym (append_assoc (if_time (is_of_cuts c.kind) c) (asked is_of_cuts xs) (asked is_of_cuts ys))
+
+no_routes : (p : Problem) (hubs : List ℕ) (line : ℕ) (cs rs : List (ℕ × ℕ)) → asked is_of_cuts (route_claims p hubs line cs rs) ≡ []
+no_routes p hubs line [] rs = refl
+no_routes p hubs line (c ∷ cs) [] = refl
+no_routes p hubs line (c ∷ cs) (r ∷ rs) = no_routes p hubs (line + 1) cs rs
+
+all_duals : (p : Problem) (part line t : ℕ) (rs : List (ℕ × Prices)) → asked is_of_cuts (dual_claims p part line t rs) ≡ dual_claims p part line t rs
+all_duals p part line t [] = refl
+all_duals p part line t (r ∷ rest) = ap (λ cs. claim Dual line (IsDualOfRun p part t r) ∷ cs) (all_duals p part (line + 1) (t + r.0) rest)
+
+sum_asked : (b : Bool) (line : ℕ) (holds : Type 0) → asked is_of_cuts (if_time b (claim Sum line holds)) ≡ if_time b (claim Sum line holds)
+sum_asked true line holds = refl
+sum_asked false line holds = refl
+
+proved_asked : (p : Problem) (cut : Cut) (hubs : List ℕ) (line t : ℕ) (duals : List Prices) (proofs : List CoreProof)
+    → asked is_of_cuts (proved_claims p true cut hubs line t duals proofs) ≡ proved_claims p false cut hubs line t duals proofs
+proved_asked p cut hubs line t [] proofs = refl
+proved_asked p cut hubs line t (dual ∷ duals) [] = refl
+proved_asked p cut hubs line t (dual ∷ duals) (proof ∷ proofs) =
+    let last = nat_eq (t + 1) (p.size * p.size) in
+    let sum = if_time last (claim Sum line (IsWithinSums p cut)) in
+    let core = claim Core (line + 1) (IsCoreDual p hubs cut.part (commodity_at p.size t) dual proof) in
+    ap (λ cs. claim Dual line (IsDualOfRun p cut.part t (1, dual)) ∷ cs)
+    (asked-append sum (core ∷ proved_claims p true cut hubs (line + 2) (t + 1) duals proofs)
+    ∙ ap₂ (λ (xs ys : List Claim). xs ++ ys) (sum_asked last line (IsWithinSums p cut)) (proved_asked p cut hubs (line + 2) (t + 1) duals proofs))
+
+cut_asked : (p : Problem) (v line : ℕ) (cut : Cut) (mark : Option Mark)
+    → asked is_of_cuts (one_cut_claims p true v line (cut, mark)) ≡ one_cut_claims p false v line (cut, mark)
+cut_asked p v line cut None =
+    let duals = dual_claims p cut.part (line + 1) 0 (dual_runs v p.size cut.duals) in
+    let sum = claim Sum (last_dual_line v p.size cut line) (IsWithinSums p cut) in
+    asked-append duals (sum ∷ []) ∙ ap (λ cs. cs ++ sum ∷ []) (all_duals p cut.part (line + 1) 0 (dual_runs v p.size cut.duals))
+cut_asked p v line cut (Some mark) = proved_asked p cut mark.hubs (line + 1) 0 cut.duals mark.proofs
+
+cuts_asked : (p : Problem) (v line : ℕ) (cuts : List (Cut × Option Mark))
+    → asked is_of_cuts (cut_claims p true v line cuts) ≡ cut_claims p false v line cuts
+cuts_asked p v line [] = refl
+cuts_asked p v line ((cut, mark) ∷ cuts) =
+    let next = line + cut_lines v p.size (cut, mark) in
+    asked-append (one_cut_claims p true v line (cut, mark)) (cut_claims p true v next cuts)
+    ∙ ap₂ (λ (xs ys : List Claim). xs ++ ys) (cut_asked p v line cut mark) (cuts_asked p v next cuts)
+
+no_tree : (p : Problem) (cuts : List Cut) (target line : ℕ) (b : Branching) (t : Tree) → asked is_of_cuts (tree_claims p cuts target line b t) ≡ []
+no_tree p cuts target line b (branch k opened closed) =
+    asked-append (tree_claims p cuts target (line + 1) (open_child b k) opened)
+    (tree_claims p cuts target (line + 1 + line_count opened) (closed_child b k) closed)
+    ∙ ap₂ (λ (xs ys : List Claim). xs ++ ys) (no_tree p cuts target (line + 1) (open_child b k) opened)
+    (no_tree p cuts target (line + 1 + line_count opened) (closed_child b k) closed)
+no_tree p cuts target line b (leaf denom weights) = refl
+no_tree p cuts target line b empty = refl
+no_tree p cuts target line b (block commodity) = refl
+no_tree p cuts target line b count = refl
+
+claims_asked : (p : Problem) (k : Stated) → asked is_of_cuts (claims p k) ≡ older_claims p k
+claims_asked p k =
+    let m = k.proof in
+    let routes = route_claims p m.plan.hubs first_route_line (commodities m.size) m.plan.routes in
+    let cost = claim Cost (last_route_line m.size) (m.cost ≡ plan_cost p m.plan) in
+    let cuts = all_cut_claims p true k in
+    let tree = all_tree_claims p k in
+    ap (λ cs. size_claim p m ∷ cs)
+    (asked-append (routes ++ cost ∷ []) (cuts ++ tree)
+    ∙ ap₂ (λ (xs ys : List Claim). xs ++ ys)
+    (asked-append routes (cost ∷ []) ∙ ap (λ (xs : List Claim). xs ++ []) (no_routes p m.plan.hubs first_route_line (commodities m.size) m.plan.routes))
+    (asked-append cuts tree
+    ∙ ap₂ (λ (xs ys : List Claim). xs ++ ys) (cuts_asked p m.version (first_cut_line m.size) (cuts_of k))
+    (no_tree p m.cuts m.bound (first_tree_line m.version m.size (cuts_of k)) (root p) m.tree)
+    ∙ append-nil (all_cut_claims p false k)))
+
+pub older_by_lines : (p : Problem) (k : Stated) → IsStatedInRange k → ComesToTheSame (older_claims p k) (older_conditions p k)
+older_by_lines p k r =
+    ⊎_elim
+    (λ (same : k.proof.size ≡ p.size).
+    let P : ℕ → Type 0 = λ n. IsStatedInRange (sized k n) → ComesToTheSame (older_claims p (sized k n)) (older_conditions p (sized k n)) in
+    subst P (sym same)
+    (λ s. same-path (older_claims p (sized k p.size)) (older_conditions p (sized k p.size))
+    (sym (ap (asked is_of_cuts) (by_lines p k s) ∙ claims_asked p (sized k p.size)))) r)
+    (λ other. same-head (claim Size size_line ((k.proof.size ≡ p.size) × (k.proof.candidates ≡ length p.candidates))) _ _ (λ h. other h.0))
+    (cases_eq k.proof.size p.size)
+
+-- a certificate has cuts of the problem exactly where the conditions that are asked of an older one hold
+pub has_cuts_by_lines : (p : Problem) (k : Stated) → IsStatedInRange k → AllHold (older_conditions p k) ↔ HasCutsOf p k.proof
+has_cuts_by_lines p k r =
+    let same = (older_by_lines p k r).hold in
+    let parts = has_cuts_by_claims p k r in
+    (λ h. parts.0 (same.1 h), λ h. same.0 (parts.1 h))

@@ -11,7 +11,7 @@ use Rattle.hub_spec.specs.Trees.{Branching, open_child, closed_child, Tree, bran
 use Rattle.core_spec.specs.CoreCuts.{CoreProof, Mark, IsCoreDual}
 use Rattle.cert_spec.specs.Lines.{part_of, Item, says_dual, says_proof, says_tree}
 use Rattle.cert_spec.specs.Text.{route_items, is_first, same_prices, singles, dual_runs, run_items, part_said, proved_items, cut_items, cuts_items}
-use Rattle.cert_spec.specs.PartConditions.{cut_lines, route_claims, dual_claims, proved_claims, one_cut_claims, cut_claims, tree_claims}
+use Rattle.cert_spec.proofs.PartConditions.{cut_lines, route_claims, dual_claims, proved_claims, one_cut_claims, cut_claims, tree_claims}
 use Rattle.cert_spec.specs.Conditions.{Claim, claim, IsDualOfRun, MayMark, Route, Length, Cost, Dual, Sum, Core, Branch, if_time, cost_conditions, sum_conditions, line_conditions, conditions_from}
 use Rattle.cert_spec.specs.Progress.{Progress, is_whole, with_duals, after_line, after_lines}
 use Rattle.cert_spec.specs.Runs.{ends_row, joined, runs, spread}

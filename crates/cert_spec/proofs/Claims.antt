@@ -24,7 +24,7 @@ use Rattle.cert_spec.proofs.RunLaws.{spread_runs}
 use Rattle.cert_spec.proofs.SamePrices.{prices_told}
 use Rattle.cert_spec.proofs.Leads.{length-spread, spread_singles}
 use Rattle.cert_spec.specs.Text.{is_first, same_prices, dual_runs}
-use Rattle.cert_spec.specs.PartConditions.{first_route_line, cut_lines, first_cut_line, first_dual_line, first_tree_line, route_claims, dual_claims, proved_claims, one_cut_claims, cut_claims, tree_claims, plan_claims, all_cut_claims, all_tree_claims, claims, older_claims}
+use Rattle.cert_spec.proofs.PartConditions.{first_route_line, cut_lines, first_cut_line, first_dual_line, first_tree_line, route_claims, dual_claims, proved_claims, one_cut_claims, cut_claims, tree_claims, plan_claims, all_cut_claims, all_tree_claims, claims, older_claims}
 use Rattle.cert_spec.specs.Conditions.{Claim, claim, AllHold, if_time, MayMark, Sum, Core}
 
 pub AllHold-append : (xs ys : List Claim) → AllHold xs → AllHold ys → AllHold (xs ++ ys)

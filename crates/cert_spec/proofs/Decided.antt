@@ -1,20 +1,20 @@
 -- Each condition of the check either holds or does not, so one of them is the first that fails, or all hold.
-use Rattle.std.proofs.Common.{◌≡◌, ℕ, ◌+◌, ◌*◌, ◌<◌, ◌≤◌, zero, suc, nat_eq, Bool, true, false, true≢false, Option, Some, None, subst, ℤ, pos, ◌-ℤ◌, ◌<ℤ◌, List, [], ◌∷◌, ◌++◌, length, All, Contains, ◌⊎◌, inl, inr, refl, sym, ◌∙◌, arith}
+use Rattle.std.proofs.Common.{◌≡◌, ℕ, ◌+◌, ◌-◌, ◌*◌, ◌<◌, ◌≤◌, zero, suc, nat_eq, Bool, true, false, true≢false, Option, Some, None, subst, ℤ, pos, ◌-ℤ◌, ◌<ℤ◌, List, [], ◌∷◌, ◌++◌, length, replicate, All, Contains, ◌⊎◌, inl, inr, refl, sym, ◌∙◌, arith}
+use Rattle.std.specs.Prelude.{IfSome, slice_index_or}
+use Rattle.std.proofs.lemmas.Bool.{cases_lt}
 use Rattle.std.proofs.lemmas.List.Elements.{All-contains, All-contains_itself, All-weaker}
 use Rattle.std.proofs.lemmas.Int.{by_lt_z, ints}
 use Rattle.hub_spec.specs.Limits.{most_cost}
-use Rattle.hub_spec.specs.Problem.{Problem, route_cost, is_allowed, commodities, commodity_at}
+use Rattle.hub_spec.specs.Problem.{Problem, route_cost, is_allowed, commodity_at}
 use Rattle.hub_spec.specs.Plans.{plan_cost}
 use Rattle.hub_spec.specs.Cuts.{Prices, value_at, IsDual, Cut, total, load, IsWithinSums}
-use Rattle.hub_spec.specs.Trees.{Branching, root, open_child, closed_child, Tree, branch, leaf, empty, block, count, cut_at, share, IsMultiple, weight_sum, leaf_bound, IsClosed, IsBlocked, HasRoom, LacksRoom, line_count}
-use Rattle.std.specs.Prelude.{IfSome}
-use Rattle.std.proofs.lemmas.Bool.{cases_lt}
-use Rattle.core_spec.specs.CoreCuts.{CoreProof, Mark, IsCoreDual}
-use Rattle.cert_spec.specs.Stated.{Stated, cuts_of}
+use Rattle.hub_spec.specs.Trees.{Branching, cut_at, share, IsMultiple, weight_sum, leaf_bound, IsClosed, IsBlocked, HasRoom, LacksRoom, TreeLine, branch_on, leaf_of, no_hub, no_route, no_count}
 use Rattle.hub_spec.proofs.Decisions.{Decided, decided_by, decided_and, decided_or, decided_le, decided_eq, decided_all, decided_contains}
-use Rattle.cert_spec.specs.Text.{dual_runs}
-use Rattle.cert_spec.specs.PartConditions.{first_route_line, cut_lines, first_cut_line, first_dual_line, first_tree_line, route_claims, dual_claims, proved_claims, one_cut_claims, cut_claims, tree_claims, plan_claims, all_cut_claims, all_tree_claims, claims, older_claims}
-use Rattle.cert_spec.specs.Conditions.{Kind, Sum, Core, Claim, claim, AllHold, FailsFirst, if_time, MayMark, IsDualOfRun}
+use Rattle.cert_spec.specs.Stated.{Stated}
+use Rattle.cert_spec.specs.Lines.{Item, says_version, says_size, says_cost, says_bound, says_hubs, says_route, says_cuts, says_cut, says_marked, says_dual, says_proof, says_nodes, says_tree, says_end}
+use Rattle.cert_spec.specs.Text.{certificate_items}
+use Rattle.cert_spec.specs.Progress.{Progress, is_whole, at_start, after_line}
+use Rattle.cert_spec.specs.Conditions.{Kind, Cost, Sum, Claim, claim, AllHold, FailsFirst, if_time, IsDualOfRun, marked_hubs, tree_conditions, line_conditions, conditions_from, conditions, is_of_cuts, asked, older_conditions}
 use Rattle.cert_spec.proofs.DecidedCores.{decided_core_dual, decided_may}
 
 decided_true : (b : Bool) → Decided (b ≡ true)
@@ -165,103 +165,80 @@ AllDecided-append : (xs ys : List Claim) → AllDecided xs → AllDecided ys →
 AllDecided-append [] ys h g = g
 AllDecided-append (x ∷ xs) ys h g = (h.0, AllDecided-append xs ys h.1 g)
 
-routes_decided : (p : Problem) (hubs : List ℕ) (line : ℕ) (cs rs : List (ℕ × ℕ))
-    → AllDecided (route_claims p hubs line cs rs)
-routes_decided p hubs line [] rs = tt
-routes_decided p hubs line (c ∷ cs) [] = tt
-routes_decided p hubs line (c ∷ cs) (r ∷ rs) = (
-  decided_and (decided_contains hubs r.0) (decided_contains hubs r.1),
-  (decided_true (is_allowed p c r.0 r.1), routes_decided p hubs (line + 1) cs rs),
-)
-
-duals_decided : (p : Problem) (part line t : ℕ) (rs : List (ℕ × Prices)) → AllDecided (dual_claims p part line t rs)
-duals_decided p part line t [] = tt
-duals_decided p part line t (r ∷ rs) = (decided_run p part t r, duals_decided p part (line + 1) (t + r.0) rs)
-
 if_time_decided : (b : Bool) (c : Claim) → Decided c.holds → AllDecided (if_time b c)
 if_time_decided true c d = (d, tt)
 if_time_decided false c d = tt
 
-proved_decided : (p : Problem) (asked : Bool) (cut : Cut) (hubs : List ℕ) (line t : ℕ) (duals : List Prices) (proofs : List CoreProof)
-    → AllDecided (proved_claims p asked cut hubs line t duals proofs)
-proved_decided p asked cut hubs line t [] proofs = tt
-proved_decided p asked cut hubs line t (dual ∷ duals) [] = tt
-proved_decided p asked cut hubs line t (dual ∷ duals) (proof ∷ proofs) =
-    let last = nat_eq (t + 1) (p.size * p.size) in
-    let sum = claim Sum line (IsWithinSums p cut) in
-    let core = claim Core (line + 1) (IsCoreDual p hubs cut.part (commodity_at p.size t) dual proof) in
-    let after = proved_claims p asked cut hubs (line + 2) (t + 1) duals proofs in (
-      decided_run p cut.part t (1, dual),
-      AllDecided-append (if_time last sum) (if_time asked core ++ after) (if_time_decided last sum (decided_sums p cut))
-          (AllDecided-append (if_time asked core) after
-          (if_time_decided asked core (decided_core_dual p hubs cut.part (commodity_at p.size t) dual proof))
-          (proved_decided p asked cut hubs (line + 2) (t + 1) duals proofs)),
-    )
-
-cut_decided : (p : Problem) (asked : Bool) (v line : ℕ) (cut : Cut) (mark : Option Mark) → AllDecided (one_cut_claims p asked v line (cut, mark))
-cut_decided p asked v line cut None =
-    AllDecided-append (dual_claims p cut.part (first_dual_line line) 0 (dual_runs v p.size cut.duals)) _
-    (duals_decided p cut.part (first_dual_line line) 0 (dual_runs v p.size cut.duals)) (decided_sums p cut, tt)
-cut_decided p asked v line cut (Some mark) =
-    let may = claim Core line (MayMark p mark.hubs) in
-    let all = decided_all (Contains p.candidates) (decided_contains p.candidates) mark.hubs in
-    AllDecided-append (if_time asked may) (proved_claims p asked cut mark.hubs (first_dual_line line) 0 cut.duals mark.proofs)
-    (if_time_decided asked may (decided_and (decided_may p) all))
-    (proved_decided p asked cut mark.hubs (first_dual_line line) 0 cut.duals mark.proofs)
-
-cuts_decided : (p : Problem) (asked : Bool) (v line : ℕ) (cuts : List (Cut × Option Mark)) → AllDecided (cut_claims p asked v line cuts)
-cuts_decided p asked v line [] = tt
-cuts_decided p asked v line ((cut, mark) ∷ cuts) =
-    let next = line + cut_lines v p.size (cut, mark) in
-    AllDecided-append (one_cut_claims p asked v line (cut, mark)) (cut_claims p asked v next cuts)
-    (cut_decided p asked v line cut mark) (cuts_decided p asked v next cuts)
-
-tree_decided : (p : Problem) (cuts : List Cut) (target line : ℕ) (b : Branching) (t : Tree)
-    → AllDecided (tree_claims p cuts target line b t)
-tree_decided p cuts target line b (branch k opened closed) = (
-  decided_contains b.free k,
-  AllDecided-append (tree_claims p cuts target (line + 1) (open_child b k) opened) _
-      (tree_decided p cuts target (line + 1) (open_child b k) opened)
-      (tree_decided p cuts target (line + 1 + line_count opened) (closed_child b k) closed),
-)
-tree_decided p cuts target line b (leaf denom weights) = (
+tree_line_decided : (p : Problem) (s : Progress) (pending : List Branching) (l : TreeLine) → AllDecided (tree_conditions p s pending l)
+tree_line_decided p s [] l = tt
+tree_line_decided p s (b ∷ pending) (branch_on k) = (decided_contains b.free k, tt)
+tree_line_decided p s (b ∷ pending) (leaf_of denom weights) = (
   decided_room p.wanted b,
   (
-    decided_all (λ (e : ℕ × ℕ). e.0 ≤ length cuts) (λ e. decided_le e.0 (length cuts)) weights,
+    decided_all (λ (e : ℕ × ℕ). e.0 ≤ length s.cuts) (λ e. decided_le e.0 (length s.cuts)) weights,
     (
-      decided_all (IsMultiple cuts) (λ e. decided_eq (share cuts e * (cut_at cuts e.0).part) e.1) weights,
+      decided_all (IsMultiple s.cuts) (λ e. decided_eq (share s.cuts e * (cut_at s.cuts e.0).part) e.1) weights,
       (
         decided_le (weight_sum weights) denom,
-        (decided_below (pos (denom * target) -ℤ pos denom) (leaf_bound p cuts denom weights b), tt),
+        (decided_below (pos (denom * s.bound) -ℤ pos denom) (leaf_bound p s.cuts denom weights b), tt),
       ),
     ),
   ),
 )
-tree_decided p cuts target line b empty = (decided_closed b, tt)
-tree_decided p cuts target line b (block commodity) = (decided_blocked p b commodity, tt)
-tree_decided p cuts target line b count = (decided_lacks p.wanted b, tt)
+tree_line_decided p s (b ∷ pending) no_hub = (decided_closed b, tt)
+tree_line_decided p s (b ∷ pending) (no_route commodity) = (decided_blocked p b commodity, tt)
+tree_line_decided p s (b ∷ pending) no_count = (decided_lacks p.wanted b, tt)
 
-all_cuts_decided : (p : Problem) (asked : Bool) (k : Stated) → AllDecided (all_cut_claims p asked k)
-all_cuts_decided p asked k = cuts_decided p asked k.proof.version (first_cut_line k.proof.size) (cuts_of k)
+line_decided : (p : Problem) (s : Progress) (item : Item) → AllDecided (line_conditions p s item)
+line_decided p s (says_version v) = tt
+line_decided p s (says_size n q) = (decided_and (decided_eq n p.size) (decided_eq q (length p.candidates)), tt)
+line_decided p s (says_cost c) = tt
+line_decided p s (says_bound b) = (decided_le b s.cost, tt)
+line_decided p s (says_hubs hubs) =
+    (decided_all (Contains p.candidates) (decided_contains p.candidates) hubs, (decided_wanted p.wanted (length hubs), tt))
+line_decided p s (says_route commodity route) =
+    let routes = s.routes ++ route ∷ [] in
+    let cost = plan_cost p (record { hubs = s.hubs; routes = routes }) in (
+      decided_and (decided_contains s.hubs route.0) (decided_contains s.hubs route.1),
+      (
+        decided_true (is_allowed p commodity route.0 route.1),
+        if_time_decided (nat_eq (length routes) (s.size * s.size)) (claim Cost s.line (s.cost ≡ cost)) (decided_eq s.cost cost),
+      ),
+    )
+line_decided p s (says_cuts all) = tt
+line_decided p s (says_cut number part) = tt
+line_decided p s (says_marked number part hubs) =
+    (decided_and (decided_may p) (decided_all (Contains p.candidates) (decided_contains p.candidates) hubs), tt)
+line_decided p s (says_dual commodity run dual) =
+    let duals = s.duals ++ replicate run dual in
+    let cut : Cut = record { part = s.part; duals = duals } in (
+      decided_run p s.part (length s.duals) (run, dual),
+      if_time_decided (is_whole s duals) (claim Sum s.line (IsWithinSums p cut)) (decided_sums p cut),
+    )
+line_decided p s (says_proof proof) =
+    let t = length s.duals - 1 in
+    (decided_core_dual p (marked_hubs s.mark) s.part (commodity_at p.size t) (slice_index_or s.duals t (record { a = 0; u = [] })) proof, tt)
+line_decided p s (says_nodes all) = tt
+line_decided p s (says_tree l) = tree_line_decided p s s.pending l
+line_decided p s says_end = tt
 
-pub claims_decided : (p : Problem) (s : Stated) → AllDecided (claims p s)
-claims_decided p s =
-    let k = s.proof in
-    let sizes = decided_and (decided_eq k.size p.size) (decided_eq k.candidates (length p.candidates)) in
-    let hubs = decided_all (Contains p.candidates) (decided_contains p.candidates) k.plan.hubs in
-    let routes = AllDecided-append (route_claims p k.plan.hubs first_route_line (commodities k.size) k.plan.routes) _
-    (routes_decided p k.plan.hubs first_route_line (commodities k.size) k.plan.routes)
-    (decided_eq k.cost (plan_cost p k.plan), tt) in
-    AllDecided-append (plan_claims p k) (all_cut_claims p true s ++ all_tree_claims p s)
-    (sizes, (decided_le k.bound k.cost, (hubs, (decided_wanted p.wanted (length k.plan.hubs), routes))))
-    (AllDecided-append (all_cut_claims p true s) (all_tree_claims p s) (all_cuts_decided p true s)
-    (tree_decided p k.cuts k.bound (first_tree_line k.version k.size (cuts_of s)) (root p) k.tree))
+lines_decided : (p : Problem) (s : Progress) (items : List Item) → AllDecided (conditions_from p s items)
+lines_decided p s [] = tt
+lines_decided p s (item ∷ items) =
+    AllDecided-append (line_conditions p s item) (conditions_from p (after_line p s item) items) (line_decided p s item)
+    (lines_decided p (after_line p s item) items)
 
-pub older_decided : (p : Problem) (k : Stated) → AllDecided (older_claims p k)
-older_decided p k = (
-  decided_and (decided_eq k.proof.size p.size) (decided_eq k.proof.candidates (length p.candidates)),
-  all_cuts_decided p false k,
-)
+pub conditions_decided : (p : Problem) (k : Stated) → AllDecided (conditions p k)
+conditions_decided p k = lines_decided p at_start (certificate_items k)
+
+-- and so each of some of them
+some_decided : (is_asked : Kind → Bool) (cs : List Claim) → AllDecided cs → AllDecided (asked is_asked cs)
+some_decided is_asked [] d = tt
+some_decided is_asked (c ∷ cs) d =
+    AllDecided-append (if_time (is_asked c.kind) c) (asked is_asked cs) (if_time_decided (is_asked c.kind) c d.0) (some_decided is_asked cs d.1)
+
+pub older_decided : (p : Problem) (k : Stated) → AllDecided (older_conditions p k)
+older_decided p k = some_decided is_of_cuts (conditions p k) (conditions_decided p k)
 
 -- all of these conditions hold, or one of them is the first that fails
 pub first_failure : (cs : List Claim) → AllDecided cs → AllHold cs ⊎ ((kind : Kind) × (line : ℕ) × FailsFirst cs kind line)

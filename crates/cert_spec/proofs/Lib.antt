@@ -1,5 +1,6 @@
 pub mod RunLaws
 pub mod SamePrices
+pub mod PartConditions
 pub mod Claims
 pub mod DecidedCores
 pub mod Decided

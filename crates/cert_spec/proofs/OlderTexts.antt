@@ -6,18 +6,17 @@ use Rattle.hub_spec.specs.Certificates.{HasCutsOf}
 use Rattle.hub_spec.proofs.SameNetworks.{cuts_stay, one_closed_cost}
 use Rattle.cert_spec.specs.Stated.{Stated, IsStatedInRange}
 use Rattle.cert_spec.specs.Text.{Spells}
-use Rattle.cert_spec.specs.Conditions.{Kind, FailsFirst}
-use Rattle.cert_spec.specs.PartConditions.{older_claims}
+use Rattle.cert_spec.specs.Conditions.{Kind, FailsFirst, older_conditions}
 use Rattle.cert_spec.specs.Verdicts.{certificate_limit, Certifies, optimal, Why, Older, serves, serves_not, unread, over_limit, IsOlder}
 use Rattle.cert_spec.specs.Theorems.{OneCertificate, EachIsTextOrFault}
-use Rattle.cert_spec.proofs.Claims.{has_cuts_by_claims}
+use Rattle.cert_spec.proofs.ByLines.{has_cuts_by_lines}
 use Rattle.cert_spec.proofs.Decided.{older_decided, first_failure, failure_or_all, one_failure}
 
-not_failing : (p : Problem) (k : Stated) (kind : Kind) (line : ℕ) → IsStatedInRange k → HasCutsOf p k.proof → FailsFirst (older_claims p k) kind line → ⊥
-not_failing p k kind line r has f = failure_or_all (older_claims p k) kind line ((has_cuts_by_claims p k r).1 has) f
+not_failing : (p : Problem) (k : Stated) (kind : Kind) (line : ℕ) → IsStatedInRange k → HasCutsOf p k.proof → FailsFirst (older_conditions p k) kind line → ⊥
+not_failing p k kind line r has f = failure_or_all (older_conditions p k) kind line ((has_cuts_by_lines p k r).1 has) f
 
 has_or_fails : OneCertificate → (p : Problem) (bytes : List ℕ) (k m : Stated) (kind : Kind) (line : ℕ) → Spells bytes k → Spells bytes m
-    → HasCutsOf p k.proof → FailsFirst (older_claims p m) kind line → ⊥
+    → HasCutsOf p k.proof → FailsFirst (older_conditions p m) kind line → ⊥
 has_or_fails one p bytes k m kind line spells other has f =
     not_failing p m kind line other.in_range (subst (λ (x : Stated). HasCutsOf p x.proof) (one bytes k m spells other) has) f
 
@@ -28,8 +27,8 @@ same_older one text p bytes (serves k) (unread fault) h g = absurd ((text bytes)
 same_older one text p bytes (serves k) over_limit h g = (let short = h.0 in absurd (omega arith))
 same_older one text p bytes (serves_not kind line) (serves k) h g = absurd (has_or_fails one p bytes k h.1.0 kind line g.1 h.1.1 g.2 h.1.2)
 same_older one text p bytes (serves_not kind line) (serves_not other place) h g =
-    let moved = subst (λ (x : Stated). FailsFirst (older_claims p x) kind line) (one bytes h.1.0 g.1.0 h.1.1 g.1.1) h.1.2 in
-    let same = one_failure (older_claims p g.1.0) kind other line place moved g.1.2 in
+    let moved = subst (λ (x : Stated). FailsFirst (older_conditions p x) kind line) (one bytes h.1.0 g.1.0 h.1.1 g.1.1) h.1.2 in
+    let same = one_failure (older_conditions p g.1.0) kind other line place moved g.1.2 in
     let e : kind ≡ other = same.0 in
     let f : line ≡ place = same.1 in
     cc
@@ -48,8 +47,8 @@ some_older : EachIsTextOrFault → (p : Problem) (bytes : List ℕ) → (older :
 some_older text p bytes = elim (cases_lt certificate_limit (length bytes)) [
   | inl long ↦ (over_limit, long)
   | inr short ↦ elim (text bytes).one_of [
-    | inl spelled ↦ elim (first_failure (older_claims p spelled.0) (older_decided p spelled.0)) [
-      | inl all ↦ (serves spelled.0, (short, spelled.1, (has_cuts_by_claims p spelled.0 spelled.1.in_range).0 all))
+    | inl spelled ↦ elim (first_failure (older_conditions p spelled.0) (older_decided p spelled.0)) [
+      | inl all ↦ (serves spelled.0, (short, spelled.1, (has_cuts_by_lines p spelled.0 spelled.1.in_range).0 all))
       | inr some ↦ (serves_not some.0 some.1, (short, (spelled.0, spelled.1, some.2)))
     ]
     | inr fault ↦ (unread fault.0, (short, fault.1))

@@ -115,6 +115,22 @@ conditions_from p s (item ∷ items) = line_conditions p s item ++ conditions_fr
 abbrev pub conditions : Problem → Stated → List Claim
 conditions p k = conditions_from p at_start (certificate_items k)
 
+-- a kind that is asked of an older certificate, whose cuts are to be given: its size, its duals, and the sums of its cuts
+abbrev pub is_of_cuts : Kind → Bool
+is_of_cuts Size = true
+is_of_cuts Dual = true
+is_of_cuts Sum = true
+is_of_cuts other = false
+
+-- those of these conditions whose kind is asked, in order
+abbrev pub asked : (Kind → Bool) → List Claim → List Claim
+asked is_asked [] = []
+asked is_asked (c ∷ cs) = if_time (is_asked c.kind) c ++ asked is_asked cs
+
+-- the conditions on an older certificate, whatever its plan, its marks and its tree
+abbrev pub older_conditions : Problem → Stated → List Claim
+older_conditions p k = asked is_of_cuts (conditions p k)
+
 -- two lists of conditions come to the same: both hold, or the same condition is the first of them to fail
 pub record ComesToTheSame (xs ys : List Claim) : Type 0 where
   pub hold : AllHold xs ↔ AllHold ys

@@ -1,12 +1,12 @@
 -- The conditions on a dual by the list of its values.
-use Rattle.std.proofs.Common.{ℕ, ◌^◌, ◌<◌, ◌≤◌, List, [], ◌∷◌, slice_index, get_or, nat_eq, Bool, IsTrue, ◌↔◌, All, Contains, inl, inr, ⊎_elim, subst, arith}
+use Rattle.std.proofs.Common.{◌≡◌, ℕ, zero, suc, ◌+◌, ◌*◌, ◌^◌, ◌<◌, ◌≤◌, List, [], ◌∷◌, slice_index, get_or, take, replicate, nat_eq, Bool, IsTrue, ◌↔◌, All, Contains, inl, inr, refl, ⊎_elim, subst, mul-le-mul_left, arith}
 use Rattle.std.proofs.lemmas.Bool.{cases_eq, cond_both}
 use Rattle.std.proofs.lemmas.List.Elements.{All-head, All-tail, All-contains, All-weaker, All-get_or, All-from_get_or, Contains-get_or}
-use Rattle.hub_spec.specs.Problem.{Problem}
+use Rattle.hub_spec.specs.Problem.{Problem, flow, distance, route_cost}
 use Rattle.hub_spec.specs.Ranges.{IsAmount, IsDualInRange}
 use Rattle.hub_spec.specs.Cuts.{Prices, value_at, IsDual}
 use Rattle.hub_spec.proofs.Sets.{All-from_contains}
-use Rattle.dual_lines.specs.Covers.{IsCoveredBy, IsCoveredFirst}
+use Rattle.dual_lines.specs.Covers.{IsCoveredBy, IsCoveredFrom, IsCoveredFirst}
 use Rattle.dual_lines.specs.Places.{ArePlaces}
 use Rattle.dual_lines.specs.LineParts.{AreAmounts, HasPlace}
 
@@ -22,6 +22,24 @@ amounts_short n m a u amounts range are =
     let short = All-weaker (λ (e : ℕ × ℕ). (e.0 < n) × (1 ≤ e.1) × IsAmount e.1) (λ (e : ℕ × ℕ). e.1 < 10 ^ 33) (λ e h. h.2) u range.each in
     All-from_get_or IsAmount amounts 0 (λ k below.
     let one = value_short (10 ^ 33) u k (omega arith) short in omega (arith, one, are.each k))
+
+-- in room of which nothing is used yet each node has the amount 0
+pub no_amounts : (m n k : ℕ) → ◌≡◌ {A = ℕ} (get_or (take n (replicate m 0)) k 0) 0
+no_amounts m zero k = refl
+no_amounts zero (suc n) k = refl
+no_amounts (suc m) (suc n) zero = refl
+no_amounts (suc m) (suc n) (suc k) = no_amounts m n k
+
+collection-le : (p : Problem) (i j k m : ℕ) → flow p i j * (p.collect * distance p i k) ≤ route_cost p i j k m
+unfolding route_cost
+collection-le p i j k m = mul-le-mul_left (flow p i j) (omega arith)
+
+-- where collection and the value of the first hub cover the price, each last hub does
+pub covered_by_collection : (p : Problem) (part : ℕ) (c : ℕ × ℕ) (a : ℕ) (amounts : List ℕ) (k : ℕ)
+    → a ≤ part * (flow p c.0 c.1 * (p.collect * distance p c.0 k)) + slice_index amounts k → IsCoveredFrom p part c a amounts k
+covered_by_collection p part c a amounts k h =
+    All-from_contains (IsCoveredBy p part c a amounts k) p.candidates (λ m in_m.
+    let within = mul-le-mul_left part (collection-le p c.0 c.1 k m) in inr (λ allowed. omega (arith, h, within)))
 
 -- ---- a node has a place just where it is a candidate
 

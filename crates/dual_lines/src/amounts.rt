@@ -61,6 +61,8 @@ fn is_covered_alone(instance: &Instance, line: Priced, amounts: &[u128], k: u32)
     line.price <= cost + amounts[k as usize] || !instance.allowed(line.from, line.to, k, k)
 }
 
+/// Tells whether the price is covered with `k` as the first hub and each candidate as the last. Where collection and the
+/// value of `k` alone cover it, no last hub is visited.
 fn is_covered_from(instance: &Instance, line: Priced, amounts: &[u128], k: u32) -> bool
     requires from { line.from < instance.now.size }
     requires to { line.to < instance.now.size }
@@ -70,6 +72,10 @@ fn is_covered_from(instance: &Instance, line: Priced, amounts: &[u128], k: u32) 
     requires hub { k < instance.now.size }
     ensures { IsTrue result ↔ IsCoveredFrom instance.now line.part (line.from, line.to) line.price amounts.now k }
 {
+    let collection = times_part(line.part, instance.collection_cost(line.from, line.to, k));
+    if line.price <= collection + amounts[k as usize] {
+        return true;
+    }
     let candidates = instance.candidates();
     for m in candidates {
         if !is_covered_by(instance, line, amounts, k, *m) {

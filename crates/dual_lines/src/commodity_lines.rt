@@ -175,6 +175,13 @@ impl<'a> CommodityLine<'a> {
             )
     }
 
+    /// The part.
+    pub(crate) fn part(&self) -> u32
+        ensures { result ≡ self.now.part }
+    {
+        self.line.part
+    }
+
     /// The price.
     pub(crate) fn price(&self) -> u128
         ensures value { result ≡ self.now.dual.a }

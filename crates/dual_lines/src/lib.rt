@@ -12,6 +12,8 @@
 //! `amounts` decides in the numbers that are listed. A unit of flow counts as often as the part says. Costs are in
 //! 10^-12, lengths by unit of flow in 10^-6.
 //!
+//! `stated` makes the last test alone of a dual that a cut states, for threads to call side by side.
+//!
 //! These begin with all routes, and only `amounts` passes over those that are not allowed. Where the length of routes is
 //! limited, `limited` tests in steps the routes within the limit alone, by the distances of `step_lengths`, and then by
 //! `amounts`. Distances and lengths of routes are in 10^-3.
@@ -22,6 +24,7 @@ mod commodity_lines;
 mod limited;
 mod lines;
 mod places;
+mod stated;
 mod step_lengths;
 mod step_tables;
 mod stepping;
@@ -29,3 +32,4 @@ mod steps;
 mod units;
 
 pub use lines::DualLine;
+pub use stated::is_dual;

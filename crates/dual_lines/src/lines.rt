@@ -104,6 +104,13 @@ impl<'a> DualLine<'a> {
         true
     }
 
+    /// The part.
+    pub fn part(&self) -> u32
+        ensures { result ≡ self.now.part }
+    {
+        self.line.part()
+    }
+
     /// How many commodities the run has.
     pub fn run(&self) -> u32
         ensures { result ≡ self.now.run }

@@ -1,4 +1,4 @@
-use Rattle.cert_checker.specs.Answers.{kind_of}
+use Rattle.cert_conditions.specs.Kinds.{kind_of}
 use Rattle.cert_checker.proofs.Shown.{lines_fail}
 use Rattle.cert_checker.proofs.checks.check.Goals as goal
 

@@ -1,6 +1,6 @@
 use Rattle.std.proofs.Common.{◌≡◌, true, zip, List, subst, OnOk, IfOk, IfErr}
 use Rattle.hub_spec.specs.Cuts.{Cut}
-use Rattle.cert_spec.specs.PartConditions.{cut_claims, all_cut_claims}
+use Rattle.cert_spec.proofs.PartConditions.{cut_claims, all_cut_claims}
 use Rattle.cert_spec.specs.Conditions.{Claim, AllHold}
 use Rattle.cert_checker.specs.Answers.{IsFailure}
 use Rattle.cert_scan.specs.Versions.{version_number}

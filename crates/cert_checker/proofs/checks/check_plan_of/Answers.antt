@@ -1,7 +1,7 @@
 use Rattle.std.proofs.Common.{◌≡◌, ◌*◌, List, length, ap, sym, subst, ◌∙◌, OnOk, IfErr}
 use Rattle.std.specs.List.Sorted.{IsStrictlyIncreasing}
 use Rattle.cert_spec.specs.Conditions.{Claim, AllHold}
-use Rattle.cert_spec.specs.PartConditions.{hub_claims}
+use Rattle.cert_spec.proofs.PartConditions.{hub_claims}
 use Rattle.cert_checker.specs.Answers.{IsFailure, hub_claims_of}
 use Rattle.cert_checker.proofs.checks.check_plan_of.Goals as goal
 use Rattle.cert_checker.proofs.checks.check_plan_of.Goals.{After-check_plan}

@@ -6,7 +6,7 @@ use Rattle.cert_spec.specs.Stated.{cuts_of}
 use Rattle.hub_spec.specs.Trees.{root, TreeLine, preorder}
 use Rattle.hub_spec.proofs.Preorders.{length-preorder}
 use Rattle.plan_model.specs.Lines.{tree_line_of}
-use Rattle.cert_spec.specs.PartConditions.{first_tree_line, all_tree_claims}
+use Rattle.cert_spec.proofs.PartConditions.{first_tree_line, all_tree_claims}
 use Rattle.cert_spec.specs.Conditions.{Claim, AllHold}
 use Rattle.cert_checker.specs.Answers.{IsFailure}
 use Rattle.cert_checker.specs.Walks.{walk_claims}

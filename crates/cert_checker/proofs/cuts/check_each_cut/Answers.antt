@@ -2,7 +2,7 @@ use Rattle.std.proofs.Common.{◌≡◌, ◌+◌, ◌*◌, ◌++◌, ◌∷◌, 
 use Rattle.std.proofs.lemmas.List.Elements.{All-push}
 use Rattle.std.proofs.lemmas.Result.{err_from_is_err_and}
 use Rattle.hub_spec.specs.Cuts.{Cut, IsCut}
-use Rattle.cert_spec.specs.PartConditions.{cut_lines, one_cut_claims, cut_claims}
+use Rattle.cert_spec.proofs.PartConditions.{cut_lines, one_cut_claims, cut_claims}
 use Rattle.cert_scan.specs.Versions.{version_number}
 use Rattle.cert_checker.proofs.Reductions.{reduces_same, part_fails, part_holds}
 use Rattle.cert_checker.proofs.CutLists.{cuts_left, cut_claims_at, cuts_more}

@@ -1,6 +1,6 @@
 use Rattle.std.proofs.Common.{◌≡◌, ◌+◌, ◌*◌, ◌≤◌, true, zip, take, All}
 use Rattle.hub_spec.specs.Cuts.{IsCut}
-use Rattle.cert_spec.specs.PartConditions.{cut_claims}
+use Rattle.cert_spec.proofs.PartConditions.{cut_claims}
 use Rattle.cert_scan.specs.Versions.{version_number}
 use Rattle.cert_checker.proofs.Reductions.{Reduces}
 use Rattle.cert_checker.proofs.CutLists.{cuts_left}

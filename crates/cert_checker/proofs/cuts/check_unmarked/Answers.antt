@@ -1,6 +1,6 @@
 use Rattle.std.proofs.Common.{ap, ◌∙◌}
 use Rattle.std.proofs.lemmas.Result.{err_from_is_err_and}
-use Rattle.cert_spec.specs.PartConditions.{last_dual_line}
+use Rattle.cert_spec.proofs.PartConditions.{last_dual_line}
 use Rattle.cert_scan.specs.Versions.{version_number}
 use Rattle.cert_checker.proofs.Parts.{duals_fail, sum_fails, cut_holds}
 use Rattle.cert_checker.proofs.cuts.check_unmarked.Goals as goal

@@ -1,6 +1,6 @@
 use Rattle.std.proofs.Common.{◌≡◌, ◌+◌, ◌*◌, false, zip, sym, ap, ◌∙◌, arith}
 use Rattle.std.proofs.lemmas.Result.{err_from_is_err_and}
-use Rattle.cert_spec.specs.PartConditions.{cut_lines, one_cut_claims, cut_claims}
+use Rattle.cert_spec.proofs.PartConditions.{cut_lines, one_cut_claims, cut_claims}
 use Rattle.cert_scan.specs.Versions.{version_number}
 use Rattle.cert_checker.proofs.Reductions.{reduces_same, part_fails, part_holds}
 use Rattle.cert_checker.proofs.CutLists.{cuts_left, cut_claims_at}

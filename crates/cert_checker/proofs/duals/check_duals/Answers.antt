@@ -1,7 +1,7 @@
 use Rattle.std.proofs.Common.{◌≡◌, ℕ, ◌+◌, Option, ap, sym, subst, ◌∙◌}
 use Rattle.cert_spec.specs.Text.{dual_runs}
 use Rattle.cert_spec.specs.Conditions.{Dual, FailsFirst}
-use Rattle.cert_spec.specs.PartConditions.{dual_claims}
+use Rattle.cert_spec.proofs.PartConditions.{dual_claims}
 use Rattle.cert_scan.specs.Versions.{version_number}
 use Rattle.cert_checker.specs.Runs.{place_of}
 use Rattle.cert_checker.specs.Duals.{IsFirstFailing}

@@ -1,5 +1,5 @@
 use Rattle.std.proofs.Common.{◌≡◌, ◌≤◌, ◌+◌, ◌*◌, sum_by, zip, take}
-use Rattle.cert_spec.specs.PartConditions.{cut_lines}
+use Rattle.cert_spec.proofs.PartConditions.{cut_lines}
 use Rattle.cert_scan.specs.Versions.{version_number}
 use Rattle.cert_checker.proofs.lines.first_tree_line.Given as goal
 

@@ -1,5 +1,5 @@
 use Rattle.std.proofs.Common.{◌≡◌, false, zip, List, subst, OnOk, IfErr}
-use Rattle.cert_spec.specs.PartConditions.{cut_claims, all_cut_claims}
+use Rattle.cert_spec.proofs.PartConditions.{cut_claims, all_cut_claims}
 use Rattle.cert_spec.specs.Conditions.{Claim, AllHold}
 use Rattle.cert_checker.specs.Answers.{IsFailure}
 use Rattle.cert_scan.specs.Versions.{version_number}

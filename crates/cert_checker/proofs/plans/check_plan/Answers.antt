@@ -1,6 +1,6 @@
 use Rattle.std.proofs.Common.{sym, ap, ◌∙◌}
 use Rattle.std.proofs.lemmas.Result.{err_from_is_err_and}
-use Rattle.cert_spec.specs.PartConditions.{first_route_line, last_route_line}
+use Rattle.cert_spec.proofs.PartConditions.{first_route_line, last_route_line}
 use Rattle.cert_checker.proofs.Parts.{routes_from_claims, hub_set_from_claims, set_fails, routes_fail, cost_fails, plan_holds}
 use Rattle.cert_checker.proofs.plans.check_plan.Goals as goal
 

@@ -1,7 +1,7 @@
 use Rattle.std.proofs.Common.{rules}
 use Rattle.std.proofs.lemmas.Result.{err_from_is_err_and}
 use Rattle.hub_spec.specs.Problem.{commodities}
-use Rattle.cert_spec.specs.PartConditions.{route_claims}
+use Rattle.cert_spec.proofs.PartConditions.{route_claims}
 use Rattle.cert_checker.proofs.Parts.{route_fails, route_holds, left_routes, no_routes_left}
 use Rattle.cert_checker.proofs.Reductions.{none_left}
 use Rattle.cert_checker.proofs.plans.check_routes.Goals as goal

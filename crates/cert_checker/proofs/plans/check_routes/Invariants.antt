@@ -1,5 +1,5 @@
 use Rattle.hub_spec.specs.Problem.{commodities}
-use Rattle.cert_spec.specs.PartConditions.{route_claims}
+use Rattle.cert_spec.proofs.PartConditions.{route_claims}
 use Rattle.cert_checker.proofs.Reductions.{Reduces}
 use Rattle.cert_checker.proofs.Parts.{left_routes}
 use Rattle.cert_checker.proofs.plans.check_routes.Given as goal

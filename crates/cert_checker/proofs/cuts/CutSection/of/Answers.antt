@@ -6,7 +6,7 @@ use Rattle.hub_spec.specs.Cuts.{Cut}
 use Rattle.hub_spec.specs.Ranges.{IsCutInRange}
 use Rattle.core_spec.specs.CoreCuts.{Mark}
 use Rattle.core_spec.specs.MarkRanges.{IsMarkInRange}
-use Rattle.cert_spec.specs.PartConditions.{first_cut_line}
+use Rattle.cert_spec.proofs.PartConditions.{first_cut_line}
 use Rattle.cert_checker.proofs.cuts.CutSection.of.Goals as goal
 
 pub returns-clause-line : goal.returns-clause-line

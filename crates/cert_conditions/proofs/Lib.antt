@@ -1,0 +1,16 @@
+pub mod Loads
+pub mod Lists
+pub mod MarkHubs
+pub mod Parting
+pub mod Counting
+pub mod Trying
+pub mod Kept
+pub mod PlanSteps
+pub mod CutSteps
+pub mod MarkSteps
+pub mod TreeSteps
+pub mod MayCome
+pub mod MayProve
+pub mod Taking
+pub mod Whole
+pub mod ListLines

@@ -1,0 +1,13 @@
+use Rattle.std.proofs.Common.{◌≡◌, List, [], ◌∷◌, ◌++◌}
+use Rattle.cert_spec.specs.Lines.{Item as Line}
+use Rattle.cert_conditions.specs.Taken.{HasTaken}
+use Rattle.cert_conditions.specs.ListLines.{line_of, CanLead, HasLines}
+use Rattle.cert_conditions.proofs.ListLines.{given_at}
+use Rattle.cert_conditions.proofs.list_lines.Checks.take_line.Given as goal
+
+abbrev pub invariant-loop-at : goal.invariant-loop-at
+invariant-loop-at l = record {
+  taken : (lines : List Line) → HasLines lines l.initial.self → CanLead (lines ++ line_of l.line ∷ [])
+      → HasTaken (given_at lines (line_of l.line) l.at) l.self;
+  instance : l.self.instance ≡ l.initial.self.instance;
+}

@@ -1,0 +1,6 @@
+pub mod Kinds
+pub mod Sums
+pub mod Marks
+pub mod Steps
+pub mod Taken
+pub mod ListLines

@@ -1,5 +1,0 @@
-pub mod Sums
-pub mod Marks
-pub mod Steps
-pub mod Taken
-pub mod Fed
