@@ -1,11 +1,12 @@
 //! The words that the unproved program knows: COMMAND LAYOUT FILE [options], with the layouts `cab-matrix` and `ap` and the
 //! instance options --trunk, --fixed, --divide, --tail fixed, --hubs, --max-length and --candidates 1,2,..
 //!
-//! COMMAND is `solve` (with --rule 2 by rounds, with --cuts core by core cuts), `optimize`, or `resolve` with --from OLD; --workers W and --format 1|2|3
+//! COMMAND is `solve` (with --rule 2 by rounds, with --cuts core by core cuts), `optimize`, `resolve` with --from OLD, or `check` with
+//! --from CERTIFICATE, which says how it ends on standard error; --workers W and --format 1|2|3
 //! are as they are in the product. The text goes to standard output, and seconds to standard error.
 
 use crate::branch_tree::{search, search_from};
-use crate::cert_checker::{Older, read_older};
+use crate::cert_checker::{Older, Stream, read_older};
 use crate::cert_scan::Version;
 use crate::closing_search::{Task, optimize_within};
 use crate::core_cuts::core_cut;
@@ -128,11 +129,30 @@ impl Words {
     }
 }
 
+// The certificate's text, read in pieces as the product reads it.
+fn check(words: &Words, instance: &Instance) {
+    let start = Instant::now();
+    let mut file = std::fs::File::open(words.option("--from").expect("--from")).expect("the certificate");
+    let mut stream = Stream::new(Global, instance).unwrap();
+    let mut piece = vec![0u8; 65_536];
+    loop {
+        let count = std::io::Read::read(&mut file, &mut piece).expect("the certificate");
+        if count == 0 {
+            break;
+        }
+        stream = stream.feed(Global, &piece[..count]).unwrap();
+    }
+    eprintln!("{:?} {:.3} s", stream.finish(), start.elapsed().as_secs_f64());
+}
+
 pub fn main() {
     let words = Words(std::env::args().skip(1).collect());
     let start = Instant::now();
     let instance = words.instance();
     let read = Instant::now();
+    if words.0[0] == "check" {
+        return check(&words, &instance);
+    }
     let found = words.found(&instance);
     let searched = Instant::now();
     let mut lender = DualLender::new(Global, &instance).unwrap();

@@ -1,15 +1,14 @@
 -- What a certificate shows that holds.
-use Rattle.std.proofs.Common.{◌≡◌, ℕ, ◌≤◌, List, [], ◌∷◌, length, zip, Option, Some, Contains, inl, inr, refl, subst, ◌∙◌}
+use Rattle.std.proofs.Common.{◌≡◌, ℕ, ◌≤◌, List, [], ◌∷◌, length, zip, Option, Some, Contains, inl, inr, ⊎_elim, refl, subst, ◌∙◌, arith}
+use Rattle.std.proofs.lemmas.Bool.{cases_eq}
 use Rattle.std.specs.List.{AllZip}
 use Rattle.hub_spec.specs.Problem.{Problem, IsProblem}
 use Rattle.hub_spec.specs.Plans.{NoPlanBelow, IsOptimal}
 use Rattle.cert_spec.specs.Stated.{Stated, IsStatedInRange, IsAsMarked, IsStatedOf}
 use Rattle.cert_spec.specs.Text.{Spells}
-use Rattle.cert_spec.specs.Conditions.{Kind, AllHold, FailsFirst, conditions}
-use Rattle.cert_spec.proofs.PartConditions.{claims}
+use Rattle.cert_spec.specs.Conditions.{AllHold, conditions}
 use Rattle.cert_spec.specs.Verdicts.{certificate_limit, Why}
-use Rattle.cert_spec.proofs.Claims.{holds_exactly_by_claims}
-use Rattle.cert_spec.proofs.ByLines.{conditions_of_lines}
+use Rattle.cert_spec.proofs.VerdictLemmas.{holds_by_lines}
 use Rattle.cert_spec.proofs.OneText.{one_certificate_lem}
 use Rattle.hub_spec.proofs.WeakDuality.{no_plan_below_bound}
 use Rattle.hub_spec.specs.Cuts.{Cut}
@@ -17,15 +16,14 @@ use Rattle.hub_spec.proofs.Decisions.{Contains-cases, Contains-none}
 use Rattle.core_spec.specs.CoreCuts.{Mark}
 use Rattle.core_spec.proofs.Undominated.{core_is_undominated}
 use Rattle.cert_checker.specs.declared.verdicts.Verdict as answer
-use Rattle.cert_checker.specs.Marks.{AreUndominated}
-use Rattle.cert_checker.specs.Answers.{IsVerdict, ShowsBound, ShowsMarks}
+use Rattle.cert_checker.specs.Answers.{AreUndominated, IsByCost, IsVerdict, ShowsBound, ShowsOptimal, ShowsMarks}
 use Rattle.cert_checker.specs.Shows.{verdict_on, ProvesMarks}
 
-pub shown_bound : (p : Problem) (k : Stated) → IsProblem p → IsStatedInRange k → AllHold (claims p k) → IsStatedOf p k × NoPlanBelow p k.proof.bound
+pub shown_bound : (p : Problem) (k : Stated) → IsProblem p → IsStatedInRange k → AllHold (conditions p k) → IsStatedOf p k × NoPlanBelow p k.proof.bound
 shown_bound p k ok range h =
-    let holds = (holds_exactly_by_claims p k range).0 h in (holds, no_plan_below_bound p k.proof ok holds.holds)
+    let holds = (holds_by_lines p k range).0 h in (holds, no_plan_below_bound p k.proof ok holds.holds)
 
-pub shown_optimal : (p : Problem) (k : Stated) → IsProblem p → IsStatedInRange k → AllHold (claims p k) → k.proof.bound ≡ k.proof.cost
+pub shown_optimal : (p : Problem) (k : Stated) → IsProblem p → IsStatedInRange k → AllHold (conditions p k) → k.proof.bound ≡ k.proof.cost
     → IsOptimal p k.proof.plan
 shown_optimal p k ok range h same =
     let shown = shown_bound p k ok range h in
@@ -45,14 +43,27 @@ pub shown_marks : (p : Problem) (k : Stated) → IsProblem p → IsStatedOf p k 
 shown_marks p k ok holds x y mark among is_cut tight =
     core_is_undominated p x y mark ok (as_marked p k.proof.cuts k.marks x (Some mark) holds.marks among) is_cut tight
 
--- ---- by the lines
+-- what the verdict says of a certificate whose conditions hold
+pub record IsShown (p : Problem) (k : Stated) (v : answer.Verdict) : Type 0 where
+  pub verdict : IsVerdict p k v
+  pub bound : ShowsBound p k v
+  pub optimal : ShowsOptimal p k v
+  pub marks : ShowsMarks p k v
 
-pub lines_hold : (p : Problem) (k : Stated) → IsStatedInRange k → AllHold (claims p k) → AllHold (conditions p k)
-lines_hold p k range h = (conditions_of_lines p k range).hold.0 h
-
-pub lines_fail : (p : Problem) (k : Stated) (kind : Kind) (line : ℕ) → IsStatedInRange k → FailsFirst (claims p k) kind line
-    → FailsFirst (conditions p k) kind line
-lines_fail p k kind line range h = ((conditions_of_lines p k range).fail kind line).0 h
+pub all_shown : (p : Problem) (k : Stated) (v : answer.Verdict) → IsProblem p → IsStatedInRange k → AllHold (conditions p k) → IsByCost k v → IsShown p k v
+all_shown p k answer.TheVariants.Optimal ok range h same =
+    let bound = shown_bound p k ok range h in
+    record { verdict = (h, same); bound = bound; optimal = shown_optimal p k ok range h same; marks = shown_marks p k ok bound.0 }
+all_shown p k answer.TheVariants.Bounds ok range h apart =
+    let bound = shown_bound p k ok range h in
+    let most : k.proof.bound ≤ k.proof.cost = bound.0.holds.bound in
+    record {
+      verdict = (h, ⊎_elim (λ (same : k.proof.bound ≡ k.proof.cost). absurd (apart same)) (λ other. omega (arith, most, other)) (cases_eq k.proof.bound k.proof.cost));
+      bound = bound;
+      optimal = tt;
+      marks = shown_marks p k ok bound.0;
+    }
+all_shown p k (answer.TheVariants.No kind line) ok range h by = absurd by
 
 -- bytes that spell the certificate have the verdict on it
 pub why_by : (p : Problem) (bytes : List ℕ) (k : Stated) (v : answer.Verdict) → length bytes ≤ certificate_limit → Spells bytes k → IsVerdict p k v

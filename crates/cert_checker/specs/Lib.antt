@@ -1,9 +1,8 @@
-pub mod Marks
-pub mod Answers
-pub mod Plans
 pub mod Runs
 pub mod Duals
-pub mod Bounds
-pub mod Blocks
 pub mod Walks
+pub mod Older
+pub mod Answers
 pub mod Shows
+pub mod Fed
+pub mod Held

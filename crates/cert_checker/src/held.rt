@@ -5,12 +5,13 @@ ghost use Rattle.std.specs.Io.KnownBytes.{Consumes, IsAtEnd};
 ghost use Rattle.hub_io.specs.Outside.{LeavesRest, Rose, TellsOf};
 ghost use Rattle.cert_spec.specs.Verdicts.{certificate_limit};
 ghost use Rattle.cert_checker.specs.Shows.{verdict_of};
-ghost use Rattle.cert_stream.specs.Fed.{HasFed};
-ghost use Rattle.stream_check.specs.Held.{IsVerdictOnHeld, EndsOver};
+ghost use Rattle.cert_checker.specs.Fed.{HasFed};
+ghost use Rattle.cert_checker.specs.Held.{IsVerdictOnHeld, EndsOver};
 
 use crate::endings::NoEnding;
-use cert_checker::{Ending, MOST_CERTIFICATE_BYTES};
-use cert_stream::Stream;
+use crate::streams::Stream;
+use crate::texts::MOST_CERTIFICATE_BYTES;
+use crate::verdicts::Ending;
 use hub_io::Shelf;
 use hub_model::Instance;
 use std::alloc::Global;

@@ -1,25 +1,30 @@
 //! An older certificate, whose cuts are to be given to a search.
 
-ghost use Rattle.std.specs.Prelude.{◌≡◌, false, IsTrue, IfOk, IfErr, OnOk};
+ghost use Rattle.std.specs.Prelude.{◌≡◌, ℕ, ◌+◌, ◌*◌, ◌<◌, ◌≤◌, ◌↔◌, length, slice_index, IsTrue, IfOk, All};
 ghost use Rattle.std.specs.Option.{IfSome, IfNone, IsNone};
+ghost use Rattle.hub_spec.specs.Limits.{most_nodes, most_part};
+ghost use Rattle.hub_spec.specs.Cuts.{IsWithinSums, IsCut};
 ghost use Rattle.hub_spec.specs.Certificates.{HasCutsOf};
-ghost use Rattle.cert_spec.specs.Stated.{IsStatedInRange};
-ghost use Rattle.cert_spec.specs.Conditions.{AllHold, FailsFirst};
-ghost use Rattle.cert_spec.proofs.PartConditions.{all_cut_claims, older_claims};
+ghost use Rattle.hub_spec.specs.Ranges.{IsDualInRange, IsCutInRange};
+ghost use Rattle.cert_spec.specs.Conditions.{FailsFirst, older_conditions};
 ghost use Rattle.cert_spec.specs.Verdicts.{IsOlder};
-ghost use Rattle.cert_checker.specs.Answers.{kind_of, IsFailure};
+ghost use Rattle.cert_scan.specs.Versions.{version_number};
+ghost use Rattle.cert_conditions.specs.Kinds.{kind_of};
+ghost use Rattle.cert_checker.specs.Duals.{IsFirstFailing};
+ghost use Rattle.cert_checker.specs.Older.{dual_place, cut_lines, CutFails};
 ghost use Rattle.cert_checker.specs.Shows.{older_of, older_on};
 
-use crate::checks::check_size;
-use crate::cuts::{CutSection, try_each_cut};
-use crate::failures::Failure;
-use crate::kinds::Kind;
-use crate::sure_cuts::are_cuts;
+use crate::checks::{SIZE_LINE, is_of_size};
+use crate::runs::{run_count, run_place};
 use crate::texts::MOST_CERTIFICATE_BYTES;
-use cert_format::{CertFault, Certificate, read_cert};
-use hub_model::Instance;
+use cert_conditions::Kind;
+use cert_format::{CertFault, Certificate, Version, read_cert};
+use core_marks::Mark;
+use dual_lines::DualLine;
+use hub_model::{Instance, MOST_COST};
 use std::alloc::{AllocError, Global};
 use std::thread::Threads;
+use stated_cuts::{StatedCut, StatedDual};
 
 /// An older certificate, by its bytes. Lines count from 1.
 #[derive(Drop)]
@@ -73,69 +78,155 @@ fn older_by(certificate: Certificate, failing: Option<(Kind, u64)>) -> Older
 /// What is asked of an older certificate whose cuts are to be given: its size, and its cuts, whatever their marks. The
 /// answer is the first condition that fails, with its line in the certificate's text, counted from 1, or `None`.
 ///
-/// The cuts are tried one after another first, dual by dual. Only where that does not show all of them to be cuts of the
-/// instance, they are tried again for the first failure, the duals of a large cut side by side. The only error is want of
-/// memory.
+/// The cuts are tried one after another, dual by dual on a line of `dual_lines`. The only error is want of memory.
 pub fn check_cuts<R: Threads + Sync>(
-    rt: &R,
+    _rt: &R,
     alloc: Global,
     instance: &Instance,
     certificate: &Certificate,
 ) -> Result<Option<(Kind, u64)>, AllocError>
-    ensures fails { IfOk result (λ o. IfSome o (λ f. FailsFirst (older_claims instance.now certificate.now) (kind_of f.0) f.1)) }
+    ensures fails { IfOk result (λ o. IfSome o (λ f. FailsFirst (older_conditions instance.now certificate.now) (kind_of f.0) f.1)) }
     ensures holds { IfOk result (λ o. IfNone o (HasCutsOf instance.now certificate.now.proof)) }
     ensures only { HasCutsOf instance.now certificate.now.proof → IfOk result IsNone }
 {
-    if is_sure(alloc, instance, certificate)? {
-        return Ok(None);
+    if !is_of_size(instance, certificate) {
+        return Ok(Some((Kind::Size, SIZE_LINE)));
     }
-    match check_size_and_cuts(rt, alloc, instance, certificate) {
-        Ok(()) => Ok(None),
-        Err(Failure::Fails { kind, line }) => Ok(Some((kind, line))),
-        Err(Failure::OutOfMemory) => Err(AllocError),
+    let n = instance.size();
+    let version = certificate.version();
+    let cuts = certificate.cuts();
+    let marks = certificate.marks();
+    let mut duals = DualLine::new(alloc, instance)?;
+    // The first cut stands behind the line that says how many there are.
+    let mut line = 7 + n as u64 * n as u64;
+    for x in 0..cuts.len() {
+        let cut = &cuts[x];
+        let mark = &marks[x];
+        if let Some((kind, place)) = failure_of(alloc, instance, &mut duals, version, cut, mark)? {
+            return Ok(Some((kind, line + place)));
+        }
+        line += lines_of(version, n, cut, mark);
+    }
+    Ok(None)
+}
+
+// What fails first of the cut, with the place of its line among the cut's, the first of which has the place 0.
+fn failure_of(
+    alloc: Global,
+    instance: &Instance,
+    duals: &mut DualLine<'_>,
+    version: Version,
+    cut: &StatedCut,
+    mark: &Option<Mark>,
+) -> Result<Option<(Kind, u64)>, AllocError>
+    requires same { duals.old.problem ≡ instance.now }
+    requires cut { IsCutInRange instance.now.size cut.now }
+    ensures same { duals.new.problem ≡ instance.now }
+    ensures fails { IfOk result (λ o. IfSome o (CutFails (version_number version) instance.now cut.now mark.now)) }
+    ensures holds { IfOk result (λ o. IfNone o (IsCut instance.now cut.now)) }
+{
+    let n = instance.size();
+    if let Some(t) = first_failing_on(duals, n, cut) {
+        return Ok(Some((Kind::Dual, place_of_dual(version, n, cut, mark, t))));
+    }
+    if !is_within_sums(alloc, instance, cut)? {
+        return Ok(Some((Kind::Sum, place_of_dual(version, n, cut, mark, n * n - 1))));
+    }
+    Ok(None)
+}
+
+// The place of the dual of the commodity of this number among the lines of its cut.
+fn place_of_dual(version: Version, n: u32, cut: &StatedCut, mark: &Option<Mark>, t: u32) -> u64
+    requires some { 1 ≤ n }
+    requires few { n ≤ most_nodes }
+    requires within { t < length cut.now.duals }
+    ensures value { result ≡ dual_place (version_number version) n cut.now.duals mark.now t }
+    ensures limit { result ≤ 1 + 2 * t }
+{
+    match mark {
+        None => 1 + run_place(version, n, cut, t),
+        Some(_) => 1 + 2 * t as u64,
     }
 }
 
-// Tells for sure that the certificate has the instance's size and cuts of it, by lines of duals. It may have them, too, where
-// this says no: no failure is looked for, and the plain check tells the first one, if there is one.
-fn is_sure(
+// How many lines the cut takes.
+fn lines_of(version: Version, n: u32, cut: &StatedCut, mark: &Option<Mark>) -> u64
+    requires some { 1 ≤ n }
+    requires few { n ≤ most_nodes }
+    requires one_for_each { length cut.now.duals ≡ n * n }
+    ensures value { result ≡ cut_lines (version_number version) n cut.now mark.now }
+    ensures limit { result ≤ 2 * (n * n) + 1 }
+{
+    match mark {
+        None => run_count(version, n, cut) + 1,
+        Some(_) => 2 * cut.count() as u64 + 1,
+    }
+}
+
+// The number of the first commodity whose dual is not feasible, by this line.
+fn first_failing_on(duals: &mut DualLine<'_>, n: u32, cut: &StatedCut) -> Option<u32>
+    requires size { n ≡ duals.old.problem.size }
+    requires cut { IsCutInRange n cut.now }
+    ensures same { duals.new.problem ≡ duals.old.problem }
+    ensures first { IsFirstFailing duals.old.problem cut.now.part cut.now.duals result }
+{
+    for t in 0..n * n {
+        list_dual(duals, (t / n, t % n), cut.part(), &cut.dual(t));
+        if !duals.holds() {
+            return Some(t);
+        }
+    }
+    None
+}
+
+// Lists the dual of a commodity, with this part.
+fn list_dual(line: &mut DualLine<'_>, commodity: (u32, u32), part: u32, dual: &StatedDual<'_>)
+    requires from { commodity.0 < line.old.problem.size }
+    requires to { commodity.1 < line.old.problem.size }
+    requires part_least { 1 ≤ part }
+    requires part_most { part ≤ most_part }
+    requires dual { IsDualInRange line.old.problem.size dual.now }
+    ensures { line.new ≡ record {
+      problem = line.old.problem;
+      commodity = commodity;
+      part = part;
+      run = 1;
+      dual = dual.now;
+    } }
+{
+    line.begin(commodity.0, commodity.1, 1, part, dual.price());
+    for at in 0..dual.count() {
+        let (k, value) = dual.value(at);
+        line.list(k, value);
+    }
+}
+
+// Tells whether the total of the cut and its loads of the candidates are within their limit.
+fn is_within_sums(
     alloc: Global,
     instance: &Instance,
-    certificate: &Certificate,
+    cut: &StatedCut,
 ) -> Result<bool, AllocError>
-    ensures { IfOk result (λ sure. IsTrue sure → HasCutsOf instance.now certificate.now.proof) }
+    requires { IsCutInRange instance.now.size cut.now }
+    ensures { IfOk result (λ is. IsTrue is ↔ IsWithinSums instance.now cut.now) }
 {
-    match check_size(instance, certificate) {
-        Ok(()) => are_cuts(alloc, instance, certificate.cuts()),
-        Err(_) => Ok(false),
+    let limit = cut.part() as u128 * MOST_COST;
+    if cut.total() > limit {
+        return Ok(false);
     }
+    let loads = cut.loads(alloc, instance.size())?;
+    Ok(are_loads_within(instance, &loads, limit))
 }
 
-fn check_size_and_cuts<R: Threads + Sync>(
-    rt: &R,
-    alloc: Global,
-    instance: &Instance,
-    certificate: &Certificate,
-) -> Result<(), Failure>
-    ensures in_range { IsStatedInRange certificate.now }
-    ensures holds { OnOk result (AllHold (older_claims instance.now certificate.now)) }
-    ensures fails { IfErr result (IsFailure (older_claims instance.now certificate.now)) }
+fn are_loads_within(instance: &Instance, loads: &[u128], limit: u128) -> bool
+    requires { length loads.now ≡ instance.now.size }
+    ensures { IsTrue result ↔ All (λ k. slice_index loads.now k ≤ limit) instance.now.candidates }
 {
-    check_size(instance, certificate)?;
-    try_cuts_of(rt, alloc, instance, certificate)
-}
-
-// Tries the cuts of a certificate of the instance's size.
-fn try_cuts_of<R: Threads + Sync>(
-    rt: &R,
-    alloc: Global,
-    instance: &Instance,
-    certificate: &Certificate,
-) -> Result<(), Failure>
-    requires { certificate.now.proof.size ≡ instance.now.size }
-    ensures holds { OnOk result (AllHold (all_cut_claims instance.now false certificate.now)) }
-    ensures fails { IfErr result (IsFailure (all_cut_claims instance.now false certificate.now)) }
-{
-    let section = CutSection::of(instance, certificate);
-    try_each_cut(rt, alloc, instance, &section)
+    let candidates = instance.candidates();
+    for k in candidates {
+        if loads[*k as usize] > limit {
+            return false;
+        }
+    }
+    true
 }

@@ -1,5 +1,5 @@
 //! Certificates, a case a line of standard input: their texts scanned (`cert_scan`), read and written (`cert_format`),
-//! checked whole (`cert_checker`) and as they come (`cert_stream`, `stream_check`), and reported (`network_report`).
+//! checked whole and as they come (`cert_checker`, `cert_conditions`), and reported (`network_report`).
 //!
 //! Each line is printed back, and below it what the calls gave. A line that begins with `#` and an empty one are only
 //! printed back, an `instance` and a `text` only kept. In a text `;` stands for the end of a line, and `~` for a carriage return. A

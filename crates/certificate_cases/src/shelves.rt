@@ -2,12 +2,11 @@
 
 use crate::checks::tell;
 use crate::names::{text_in, two_numbers};
-use cert_checker::Ending;
+use cert_checker::{Ending, NoEnding, check_held};
 use hub_io::{MemFile, MemShelf};
 use hub_model::Instance;
 use std::alloc::{AllocError, Global};
 use std::io;
-use stream_check::{NoEnding, check_held};
 
 // How a check ends, and how often the shelf failed in it.
 type End = (Result<Ending, NoEnding>, u64);

@@ -1,9 +1,9 @@
 //! Certificates checked as they come.
 
 use crate::checks::tell;
-use cert_checker::{Ending, Kind};
+use cert_checker::{Ending, Kind, Stream};
+use cert_conditions::Checks;
 use cert_scan::Scan;
-use cert_stream::{Checks, Stream};
 use hub_model::Instance;
 use std::alloc::{AllocError, Global};
 use std::io;

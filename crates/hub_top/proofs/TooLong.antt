@@ -3,8 +3,8 @@ use Rattle.std.proofs.Common.{ℕ, List, Option, Some, None}
 use Rattle.hub_io.specs.Outside.{Files, HoldsMore}
 use Rattle.hub_spec.specs.Problem.{Problem}
 use Rattle.cert_spec.specs.Verdicts.{Verdict, too_long, certificate_limit}
-use Rattle.stream_check.specs.Held.{IsVerdictOnHeld}
-use Rattle.stream_check.proofs.TooLong.{too_long_held}
+use Rattle.cert_checker.specs.Held.{IsVerdictOnHeld}
+use Rattle.cert_checker.proofs.TooLong.{too_long_held}
 use Rattle.hub_top.specs.Judging.{IsVerdictOn}
 
 pub verdict_on_held : (p : Problem) (held : Option Files) (file : List ℕ) (verdict : Verdict) → IsVerdictOnHeld p held file verdict → IsVerdictOn p held file verdict

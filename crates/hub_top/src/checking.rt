@@ -12,12 +12,11 @@ ghost use Rattle.hub_top.specs.Told.{LacksFile};
 
 use crate::halts::Halt;
 use crate::instances::read_instance;
-use cert_checker::Ending;
+use cert_checker::{Ending, NoEnding, check_held};
 use hub_io::Shelf;
 use hub_model::Instance;
 use hub_words::Source;
 use std::alloc::Global;
-use stream_check::{NoEnding, check_held};
 
 /// The ending of a check of the certificate of this file against the instance that the source names.
 pub fn check<S: Shelf>(

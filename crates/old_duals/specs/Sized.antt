@@ -4,8 +4,7 @@ use Rattle.hub_spec.specs.Problem.{Problem}
 use Rattle.hub_spec.specs.Certificates.{Proof}
 use Rattle.cert_spec.specs.Stated.{Stated}
 use Rattle.cert_spec.specs.Text.{Spells}
-use Rattle.cert_spec.specs.Conditions.{FailsFirst}
-use Rattle.cert_spec.specs.PartConditions.{size_claim}
+use Rattle.cert_spec.specs.Conditions.{Claim, claim, Size, FailsFirst}
 use Rattle.cert_spec.specs.Grammar.{IsTextFault}
 use Rattle.cert_spec.specs.Verdicts.{certificate_limit, Older, serves, serves_not, unread, over_limit}
 
@@ -13,6 +12,10 @@ use Rattle.cert_spec.specs.Verdicts.{certificate_limit, Older, serves, serves_no
 pub record IsOfSize (p : Problem) (k : Proof) : Type 0 where
   pub nodes : k.size ≡ p.size
   pub candidates : k.candidates ≡ length p.candidates
+
+-- the condition of its second line
+abbrev pub size_claim : Problem → Proof → Claim
+size_claim p k = claim Size 2 ((k.size ≡ p.size) × (k.candidates ≡ length p.candidates))
 
 -- they serve where they spell a certificate of the problem's size
 abbrev pub IsSized : Problem → List ℕ → Older → Type 0

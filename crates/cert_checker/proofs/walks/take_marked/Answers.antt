@@ -1,11 +1,10 @@
-use Rattle.std.proofs.Common.{◌≡◌, ℕ, List, ◌+◌, [], ◌∷◌, ◌++◌, refl, sym, ap, subst, ◌∙◌, arith}
+use Rattle.std.proofs.Common.{◌≡◌, ◌+◌, [], ◌∷◌, ◌++◌, refl, sym, ap, subst, ◌∙◌, arith}
 use Rattle.hub_spec.specs.Problem.{commodity_at}
-use Rattle.core_spec.specs.CoreCuts.{CoreProof}
 use Rattle.cert_spec.specs.Lines.{says_marked, says_dual, says_proof}
 use Rattle.cert_spec.specs.Text.{proved_items}
 use Rattle.cert_format.proofs.MarkedLines.{proved_from, next_proved_items, none_proved_items}
 use Rattle.cert_conditions.specs.ListLines.{MayTakeLines, TakesLines}
-use Rattle.cert_checker.proofs.Walking.{may_first, front_start, front_more, front_may, front_end}
+use Rattle.cert_checker.proofs.Walking.{may_first, may_then, then_takes, front_start, front_more, front_may, front_end}
 use Rattle.cert_checker.proofs.Holding.{dual_known}
 use Rattle.cert_checker.proofs.walks.take_marked.Goals as goal
 
@@ -30,3 +29,18 @@ loop-t-init c =
           c.in_ok-take_line.ensures.taken));
       instance = c.in_ok-take_line.ensures.instance;
     }
+
+pub take_line-2-requires-clause-may : goal.take_line-2-requires-clause-may
+take_line-2-requires-clause-may c =
+    let cut = c.args.cut.now in
+    let t = c.loop-t.t in
+    let proof = c.index-proofs-t.result in
+    let line = says_dual (commodity_at c.args.n t) 1 c.dual-dual.result in
+    let after = says_proof proof ∷ proved_from c.args.n (t + 1) cut.duals c.args.mark.now.proofs in
+    front_may (line ∷ []) after c.requires.may c.loop-t.invariant.front
+    (sym (next_proved_items c.args.n t cut.duals c.args.mark.now.proofs c.dual-dual.result proof (omega arith) c.requires.proved c.dual-dual.ensures ?))
+
+pub take_line-2-requires-clause-known : goal.take_line-2-requires-clause-known
+take_line-2-requires-clause-known c =
+    dual_known c.args.n c.loop-t.t c.args.cut.now c.dual-dual.result c.args.known (ap (λ i. i.now) c.loop-t.invariant.instance) (omega arith)
+    c.dual-dual.ensures c.requires.known

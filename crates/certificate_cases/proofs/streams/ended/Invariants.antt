@@ -1,5 +1,5 @@
 use Rattle.std.proofs.Common.{ℕ, List}
-use Rattle.cert_stream.specs.Fed.{HasFed}
+use Rattle.cert_checker.specs.Fed.{HasFed}
 use Rattle.certificate_cases.proofs.streams.ended.Given as goal
 
 abbrev pub invariant-loop-piece : goal.invariant-loop-piece

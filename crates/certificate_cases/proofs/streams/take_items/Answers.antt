@@ -2,7 +2,7 @@ use Rattle.std.proofs.Common.{[], ◌∷◌, ◌++◌, slice_index_or, ap, sym, 
 use Rattle.std.specs.Prelude.{option_to_list}
 use Rattle.cert_scan.specs.Given.{IsGiven}
 use Rattle.cert_scan.specs.Scanned.{HasScanned}
-use Rattle.cert_stream.specs.Taken.{HasTaken}
+use Rattle.cert_conditions.specs.Taken.{HasTaken}
 use Rattle.certificate_cases.proofs.streams.take_items.Goals.{in-Some+in_ok-take-in-Some, in-None}
 use Rattle.certificate_cases.proofs.streams.take_items.Goals as goal
 

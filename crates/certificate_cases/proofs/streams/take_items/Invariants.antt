@@ -1,7 +1,7 @@
 use Rattle.std.proofs.Common.{ℕ, List}
 use Rattle.cert_scan.specs.Scanned.{HasScanned}
 use Rattle.cert_scan.specs.declared.items.Item.{Item}
-use Rattle.cert_stream.specs.Taken.{HasTaken}
+use Rattle.cert_conditions.specs.Taken.{HasTaken}
 use Rattle.certificate_cases.proofs.streams.take_items.Given as goal
 
 abbrev pub invariant-loop-byte : goal.invariant-loop-byte

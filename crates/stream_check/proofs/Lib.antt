@@ -1,3 +1,0 @@
-mod Shown
-mod Reading
-pub mod TooLong

@@ -1,4 +1,0 @@
-use Rattle.stream_check.proofs.held.feed_next.Goals as goal
-
-pub returns-clause-fed : goal.returns-clause-fed
-returns-clause-fed g c = λ bytes h. c.in_ok-stream-in-Ok.ensures.fed bytes h
