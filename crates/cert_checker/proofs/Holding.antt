@@ -1,22 +1,27 @@
 -- What is known of the lines of a cut that is held.
-use Rattle.std.proofs.Common.{◌≡◌, ℕ, ◌+◌, ◌-◌, ◌*◌, ◌/◌, ◌%◌, ◌<◌, ◌≤◌, List, [], ◌∷◌, ◌++◌, length, drop, take, get_or, replicate, Option, Some, None, refl, sym, ap, ap₂, subst, ◌∙◌, arith}
+use Rattle.std.proofs.Common.{◌≡◌, ℕ, ◌+◌, ◌-◌, ◌*◌, ◌/◌, ◌%◌, ◌<◌, ◌≤◌, List, [], ◌∷◌, ◌++◌, length, drop, take, get_or, map, replicate, All, Option, Some, None, refl, sym, ap, ap₂, subst, ◌∙◌, arith}
 use Rattle.std.specs.Prelude.{IfSome}
 use Rattle.std.specs.List.{range_with_len}
 use Rattle.std.proofs.Math.ListN.{get_or-append}
 use Rattle.std.proofs.Math.Nat.{mul-le-mul_right}
-use Rattle.std.proofs.lemmas.List.{get_or-take, get_or-drop, get_or-replicate, length-replicate}
+use Rattle.std.proofs.lemmas.List.Elements.{All-weaker}
+use Rattle.std.proofs.lemmas.List.{at_drop_more, get_or-take, get_or-drop, get_or-replicate, length-replicate}
 use Rattle.std.proofs.lemmas.List.FromFn.{get_or-range_with_len}
 use Rattle.std.proofs.lemmas.Nat.{mod-mul-add, div-mul-add}
 use Rattle.hub_spec.specs.Problem.{Problem, commodity_at}
 use Rattle.hub_spec.specs.Cuts.{Prices, Cut, IsDual}
-use Rattle.cert_spec.specs.Lines.{Item, says_dual}
+use Rattle.hub_spec.specs.Trees as Tree
+use Rattle.hub_spec.specs.Ranges.{IsLineInRange}
+use Rattle.plan_model.specs.Lines.{tree_line_of}
+use Rattle.plan_model.specs.declared.tree_lines.TreeLine.{TreeLine}
+use Rattle.cert_spec.specs.Lines.{Item, says_dual, says_tree, says_end}
 use Rattle.cert_scan.specs.Versions.{version_number, version_of}
 use Rattle.cert_scan.specs.declared.items.Version.{Version}
 use Rattle.cert_scan.specs.declared.items.Version.TheVariants.{First, Second, Third}
 use Rattle.cert_format.specs.DualItems.{row_items, dual_row, no_dual, AreEqual}
 use Rattle.cert_conditions.specs.ListLines.{IsKnownLine}
 use Rattle.cert_checker.specs.Duals.{IsDualAt}
-use Rattle.cert_checker.specs.Walks.{IsKnownCut, IsKnownRow}
+use Rattle.cert_checker.specs.Walks.{HasSmallDenominator, IsKnownCut, IsKnownRow}
 
 pub version_back : (v : Version) → version_of (version_number v) ≡ v
 version_back First = refl
@@ -82,3 +87,25 @@ dual_known {p} {q} n t cut dual (Some part) same within at h = λ s below.
 -- all duals of a cut between n nodes are feasible
 pub cut_known : (p : Problem) (cut : Cut) → ((t : ℕ) → t < length cut.duals → IsDualAt p cut.part cut.duals t) → IsKnownCut p.size p cut cut.part
 cut_known p cut h = record { each = h }
+
+-- ---- the tree
+
+-- the lines of the tree that are left, and the last line
+abbrev pub tree_left : List TreeLine → List Item
+tree_left lines = map says_tree (map tree_line_of lines) ++ says_end ∷ []
+
+pub next_tree_line : (lines : List TreeLine) (t : ℕ) (line : TreeLine) → t < length lines → line ≡ get_or lines t line
+    → tree_left (drop t lines) ≡ (says_tree (tree_line_of line) ∷ []) ++ tree_left (drop (t + 1) lines)
+next_tree_line lines t line less is =
+    at_drop_more tree_left lines t line less ∙ ap (λ (l : TreeLine). says_tree (tree_line_of l) ∷ tree_left (drop (t + 1) lines)) (sym is)
+
+-- what is in range of the lines of a tree
+pub small_denominators : (n : ℕ) (lines : List Tree.TreeLine) → All (IsLineInRange n) lines → All HasSmallDenominator lines
+small_denominators n lines h = All-weaker (IsLineInRange n) HasSmallDenominator (small n) lines h
+  where
+    small : (n : ℕ) (l : Tree.TreeLine) → IsLineInRange n l → HasSmallDenominator l
+    small n (Tree.leaf_of denom weights) h = h.1
+    small n (Tree.branch_on k) h = tt
+    small n Tree.no_hub h = tt
+    small n (Tree.no_route commodity) h = tt
+    small n Tree.no_count h = tt
