@@ -22,9 +22,9 @@ use cert_format::{CertFault, Certificate, Version, read_cert};
 use core_marks::Mark;
 use dual_lines::DualLine;
 use hub_model::{Instance, MOST_COST};
+use stated_cuts::{StatedCut, StatedDual};
 use std::alloc::{AllocError, Global};
 use std::thread::Threads;
-use stated_cuts::{StatedCut, StatedDual};
 
 /// An older certificate, by its bytes. Lines count from 1.
 #[derive(Drop)]
@@ -202,11 +202,7 @@ fn list_dual(line: &mut DualLine<'_>, commodity: (u32, u32), part: u32, dual: &S
 }
 
 // Tells whether the total of the cut and its loads of the candidates are within their limit.
-fn is_within_sums(
-    alloc: Global,
-    instance: &Instance,
-    cut: &StatedCut,
-) -> Result<bool, AllocError>
+fn is_within_sums(alloc: Global, instance: &Instance, cut: &StatedCut) -> Result<bool, AllocError>
     requires { IsCutInRange instance.now.size cut.now }
     ensures { IfOk result (λ is. IsTrue is ↔ IsWithinSums instance.now cut.now) }
 {

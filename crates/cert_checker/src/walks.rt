@@ -23,9 +23,9 @@ use cert_format::{Certificate, DualRow, Heading, run_at};
 use cert_scan::{Item, Version};
 use core_marks::{DualProof, Mark};
 use plan_model::{Mix, Plan, TreeLine};
+use stated_cuts::StatedCut;
 use std::alloc::{AllocError, Global};
 use std::thread::Threads;
-use stated_cuts::StatedCut;
 
 /// Takes all lines of the certificate, which is of the size of the check's instance. The duals of a cut are tried side by
 /// side.
@@ -79,11 +79,7 @@ fn take_top(
     Ok(())
 }
 
-fn take_head(
-    alloc: Global,
-    heading: &Heading,
-    checks: &mut Checks<'_>,
-) -> Result<(), AllocError>
+fn take_head(alloc: Global, heading: &Heading, checks: &mut Checks<'_>) -> Result<(), AllocError>
     requires { MayTakeLines checks.old (head_items (version_number heading.now.version) heading.now.size heading.now.candidates
         heading.now.cost heading.now.bound) }
     ensures taken { IfOk result (λ _. TakesLines checks.old (head_items (version_number heading.now.version) heading.now.size
@@ -267,11 +263,7 @@ fn take_marked(
 }
 
 /// Takes the lines of the tree, with how many they are in front, and the last line of the text.
-fn take_tree(
-    alloc: Global,
-    lines: &[TreeLine],
-    checks: &mut Checks<'_>,
-) -> Result<(), AllocError>
+fn take_tree(alloc: Global, lines: &[TreeLine], checks: &mut Checks<'_>) -> Result<(), AllocError>
     requires few { length lines.now < 2 ^ 32 }
     requires lines { All HasSmallDenominator (map tree_line_of lines.now) }
     requires may { MayTakeLines checks.old (tree_items (map tree_line_of lines.now)) }
@@ -286,11 +278,7 @@ fn take_tree(
     Ok(())
 }
 
-fn take_tree_line(
-    alloc: Global,
-    line: &TreeLine,
-    checks: &mut Checks<'_>,
-) -> Result<(), AllocError>
+fn take_tree_line(alloc: Global, line: &TreeLine, checks: &mut Checks<'_>) -> Result<(), AllocError>
     requires line { HasSmallDenominator (tree_line_of line.now) }
     requires may { MayTakeLines checks.old (says_tree (tree_line_of line.now) ∷ []) }
     ensures taken { IfOk result (λ _. TakesLines checks.old (says_tree (tree_line_of line.now) ∷ []) checks.new) }

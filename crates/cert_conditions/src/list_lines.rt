@@ -10,8 +10,8 @@ use crate::checks::Checks;
 use cert_scan::Item;
 use core_marks::DualProof;
 use plan_model::Mix;
-use std::alloc::{AllocError, Global};
 use stated_cuts::StatedDual;
+use std::alloc::{AllocError, Global};
 
 /// A line that lists something. Nodes count from 0, cuts from 1.
 #[derive(Drop)]
@@ -34,7 +34,10 @@ pub enum ListLine<'a> {
     /// The proof of the dual before it.
     Proof(&'a DualProof),
     /// A leaf, with the weights of this mix and its denominator.
-    Leaf { denom: u32, mix: &'a Mix },
+    Leaf {
+        denom: u32,
+        mix: &'a Mix,
+    },
 }
 
 impl<'a> ListLine<'a> {
@@ -81,13 +84,7 @@ fn mark_item(x: u32, part: u32, hubs: &[u32], at: usize, last: bool) -> Item
     }
 }
 
-fn dual_item(
-    commodity: (u32, u32),
-    run: u32,
-    dual: &StatedDual<'_>,
-    at: usize,
-    last: bool,
-) -> Item
+fn dual_item(commodity: (u32, u32), run: u32, dual: &StatedDual<'_>, at: usize, last: bool) -> Item
     requires { at ≤ length dual.now.u }
     ensures { result ≡ line_item (says_dual commodity run dual.now) at last }
 {

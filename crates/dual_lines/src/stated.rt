@@ -15,12 +15,7 @@ const ROOM: usize = MOST_NODES as usize;
 
 /// Tells whether it is a feasible dual of the commodity with this part: with the values of its hubs added, no route that is
 /// allowed by way of candidates costs, times the part, less than the price, and only candidates are listed.
-pub fn is_dual(
-    instance: &Instance,
-    part: u32,
-    commodity: (u32, u32),
-    dual: &StatedDual<'_>,
-) -> bool
+pub fn is_dual(instance: &Instance, part: u32, commodity: (u32, u32), dual: &StatedDual<'_>) -> bool
     requires part { part ≤ most_part }
     requires from { commodity.0 < instance.now.size }
     requires to { commodity.1 < instance.now.size }

@@ -7,7 +7,7 @@ use Rattle.cert_conditions.proofs.list_lines.Checks.take_line.Given as goal
 
 abbrev pub invariant-loop-at : goal.invariant-loop-at
 invariant-loop-at l = record {
-  taken : (lines : List Line) → HasLines lines l.initial.self → CanLead (lines ++ line_of l.line ∷ [])
+  taken : (lines : List Line) → HasLines lines l.fn.self → CanLead (lines ++ line_of l.line ∷ [])
       → HasTaken (given_at lines (line_of l.line) l.at) l.self;
-  instance : l.self.instance ≡ l.initial.self.instance;
+  instance : l.self.instance ≡ l.fn.self.instance;
 }
