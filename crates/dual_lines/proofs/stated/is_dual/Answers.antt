@@ -10,13 +10,13 @@ pub is_covered_by_amounts-requires-clause-short : goal.is_covered_by_amounts-req
 is_covered_by_amounts-requires-clause-short c =
     let p = c.args.instance.now in
     amounts_short p.size p.size c.args.dual.now.a c.args.dual.now.u c.set_amounts.new.amounts c.requires.dual
-    (record { long = search rules; each = c.set_amounts.ensures })
+    (record { long = search rules; each = c.set_amounts.ensures.amounts })
 
 pub returns : goal.returns
 returns c =
     let p = c.args.instance.now in
     dual_by_amounts p c.args.part c.args.commodity c.args.dual.now c.set_amounts.new.amounts c.is_covered_by_amounts.result
-    (record { long = search rules; each = c.set_amounts.ensures })
+    (record { long = search rules; each = c.set_amounts.ensures.amounts })
     (c.lists_candidates.ensures.0 c.if-not-lists_candidates.false)
     (subst (λ (a : ℕ). IsTrue c.is_covered_by_amounts.result ↔ IsCovered p c.args.part c.args.commodity a c.set_amounts.new.amounts) c.price-price.ensures.value
     c.is_covered_by_amounts.ensures)

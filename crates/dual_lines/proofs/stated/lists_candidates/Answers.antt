@@ -5,7 +5,9 @@ use Rattle.dual_lines.proofs.stated.lists_candidates.Goals.{After-is_among}
 
 said : (c : After-is_among) → IsTrue c.is_among.result ↔ Contains c.args.instance.now.candidates (get_or c.args.dual.now.u c.loop-at.at (0, 0)).0
 said c =
-    subst (λ (k : ℕ). IsTrue c.is_among.result ↔ Contains c.args.instance.now.candidates k) c.value.ensures.node c.is_among.ensures
+    let node = (get_or c.args.dual.now.u c.loop-at.at (0, 0)).0 in
+    subst (λ s. IsTrue c.is_among.result ↔ Contains s node) c.candidates-candidates.ensures.value
+    (subst (λ (k : ℕ). IsTrue c.is_among.result ↔ Contains c.candidates-candidates.result.now k) c.value.ensures.node c.is_among.ensures)
 
 pub returns-then-not-is_among : goal.returns-then-not-is_among
 returns-then-not-is_among c =
@@ -15,8 +17,8 @@ returns-then-not-is_among c =
 pub loop-at-preserved : goal.loop-at-preserved
 loop-at-preserved c =
     all_goes_on (λ (e : ℕ × ℕ). Contains c.args.instance.now.candidates e.0) c.args.dual.now.u c.loop-at.at (0, 0) c.is_among.result
-    (omega arith) (said (goal.at.loop-at-preserved c).After-is_among) c.if-not-is_among.false c.loop-at.atnvariant
+    (omega arith) (said (goal.at.loop-at-preserved c).After-is_among) c.if-not-is_among.false c.loop-at.invariant
 
 pub returns : goal.returns
 returns c =
-    all_ended (λ (e : ℕ × ℕ). Contains c.args.instance.now.candidates e.0) c.args.dual.now.u c.loop-at.at (omega arith) c.loop-at.atnvariant
+    all_ended (λ (e : ℕ × ℕ). Contains c.args.instance.now.candidates e.0) c.args.dual.now.u c.loop-at.at (omega arith) c.loop-at.invariant
