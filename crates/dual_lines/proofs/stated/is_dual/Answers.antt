@@ -18,5 +18,5 @@ returns c =
     dual_by_amounts p c.args.part c.args.commodity c.args.dual.now c.set_amounts.new.amounts c.is_covered_by_amounts.result
     (record { long = search rules; each = c.set_amounts.ensures.amounts })
     (c.lists_candidates.ensures.0 c.if-not-lists_candidates.false)
-    (subst (λ (a : ℕ). IsTrue c.is_covered_by_amounts.result ↔ IsCovered p c.args.part c.args.commodity a c.set_amounts.new.amounts) c.price-price.ensures.value
+    (subst (λ (a : ℕ). IsTrue c.is_covered_by_amounts.result ↔ IsCovered p c.args.part c.args.commodity a c.set_amounts.new.amounts) c.price.ensures.value
     c.is_covered_by_amounts.ensures)
