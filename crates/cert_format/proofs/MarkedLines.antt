@@ -78,7 +78,7 @@ next_proved n t duals proofs dual proof below each at_dual at_proof =
     ap (flat_map line_bytes) (next_proved_items n t duals proofs dual proof below each at_dual at_proof)
 
 -- where there is no proof
-abbrev no_proof : CoreProof
+abbrev pub no_proof : CoreProof
 no_proof = record { turns = 0; scale = 0; ways = [] }
 
 -- the same of the dual alone
