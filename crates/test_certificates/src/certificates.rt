@@ -31,12 +31,12 @@ mod sinks;
 mod streams;
 mod texts;
 
-use test_lines::instance_of_fields;
 use hub_model::Instance;
 use names::{instance_in, is_name, text_in};
 use std::alloc::Global;
 use std::io;
 use std::thread::Threads;
+use test_lines::instance_of_fields;
 
 /// Prints each line, and below it what its calls gave.
 pub(crate) fn tell<R: Print + Threads + Sync>(

@@ -23,10 +23,10 @@ mod numbers;
 mod plans;
 mod trees;
 
-use test_lines::instance_of_fields;
 use hub_model::Instance;
 use std::alloc::Global;
 use std::io;
+use test_lines::instance_of_fields;
 
 /// Prints each line, and below it what its calls gave.
 pub(crate) fn tell(rt: &impl Print, alloc: Global, cases: &str) -> io::Result<()> {

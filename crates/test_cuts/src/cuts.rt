@@ -20,10 +20,10 @@ mod texts;
 mod units;
 mod values;
 
-use test_lines::{first, instance_line, named_instance};
 use hub_model::Instance;
 use std::alloc::{AllocError, Global};
 use std::io;
+use test_lines::{first, instance_line, named_instance};
 
 /// Prints each line with its answer. Each paragraph has lines that ask of its first instance.
 pub(crate) fn tell(rt: &HostRuntime, cases: &str) -> io::Result<()> {

@@ -16,11 +16,11 @@ mod plain;
 mod routes;
 mod texts;
 
-use test_lines::{first, instance_line};
 use hub_model::Instance;
 use instances::instance_of;
 use std::alloc::{AllocError, Global};
 use std::io;
+use test_lines::{first, instance_line};
 
 /// Prints each line with its answer. Each paragraph has lines that ask of its first instance.
 pub(crate) fn tell(rt: &HostRuntime, cases: &str) -> io::Result<()> {

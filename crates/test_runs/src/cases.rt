@@ -9,10 +9,11 @@
 //! - `f TEXT`: the file `f` is this text from now on
 //! - `run WORD ..`: the number of the status, and what is put on out and err
 //! - `keep WORD ..`: the number of the status; the file `g` is what was put on out from now on
+//! - `hold WORD ..`: the same of the file `f`
 //! - `reads WORD ..`: how many runs differ, of those whose reads give at most 1 byte, 2 bytes and so on up to more than the longest file has
 //! - `failing WORD ..`: how many calls of the shelf a run makes, with reads of at most ten bytes, and how many of
 //!   them are told where they fail
-//! - `counted WORD ..`: as `run`, and how often each of the first 51 blocks passed the gate, and what else did
+//! - `counted WORD ..`: the number of the status, the lines of out with size, cost, bound, cuts and nodes, how often each of the first 51 blocks passed the gate, and what else did
 //! - `numbers`: the numbers of all statuses
 
 use crate::counting::counted;
@@ -72,9 +73,24 @@ fn answer<R: Threads + Sync>(
             texts.instance = String::from_str(alloc, rest)?;
             Ok(String::new(alloc))
         }
-        "keep" => keep(rt, alloc, texts, rest),
+        "keep" => {
+            let (text, told) = kept(rt, alloc, texts, rest)?;
+            texts.certificate = text;
+            Ok(told)
+        }
+        "hold" => {
+            let (text, told) = kept(rt, alloc, texts, rest)?;
+            texts.instance = text;
+            Ok(told)
+        }
         "numbers" => numbers(alloc),
-        _ => of_run(rt, alloc, &texts.folder(alloc)?, name, &words_of(alloc, rest)?),
+        _ => of_run(
+            rt,
+            alloc,
+            &texts.folder(alloc)?,
+            name,
+            &words_of(alloc, rest)?,
+        ),
     }
 }
 
@@ -95,18 +111,21 @@ fn of_run<R: Threads + Sync>(
     }
 }
 
-// Keeps what the run puts on out.
-fn keep<R: Threads + Sync>(
+// What the run puts on out, and what is printed of it.
+fn kept<R: Threads + Sync>(
     rt: &R,
     alloc: Global,
-    texts: &mut Texts,
+    texts: &Texts,
     words: &str,
-) -> Result<String, AllocError> {
+) -> Result<(String, String), AllocError> {
     let words = words_of(alloc, words)?;
     let folder = texts.folder(alloc)?;
-    let ran = run_over(rt, alloc, &words, &folder, Faults::none(alloc), &OpenGate)?;
-    texts.certificate = String::from_utf8_lossy(alloc, &ran.out)?;
-    format!(in alloc; "status {}\n", ran.status.number())
+    let mut faults = Faults::none(alloc);
+    faults.much_room = true;
+    let ran = run_over(rt, alloc, &words, &folder, faults, &OpenGate)?;
+    let text = String::from_utf8_lossy(alloc, &ran.out)?;
+    let told = format!(in alloc; "status {}\n", ran.status.number())?;
+    Ok((text, told))
 }
 
 fn numbers(alloc: Global) -> Result<String, AllocError> {

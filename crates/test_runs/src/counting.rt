@@ -52,7 +52,7 @@ impl Gate for Counting {
     }
 }
 
-/// What the run ends with, and what passed.
+/// The numbers of what the run ends with, and what passed.
 pub(crate) fn counted<R: Threads + Sync>(
     rt: &R,
     alloc: Global,
@@ -60,8 +60,10 @@ pub(crate) fn counted<R: Threads + Sync>(
     words: &[String],
 ) -> Result<String, AllocError> {
     let gate = Counting::new(alloc)?;
-    let ran = run_over(rt, alloc, words, folder, Faults::none(alloc), &gate)?;
-    let ended = ran.told(alloc)?;
+    let mut faults = Faults::none(alloc);
+    faults.much_room = true;
+    let ran = run_over(rt, alloc, words, folder, faults, &gate)?;
+    let ended = ran.numbers_told(alloc)?;
     let passed = gate.told(alloc)?;
     format!(in alloc; "{ended}{passed}")
 }

@@ -2,9 +2,9 @@
 
 ghost use Rattle.std.specs.Prelude.{◌≡◌, None, IfOk, IfSome};
 
-use test_lines::{list, node};
 use hub_model::{Factors, Instance, Nodes, Parts, Terms, is_cost_list, is_node_list};
 use std::alloc::{AllocError, Global};
+use test_lines::{list, node};
 
 /// The instance of the numbers behind `fixed`, `candidates`, `trunk`, `flows` and `distances`; none where they are
 /// outside the limits.

@@ -26,13 +26,13 @@ mod searches;
 mod steps;
 mod texts;
 
-use test_lines::first;
 use cert_format::Version;
 use hub_model::Instance;
 use instances::instance_of;
 use std::alloc::{AllocError, Global};
 use std::io;
 use std::thread::Threads;
+use test_lines::first;
 
 fn main(rt: HostRuntime) -> io::Result<()> {
     let mut instance = String::new(rt.alloc());

@@ -5,13 +5,13 @@ ghost use Rattle.kept_cuts.specs.Findings.{AreRemade, IsProved};
 
 use crate::texts::tree_text;
 use branch_tree::search;
-use test_lines::list;
 use hub_model::Instance;
 use hub_plain::is_hub_set;
 use kept_cuts::Found;
 use search_steps::Plain;
 use separators::Solo;
 use std::alloc::{AllocError, Global};
+use test_lines::list;
 
 /// What the search of the instance finds with the most nodes that the line names.
 pub(crate) fn found_of(alloc: Global, instance: &Instance, line: &str) -> Result<Found, AllocError>

@@ -5,7 +5,6 @@ ghost use Rattle.hub_spec.specs.Plans.{IsHubSet};
 
 use crate::instances::instance_of;
 use crate::texts::tree_text;
-use test_lines::list;
 use cut_pool::CutSums;
 use hub_model::Instance;
 use hub_plain::{is_hub_set, outside};
@@ -13,6 +12,7 @@ use plan_model::HubSet;
 use search_steps::leaf_line;
 use separators::Solo;
 use std::alloc::{AllocError, Global};
+use test_lines::list;
 
 /// The fixed costs of the nodes.
 pub(crate) fn fixed(alloc: Global, instance: &Instance) -> Result<String, AllocError> {

@@ -4,7 +4,6 @@ ghost use Rattle.std.specs.Prelude.{◌≤◌, IsTrue};
 ghost use Rattle.kept_cuts.specs.Findings.{IsUnlimited, IsProved};
 
 use crate::searches::found_of;
-use test_lines::list;
 use cert_format::{Version, put_tree, write_cert};
 use dual_lender::DualLender;
 use hub_io::{Buffer, Failed, MemSink, Partial, Sink};
@@ -13,6 +12,7 @@ use plan_model::TreeLine;
 use proof_text::{Finding, Workers, certificate_of, write_found};
 use std::alloc::{AllocError, Global};
 use std::thread::Threads;
+use test_lines::list;
 
 // More bytes than any case puts.
 const ROOM: usize = 10_000;

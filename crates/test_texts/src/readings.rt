@@ -23,9 +23,9 @@ mod made;
 mod readers;
 mod words;
 
-use test_lines::{Wrong, call_and_text, told};
 use std::alloc::Global;
 use std::io;
+use test_lines::{Wrong, call_and_text, told};
 
 /// Prints each line with what its call gave.
 pub(crate) fn tell(rt: &HostRuntime, cases: &str) -> io::Result<()> {

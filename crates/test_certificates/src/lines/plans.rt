@@ -2,11 +2,11 @@
 
 ghost use Rattle.std.specs.Prelude.{◌≡◌, ◌<◌, []};
 
-use test_lines::nodes;
 use hub_model::Instance;
 use plan_lines::{PlanSums, is_candidate};
 use std::alloc::{AllocError, Global};
 use std::io;
+use test_lines::nodes;
 
 // The nodes that are looked at are those below this one.
 const LIMIT: u32 = 4;

@@ -5,12 +5,12 @@ ghost use Rattle.hub_spec.specs.Plans.{IsHubSet};
 ghost use Rattle.hub_spec.specs.Separation.{IsOrder};
 
 use super::texts::dual_told;
-use test_lines::node;
 use dual_cuts::dual_of;
 use hub_edges::EdgeRow;
 use hub_model::Instance;
 use plan_model::HubSet;
 use std::alloc::{AllocError, Global};
+use test_lines::node;
 
 /// The row of the line's commodity.
 pub fn asked(alloc: Global, instance: &Instance, line: &str) -> Result<String, AllocError> {

@@ -5,12 +5,12 @@ ghost use Rattle.hub_spec.specs.Separation.{IsOrder};
 
 use super::{cuts, edges, origins};
 use assign_sub::{assign, set_cost};
-use test_lines::{first, list, node};
 use hub_model::Instance;
 use hub_plain::{is_hub_set, outside};
 use pareto_cuts::order_of;
 use plan_model::HubSet;
 use std::alloc::{AllocError, Global};
+use test_lines::{first, list, node};
 
 /// What is asked of the hubs that the line names.
 pub fn asked(alloc: Global, instance: &Instance, line: &str) -> Result<String, AllocError> {

@@ -4,8 +4,8 @@ ghost use Rattle.std.specs.Prelude.{◌≡◌, ◌+◌, ◌≤◌, All, IsTrue, 
 ghost use Rattle.unit_duals.specs.Limits.{most_leg};
 ghost use Rattle.unit_duals.specs.Lengths.{AreFirstLegs};
 
-use test_lines::{list, number};
 use std::alloc::{AllocError, Global};
+use test_lines::{list, number};
 use unit_duals::{Legs, Tables, UnitDuals};
 
 /// The most destinations and the most stops of a case.

@@ -5,9 +5,9 @@ ghost use Rattle.value_cuts.specs.Values.{AreValuesFor, allowed_price, node_valu
 ghost use Rattle.value_cuts.specs.HeldRows.{IsSameShape};
 
 use super::texts::{dual_told, sums_told};
-use test_lines::{list, node};
 use hub_model::Instance;
 use std::alloc::{AllocError, Global};
+use test_lines::{list, node};
 use value_cuts::{CandidateLegs, DualScratch, PriceScratch, Values, cut_sums, price};
 
 /// What is asked of one row of values in a unit, which has a value for each candidate.

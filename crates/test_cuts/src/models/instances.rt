@@ -1,9 +1,9 @@
 //! Instances, each by a line.
 
-use test_lines::{behind, named_instance};
 use hub_model::Instance;
 use std::alloc::{AllocError, Global};
 use test_instances::{LINE_OF_THREE, NoInstance, THREE_COSTS, instance};
+use test_lines::{behind, named_instance};
 
 /// The instance of a line, as it stands, or what is wrong with it.
 pub fn told(alloc: Global, line: &str) -> Result<String, AllocError> {

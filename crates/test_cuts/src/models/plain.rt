@@ -3,7 +3,6 @@
 ghost use Rattle.std.specs.Prelude.{◌<◌};
 ghost use Rattle.hub_spec.specs.Plans.{IsHubSet};
 
-use test_lines::{first, list, node};
 use hub_model::Instance;
 use hub_plain::{
     assign, best_plan, is_hub_set, is_plan, least_route, minimal_dual, outside, set_cost,
@@ -11,6 +10,7 @@ use hub_plain::{
 };
 use plan_model::{HubSet, plan_cost};
 use std::alloc::{AllocError, Global};
+use test_lines::{first, list, node};
 
 /// What an optimal plan costs, by its routes, if there is one.
 pub fn best(alloc: Global, instance: &Instance) -> Result<String, AllocError> {

@@ -1,9 +1,9 @@
 //! Routes and branches of an instance.
 
-use test_lines::{first, node};
 use hub_model::{Instance, route_cost};
 use plan_model::Branch;
 use std::alloc::{AllocError, Global};
+use test_lines::{first, node};
 
 /// The costs of all routes: from and to each node, by each two hubs.
 pub fn routes(alloc: Global, instance: &Instance) -> Result<String, AllocError> {

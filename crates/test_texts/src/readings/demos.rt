@@ -1,10 +1,10 @@
 //! Made-up instances, and the lines of a demonstration.
 
-use test_lines::{Wrong, comma_list};
 use hub_demo::{made_instance, put_demo};
 use hub_io::{Failed, MemSink};
 use hub_model::Instance;
 use std::alloc::{AllocError, Global};
+use test_lines::{Wrong, comma_list};
 
 /// The instance of a seed and a number of nodes.
 pub(crate) fn instance(alloc: Global, seed: &str, nodes: &str) -> Result<String, Wrong> {

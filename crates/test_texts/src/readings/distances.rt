@@ -1,8 +1,8 @@
 //! Distances in the plane, and roots.
 
-use test_lines::Wrong;
 use fixed_distance::{distance, root};
 use std::alloc::Global;
+use test_lines::Wrong;
 
 /// The distance of two points so far apart, divided.
 pub(crate) fn distance_told(

@@ -3,11 +3,11 @@
 ghost use Rattle.std.specs.Prelude.{◌≤◌};
 ghost use Rattle.file_spec.specs.Limits.{most_divisor};
 
-use test_lines::{Wrong, bytes_of};
 use hub_model::{MOST_DIVISOR, MOST_NODES, Numbers, Order, Parts, Refusal, Tail, Terms};
 use instance_ap::read_ap;
 use instance_cab::{read_costs, read_matrix, read_rows};
 use std::alloc::{AllocError, Global};
+use test_lines::{Wrong, bytes_of};
 
 /// A file in the layout `cab-matrix`.
 pub(crate) fn matrix(

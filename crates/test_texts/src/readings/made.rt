@@ -1,8 +1,8 @@
 //! The texts of made-up instances.
 
-use test_lines::Wrong;
 use hub_make::instance_text;
 use std::alloc::{AllocError, Global};
+use test_lines::Wrong;
 
 /// The text of a seed and a number of nodes.
 pub(crate) fn text(alloc: Global, seed: &str, nodes: &str) -> Result<String, Wrong> {

@@ -1,9 +1,9 @@
 //! The tokens of a file in turn, each as what it is to be.
 
 use super::files::numbers_told;
-use test_lines::{Wrong, bytes_of};
 use hub_model::{InstanceFault, Numbers, Refusal};
 use std::alloc::{AllocError, Global};
+use test_lines::{Wrong, bytes_of};
 use token_reader::Reader;
 
 /// What each read gives.

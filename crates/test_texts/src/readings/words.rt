@@ -1,9 +1,9 @@
 //! The words of a command line, and what they ask for.
 
-use test_lines::Wrong;
 use hub_model::Terms;
 use hub_words::{Command, How, Making, Search, SearchRule, Solving, Source, asked};
 use std::alloc::{AllocError, Global};
+use test_lines::Wrong;
 
 /// The command that the words of a text are, which single spaces separate.
 pub(crate) fn told(alloc: Global, text: &str) -> Result<String, Wrong> {

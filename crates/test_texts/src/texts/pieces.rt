@@ -1,7 +1,7 @@
 //! Pieces of a line, and how bytes are printed.
 
-use test_lines::{Wrong, bytes_of};
 use std::alloc::{AllocError, Global};
+use test_lines::{Wrong, bytes_of};
 
 /// The bytes of a word: those of its text, or of `TEXT*COUNT` that text so many times.
 pub(crate) fn piece(alloc: Global, word: &str) -> Result<Vec<u8>, Wrong> {

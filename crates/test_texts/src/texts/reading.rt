@@ -1,8 +1,8 @@
 //! Numbers and tokens that are read.
 
-use test_lines::{Wrong, bytes_of};
 use dec_text::{Tokens, read_count, read_decimal};
 use std::alloc::{AllocError, Global};
+use test_lines::{Wrong, bytes_of};
 
 /// What a token writes in units of 10^-places.
 pub(crate) fn decimal(alloc: Global, places: &str, text: &str) -> Result<String, Wrong> {

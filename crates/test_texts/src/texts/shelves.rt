@@ -1,9 +1,9 @@
 //! Files read from a shelf, and a gate that is passed.
 
 use super::pieces::{piece, shown};
-use test_lines::{Wrong, comma_list};
 use hub_io::{Failed, Gate, MemFile, MemShelf, OpenGate, ReadEnd, Shelf, read_whole};
 use std::alloc::{AllocError, Global};
+use test_lines::{Wrong, comma_list};
 
 /// The calls of a text in turn, on a shelf with its files, and what each gives.
 pub(crate) fn calls(alloc: Global, faults: &[&str], text: &str) -> Result<String, Wrong> {

@@ -1,9 +1,9 @@
 //! Pieces put on a sink, and through a buffer.
 
 use super::pieces::{piece, shown};
-use test_lines::Wrong;
 use hub_io::{Buffer, Failed, MemSink, Partial, Sink};
 use std::alloc::{AllocError, Global};
+use test_lines::Wrong;
 
 /// The sink that the words say.
 pub(crate) fn sink_of(alloc: Global, words: &[&str]) -> Result<MemSink, Wrong> {

@@ -2,10 +2,10 @@
 
 use super::pieces::shown;
 use super::sinks::{sink_of, tell, tell_end};
-use test_lines::Wrong;
 use dec_text::{Piece, put_fixed, put_line, put_number, put_pieces};
 use hub_io::{Buffer, Failed, MemSink};
 use std::alloc::{AllocError, Global};
+use test_lines::Wrong;
 
 // Room for any number.
 const ROOM: usize = 100;
