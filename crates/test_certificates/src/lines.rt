@@ -30,14 +30,14 @@ use test_lines::instance_of_fields;
 
 /// Prints each line, and below it what its calls gave.
 pub(crate) fn tell(rt: &impl Print, alloc: Global, cases: &str) -> io::Result<()> {
-    let mut given = "";
+    let mut given = String::new(alloc);
     for line in cases.lines() {
         if let Some(numbers) = line.strip_prefix("instance ") {
-            given = numbers;
+            given = String::from_str(alloc, numbers)?;
         }
         if !line.is_empty() {
             println!(rt; "{line}")?;
-            answer(rt, alloc, given, line)?;
+            answer(rt, alloc, given.as_str(), line)?;
         }
     }
     Ok(())
