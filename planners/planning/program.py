@@ -34,7 +34,7 @@ MOST_STATUS = 15
 
 def program() -> str:
     """The program that HUB in the environment names, or the one of this repository, or the one of the path. A fault where
-    that of this repository is not built yet: no script begins with half an hour in which it shows nothing."""
+    that of this repository is not built yet: no script begins with an hour or more in which it shows nothing."""
     own = Path(__file__).resolve().parents[2] / "hub"
     named = os.environ.get("HUB") or (str(own) if own.is_file() else "hub")
     found = shutil.which(named)
