@@ -60,6 +60,7 @@ def page_data(named: Named, places: "np.ndarray", note: str) -> dict[str, object
         "extent": extent,
         "note": note.replace("\n", " "),
         "hubs": hubs,
+        "existing": sorted(named.existing),
         "hubRows": hub_rows(network),
         "trunkRows": [
             [start, stop, trimmed(flow_text(load.flow)), trimmed(cost_text(load.cost))]
@@ -96,6 +97,7 @@ def page_text(named: Named, places: "np.ndarray", note: str, title: str, command
         "status": "optimal" if named.verdict.is_optimal() else "bounds",
         "verdict": html.escape(verdict_text(named)),
         "line": html.escape(named.verdict.line()),
+        "spent": f"<p>Hubs {html.escape(named.spent())}.</p>" if named.existing else "",
         "command": html.escape(command),
         "style": (PARTS / "page.css").read_text(encoding="utf-8"),
         "script": (PARTS / "page.js").read_text(encoding="utf-8"),
@@ -106,13 +108,18 @@ def page_text(named: Named, places: "np.ndarray", note: str, title: str, command
     return first + "".join(texts[name] + after for name, after in pieces)
 
 
+def parser() -> Parser:
+    """The command line."""
+    words = Parser(description=__doc__.split(": ")[1], epilog=EPILOG)
+    add_accepted(words)
+    words.add_argument("--title", default="", help="the title of the page")
+    words.add_argument("--out", type=Path, required=True, help="the page: a name that ends in .html")
+    return words
+
+
 def main(words: list[str]) -> int:
     """Writes the page of a network."""
-    parser = Parser(prog="page", description=__doc__.split(": ")[1], epilog=EPILOG)
-    add_accepted(parser)
-    parser.add_argument("--title", default="", help="the title of the page")
-    parser.add_argument("--out", type=Path, required=True, help="the page: a name that ends in .html")
-    args = parser.parse_args(words)
+    args = parser().parse_args(words)
     if args.out.suffix != ".html":
         raise Fault(f"--out wants a name that ends in .html, found '{args.out}'")
     pythons.want("numpy")

@@ -9,7 +9,7 @@ from pathlib import Path
 
 from . import pythons
 from .convert import add_tables, listed, read_tables, with_distances
-from .faults import Fault, Parser
+from .faults import Fault, Parser, called
 from .files import put_all
 from .options import OF_SEARCH, add_valued, values_of
 from .progress import Steps
@@ -23,7 +23,7 @@ OF_INSTANCE = ["divide", "collect", "trunk", "deliver", "fixed", "hubs", "max-le
 
 def parser() -> Parser:
     """The command line."""
-    words = Parser(prog="study", description=__doc__.split(": ")[1], epilog=EPILOG)
+    words = Parser(description=__doc__.split(": ")[1], epilog=EPILOG)
     add_tables(words)
     add = words.add_argument
     add("--out", type=Path, required=True, metavar="FOLDER", help="the folder for all that comes out")
@@ -33,6 +33,8 @@ def parser() -> Parser:
     add_valued(group, OF_INSTANCE)
     several = "which nodes may be hubs: names or numbers with commas between"
     group.add_argument("--candidates", metavar="LIST", help=several)
+    spent = "hubs that exist, in place of the column in NODES: their costs are spent and count as 0"
+    group.add_argument("--existing", metavar="LIST", help=spent)
     group.add_argument("--no-self", action="store_true", help="flows from a node to itself count as 0")
     add_valued(group, OF_SEARCH)
     begin = "begin the search with what this older certificate says, where this hub has the option"
@@ -46,9 +48,15 @@ def question_for(args: argparse.Namespace, source: Source) -> Question:
     values = values_of(args, OF_INSTANCE)
     if "fixed" in values:
         source = replace(source, fixed=None)
+    if args.existing is not None:
+        nodes = listed(source, "--existing", args.existing)
+        source = replace(source, existing=[node in nodes for node in range(source.size())])
     if args.candidates is not None:
-        nodes = sorted(node + 1 for node in listed(source, "--candidates", args.candidates))
-        values["candidates"] = ",".join(map(str, nodes))
+        nodes = sorted(listed(source, "--candidates", args.candidates))
+        idle = [source.names[i] for i, exists in enumerate(source.existing or []) if exists and i not in nodes]
+        if idle:
+            raise Fault(f"{idle[0]} has a hub already, and is not among --candidates")
+        values["candidates"] = ",".join(str(node + 1) for node in nodes)
     search = {"verb": "solve" if args.solve else "optimize"} | values_of(args, OF_SEARCH)
     layout, source = ("ap", source) if source.points else ("cab-matrix", with_distances(source, args.unit))
     return replace(question_of(source, layout, values, args.no_self, **search), older=args.older)
@@ -65,16 +73,17 @@ def study(args: argparse.Namespace, steps: Steps) -> list[str]:
     question, note = served(asked)
     if not is_answered(question, args.out):
         if note:
-            steps.tell(f"study: {note}")
+            steps.tell(f"{called()}: {note}")
         steps.begin(f"hub {question.verb}")
         answer(question, args.out, steps.look, stale=RESULTS)
     steps.begin("tables, map and page")
     named = answer_in(question, args.out)
     results = all_results(named, question.options(args.out), args.out, args.title, not args.no_map)
     put_all({args.out / name: content for name, content in results.items()})
-    names = ", ".join(named.names[hub] for hub in named.network.plan.hubs)
     gap = [] if named.verdict.is_optimal() else [f"gap: {named.verdict.short_gap()} of the cost"]
-    return [named.verdict.line(), *gap, f"hubs: {names}", str(args.out / PAGE)]
+    hubs = f"hubs: {named.names_of(named.network.plan.hubs)}"
+    spent = [named.spent()] if named.existing else []
+    return [named.verdict.line(), *gap, hubs, *spent, str(args.out / PAGE)]
 
 
 def main(words: list[str]) -> int:

@@ -6,6 +6,7 @@ const data = JSON.parse(document.getElementById("data").textContent);
 const size = data.names.length;
 const hubs = data.hubs;
 const isHub = new Set(hubs);
+const exists = new Set(data.existing);
 const nodes = [...Array(size).keys()];
 const words = (rows) => rows.map((row) => row.split(" "));
 const flows = words(data.flows);
@@ -274,11 +275,12 @@ function drawLines() {
 
 // The smaller marks come later, and hubs before others only if these are much smaller, so that none is hidden.
 const HUB_FIRST = 0.35;
+const SPENT = "existing, its cost counts as 0";
 const marks = [...nodes]
   .sort((a, b) => total[b] * (isHub.has(b) ? HUB_FIRST : 1) - total[a] * (isHub.has(a) ? HUB_FIRST : 1))
   .map((node) => {
     const kind = isHub.has(node) ? "rect" : "circle";
-    const label = data.names[node] + (isHub.has(node) ? ", hub" : "");
+    const label = titleOf(node);
     const mark = drawn(kind, { "data-node": node + 1, tabindex: 0, role: "button", "aria-label": label }, layers.marks);
     mark.told = () => nodeText(node);
     mark.addEventListener("click", (event) => { event.stopPropagation(); choose(node); });
@@ -286,8 +288,14 @@ const marks = [...nodes]
     return [node, mark];
   });
 
+// A place with what it is.
+function titleOf(node) {
+  const kinds = [...(isHub.has(node) ? ["hub"] : []), ...(exists.has(node) ? [SPENT] : [])];
+  return [data.names[node], ...kinds].join(", ");
+}
+
 function nodeText(node) {
-  const text = [data.names[node] + (isHub.has(node) ? ", hub" : "")];
+  const text = [titleOf(node)];
   text.push(`flow out ${flowText(out[node])}`, `flow in ${flowText(into[node])}`);
   if (isHub.has(node)) {
     const row = data.hubRows[hubs.indexOf(node)];
@@ -301,6 +309,7 @@ function placeMarks() {
     const [x, y] = spot(node);
     const r = radius(node);
     mark.setAttribute("class", isHub.has(node) ? "node hub" : "node");
+    mark.classList.toggle("exists", exists.has(node));
     mark.classList.toggle("selected", shown.place === node);
     mark.classList.toggle("unserved", shown.origins !== null && !shown.origins.has(node));
     const shape = isHub.has(node) ? { x: x - r, y: y - r, width: 2 * r, height: 2 * r } : { cx: x, cy: y, r };
@@ -426,6 +435,11 @@ function legend(someLeftOut, mostTrunk, trunks, spokes) {
   const square = drawn("svg", { width: 16, height: 16 });
   drawn("rect", { class: "node hub", x: 2, y: 2, width: 12, height: 12 }, square);
   entries.push(make("span", {}, square, "hub"));
+  if (exists.size) {
+    const ring = drawn("svg", { width: 16, height: 16 });
+    drawn("rect", { class: "node hub exists", x: 2, y: 2, width: 12, height: 12 }, ring);
+    entries.push(make("span", {}, ring, SPENT));
+  }
   if (shown.place !== null) {
     entries.push(...["first", "middle", "last"].map((kind) => line(kind, 4, KINDS[kind])));
   } else {
@@ -461,7 +475,7 @@ function details() {
   const turn = (from, text) => make("button", { type: "button", "aria-pressed": String(shown.from === from),
     onclick: () => { shown.from = from; shown.route = null; update(); } }, text);
   box.replaceChildren(
-    heading(data.names[place], isHub.has(place) ? "hub" : ""),
+    heading(data.names[place], titleOf(place).slice(data.names[place].length + 2)),
     ...(isHub.has(place) ? loads(place) : []),
     make("p", {}, "Routes ", turn(true, "from here"), " ", turn(false, "to here"), " ",
       make("button", { type: "button", onclick: () => choose(null) }, "close")),
