@@ -158,7 +158,8 @@ class Sweep:
             return command(
                 "resolve", scenario.options, self.file(older, "cert"), extra=scenario.search_words(("format",))
             )
-        begin = [f"--from={self.file(older, 'cert')}"] if older else []
+        first = self.file(older, "cert") if older else scenario.begin
+        begin = [f"--from={first}"] if first else []
         return command(scenario.command, scenario.options, extra=[*scenario.search_words(), *begin])
 
     def solve(self, scenario: Scenario, folder: Path, stop: Event) -> Result:
@@ -205,10 +206,14 @@ class Sweep:
             outcome = best_found(scenario.options, certificate, self.names, verb, scenario.search)
         return Result(key, outcome, verdict=said, **used)
 
-    def write_results(self) -> list[Result]:
-        """Writes the table of results once all scenarios are done, and removes what killed processes have left."""
+    def clean(self) -> None:
+        """Removes what killed processes have left."""
         for left in (self.folder / "rows").glob(f"*{AT_WORK}*"):
             shutil.rmtree(left, ignore_errors=True)
+
+    def write_results(self) -> list[Result]:
+        """Writes the table of results once all scenarios are done."""
+        self.clean()
         results = [result for scenario in self.scenarios if (result := self.result(scenario))]
         columns = list(self.scenarios[0].cells)
         shown = SHOWN + (OF_AGAIN if any(scenario.again_by for scenario in self.scenarios) else [])

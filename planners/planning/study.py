@@ -8,16 +8,21 @@ from dataclasses import replace
 from pathlib import Path
 
 from . import pythons
+from .alternatives import Alternatives
+from .asking import Asking, Means, ask_all
 from .convert import add_tables, listed, read_tables, with_distances
 from .faults import Fault, Parser, called
 from .files import put_all
 from .options import OF_SEARCH, add_valued, values_of
 from .progress import Steps
-from .report_files import PAGE, RESULTS, all_results
-from .solving import Question, answer, answer_in, is_answered, question_of, served
+from .report_files import OF_WHAT_IF, PAGE, RESULTS, all_results
+from .solving import CERTIFICATE, Question, answer, answer_in, is_answered, question_of, served
 from .sources import Source
 from .sweep import stop_as_by_hand
+from .what_if import add_asking, status_of, test_asking
 
+ASKED_FURTHER = "what-if"
+"""The folder, in that of the study, which keeps what is done of further questions."""
 OF_INSTANCE = ["divide", "collect", "trunk", "deliver", "fixed", "hubs", "max-length"]
 
 
@@ -39,6 +44,9 @@ def parser() -> Parser:
     add_valued(group, OF_SEARCH)
     begin = "begin the search with what this older certificate says, where this hub has the option"
     group.add_argument("--from", dest="older", type=Path, metavar="OLD", help=begin)
+    asked = words.add_argument_group("what if", "the network without each hub, and with further places as hubs")
+    asked.add_argument("--what-if", action="store_true", help="ask this too, for what-if.csv, what-if.png and the page")
+    add_asking(asked)
     group.add_argument("--solve", action="store_true", help="by hub solve, for up to some 25 nodes, not hub optimize")
     return words
 
@@ -62,8 +70,8 @@ def question_for(args: argparse.Namespace, source: Source) -> Question:
     return replace(question_of(source, layout, values, args.no_self, **search), older=args.older)
 
 
-def study(args: argparse.Namespace, steps: Steps) -> list[str]:
-    """Does all that is not done; what is told at the end."""
+def study(args: argparse.Namespace, steps: Steps) -> tuple[list[str], Alternatives | None]:
+    """Does all that is not done; what is told at the end, and what came of further questions."""
     steps.begin("reading the tables")
     asked = question_for(args, read_tables(args.node_table, args.flow_table, args.delimiter))
     inputs = [args.node_table, args.flow_table]
@@ -75,32 +83,40 @@ def study(args: argparse.Namespace, steps: Steps) -> list[str]:
         if note:
             steps.tell(f"{called()}: {note}")
         steps.begin(f"hub {question.verb}")
-        answer(question, args.out, steps.look, stale=RESULTS)
+        answer(question, args.out, steps.look, stale=[*RESULTS, *OF_WHAT_IF])
+    named, options = answer_in(question, args.out), question.options(args.out)
+    found = None
+    if args.what_if:
+        steps.begin("what if")
+        asking = Asking(named, options, args.out / CERTIFICATE, question.verb, question.search, args.places)
+        means = Means(args.out / ASKED_FURTHER, args.jobs, None, False)
+        found = ask_all(asking, means, lambda done, total: steps.change(f"what if: {done} of {total}"))
     steps.begin("tables, map and page")
-    named = answer_in(question, args.out)
-    results = all_results(named, question.options(args.out), args.out, args.title, not args.no_map)
+    results = all_results(named, options, args.out, args.title, not args.no_map, found)
     put_all({args.out / name: content for name, content in results.items()})
     gap = [] if named.verdict.is_optimal() else [f"gap: {named.verdict.short_gap()} of the cost"]
     hubs = f"hubs: {named.names_of(named.network.plan.hubs)}"
     spent = [named.spent()] if named.existing else []
-    return [named.verdict.line(), *gap, hubs, *spent, str(args.out / PAGE)]
+    asked = found.said() if found else []
+    return [named.verdict.line(), *gap, hubs, *spent, *asked, str(args.out / PAGE)], found
 
 
 def main(words: list[str]) -> int:
     """Does a study."""
     args = parser().parse_args(words)
+    test_asking(args)
     if args.no_map:
         pythons.want("numpy")
     else:
         pythons.want("numpy", "matplotlib", without="--no-map does without it")
     signal.signal(signal.SIGTERM, stop_as_by_hand)
-    steps = Steps(4)
+    steps = Steps(5 if args.what_if else 4)
     try:
-        lines = study(args, steps)
+        lines, found = study(args, steps)
     finally:
         steps.end()
     print("\n".join(lines))
-    return 0
+    return status_of(found) if found else 0
 
 
 EPILOG = """FOLDER has then: instance.txt and what belongs to it, certificate.txt, check.txt (what hub check says), the

@@ -10,6 +10,7 @@ import signal
 import subprocess
 import sys
 import time
+from collections.abc import Callable
 from concurrent.futures import ThreadPoolExecutor
 from dataclasses import replace
 from pathlib import Path
@@ -160,20 +161,20 @@ class Parallel:
         return (own or lines)[-1]
 
 
-def do_all(sweep: Sweep, args: argparse.Namespace, words: list[str]) -> None:
-    """Does all scenarios that are not done, and shows how far it is."""
-    left = [scenario for scenario in sweep.scenarios if not sweep.result(scenario)]
-    bar = Bar(len(sweep.scenarios))
-    bar.show(bar.total - len(left))
+def do_all(
+    sweep: Sweep, begin: Callable[[list[Scenario]], Threads | Parallel], show: Callable[[int], None]
+) -> None:
+    """Does all scenarios that are not done, by the engine that `begin` starts; `show` is told how many are done."""
+    left, total = [scenario for scenario in sweep.scenarios if not sweep.result(scenario)], len(sweep.scenarios)
+    show(total - len(left))
     if not left:
         return
-    with_parallel = args.sshlogin or (not args.plain and not args.again and shutil.which("parallel"))
-    engine = Parallel(sweep, left, args, words) if with_parallel else Threads(sweep, left, args.jobs)
+    engine = begin(left)
     try:
         while left:
             over = engine.is_over()
             left = [scenario for scenario in left if not sweep.result(scenario)]
-            bar.show(bar.total - len(left))
+            show(total - len(left))
             if over:
                 break
             time.sleep(PAUSE)
@@ -181,7 +182,7 @@ def do_all(sweep: Sweep, args: argparse.Namespace, words: list[str]) -> None:
         engine.stop()
     if left:
         said = engine.fault()
-        raise Fault(f"{len(left)} of {bar.total} scenarios were not done" + (said and f": {said}"))
+        raise Fault(f"{len(left)} of {total} scenarios were not done" + (said and f": {said}"))
 
 
 def tell(sweep: Sweep, results: list[Result]) -> int:
@@ -295,7 +296,12 @@ def main(words: list[str]) -> int:
     if resolves and not args.solve:
         print(f"{called()}: {NO_FROM}", file=sys.stderr, flush=True)
     tell_notes(notes)
-    do_all(sweep, args, words)
+    with_parallel = args.sshlogin or (not args.plain and not args.again and shutil.which("parallel"))
+
+    def begin(left: list[Scenario]) -> Threads | Parallel:
+        return Parallel(sweep, left, args, words) if with_parallel else Threads(sweep, left, args.jobs)
+
+    do_all(sweep, begin, Bar(len(scenarios)).show)
     results = sweep.write_results()
     tell_gain(results)
     return tell(sweep, results)

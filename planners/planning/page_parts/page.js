@@ -119,7 +119,7 @@ function sortable(columns, rows, foot = []) {
     isNumber ? decimalsOf(rows.map((row) => row.cells[column].text)) : null);
   const cell = ({ text, full = null }, column) => {
     const isNumber = columns[column][1];
-    const shownText = isNumber ? cut(text, decimals[column]) : text;
+    const shownText = isNumber && text ? cut(text, decimals[column]) : text;
     return make("td", { class: isNumber ? "number" : "", title: full }, shownText);
   };
   function fill() {
@@ -544,13 +544,30 @@ function parts() {
     make("span", {}, `gap ${data.gap}`));
 }
 
+// What was asked: the network without a hub, or with a place as one. Without an answer there is no number.
+const asked = (kind) => data.whatIf.filter((line) => line.kind === kind);
+const none = { text: "", by: Infinity };
+const risen = (line) => line.rise === undefined ? [none, none, { text: line.outcome, by: line.outcome }]
+  : [number(line.rise), line.percent ? number(line.percent) : none, {
+    text: (line.least === line.rise ? "" : "not proved; at least " + readable(line.least) + (line.change && "; "))
+      + line.change, by: line.change }];
+
 function tables() {
+  const losses = new Map(asked("without").map((line) => [line.node, line]));
   const hubRows = data.hubRows.map((row, place) => ({
-    cells: [name(hubs[place]), number(row.fixed), number(row.collected), number(row.delivered)],
+    cells: [name(hubs[place]), number(row.fixed), number(row.collected), number(row.delivered),
+      ...(losses.size ? risen(losses.get(hubs[place])) : [])],
     click: () => choose(hubs[place]),
   }));
   const columns = [["Hub", false], ["Fixed cost", true], ["Collects", true], ["Delivers", true]];
-  at("hub-table").append(...sortable(columns, hubRows));
+  const lost = losses.size ? [["Rise without", true], ["%", true], ["Then", false]] : [];
+  at("hub-table").append(...sortable([...columns, ...lost], hubRows));
+  const gainRows = asked("with").map((line) => ({ cells: [name(line.node), ...risen(line)],
+    click: () => choose(line.node) }));
+  at("further").hidden = gainRows.length === 0;
+  at("further-table").append(
+    ...sortable([["Place", false], ["Rise as a hub", true], ["%", true], ["Then", false]], gainRows));
+  at("risen").hidden = data.whatIf.length === 0;
   const trunkRows = data.trunkRows.map(([start, stop, flow, cost]) =>
     ({ cells: [name(start), name(stop), number(flow), number(cost)] }));
   at("trunk-table").append(...sortable([["From", false], ["To", false], ["Flow", true], ["Cost", true]], trunkRows));
