@@ -126,7 +126,8 @@ def ask_all(asking: Asking, means: Means, show: Callable[[int, int], None]) -> A
     put_all({costs_file(rows, node): asking.costs(node) for kind, node in questions if kind == WITH})
     scenarios = [asking.scenario(number, *question, rows) for number, question in enumerate(questions, 1)]
     sweep = Sweep(scenarios, means.folder, means.limit, means.keep, asking.named.names)
-    do_all(sweep, lambda left: Threads(sweep, left, means.jobs), lambda done: show(done, len(scenarios)))
+    if scenarios:
+        do_all(sweep, lambda left: Threads(sweep, left, means.jobs), lambda done: show(done, len(scenarios)))
     sweep.clean()
     lost = [Line(WITHOUT, hub, lack) for hub in asking.named.network.plan.hubs if lack]
     return Alternatives(asking.named, lost + [asking.line(scenario, sweep.result(scenario)) for scenario in scenarios])
