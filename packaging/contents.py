@@ -8,7 +8,6 @@ import subprocess
 import sys
 from datetime import datetime, timezone
 from email.utils import format_datetime
-from pathlib import Path
 
 import manuals
 from words import ROOT
@@ -23,8 +22,8 @@ LIBRARY = "usr/lib/python3/dist-packages/planning"
 OF_SOURCES = ("DECISIONS.md", "MAP.md", "TESTING.md")
 """Documents for those who change the sources, which are not packed."""
 STARTS = re.compile(r'faults\.end\("(\w+)"\)')
-COPYRIGHT = """Copyright, as of {date}: the repository from which this package was made names no holder, and has no licence.
-Nothing here grants a right to use, copy or change the files: ask those from whom you have them.
+COPYRIGHT = """Copyright, as of {date}: the repository from which this package was made names no holder.
+It has no licence. Nothing here grants a right to use, copy or change the files: ask those from whom you have them.
 
 /usr/bin/hub holds parts of the Rattle kit, which compiled it: its library and its ported crates. Their terms are
 those of the kit.

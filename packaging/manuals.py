@@ -14,6 +14,8 @@ sys.path.insert(0, str(Path(__file__).resolve().parents[1] / "planners"))
 
 from planning.version import DATE  # noqa: E402
 
+UNTITLED = ("positional arguments", "options", "optional arguments")
+"""What argparse calls the groups that a script has not named."""
 STATUSES = """.Sh EXIT STATUS
 0 where all was done, 1 where a part has no accepted certificate, 2 with one
 line on standard error where something is wrong, 130 where it was stopped.
@@ -58,7 +60,7 @@ def items(parser: argparse.ArgumentParser) -> list[str]:
     for group in parser._action_groups:
         actions = [one for one in group._group_actions if not isinstance(one, argparse._SubParsersAction)]
         if actions:
-            title = [] if group.title in ("positional arguments", "options", "optional arguments") else [f".Ss {group.title}"]
+            title = [] if group.title in UNTITLED else [f".Ss {group.title}"]
             said = [*plain(group.description), ".Pp"] if title and group.description else []
             lines += [*title, *said[:-1], ".Bl -tag -width Ds", *(line for one in actions for line in item(one)), ".El"]
     return lines

@@ -43,7 +43,8 @@ class Alternatives:
 
     def of(self, kind: str) -> list[Line]:
         """The answered lines of a kind, the least cost first."""
-        return sorted((line for line in self.lines if line.kind == kind and line.is_answered()), key=lambda line: line.cost)
+        found = [line for line in self.lines if line.kind == kind and line.is_answered()]
+        return sorted(found, key=lambda line: line.cost)
 
     def missing(self) -> list[str]:
         """What is told of each question without an answer."""

@@ -72,8 +72,8 @@ class Asking:
         return " ".join(trimmed(decimal(cost, FIXED_COST.places)) for cost in fixed) + "\n"
 
     def scenario(self, number: int, kind: str, node: int, folder: Path) -> Scenario:
-        """A question as a scenario, whose costs lie in this folder. A hub that is forced leaves the numbers of nodes and
-        candidates as they are, so that the search begins with the certificate of the network, where this `hub` can."""
+        """A question as a scenario, whose costs lie in this folder. A forced hub leaves the numbers of nodes and candidates
+        as they are, so that the search begins with the certificate of the network, where this `hub` can."""
         cells = {"asked": kind, "node": str(node + 1), "name": self.named.names[node]}
         if kind == WITHOUT:
             rest = ",".join(str(other + 1) for other in self.candidates() if other != node)

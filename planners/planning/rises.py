@@ -24,7 +24,7 @@ ROOM = 0.62
 
 
 def draw_bar(axes: Axes, found: Alternatives, line: Line, at: int) -> None:
-    """A rise with what it comes with. One that is not proved is hollow, with a dotted line from the least to the most."""
+    """A rise with what it comes with. One that is not proved is hollow, and dotted from the least to the most."""
     rise, least = (part / COST_UNITS for part in (found.rise(line), found.least_rise(line)))
     is_proved, color = line.bound == line.cost, COLORS[line.kind]
     axes.barh(at, rise, height=0.7, facecolor=color if is_proved else "white", edgecolor=color, linewidth=0.8)
@@ -45,7 +45,7 @@ def chart(found: Alternatives, title: str) -> pyplot.Figure:
     axes.set_xlim(min([0.0, *rises]), (max([0.0, *rises]) or 1) / ROOM)
     axes.set_yticks(range(len(lines)), [found.named.names[line.node] for line in lines], fontsize=8)
     axes.set_ylim(len(lines) - 0.4, -0.6)
-    axes.xaxis.set_major_formatter(FuncFormatter(lambda cost, _: readable(cost) if cost >= 0 else f"-{readable(-cost)}"))
+    axes.xaxis.set_major_formatter(FuncFormatter(lambda cost, _: "-" * (cost < 0) + readable(abs(cost))))
     axes.grid(axis="x", color="#e0e0e0")
     axes.set_axisbelow(True)
     axes.spines[["top", "right"]].set_visible(False)

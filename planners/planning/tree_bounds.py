@@ -49,7 +49,9 @@ def read_cuts(lines: Iterator[list[str]]) -> list[Cut]:
     return cuts
 
 
-def leaf_costs(words: list[str], cuts: list[Cut], fixed: list[int], candidates: list[int], at: Branch) -> dict[int, int]:
+def leaf_costs(
+    words: list[str], cuts: list[Cut], fixed: list[int], candidates: list[int], at: Branch
+) -> dict[int, int]:
     """For each candidate that is not closed there, below what no network of a leaf costs in which it is a hub; in
     10^-12, rounded down."""
     scale = int(words[1])
@@ -85,7 +87,7 @@ def words_of(file: TextIO) -> Iterator[list[str]]:
 def over_leaves(
     lines: Iterator[list[str]], cuts: list[Cut], fixed: list[int], candidates: list[int]
 ) -> dict[int, int]:
-    """The least over all leaves of a tree in preorder: after a branch the part in which its node is a hub comes first."""
+    """The least over all leaves of a tree in preorder: after a branch comes first the part in which its node is a hub."""
     least: dict[int, int] = {}
     parts = [Branch([], [])]
     while parts:

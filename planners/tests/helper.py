@@ -105,8 +105,9 @@ class InFolder(unittest.TestCase):
         size = '[ "$(wc -c <"$file")" -le 1073741824 ] || { echo "no TooLong"; exit 2; }'
         return self.standin(
             "long-hub",
-            f'case "$1" in\ncheck) for file do [ ! -f "$file" ] || {{ {size}; }}; done;;\noptimize|solve)'
-            f' {program()} "$@"; status=$?\n[ $status -gt 1 ] || truncate -s 1073741825 /proc/self/fd/1\nexit $status;;\n'
+            f'case "$1" in\ncheck) for file do [ ! -f "$file" ] || {{ {size}; }}; done;;\n'
+            f'optimize|solve) {program()} "$@"; status=$?\n'
+            f'[ $status -gt 1 ] || truncate -s 1073741825 /proc/self/fd/1\nexit $status;;\n'
             f'esac\nexec {program()} "$@"\n',
         )
 

@@ -135,8 +135,8 @@ class OptionsOfSearch(InFolder):
         with self.assertRaises(planning.Fault) as caught:
             planning.solve(FLOWS, DISTANCES, fixed=[1, 1.5, 1], trunk=0.2, names=["Ayr", "Bute", "Crail"])
         line = (
-            "the best network found costs 34, with the hubs Ayr, Crail; it is not proved, for its certificate is too long"
-            " for hub check: try --gap, --format 2 or fewer candidates"
+            "the best network found costs 34, with the hubs Ayr, Crail; it is not proved, for its certificate is too"
+            " long for hub check: try --gap, --format 2 or fewer candidates"
         )
         self.assertEqual(str(caught.exception), line)
 

@@ -168,14 +168,15 @@ class Studies(InFolder):
 
     def test_a_certificate_too_long_to_be_checked(self) -> None:
         words = [*WORDS, "--no-map", "--out", "out"]
-        found = "the best network found costs 485, with the hubs West, East; it is not proved, for its certificate is too long"
+        found = "the best network found costs 485, with the hubs West, East; it is not proved"
         for more, helps in (
             ([], "--gap, --format 2 or fewer candidates"),
             (["--format=2", "--gap=1"], "a greater --gap or fewer candidates"),
             (["--solve"], "--format 2 or fewer candidates"),
         ):
             ended = self.script("study", *words, *more, hub=self.too_long())
-            self.assert_fault(ended, f"study: {found} for hub check: try {helps}")
+            line = f"study: {found}, for its certificate is too long for hub check: try {helps}"
+            self.assert_fault(ended, line)
         self.assertEqual(list((self.folder / "out").iterdir()), [])
 
     def test_hubs_that_exist(self) -> None:

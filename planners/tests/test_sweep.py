@@ -119,7 +119,7 @@ class Sweeps(InFolder):
         ended = self.script("sweep", *self.words("out"), hub=self.too_long())
         self.assertEqual((ended.returncode, ended.stdout), (1, ""))
         line = ended.stderr.splitlines()[-1]
-        self.assertRegex(line, "^sweep: row 1: the best network found costs [0-9,.…]+, with the hubs [0-9, ]+; it is not proved")
+        self.assertRegex(line, "^sweep: row 1: the best network found costs [0-9,.…]+, with the hubs [0-9, ]+; it is not")
         self.assertTrue(line.endswith(" is too long for hub check: try --gap, --format 2 or fewer candidates"))
         row = self.table("out/results.csv")[0]
         self.assertEqual((row["outcome"], row["cost"]), (line.removeprefix("sweep: row 1: "), ""))

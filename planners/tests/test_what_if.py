@@ -1,4 +1,4 @@
-"""`what-if` and `study --what-if`: every rise against all sets of hubs, bounds of places, stopped and taken up again."""
+"""`what-if` and `study --what-if`: every rise against all sets of hubs, bounds of places, stopped and taken up."""
 
 from __future__ import annotations
 
