@@ -103,7 +103,7 @@ def page_text(
         "status": "optimal" if named.verdict.is_optimal() else "bounds",
         "verdict": html.escape(verdict_text(named)),
         "line": html.escape(named.verdict.line()),
-        "spent": f"<p>Hubs {html.escape(named.spent())}.</p>" if named.existing else "",
+        "spent": f"<p>{html.escape(named.spent()).replace('e', 'E', 1)}.</p>" if named.existing else "",
         "command": html.escape(command),
         "style": (PARTS / "page.css").read_text(encoding="utf-8"),
         "script": (PARTS / "page.js").read_text(encoding="utf-8"),

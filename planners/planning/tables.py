@@ -39,7 +39,7 @@ class Named:
             return ""
         idle = sorted(self.existing.difference(self.network.plan.hubs))
         more = f"; not used: {self.names_of(idle)}" if idle else ""
-        return f"existing, so their costs are spent and count as 0: {self.names_of(sorted(self.existing))}{more}"
+        return f"existing hubs, whose costs are spent and count as 0: {self.names_of(sorted(self.existing))}{more}"
 
 
 def read_named(options: Options, certificate: Path, names: Path | None) -> Named:

@@ -181,7 +181,7 @@ class Studies(InFolder):
 
     def test_hubs_that_exist(self) -> None:
         words = ["flows.csv", "--trunk=0.5", "--no-map", "--out", "out"]
-        said = "existing, so their costs are spent and count as 0: East, West"
+        said = "existing hubs, whose costs are spent and count as 0: West, East"
         marked = NODES.replace("fixed\n", "fixed,existing\n").replace("70\n", "70,yes\n").replace("90\n", "90,1\n")
         self.write("marked.csv", marked.replace("80\n", "80,\n"))
         for more, costs in (
@@ -191,11 +191,11 @@ class Studies(InFolder):
             ended = self.script("study", *more)
             self.assertEqual((ended.returncode, ended.stderr), (0, ""))
             self.assertEqual(self.read("out/instance.costs.txt"), costs + "\n")
-            self.assertIn(said.replace("East, West", "West, East"), ended.stdout)
+            self.assertIn(f"\n{said}\n", ended.stdout)
             self.assertEqual([row["name"] for row in self.table("out/hubs.csv") if row["existing"]], ["West", "East"])
             page = self.read("out/page.html")
             self.assertIn('"existing":[0,2]', page)
-            self.assertIn("<p>Hubs existing, so their costs are spent and count as 0: West, East.</p>", page)
+            self.assertIn(f"<p>E{said[1:]}.</p>", page)
         # The option takes the place of the column.
         ended = self.script("study", "marked.csv", *words, "--existing", "Middle")
         self.assertIn("count as 0: Middle", ended.stdout)

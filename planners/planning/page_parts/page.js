@@ -547,10 +547,13 @@ function parts() {
 // What was asked: the network without a hub, or with a place as one. Without an answer there is no number.
 const asked = (kind) => data.whatIf.filter((line) => line.kind === kind);
 const none = { text: "", by: Infinity };
-const risen = (line) => line.rise === undefined ? [none, none, { text: line.outcome, by: line.outcome }]
-  : [number(line.rise), line.percent ? number(line.percent) : none, {
-    text: (line.least === line.rise ? "" : "not proved; at least " + readable(line.least) + (line.change && "; "))
-      + line.change, by: line.change }];
+// How far it rises, in per cent where that can be told, with all digits of the rise for the pointer; and what changes.
+function risen(line) {
+  if (line.rise === undefined) return [none, { text: line.outcome, by: line.outcome }];
+  const share = { text: line.percent || line.rise, full: "rise " + readableWhole(line.rise), by: Number(line.rise) };
+  const least = line.least === line.rise ? "" : "not proved: at least " + readable(line.least);
+  return [share, { text: [least, line.change].filter(Boolean).join("; "), by: line.change }];
+}
 
 function tables() {
   const losses = new Map(asked("without").map((line) => [line.node, line]));
@@ -560,13 +563,12 @@ function tables() {
     click: () => choose(hubs[place]),
   }));
   const columns = [["Hub", false], ["Fixed cost", true], ["Collects", true], ["Delivers", true]];
-  const lost = losses.size ? [["Rise without", true], ["%", true], ["Then", false]] : [];
+  const lost = losses.size ? [["Without, %", true], ["Then", false]] : [];
   at("hub-table").append(...sortable([...columns, ...lost], hubRows));
   const gainRows = asked("with").map((line) => ({ cells: [name(line.node), ...risen(line)],
     click: () => choose(line.node) }));
   at("further").hidden = gainRows.length === 0;
-  at("further-table").append(
-    ...sortable([["Place", false], ["Rise as a hub", true], ["%", true], ["Then", false]], gainRows));
+  at("further-table").append(...sortable([["Place", false], ["As a hub, %", true], ["Then", false]], gainRows));
   at("risen").hidden = data.whatIf.length === 0;
   const trunkRows = data.trunkRows.map(([start, stop, flow, cost]) =>
     ({ cells: [name(start), name(stop), number(flow), number(cost)] }));
