@@ -2,10 +2,11 @@
 
 from __future__ import annotations
 
-import gzip
 import re
+import struct
 import subprocess
 import sys
+import zlib
 from datetime import datetime, timezone
 from email.utils import format_datetime
 
@@ -21,6 +22,8 @@ DOCUMENTS = f"usr/share/doc/{NAME}"
 LIBRARY = "usr/lib/python3/dist-packages/planning"
 OF_SOURCES = ("DECISIONS.md", "MAP.md", "TESTING.md")
 """Documents for those who change the sources, which are not packed."""
+GZIP_HEAD = bytes([0x1F, 0x8B, 8, 0, 0, 0, 0, 0, 2, 3])
+"""The method, no date, the best compression, a file of Unix."""
 STARTS = re.compile(r'faults\.end\("(\w+)"\)')
 COPYRIGHT = """Copyright, as of {date}: the repository from which this package was made names no holder.
 It has no licence. Nothing here grants a right to use, copy or change the files: ask those from whom you have them.
@@ -50,8 +53,9 @@ def scripts() -> dict[str, str]:
 
 
 def packed(data: bytes) -> bytes:
-    """The same compressed, without a date."""
-    return gzip.compress(data, 9, mtime=0)
+    """The same in the form of gzip, without a date; its head is written here, since versions of Python differ in it."""
+    deflate = zlib.compressobj(9, zlib.DEFLATED, -zlib.MAX_WBITS)
+    return GZIP_HEAD + deflate.compress(data) + deflate.flush() + struct.pack("<II", zlib.crc32(data), len(data))
 
 
 def as_installed(text: str) -> str:

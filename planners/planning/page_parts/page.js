@@ -548,7 +548,7 @@ function parts() {
 const asked = (kind) => data.whatIf.filter((line) => line.kind === kind);
 const none = { text: "", by: Infinity };
 // How far it rises, in per cent where that can be told, with all digits of the rise for the pointer; and what changes.
-function risen(line) {
+function risen(line = { outcome: "" }) {
   if (line.rise === undefined) return [none, { text: line.outcome, by: line.outcome }];
   const share = { text: line.percent || line.rise, full: "rise " + readableWhole(line.rise), by: Number(line.rise) };
   const least = line.least === line.rise ? "" : "not proved: at least " + readable(line.least);
