@@ -121,6 +121,7 @@ class Studies(InFolder):
             ([*words, "--trunk", "4x"], "--trunk: wanted a factor, a number from 0 to 1000, found '4x'"),
             ([*words, "--candidates", "No"], "--candidates wants names or numbers of nodes, each once, found 'No'"),
             ([*words, "--workers", "0"], "--workers: wanted a number of workers, a number from 1 to 64, found '0'"),
+            ([*words, "--places", "3"], "--places and --jobs are for --what-if"),
             ([*words[:-1], "."], ".: the tables to read lie in this folder; choose another --out"),
             (
                 [*words, "--hubs=2", "--max-length=9"],
