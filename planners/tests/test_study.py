@@ -179,6 +179,11 @@ class Studies(InFolder):
             line = f"study: {found}, for its certificate is too long for hub check: try {helps}"
             self.assert_fault(ended, line)
         self.assertEqual(list((self.folder / "out").iterdir()), [])
+        self.solve("long.cert", "ap", str(INSTANCES / "districts.txt"))
+        os.truncate(self.folder / "long.cert", 2**30 + 1)
+        words = ["ap", str(INSTANCES / "districts.txt"), "long.cert", "--out", "tables"]
+        line = "long.cert: this certificate is too long for hub check, so that nothing of it is proved"
+        self.assert_fault(self.script("network", *words, hub=self.too_long()), f"network: {line}")
 
     def test_hubs_that_exist(self) -> None:
         words = ["flows.csv", "--trunk=0.5", "--no-map", "--out", "out"]
