@@ -15,10 +15,10 @@ from .certificate import read_hubs
 from .csv_tables import table_text
 from .files import put_all
 from .measure import run
-from .program import NO_NETWORK, NOT_TAKEN, Verdict, command, no_network, verdict_of
+from .program import NO_NETWORK, NOT_TAKEN, TOO_LONG, Verdict, command, no_network, verdict_of
 from .quantities import COST_PLACES, decimal
 from .scenarios import Scenario
-from .too_long import SAID as TOO_LONG, best_found
+from .too_long import best_found
 
 
 @dataclass(frozen=True)

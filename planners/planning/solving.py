@@ -18,11 +18,11 @@ from .faults import Fault
 from .files import put_all
 from .measure import Ended, run
 from .options import LISTED, Options, test_values
-from .program import NO_NETWORK, NOT_TAKEN, USAGE, command, judge, no_network, serving
+from .program import NO_NETWORK, NOT_TAKEN, TOO_LONG, USAGE, command, judge, no_network, serving
 from .quantities import LISTED_HUBS
 from .sources import Source
 from .tables import Named, read_named
-from .too_long import SAID as TOO_LONG, best_found
+from .too_long import best_found
 
 INSTANCE, COSTS, NAMES = "instance.txt", "instance.costs.txt", "instance.names.csv"
 CERTIFICATE = "certificate.txt"

@@ -105,6 +105,8 @@ def main(words: list[str]) -> int:
     """Does a study."""
     args = parser().parse_args(words)
     test_asking(args)
+    if not args.what_if and (args.places is not None or args.jobs != 1):
+        raise Fault("--places and --jobs are for --what-if")
     if args.no_map:
         pythons.want("numpy")
     else:

@@ -11,9 +11,6 @@ from .loads import network_of
 from .options import Options
 from .program import short
 
-SAID = "no TooLong"
-"""What `hub check` says of a text of more bytes than it takes."""
-
 
 def best_found(options: Options, certificate: Path, names: list[str] | None, verb: str, search: Iterable[str]) -> str:
     """The line for the user: hubs and cost, worked out anew from the front of the text, and what makes a shorter one.

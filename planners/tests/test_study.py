@@ -121,6 +121,7 @@ class Studies(InFolder):
             ([*words, "--trunk", "4x"], "--trunk: wanted a factor, a number from 0 to 1000, found '4x'"),
             ([*words, "--candidates", "No"], "--candidates wants names or numbers of nodes, each once, found 'No'"),
             ([*words, "--workers", "0"], "--workers: wanted a number of workers, a number from 1 to 64, found '0'"),
+            ([*words, "--places", "3"], "--places and --jobs are for --what-if"),
             ([*words[:-1], "."], ".: the tables to read lie in this folder; choose another --out"),
             (
                 [*words, "--hubs=2", "--max-length=9"],
@@ -178,6 +179,11 @@ class Studies(InFolder):
             line = f"study: {found}, for its certificate is too long for hub check: try {helps}"
             self.assert_fault(ended, line)
         self.assertEqual(list((self.folder / "out").iterdir()), [])
+        self.solve("long.cert", "ap", str(INSTANCES / "districts.txt"))
+        os.truncate(self.folder / "long.cert", 2**30 + 1)
+        words = ["ap", str(INSTANCES / "districts.txt"), "long.cert", "--out", "tables"]
+        line = "long.cert: this certificate is too long for hub check, so that nothing of it is proved"
+        self.assert_fault(self.script("network", *words, hub=self.too_long()), f"network: {line}")
 
     def test_hubs_that_exist(self) -> None:
         words = ["flows.csv", "--trunk=0.5", "--no-map", "--out", "out"]
