@@ -1,21 +1,17 @@
 -- The first word of a line, taken at once.
-use Rattle.std.proofs.Common.{◌≡◌, ℕ, zero, suc, ◌+◌, ◌<◌, ◌≤◌, Bool, true, false, ◌&&◌, List, [], ◌∷◌, ◌++◌, length, take, get_or, Option, Some, None, nat_eq, nat_lt, refl, sym, ap, ◌∙◌, subst, arith}
+use Rattle.std.proofs.Common.{◌≡◌, ℕ, zero, suc, ◌+◌, ◌<◌, ◌≤◌, false, ◌&&◌, List, [], ◌∷◌, ◌++◌, length, take, get_or, Some, None, nat_eq, nat_lt, refl, sym, ap, ◌∙◌, arith}
 use Rattle.std.specs.Prelude.{option_to_list, if◌then◌else◌}
 use Rattle.std.proofs.lemmas.Bool.{ltb-true}
 use Rattle.std.proofs.lemmas.List.{length-take-le}
 use Rattle.std.proofs.lemmas.Option.{none-some}
 use Rattle.hub_spec.proofs.SumLemmas.{by_test}
-use Rattle.cert_scan.specs.Moves.{move, moved_by, taken_by, head_at, keyword_of, first_place_of, begun_as, spoiled_by, behind_keyword_by, turned_by, turned_or, first_number_by}
+use Rattle.cert_scan.specs.Moves.{move, moved_by, head_at, keyword_of, first_place_of, begun_as, spoiled_by, behind_keyword_by, turned_by, turned_or, first_number_by}
 use Rattle.cert_scan.specs.Scans.{put, sifted, moved, scanned, given_all}
 use Rattle.cert_scan.specs.Runs.{GoesOn, Takes}
-use Rattle.cert_scan.specs.Ahead.{IsNumberAt}
 use Rattle.cert_scan.proofs.ScanBytes.{quiet_step, quiet_gives}
 use Rattle.cert_scan.proofs.Letters.{letters_scanned, letters_give}
-use Rattle.cert_scan.proofs.Stepping.{HasRun, digits_after, digits_nothing, run_byte, takes_byte, takes_nothing}
-use Rattle.cert_scan.specs.declared.items.Item.{Item}
-use Rattle.cert_scan.specs.declared.bytes.Move.{Move}
+use Rattle.cert_scan.proofs.Stepping.{HasRun, run_byte, takes_nothing}
 use Rattle.cert_scan.specs.declared.bytes.Position.TheVariants.{Start, Keyword, Number}
-use Rattle.cert_scan.specs.declared.digits.ShortNumber.{ShortNumber}
 use Rattle.cert_scan.specs.declared.heads.Head.{Head}
 use Rattle.cert_scan.specs.declared.heads.Head.TheVariants.{VersionLine, SizeLine, CostLine, BoundLine, HubsLine, RouteLine, CutsLine, CutLine, MarkWord, DualLine, DualsLine, ProvedLine, ProofLine, NodesLine, BranchLine, LeafLine, EmptyLine, BlockLine, CountLine, EndLine}
 use Rattle.cert_scan.specs.declared.places.Place.{Place}

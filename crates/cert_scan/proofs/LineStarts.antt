@@ -1,10 +1,10 @@
 -- A run that takes the start of the line of a dual or of a proof.
-use Rattle.std.proofs.Common.{◌≡◌, ℕ, ◌+◌, ◌^◌, ◌&&◌, ◌<◌, ◌≤◌, true, false, if◌then◌else◌, List, length, codes, take, drop, get_or, Some, None, nat_eq, nat_lt, nat_le, refl, sym, ap, ◌∙◌, subst, inl, inr, arith}
-use Rattle.std.proofs.lemmas.Bool.{cond-true, cond-false, and_from, le-leb, lt-ltb, eq-eqb}
+use Rattle.std.proofs.Common.{◌≡◌, ℕ, ◌+◌, ◌^◌, ◌&&◌, ◌<◌, ◌≤◌, false, if◌then◌else◌, List, length, codes, take, get_or, Some, None, nat_eq, nat_lt, nat_le, refl, sym, ap, ◌∙◌, subst, inl, inr, arith}
+use Rattle.std.proofs.lemmas.Bool.{cond-true, and_from, le-leb, lt-ltb, eq-eqb}
 use Rattle.core_spec.specs.MarkRanges.{most_turns, most_scale}
 use Rattle.cert_scan.specs.Moves.{moved_by, taken_by, move, refusal, within, amount_limit, subject_run, way_behind}
 use Rattle.cert_scan.specs.Repeats.{DualSoFar, noted_by, repeats_by}
-use Rattle.cert_scan.specs.Scans.{shape_by, line_by, put, with_item, sifted, moved}
+use Rattle.cert_scan.specs.Scans.{put, with_item}
 use Rattle.cert_scan.specs.Runs.{GoesOn, Runs}
 use Rattle.cert_scan.specs.Ahead.{IsNumberAt}
 use Rattle.cert_scan.specs.Fronts.{AreNodesAt, IsDualAhead, AreDualsAhead, IsPlainAhead, IsProofAhead}
@@ -18,7 +18,6 @@ use Rattle.cert_scan.specs.declared.items.Version.{Version as TextVersion}
 use Rattle.cert_scan.specs.declared.items.Version.TheVariants.{First, Second, Third}
 use Rattle.cert_scan.specs.declared.items.Item.{Item}
 use Rattle.cert_scan.specs.declared.items.Item.TheVariants.{Dual as dual_item, Proof as proof_item}
-use Rattle.cert_scan.specs.declared.bytes.Move.{Move}
 use Rattle.cert_scan.specs.declared.bytes.Position.TheVariants.{Start, Keyword, Number}
 use Rattle.cert_scan.specs.declared.heads.Head.TheVariants.{DualLine, DualsLine, ProvedLine, ProofLine}
 use Rattle.cert_scan.specs.declared.places.Place.{Place}

@@ -1,10 +1,10 @@
 -- A run that takes a node and a value of a dual.
-use Rattle.std.proofs.Common.{◌≡◌, ℕ, ◌+◌, ◌-◌, ◌^◌, ◌&&◌, ◌<◌, ◌≤◌, Bool, true, false, List, length, take, drop, get_or, Option, Some, None, nat_le, nat_lt, refl, sym, ap, ◌∙◌, subst, arith}
+use Rattle.std.proofs.Common.{◌≡◌, ℕ, ◌+◌, ◌-◌, ◌^◌, ◌&&◌, ◌<◌, ◌≤◌, Bool, true, false, List, length, take, drop, Option, Some, None, nat_le, nat_lt, refl, sym, ap, ◌∙◌, subst, arith}
 use Rattle.std.proofs.lemmas.List.{length-drop, length-take-le}
-use Rattle.std.proofs.lemmas.Bool.{cond_both, cond-true, cond-false, and_from, le-leb, lt-ltb}
-use Rattle.cert_scan.specs.Moves.{moved_by, taken_by, move, refusal, open_by, amount_limit, stage_after_subject, follows}
-use Rattle.cert_scan.specs.Repeats.{noted_by, repeats_by}
-use Rattle.cert_scan.specs.Scans.{shape_by, line_by, put, with_item, sifted, moved}
+use Rattle.std.proofs.lemmas.Bool.{cond_both, cond-true, and_from, le-leb, lt-ltb}
+use Rattle.cert_scan.specs.Moves.{taken_by, move, refusal, open_by, amount_limit, stage_after_subject, follows}
+use Rattle.cert_scan.specs.Repeats.{repeats_by}
+use Rattle.cert_scan.specs.Scans.{put, with_item, sifted, moved}
 use Rattle.cert_scan.specs.Runs.{Takes, Runs}
 use Rattle.cert_scan.specs.Ahead.{IsNumberAt, IsPairAhead}
 use Rattle.cert_scan.proofs.Tracks.{open_quiet}

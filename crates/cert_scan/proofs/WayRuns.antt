@@ -1,8 +1,8 @@
 -- A run that takes a way of a proof.
-use Rattle.std.proofs.Common.{◌≡◌, ℕ, ◌+◌, ◌-◌, ◌&&◌, ◌≤◌, Bool, true, false, List, take, drop, get_or, Option, Some, None, nat_le, refl, sym, ap, ◌∙◌, subst, arith}
+use Rattle.std.proofs.Common.{◌≡◌, ℕ, ◌-◌, ◌&&◌, ◌≤◌, Bool, true, false, List, Option, Some, None, nat_le, refl, sym, ap, ◌∙◌, subst, arith}
 use Rattle.std.proofs.lemmas.Bool.{cond-true, cond-false, and_from, le-leb}
 use Rattle.core_spec.specs.MarkRanges.{most_taken}
-use Rattle.cert_scan.specs.Moves.{moved_by, taken_by, move, refusal, open_by, within, way_behind, is_later_way, stage_after_proof}
+use Rattle.cert_scan.specs.Moves.{taken_by, move, refusal, open_by, within, way_behind, is_later_way, stage_after_proof}
 use Rattle.cert_scan.specs.Repeats.{DualSoFar, noted_by, repeats_by}
 use Rattle.cert_scan.specs.Scans.{put, with_item, sifted, moved}
 use Rattle.cert_scan.specs.Runs.{Runs}

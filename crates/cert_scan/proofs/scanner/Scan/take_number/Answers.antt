@@ -1,4 +1,4 @@
-use Rattle.std.proofs.Common.{None, sym, ap, ◌∙◌}
+use Rattle.std.proofs.Common.{sym, ap, ◌∙◌}
 use Rattle.cert_scan.specs.declared.bytes.Position.TheVariants.{Number}
 use Rattle.cert_scan.proofs.Stepping.{none_of}
 use Rattle.cert_scan.proofs.NumberRuns.{number_begins, number_takes}
