@@ -143,3 +143,11 @@ choice_closes p cuts b choice cost r left is up =
 
 pub number_in : (p : Problem) (cuts : List Cut) (b : Branching) (choice : Choice) → IsChoice p cuts b choice → IsNumber cuts choice.number
 number_in p cuts b choice is = record { least = is.least; most = is.most }
+
+-- a leaf proves no more than it says: its bound rounded up
+pub leaf_says : (p : Problem) (cuts : List Cut) (target : ℕ) (b : Branching) (number : Option ℕ) (line : TreeLine) (r : ℕ)
+    → line ≡ leaf_of denominator (weights_on number) → r ≡ rounded_up (leaf_bound p cuts denominator (weights_on number) b)
+    → IsSoundLine p cuts target b line → target ≤ r
+leaf_says p cuts target b number line r same up sound =
+    let is : IsSoundLine p cuts target b (leaf_of denominator (weights_on number)) = subst (IsSoundLine p cuts target b) same sound in
+    subst (λ (n : ℕ). target ≤ n) (sym up) (said_least (leaf_bound p cuts denominator (weights_on number) b) target is.2)

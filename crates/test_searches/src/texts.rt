@@ -87,6 +87,7 @@ pub(crate) fn failing<R: Threads + Sync>(
     told(alloc, done, &sink)
 }
 
+#[tactic(auto, using(proof_text::proofs::StatedFindings::proved_stated))]
 fn put_found<R: Threads + Sync>(
     workers: &Workers<R>,
     finding: &Finding<'_>,
@@ -106,6 +107,7 @@ pub(crate) fn made(alloc: Global, instance: &Instance, line: &str) -> Result<Str
     told(alloc, done, &sink)
 }
 
+#[tactic(auto, using(proof_text::proofs::StatedFindings::proved_stated, proof_text::proofs::StatedFindings::proved_version))]
 fn put_made(
     alloc: Global,
     instance: &Instance,

@@ -54,9 +54,7 @@ fn ordered(
     instance: &Instance,
     set: &HubSet,
     line: &str,
-) -> Result<String, AllocError>
-    requires { IsHubSet instance.now set.now }
-{
+) -> Result<String, AllocError> {
     let point = list::<i128>(alloc, line, " point ")?;
     if point.len() != instance.size() as usize {
         return String::from_str(alloc, "no point");

@@ -1,7 +1,7 @@
 //! Bounds of branches under weights on cuts, whether they close targets, and what they fix.
 
-ghost use Rattle.std.specs.Prelude.{length};
-ghost use Rattle.leaf_bound.specs.Numbers.{AreWeightingNumbers, IsBranchBelow};
+ghost use Rattle.std.specs.Prelude.{ℕ, ◌<◌, length};
+ghost use Rattle.leaf_bound.specs.Numbers.{AreWeightingNumbers, IsNodeWithin, IsBranchWithin};
 
 use super::fields::{Lent, branch, cuts_of, numbers, parted};
 use super::weighing::serve;
@@ -65,7 +65,8 @@ fn tell_bound(
     branch: &Branch,
 ) -> Result<(), AllocError>
     requires numbers { AreWeightingNumbers weighting.now }
-    requires nodes { IsBranchBelow (length weighting.now.fixed.now) branch.now }
+    requires nodes { IsBranchWithin weighting.now branch.now }
+    requires each { (k : ℕ) → k < length weighting.now.fixed.now → IsNodeWithin weighting.now k }
 {
     let bound = bound(weighting, branch);
     let mut gains = Vec::new(alloc);
@@ -83,7 +84,7 @@ fn tell_target(
     target: u128,
 ) -> Result<(), AllocError>
     requires numbers { AreWeightingNumbers weighting.now }
-    requires nodes { IsBranchBelow (length weighting.now.fixed.now) branch.now }
+    requires nodes { IsBranchWithin weighting.now branch.now }
 {
     if target > MOST_TARGET {
         return writeln!(told, "{target} is no target");
