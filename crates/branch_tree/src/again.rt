@@ -26,7 +26,7 @@ use search_core::{Start, Task};
 use search_progress::{Progress, begin, number_of, separate};
 use search_steps::Rule;
 use separators::Separator;
-use stated_cuts::StatedCut;
+use cut_model::StatedCut;
 use std::alloc::{AllocError, Global};
 
 /// What the rule of the search, which serves the instance, finds that begins with these cuts beside its own, and tries

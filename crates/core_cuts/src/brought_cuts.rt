@@ -16,7 +16,7 @@ use crate::common_parts::divides;
 use crate::core_duals::CoreDual;
 use crate::unit_prices::MOST_UNITS;
 use hub_model::{Instance, MOST_COST};
-use stated_cuts::StatedCut;
+use cut_model::StatedCut;
 use std::alloc::{AllocError, Global};
 
 /// What the part of a cut divides.

@@ -16,9 +16,8 @@ use crate::stated_sums::StatedSums;
 use crate::unit_columns::{UnitColumns, enter};
 use crate::{CutSums, ShortLoads};
 use kept_cuts::{CutStore, KeptCut, KeptCuts};
-use marked_cuts::MarkedCut;
+use cut_model::{MarkedCut, StatedCut};
 use plan_model::HubSet;
-use stated_cuts::StatedCut;
 use std::alloc::{AllocError, Global};
 use std::marker::Model;
 

@@ -14,7 +14,7 @@ use crate::value_rooms::ValueRoom;
 use hub_model::Instance;
 use kept_cuts::KeptCut;
 use pareto_cuts::Scratch;
-use stated_cuts::StatedCut;
+use cut_model::StatedCut;
 use std::alloc::{AllocError, Global};
 use std::marker::Model;
 

@@ -4,10 +4,8 @@ ghost use Rattle.std.specs.Prelude.{◌≡◌, ◌+◌, ◌-◌, ◌≤◌, [], 
 ghost use Rattle.kept_cuts.specs.Kept.{kept_of, kept_at, kept_part, kept_mark};
 
 use crate::{CutStore, PackedValues};
-use core_marks::Mark;
-use marked_cuts::MarkedCut;
+use cut_model::{Mark, MarkedCut, StatedCut};
 use plan_model::HubSet;
-use stated_cuts::StatedCut;
 use std::alloc::{AllocError, Global};
 use std::marker::Model;
 

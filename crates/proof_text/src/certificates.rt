@@ -13,7 +13,7 @@ use dual_lender::DualLender;
 use hub_model::Instance;
 use kept_cuts::{Found, KeptCut, KeptCuts};
 use plan_model::{Dual, Plan, TreeLine};
-use stated_cuts::StatedCut;
+use cut_model::StatedCut;
 use std::alloc::{AllocError, Global};
 
 /// The certificate of what a search of the instance found in this version, with the duals of each cut made anew, and

@@ -6,7 +6,7 @@ ghost use Rattle.kept_cuts.specs.Kept.{kept_of};
 ghost use Rattle.proof_text.specs.Certificates.{mark_said};
 
 use cert_format::Version;
-use core_marks::{DualProof, Mark};
+use cut_model::{DualProof, Mark};
 use kept_cuts::{KeptCut, KeptCuts};
 use std::alloc::{AllocError, Global};
 

@@ -9,7 +9,7 @@ ghost use Rattle.proof_text.specs.Texts.{proved_from};
 
 use crate::numbered::NumberedCut;
 use cert_format::{put_dual, put_proof};
-use core_marks::DualProof;
+use cut_model::DualProof;
 use dual_lender::DualLender;
 use hub_io::{Buffer, Failed, Sink};
 use kept_cuts::KeptCut;

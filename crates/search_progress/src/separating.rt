@@ -17,7 +17,7 @@ use crate::progress::Progress;
 use assign_sub::cost_of_set;
 use cut_pool::{CutSums, Pool};
 use hub_model::{Instance, MOST_CUTS};
-use marked_cuts::MarkedCut;
+use cut_model::MarkedCut;
 use plan_model::HubSet;
 use search_core::Task;
 use separators::{Separated, Separator};

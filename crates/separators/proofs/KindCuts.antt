@@ -7,7 +7,7 @@ use Rattle.hub_spec.specs.Plans.{IsHubSet}
 use Rattle.hub_spec.specs.Cuts.{Cut, load}
 use Rattle.hub_spec.specs.Separation.{IsOrder}
 use Rattle.hub_spec.specs.Trees.{Branching}
-use Rattle.marked_cuts.specs.MarkedCuts.{MarkedCut}
+use Rattle.cut_model.specs.MarkedCuts.{MarkedCut}
 use Rattle.core_cuts.specs.Finding.{core_marked}
 use Rattle.core_cuts.specs.Theorems.{IsServing}
 use Rattle.core_cuts.proofs.CoredFunctions.{cored_function}

@@ -3,7 +3,7 @@ use Rattle.std.specs.Prelude.{ℕ, List, Option, Some, None, option_map}
 use Rattle.hub_spec.specs.Problem.{Problem}
 use Rattle.hub_spec.specs.Cuts.{Cut}
 use Rattle.core_spec.specs.CoreCuts.{Mark}
-use Rattle.marked_cuts.specs.MarkedCuts.{MarkedCut}
+use Rattle.cut_model.specs.MarkedCuts.{MarkedCut}
 use Rattle.core_cuts.specs.Finding.{core_marked}
 use Rattle.search_spec.specs.States.{Parts}
 use Rattle.kept_cuts.specs.Kept.{Kept, by_set, cored}

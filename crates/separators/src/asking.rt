@@ -8,7 +8,7 @@ ghost use Rattle.separators.specs.Entered.{entry_with, hubs_in, IsEntryOf};
 
 use cut_pool::CutSums;
 use hub_model::Instance;
-use marked_cuts::MarkedCut;
+use cut_model::MarkedCut;
 use plan_model::HubSet;
 use std::alloc::{AllocError, Global};
 
