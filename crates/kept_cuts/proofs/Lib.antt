@@ -3,3 +3,11 @@ pub mod KeptCutLaws
 pub mod Versions
 pub mod Packing
 pub mod NodeLoads
+pub mod SetOrder
+pub mod Indexes
+pub mod Columns
+pub mod IndexedCuts
+pub mod Entered
+pub mod Grown
+pub mod ShortRows
+pub mod UnitSums

@@ -5,3 +5,11 @@ pub mod Packed
 pub mod PackedParts
 pub mod Findings
 pub mod Theorems
+pub mod Entries
+pub mod PoolCuts
+pub mod Ordered
+pub mod PoolParts
+pub mod Shorts
+pub mod Stated
+pub mod StatedParts
+pub mod Units
