@@ -24,7 +24,7 @@ use Rattle.separators.specs.Kinds.{CutKind, parts_for}
 use Rattle.search_steps.specs.Pools.{IsSumsOf, IsPoolOf, state_by}
 use Rattle.search_steps.proofs.GivenPools.{grown_same, grown_twice, added_is_given}
 use Rattle.search_core.specs.declared.tasks.Task.{Task}
-use Rattle.kept_cuts.specs.Findings.{lines_of}
+use Rattle.cut_pool.specs.Findings.{lines_of}
 use Rattle.search_progress.specs.declared.progress.Progress.{Progress}
 use Rattle.search_progress.specs.Progressing.{state_of, IsGoing, IsAt}
 use Rattle.search_progress.proofs.Orders.{parts_ascending}

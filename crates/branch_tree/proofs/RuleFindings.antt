@@ -12,8 +12,8 @@ use Rattle.search_spec.proofs.WholeSearches.{begun_by, search_proof, search_coun
 use Rattle.search_spec.proofs.Beginnings.{again_start, rule_of_sets}
 use Rattle.separators.specs.Kinds.{CutKind, minimal, parts_for}
 use Rattle.separators.proofs.KindCuts.{kind_is_sound}
-use Rattle.kept_cuts.specs.Findings.{AreRemade}
-use Rattle.kept_cuts.specs.declared.found.Found.{Found}
+use Rattle.cut_pool.specs.Findings.{AreRemade}
+use Rattle.cut_pool.specs.declared.found.Found.{Found}
 use Rattle.branch_tree.specs.Findings.{found_by, found_again}
 use Rattle.search_progress.specs.Findings.{IsFound}
 use Rattle.branch_tree.proofs.FirstLines.{first_from}

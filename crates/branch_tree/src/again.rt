@@ -11,7 +11,7 @@ ghost use Rattle.search_spec.specs.Findings.{certificate_of, AreWithin, IsSpent,
 ghost use Rattle.search_core.specs.Starts.{start_seen};
 ghost use Rattle.cut_pool.specs.Entries.{Lacks};
 ghost use Rattle.separators.specs.Kinds.{parts_for};
-ghost use Rattle.kept_cuts.specs.Findings.{lines_of, proof_of, IsProved};
+ghost use Rattle.cut_pool.specs.Findings.{lines_of, proof_of, IsProved};
 ghost use Rattle.search_progress.specs.Progressing.{state_of, IsGoing, IsAt};
 ghost use Rattle.branch_tree.specs.Findings.{found_again};
 ghost use Rattle.search_progress.specs.Findings.{IsFound};
@@ -20,7 +20,7 @@ use crate::searching::search_on;
 use assign_sub::lacking;
 use hub_model::{Instance, MOST_CUTS};
 use hub_plain::outside;
-use kept_cuts::Found;
+use cut_pool::Found;
 use plan_model::{HubSet, are_among};
 use search_core::{Start, Task};
 use search_progress::{Progress, begin, number_of, separate};

@@ -7,7 +7,7 @@ ghost use Rattle.search_spec.specs.States.{Grown};
 ghost use Rattle.search_spec.specs.Steps.{searched};
 ghost use Rattle.search_spec.specs.Costs.{IsAtMostOf, first_hubs};
 ghost use Rattle.search_spec.specs.Findings.{certificate_of, AreWithin, IsSpent, IsEnough};
-ghost use Rattle.kept_cuts.specs.Findings.{lines_of, proof_of, AreRemade, IsProved};
+ghost use Rattle.cut_pool.specs.Findings.{lines_of, proof_of, AreRemade, IsProved};
 ghost use Rattle.search_progress.specs.Progressing.{state_of, IsGoing};
 ghost use Rattle.branch_tree.specs.Findings.{found_by};
 ghost use Rattle.search_progress.specs.Findings.{IsFound};
@@ -15,7 +15,7 @@ ghost use Rattle.separators.specs.Kinds.{minimal, parts_for};
 
 use crate::walk::Walk;
 use hub_model::Instance;
-use kept_cuts::Found;
+use cut_pool::Found;
 use plan_model::Branch;
 use search_core::Task;
 use search_progress::{Progress, begin, finish};

@@ -6,7 +6,7 @@ use Rattle.hub_spec.specs.Trees.{Branching, open_child, closed_child, leaf_bound
 use Rattle.search_spec.specs.States.{lesser}
 use Rattle.search_spec.proofs.Keeping.{kept_more, leaf_bound-kept}
 use Rattle.tree_walks.specs.Walks.{IsSoundLine, filled, Walks}
-use Rattle.kept_cuts.specs.Findings.{lines_of}
+use Rattle.cut_pool.specs.Findings.{lines_of}
 use Rattle.closing_search.specs.declared.progress.Progress.{Progress}
 use Rattle.closing_search.specs.Progressing.{cuts_of, WalksTo, Proves, Says, KeepsBest}
 

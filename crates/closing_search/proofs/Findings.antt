@@ -27,11 +27,11 @@ use Rattle.search_spec.proofs.FallingCosts.{least_to}
 use Rattle.search_spec.proofs.Invariants.{lesser_least}
 use Rattle.tree_walks.specs.Walks.{Walks}
 use Rattle.tree_walks.proofs.Walking.{is_tree}
-use Rattle.kept_cuts.specs.Kept.{Kept, KeptList, kept_cut, kept_cuts, IsRemade, IsKeptFor}
-use Rattle.kept_cuts.specs.declared.found.Found.{Found}
-use Rattle.kept_cuts.specs.Findings.{lines_of, proof_of, IsUnlimited, AreRemade, IsVersionFor, IsProved}
-use Rattle.kept_cuts.proofs.KeptCutLaws.{kept_is_cut, kept_in_range}
-use Rattle.kept_cuts.proofs.Versions.{has_text}
+use Rattle.cut_pool.specs.Kept.{Kept, KeptList, kept_cut, kept_cuts, IsRemade, IsKeptFor}
+use Rattle.cut_pool.specs.declared.found.Found.{Found}
+use Rattle.cut_pool.specs.Findings.{lines_of, proof_of, IsUnlimited, AreRemade, IsVersionFor, IsProved}
+use Rattle.cut_pool.proofs.KeptCutLaws.{kept_is_cut, kept_in_range}
+use Rattle.cut_pool.proofs.Versions.{has_text}
 use Rattle.closing_search.specs.declared.task.Task.{Task}
 use Rattle.closing_search.specs.declared.progress.Progress.{Progress}
 use Rattle.closing_search.specs.Gaps.{most_gap, IsWithinGap}

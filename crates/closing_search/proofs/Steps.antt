@@ -19,8 +19,8 @@ use Rattle.search_spec.proofs.Leaves.{double}
 use Rattle.search_spec.proofs.Parting.{length-without}
 use Rattle.tree_walks.specs.Walks.{IsSoundLine, filled, Walks}
 use Rattle.tree_walks.proofs.Walking.{goes_on, stays}
-use Rattle.kept_cuts.specs.Kept.{Kept, KeptList, kept_cut, kept_cuts, IsRemade, IsKeptFor, AreKeptFor}
-use Rattle.kept_cuts.specs.Findings.{lines_of, IsUnlimited}
+use Rattle.cut_pool.specs.Kept.{Kept, KeptList, kept_cut, kept_cuts, IsRemade, IsKeptFor, AreKeptFor}
+use Rattle.cut_pool.specs.Findings.{lines_of, IsUnlimited}
 use Rattle.closing_search.specs.Ends.{IsEndLine}
 use Rattle.closing_search.specs.declared.task.Task.{Task}
 use Rattle.closing_search.specs.declared.progress.Progress.{Progress}

@@ -11,9 +11,9 @@ use Rattle.search_spec.specs.Laws.{IsWantedSet}
 use Rattle.search_spec.specs.Costs.{IsAtMostOf, first_hubs}
 use Rattle.search_spec.specs.Findings.{AreWithin, IsSpent, IsEnough}
 use Rattle.tree_walks.specs.Walks.{IsSoundLine, Walks}
-use Rattle.kept_cuts.specs.Kept.{kept_cuts, IsRemade, AreKeptFor}
-use Rattle.kept_cuts.specs.Findings.{lines_of, IsUnlimited}
-use Rattle.kept_cuts.specs.declared.found.Found.{Found}
+use Rattle.cut_pool.specs.Kept.{kept_cuts, IsRemade, AreKeptFor}
+use Rattle.cut_pool.specs.Findings.{lines_of, IsUnlimited}
+use Rattle.cut_pool.specs.declared.found.Found.{Found}
 use Rattle.closing_search.specs.declared.task.Task.{Task}
 use Rattle.closing_search.specs.Gaps.{most_gap, IsWithinGap}
 use Rattle.closing_search.specs.declared.progress.Progress.{Progress}

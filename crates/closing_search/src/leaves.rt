@@ -20,7 +20,7 @@ use crate::progress::{Progress, end_with, goal, offer};
 use crate::task::Task;
 use crate::walk::Walk;
 use hub_plain::outside;
-use kept_cuts::KeptCut;
+use cut_pool::KeptCut;
 use plan_model::{Branch, HubSet, Mix, TreeLine};
 use search_core::{WHOLE_WEIGHT, lesser, rounded_up, whole_leaf};
 use std::alloc::{AllocError, Global};

@@ -7,7 +7,7 @@ ghost use Rattle.hub_spec.specs.Plans.{IsHubSet, IsSetCost, IsLeastRoute, NoPlan
 ghost use Rattle.hub_spec.specs.Trees.{root};
 ghost use Rattle.search_spec.specs.Costs.{IsAtMostOf, first_hubs};
 ghost use Rattle.search_spec.specs.Findings.{AreWithin, IsSpent, IsEnough};
-ghost use Rattle.kept_cuts.specs.Findings.{AreRemade, IsProved};
+ghost use Rattle.cut_pool.specs.Findings.{AreRemade, IsProved};
 ghost use Rattle.closing_search.specs.Gaps.{most_gap, IsWithinGap};
 ghost use Rattle.closing_search.specs.Progressing.{AreFirstHubs, IsWantedAs, IsFirst, IsGoing, IsDone, IsOver, IsBestBound};
 
@@ -16,7 +16,7 @@ use crate::task::Task;
 use crate::walker::Walker;
 use assign_sub::{assign, cost_of_set};
 use hub_model::Instance;
-use kept_cuts::{Found, KeptCuts};
+use cut_pool::{Found, KeptCuts};
 use plan_model::{Branch, HubSet, Plan};
 use search_advice::Advice;
 use std::alloc::{AllocError, Global};

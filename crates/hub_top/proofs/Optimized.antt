@@ -13,8 +13,8 @@ use Rattle.plan_model.specs.Lines.{tree_line_of}
 use Rattle.search_spec.specs.Costs.{IsAtMostOf, first_hubs}
 use Rattle.search_spec.specs.Findings.{AreWithin, IsSpent, IsEnough}
 use Rattle.cert_spec.specs.Text.{SpellsUnmarked}
-use Rattle.kept_cuts.specs.declared.found.Found.{Found}
-use Rattle.kept_cuts.specs.Findings.{AreRemade, IsProved, IsVersionFor, proof_of, lines_of}
+use Rattle.cut_pool.specs.declared.found.Found.{Found}
+use Rattle.cut_pool.specs.Findings.{AreRemade, IsProved, IsVersionFor, proof_of, lines_of}
 use Rattle.proof_text.specs.Texts.{found_text}
 use Rattle.closing_search.specs.Gaps.{IsWithinGap}
 use Rattle.closing_search.specs.Progressing.{IsBestBound}

@@ -13,8 +13,8 @@ use Rattle.search_spec.specs.States.{Grown}
 use Rattle.search_spec.specs.Findings.{certificate_of}
 use Rattle.cert_spec.specs.Stated.{as_second, IsStatedOf}
 use Rattle.cert_spec.specs.Text.{Spells, SpellsUnmarked}
-use Rattle.kept_cuts.specs.declared.found.Found.{Found}
-use Rattle.kept_cuts.specs.Findings.{IsVersionFor, IsProved, AreRemade, proof_of}
+use Rattle.cut_pool.specs.declared.found.Found.{Found}
+use Rattle.cut_pool.specs.Findings.{IsVersionFor, IsProved, AreRemade, proof_of}
 use Rattle.search_progress.specs.Findings.{IsFound}
 use Rattle.proof_text.specs.Texts.{found_text}
 use Rattle.proof_text.specs.Certificates.{mark_said, stated_by}

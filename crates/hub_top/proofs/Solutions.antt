@@ -4,8 +4,8 @@ use Rattle.hub_io.specs.Outside.{Files}
 use Rattle.hub_spec.specs.Problem.{Problem}
 use Rattle.search_spec.specs.Again.{start_of}
 use Rattle.file_spec.specs.Options.{Options}
-use Rattle.kept_cuts.specs.declared.found.Found.{Found}
-use Rattle.kept_cuts.specs.Findings.{IsProved}
+use Rattle.cut_pool.specs.declared.found.Found.{Found}
+use Rattle.cut_pool.specs.Findings.{IsProved}
 use Rattle.proof_text.specs.Texts.{found_text}
 use Rattle.hub_words.specs.Requests.{How, follow, again, freely, gap_of, IsGap, Search, IsAllowed, SaysLimits, Solving, IsSolving, solve}
 use Rattle.hub_top.specs.declared.status.Status.{Status}

@@ -4,9 +4,9 @@ use Rattle.hub_spec.specs.Problem.{Problem}
 use Rattle.hub_spec.specs.Trees.{Tree, preorder}
 use Rattle.cert_spec.specs.Stated.{as_second}
 use Rattle.cert_spec.specs.Text.{Spells, SpellsUnmarked}
-use Rattle.kept_cuts.specs.Kept.{Kept}
-use Rattle.kept_cuts.specs.declared.found.Found.{Found}
-use Rattle.kept_cuts.specs.Findings.{IsVersionFor, IsProved, lines_of, proof_of}
+use Rattle.cut_pool.specs.Kept.{Kept}
+use Rattle.cut_pool.specs.declared.found.Found.{Found}
+use Rattle.cut_pool.specs.Findings.{IsVersionFor, IsProved, lines_of, proof_of}
 use Rattle.proof_text.specs.Certificates.{stated_by}
 use Rattle.proof_text.specs.Texts.{found_text}
 use Rattle.proof_text.proofs.FoundLines.{found_text_certificate}

@@ -11,8 +11,8 @@ use Rattle.cert_spec.specs.Stated.{Stated}
 use Rattle.cert_spec.specs.Verdicts.{Older, serves}
 use Rattle.cert_checker.specs.Shows.{verdict_of}
 use Rattle.cert_checker.specs.declared.texts.Ending.{Ending}
-use Rattle.kept_cuts.specs.Findings.{IsProved, AreRemade, proof_of}
-use Rattle.kept_cuts.specs.declared.found.Found as finding
+use Rattle.cut_pool.specs.Findings.{IsProved, AreRemade, proof_of}
+use Rattle.cut_pool.specs.declared.found.Found as finding
 use Rattle.search_progress.specs.Findings.{IsFound}
 use Rattle.closing_search.specs.Gaps.{IsWithinGap}
 use Rattle.closing_search.specs.Progressing.{IsBestBound}

@@ -4,8 +4,8 @@ use Rattle.cert_spec.specs.Stated.{IsStatedOf}
 use Rattle.hub_model.specs.Faults.{fault_of}
 use Rattle.hub_words.specs.Requests.{IsSearch}
 use Rattle.hub_words.specs.Views.{search_seen}
-use Rattle.kept_cuts.specs.declared.found.Found.{Found as Finding}
-use Rattle.kept_cuts.specs.Findings.{IsProved}
+use Rattle.cut_pool.specs.declared.found.Found.{Found as Finding}
+use Rattle.cut_pool.specs.Findings.{IsProved}
 use Rattle.cert_scan.specs.Versions.{version_number}
 use Rattle.dual_lender.specs.Lenders.{IsLenderFor}
 use Rattle.proof_text.specs.Texts.{found_text}

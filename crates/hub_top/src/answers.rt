@@ -12,7 +12,7 @@ use cert_format::Certificate;
 use hub_demo::put_demo;
 use hub_io::{Failed, Sink};
 use hub_model::Instance;
-use kept_cuts::Found;
+use cut_pool::Found;
 use network_report::report;
 
 /// What a command answers, before it is written.

@@ -12,7 +12,7 @@ use cert_format::Certificate;
 use closing_search::{Task, optimize_within};
 use hub_model::Instance;
 use hub_words::Search;
-use kept_cuts::Found;
+use cut_pool::Found;
 use old_duals::first_values;
 use price_passes::Adviser;
 use search_advice::Advice;

@@ -15,12 +15,11 @@ ghost use Rattle.hub_top.specs.Commands.{cold};
 ghost use Rattle.hub_top.specs.Solving.{IsSearched, MayGo, course_seen};
 
 use branch_tree::{search, search_from};
-use cut_pool::CutSums;
+use cut_pool::{CutSums, Found};
 use hub_demo::made_instance;
 use hub_io::Gate;
 use hub_model::Instance;
 use hub_words::{Making, Search, SearchRule};
-use kept_cuts::Found;
 use node_rounds::search_rounds;
 use par_separate::{Crew, separate_sums, workers_for};
 use plan_model::HubSet;

@@ -21,7 +21,7 @@ use cert_checker::Ending;
 use hub_io::{Gate, Shelf};
 use hub_model::Instance;
 use hub_words::Solving;
-use kept_cuts::Found;
+use cut_pool::Found;
 use plan_model::HubSet;
 use std::alloc::{AllocError, Global};
 use std::thread::Threads;

@@ -9,8 +9,8 @@ use Rattle.search_spec.proofs.FallingCosts.{least_to, begun_most}
 use Rattle.search_steps.specs.Advising.{parts_of}
 use Rattle.separators.specs.Kinds.{CutKind, minimal, parts_for}
 use Rattle.search_steps.proofs.RuleChoices.{parts_sound}
-use Rattle.kept_cuts.specs.Findings.{AreRemade}
-use Rattle.kept_cuts.specs.declared.found.Found.{Found}
+use Rattle.cut_pool.specs.Findings.{AreRemade}
+use Rattle.cut_pool.specs.declared.found.Found.{Found}
 use Rattle.search_progress.specs.Findings.{IsFound}
 use Rattle.search_progress.proofs.KeptPools.{own_by_sets}
 use Rattle.search_progress.proofs.FoundCertificates.{start_of, IsSearchable, start_is, IsSearched}

@@ -8,9 +8,9 @@ use Rattle.core_spec.specs.CoreCuts.{Mark}
 use Rattle.cert_spec.specs.Stated.{Stated, IsStatedInRange}
 use Rattle.plan_model.specs.Lines.{tree_line_of}
 use Rattle.plan_model.specs.declared.tree_lines.TreeLine.{TreeLine}
-use Rattle.kept_cuts.specs.Kept.{kept_cuts}
-use Rattle.kept_cuts.specs.declared.found.Found.{Found}
-use Rattle.kept_cuts.specs.Findings.{lines_of, proof_of as found_proof}
+use Rattle.cut_pool.specs.Kept.{kept_cuts}
+use Rattle.cut_pool.specs.declared.found.Found.{Found}
+use Rattle.cut_pool.specs.Findings.{lines_of, proof_of as found_proof}
 use Rattle.cert_format.specs.Parts.{proof_of as text_proof, stated_of, AreCertificateParts, IsHeadingOf}
 use Rattle.cert_format.specs.Growing.{tree_of}
 use Rattle.cert_format.specs.Codes.{tree_of-preorder}

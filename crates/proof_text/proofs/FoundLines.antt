@@ -17,9 +17,9 @@ use Rattle.cert_format.specs.Parts.{IsHeadingOf, HasProofs}
 use Rattle.cert_format.specs.declared.headings.Heading.{Heading}
 use Rattle.cert_format.proofs.Joined.{three_texts}
 use Rattle.cert_format.proofs.CutLines.{cut_text, cut_at, cut_text_by}
-use Rattle.kept_cuts.specs.Kept.{Kept, by_set, KeptList, kept_cut, kept_cuts, kept_part, kept_at, IsKeptFor}
-use Rattle.kept_cuts.specs.Findings.{lines_of, proof_of}
-use Rattle.kept_cuts.specs.declared.found.Found.{Found}
+use Rattle.cut_pool.specs.Kept.{Kept, by_set, KeptList, kept_cut, kept_cuts, kept_part, kept_at, IsKeptFor}
+use Rattle.cut_pool.specs.Findings.{lines_of, proof_of}
+use Rattle.cut_pool.specs.declared.found.Found.{Found}
 use Rattle.dual_lender.specs.Lenders.{kept_dual}
 use Rattle.dual_lender.proofs.Lending.{kept_cut_is}
 use Rattle.proof_text.specs.Certificates.{mark_said, stated_by}

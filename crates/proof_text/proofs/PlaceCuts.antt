@@ -4,8 +4,8 @@ use Rattle.std.proofs.lemmas.List.{length-map}
 use Rattle.std.proofs.lemmas.List.Elements.{All-get_or}
 use Rattle.std.proofs.lemmas.Nat.{div_below, mul-le}
 use Rattle.hub_spec.specs.Limits.{most_nodes, most_cuts}
-use Rattle.kept_cuts.specs.Kept.{by_set, KeptList, kept_cut, IsKeptFor}
-use Rattle.kept_cuts.specs.declared.found.Found.{Found}
+use Rattle.cut_pool.specs.Kept.{by_set, KeptList, kept_cut, IsKeptFor}
+use Rattle.cut_pool.specs.declared.found.Found.{Found}
 use Rattle.proof_text.specs.Certificates.{CanBeStated}
 use Rattle.proof_text.specs.Places.{AreLines, place_count, cut_of}
 use Rattle.proof_text.specs.declared.places.CutLines.{CutLines}

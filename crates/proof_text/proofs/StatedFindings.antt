@@ -13,9 +13,9 @@ use Rattle.core_spec.specs.CoreCuts.{Mark}
 use Rattle.cert_spec.specs.Stated.{unmarked, as_second, IsThird, IsStatedInRange, IsStatedOf}
 use Rattle.cert_format.specs.Growing.{tree_of}
 use Rattle.cert_format.specs.Codes.{tree_of-preorder}
-use Rattle.kept_cuts.specs.Kept.{Kept, kept_cut, kept_mark}
-use Rattle.kept_cuts.specs.Findings.{lines_of, proof_of, IsVersionFor, IsProved}
-use Rattle.kept_cuts.specs.declared.found.Found.{Found}
+use Rattle.cut_pool.specs.Kept.{Kept, kept_cut, kept_mark}
+use Rattle.cut_pool.specs.Findings.{lines_of, proof_of, IsVersionFor, IsProved}
+use Rattle.cut_pool.specs.declared.found.Found.{Found}
 use Rattle.proof_text.specs.Certificates.{mark_said, stated_by, CanBeStated, HasVersion}
 use Rattle.proof_text.proofs.SaidMarks.{all_in_range, all_as_marked, other_says_none, none_says_none, none_said}
 

@@ -5,9 +5,9 @@ use Rattle.hub_spec.specs.Trees.{Tree, preorder}
 use Rattle.hub_spec.specs.Ranges.{IsVersionOf, IsInRange}
 use Rattle.core_spec.specs.CoreCuts.{Mark}
 use Rattle.cert_spec.specs.Stated.{Stated, as_second}
-use Rattle.kept_cuts.specs.Kept.{Kept, kept_mark, IsKeptFor}
-use Rattle.kept_cuts.specs.Findings.{lines_of, proof_of}
-use Rattle.kept_cuts.specs.declared.found.Found.{Found}
+use Rattle.cut_pool.specs.Kept.{Kept, kept_mark, IsKeptFor}
+use Rattle.cut_pool.specs.Findings.{lines_of, proof_of}
+use Rattle.cut_pool.specs.declared.found.Found.{Found}
 
 -- the mark that a text of the version says of a kept cut: only the third says marks
 abbrev pub mark_said : ℕ → Kept → Option Mark

@@ -2,7 +2,7 @@
 
 ghost use Rattle.std.specs.Prelude.{◌≡◌, IfOk, All};
 ghost use Rattle.cert_scan.specs.Versions.{version_number};
-ghost use Rattle.kept_cuts.specs.Kept.{kept_of, kept_cut, kept_cuts, IsKeptFor};
+ghost use Rattle.cut_pool.specs.Kept.{kept_of, kept_cut, kept_cuts, IsKeptFor};
 ghost use Rattle.proof_text.specs.Certificates.{IsCertificateOf, CanBeStated, HasVersion};
 ghost use Rattle.dual_lender.specs.Lenders.{IsLenderFor, made_dual};
 
@@ -11,7 +11,7 @@ use crate::marks::said_marks;
 use cert_format::{Certificate, Version};
 use dual_lender::DualLender;
 use hub_model::Instance;
-use kept_cuts::{Found, KeptCut, KeptCuts};
+use cut_pool::{Found, KeptCut, KeptCuts};
 use plan_model::{Dual, Plan, TreeLine};
 use cut_model::StatedCut;
 use std::alloc::{AllocError, Global};

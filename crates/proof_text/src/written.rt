@@ -5,7 +5,7 @@ ghost use Rattle.cert_spec.specs.Text.{cut_items_as};
 ghost use Rattle.hub_io.specs.Outside.{Puts};
 ghost use Rattle.cert_scan.specs.Versions.{version_number};
 ghost use Rattle.cert_format.specs.Puts.{PutsLines};
-ghost use Rattle.kept_cuts.specs.Kept.{kept_of, kept_cut, IsKeptFor};
+ghost use Rattle.cut_pool.specs.Kept.{kept_of, kept_cut, IsKeptFor};
 ghost use Rattle.dual_lender.specs.Lenders.{IsLenderFor};
 ghost use Rattle.proof_text.specs.Certificates.{mark_said, CanBeStated};
 ghost use Rattle.proof_text.specs.Places.{AreLines};
@@ -20,7 +20,7 @@ use cert_format::{Version, put_top, put_tree};
 use dual_lender::DualLender;
 use hub_io::{Buffer, Failed, Sink};
 use hub_model::Instance;
-use kept_cuts::{Found, KeptCuts};
+use cut_pool::{Found, KeptCuts};
 use std::thread::Threads;
 
 /// What a search of the instance found, and the version of the text that is written of it.

@@ -6,7 +6,7 @@ ghost use Rattle.search_spec.specs.Steps.{begun};
 ghost use Rattle.search_spec.specs.Choices.{begun_for};
 ghost use Rattle.separators.specs.Kinds.{parts_for};
 ghost use Rattle.search_steps.specs.Starts.{first_set};
-ghost use Rattle.kept_cuts.specs.Findings.{lines_of};
+ghost use Rattle.cut_pool.specs.Findings.{lines_of};
 ghost use Rattle.search_progress.specs.Progressing.{state_of, IsGoing};
 
 use crate::progress::Progress;

@@ -15,7 +15,7 @@ use Rattle.hub_spec.proofs.SetCutFunction.{set_cut_is_one_lem}
 use Rattle.hub_spec.proofs.SetCuts as sets
 use Rattle.hub_spec.proofs.SetCuts.{loads_within, set_cut_is_cut}
 use Rattle.hub_spec.proofs.SumLemmas.{by_test}
-use Rattle.kept_cuts.specs.Kept.{Kept, by_values, by_set, cored, given, kept_cut, kept_part, IsKeptFor, IsPooled}
+use Rattle.cut_pool.specs.Kept.{Kept, by_values, by_set, cored, given, kept_cut, kept_part, IsKeptFor, IsPooled}
 use Rattle.search_spec.specs.Choices.{has_node}
 use Rattle.search_spec.proofs.RuleParts.{has_when, in_when}
 use Rattle.search_spec.proofs.Loads.{no_load_off}

@@ -14,7 +14,7 @@ use Rattle.core_cuts.proofs.CoredFunctions.{cored_function}
 use Rattle.core_cuts.proofs.ServingCuts.{cored_serves}
 use Rattle.search_spec.specs.Laws.{Serves, GoesOn}
 use Rattle.search_spec.specs.Choices.{rule_parts}
-use Rattle.kept_cuts.specs.Kept.{by_set, kept_set, kept_cut, kept_mark}
+use Rattle.cut_pool.specs.Kept.{by_set, kept_set, kept_cut, kept_mark}
 use Rattle.cut_pool.specs.Entries.{core_entry}
 use Rattle.search_steps.specs.Advising.{parts_of}
 use Rattle.search_steps.specs.Pools.{IsSumsOf}

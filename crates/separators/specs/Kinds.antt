@@ -6,7 +6,7 @@ use Rattle.core_spec.specs.CoreCuts.{Mark}
 use Rattle.cut_model.specs.MarkedCuts.{MarkedCut}
 use Rattle.core_cuts.specs.Finding.{core_marked}
 use Rattle.search_spec.specs.States.{Parts}
-use Rattle.kept_cuts.specs.Kept.{Kept, by_set, cored}
+use Rattle.cut_pool.specs.Kept.{Kept, by_set, cored}
 use Rattle.search_steps.specs.Advising.{parts_of}
 
 pub data CutKind : Type 0 where

@@ -4,7 +4,7 @@ use Rattle.hub_spec.specs.Problem.{Problem, IsProblem}
 use Rattle.hub_spec.specs.Plans.{IsHubSet}
 use Rattle.search_spec.specs.Laws.{AreSound}
 use Rattle.search_steps.specs.Advising.{parts_of}
-use Rattle.kept_cuts.specs.Kept.{kept_cut, kept_mark, kept_set}
+use Rattle.cut_pool.specs.Kept.{kept_cut, kept_mark, kept_set}
 use Rattle.separators.specs.Kinds.{CutKind, minimal, cut_by, mark_by, kept_by, parts_for}
 
 -- the parts are sound

@@ -1,13 +1,13 @@
 //! What a search finds.
 
 ghost use Rattle.std.specs.Prelude.{IfOk};
-ghost use Rattle.kept_cuts.specs.Findings.{AreRemade, IsProved};
+ghost use Rattle.cut_pool.specs.Findings.{AreRemade, IsProved};
 
 use crate::texts::tree_text;
 use branch_tree::search;
 use hub_model::Instance;
 use hub_plain::is_hub_set;
-use kept_cuts::Found;
+use cut_pool::Found;
 use search_steps::Plain;
 use separators::Solo;
 use std::alloc::{AllocError, Global};

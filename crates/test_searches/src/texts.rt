@@ -1,7 +1,7 @@
 //! Texts as a sink in memory takes them.
 
 ghost use Rattle.std.specs.Prelude.{◌≤◌, IsTrue};
-ghost use Rattle.kept_cuts.specs.Findings.{IsUnlimited, IsProved};
+ghost use Rattle.cut_pool.specs.Findings.{IsUnlimited, IsProved};
 
 use crate::searches::found_of;
 use cert_format::{Version, put_tree, write_cert};

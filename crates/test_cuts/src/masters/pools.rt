@@ -1,9 +1,8 @@
 //! A pool of cuts, the steps that are made on it, and what it keeps.
 
 use super::fields::{numbers, parted};
-use cut_pool::{CutSums, Pool};
+use cut_pool::{CutSums, KeptCut, Pool};
 use hub_model::is_node_list;
-use kept_cuts::KeptCut;
 use plan_model::HubSet;
 use std::alloc::{AllocError, Global};
 

@@ -3,7 +3,7 @@ use Rattle.std.specs.Int.{w128}
 use Rattle.std.proofs.lemmas.Int.{to_z-of_z}
 use Rattle.hub_spec.specs.Problem.{Problem, IsProblem}
 use Rattle.hub_spec.specs.Trees.{cut_at}
-use Rattle.kept_cuts.specs.Kept.{KeptList, kept_cuts, kept_part, IsRemade, AreKeptFor}
+use Rattle.cut_pool.specs.Kept.{KeptList, kept_cuts, kept_part, IsRemade, AreKeptFor}
 use Rattle.closing_search.specs.Progressing.{cuts_of}
 use Rattle.closing_search.specs.SingleCuts.{AreLentOf, IsOnCut}
 use Rattle.closing_search.proofs.KeptSums.{map-slice_range, kept_at_number}

@@ -1,7 +1,7 @@
 use Rattle.std.proofs.Common.{◌≡◌, List, refl, ap, ◌∙◌, rules}
 use Rattle.std.specs.Prelude.{ℕ}
 use Rattle.hub_spec.specs.Plans.{Plan}
-use Rattle.kept_cuts.specs.declared.found.Found.{Found}
+use Rattle.cut_pool.specs.declared.found.Found.{Found}
 use Rattle.closing_search.proofs.Findings.{IsFoundOf, found_of, found_proved, found_own, found_at_most, found_given, found_best, found_within, found_below, found_most, found_allowed, found_spent, found_enough, found_whole}
 use Rattle.closing_search.proofs.optimizing.finish.Goals as goal
 use Rattle.closing_search.proofs.optimizing.finish.Goals.{After-drop-progress-2}

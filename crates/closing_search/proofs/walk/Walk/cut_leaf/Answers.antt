@@ -5,7 +5,7 @@ use Rattle.std.proofs.lemmas.List.{length-map}
 use Rattle.hub_spec.specs.Trees.{Closes, cut_at}
 use Rattle.plan_model.specs.Lines.{tree_line_of}
 use Rattle.search_spec.specs.States.{denominator, lesser, rounded_up}
-use Rattle.kept_cuts.specs.Kept.{kept_cut}
+use Rattle.cut_pool.specs.Kept.{kept_cut}
 use Rattle.closing_search.specs.Gaps.{IsWithinGap, goal_of}
 use Rattle.closing_search.specs.Progressing.{cuts_of, IsDone, IsLastLine}
 use Rattle.closing_search.specs.SingleCuts.{cut_bound}

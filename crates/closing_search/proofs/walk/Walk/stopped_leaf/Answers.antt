@@ -4,7 +4,7 @@ use Rattle.std.proofs.lemmas.Int.{to_z-of_z}
 use Rattle.std.proofs.lemmas.List.{length-map}
 use Rattle.plan_model.specs.Lines.{tree_line_of}
 use Rattle.search_spec.specs.States.{lesser, rounded_up}
-use Rattle.kept_cuts.specs.Kept.{kept_cut}
+use Rattle.cut_pool.specs.Kept.{kept_cut}
 use Rattle.hub_spec.specs.Trees.{Closes, leaf_bound}
 use Rattle.search_spec.specs.States.{denominator}
 use Rattle.closing_search.specs.SingleCuts.{weights_on}

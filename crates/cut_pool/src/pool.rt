@@ -1,0 +1,342 @@
+//! Cuts under their numbers.
+
+ghost use Rattle.std.specs.Prelude.{◌≡◌, ℕ, ◌+◌, ◌<◌, ◌≤◌, List, [], ◌∷◌, ◌++◌, Some, length, map, slice_index, IfSome, IfNone, IsOk, IfOk, OnOk, OnErr, IfErr};
+ghost use Rattle.hub_spec.specs.Limits.{most_nodes};
+ghost use Rattle.hub_spec.specs.Ranges.{IsCutInRange};
+ghost use Rattle.cut_pool.specs.Kept.{kept_of, kept_set, kept_part};
+ghost use Rattle.cut_pool.specs.Entries.{entry_of, core_entry, given_entry, entry_at, entry_part, unit_totals, unit_loads, most_stated, IsNumber, IsNumberOf, Lacks};
+ghost use Rattle.cut_pool.specs.Shorts.{AreShortLoads};
+ghost use Rattle.cut_pool.specs.Stated.{IsStated};
+ghost use Rattle.cut_pool.specs.Units.{AreWhole};
+
+use crate::places::{index_next, place_of};
+use crate::set_cuts::hubs_of;
+use crate::short_loads::{reserve_kept, with_cut};
+use crate::stated_sums::StatedSums;
+use crate::unit_columns::{UnitColumns, enter};
+use crate::{CutStore, CutSums, KeptCut, KeptCuts, ShortLoads};
+use cut_model::{MarkedCut, StatedCut};
+use plan_model::HubSet;
+use std::alloc::{AllocError, Global};
+use std::marker::Model;
+
+// The most cuts of a pool: their numbers are below 2^32.
+const MOST_KEPT: u64 = 4_294_967_295;
+
+/// The cuts of a search, numbered from 1 in the order in which they were added: separated cuts and core cuts, no two of one
+/// hub set, and cuts that were given with their duals, which are of no hub set.
+///
+/// A pool is seen as its entries, with how many more can be added for certain.
+#[derive(Drop)]
+pub struct Pool {
+    cuts: CutStore,
+    // The places of the cuts that are of hub sets, from 0, in the order of the members of these.
+    by_set: Vec<u32>,
+    // The loads in 32 bits, until they are given up.
+    short: Option<ShortLoads>,
+    // Totals and loads for one unit of each cut's part, once a part is above 1.
+    units: Option<UnitColumns>,
+    // The greatest load of a cut that is kept with its duals, for one unit of its part.
+    most_load: u128,
+}
+
+impl Model for Pool {
+    ghost use Rattle.cut_pool.specs.Entries.{PoolState};
+
+    ghost Value = { PoolState };
+
+    ghost use Rattle.cut_pool.specs.PoolParts.{state_of, IsPool};
+
+    ghost view = { state_of };
+
+    ghost invariant = { IsPool };
+}
+
+/// A cut that was not added, since memory was wanting, with its order.
+#[derive(Drop)]
+pub struct Refused {
+    /// The cut.
+    pub cut: CutSums,
+    /// The order of the candidates outside its hub set.
+    pub order: Vec<u32>,
+}
+
+impl Pool {
+    /// A pool with no cut. It takes no memory.
+    pub fn new(alloc: Global) -> Result<Pool, AllocError>
+        ensures empty { IfOk result (λ p. p.entries ≡ []) }
+        ensures succeeds { IsOk result }
+    {
+        Ok(Pool {
+            cuts: CutStore::new(alloc),
+            by_set: Vec::new(alloc),
+            short: Some(ShortLoads::new(alloc)),
+            units: None,
+            most_load: 0,
+        })
+    }
+
+    /// Takes memory for this many more cuts, so that adding them is sure to succeed.
+    ///
+    /// As they are added, memory may still be asked for the short loads, which are given up where it is wanting. A pool
+    /// has at most 2^32 - 1 cuts: more are refused as want of memory.
+    pub fn reserve(&mut self, cuts: u64) -> Result<(), AllocError>
+        ensures entries { self.new.entries ≡ self.old.entries }
+        ensures spare { OnOk result (cuts ≤ self.new.spare) }
+        ensures kept { self.old.spare ≤ self.new.spare }
+        ensures succeeds { cuts ≤ self.old.spare → IsOk result }
+    {
+        if cuts <= self.spare() {
+            return Ok(());
+        }
+        if cuts > MOST_KEPT - self.cuts.len() as u64 {
+            return Err(AllocError);
+        }
+        let more = cuts as usize;
+        self.cuts.reserve(more)?;
+        self.by_set.reserve(more)?;
+        reserve_kept(&mut self.short, more)
+    }
+
+    // How many more cuts can be added for certain.
+    fn spare(&self) -> u64
+        ensures { result ≡ self.now.spare }
+    {
+        let room = self
+            .cuts
+            .spare()
+            .min(self.by_set.capacity() - self.by_set.len());
+        (MOST_KEPT - self.cuts.len() as u64).min(room as u64)
+    }
+
+    /// The number of the cut of this hub set, if there is one. It takes no memory.
+    ///
+    /// No two cuts are of one hub set, so the number is the only one.
+    pub fn find(&self, set: &HubSet) -> Option<u64>
+        ensures some { IfSome result (IsNumberOf self.now.entries set.now) }
+        ensures only { IfSome result (λ c. (x : ℕ) → IsNumberOf self.now.entries set.now x → x ≡ c) }
+        ensures none { IfNone result (Lacks self.now.entries set.now) }
+    {
+        let hubs = set.members();
+        let at = place_of(self.cuts.cuts(), &self.by_set, hubs);
+        if at == self.by_set.len() {
+            return None;
+        }
+        let place = self.by_set[at];
+        if hubs_of(&self.cuts.cuts()[place as usize]) != hubs {
+            return None;
+        }
+        Some(u64::from(place) + 1)
+    }
+
+    /// Adds the cut of a hub set that has none yet, with the order of the other candidates that it was worked out over,
+    /// and gives its number, the next one.
+    ///
+    /// Cut and order come back where memory is wanting, or where the pool has all the cuts that it can number. With room
+    /// for one more it is sure to succeed while each cut's part is 1: the short loads may still ask for memory, and are
+    /// given up where it is wanting. Once a part is above 1 the loads are kept twice, and the copy asks for memory too.
+    pub fn add(&mut self, cut: CutSums, order: Vec<u32>) -> Result<u64, Refused>
+        requires { Lacks self.old.entries cut.hubs }
+        ensures number { IfOk result (λ c. c ≡ length self.old.entries + 1) }
+        ensures added { OnOk result (self.new.entries ≡ self.old.entries ++ entry_of cut order.items ∷ []) }
+        ensures spare { OnOk result (self.old.spare ≤ self.new.spare + 1) }
+        ensures succeeds { 1 ≤ self.old.spare → AreWhole self.old.entries → IsOk result }
+        ensures refused { OnErr result (self.new.entries ≡ self.old.entries) }
+        ensures given_back { IfErr result (λ r. r.cut ≡ cut) }
+        ensures order_given_back { IfErr result (λ r. r.order.items ≡ order.items) }
+    {
+        if self.reserve(1).is_err() {
+            return Err(Refused { cut, order });
+        }
+        let alloc = *order.allocator();
+        let (total, loads) = (cut.total(), cut.loads());
+        if enter(alloc, &mut self.units, &self.cuts, 1, total, loads).is_err() {
+            return Err(Refused { cut, order });
+        }
+        let place = self.cuts.len();
+        let (set, total, loads) = cut.into_parts();
+        let kept = KeptCut::Set(set, order);
+        index_next(self.cuts.cuts(), &mut self.by_set, &kept);
+        self.short = with_cut(self.short.take(), place == 0, &loads);
+        self.cuts.put(kept, total, loads);
+        Ok(place as u64 + 1)
+    }
+
+    /// Adds the core cut of a hub set that has no cut yet, between `size` nodes, and gives its number, the next one.
+    ///
+    /// The cut comes back where memory is wanting, or where the pool has all the cuts that it can number, and its cuts stay
+    /// as they were.
+    pub fn add_core(&mut self, alloc: Global, size: u32, cut: MarkedCut) -> Result<u64, MarkedCut>
+        requires first_time { Lacks self.old.entries cut.mark.hubs }
+        requires size { size ≤ most_nodes }
+        requires duals { IsCutInRange size cut.cut }
+        ensures number { IfOk result (λ c. c ≡ length self.old.entries + 1) }
+        ensures added { OnOk result (self.new.entries ≡ self.old.entries ++ core_entry size cut ∷ []) }
+        ensures spare { OnOk result (self.old.spare ≤ self.new.spare + 1) }
+        ensures refused { OnErr result (self.new.entries ≡ self.old.entries) }
+        ensures given_back { IfErr result (λ back. back ≡ cut) }
+    {
+        let Ok(sums) = StatedSums::of(alloc, size, &cut.cut) else {
+            return Err(cut);
+        };
+        match self.add_stated(alloc, KeptCut::Core(cut), sums) {
+            Ok(number) => Ok(number),
+            Err(KeptCut::Core(cut)) => Err(cut),
+            Err(_) => unreachable!(),
+        }
+    }
+
+    /// Adds a cut that was given with its duals, between `size` nodes, and gives its number, the next one. No hub set finds
+    /// it.
+    ///
+    /// The cut comes back where memory is wanting, or where the pool has all the cuts that it can number, and its cuts stay
+    /// as they were.
+    pub fn add_given(&mut self, alloc: Global, size: u32, cut: StatedCut) -> Result<u64, StatedCut>
+        requires size { size ≤ most_nodes }
+        requires duals { IsCutInRange size cut }
+        ensures number { IfOk result (λ c. c ≡ length self.old.entries + 1) }
+        ensures added { OnOk result (self.new.entries ≡ self.old.entries ++ given_entry size cut ∷ []) }
+        ensures spare { OnOk result (self.old.spare ≤ self.new.spare + 1) }
+        ensures refused { OnErr result (self.new.entries ≡ self.old.entries) }
+        ensures given_back { IfErr result (λ back. back ≡ cut) }
+    {
+        let Ok(sums) = StatedSums::of(alloc, size, &cut) else {
+            return Err(cut);
+        };
+        match self.add_stated(alloc, KeptCut::Given(cut), sums) {
+            Ok(number) => Ok(number),
+            Err(KeptCut::Given(cut)) => Err(cut),
+            Err(_) => unreachable!(),
+        }
+    }
+
+    // Adds a cut that is kept with its duals, with its sums, under the next number. Where it is of a hub set, that has no
+    // cut yet.
+    //
+    // The cut comes back where it is not added, and the cuts stay as they were.
+    fn add_stated(&mut self, alloc: Global, cut: KeptCut, sums: StatedSums) -> Result<u64, KeptCut>
+        requires stated { IsStated (kept_of cut) }
+        requires part { sums.part ≡ kept_part (kept_of cut) }
+        requires first_time { (hubs : List ℕ) → kept_set (kept_of cut) ≡ Some hubs → Lacks self.old.entries hubs }
+        ensures number { IfOk result (λ c. c ≡ length self.old.entries + 1) }
+        ensures added { OnOk result (self.new.entries
+            ≡ self.old.entries ++ record { cut = kept_of cut; total = sums.total; loads = sums.loads } ∷ []) }
+        ensures spare { OnOk result (self.old.spare ≤ self.new.spare + 1) }
+        ensures refused { OnErr result (self.new.entries ≡ self.old.entries) }
+        ensures given_back { IfErr result (λ back. kept_of back ≡ kept_of cut) }
+    {
+        let Ok(()) = self.reserve(1) else {
+            return Err(cut);
+        };
+        let (part, total, loads) = (sums.part, sums.unit_total, &sums.unit_loads);
+        if enter(alloc, &mut self.units, &self.cuts, part, total, loads).is_err() {
+            return Err(cut);
+        }
+        let place = self.cuts.len();
+        index_next(self.cuts.cuts(), &mut self.by_set, &cut);
+        self.short = with_cut(self.short.take(), place == 0, loads);
+        self.most_load = self.most_load.max(sums.most);
+        self.cuts.put(cut, sums.total, sums.loads);
+        Ok(place as u64 + 1)
+    }
+
+    /// How many cuts there are.
+    pub fn len(&self) -> u64
+        ensures { result ≡ length self.now.entries }
+    {
+        self.cuts.len() as u64
+    }
+
+    /// The total of cut `c`, in 10^-12.
+    pub fn total(&self, c: u64) -> u128
+        requires { IsNumber self.now.entries c }
+        ensures { result ≡ (entry_at self.now.entries c).total }
+    {
+        self.cuts.totals()[(c - 1) as usize]
+    }
+
+    /// The load of node `k` in cut `c`, in 10^-12.
+    pub fn load(&self, c: u64, k: u32) -> u128
+        requires number { IsNumber self.now.entries c }
+        requires node { k < length (entry_at self.now.entries c).loads }
+        ensures { result ≡ slice_index (entry_at self.now.entries c).loads k }
+    {
+        self.cuts.loads()[(c - 1) as usize][k as usize]
+    }
+
+    /// What the duals of cut `c` can be made from.
+    pub fn cut(&self, c: u64) -> &KeptCut
+        requires { IsNumber self.now.entries c }
+        ensures { kept_of result.now ≡ (entry_at self.now.entries c).cut }
+    {
+        &self.cuts.cuts()[(c - 1) as usize]
+    }
+
+    /// The part of each cut, in the order of their numbers: 1 but for core cuts and given ones.
+    pub fn parts(&self) -> &[u32]
+        ensures { result.now ≡ map entry_part self.now.entries }
+    {
+        self.cuts.parts()
+    }
+
+    /// The total of each cut, in 10^-12, in the order of their numbers.
+    pub fn totals(&self) -> &[u128]
+        ensures { result.now ≡ map (λ e. e.total) self.now.entries }
+    {
+        self.cuts.totals()
+    }
+
+    /// The loads of each cut, in 10^-12, in the order of their numbers.
+    pub fn loads(&self) -> &[Vec<u128>]
+        ensures { map (λ v. v.items) result.now ≡ map (λ e. e.loads) self.now.entries }
+    {
+        self.cuts.loads()
+    }
+
+    /// The total of each cut for one unit of its part, in 10^-12, rounded down, in the order of their numbers.
+    pub fn unit_totals(&self) -> &[u128]
+        ensures { result.now ≡ unit_totals self.now.entries }
+    {
+        match &self.units {
+            Some(units) => units.totals(),
+            None => self.cuts.totals(),
+        }
+    }
+
+    /// The loads of each cut for one unit of its part, in 10^-12, rounded down, in the order of their numbers.
+    pub fn unit_loads(&self) -> &[Vec<u128>]
+        ensures { map (λ v. v.items) result.now ≡ unit_loads self.now.entries }
+    {
+        match &self.units {
+            Some(units) => units.loads(),
+            None => self.cuts.loads(),
+        }
+    }
+
+    /// The greatest load of a core cut or a given one for one unit of its part, in 10^-12, rounded down: 0 if there is none.
+    pub fn most_stated(&self) -> u128
+        ensures { result ≡ most_stated self.now.entries }
+    {
+        self.most_load
+    }
+
+    /// The loads for one unit of each cut's part in 32 bits, if they are kept: a row for each node, with one number for each
+    /// cut.
+    ///
+    /// They are given up for good where a cut has loads of more or fewer nodes than those before, and where memory for
+    /// them is wanting as a cut is added.
+    pub fn short_loads(&self) -> Option<&ShortLoads>
+        ensures { IfSome result (λ s. AreShortLoads self.now.entries s.now) }
+    {
+        self.short.as_ref()
+    }
+
+    /// The cuts, as a finding has them. It takes no memory.
+    pub fn into_cuts(self) -> KeptCuts
+        ensures cuts { result.cuts ≡ map (λ e. e.cut) self.entries }
+        ensures totals { result.totals ≡ map (λ e. e.total) self.entries }
+        ensures loads { result.loads ≡ map (λ e. e.loads) self.entries }
+    {
+        KeptCuts::of(self.cuts)
+    }
+}
