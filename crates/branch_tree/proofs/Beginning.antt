@@ -20,7 +20,7 @@ use Rattle.search_spec.specs.Again.{Start, has_wanted, is_tried, tried, with_giv
 use Rattle.search_spec.proofs.Beginnings.{all_has, all_in, one_by_one}
 use Rattle.cut_pool.specs.Entries.{given_entry}
 use Rattle.search_steps.specs.Advising.{parts_of}
-use Rattle.separators.specs.Kinds.{CutKind, parts_for}
+use Rattle.search_progress.specs.Kinds.{CutKind, parts_for}
 use Rattle.search_steps.specs.Pools.{IsSumsOf, IsPoolOf, state_by}
 use Rattle.search_steps.proofs.GivenPools.{grown_same, grown_twice, added_is_given}
 use Rattle.search_core.specs.declared.tasks.Task.{Task}

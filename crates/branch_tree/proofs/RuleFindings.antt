@@ -10,8 +10,8 @@ use Rattle.search_spec.specs.Costs.{IsAtMostOf, first_hubs, IsAtMostBoth}
 use Rattle.search_spec.proofs.FallingCosts.{cost_falls, least_to, begun_most, again_most}
 use Rattle.search_spec.proofs.WholeSearches.{begun_by, search_proof, search_counted, search_stopped, enough_nodes}
 use Rattle.search_spec.proofs.Beginnings.{again_start, rule_of_sets}
-use Rattle.separators.specs.Kinds.{CutKind, minimal, parts_for}
-use Rattle.separators.proofs.KindCuts.{kind_is_sound}
+use Rattle.search_progress.specs.Kinds.{CutKind, minimal, parts_for}
+use Rattle.search_progress.proofs.KindCuts.{kind_is_sound}
 use Rattle.cut_pool.specs.Findings.{AreRemade}
 use Rattle.cut_pool.specs.declared.found.Found.{Found}
 use Rattle.branch_tree.specs.Findings.{found_by, found_again}

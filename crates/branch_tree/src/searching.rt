@@ -11,16 +11,15 @@ ghost use Rattle.cut_pool.specs.Findings.{lines_of, proof_of, AreRemade, IsProve
 ghost use Rattle.search_progress.specs.Progressing.{state_of, IsGoing};
 ghost use Rattle.branch_tree.specs.Findings.{found_by};
 ghost use Rattle.search_progress.specs.Findings.{IsFound};
-ghost use Rattle.separators.specs.Kinds.{minimal, parts_for};
+ghost use Rattle.search_progress.specs.Kinds.{minimal, parts_for};
 
 use crate::walk::Walk;
 use hub_model::Instance;
 use cut_pool::Found;
 use plan_model::Branch;
 use search_core::Task;
-use search_progress::{Progress, begin, finish};
+use search_progress::{Progress, Separator, begin, finish};
 use search_steps::Rule;
-use separators::Separator;
 use std::alloc::{AllocError, Global};
 
 /// What the rule of the search, which serves the instance, finds: a wanted plan with its cost, a bound that no wanted

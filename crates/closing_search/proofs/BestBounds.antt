@@ -5,7 +5,7 @@ use Rattle.hub_spec.specs.Cuts.{Cut}
 use Rattle.hub_spec.specs.Trees.{Branching, open_child, closed_child, leaf_bound, Closes, Tree, branch, leaf, empty, block, count, TreeLine, branch_on, leaf_of, no_hub, no_route, no_count, preorder, IsSound}
 use Rattle.search_spec.specs.States.{lesser}
 use Rattle.search_spec.proofs.Keeping.{kept_more, leaf_bound-kept}
-use Rattle.tree_walks.specs.Walks.{IsSoundLine, filled, Walks}
+use Rattle.search_spec.specs.Walks.{IsSoundLine, filled, Walks}
 use Rattle.cut_pool.specs.Findings.{lines_of}
 use Rattle.closing_search.specs.declared.progress.Progress.{Progress}
 use Rattle.closing_search.specs.Progressing.{cuts_of, WalksTo, Proves, Says, KeepsBest}

@@ -13,7 +13,7 @@ use Rattle.leaf_bound.specs.Weighing.{most_bound, IsWithin}
 use Rattle.search_spec.specs.States.{denominator, whole_on, lesser, rounded_up}
 use Rattle.search_spec.proofs.Bounds.{rounded_closes}
 use Rattle.search_spec.proofs.Keeping.{closes_less}
-use Rattle.tree_walks.specs.Walks.{IsSoundLine}
+use Rattle.search_spec.specs.Walks.{IsSoundLine}
 use Rattle.cut_pool.specs.Kept.{Kept, kept_cut, kept_cuts, IsRemade}
 use Rattle.closing_search.specs.declared.leaves.Choice.{Choice}
 use Rattle.closing_search.specs.SingleCuts.{cut_bound, weights_on, IsChoice}

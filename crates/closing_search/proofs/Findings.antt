@@ -25,8 +25,8 @@ use Rattle.search_spec.specs.Costs.{IsAtMostOf, first_hubs}
 use Rattle.search_spec.specs.Findings.{AreWithin, IsSpent, IsEnough}
 use Rattle.search_spec.proofs.FallingCosts.{least_to}
 use Rattle.search_spec.proofs.Invariants.{lesser_least}
-use Rattle.tree_walks.specs.Walks.{Walks}
-use Rattle.tree_walks.proofs.Walking.{is_tree}
+use Rattle.search_spec.specs.Walks.{Walks}
+use Rattle.search_spec.proofs.Walking.{is_tree}
 use Rattle.cut_pool.specs.Kept.{Kept, KeptList, kept_cut, kept_cuts, IsRemade, IsKeptFor}
 use Rattle.cut_pool.specs.declared.found.Found.{Found}
 use Rattle.cut_pool.specs.Findings.{lines_of, proof_of, IsUnlimited, AreRemade, IsVersionFor, IsProved}

@@ -17,8 +17,8 @@ use Rattle.search_spec.proofs.FallingCosts.{least_to}
 use Rattle.search_spec.proofs.Invariants.{lesser_less}
 use Rattle.search_spec.proofs.Leaves.{double}
 use Rattle.search_spec.proofs.Parting.{length-without}
-use Rattle.tree_walks.specs.Walks.{IsSoundLine, filled, Walks}
-use Rattle.tree_walks.proofs.Walking.{goes_on, stays}
+use Rattle.search_spec.specs.Walks.{IsSoundLine, filled, Walks}
+use Rattle.search_spec.proofs.Walking.{goes_on, stays}
 use Rattle.cut_pool.specs.Kept.{Kept, KeptList, kept_cut, kept_cuts, IsRemade, IsKeptFor, AreKeptFor}
 use Rattle.cut_pool.specs.Findings.{lines_of, IsUnlimited}
 use Rattle.closing_search.specs.Ends.{IsEndLine}

@@ -7,7 +7,7 @@ use Rattle.hub_spec.specs.Ranges.{IsFirstLine, IsLineInRange}
 use Rattle.hub_spec.specs.Trees.{Branching, HasRoom, TreeLine}
 use Rattle.search_spec.specs.Choices.{all_open, only_set}
 use Rattle.search_spec.specs.Laws.{IsWantedSet}
-use Rattle.tree_walks.specs.Walks.{IsSoundLine, filled}
+use Rattle.search_spec.specs.Walks.{IsSoundLine, filled}
 use Rattle.cut_pool.specs.Findings.{IsUnlimited}
 
 -- a line after which nothing more is to be filled

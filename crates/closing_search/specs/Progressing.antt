@@ -10,7 +10,7 @@ use Rattle.search_spec.specs.States.{lesser}
 use Rattle.search_spec.specs.Laws.{IsWantedSet}
 use Rattle.search_spec.specs.Costs.{IsAtMostOf, first_hubs}
 use Rattle.search_spec.specs.Findings.{AreWithin, IsSpent, IsEnough}
-use Rattle.tree_walks.specs.Walks.{IsSoundLine, Walks}
+use Rattle.search_spec.specs.Walks.{IsSoundLine, Walks}
 use Rattle.cut_pool.specs.Kept.{kept_cuts, IsRemade, AreKeptFor}
 use Rattle.cut_pool.specs.Findings.{lines_of, IsUnlimited}
 use Rattle.cut_pool.specs.declared.found.Found.{Found}

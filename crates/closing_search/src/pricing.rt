@@ -7,10 +7,9 @@ ghost use Rattle.value_cuts.specs.Prices.{AreRowPrices};
 ghost use Rattle.closing_search.specs.SingleCuts.{AreLoads};
 ghost use Rattle.closing_search.specs.Benches.{IsPricingFor};
 
-use par_values::set_prices;
+use value_cuts::{CandidateLegs, PriceScratch, Values, set_prices, sums_of};
 use std::alloc::{AllocError, Global};
 use std::thread::Threads;
-use value_cuts::{CandidateLegs, PriceScratch, Values, sums_of};
 
 /// The values that were taken last, and the prices and loads of their cut.
 #[derive(Drop)]

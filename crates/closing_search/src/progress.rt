@@ -8,7 +8,7 @@ ghost use Rattle.hub_spec.specs.Ranges.{IsFirstLine, IsLineInRange};
 ghost use Rattle.plan_model.specs.Lines.{tree_line_of};
 ghost use Rattle.search_spec.specs.Laws.{IsWantedSet};
 ghost use Rattle.search_spec.specs.Findings.{AreWithin, IsSpent};
-ghost use Rattle.tree_walks.specs.Walks.{IsSoundLine};
+ghost use Rattle.search_spec.specs.Walks.{IsSoundLine};
 ghost use Rattle.cut_pool.specs.Findings.{IsUnlimited};
 ghost use Rattle.closing_search.specs.Ends.{IsEndLine};
 ghost use Rattle.closing_search.specs.Gaps.{goal_of};

@@ -20,7 +20,7 @@ use Rattle.file_spec.specs.Faults.{Fault}
 use Rattle.file_spec.specs.Contents.{Contents}
 use Rattle.file_spec.specs.Files.{HasContents}
 use Rattle.file_spec.specs.Instances.{build_fault, GivesInstance, GivesFileFault, GivesCosts, GivesCostFault}
-use Rattle.separators.specs.Kinds.{minimal, core}
+use Rattle.search_progress.specs.Kinds.{minimal, core}
 use Rattle.branch_tree.specs.Findings.{found_by, found_again}
 use Rattle.node_rounds.specs.Findings.{found_by_rounds}
 use Rattle.closing_search.specs.Gaps.{IsWithinGap}

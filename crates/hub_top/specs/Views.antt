@@ -10,7 +10,7 @@ use Rattle.cert_scan.specs.Versions.{version_number}
 use Rattle.dual_lender.specs.Lenders.{IsLenderFor}
 use Rattle.proof_text.specs.Texts.{found_text}
 use Rattle.network_report.specs.Texts.{report_text}
-use Rattle.hub_demo.specs.Texts.{demo_text}
+use Rattle.hub_make.specs.DemoTexts.{demo_text}
 use Rattle.cert_checker.specs.Shows.{verdict_of}
 use Rattle.hub_top.specs.declared.status.Status.{Status}
 use Rattle.hub_top.specs.declared.status.Status.TheVariants.{Done, Stopped}

@@ -7,7 +7,7 @@ ghost use Rattle.hub_spec.specs.Plans.{IsHubSet};
 ghost use Rattle.hub_spec.specs.Separation.{IsOrder};
 ghost use Rattle.cut_pool.specs.Entries.{entry_of};
 ghost use Rattle.search_steps.specs.Pools.{IsSumsOf};
-ghost use Rattle.separators.specs.Kinds.{minimal};
+ghost use Rattle.search_progress.specs.Kinds.{minimal};
 ghost use Rattle.hub_make.specs.Contents.{made_problem};
 ghost use Rattle.hub_words.specs.Requests.{IsMaking, IsSearch, node_by_node};
 ghost use Rattle.hub_words.specs.Views.{making_seen, search_seen};
@@ -16,7 +16,7 @@ ghost use Rattle.hub_top.specs.Solving.{IsSearched, MayGo, course_seen};
 
 use branch_tree::{search, search_from};
 use cut_pool::{CutSums, Found};
-use hub_demo::made_instance;
+use hub_make::made_instance;
 use hub_io::Gate;
 use hub_model::Instance;
 use hub_words::{Making, Search, SearchRule};
@@ -25,7 +25,7 @@ use par_separate::{Crew, separate_sums, workers_for};
 use plan_model::HubSet;
 use search_core::Start;
 use search_steps::{Counted, Plain, Rule};
-use separators::{Coring, Separator, Solo};
+use search_progress::{Coring, Separator, Solo};
 use std::alloc::{AllocError, Global};
 use std::thread::Threads;
 

@@ -7,7 +7,7 @@ use Rattle.search_spec.specs.Choices.{begun_for}
 use Rattle.search_spec.specs.Costs.{IsAtMostOf, first_hubs}
 use Rattle.search_spec.proofs.FallingCosts.{least_to, begun_most}
 use Rattle.search_steps.specs.Advising.{parts_of}
-use Rattle.separators.specs.Kinds.{CutKind, minimal, parts_for}
+use Rattle.search_progress.specs.Kinds.{CutKind, minimal, parts_for}
 use Rattle.search_steps.proofs.RuleChoices.{parts_sound}
 use Rattle.cut_pool.specs.Findings.{AreRemade}
 use Rattle.cut_pool.specs.declared.found.Found.{Found}

@@ -21,7 +21,7 @@ use pareto_cuts::order_of;
 use plan_model::{Branch, HubSet};
 use search_core::whole_leaf;
 use search_steps::{NodeWeights, Plain, Rule, closes, is_better, leaf_line, node_advice};
-use separators::Solo;
+use search_progress::Solo;
 use std::alloc::{AllocError, Global};
 
 // How often a node may ask for a set by its advice.

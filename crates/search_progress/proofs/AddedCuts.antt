@@ -23,9 +23,9 @@ use Rattle.search_progress.specs.declared.progress.Progress.{Progress}
 use Rattle.cut_pool.specs.Findings.{lines_of}
 use Rattle.search_steps.specs.Advising.{parts_of}
 use Rattle.search_steps.proofs.RuleChoices.{parts_sound}
-use Rattle.separators.specs.Kinds.{CutKind, parts_for}
-use Rattle.separators.specs.Entered.{IsEntryOf}
-use Rattle.separators.proofs.KindCuts.{kept_of_set}
+use Rattle.search_progress.specs.Kinds.{CutKind, parts_for}
+use Rattle.search_progress.specs.Entered.{IsEntryOf}
+use Rattle.search_progress.proofs.KindCuts.{kept_of_set}
 use Rattle.search_progress.specs.Progressing.{state_of, IsGoing, IsAt}
 use Rattle.search_progress.specs.Separating.{HasCut, IsAdded}
 

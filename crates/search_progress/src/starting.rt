@@ -4,7 +4,7 @@ ghost use Rattle.std.specs.Prelude.{◌≡◌, [], Some, IfOk, OnOk};
 ghost use Rattle.hub_spec.specs.Plans.{IsHubSet};
 ghost use Rattle.search_spec.specs.Steps.{begun};
 ghost use Rattle.search_spec.specs.Choices.{begun_for};
-ghost use Rattle.separators.specs.Kinds.{parts_for};
+ghost use Rattle.search_progress.specs.Kinds.{parts_for};
 ghost use Rattle.search_steps.specs.Starts.{first_set};
 ghost use Rattle.cut_pool.specs.Findings.{lines_of};
 ghost use Rattle.search_progress.specs.Progressing.{state_of, IsGoing};
@@ -16,7 +16,7 @@ use hub_plain::outside;
 use plan_model::HubSet;
 use search_core::Task;
 use search_steps::Rule;
-use separators::Separator;
+use crate::Separator;
 use std::alloc::{AllocError, Global};
 
 /// The cut of the set of all candidates, and that of the rule's first set, if it has one, which is then the first

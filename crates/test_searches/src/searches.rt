@@ -9,7 +9,7 @@ use hub_model::Instance;
 use hub_plain::is_hub_set;
 use cut_pool::Found;
 use search_steps::Plain;
-use separators::Solo;
+use search_progress::Solo;
 use std::alloc::{AllocError, Global};
 use test_lines::list;
 

@@ -10,7 +10,7 @@ use hub_model::Instance;
 use hub_plain::{is_hub_set, outside};
 use plan_model::HubSet;
 use search_steps::leaf_line;
-use separators::Solo;
+use search_progress::Solo;
 use std::alloc::{AllocError, Global};
 use test_lines::list;
 

@@ -1,10 +1,10 @@
 //! Rounds of a search, by two workers.
 
 use crate::gates::Meeting;
-use hub_demo::made_instance;
+use hub_make::made_instance;
 use hub_plain::is_hub_set;
 use node_rounds::search_rounds;
-use separators::Solo;
+use search_progress::Solo;
 use std::test::Fail;
 
 // The rounds of the smallest made-up instance have one node, one, one and two: those with both hubs and with the first alone,

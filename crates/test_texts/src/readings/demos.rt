@@ -1,6 +1,6 @@
 //! Made-up instances, and the lines of a demonstration.
 
-use hub_demo::{made_instance, put_demo};
+use hub_make::{made_instance, put_demo};
 use hub_io::{Failed, MemSink};
 use hub_model::Instance;
 use std::alloc::{AllocError, Global};
