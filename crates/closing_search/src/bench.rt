@@ -9,8 +9,8 @@ ghost use Rattle.cut_pool.specs.Kept.{kept_of, by_values};
 ghost use Rattle.closing_search.specs.SingleCuts.{AreLoads};
 
 use crate::pricing::Pricing;
-use hub_model::Instance;
 use cut_pool::{KeptCut, PackedValues};
+use hub_model::Instance;
 use pareto_cuts::Scratch;
 use plan_model::HubSet;
 use std::alloc::{AllocError, Global};

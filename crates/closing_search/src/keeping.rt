@@ -8,8 +8,8 @@ ghost use Rattle.closing_search.specs.Progressing.{cuts_of, IsGoing, IsAt};
 ghost use Rattle.closing_search.specs.Walking.{IsSameWalk};
 
 use crate::walk::Walk;
-use hub_model::MOST_CUTS;
 use cut_pool::KeptCut;
+use hub_model::MOST_CUTS;
 use std::alloc::AllocError;
 
 impl Walk<'_> {

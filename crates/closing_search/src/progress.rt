@@ -16,9 +16,9 @@ ghost use Rattle.closing_search.specs.Progressing.{cuts_of, target_of, IsWantedA
 
 use crate::task::{MOST_GAP, Task};
 use assign_sub::{cost_of_set, lacking};
+use cut_pool::KeptCuts;
 use hub_model::Instance;
 use hub_plain::{has_wanted, is_candidate_set};
-use cut_pool::KeptCuts;
 use plan_model::{Branch, HubSet, TreeLine};
 use search_core::{add_line, lesser};
 use std::alloc::{AllocError, Global};

@@ -103,8 +103,8 @@ CoreIsNarrow = (p : Problem) (hubs : List ℕ) (c : ℕ × ℕ) → IsProblem p 
 
 -- where the run ends with a best table, what is read of it, if it is tight, makes a core dual, proved by the ways of the
 -- objective row in the order of a proof line
-abbrev pub FoundIsCore : Type 0
-FoundIsCore = (p : Problem) (hubs : List ℕ) (c : ℕ × ℕ) (part price v : ℕ) (value : ℕ → ℕ) (dual : Prices) → IsProblem p → p.longest ≡ None → IsHubSet p hubs
+abbrev pub ReadingIsCore : Type 0
+ReadingIsCore = (p : Problem) (hubs : List ℕ) (c : ℕ × ℕ) (part price v : ℕ) (value : ℕ → ℕ) (dual : Prices) → IsProblem p → p.longest ≡ None → IsHubSet p hubs
     → c.0 < p.size → c.1 < p.size → (run (core_table p hubs c)).ended ≡ Best
     → IsReadOf p (run (core_table p hubs c)).table part price value → IsMadeOf p hubs c part price v value dual
     → (scale : ℕ) × (number (objective (run (core_table p hubs c)).table) (length (objective (run (core_table p hubs c)).table) - 2) ≡ pos scale)

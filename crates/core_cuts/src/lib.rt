@@ -32,12 +32,14 @@ mod taken_ways;
 mod unit_prices;
 mod ways;
 
-pub use core_duals::{CoreDual, core_dual};
-pub use found_cuts::core_cut;
-pub use runs::{balanced_is_core, best_is_balanced, best_is_cover, core_is_narrow, found_is_core, ordered_covers, run_combines};
-
 ghost use Rattle.core_cuts.specs.Theorems.{FoundIsCore, FoundIsOne, FoundOrNot, FoundIsFunction, FoundInOrder, CoredIsCore, CoredIsFunction, CoredServes};
 
+pub use core_duals::{CoreDual, core_dual};
+pub use found_cuts::core_cut;
+pub use runs::{
+    balanced_is_core, best_is_balanced, best_is_cover, core_is_narrow, ordered_covers,
+    reading_is_core, run_combines,
+};
 
 /// What is found is feasible, and a core dual by its proof.
 pub fn found_is_core()

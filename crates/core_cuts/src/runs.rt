@@ -1,7 +1,7 @@
 //! What the last table of a run says of the first: its rows are combinations of the first rows, and its basic solution
 //! solves them. There is no code: each function is empty, and its contract is a theorem.
 
-ghost use Rattle.core_cuts.specs.RunTheorems.{RunCombines, BestIsCover, BestIsBalanced, BalancedIsCore, OrderedCovers, CoreIsNarrow, FoundIsCore};
+ghost use Rattle.core_cuts.specs.RunTheorems.{RunCombines, BestIsCover, BestIsBalanced, BalancedIsCore, OrderedCovers, CoreIsNarrow, ReadingIsCore};
 
 /// Each row of the last table is a combination of the rows before the first pivot.
 pub fn run_combines()
@@ -34,6 +34,6 @@ pub fn core_is_narrow()
 {}
 
 /// What is read of a best table, if it is tight, is a core dual.
-pub fn found_is_core()
-    ensures { FoundIsCore }
+pub fn reading_is_core()
+    ensures { ReadingIsCore }
 {}

@@ -6,8 +6,8 @@ ghost use Rattle.cut_pool.specs.StoreParts.{free};
 ghost use Rattle.cut_pool.specs.PoolCuts.{sets_of};
 ghost use Rattle.cut_pool.specs.Ordered.{IsIndex, IsSplitAt};
 
-use crate::set_cuts::{hubs_if_any, hubs_of};
 use crate::KeptCut;
+use crate::set_cuts::{hubs_if_any, hubs_of};
 
 /// How many hub sets of the cuts, as the index has them, come before these hubs.
 pub(crate) fn place_of(cuts: &[KeptCut], by_set: &[u32], hubs: &[u32]) -> usize

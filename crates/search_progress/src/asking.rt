@@ -6,9 +6,9 @@ ghost use Rattle.hub_spec.specs.Separation.{IsOrder};
 ghost use Rattle.search_progress.specs.Kinds.{CutKind};
 ghost use Rattle.search_progress.specs.Entered.{entry_with, hubs_in, IsEntryOf};
 
+use cut_model::MarkedCut;
 use cut_pool::CutSums;
 use hub_model::Instance;
-use cut_model::MarkedCut;
 use plan_model::HubSet;
 use std::alloc::{AllocError, Global};
 

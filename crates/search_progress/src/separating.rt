@@ -14,13 +14,13 @@ ghost use Rattle.search_progress.specs.Progressing.{state_of, IsGoing, IsAt};
 ghost use Rattle.search_progress.specs.Separating.{HasCut, IsAdded};
 
 use crate::progress::Progress;
+use crate::{Separated, Separator};
 use assign_sub::cost_of_set;
+use cut_model::MarkedCut;
 use cut_pool::{CutSums, Pool};
 use hub_model::{Instance, MOST_CUTS};
-use cut_model::MarkedCut;
 use plan_model::HubSet;
 use search_core::Task;
-use crate::{Separated, Separator};
 use std::alloc::{AllocError, Global};
 
 /// The number of the set's cut in the pool, counted from 1, if it has been separated.

@@ -29,4 +29,4 @@ pub use leg_tables::CandidateLegs;
 pub use pricing::{PriceScratch, price, set_origin_prices, set_prices};
 pub use sums::{cut_sums, sums_of};
 pub use values::Values;
-pub use workers::set_prices;
+pub use workers::set_prices_by_workers;

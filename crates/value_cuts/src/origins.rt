@@ -4,9 +4,9 @@ ghost use Rattle.std.specs.Prelude.{◌≡◌, ◌<◌, length};
 ghost use Rattle.value_cuts.specs.Values.{AreValuesFor};
 ghost use Rattle.value_cuts.specs.Origins.{IsPriceRow};
 
+use crate::{CandidateLegs, PriceScratch, Values, set_origin_prices};
 use crew::Job;
 use std::alloc::{AllocError, Global};
-use crate::{CandidateLegs, PriceScratch, Values, set_origin_prices};
 
 /// The origins as a crew's work, for the prices of each: block i is origin i.
 #[derive(Drop)]

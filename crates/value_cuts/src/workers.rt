@@ -6,11 +6,11 @@ ghost use Rattle.value_cuts.specs.Prices.{AreRowPrices};
 
 use crate::origins::PricesByOrigin;
 use crate::rows::put_rows;
+use crate::{CandidateLegs, PriceScratch, Values};
 use crew::answers;
 use hub_io::OpenGate;
 use std::alloc::{AllocError, Global};
 use std::thread::Threads;
-use crate::{CandidateLegs, PriceScratch, Values};
 
 // The least number of values at which workers are worth their start: about those of 64 nodes that are all candidates.
 const LEAST_SHARED: usize = 1 << 18;
@@ -20,7 +20,7 @@ const LEAST_SHARED: usize = 1 << 18;
 ///
 /// The prices are the same for every number of workers and every schedule. By one worker it takes no memory. Where the
 /// values are few it is one worker, since a thread's start and end can take longer than all of the work.
-pub fn set_prices<R: Threads + Sync>(
+pub fn set_prices_by_workers<R: Threads + Sync>(
     rt: &R,
     alloc: Global,
     tables: &CandidateLegs,
