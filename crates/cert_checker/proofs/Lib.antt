@@ -1,5 +1,6 @@
 mod Walking
 mod Holding
+mod WholeLines
 mod FirstFailing
 mod Shown
 mod Refusing

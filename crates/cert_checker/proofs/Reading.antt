@@ -7,7 +7,7 @@ use Rattle.hub_io.specs.Outside.{Files, Starts, Holds, HoldsMore, LeavesRest, Te
 use Rattle.hub_spec.specs.Problem.{Problem, IsProblem}
 use Rattle.cert_spec.specs.Verdicts.{Verdict, Why, too_long, certificate_limit}
 use Rattle.cert_checker.specs.Shows.{verdict_of}
-use Rattle.cert_checker.specs.declared.texts.Ending.{Ending}
+use Rattle.cert_checker.specs.declared.verdicts.Ending.{Ending}
 use Rattle.cert_checker.specs.declared.endings.NoEnding.{NoEnding}
 use Rattle.cert_checker.specs.Held.{IsVerdictOnHeld, EndsFor, EndsOver}
 use Rattle.cert_checker.proofs.Ends.{marks_shown}

@@ -19,10 +19,9 @@ use crate::runs::{run_count, run_place};
 use crate::texts::MOST_CERTIFICATE_BYTES;
 use cert_conditions::Kind;
 use cert_format::{CertFault, Certificate, Version, read_cert};
-use core_marks::Mark;
+use cut_model::{Mark, StatedCut, StatedDual};
 use dual_lines::DualLine;
 use hub_model::{Instance, MOST_COST};
-use stated_cuts::{StatedCut, StatedDual};
 use std::alloc::{AllocError, Global};
 use std::thread::Threads;
 

@@ -10,7 +10,7 @@ use cert_conditions::Checks;
 use dual_lines::is_dual;
 use hub_model::Instance;
 use rayon::prelude::*;
-use stated_cuts::StatedCut;
+use cut_model::StatedCut;
 use std::thread::Threads;
 
 /// A thread takes at least so many duals, so that a small cut is tried on one.

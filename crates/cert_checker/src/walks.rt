@@ -21,9 +21,8 @@ use crate::side_by_side::known_part;
 use cert_conditions::{Checks, ListLine};
 use cert_format::{Certificate, DualRow, Heading, run_at};
 use cert_scan::{Item, Version};
-use core_marks::{DualProof, Mark};
+use cut_model::{Mark, StatedCut};
 use plan_model::{Mix, Plan, TreeLine};
-use stated_cuts::StatedCut;
 use std::alloc::{AllocError, Global};
 use std::thread::Threads;
 
