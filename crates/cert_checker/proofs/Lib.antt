@@ -15,3 +15,4 @@ mod RunPlaces
 mod RunClaims
 mod MarkedClaims
 mod OlderChecks
+mod OlderCuts

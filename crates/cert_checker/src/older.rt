@@ -122,6 +122,7 @@ fn failure_of(
     requires cut { IsCutInRange instance.now.size cut.now }
     ensures same { duals.new.problem ≡ instance.now }
     ensures fails { IfOk result (λ o. IfSome o (CutFails (version_number version) instance.now cut.now mark.now)) }
+    ensures limit { IfOk result (λ o. IfSome o (λ f. f.1 ≤ 2 * (instance.now.size * instance.now.size))) }
     ensures holds { IfOk result (λ o. IfNone o (IsCut instance.now cut.now)) }
 {
     let n = instance.size();

@@ -55,8 +55,8 @@ more_items (says_dual c run dual) (suc t) less =
 more_items (says_proof proof) zero less = refl
 more_items (says_proof proof) (suc t) less =
     ap (λ items. Proof proof.turns proof.scale false ∷ items)
-    (ap open_ways (take_more proof.ways t (0, (0, 0)) (omega (arith, less)))
-    ∙ map_push (λ (w : Way). ProofPair w.0 w.1 w.2 false) (take t proof.ways) (get_or proof.ways t (0, (0, 0))))
+    (ap open_ways (take_more proof.ways t (0, 0, 0) (omega (arith, less)))
+    ∙ map_push (λ (w : Way). ProofPair w.0 w.1 w.2 false) (take t proof.ways) (get_or proof.ways t (0, 0, 0)))
 more_items (says_tree (leaf_of denom weights)) zero less = refl
 more_items (says_tree (leaf_of denom weights)) (suc t) less =
     ap (λ items. Leaf denom false ∷ items)
@@ -67,6 +67,29 @@ more_items l at less = absurd (omega (arith, less))
 -- a list by its last element
 split_last : {X : Type 0} (xs : List X) (m : ℕ) (d : X) → length xs ≡ m + 1 → xs ≡ take m xs ++ get_or xs m d ∷ []
 split_last xs m d e = sym (take_all (m + 1) xs (omega (arith, e))) ∙ take_more xs m d (omega (arith, e))
+
+-- all items of a dual's line
+dual_items : (c : ℕ × ℕ) (run a : ℕ) (u : List (ℕ × ℕ))
+    → part_items (part_at (says_dual c run (record { a = a; u = u })) (length u)) ++ line_item (says_dual c run (record { a = a; u = u })) (length u) true ∷ []
+    ≡ parts_of (says_dual c run (record { a = a; u = u }))
+dual_items c run a [] = refl
+dual_items c run a (e ∷ u) =
+    let m = length u in
+    let long : length (e ∷ u) ≡ m + 1 = omega arith in
+    ap (λ items. Dual c.0 c.1 run a false ∷ items)
+    (sym (ap value_parts (split_last (e ∷ u) m (0, 0) long) ∙ value_parts-last (take m (e ∷ u)) (get_or (e ∷ u) m (0, 0))))
+
+-- and of a proof's
+proof_items : (turns scale : ℕ) (ways : List Way)
+    → part_items (part_at (says_proof (record { turns = turns; scale = scale; ways = ways })) (length ways))
+    ++ line_item (says_proof (record { turns = turns; scale = scale; ways = ways })) (length ways) true ∷ []
+    ≡ parts_of (says_proof (record { turns = turns; scale = scale; ways = ways }))
+proof_items turns scale [] = refl
+proof_items turns scale (w ∷ ways) =
+    let m = length ways in
+    let long : length (w ∷ ways) ≡ m + 1 = omega arith in
+    ap (λ items. Proof turns scale false ∷ items)
+    (sym (ap way_parts (split_last (w ∷ ways) m (0, 0, 0) long) ∙ way_parts-last (take m (w ∷ ways)) (get_or (w ∷ ways) m (0, 0, 0))))
 
 -- all items of the line
 all_items : (l : Line) → HasItem l → part_items (part_at l (open_items l)) ++ line_item l (open_items l) true ∷ [] ≡ parts_of l
@@ -80,18 +103,8 @@ all_items (says_marked number part (k ∷ hubs)) some =
     let e : length (k ∷ hubs) ≡ m + 1 = omega arith in
     ap (λ items. Cut number part false ∷ items)
     (sym (ap mark_parts (split_last (k ∷ hubs) m 0 e) ∙ mark_parts-last (take m (k ∷ hubs)) (get_or (k ∷ hubs) m 0)))
-all_items (says_dual c run (record { a = a; u = [] })) some = refl
-all_items (says_dual c run (record { a = a; u = e ∷ u })) some =
-    let m = length u in
-    let long : length (e ∷ u) ≡ m + 1 = omega arith in
-    ap (λ items. Dual c.0 c.1 run a false ∷ items)
-    (sym (ap value_parts (split_last (e ∷ u) m (0, 0) long) ∙ value_parts-last (take m (e ∷ u)) (get_or (e ∷ u) m (0, 0))))
-all_items (says_proof (record { turns = turns; scale = scale; ways = [] })) some = refl
-all_items (says_proof (record { turns = turns; scale = scale; ways = w ∷ ways })) some =
-    let m = length ways in
-    let long : length (w ∷ ways) ≡ m + 1 = omega arith in
-    ap (λ items. Proof turns scale false ∷ items)
-    (sym (ap way_parts (split_last (w ∷ ways) m (0, (0, 0)) long) ∙ way_parts-last (take m (w ∷ ways)) (get_or (w ∷ ways) m (0, (0, 0)))))
+all_items (says_dual c run dual) some = dual_items c run dual.a dual.u
+all_items (says_proof proof) some = proof_items proof.turns proof.scale proof.ways
 all_items (says_tree (leaf_of denom [])) some = refl
 all_items (says_tree (leaf_of denom (e ∷ weights))) some =
     let m = length weights in
@@ -121,22 +134,27 @@ front_dual : (n t : ℕ) (dual : Prices) → IsDualInRange n dual → IsDualInRa
 front_dual n t dual h =
     front_of (λ (u : List (ℕ × ℕ)). IsDualInRange n (record { a = dual.a; u = u })) (λ front e k. dual_front n dual.a front e k) t dual.u h
 
-may_stand : (stage : Stage) (l : Line) (at : ℕ) → Wants stage l → HasItem l → IsPart stage (part_at l at)
-may_stand (want_hubs s) (says_hubs hubs) at w some = front_hubs s.size at hubs w.1 w.2
-may_stand (want_cut s all x) (says_marked number part hubs) zero w some = tt
-may_stand (want_cut s all x) (says_marked number part hubs) (suc t) w some =
+may_stand : (l : Line) (stage : Stage) (at : ℕ) → Wants stage l → HasItem l → IsPart stage (part_at l at)
+may_stand (says_hubs hubs) (want_hubs s) at w some = front_hubs s.size at hubs w.1 w.2
+may_stand (says_hubs hubs) stage at w some = absurd w
+may_stand (says_marked number part hubs) (want_cut s all x) zero w some = tt
+may_stand (says_marked number part hubs) (want_cut s all x) (suc t) w some =
     let r = front_hubs s.size t hubs w.1.3.ascend w.1.3.nodes in (w.0, w.1.1, w.1.2, r.0, r.1)
-may_stand (want_dual s all x t before) (says_dual c run dual) zero w some = tt
-may_stand (want_dual s all x t before) (says_dual c run dual) (suc m) w some = (w.0, w.1, front_dual s.size m dual w.2)
-may_stand (want_proved s all x t) (says_dual c run dual) zero w some = tt
-may_stand (want_proved s all x t) (says_dual c run dual) (suc m) w some = (w.0, w.1, front_dual s.size m dual w.2)
-may_stand (want_proof s all x t) (says_proof proof) zero w some = tt
-may_stand (want_proof s all x t) (says_proof proof) (suc m) w some =
+may_stand (says_marked number part hubs) stage at w some = absurd w
+may_stand (says_dual c run dual) (want_dual s all x t before) zero w some = tt
+may_stand (says_dual c run dual) (want_dual s all x t before) (suc m) w some = (w.0, w.1, front_dual s.size m dual w.2)
+may_stand (says_dual c run dual) (want_proved s all x t) zero w some = tt
+may_stand (says_dual c run dual) (want_proved s all x t) (suc m) w some = (w.0, w.1, front_dual s.size m dual w.2)
+may_stand (says_dual c run dual) stage at w some = absurd w
+may_stand (says_proof proof) (want_proof s all x t) zero w some = tt
+may_stand (says_proof proof) (want_proof s all x t) (suc m) w some =
     front_of (λ (ways : List Way). IsProofInRange s.size (by_ways proof ways)) (λ front e k. proof_front s.size proof front e k) m proof.ways w
-may_stand (want_tree s places left) (says_tree (leaf_of denom weights)) zero w some = tt
-may_stand (want_tree s places left) (says_tree (leaf_of denom weights)) (suc m) w some =
+may_stand (says_proof proof) stage at w some = absurd w
+may_stand (says_tree (leaf_of denom weights)) (want_tree s places left) zero w some = tt
+may_stand (says_tree (leaf_of denom weights)) (want_tree s places left) (suc m) w some =
     front_of (λ (ws : List (ℕ × ℕ)). IsLineInRange s.size (leaf_of denom ws)) (λ front e k. leaf_front s.size denom front e k) m weights w.0
-may_stand stage l at w some = absurd w
+may_stand (says_tree (leaf_of denom weights)) stage at w some = absurd w
+may_stand l stage at w some = absurd some
 
 pub has_item : (stage : Stage) (line : code.ListLine) → Wants stage (line_of line) → HasItem (line_of line)
 has_item (want_hubs s) (code.TheVariants.Hubs hubs) w = w.0
@@ -199,7 +217,7 @@ parted_more lines l at f some less = record {
   part = part_at l (at + 1);
   lead = f.lead;
   are = given_more lines l at less;
-  may = may_stand f.stage l (at + 1) f.wants some;
+  may = may_stand l f.stage (at + 1) f.wants some;
 }
 
 -- whole lines, and nothing of another
@@ -265,7 +283,7 @@ known_part : (c : Checks) (lines : List Line) (l : Line) (part : ℕ) → MayFol
     → IsKnownLine c.instance.now l part → c.failure ≡ None → IsKnownWith (listed_with c (line_item l (open_items l) true)) part
 known_part c lines (says_dual commodity run dual) part f some has h none =
     let l = says_dual commodity run dual in
-    let st = has lines f.stage (part_at l (length dual.u)) f.lead refl (may_stand f.stage l (length dual.u) f.wants some) in
+    let st = has lines f.stage (part_at l (length dual.u)) f.lead refl (may_stand l f.stage (length dual.u) f.wants some) in
     known_as c.instance.now (listed_with c (line_item l (length dual.u) true)) commodity run dual part
     (listed_at c (after_lines c.instance.now at_start lines) f.stage commodity run dual f.wants (st.standing none) (st.keeps none)) h
 known_part c lines l part f some has h none = absurd h

@@ -83,7 +83,7 @@ pub record Closes (stage : Stage) (l : Line) (i : Item) : Type 0 where
 
 -- ---- the last of a list
 
-hub_parts-last : (front : List ℕ) (k : ℕ) → hub_parts (front ++ k ∷ []) ≡ open_hubs front ++ Hub k true ∷ []
+pub hub_parts-last : (front : List ℕ) (k : ℕ) → hub_parts (front ++ k ∷ []) ≡ open_hubs front ++ Hub k true ∷ []
 hub_parts-last [] k = refl
 hub_parts-last (m ∷ []) k = refl
 hub_parts-last (m ∷ n ∷ front) k = ap (λ l. Hub m false ∷ l) (hub_parts-last (n ∷ front) k)

@@ -48,7 +48,7 @@ line_item (says_dual commodity run dual) (suc t) last =
     DualPair (slice_index_or dual.u t (0, 0)).0 (slice_index_or dual.u t (0, 0)).1 last
 line_item (says_proof proof) zero last = Proof proof.turns proof.scale last
 line_item (says_proof proof) (suc t) last =
-    let way = slice_index_or proof.ways t (0, (0, 0)) in ProofPair way.0 way.1 way.2 last
+    let way = slice_index_or proof.ways t (0, 0, 0) in ProofPair way.0 way.1 way.2 last
 line_item (says_tree (leaf_of denom weights)) zero last = Leaf denom last
 line_item (says_tree (leaf_of denom weights)) (suc t) last =
     LeafPair (slice_index_or weights t (0, 0)).0 (slice_index_or weights t (0, 0)).1 last

@@ -54,7 +54,7 @@ sized k n = record k { proof = record k.proof { size = n } }
 -- ---- the cuts are said in the certificate's version
 
 -- the part as this version says it is the cut's
-abbrev IsPartSaid : ℕ → Cut → Type 0
+abbrev pub IsPartSaid : ℕ → Cut → Type 0
 IsPartSaid v cut = part_of (part_said v cut.part) ≡ cut.part
 
 first_said : (v : ℕ) (cut : Cut) → v ≡ 1 → IsFirstCut cut → IsPartSaid v cut
@@ -83,15 +83,17 @@ all_said n v (cut ∷ cuts) (mark ∷ marks) long ranges within parts = (
       (All-tail (IsPartSaid v) cut cuts parts),
 )
 
-cuts_said : (k : Stated) → IsStatedInRange k → AllZip (IsSaidCut k.proof.size k.proof.version) k.proof.cuts k.marks
-cuts_said k r =
+pub parts_said : (k : Stated) → IsStatedInRange k → All (IsPartSaid k.proof.version) k.proof.cuts
+parts_said k r =
     let v = k.proof.version in
     let cuts = k.proof.cuts in
-    all_said k.proof.size v cuts k.marks r.one_for_each r.proof.cuts r.marks
-    (⊎_elim
+    ⊎_elim
     (λ (first : (v ≡ 1) × IsFirst k.proof). All-weaker IsFirstCut (IsPartSaid v) (λ cut is. first_said v cut first.0 is) cuts first.1.cuts)
     (λ (later : IsLater v). All-weaker (IsCutInRange k.proof.size) (IsPartSaid v) (λ cut range. later_said v cut later) cuts r.proof.cuts)
-    (version_said k.proof r.proof.version))
+    (version_said k.proof r.proof.version)
+
+cuts_said : (k : Stated) → IsStatedInRange k → AllZip (IsSaidCut k.proof.size k.proof.version) k.proof.cuts k.marks
+cuts_said k r = all_said k.proof.size k.proof.version k.proof.cuts k.marks r.one_for_each r.proof.cuts r.marks (parts_said k r)
 
 -- where the number of nodes is the instance's, the lines try just the conditions of the check
 by_lines : (p : Problem) (s : Stated) → IsStatedInRange (sized s p.size)

@@ -274,7 +274,7 @@ cut_holds p asked v line cut (Some mark) some range marked h =
           }),
     )
 
-cut_claimed : (p : Problem) (asked : Bool) (v line : ℕ) (cut : Cut) (mark : Option Mark) → IsCut p cut → (asked ≡ true → IsAsMarked p cut mark)
+pub cut_claimed : (p : Problem) (asked : Bool) (v line : ℕ) (cut : Cut) (mark : Option Mark) → IsCut p cut → (asked ≡ true → IsAsMarked p cut mark)
     → AllHold (one_cut_claims p asked v line (cut, mark))
 cut_claimed p asked v line cut None is marked =
     AllHold-append (dual_claims p cut.part (first_dual_line line) 0 (dual_runs v p.size cut.duals)) _

@@ -4,6 +4,6 @@ use Rattle.cert_checker.proofs.older.first_failing_on.Given as goal
 
 abbrev pub invariant-loop-t : goal.invariant-loop-t
 invariant-loop-t l = record {
-  same : l.line.problem ≡ l.instance;
-  duals : (t : ℕ) → t < l.t → IsDualAt l.instance l.cut.part l.cut.duals t;
+  same : l.duals.problem ≡ l.fn.duals.problem;
+  before : (s : ℕ) → s < l.t → IsDualAt l.fn.duals.problem l.cut.part l.cut.duals s;
 }

@@ -18,5 +18,5 @@ returns c =
     let a = c.args in
     let at = a.at - 1 in
     let more : suc at ≡ a.at = omega (arith, c.if-at-eq0.false) in
-    let pair : List Way → Item = λ ways. let way = slice_index_or ways at (0, (0, 0)) in ProofPair way.0 way.1 way.2 a.last in
+    let pair : List Way → Item = λ ways. let way = slice_index_or ways at (0, 0, 0) in ProofPair way.0 way.1 way.2 a.last in
     subst (λ (t : ℕ). pair c.ways.result.now ≡ line_item (says_proof a.proof.now) t a.last) more (ap pair c.ways.ensures)
