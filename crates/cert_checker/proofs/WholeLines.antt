@@ -57,7 +57,7 @@ behind_top s = cuts_lines s ++ tree_lines s
 lines_by_parts : (k : Stated) (s : Parts) → ArePartsOf k s → top_lines s ++ behind_top s ≡ certificate_items k
 lines_by_parts k s are =
     (λ i. top_items (are.heading_is.version i) (are.heading_is.size i) (are.heading_is.candidates i) (are.heading_is.cost i) (are.heading_is.bound i)
-        (are.plan_is i) (length (are.cuts_are i))
+    (are.plan_is i) (length (are.cuts_are i))
     ++ (cuts_items (are.version_is i) (are.size_is i) 1 (zip (are.cuts_are i) (are.marks_are i)) ++ tree_items (are.tree_is i)))
     ∙ sym (certificate_items-parts k)
 

@@ -7,10 +7,10 @@ ghost use Rattle.cert_checker.specs.Duals.{IsDualAt, MayTryDual, IsFirstFailing}
 ghost use Rattle.cert_checker.specs.Walks.{IsKnownCut};
 
 use cert_conditions::Checks;
+use cut_model::StatedCut;
 use dual_lines::is_dual;
 use hub_model::Instance;
 use rayon::prelude::*;
-use cut_model::StatedCut;
 use std::thread::Threads;
 
 /// A thread takes at least so many duals, so that a small cut is tried on one.

@@ -1,8 +1,8 @@
 //! Whole lines of a certificate that is held.
 
-ghost use Rattle.std.specs.Prelude.{◌≡◌, ◌≤◌, [], ◌∷◌, length, IfSome, IfOk};
+ghost use Rattle.std.specs.Prelude.{◌≡◌, ◌≤◌, ◌<◌, [], ◌∷◌, length, IfSome, IfOk};
 ghost use Rattle.hub_spec.specs.Trees.{leaf_of};
-ghost use Rattle.cert_spec.specs.Lines.{Item as LineOf, says_marked, says_dual, says_proof, says_tree};
+ghost use Rattle.cert_spec.specs.Lines.{Item as LineOf, says_hubs, says_marked, says_dual, says_proof, says_tree};
 ghost use Rattle.cert_scan.specs.Parts.{parts_of};
 ghost use Rattle.cert_conditions.specs.ListLines.{line_of, HasItem, open_items, line_item, MayTakeLines, TakesLines, IsKnownLine};
 
@@ -41,7 +41,7 @@ pub enum ListLine<'a> {
 
 impl<'a> ListLine<'a> {
     // How many items the line gives before its last one.
-    fn open(&self) -> usize
+    fn before_last(&self) -> usize
         requires { HasItem (line_of self.now) }
         ensures { result ≡ open_items (line_of self.now) }
     {
@@ -61,13 +61,20 @@ impl<'a> ListLine<'a> {
         ensures { result ≡ line_item (line_of self.now) at last }
     {
         match self {
-            ListLine::Hubs(hubs) => Item::Hub { k: hubs[at], last },
+            ListLine::Hubs(hubs) => hub_item(hubs, at, last),
             ListLine::Mark { x, part, hubs } => mark_item(*x, *part, hubs, at, last),
             ListLine::Dual { i, j, run, dual } => dual_item((*i, *j), *run, dual, at, last),
             ListLine::Proof(proof) => proof_item(proof, at, last),
             ListLine::Leaf { denom, mix } => leaf_item(*denom, mix, at, last),
         }
     }
+}
+
+fn hub_item(hubs: &[u32], at: usize, last: bool) -> Item
+    requires { at < length hubs.now }
+    ensures { result ≡ line_item (says_hubs hubs.now) at last }
+{
+    Item::Hub { k: hubs[at], last }
 }
 
 fn mark_item(x: u32, part: u32, hubs: &[u32], at: usize, last: bool) -> Item
@@ -151,12 +158,12 @@ impl<'a> Checks<'a> {
         ensures taken { IfOk result (λ _. TakesLines self.old (line_of line.now ∷ []) self.new) }
         ensures instance { self.new.instance ≡ self.old.instance }
     {
-        let open = line.open();
-        for at in 0..open {
+        let count = line.before_last();
+        for at in 0..count {
             let item = line.item(at, false);
             self.take_item(alloc, item, None)?;
         }
-        let item = line.item(open, true);
+        let item = line.item(count, true);
         self.take_item(alloc, item, known)
     }
 }

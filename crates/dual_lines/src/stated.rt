@@ -6,9 +6,9 @@ ghost use Rattle.hub_spec.specs.Cuts.{value_at, IsDual};
 ghost use Rattle.hub_spec.specs.Ranges.{IsDualInRange};
 
 use crate::amounts::{Priced, is_covered_by_amounts};
+use cut_model::StatedDual;
 use hub_model::{Instance, MOST_NODES};
 use plan_model::is_among;
-use cut_model::StatedDual;
 
 /// Room for an amount of each node.
 const ROOM: usize = MOST_NODES as usize;

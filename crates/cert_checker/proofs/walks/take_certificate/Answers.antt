@@ -104,8 +104,13 @@ take_cuts-requires-clause-may g c = may_first (cuts_lines (parts g c)) (tree_lin
 pub take_tree-requires-clause-few : goal.take_tree-requires-clause-few
 take_tree-requires-clause-few g c =
     let k = c.args.certificate.now in
-    omega (arith, length-map c.tree-tree.result.now tree_line_of, ap length c.tree-tree.ensures.value, length-preorder k.proof.tree,
-    c.tree-tree.ensures.in_range.proof.line_count)
+    omega (
+      arith,
+      length-map c.tree-tree.result.now tree_line_of,
+      ap length c.tree-tree.ensures.value,
+      length-preorder k.proof.tree,
+      c.tree-tree.ensures.in_range.proof.line_count,
+    )
 
 pub take_tree-requires-clause-lines : goal.take_tree-requires-clause-lines
 take_tree-requires-clause-lines g c =
