@@ -220,9 +220,16 @@ fn are_loads_within(instance: &Instance, loads: &[u128], limit: u128) -> bool
 {
     let candidates = instance.candidates();
     for k in candidates {
-        if loads[*k as usize] > limit {
+        if !is_load_within(loads, *k, limit) {
             return false;
         }
     }
     true
+}
+
+fn is_load_within(loads: &[u128], k: u32, limit: u128) -> bool
+    requires { k < length loads.now }
+    ensures { IsTrue result ↔ (slice_index loads.now k ≤ limit) }
+{
+    loads[k as usize] <= limit
 }

@@ -1,7 +1,10 @@
-use Rattle.std.proofs.Common.{ℕ, ◌*◌, ◌≤◌, ◌↔◌, List, IsTrue, All, get_or, ap, sym, subst, ◌∙◌, arith}
+use Rattle.std.proofs.Common.{◌≡◌, ℕ, ◌*◌, ◌≤◌, ◌↔◌, IsTrue, List, All, true, false, sym, ap, subst, ◌∙◌, arith}
 use Rattle.std.specs.Prelude.{slice_index}
+use Rattle.std.proofs.lemmas.Bool.{false≢true}
+use Rattle.std.proofs.lemmas.List.Elements.{All-weaker}
 use Rattle.hub_spec.specs.Limits.{most_cost}
-use Rattle.hub_spec.specs.Cuts.{load}
+use Rattle.hub_spec.specs.Cuts.{Prices, total, load, IsWithinSums}
+use Rattle.hub_spec.specs.Ranges.{IsDualInRange, IsAmount}
 use Rattle.hub_spec.proofs.AllLoops.{last_decides}
 use Rattle.cert_checker.proofs.older.is_within_sums.Goals as goal
 
@@ -9,7 +12,14 @@ pub returns : goal.returns
 returns c =
     let cut = c.args.cut.now in
     let cs = c.args.instance.now.candidates in
-    let limit = c.args.cut.now.part * most_cost in
+    let loads = c.in_ok-loads.loads.items in
+    let limit = c.part.result * most_cost in
+    let is : limit ≡ cut.part * most_cost = ap (λ (part : ℕ). part * most_cost) c.part.ensures in
+    let to : (k : ℕ) → slice_index loads k ≤ limit → load cut k ≤ cut.part * most_cost = λ k h. omega (arith, h, is, c.in_ok-loads.ensures.are k) in
+    let from : (k : ℕ) → load cut k ≤ cut.part * most_cost → slice_index loads k ≤ limit = λ k h. omega (arith, h, is, c.in_ok-loads.ensures.are k) in
     last_decides c.are_loads_within.result c.are_loads_within.ensures
-    (λ h. record { total_limit = omega (arith, c.part.ensures, c.total.ensures); load_limit = ? })
-    (λ h. ?)
+    (λ h. record {
+      total_limit = omega (arith, is, c.total.ensures);
+      load_limit = All-weaker (λ (k : ℕ). slice_index loads k ≤ limit) (λ (k : ℕ). load cut k ≤ cut.part * most_cost) to cs h;
+    })
+    (λ h. All-weaker (λ (k : ℕ). load cut k ≤ cut.part * most_cost) (λ (k : ℕ). slice_index loads k ≤ limit) from cs h.load_limit)
