@@ -63,3 +63,25 @@ returns-clause-holds c =
       duals = duals_zipped p cut.part cut.duals c.requires.cut.one_for_each each;
       sums = c.in_ok-is_within_sums.ensures.0 c.if-not-branch.false;
     }
+
+pub returns-then-not-branch-clause-limit : goal.returns-then-not-branch-clause-limit
+returns-then-not-branch-clause-limit c =
+    let some = c.size-n.ensures.problem.some_node in
+    omega (arith, c.place_of_dual-2.ensures.limit, ap (λ (n : ℕ). n * n) c.size-n.ensures.value, mul-pos some some)
+
+pub place_of_dual-requires-clause-some : goal.place_of_dual-requires-clause-some
+place_of_dual-requires-clause-some c = omega (arith, c.size-n.ensures.value, c.size-n.ensures.problem.some_node)
+
+pub place_of_dual-requires-clause-few : goal.place_of_dual-requires-clause-few
+place_of_dual-requires-clause-few c = omega (arith, c.size-n.ensures.value, c.size-n.ensures.problem.size_limit)
+
+pub place_of_dual-2-requires-clause-some : goal.place_of_dual-2-requires-clause-some
+place_of_dual-2-requires-clause-some c = omega (arith, c.size-n.ensures.value, c.size-n.ensures.problem.some_node)
+
+pub place_of_dual-2-requires-clause-few : goal.place_of_dual-2-requires-clause-few
+place_of_dual-2-requires-clause-few c = omega (arith, c.size-n.ensures.value, c.size-n.ensures.problem.size_limit)
+
+pub place_of_dual-2-requires-clause-within : goal.place_of_dual-2-requires-clause-within
+place_of_dual-2-requires-clause-within c =
+    let some = c.size-n.ensures.problem.some_node in
+    omega (arith, c.requires.cut.one_for_each, ap (λ (n : ℕ). n * n) c.size-n.ensures.value, mul-pos some some)

@@ -15,7 +15,7 @@ use Rattle.cert_checker.proofs.Holding.{small_denominators}
 use Rattle.cert_checker.proofs.WholeLines.{Parts, ArePartsOf, top_lines, cuts_lines, tree_lines, behind_top, parts_may, whole_taken}
 use Rattle.cert_checker.proofs.walks.take_certificate.Goals as goal
 use Rattle.cert_checker.proofs.walks.take_certificate.Given.{Over}
-use Rattle.cert_checker.proofs.walks.take_certificate.Goals.{After-tree-tree, After-take_top, After-take_cuts}
+use Rattle.cert_checker.proofs.walks.take_certificate.Goals.{After-tree-tree, In_ok-take_top}
 
 -- what the walk has of the certificate
 abbrev parts : (g : Over) → After-tree-tree g → Parts
@@ -61,7 +61,7 @@ take_top-requires-clause-may g c = may_first (top_lines (parts g c)) (behind_top
 
 -- ---- the cuts
 
-behind_may : (g : Over) (c : After-take_top g) → MayTakeLines c.take_top.new.checks (behind_top (parts g c))
+behind_may : (g : Over) (c : In_ok-take_top g) → MayTakeLines c.take_top.new.checks (behind_top (parts g c))
 behind_may g c = may_then (top_lines (parts g c)) (behind_top (parts g c)) (may_come g c) c.in_ok-take_top.ensures.taken
 
 pub take_cuts-requires-clause-size : goal.take_cuts-requires-clause-size
