@@ -1,14 +1,7 @@
 //! What a text that `solve` or `optimize` writes is to a check, that a search has one text, and that files have one fault.
 
-ghost use Rattle.hub_top.specs.Theorems.{
-  BoundedIsBounds,
-  OneBlame,
-  OneCost,
-  OneText,
-  OptimizedIsOptimal,
-  SolvedIsOptimal,
-  StoppedIsBounds,
-};
+ghost use Rattle.hub_top.specs.Theorems.{BoundedIsBounds, OneCost, OneText, OptimizedIsOptimal, SolvedIsOptimal, StoppedIsBounds};
+ghost use Rattle.hub_sources.specs.Theorems.{OneBlame};
 
 /// The verdict on a text that solves an instance, and has at most 2^30 bytes, is optimal with its cost, and no other.
 pub fn solved_is_optimal()

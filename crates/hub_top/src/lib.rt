@@ -9,26 +9,14 @@
 #![tactic(auto)]
 
 mod answers;
-mod checking;
-mod closing;
-mod costs;
-mod files;
-mod halts;
-mod instances;
 mod laws;
 mod outcomes;
-mod preparing;
-mod reporting;
-mod searching;
-mod solving;
-mod status;
 mod texts;
 mod top;
-mod verdict_lines;
 
 pub use laws::{
     bounded_is_bounds, one_blame, one_cost, one_text, optimized_is_optimal, solved_is_optimal,
     stopped_is_bounds,
 };
-pub use status::Status;
+pub use hub_checks::Status;
 pub use top::run;

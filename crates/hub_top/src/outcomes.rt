@@ -10,12 +10,13 @@ ghost use Rattle.hub_words.specs.Requests.{IsSearch};
 ghost use Rattle.hub_words.specs.Views.{search_seen};
 ghost use Rattle.hub_top.specs.Texts.{no_network_text, usage_text};
 ghost use Rattle.hub_top.specs.Outcomes.{IsTold, Written, err_text, memory, status_of};
-ghost use Rattle.hub_top.specs.Views.{CanBeWritten, IsReady, IsWritable, answer_status, answer_text, came_to, finding_status, halted, outcome};
-ghost use Rattle.hub_top.specs.declared.status.Status.TheVariants.{Lacking, Usage};
+ghost use Rattle.hub_top.specs.Views.{CanBeWritten, IsReady, IsWritable, answer_status, answer_text, came_to, halted, outcome};
+ghost use Rattle.hub_searches.specs.Statuses.{finding_status};
+ghost use Rattle.hub_checks.specs.declared.status.Status.TheVariants.{Lacking, Usage};
 
 use crate::Status;
 use crate::answers::{Answer, put_answer, status_of_answer, status_of_finding};
-use crate::halts::Halt;
+use hub_sources::Halt;
 use crate::texts::{put_fault, put_memory, put_no_network, put_read, put_usage};
 use dual_lender::DualLender;
 use hub_io::{Failed, Sink};

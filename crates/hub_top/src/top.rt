@@ -14,12 +14,10 @@ ghost use Rattle.hub_top.specs.Headline.{Headline};
 
 use crate::Status;
 use crate::answers::Answer;
-use crate::checking::check;
-use crate::halts::Halt;
+use hub_checks::{Reported, check, report};
+use hub_sources::Halt;
 use crate::outcomes::{Settled, intend, write};
-use crate::reporting::report;
-use crate::searching::demonstrate;
-use crate::solving::{Solved, solve};
+use hub_searches::{Solved, demonstrate, solve};
 use hub_io::{Gate, Shelf, Sink};
 use hub_make::instance_text;
 use hub_words::{Command, asked};
@@ -128,8 +126,12 @@ fn answer<R: Threads + Sync, S: Shelf, G: Gate>(
             Ok(Settled::Answered(Answer::Judged(ending)))
         }
         Command::Report(source, certificate) => {
-            let answer = report(rt, alloc, source, certificate, shelf)?;
-            Ok(Settled::Answered(answer))
+            match report(rt, alloc, source, certificate, shelf)? {
+                Reported::Report(instance, certificate) => {
+                    Ok(Settled::Answered(Answer::Reported(instance, certificate)))
+                }
+                Reported::Refused(ending) => Ok(Settled::Answered(Answer::Judged(ending))),
+            }
         }
         Command::Make(making) => {
             let text = instance_text(alloc, making.seed, making.size)?;

@@ -3,7 +3,7 @@ use Rattle.std.specs.Int.{w128}
 use Rattle.hub_io.specs.Outside.{Puts}
 use Rattle.hub_model.specs.Amounts.{natural}
 use Rattle.hub_top.specs.Texts.{blame_words, fault_line}
-use Rattle.hub_top.specs.Blames.{blame_of}
+use Rattle.hub_sources.specs.Blames.{blame_of}
 use Rattle.hub_top.proofs.texts.put_sum.Goals as goal
 
 pub returns : goal.returns

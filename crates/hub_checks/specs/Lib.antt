@@ -1,0 +1,4 @@
+pub mod Statuses
+pub mod Checks
+pub mod Judging
+pub mod Lines
