@@ -5,7 +5,6 @@ pub mod Headline
 pub mod Meanings
 pub mod Named
 pub mod Outcomes
-pub mod Reporting
 pub mod Texts
 pub mod Theorems
 pub mod Views

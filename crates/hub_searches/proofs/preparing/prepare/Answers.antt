@@ -2,6 +2,7 @@ use Rattle.std.proofs.Common.{None, Some, refl}
 use Rattle.hub_words.specs.Views.{how_seen}
 use Rattle.search_core.specs.Starts.{start_seen}
 use Rattle.hub_searches.proofs.OlderCertificates.{begun_again, may_begin}
+use Rattle.hub_io.proofs.Names.{begins_none, begins_more}
 use Rattle.hub_searches.proofs.preparing.prepare.Goals as goal
 
 pub returns-in-Serves-clause-prepared : goal.returns-in-Serves-clause-prepared
@@ -20,3 +21,27 @@ returns-in-Serves-2-clause-prepared g c =
       rw (c.in-Freely.is, c.in-Some.is) refl,
       may_begin (g.S.Shelf.held c.args.shelf.now) c.args.instance.now (how_seen c.args.how) c.in-Serves-2.older read.said read.older_held (rw c.in-Serves-2.is at read.reads),
     )
+
+pub returns-in-Follow-clause-begins : goal.returns-in-Follow-clause-begins
+returns-in-Follow-clause-begins g c = begins_none refl
+
+pub returns-in_default-clause-begins : goal.returns-in_default-clause-begins
+returns-in_default-clause-begins g c = begins_none refl
+
+pub returns-in_err-older-in-Again-clause-begins : goal.returns-in_err-older-in-Again-clause-begins
+returns-in_err-older-in-Again-clause-begins g c = begins_more (λ other is. rw (is, c.in-Again.is) refl) c.in_err-older-in-Again.ensures.begins
+
+pub returns-in-Serves-clause-begins : goal.returns-in-Serves-clause-begins
+returns-in-Serves-clause-begins g c = begins_more (λ other is. rw (is, c.in-Again.is) refl) c.in_ok-older-in-Again.ensures.begins
+
+pub returns-in-Refused-clause-begins : goal.returns-in-Refused-clause-begins
+returns-in-Refused-clause-begins g c = begins_more (λ other is. rw (is, c.in-Again.is) refl) c.in_ok-older-in-Again.ensures.begins
+
+pub returns-in_err-older-in-Freely-clause-begins : goal.returns-in_err-older-in-Freely-clause-begins
+returns-in_err-older-in-Freely-clause-begins g c = begins_more (λ other is. rw (is, c.in-Freely.is, c.in-Some.is) refl) c.in_err-older-in-Freely.ensures.begins
+
+pub returns-in-Serves-2-clause-begins : goal.returns-in-Serves-2-clause-begins
+returns-in-Serves-2-clause-begins g c = begins_more (λ other is. rw (is, c.in-Freely.is, c.in-Some.is) refl) c.in_ok-older-in-Freely.ensures.begins
+
+pub returns-in-Refused-2-clause-begins : goal.returns-in-Refused-2-clause-begins
+returns-in-Refused-2-clause-begins g c = begins_more (λ other is. rw (is, c.in-Freely.is, c.in-Some.is) refl) c.in_ok-older-in-Freely.ensures.begins

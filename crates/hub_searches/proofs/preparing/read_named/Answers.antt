@@ -4,6 +4,7 @@ use Rattle.cert_spec.specs.Verdicts.{over_limit}
 use Rattle.cert_checker.specs.Shows.{older_of}
 use Rattle.hub_words.specs.Views.{how_seen}
 use Rattle.hub_searches.proofs.OlderCertificates.{said_held, too_long_said}
+use Rattle.hub_io.proofs.Names.{begins_one}
 use Rattle.hub_searches.proofs.preparing.read_named.Goals as goal
 
 pub returns-in_ok-said_of-in-Ok-clause-read : goal.returns-in_ok-said_of-in-Ok-clause-read
@@ -25,3 +26,18 @@ returns-in-Err-TooLong-clause-read g c = record {
       (c.in-Err-TooLong.ensures.too_long (rw c.in-Err-TooLong.field-0-is refl));
   reads = (refl, refl);
 }
+
+pub returns-in_ok-said_of-in-Ok-clause-begins : goal.returns-in_ok-said_of-in-Ok-clause-begins
+returns-in_ok-said_of-in-Ok-clause-begins g c = begins_one _ c.read_whole.ensures.begun refl
+
+pub returns-in_err-said_of-in-Ok-clause-begins : goal.returns-in_err-said_of-in-Ok-clause-begins
+returns-in_err-said_of-in-Ok-clause-begins g c = begins_one _ c.read_whole.ensures.begun refl
+
+pub returns-in-Err-TooLong-clause-begins : goal.returns-in-Err-TooLong-clause-begins
+returns-in-Err-TooLong-clause-begins g c = begins_one _ c.read_whole.ensures.begun refl
+
+pub returns-in-Err-ReadFault-clause-begins : goal.returns-in-Err-ReadFault-clause-begins
+returns-in-Err-ReadFault-clause-begins g c = begins_one _ c.read_whole.ensures.begun refl
+
+pub returns-in-Err-OutOfMemory-clause-begins : goal.returns-in-Err-OutOfMemory-clause-begins
+returns-in-Err-OutOfMemory-clause-begins g c = begins_one _ c.read_whole.ensures.begun refl
