@@ -37,7 +37,7 @@ pub fn put_ending<K: Sink>(ending: &Ending, sink: &mut K) -> Result<(), Failed>
     }
 }
 
-#[tactic(auto, unfolding(hub_checks::specs::Lines::optimal_line))]
+#[tactic(auto, unfolding(crate::specs::Lines::optimal_line))]
 fn put_optimal<K: Sink>(cost: u128, sink: &mut K) -> Result<(), Failed>
     ensures { Puts K.taken K.faults sink.old sink.new result (optimal_line cost) }
 {
@@ -54,7 +54,7 @@ fn put_optimal<K: Sink>(cost: u128, sink: &mut K) -> Result<(), Failed>
     )
 }
 
-#[tactic(auto, unfolding(hub_checks::specs::Lines::bounds_line))]
+#[tactic(auto, unfolding(crate::specs::Lines::bounds_line))]
 fn put_bounds<K: Sink>(bound: u128, cost: u128, sink: &mut K) -> Result<(), Failed>
     ensures { Puts K.taken K.faults sink.old sink.new result (bounds_line bound cost) }
 {
@@ -76,7 +76,7 @@ fn put_bounds<K: Sink>(bound: u128, cost: u128, sink: &mut K) -> Result<(), Fail
     )
 }
 
-#[tactic(auto, unfolding(hub_checks::specs::Lines::no_line))]
+#[tactic(auto, unfolding(crate::specs::Lines::no_line))]
 fn put_no<K: Sink>(words: &[u8], line: u64, sink: &mut K) -> Result<(), Failed>
     ensures { Puts K.taken K.faults sink.old sink.new result (no_line words.now line) }
 {
@@ -92,7 +92,7 @@ fn put_no<K: Sink>(words: &[u8], line: u64, sink: &mut K) -> Result<(), Failed>
     )
 }
 
-#[tactic(auto, unfolding(hub_checks::specs::Lines::too_long_line))]
+#[tactic(auto, unfolding(crate::specs::Lines::too_long_line))]
 fn put_too_long<K: Sink>(sink: &mut K) -> Result<(), Failed>
     ensures { Puts K.taken K.faults sink.old sink.new result too_long_line }
 {
