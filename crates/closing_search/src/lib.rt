@@ -16,7 +16,7 @@
 //! the gap; what it says of every plan is kept, and the bound is the least of what all leaves say and of the cost.
 //!
 //! Who calls hands in the advice, of which nothing is trusted. Each step keeps what `Progressing` of the specs says: the
-//! lines lead from the root to the branches that are still to be filled (`tree_walks`), and the incumbent has its cost.
+//! lines lead from the root to the branches that are still to be filled (`Walks` of `search_spec`), and the incumbent has its cost.
 //! `Walk` is what a search is to do (`Task`), works with (`Bench`) and has (`Progress`), and `Walker` goes on with it by advice
 //! (`Guide`). Costs are in 10^-12; nodes are `u32`, counted from 0, cuts are counted from 1.
 #![tactic(auto)]

@@ -1,8 +1,9 @@
 //! Core duals: for a commodity and a hub set a dual that is tight at the set, with a proof that no cut which is tight there
 //! dominates it; and core cuts, the cuts of a hub set all of whose duals are core duals.
 //!
-//! They are read off the best table of a linear program, which says of price and values by unit of flow what a dual owes.
-//! The modules build on one another in this order: `edges` and `ways` (the ways of a commodity, and what they cost), `tables` and
+//! They are read off the best table of a linear program, which says of price and values by unit of flow what a dual owes:
+//! its rows are combinations of the first rows, and its basic solution solves them (`runs`). Whether the run ends at a best
+//! table is seen, not trusted. The modules build on one another in this order: `edges` and `ways` (the ways of a commodity, and what they cost), `tables` and
 //! `problems` (the table before the first pivot), `ratios` (the basic solution of the last table), `least_parts` (the part that
 //! makes it whole), `unit_prices` (price and values by unit of flow, times the part), `readings` (these of a table), `taken_ways`
 //! and `table_proofs` (what proves the dual), `core_duals`; and for a cut `mirrors` (the core dual of a commodity, and that of its

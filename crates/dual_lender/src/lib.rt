@@ -1,7 +1,7 @@
 //! Duals of the cuts that a search keeps, made anew and lent one at a time.
 //!
 //! A search keeps of each cut what its duals can be made from: a hub set with an order, or values of the candidates. Of a
-//! core cut, and of one that it was given, it keeps the duals themselves, packed (`stated_cuts`). A [`DualLender`] is room
+//! core cut, and of one that it was given, it keeps the duals themselves, packed (`cut_model`). A [`DualLender`] is room
 //! that is taken once; it makes the duals of any kept cut of its instance, all of an origin together, lends one at a time,
 //! and can hold a second one beside it. Costs are in 10^-12.
 //!

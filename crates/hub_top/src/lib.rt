@@ -4,7 +4,7 @@
 //! command does with its files), `Texts` (what is printed), `Answers` (what each command says with each status), `Outcomes`
 //! (what a run may come to and what is written then), `Meanings` (what each status says), `Completeness` (how it ends
 //! where nothing fails), `Headline`, `Theorems`. What the words ask for is defined in the crate `hub_words`, and what a
-//! search finds in `search_spec` and `branch_tree`, which cuts it separates in `separators` and core cuts in `core_spec` and
+//! search finds in `search_spec` and `branch_tree`, which cuts it separates in `search_progress` and core cuts in `core_spec` and
 //! `core_cuts`, and what is found by rounds in `rounds_spec` and `node_rounds`.
 #![tactic(auto)]
 

@@ -8,6 +8,11 @@
 //! [`finish`] gives is what is found where the state is that of the definition at its end and the lines are those of its
 //! tree in preorder.
 //!
+//! Cuts are asked of a [`Separator`] (`asking`), which works out the cut of its kind of a hub set over an order: by one
+//! thread ([`Solo`]), by several side by side, or core cuts where there are ([`Coring`]). So no search depends on who worked
+//! a cut out. In the order of reading: `asking`, `solos`, `coring`, `laws`; `progress`, `separating`, `starting`,
+//! `stopping`, `finishing`.
+//!
 //! Costs are in 10^-12 and weights in 10^-6; nodes are `u32`, counted from 0, and cuts are counted from 1.
 #![tactic(auto)]
 

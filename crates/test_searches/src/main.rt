@@ -1,6 +1,6 @@
 //! What searches find, a case a line of standard input.
 //!
-//! Of `hub_model` the fixed costs of an instance, of `search_steps` a leaf, of `separators` the sums of cuts, of
+//! Of `hub_model` the fixed costs of an instance, of `search_steps` a leaf, of `search_progress` the sums of cuts, of
 //! `branch_tree` whole searches, and of `proof_text` the texts of what they found, also where a put fails. The other steps
 //! are taken by each search.
 //!
