@@ -18,14 +18,14 @@ ghost use Rattle.search_progress.specs.Findings.{IsFound};
 
 use crate::searching::search_on;
 use assign_sub::lacking;
+use cut_model::StatedCut;
+use cut_pool::Found;
 use hub_model::{Instance, MOST_CUTS};
 use hub_plain::outside;
-use cut_pool::Found;
 use plan_model::{HubSet, are_among};
 use search_core::{Start, Task};
 use search_progress::{Progress, Separator, begin, number_of, separate};
 use search_steps::Rule;
-use cut_model::StatedCut;
 use std::alloc::{AllocError, Global};
 
 /// What the rule of the search, which serves the instance, finds that begins with these cuts beside its own, and tries

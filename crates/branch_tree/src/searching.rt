@@ -14,8 +14,8 @@ ghost use Rattle.search_progress.specs.Findings.{IsFound};
 ghost use Rattle.search_progress.specs.Kinds.{minimal, parts_for};
 
 use crate::walk::Walk;
-use hub_model::Instance;
 use cut_pool::Found;
+use hub_model::Instance;
 use plan_model::Branch;
 use search_core::Task;
 use search_progress::{Progress, Separator, begin, finish};
