@@ -59,8 +59,8 @@ impl Model for Adviser {
 }
 
 impl Adviser {
-    /// An adviser for the instance, with all duals 0, whose passes so many workers make, at most 64. Its advice is the
-    /// same, whatever their number.
+    /// An adviser for the instance, with all duals 0, whose passes so many workers make, at most 64. That its advice is the
+    /// same, whatever their number, is tested and in no clause.
     #[tactic(auto, using(crate::proofs::SmallShapes::few_places))]
     pub fn new(alloc: Global, instance: &Instance, workers: u32) -> Result<Adviser, AllocError>
         ensures { IfOk result (λ a. a ≡ shape_of instance.now) }

@@ -17,7 +17,8 @@ pub(crate) fn of_the_plane(alloc: Global) -> Result<Instance, Fail> {
         deliver: 2000,
     };
     let flows = &[3_000_000, 4_000_000, 4_000_000, 6_000_000];
-    instance(alloc, 2, flows, &[0, 188_297, 188_297, 0], factors)
+    let distances = &[0, 188_297, 188_297, 0];
+    instance(alloc, 2, flows, distances, factors, None)
 }
 
 /// Three nodes in a line, ten units of flow each way between its ends.
@@ -29,7 +30,20 @@ pub(crate) fn line_of_three(alloc: Global) -> Result<Instance, Fail> {
     };
     let flows = &[0, 0, 10_000_000, 0, 0, 0, 10_000_000, 0, 0];
     let distances = &[0, 10_000, 20_000, 10_000, 0, 10_000, 20_000, 10_000, 0];
-    instance(alloc, 3, flows, distances, factors)
+    instance(alloc, 3, flows, distances, factors, None)
+}
+
+/// Three nodes as far from one another, one unit of flow from the first to the second, and no route longer than one and a
+/// half times this.
+pub(crate) fn limited_triangle(alloc: Global) -> Result<Instance, Fail> {
+    let factors = Factors {
+        collect: 1000,
+        trunk: 1000,
+        deliver: 1000,
+    };
+    let flows = &[0, 1_000_000, 0, 0, 0, 0, 0, 0, 0];
+    let distances = &[0, 10_000, 10_000, 10_000, 0, 10_000, 10_000, 10_000, 0];
+    instance(alloc, 3, flows, distances, factors, Some(15_000))
 }
 
 fn instance(
@@ -38,12 +52,17 @@ fn instance(
     flows: &[i128],
     distances: &[i128],
     factors: Factors,
+    longest: Option<u32>,
 ) -> Result<Instance, Fail> {
+    let terms = Terms {
+        longest: longest.map(|most| i128::from(most)),
+        ..Terms::with_fixed(0)
+    };
     let flows = flows.to_vec(alloc)?;
     let distances = distances.to_vec(alloc)?;
     let parts = Parts::new(size, flows, distances, factors, None, None);
     let parts = parts.ok_or("outside the limits")?;
-    Ok(Instance::build(alloc, parts, &Terms::with_fixed(0), None)?)
+    Ok(Instance::build(alloc, parts, &terms, None)?)
 }
 
 /// The set of the first node.
