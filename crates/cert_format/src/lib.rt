@@ -1,4 +1,4 @@
-//! The certificate as a type, and its text written and read.
+//! The certificate as a type; reads and writes its text.
 //!
 //! - [`Certificate`] is a certificate within the ranges of the grammar, seen by contracts as the definitions' `Stated`:
 //!   what its first lines say ([`Heading`]), a plan, cuts (`StatedCut` of `cut_model`), for each cut a mark or none

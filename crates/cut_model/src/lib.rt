@@ -1,4 +1,4 @@
-//! Cuts as certificates state them, held small, and the marks that are to show that a cut is undominated.
+//! The explicit cuts of a certificate, held in little memory, and the mark that proves a cut Pareto-optimal.
 //!
 //! A [`StatedCut`] is seen as the definitions' cut: its part, and one dual for each commodity in order. It holds a run of
 //! equal duals once, in 32 bytes, and each value that a dual lists in 16; its totals and loads are those of the whole cut.

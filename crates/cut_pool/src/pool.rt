@@ -22,8 +22,8 @@ use std::marker::Model;
 // The most cuts of a pool: their numbers are below 2^32.
 const MOST_KEPT: u64 = 4_294_967_295;
 
-/// The cuts of a search, numbered from 1 in the order in which they were added: separated cuts and core cuts, no two of one
-/// hub set, and cuts that were given with their duals, which are of no hub set.
+/// The cuts of a search, numbered from 1 in the order in which they were added: separated cuts and Pareto-optimal cuts, no
+/// two of one hub set, and cuts that were given with their duals, which are of no hub set.
 ///
 /// A pool is seen as its entries, with how many more can be added for certain.
 #[derive(Drop)]
@@ -157,7 +157,7 @@ impl Pool {
         Ok(place as u64 + 1)
     }
 
-    /// Adds the core cut of a hub set that has no cut yet, between `size` nodes, and gives its number, the next one.
+    /// Adds the Pareto-optimal cut of a hub set that has no cut yet, between `size` nodes, and gives its number, the next one.
     ///
     /// The cut comes back where memory is wanting, or where the pool has all the cuts that it can number, and its cuts stay
     /// as they were.
@@ -264,7 +264,7 @@ impl Pool {
         &self.cuts.cuts()[(c - 1) as usize]
     }
 
-    /// The part of each cut, in the order of their numbers: 1 but for core cuts and given ones.
+    /// The part of each cut, in the order of their numbers: 1 but for Pareto-optimal cuts and given ones.
     pub fn parts(&self) -> &[u32]
         ensures { result.now ≡ map entry_part self.now.entries }
     {
@@ -312,7 +312,8 @@ impl Pool {
         for_one_unit(part, &self.cuts.loads()[place], &self.units.rows()[place])
     }
 
-    /// The greatest load of a core cut or a given one for one unit of its part, in 10^-12, rounded down: 0 if there is none.
+    /// The greatest load of a Pareto-optimal cut or a given one for one unit of its part, in 10^-12, rounded down: 0 if
+    /// there is none.
     pub fn most_stated(&self) -> u128
         ensures { result ≡ most_stated self.now.entries }
     {

@@ -13,11 +13,10 @@ ghost use Rattle.hub_sources.specs.Halts.{Halts, IsOfSource};
 ghost use Rattle.hub_checks.specs.Judging.{IsNoFault, IsVerdictOn};
 ghost use Rattle.hub_sources.specs.Told.{LacksFile};
 
-use hub_sources::Halt;
-use hub_sources::read_instance;
 use cert_checker::Ending;
 use hub_io::Shelf;
 use hub_model::Instance;
+use hub_sources::{Halt, read_instance};
 use hub_words::Source;
 use std::alloc::Global;
 use stream_check::{NoEnding, check_held};

@@ -1,5 +1,4 @@
-//! The commands `check` and `report`: an instance and a certificate from their files to a verdict, or to the certificate that
-//! holds; and how a run of the program ends.
+//! The commands `check` and `report`: an instance and a certificate from their files to a verdict.
 //!
 //! `specs/` in the order of reading: `Statuses`, `Lines` (the line of a verdict), `Checks` (what the commands come to).
 #![tactic(auto)]

@@ -14,12 +14,11 @@ ghost use Rattle.hub_checks.specs.Judging.{IsNoFault};
 ghost use Rattle.hub_sources.specs.Told.{LacksFile};
 ghost use Rattle.hub_checks.specs.Reporting.{IsReport, IsReading, IsReadingOf};
 
-use hub_sources::Halt;
-use hub_sources::read_instance;
 use cert_checker::{Ending, MOST_CERTIFICATE_BYTES, Verdict, check};
 use cert_format::{CertFault, Certificate, read_cert};
 use hub_io::{ReadEnd, Shelf, read_whole};
 use hub_model::Instance;
+use hub_sources::{Halt, read_instance};
 use hub_words::Source;
 use std::alloc::{AllocError, Global};
 use std::thread::Threads;

@@ -24,7 +24,7 @@ pub enum Status {
     Read,
     /// A sink failed.
     Write,
-    /// `solve`, `optimize`, `resolve`: all candidates together lack a commodity, so there is no network.
+    /// `solve`, `optimize`, `resolve`: all candidates together are infeasible for a commodity, so there is no network.
     Lacking,
 }
 

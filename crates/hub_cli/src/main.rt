@@ -1,4 +1,4 @@
-//! The program `hub`: the words and files of the machine, handed to `run`.
+//! The program `hub`: passes arguments, disk and standard streams to `run`.
 #![tactic(auto)]
 
 ghost use Rattle.std.specs.Prelude.{◌≡◌, ◌⊎◌};

@@ -1,5 +1,5 @@
-//! Made-up instances for tests and demonstrations: a seed and a number of nodes give the text of an instance file in
-//! the layout `ap`, with fixed costs at its end.
+//! Made-up instances: a seed and a size give the text of a file in the layout `ap`, or the instance itself; and the five
+//! lines of `demo`.
 //!
 //! [`instance_text`] writes the text. What each of its lines says is defined in `specs/Texts.antt`, and the numbers in
 //! `specs/Numbers.antt`. [`made_is_read`] is the law that makes the text useful: for every seed and size in range it is

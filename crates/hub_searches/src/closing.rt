@@ -10,18 +10,18 @@ ghost use Rattle.hub_searches.specs.Solving.{IsClosed};
 
 use cert_format::Certificate;
 use closing_search::{Task, optimize_within};
+use cut_pool::Found;
 use hub_model::Instance;
 use hub_words::Search;
-use cut_pool::Found;
 use old_duals::first_values;
 use price_passes::Adviser;
 use search_advice::Advice;
 use std::alloc::{AllocError, Global};
 use std::thread::Threads;
 
-/// What the search finds for the instance, where all candidates together lack no commodity. The gap that it may leave is in
-/// thousandths of a per cent of the cost. It begins with what the older certificate says, and trusts nothing of it: where its
-/// hubs are a hub set that is wanted, what is found costs at most what they do.
+/// What the search finds for the instance, where all candidates together are feasible for each commodity. The gap that it
+/// may leave is in thousandths of a per cent of the cost. It begins with what the older certificate says, and trusts
+/// nothing of it: where its hubs are a hub set that is wanted, what is found costs at most what they do.
 pub fn close<R: Threads + Sync>(
     rt: &R,
     alloc: Global,

@@ -12,12 +12,12 @@ ghost use Rattle.hub_checks.specs.Judging.{IsNoFault};
 ghost use Rattle.hub_searches.specs.Solving.{IsPrepared, IsReadingAs, IsReadingOf};
 ghost use Rattle.hub_sources.specs.Told.{LacksFile};
 
-use hub_sources::Halt;
 use crate::searching::Course;
 use cert_checker::{Ending, MOST_CERTIFICATE_BYTES, Older, read_older};
 use cert_format::Certificate;
 use hub_io::{ReadEnd, Shelf, read_whole};
 use hub_model::Instance;
+use hub_sources::Halt;
 use hub_words::How;
 use old_duals::read_sized;
 use std::alloc::{AllocError, Global};

@@ -16,16 +16,16 @@ ghost use Rattle.hub_searches.specs.Solving.{IsSearched, MayGo, course_seen};
 
 use branch_tree::{search, search_from};
 use cut_pool::{CutSums, Found};
-use hub_make::made_instance;
 use hub_io::Gate;
+use hub_make::made_instance;
 use hub_model::Instance;
 use hub_words::{Making, Search, SearchRule};
 use node_rounds::search_rounds;
 use par_separate::{Crew, separate_sums, workers_for};
 use plan_model::HubSet;
 use search_core::Start;
-use search_steps::{Counted, Plain, Rule};
 use search_progress::{Coring, Separator, Solo};
+use search_steps::{Counted, Plain, Rule};
 use std::alloc::{AllocError, Global};
 use std::thread::Threads;
 
@@ -61,8 +61,8 @@ pub fn demonstrate<R: Threads + Sync, G: Gate>(
     )
 }
 
-/// What the search rule finds that goes so, where all candidates together lack no commodity: with just as many hubs as are
-/// wanted, if a number is.
+/// What the search rule finds that goes so, where all candidates together are feasible for each commodity: with just as
+/// many hubs as are wanted, if a number is.
 pub fn find<R: Threads + Sync, G: Gate>(
     rt: &R,
     alloc: Global,
@@ -119,8 +119,8 @@ fn find_by<R: Threads + Sync, Q: Rule, G: Gate>(
     find_with(rt, alloc, rule, instance, asked, course, Crew { cut }, gate)
 }
 
-/// What the rule of the search finds, asking this separator, and by core cuts only where a hub set has none; by rounds the turns of
-/// each round are worked out by as many workers as are asked for.
+/// What the rule of the search finds, asking this separator, and by Pareto-optimal cuts only where a hub set has none; by
+/// rounds the turns of each round are worked out by as many workers as are asked for.
 fn find_with<R: Threads + Sync, Q: Rule, S: Separator + Drop, G: Gate>(
     rt: &R,
     alloc: Global,

@@ -13,16 +13,15 @@ ghost use Rattle.hub_sources.specs.Halts.{Halts, IsOfSource};
 ghost use Rattle.hub_searches.specs.Solving.{ComesTo};
 
 use crate::closing::close;
-use hub_sources::Halt;
-use hub_sources::read_instance;
 use crate::preparing::{Prepared, prepare};
 use crate::searching::find;
 use assign_sub::lacking;
 use cert_checker::Ending;
+use cut_pool::Found;
 use hub_io::{Gate, Shelf};
 use hub_model::Instance;
+use hub_sources::{Halt, read_instance};
 use hub_words::Solving;
-use cut_pool::Found;
 use plan_model::HubSet;
 use std::alloc::{AllocError, Global};
 use std::thread::Threads;
@@ -32,7 +31,7 @@ use std::thread::Threads;
 pub enum Solved {
     /// What the search finds for the instance.
     Found(Instance, Found),
-    /// All candidates together lack the commodity from `i` to `j`, the first one.
+    /// All candidates together are infeasible for the commodity from `i` to `j`, the first one.
     NoNetwork { i: u32, j: u32 },
     /// The older certificate does not serve: its text ends so where it is read, or its size line, or for `resolve` one of its
     /// cuts, does not hold for the instance.
@@ -42,7 +41,7 @@ pub enum Solved {
 /// What is found for the instance that the source names, with the instance, by the rule that is asked for, again from the cuts
 /// and the hubs of an older certificate, or by the search that follows no rule.
 ///
-/// The instance is read first, and where all candidates together lack a commodity no older certificate is read.
+/// The instance is read first, and where all candidates together are infeasible for a commodity no older certificate is read.
 pub fn solve<R: Threads + Sync, S: Shelf, G: Gate>(
     rt: &R,
     alloc: Global,

@@ -1,4 +1,4 @@
-//! The instance that a command names, from its files: a shelf's bytes to an instance, or why there is none.
+//! The instance that a command names, read from its files, or the fault of one of them.
 //!
 //! `specs/` in the order of reading: `Sources` (what the files of a source give), `Halts` (why a command has no answer), `Shelves`
 //! (what a call does to the shelf), `Named` (which files it begins). [`read_instance`] is the call that each command begins with.

@@ -16,13 +16,13 @@ ghost use Rattle.hub_checks.specs.declared.status.Status.TheVariants.{Lacking, U
 
 use crate::Status;
 use crate::answers::{Answer, put_answer, status_of_answer, status_of_finding};
-use hub_sources::Halt;
 use crate::texts::{put_fault, put_memory, put_no_network, put_read, put_usage};
+use cut_pool::Found;
 use dual_lender::DualLender;
 use hub_io::{Failed, Sink};
 use hub_model::Instance;
+use hub_sources::Halt;
 use hub_words::Search;
-use cut_pool::Found;
 use proof_text::{Finding, Workers, write_found};
 use std::alloc::Global;
 use std::thread::Threads;
@@ -34,7 +34,7 @@ pub enum Settled {
     Answered(Answer),
     /// What this search found for the instance, whose certificate is wanted.
     Found(Instance, Found, Search),
-    /// All candidates together lack the commodity from `i` to `j`.
+    /// All candidates together are infeasible for the commodity from `i` to `j`.
     NoNetwork { i: u32, j: u32 },
     /// The words are no command.
     Usage,
@@ -49,7 +49,7 @@ pub enum Intended<'a> {
     Answered(&'a Answer),
     /// The certificate of what this search found for the instance, with room to make its duals in.
     Found(&'a Instance, &'a Found, Search, DualLender<'a>),
-    /// All candidates together lack the commodity from `i` to `j`.
+    /// All candidates together are infeasible for the commodity from `i` to `j`.
     NoNetwork { i: u32, j: u32 },
     /// The words are no command.
     Usage,

@@ -10,8 +10,8 @@ ghost use Rattle.hub_sources.specs.Blames.{blame_of};
 
 use dec_text::{Piece, put_line};
 use hub_io::{Failed, Sink};
-use hub_sources::Blamed;
 use hub_model::{InstanceFault, Wanted, unsigned};
+use hub_sources::Blamed;
 
 /// The words with which a fault of this file is told.
 fn words_of(blamed: Blamed) -> &'static [u8]

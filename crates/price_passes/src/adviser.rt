@@ -173,7 +173,7 @@ impl Adviser {
         }
     }
 
-    /// Tries places to branch on, where the bound is so far below what is wanted, in the worth of the units, and chooses
+    /// Tries candidate to branch on, where the bound is so far below what is wanted, in the worth of the units, and chooses
     /// the one whose two children seem to rise most.
     fn choose_branch<R: Threads + Sync>(
         &mut self,

@@ -1,5 +1,5 @@
-//! Advice for a search (`Advice` of `search_advice`): dual values of all commodities that make a good cut, hub sets that
-//! are cheap, and the place to branch on.
+//! The heuristic of `optimize`: parallel dual ascent, local search over hub sets, strong branching. Nothing of it is
+//! trusted.
 //!
 //! Nothing here is exact, and no caller relies on it: the values are made those of a cut elsewhere, where each price
 //! is lowered to what they allow, and costs and bounds are worked out anew. What is proved is that each call ends

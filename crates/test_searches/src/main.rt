@@ -1,4 +1,4 @@
-//! What searches find, a case a line of standard input.
+//! Cases of searches and of the texts of what they find.
 //!
 //! Of `hub_model` the fixed costs of an instance, of `search_steps` a leaf, of `search_progress` the sums of cuts, of
 //! `branch_tree` whole searches, also begun again, and of `proof_text` the texts of what they found, also where a put fails.
@@ -15,7 +15,7 @@
 //! - `sums HUB .. by fixed .. candidates .. trunk .. flows .. distances ..`: the sums of the cut of these hubs, by a
 //!   separator that was made for another instance
 //! - `search NODES`: what the search finds with this most number of nodes, or `all`
-//! - `again NODES hubs HUB ..`: what the search finds that begins with these hubs and their core cut, with what an optimal plan
+//! - `again NODES hubs HUB ..`: what the search finds that begins with these hubs and their Pareto-optimal cut, with what an optimal plan
 //!   costs
 //! - `text NODES`: the text of what it finds, in the first version
 //! - `second NODES`: the same in the second version

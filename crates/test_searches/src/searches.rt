@@ -58,8 +58,8 @@ pub(crate) fn search_told(
     format!(in alloc; "cost {cost} bound {bound} hubs {hubs:?} cuts {cuts}\n{tree}")
 }
 
-/// What the search finds that begins again with the line's hubs and the core cut of these: the cost, the bound, the hubs, and how
-/// many of its cuts were given; and what an optimal plan costs.
+/// What the search finds that begins again with the line's hubs and the Pareto-optimal cut of these: the cost, the bound,
+/// the hubs, and how many of its cuts were given; and what an optimal plan costs.
 pub(crate) fn again_told(
     alloc: Global,
     instance: &Instance,
@@ -81,7 +81,7 @@ pub(crate) fn again_told(
     format!(in alloc; "cost {cost} bound {bound} hubs {hubs:?} given {given} best {best:?}")
 }
 
-// The set, and its core cut as one that is given, if it has one.
+// The set, and its Pareto-optimal cut as one that is given, if it has one.
 #[tactic(auto, using(core_cuts::proofs::ServingCuts::cored_serves))]
 fn start_of(alloc: Global, instance: &Instance, set: &HubSet) -> Result<Option<Start>, AllocError>
     requires { IsHubSet instance.now set.now }

@@ -1,4 +1,4 @@
-//! Tests of what holds threads: workers on a board, in a crew, at a separation, at prices, and in a search by rounds.
+//! Tests of threads: boards, pools, separation and rounds by several workers.
 //!
 //! - `boards`: of `claim_board`
 //! - `crews`: of `crew`

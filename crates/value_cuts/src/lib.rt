@@ -1,4 +1,5 @@
-//! Exact cuts from any values of the candidates.
+//! The Benders cut of any dual values, made feasible: each price is lowered to what allowed routes permit, by one worker or
+//! several.
 //!
 //! A search without proofs may advise values for each commodity, found in whatever way. Here the price of each commodity is
 //! lowered to what its values allow on allowed routes, so that its dual is feasible by construction, and the duals of all

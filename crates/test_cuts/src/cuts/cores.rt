@@ -1,4 +1,4 @@
-//! Core duals and the core cut of a hub set (`core_cuts`), and what a pool keeps of such a cut.
+//! Pareto-optimal duals and the Pareto-optimal cut of a hub set (`core_cuts`), and what a pool keeps of such a cut.
 
 ghost use Rattle.std.specs.Prelude.{◌<◌, IsTrue, IfOk, IfSome};
 ghost use Rattle.hub_spec.specs.Plans.{IsHubSet};
@@ -14,7 +14,7 @@ use hub_model::Instance;
 use plan_model::HubSet;
 use std::alloc::{AllocError, Global};
 
-/// The part of the commodity's core dual, the dual, and the turns, the scale and the ways of its proof.
+/// The part of the commodity's Pareto-optimal dual, the dual, and the turns, the scale and the ways of its proof.
 pub fn dual(
     alloc: Global,
     instance: &Instance,
@@ -55,7 +55,7 @@ fn proof_told(alloc: Global, proof: &DualProof) -> Result<String, AllocError> {
     format!(in alloc; "turns {turns} scale {scale} ways {ways:?}")
 }
 
-/// The core cut, and what a pool has once it is added as the set's, and again as one that is given.
+/// The Pareto-optimal cut, and what a pool has once it is added as the set's, and again as one that is given.
 pub fn cut(alloc: Global, instance: &Instance, set: &HubSet) -> Result<String, AllocError>
     requires { IsHubSet instance.now set.now }
 {
@@ -70,7 +70,7 @@ pub fn cut(alloc: Global, instance: &Instance, set: &HubSet) -> Result<String, A
     format!(in alloc; "{told} {kept}")
 }
 
-// The core cut, within the ranges of a certificate.
+// The Pareto-optimal cut, within the ranges of a certificate.
 #[tactic(auto, using(core_cuts::proofs::ServingCuts::cored_serves))]
 fn served(alloc: Global, instance: &Instance, set: &HubSet) -> Result<Option<MarkedCut>, AllocError>
     requires { IsHubSet instance.now set.now }

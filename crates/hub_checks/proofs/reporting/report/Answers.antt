@@ -16,13 +16,13 @@ pub returns-in_err-instance-clause-begins : goal.returns-in_err-instance-clause-
 returns-in_err-instance-clause-begins g c = begins_more (λ name is. inl is) c.in_err-instance.ensures.begins
 
 pub returns-in_err-certificate-clause-begins : goal.returns-in_err-certificate-clause-begins
-returns-in_err-certificate-clause-begins g c = 
+returns-in_err-certificate-clause-begins g c =
     begins_then (begins_more (λ name is. inl is) c.in_ok-instance.ensures.begins) (begins_more (λ name is. inr is) c.in_err-certificate.ensures.begins)
 
 pub returns-in-Certified-clause-begins : goal.returns-in-Certified-clause-begins
-returns-in-Certified-clause-begins g c = 
+returns-in-Certified-clause-begins g c =
     begins_then (begins_more (λ name is. inl is) c.in_ok-instance.ensures.begins) (begins_more (λ name is. inr is) c.in_ok-certificate.ensures.begins)
 
 pub returns-in-Refused-clause-begins : goal.returns-in-Refused-clause-begins
-returns-in-Refused-clause-begins g c = 
+returns-in-Refused-clause-begins g c =
     begins_then (begins_more (λ name is. inl is) c.in_ok-instance.ensures.begins) (begins_more (λ name is. inr is) c.in_ok-certificate.ensures.begins)
