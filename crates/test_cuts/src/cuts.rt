@@ -6,11 +6,10 @@
 //! `deliver`, `longest` (10^-3).
 //!
 //! Of an instance: `row from I to J`, `set_legs` and `first_legs` (of three nodes), and by a `row` of values in a `unit`
-//! `value_sums`, `value_prices` and `value_dual from I to J`. Of some hubs of it, `hubs H ..`: `lacking`, `assign`,
-//! `order` (by a `point`), `cut`, `core_cut`, and with `from I to J` the Pareto-optimal dual (`core_dual`), and the
-//! minimal dual by its row (`row_dual`), by all commodities of its origin (`strong_dual`), and by the parts that work out
-//! an origin (`separation`). Of no instance: `unit_duals`, of legs from stop to stop (`trunk`), to the destinations
-//! (`last`) and from an origin (`first`).
+//! `value_sums`, `value_prices` and `value_dual from I to J`. Of some hubs of it, `hubs H ..`: `lacking`, `assign`, `order` (by
+//! a `point`), `cut`, `core_cut`, and with `from I to J` the Pareto-optimal dual (`core_dual`), and the minimal dual by its row
+//! (`row_dual`), by all commodities of its origin (`strong_dual`), and by the parts that work out an origin (`separation`). Of
+//! no instance: `unit_duals`, of legs from stop to stop (`trunk`), to the destinations (`last`) and from an origin (`first`).
 
 mod cores;
 mod cuts;

@@ -2,8 +2,7 @@
 //!
 //! Of `hub_model` the fixed costs of an instance, of `search_steps` a leaf, of `search_progress` the sums of cuts, of
 //! `branch_tree` whole searches, also begun again, and of `proof_text` the texts of what they found, also where a put fails.
-//! The other steps
-//! are taken by each search.
+//! The other steps are taken by each search.
 //!
 //! Nodes are counted from 0, and from 1 in certificates. A line is one of these:
 //!

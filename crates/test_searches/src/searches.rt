@@ -2,6 +2,9 @@
 
 ghost use Rattle.std.specs.Prelude.{IfOk, IfSome};
 ghost use Rattle.hub_spec.specs.Plans.{IsHubSet};
+ghost use Rattle.hub_spec.specs.Cuts.{IsCut};
+ghost use Rattle.hub_spec.specs.Ranges.{IsCutInRange};
+ghost use Rattle.core_cuts.specs.Theorems.{IsServing};
 ghost use Rattle.search_spec.specs.Again.{IsStartOf};
 ghost use Rattle.search_core.specs.Starts.{start_seen};
 ghost use Rattle.cut_pool.specs.Findings.{AreRemade, IsProved};
@@ -10,6 +13,7 @@ use crate::steps::set_of;
 use crate::texts::tree_text;
 use branch_tree::{search, search_from};
 use core_cuts::core_cut;
+use cut_model::{MarkedCut, StatedCut};
 use cut_pool::{Found, KeptCut};
 use hub_model::Instance;
 use hub_plain::{best_plan, is_hub_set, set_cost};
@@ -82,19 +86,45 @@ pub(crate) fn again_told(
 }
 
 // The set, and its Pareto-optimal cut as one that is given, if it has one.
-#[tactic(auto, using(core_cuts::proofs::ServingCuts::cored_serves))]
 fn start_of(alloc: Global, instance: &Instance, set: &HubSet) -> Result<Option<Start>, AllocError>
     requires { IsHubSet instance.now set.now }
     ensures { IfOk result (λ found. IfSome found (λ start. IsStartOf instance.now (start_seen start))) }
 {
+    match served(alloc, instance, set)? {
+        Some(found) => Ok(Some(start_with(alloc, instance, set, found.cut)?)),
+        None => Ok(None),
+    }
+}
+
+// The Pareto-optimal cut of the set, within the ranges of a certificate.
+#[tactic(auto, using(core_cuts::proofs::ServingCuts::cored_serves))]
+fn served(alloc: Global, instance: &Instance, set: &HubSet) -> Result<Option<MarkedCut>, AllocError>
+    requires { IsHubSet instance.now set.now }
+    ensures { IfOk result (λ found. IfSome found (IsServing instance.now set.now)) }
+{
     let _ = instance.size();
-    let Some(found) = core_cut(alloc, instance, set)? else {
-        return Ok(None);
-    };
+    match core_cut(alloc, instance, set)? {
+        Some(found) => Ok(Some(found)),
+        None => Ok(None),
+    }
+}
+
+fn start_with(
+    alloc: Global,
+    instance: &Instance,
+    set: &HubSet,
+    cut: StatedCut,
+) -> Result<Start, AllocError>
+    requires set { IsHubSet instance.now set.now }
+    requires cut { IsCut instance.now cut }
+    requires in_range { IsCutInRange instance.now.size cut }
+    ensures { IfOk result (λ start. IsStartOf instance.now (start_seen start)) }
+{
+    let _ = instance.size();
     let mut cuts = Vec::new(alloc);
-    cuts.push(found.cut)?;
+    cuts.push(cut)?;
     let hubs = set.members().to_vec(alloc)?;
-    Ok(Some(Start { cuts, hubs }))
+    Ok(Start { cuts, hubs })
 }
 
 fn found_again(

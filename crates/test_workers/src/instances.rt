@@ -1,6 +1,6 @@
 //! Instances whose hubs cost nothing, and the set of the first node.
 
-ghost use Rattle.std.specs.Prelude.{IfOk};
+ghost use Rattle.std.specs.Prelude.{◌≡◌, None, IfOk};
 ghost use Rattle.hub_spec.specs.Plans.{IsHubSet};
 
 use hub_model::{Factors, Instance, Parts, Terms};
@@ -18,7 +18,7 @@ pub(crate) fn of_the_plane(alloc: Global) -> Result<Instance, Fail> {
     };
     let flows = &[3_000_000, 4_000_000, 4_000_000, 6_000_000];
     let distances = &[0, 188_297, 188_297, 0];
-    instance(alloc, 2, flows, distances, factors, None)
+    instance(alloc, 2, flows, distances, factors, &Terms::with_fixed(0))
 }
 
 /// Three nodes in a line, ten units of flow each way between its ends.
@@ -30,7 +30,7 @@ pub(crate) fn line_of_three(alloc: Global) -> Result<Instance, Fail> {
     };
     let flows = &[0, 0, 10_000_000, 0, 0, 0, 10_000_000, 0, 0];
     let distances = &[0, 10_000, 20_000, 10_000, 0, 10_000, 20_000, 10_000, 0];
-    instance(alloc, 3, flows, distances, factors, None)
+    instance(alloc, 3, flows, distances, factors, &Terms::with_fixed(0))
 }
 
 /// Three nodes as far from one another, one unit of flow from the first to the second, and no route longer than one and a
@@ -43,7 +43,11 @@ pub(crate) fn limited_triangle(alloc: Global) -> Result<Instance, Fail> {
     };
     let flows = &[0, 1_000_000, 0, 0, 0, 0, 0, 0, 0];
     let distances = &[0, 10_000, 10_000, 10_000, 0, 10_000, 10_000, 10_000, 0];
-    instance(alloc, 3, flows, distances, factors, Some(15_000))
+    let terms = Terms {
+        longest: Some(15_000),
+        ..Terms::with_fixed(0)
+    };
+    instance(alloc, 3, flows, distances, factors, &terms)
 }
 
 fn instance(
@@ -52,17 +56,15 @@ fn instance(
     flows: &[i128],
     distances: &[i128],
     factors: Factors,
-    longest: Option<u32>,
-) -> Result<Instance, Fail> {
-    let terms = Terms {
-        longest: longest.map(|most| i128::from(most)),
-        ..Terms::with_fixed(0)
-    };
+    terms: &Terms,
+) -> Result<Instance, Fail>
+    requires { terms.now.hubs ≡ None }
+{
     let flows = flows.to_vec(alloc)?;
     let distances = distances.to_vec(alloc)?;
     let parts = Parts::new(size, flows, distances, factors, None, None);
     let parts = parts.ok_or("outside the limits")?;
-    Ok(Instance::build(alloc, parts, &terms, None)?)
+    Ok(Instance::build(alloc, parts, terms, None)?)
 }
 
 /// The set of the first node.

@@ -2,6 +2,7 @@
 
 ghost use Rattle.std.specs.Prelude.{◌≡◌, ◌*◌, ◌≤◌, length, IfOk};
 ghost use Rattle.value_cuts.specs.Values.{AreValuesFor};
+ghost use Rattle.value_cuts.specs.HeldRows.{IsSameShape};
 
 use hub_make::made_instance;
 use hub_model::Instance;
@@ -18,11 +19,17 @@ fn some_values(alloc: Global, instance: &Instance) -> Result<Values, AllocError>
     ensures { IfOk result (AreValuesFor instance.now) }
 {
     let mut values = Values::new(alloc, instance, 1000)?;
+    fill(&mut values);
+    Ok(values)
+}
+
+fn fill(values: &mut Values)
+    ensures { IsSameShape values.old values.new }
+{
     let rows = values.rows_mut();
     for at in 0..rows.len() {
         rows[at] = (at % 9973 * 7) as u32;
     }
-    Ok(values)
 }
 
 fn prices_alone(

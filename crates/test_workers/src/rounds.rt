@@ -59,7 +59,17 @@ fn begun(alloc: Global, instance: &Instance) -> Result<Progress, Fail>
     Ok(progress)
 }
 
+// The branch in which nothing is decided.
+#[tactic(auto, using(hub_spec::proofs::ChildLists::root_branch))]
+fn root(alloc: Global, instance: &Instance) -> Result<Branch, AllocError>
+    ensures { IfOk result (IsBranch instance.now) }
+{
+    let _ = instance.size();
+    Branch::root(alloc, instance)
+}
+
 // The child of the branch in which the node stays on this side.
+#[tactic(auto, using(hub_spec::proofs::ChildLists::open_branch, hub_spec::proofs::ChildLists::closed_branch))]
 fn child(
     alloc: Global,
     instance: &Instance,
@@ -79,24 +89,26 @@ fn child(
     }
 }
 
-// The node of the root's descendant in which these candidates stay on these sides, with no weights.
-fn node(
-    alloc: Global,
-    instance: &Instance,
-    sides: &[(u32, Side)],
-    waits: u32,
-) -> Result<Pending, Fail>
-    ensures { (entries : List Entry) → IfOk result (IsPendingOf instance.now entries) }
+// The branch in which the first two nodes stay on these sides.
+fn decided(alloc: Global, instance: &Instance, first: Side, second: Side) -> Result<Branch, Fail>
+    ensures { IfOk result (IsBranch instance.now) }
 {
-    let mut branch = Branch::root(alloc, instance)?;
-    for (k, side) in sides {
-        branch = child(alloc, instance, &branch, *k, *side)?;
-    }
-    Ok(Pending {
+    let root = root(alloc, instance)?;
+    let half = child(alloc, instance, &root, 0, first)?;
+    child(alloc, instance, &half, 1, second)
+}
+
+// The node of the branch, with no weights, once it has waited so often.
+fn node(alloc: Global, instance: &Instance, branch: Branch, waits: u32) -> Pending
+    requires { IsBranch instance.now branch }
+    ensures { (entries : List Entry) → IsPendingOf instance.now entries result }
+{
+    let _ = instance.size();
+    Pending {
         branch,
         weights: Vec::new(alloc),
         waits,
-    })
+    }
 }
 
 // What a turn comes to.
@@ -164,14 +176,18 @@ fn turns_alone(alloc: Global, instance: &Instance, nodes: &[Pending]) -> Result<
 }
 
 // The node with both hubs, that with the second alone, the root, and the root once it has waited twice.
-fn nodes_of_two(alloc: Global, instance: &Instance) -> Result<[Pending; 4], Fail>
-    ensures { (entries : List Entry) → IfOk result (λ nodes. All (IsPendingOf instance.now entries) nodes) }
+fn nodes_of_two(alloc: Global, instance: &Instance) -> Result<Vec<Pending>, Fail>
+    ensures nodes { (entries : List Entry) → IfOk result (λ nodes. All (IsPendingOf instance.now entries) nodes.items) }
+    ensures four { IfOk result (λ nodes. length nodes.items ≡ 4) }
 {
-    let both = node(alloc, instance, &[(0, Side::In), (1, Side::In)], 0)?;
-    let second = node(alloc, instance, &[(0, Side::Out), (1, Side::In)], 0)?;
-    let root = node(alloc, instance, &[], 0)?;
-    let waited = node(alloc, instance, &[], 2)?;
-    Ok([both, second, root, waited])
+    let both = decided(alloc, instance, Side::In, Side::In)?;
+    let second = decided(alloc, instance, Side::Out, Side::In)?;
+    let mut nodes = Vec::new(alloc);
+    nodes.push(node(alloc, instance, both, 0))?;
+    nodes.push(node(alloc, instance, second, 0))?;
+    nodes.push(node(alloc, instance, root(alloc, instance)?, 0))?;
+    nodes.push(node(alloc, instance, root(alloc, instance)?, 2))?;
+    Ok(nodes)
 }
 
 // The hubs cost 1200 and 1300 * 10^12, and the cut of the first alone is 9414850000000000 with the load 8285068000000000 of
@@ -198,14 +214,18 @@ fn two_workers_find_the_turns_of_a_round(rt: HostRuntime) -> Result<(), Fail> {
 }
 
 // The node with the third alone, that with the first two, and the root.
-fn nodes_of_three(alloc: Global, instance: &Instance) -> Result<[Pending; 3], Fail>
-    ensures { (entries : List Entry) → IfOk result (λ nodes. All (IsPendingOf instance.now entries) nodes) }
+fn nodes_of_three(alloc: Global, instance: &Instance) -> Result<Vec<Pending>, Fail>
+    ensures nodes { (entries : List Entry) → IfOk result (λ nodes. All (IsPendingOf instance.now entries) nodes.items) }
+    ensures three { IfOk result (λ nodes. length nodes.items ≡ 3) }
 {
-    let third = node(alloc, instance, &[(0, Side::Out), (1, Side::Out)], 0)?;
-    let sides = [(0, Side::In), (1, Side::In), (2, Side::Out)];
-    let two = node(alloc, instance, &sides, 0)?;
-    let root = node(alloc, instance, &[], 0)?;
-    Ok([third, two, root])
+    let third = decided(alloc, instance, Side::Out, Side::Out)?;
+    let first_two = decided(alloc, instance, Side::In, Side::In)?;
+    let first_two = child(alloc, instance, &first_two, 2, Side::Out)?;
+    let mut nodes = Vec::new(alloc);
+    nodes.push(node(alloc, instance, third, 0))?;
+    nodes.push(node(alloc, instance, first_two, 0))?;
+    nodes.push(node(alloc, instance, root(alloc, instance)?, 0))?;
+    Ok(nodes)
 }
 
 // By way of the third alone the one route is too long, and all hubs cost what the cut of all says.

@@ -77,7 +77,10 @@ fn served(alloc: Global, instance: &Instance, set: &HubSet) -> Result<Option<Mar
     ensures { IfOk result (λ found. IfSome found (IsServing instance.now set.now)) }
 {
     let _ = instance.size();
-    core_cut(alloc, instance, set)
+    match core_cut(alloc, instance, set)? {
+        Some(found) => Ok(Some(found)),
+        None => Ok(None),
+    }
 }
 
 // The hubs and the part, the duals, and behind each its proof.

@@ -50,10 +50,16 @@ fn prices(alloc: Global, instance: &Instance, values: &Values) -> Result<String,
     requires { AreValuesFor instance.now values.now }
 {
     let tables = CandidateLegs::new(alloc, instance)?;
-    let size = instance.size() as usize;
-    let mut scratch = PriceScratch::new(alloc, &tables)?;
+    prices_by(alloc, &tables, values)
+}
+
+fn prices_by(alloc: Global, tables: &CandidateLegs, values: &Values) -> Result<String, AllocError>
+    requires { AreValuesFor tables.now values.now }
+{
+    let size = tables.instance().size() as usize;
+    let mut scratch = PriceScratch::new(alloc, tables)?;
     let mut prices = vec![in alloc; 7; size * size]?;
-    set_prices(&tables, values, &mut scratch, &mut prices);
+    set_prices(tables, values, &mut scratch, &mut prices);
     format!(in alloc; "{prices:?}")
 }
 

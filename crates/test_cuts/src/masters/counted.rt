@@ -1,10 +1,10 @@
 //! Where so many hubs are wanted: bounds of branches, whether they close targets and what they fix, and the hubs that a point
 //! picks (`p_hub`).
 
-ghost use Rattle.std.specs.Prelude.{◌≤◌, IsTrue, Some};
+ghost use Rattle.std.specs.Prelude.{◌≡◌, ◌≤◌, ◌^◌, false, IsTrue, Some};
 ghost use Rattle.hub_spec.specs.Trees.{HasRoom};
-ghost use Rattle.leaf_bound.specs.Numbers.{AreWeightingNumbers, IsBranchWithin};
-ghost use Rattle.p_hub.specs.Fixing.{IsBetween};
+ghost use Rattle.leaf_bound.specs.Numbers.{AreWeightingNumbers, IsBranchWithin, weighting_of};
+ghost use Rattle.p_hub.specs.Fixing.{counted_closes, IsBetween};
 
 use super::fields::{Lent, branch, cuts_of, numbers, parted};
 use super::weighing::serve;
@@ -77,6 +77,17 @@ fn is_between(branch: &Branch, p: u32) -> bool
     branch.inside().len() < p as usize && (p as usize) < branch.inside().len() + branch.free().len()
 }
 
+// Whether the bound leaves the target open.
+fn is_open(weighting: &Weighting, branch: &Branch, target: u128, p: u32) -> bool
+    requires numbers { AreWeightingNumbers weighting.now }
+    requires nodes { IsBranchWithin weighting.now branch.now }
+    requires target { target ≤ 10 ^ 30 }
+    requires room { HasRoom (Some p) branch.now }
+    ensures { IsTrue result → counted_closes p (weighting_of weighting.now) target branch.now ≡ false }
+{
+    !closes_p(weighting, branch, target, p)
+}
+
 fn tell_target(
     alloc: Global,
     told: &mut String,
@@ -92,7 +103,7 @@ fn tell_target(
     if target > MOST_TARGET {
         return writeln!(told, "{target} is no target");
     }
-    if closes_p(weighting, branch, target, p) {
+    if !is_open(weighting, branch, target, p) {
         return writeln!(told, "closes {target}");
     }
     if !is_between(branch, p) {

@@ -1,6 +1,6 @@
 //! Linear programs in rows that may be wide (`plain_rows`), the steps that are made on them, and how they stand.
 
-ghost use Rattle.std.specs.Prelude.{◌≡◌, ◌+◌, ◌^◌, ◌≤◌, ◌<◌, length, map, All, IsTrue, IfOk};
+ghost use Rattle.std.specs.Prelude.{◌≤◌, map, All, IsTrue};
 ghost use Rattle.frac_rows.specs.Rows.{AreNarrow};
 ghost use Rattle.plain_rows.specs.Plain.{IsConstraint, IsProgram};
 
@@ -14,8 +14,8 @@ pub(crate) fn told(alloc: Global, text: &str) -> Result<String, AllocError> {
     let (objective, rest) = parted(text, ';');
     let (constraints, steps) = parted(rest, ';');
     let objective: Vec<i128> = numbers(alloc, objective)?;
-    let constraints = constraints_of(alloc, constraints, objective.len())?;
-    if !are_narrow(&objective) || objective.len() > MOST || constraints.len() > MOST {
+    let constraints = rows_of(alloc, constraints)?;
+    if !is_program(&constraints, &objective) {
         return String::from_str(alloc, "no program\n");
     }
     stepped(
@@ -28,24 +28,35 @@ pub(crate) fn told(alloc: Global, text: &str) -> Result<String, AllocError> {
 // The most variables, and the most constraints.
 const MOST: usize = 1000;
 
-// The constraints of a text, of those that are within the limits.
-fn constraints_of(alloc: Global, text: &str, variables: usize) -> Result<Vec<Vec<i128>>, AllocError>
-    ensures { IfOk result (λ rows. All (IsConstraint variables) (map (λ v. v.items) rows.items)) }
-{
-    let mut constraints = Vec::new(alloc);
+fn rows_of(alloc: Global, text: &str) -> Result<Vec<Vec<i128>>, AllocError> {
+    let mut rows = Vec::new(alloc);
     for row in text.split('/') {
-        let row: Vec<i128> = numbers(alloc, row)?;
-        if is_constraint(&row, variables) {
-            constraints.push(row)?;
-        }
+        rows.push(numbers(alloc, row)?)?;
     }
-    Ok(constraints)
+    Ok(rows)
+}
+
+fn is_program(constraints: &[Vec<i128>], objective: &[i128]) -> bool
+    ensures { IsTrue result → IsProgram (map (λ v. v.items) constraints.now) objective.now }
+{
+    objective.len() <= MOST
+        && constraints.len() <= MOST
+        && are_narrow(objective)
+        && are_constraints(constraints, objective.len())
+}
+
+fn are_constraints(constraints: &[Vec<i128>], variables: usize) -> bool
+    requires { variables ≤ 1000 }
+    ensures { IsTrue result → All (IsConstraint variables) (map (λ v. v.items) constraints.now) }
+{
+    constraints.iter().all(|row| is_constraint(row, variables))
 }
 
 fn is_constraint(row: &[i128], variables: usize) -> bool
+    requires { variables ≤ 1000 }
     ensures { IsTrue result → IsConstraint variables row.now }
 {
-    variables <= MOST && row.len() == variables + 1 && are_narrow(row) && row[variables] >= 0
+    row.len() == variables + 1 && are_narrow(row) && row[variables] >= 0
 }
 
 fn are_narrow(row: &[i128]) -> bool
