@@ -138,7 +138,7 @@ fn pool_told(alloc: Global, pool: &Pool) -> Result<String, AllocError> {
     let totals = pool.totals();
     let loads = pool.loads();
     let units = pool.unit_totals();
-    let unit_loads = pool.unit_loads();
+    let unit_loads = pool.unit_loads(alloc)?;
     let most = pool.most_stated();
     format!(in alloc;
         "parts {parts:?} totals {totals:?} loads {loads:?} by unit {units:?} {unit_loads:?} most {most}"
