@@ -12,7 +12,6 @@ use Rattle.hub_checks.specs.declared.status.Status.TheVariants.{Done, Stopped, N
 use Rattle.hub_searches.specs.Methods.{warm, Method, method_of}
 use Rattle.hub_searches.specs.Searches.{rule_certificate}
 use Rattle.cut_pool.specs.declared.found.Found.{Found as Finding}
-use Rattle.hub_make.specs.DemoTexts.{demo_text}
 use Rattle.hub_make.specs.DemoTexts as lines
 
 -- of a certificate that a search made

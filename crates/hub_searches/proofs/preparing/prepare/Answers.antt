@@ -1,4 +1,4 @@
-use Rattle.std.proofs.Common.{None, Some, refl}
+use Rattle.std.proofs.Common.{ℕ, List, None, Some, refl, sym, ap}
 use Rattle.hub_words.specs.Views.{how_seen}
 use Rattle.search_core.specs.Starts.{start_seen}
 use Rattle.hub_searches.proofs.OlderCertificates.{begun_again, may_begin}
@@ -29,19 +29,19 @@ pub returns-in_default-clause-begins : goal.returns-in_default-clause-begins
 returns-in_default-clause-begins g c = begins_none refl
 
 pub returns-in_err-older-in-Again-clause-begins : goal.returns-in_err-older-in-Again-clause-begins
-returns-in_err-older-in-Again-clause-begins g c = begins_more (λ other is. rw (is, c.in-Again.is) refl) c.in_err-older-in-Again.ensures.begins
+returns-in_err-older-in-Again-clause-begins g c = begins_more (λ other is. rw c.in-Again.is (ap (λ (x : List ℕ). Some x) (sym is))) c.in_err-older-in-Again.ensures.begins
 
 pub returns-in-Serves-clause-begins : goal.returns-in-Serves-clause-begins
-returns-in-Serves-clause-begins g c = begins_more (λ other is. rw (is, c.in-Again.is) refl) c.in_ok-older-in-Again.ensures.begins
+returns-in-Serves-clause-begins g c = begins_more (λ other is. rw c.in-Again.is (ap (λ (x : List ℕ). Some x) (sym is))) c.in_ok-older-in-Again.ensures.begins
 
 pub returns-in-Refused-clause-begins : goal.returns-in-Refused-clause-begins
-returns-in-Refused-clause-begins g c = begins_more (λ other is. rw (is, c.in-Again.is) refl) c.in_ok-older-in-Again.ensures.begins
+returns-in-Refused-clause-begins g c = begins_more (λ other is. rw c.in-Again.is (ap (λ (x : List ℕ). Some x) (sym is))) c.in_ok-older-in-Again.ensures.begins
 
 pub returns-in_err-older-in-Freely-clause-begins : goal.returns-in_err-older-in-Freely-clause-begins
-returns-in_err-older-in-Freely-clause-begins g c = begins_more (λ other is. rw (is, c.in-Freely.is, c.in-Some.is) refl) c.in_err-older-in-Freely.ensures.begins
+returns-in_err-older-in-Freely-clause-begins g c = begins_more (λ other is. rw (c.in-Freely.is, c.in-Some.is) (ap (λ (x : List ℕ). Some x) (sym is))) c.in_err-older-in-Freely.ensures.begins
 
 pub returns-in-Serves-2-clause-begins : goal.returns-in-Serves-2-clause-begins
-returns-in-Serves-2-clause-begins g c = begins_more (λ other is. rw (is, c.in-Freely.is, c.in-Some.is) refl) c.in_ok-older-in-Freely.ensures.begins
+returns-in-Serves-2-clause-begins g c = begins_more (λ other is. rw (c.in-Freely.is, c.in-Some.is) (ap (λ (x : List ℕ). Some x) (sym is))) c.in_ok-older-in-Freely.ensures.begins
 
 pub returns-in-Refused-2-clause-begins : goal.returns-in-Refused-2-clause-begins
-returns-in-Refused-2-clause-begins g c = begins_more (λ other is. rw (is, c.in-Freely.is, c.in-Some.is) refl) c.in_ok-older-in-Freely.ensures.begins
+returns-in-Refused-2-clause-begins g c = begins_more (λ other is. rw (c.in-Freely.is, c.in-Some.is) (ap (λ (x : List ℕ). Some x) (sym is))) c.in_ok-older-in-Freely.ensures.begins
