@@ -49,6 +49,13 @@ fn are_constraints(constraints: &[Vec<i128>], variables: usize) -> bool
     requires { variables ≤ 1000 }
     ensures { IsTrue result → All (IsConstraint variables) (map (λ v. v.items) constraints.now) }
 {
+    each_is_constraint(constraints, variables)
+}
+
+fn each_is_constraint(constraints: &[Vec<i128>], variables: usize) -> bool
+    requires { variables ≤ 1000 }
+    ensures { IsTrue result → All (λ v. IsConstraint variables v.items) constraints.now }
+{
     constraints.iter().all(|row| is_constraint(row, variables))
 }
 
