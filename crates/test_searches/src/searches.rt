@@ -97,7 +97,6 @@ fn start_of(alloc: Global, instance: &Instance, set: &HubSet) -> Result<Option<S
 }
 
 // The Pareto-optimal cut of the set, within the ranges of a certificate.
-#[tactic(auto, using(core_cuts::proofs::ServingCuts::cored_serves))]
 fn served(alloc: Global, instance: &Instance, set: &HubSet) -> Result<Option<MarkedCut>, AllocError>
     requires { IsHubSet instance.now set.now }
     ensures { IfOk result (λ found. IfSome found (IsServing instance.now set.now)) }

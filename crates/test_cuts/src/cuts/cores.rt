@@ -71,7 +71,6 @@ pub fn cut(alloc: Global, instance: &Instance, set: &HubSet) -> Result<String, A
 }
 
 // The Pareto-optimal cut, within the ranges of a certificate.
-#[tactic(auto, using(core_cuts::proofs::ServingCuts::cored_serves))]
 fn served(alloc: Global, instance: &Instance, set: &HubSet) -> Result<Option<MarkedCut>, AllocError>
     requires { IsHubSet instance.now set.now }
     ensures { IfOk result (λ found. IfSome found (IsServing instance.now set.now)) }
