@@ -5,4 +5,4 @@ use Rattle.test_searches.proofs.texts.put_made.Goals as goal
 pub certificate_of-requires-clause-version : goal.certificate_of-requires-clause-version
 certificate_of-requires-clause-version c =
     proved_version 1 c.args.instance.now c.in_ok-found.found c.in_ok-found.ensures.proved
-    (inl (refl, c.if-not-is_unlimited.ensures, c.in_ok-found.ensures.remade))
+    (inl (refl, c.if-not-is_unlimited.ensures tt, c.in_ok-found.ensures.remade))
