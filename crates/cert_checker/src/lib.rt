@@ -1,4 +1,4 @@
-//! What certifies: the check of a certificate against an instance, which takes nothing that a search found.
+//! The check of a whole certificate against an instance; it knows nothing of the search.
 //!
 //! The conditions are those of `cert_conditions`, whose `Checks` takes a certificate's lines one after another and tells the
 //! first condition that fails. Here stand those who give it the lines. [`Stream`] has them from bytes that come piece by

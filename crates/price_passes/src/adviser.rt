@@ -59,8 +59,8 @@ impl Model for Adviser {
 }
 
 impl Adviser {
-    /// An adviser for the instance, with all duals 0, whose passes so many workers make, at most 64. Its advice is the
-    /// same, whatever their number.
+    /// An adviser for the instance, with all duals 0, whose passes so many workers make, at most 64. That its advice is the
+    /// same, whatever their number, is tested and in no clause.
     #[tactic(auto, using(crate::proofs::SmallShapes::few_places))]
     pub fn new(alloc: Global, instance: &Instance, workers: u32) -> Result<Adviser, AllocError>
         ensures { IfOk result (λ a. a ≡ shape_of instance.now) }
@@ -173,7 +173,7 @@ impl Adviser {
         }
     }
 
-    /// Tries places to branch on, where the bound is so far below what is wanted, in the worth of the units, and chooses
+    /// Tries candidate to branch on, where the bound is so far below what is wanted, in the worth of the units, and chooses
     /// the one whose two children seem to rise most.
     fn choose_branch<R: Threads + Sync>(
         &mut self,

@@ -1,5 +1,5 @@
-//! Advice for a search (`Advice` of `search_advice`): dual values of all commodities that make a good cut, hub sets that
-//! are cheap, and the place to branch on.
+//! The heuristic of `optimize`: parallel dual ascent, local search over hub sets, strong branching. Nothing of it is
+//! trusted.
 //!
 //! Nothing here is exact, and no caller relies on it: the values are made those of a cut elsewhere, where each price
 //! is lowered to what they allow, and costs and bounds are worked out anew. What is proved is that each call ends
@@ -10,7 +10,7 @@
 //! before. A pass goes over the commodities. Each gets the values that are best at the prices, mixed with its old
 //! ones where the whole step would go too far, and loads and prices follow at once. One that hardly gains by that waits: the
 //! next passes leave it out. An origin starts from the loads that those before it left but for the last few, so that
-//! workers can do some side by side; a pass comes out the same, whatever the workers. The prices, rounded,
+//! workers can do some side by side; that a pass comes out the same, whatever the workers, is tested and in no clause. The prices, rounded,
 //! name a hub set, and a local search betters it; where the bound is near its cost, the duals are made tight at it, so
 //! that the bound becomes the cost.
 //!

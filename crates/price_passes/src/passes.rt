@@ -2,8 +2,8 @@
 //!
 //! Origins go one after another, those with the most turns first, and a few are under way at a time: each starts from the
 //! loads that are left by those that were over when it could start at the earliest, and counts its own changes as if some others did the
-//! same. So it makes no difference which of those under way is done first, and workers can do them side by side
-//! (`sharing`).
+//! same. So it is to make no difference which of those under way is done first, and workers can do them side by side
+//! (`sharing`). That it makes none is tested and in no clause.
 
 ghost use Rattle.std.specs.Prelude.{◌≡◌};
 
@@ -166,7 +166,8 @@ impl State {
     /// Betters the duals of all commodities that do not wait by one pass of so many workers, at most 64, and gives what
     /// that brings.
     ///
-    /// They come out the same, whatever the workers. Where there is no memory for several, one makes the pass.
+    /// That they come out the same, whatever the workers, is tested and in no clause. Where there is no memory for several, one makes
+    /// the pass.
     pub(crate) fn pass<R: Threads + Sync>(
         &mut self,
         workers: &Workers<'_, R>,
