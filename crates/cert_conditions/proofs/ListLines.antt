@@ -1,15 +1,15 @@
 -- The items of a whole line, one after another.
-use Rattle.std.proofs.Common.{◌≡◌, ℕ, zero, suc, ◌+◌, ◌-◌, ◌<◌, ◌≤◌, true, false, List, [], ◌∷◌, ◌++◌, length, take, drop, get_or, flat_map, All, Option, Some, None, inl, inr, refl, sym, ap, subst, ◌∙◌, append_assoc, append-nil, arith}
+use Rattle.std.proofs.Common.{◌≡◌, ℕ, zero, suc, ◌+◌, ◌-◌, ◌<◌, true, false, List, [], ◌∷◌, ◌++◌, length, take, drop, get_or, flat_map, All, Option, Some, None, refl, sym, ap, subst, ◌∙◌, append_assoc, append-nil, arith}
 use Rattle.std.specs.Prelude.{IfSome}
 use Rattle.std.specs.List.Sorted.{IsStrictlyIncreasing}
 use Rattle.std.proofs.Math.Seq.{take-suc}
 use Rattle.std.proofs.lemmas.List.{take_more, take_all, take-append-drop, map_push}
 use Rattle.std.proofs.lemmas.List.Concat.{flat_map-append}
-use Rattle.hub_spec.specs.Problem.{Problem, commodity_at}
+use Rattle.hub_spec.specs.Problem.{Problem}
 use Rattle.hub_spec.specs.Cuts.{Prices, IsDual}
 use Rattle.hub_spec.specs.Trees.{leaf_of}
 use Rattle.hub_spec.specs.Ranges.{IsDualInRange, IsLineInRange}
-use Rattle.core_spec.specs.CoreCuts.{Way, CoreProof}
+use Rattle.core_spec.specs.CoreCuts.{Way}
 use Rattle.core_spec.specs.MarkRanges.{IsProofInRange}
 use Rattle.cert_spec.specs.Lines.{Item as Line, says_hubs, says_marked, says_dual, says_proof, says_tree}
 use Rattle.cert_spec.specs.Grammar.{Shape, Stage, want_version, want_hubs, want_cut, want_dual, want_proved, want_proof, want_tree, Wants, Leads}
@@ -18,7 +18,7 @@ use Rattle.dual_lines.specs.Lines.{ListedDual}
 use Rattle.cert_scan.specs.Parts.{parts_of, hub_parts, mark_parts, value_parts, way_parts, weight_parts, open_hubs, open_mark, open_values, open_ways, open_weights}
 use Rattle.cert_scan.specs.declared.items.Item.{Item}
 use Rattle.cert_scan.specs.declared.items.Item.TheVariants.{Hub, Cut, CoreHub, Dual, DualPair, Proof, ProofPair, Leaf, LeafPair}
-use Rattle.cert_conditions.specs.Steps.{IsDualOfEach, IsKnownWith, listed_with, IsKnown}
+use Rattle.cert_conditions.specs.Steps.{IsKnownWith, listed_with, IsKnown}
 use Rattle.cert_conditions.specs.Taken.{Part, nothing, some_hubs, some_mark, some_values, some_ways, some_weights, part_items, IsPart, StandsFirm, DualsKept, Keeps, HasTaken}
 use Rattle.cert_conditions.specs.ListLines.{line_of, HasItem, open_items, line_item, CanLead, HasLines, IsKnownLine}
 use Rattle.cert_conditions.specs.declared.checks.Checks.{Checks}
