@@ -166,6 +166,7 @@ fn lines_of(version: Version, n: u32, cut: &StatedCut, mark: &Option<Mark>) -> u
 // The number of the first commodity whose dual is not feasible, by this line.
 fn first_failing_on(duals: &mut DualLine<'_>, n: u32, cut: &StatedCut) -> Option<u32>
     requires size { n ≡ duals.old.problem.size }
+    requires few { n ≤ most_nodes }
     requires cut { IsCutInRange n cut.now }
     ensures same { duals.new.problem ≡ duals.old.problem }
     ensures first { IsFirstFailing duals.old.problem cut.now.part cut.now.duals result }
@@ -206,11 +207,12 @@ fn is_within_sums(alloc: Global, instance: &Instance, cut: &StatedCut) -> Result
     requires { IsCutInRange instance.now.size cut.now }
     ensures { IfOk result (λ is. IsTrue is ↔ IsWithinSums instance.now cut.now) }
 {
+    let n = instance.size();
     let limit = cut.part() as u128 * MOST_COST;
     if cut.total() > limit {
         return Ok(false);
     }
-    let loads = cut.loads(alloc, instance.size())?;
+    let loads = cut.loads(alloc, n)?;
     Ok(are_loads_within(instance, &loads, limit))
 }
 

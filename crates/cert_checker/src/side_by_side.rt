@@ -22,7 +22,7 @@ pub(crate) fn known_part<R: Threads + Sync>(
     checks: &Checks<'_>,
     cut: &StatedCut,
 ) -> Option<u32>
-    requires { IsCutInRange checks.now.instance.now.size cut.now }
+    requires cut { IsCutInRange checks.now.instance.now.size cut.now }
     ensures { IfSome result (IsKnownCut checks.now.instance.now.size checks.now.instance.now cut.now) }
 {
     if checks.first_failure().is_some() {

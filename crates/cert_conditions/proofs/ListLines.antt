@@ -1,14 +1,15 @@
 -- The items of a whole line, one after another.
-use Rattle.std.proofs.Common.{◌≡◌, ℕ, zero, suc, ◌+◌, ◌-◌, ◌<◌, ◌≤◌, true, false, List, [], ◌∷◌, ◌++◌, length, take, drop, get_or, flat_map, All, Option, Some, None, inl, inr, refl, sym, ap, subst, ◌∙◌, append_assoc, append-nil, arith}
+use Rattle.std.proofs.Common.{◌≡◌, ℕ, zero, suc, ◌+◌, ◌-◌, ◌<◌, true, false, List, [], ◌∷◌, ◌++◌, length, take, drop, get_or, flat_map, All, Option, Some, None, refl, sym, ap, subst, ◌∙◌, append_assoc, append-nil, arith}
 use Rattle.std.specs.Prelude.{IfSome}
 use Rattle.std.specs.List.Sorted.{IsStrictlyIncreasing}
+use Rattle.std.proofs.Math.Seq.{take-suc}
 use Rattle.std.proofs.lemmas.List.{take_more, take_all, take-append-drop, map_push}
 use Rattle.std.proofs.lemmas.List.Concat.{flat_map-append}
-use Rattle.hub_spec.specs.Problem.{Problem, commodity_at}
+use Rattle.hub_spec.specs.Problem.{Problem}
 use Rattle.hub_spec.specs.Cuts.{Prices, IsDual}
 use Rattle.hub_spec.specs.Trees.{leaf_of}
 use Rattle.hub_spec.specs.Ranges.{IsDualInRange, IsLineInRange}
-use Rattle.core_spec.specs.CoreCuts.{Way, CoreProof}
+use Rattle.core_spec.specs.CoreCuts.{Way}
 use Rattle.core_spec.specs.MarkRanges.{IsProofInRange}
 use Rattle.cert_spec.specs.Lines.{Item as Line, says_hubs, says_marked, says_dual, says_proof, says_tree}
 use Rattle.cert_spec.specs.Grammar.{Shape, Stage, want_version, want_hubs, want_cut, want_dual, want_proved, want_proof, want_tree, Wants, Leads}
@@ -17,7 +18,7 @@ use Rattle.dual_lines.specs.Lines.{ListedDual}
 use Rattle.cert_scan.specs.Parts.{parts_of, hub_parts, mark_parts, value_parts, way_parts, weight_parts, open_hubs, open_mark, open_values, open_ways, open_weights}
 use Rattle.cert_scan.specs.declared.items.Item.{Item}
 use Rattle.cert_scan.specs.declared.items.Item.TheVariants.{Hub, Cut, CoreHub, Dual, DualPair, Proof, ProofPair, Leaf, LeafPair}
-use Rattle.cert_conditions.specs.Steps.{IsDualOfEach, IsKnownWith, listed_with, IsKnown}
+use Rattle.cert_conditions.specs.Steps.{IsKnownWith, listed_with, IsKnown}
 use Rattle.cert_conditions.specs.Taken.{Part, nothing, some_hubs, some_mark, some_values, some_ways, some_weights, part_items, IsPart, StandsFirm, DualsKept, Keeps, HasTaken}
 use Rattle.cert_conditions.specs.ListLines.{line_of, HasItem, open_items, line_item, CanLead, HasLines, IsKnownLine}
 use Rattle.cert_conditions.specs.declared.checks.Checks.{Checks}
@@ -42,25 +43,25 @@ part_at l at = nothing
 
 more_items : (l : Line) (at : ℕ) → at < open_items l → part_items (part_at l (suc at)) ≡ part_items (part_at l at) ++ line_item l at false ∷ []
 more_items (says_hubs hubs) at less =
-    ap open_hubs (take_more hubs at 0 (omega (arith, less))) ∙ map_push (λ k. Hub k false) (take at hubs) (get_or hubs at 0)
+    ap open_hubs (take-suc hubs at 0 (omega (arith, less))) ∙ map_push (λ k. Hub k false) (take at hubs) (get_or hubs at 0)
 more_items (says_marked number part hubs) zero less = refl
 more_items (says_marked number part hubs) (suc t) less =
     ap (λ items. Cut number part false ∷ items)
-    (ap open_mark (take_more hubs t 0 (omega (arith, less))) ∙ map_push (λ k. CoreHub k false) (take t hubs) (get_or hubs t 0))
+    (ap open_mark (take-suc hubs t 0 (omega (arith, less))) ∙ map_push (λ k. CoreHub k false) (take t hubs) (get_or hubs t 0))
 more_items (says_dual c run dual) zero less = refl
 more_items (says_dual c run dual) (suc t) less =
     ap (λ items. Dual c.0 c.1 run dual.a false ∷ items)
-    (ap open_values (take_more dual.u t (0, 0) (omega (arith, less)))
+    (ap open_values (take-suc dual.u t (0, 0) (omega (arith, less)))
     ∙ map_push (λ (e : ℕ × ℕ). DualPair e.0 e.1 false) (take t dual.u) (get_or dual.u t (0, 0)))
 more_items (says_proof proof) zero less = refl
 more_items (says_proof proof) (suc t) less =
     ap (λ items. Proof proof.turns proof.scale false ∷ items)
-    (ap open_ways (take_more proof.ways t (0, 0, 0) (omega (arith, less)))
+    (ap open_ways (take-suc proof.ways t (0, 0, 0) (omega (arith, less)))
     ∙ map_push (λ (w : Way). ProofPair w.0 w.1 w.2 false) (take t proof.ways) (get_or proof.ways t (0, 0, 0)))
 more_items (says_tree (leaf_of denom weights)) zero less = refl
 more_items (says_tree (leaf_of denom weights)) (suc t) less =
     ap (λ items. Leaf denom false ∷ items)
-    (ap open_weights (take_more weights t (0, 0) (omega (arith, less)))
+    (ap open_weights (take-suc weights t (0, 0) (omega (arith, less)))
     ∙ map_push (λ (e : ℕ × ℕ). LeafPair e.0 e.1 false) (take t weights) (get_or weights t (0, 0)))
 more_items l at less = absurd (omega (arith, less))
 

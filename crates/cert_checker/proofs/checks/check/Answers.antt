@@ -14,7 +14,7 @@ pub returns-then-not-is_of_size-clause-verdict : goal.returns-then-not-is_of_siz
 returns-then-not-is_of_size-clause-verdict g c = inl ((λ h. false≢true (sym c.if-not-is_of_size.true ∙ c.is_of_size.ensures.is.1 h)), refl, refl)
 
 pub take_certificate-requires-clause-size : goal.take_certificate-requires-clause-size
-take_certificate-requires-clause-size g c =
+take_certificate-requires-clause-size g c κs within =
     (c.is_of_size.ensures.is.0 c.if-not-is_of_size.false).0 ∙ ap (λ (p : Problem). p.size) (sym c.in_ok-checks.ensures.instance)
 
 pub verdict_by-requires-clause-problem : goal.verdict_by-requires-clause-problem

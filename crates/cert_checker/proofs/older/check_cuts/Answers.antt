@@ -9,7 +9,7 @@ use Rattle.hub_spec.specs.Ranges.{IsCutInRange}
 use Rattle.core_spec.specs.CoreCuts.{Mark}
 use Rattle.dual_lines.specs.Lines.{ListedDual}
 use Rattle.cert_spec.specs.Stated.{Stated, IsStatedInRange}
-use Rattle.cert_spec.specs.Conditions.{FailsFirst, older_conditions}
+use Rattle.cert_spec.specs.Conditions.{FailsFirst}
 use Rattle.cert_spec.proofs.PartConditions.{first_cut_line}
 use Rattle.cert_scan.specs.Versions.{version_number}
 use Rattle.cert_format.specs.Parts.{HasProofs}
@@ -22,7 +22,7 @@ use Rattle.cert_checker.proofs.OlderChecks.{none_fails}
 use Rattle.cert_checker.proofs.OlderCuts.{IsNext, none_before, one_more_before, next_fails, size_fails, all_before}
 use Rattle.cert_checker.proofs.older.check_cuts.Goals as goal
 use Rattle.cert_checker.proofs.older.check_cuts.Given.{Over}
-use Rattle.cert_checker.proofs.older.check_cuts.Goals.{After-index-marks-x, After-in-Some}
+use Rattle.cert_checker.proofs.older.check_cuts.Goals.{After-index-marks-x}
 
 -- ---- the size
 
@@ -82,30 +82,27 @@ pub failure_of-requires-clause-same : goal.failure_of-requires-clause-same
 failure_of-requires-clause-same g c = c.loop-x.invariant.same
 
 pub failure_of-requires-clause-cut : goal.failure_of-requires-clause-cut
-failure_of-requires-clause-cut g c = cut_in_range g c
+failure_of-requires-clause-cut g c = cut_in_range g (goal.at.failure_of-requires-clause-cut g c).After-index-marks-x
 
 -- ---- one that fails
 
-fails : (g : Over) (c : After-in-Some g)
-    → FailsFirst (older_conditions c.args.instance.now c.args.certificate.now) (kind_of c.in-Some.kind) (c.loop-x.line + c.in-Some.place)
-fails g c =
+pub returns-in-Some-clause-fails : goal.returns-in-Some-clause-fails
+returns-in-Some-clause-fails g c =
+    let at = (goal.at.returns-in-Some-clause-fails g c).After-index-marks-x in
     let p = c.args.instance.now in
     let k = c.args.certificate.now in
     let cut = c.index-cuts-x.result in
     let mark = c.index-marks-x.result in
     let found : code.Kind × ℕ = (c.in-Some.kind, c.in-Some.place) in
     let failing = subst (λ (o : Option (code.Kind × ℕ)). IfSome o (CutFails (version_number c.version-version.result) p cut mark)) c.in-Some.is
-    c.in_ok-failure_of.ensures.fails in
+    c.in_ok-kind.ensures.fails in
     next_fails p k c.loop-x.x c.loop-x.line c.in-Some.place cut mark c.in-Some.kind c.cuts-cuts.ensures.in_range
-    (c.is_of_size.ensures.is.0 c.if-not-is_of_size.false) (next_cut g c) c.size-n.ensures.problem.some_node (cut_in_range g c).one_for_each (has_proofs g c)
+    (c.is_of_size.ensures.is.0 c.if-not-is_of_size.false) (next_cut g at) c.size-n.ensures.problem.some_node (cut_in_range g at).one_for_each (has_proofs g at)
     (subst (λ (v : ℕ). CutFails v p cut mark found) c.version-version.ensures failing) c.loop-x.invariant.before
-
-pub returns-in-Some-clause-fails : goal.returns-in-Some-clause-fails
-returns-in-Some-clause-fails g c = fails g c
 
 pub returns-in-Some-clause-only : goal.returns-in-Some-clause-only
 returns-in-Some-clause-only g c =
-    λ has. absurd (none_fails c.args.instance.now c.args.certificate.now c.in-Some.kind (c.loop-x.line + c.in-Some.place) c.cuts-cuts.ensures.in_range (fails g c) has)
+    λ has. absurd (none_fails c.args.instance.now c.args.certificate.now c.in-Some.kind (c.loop-x.line + c.in-Some.place) c.cuts-cuts.ensures.in_range (returns-in-Some-clause-fails g c) has)
 
 -- ---- and one that does not
 
@@ -123,10 +120,10 @@ loop-x-preserved g c =
     (c.lines_of-line.ensures.value
     ∙ ap (λ (m : ℕ). cut_lines (version_number c.version-version.result) m cut mark) c.size-n.ensures.value
     ∙ ap (λ (v : ℕ). cut_lines v p.size cut mark) c.version-version.ensures) in
-    let is = subst (λ o. IfNone o (IsCut p cut)) c.in-None.is c.in_ok-failure_of.ensures.holds in
+    let is = subst (λ o. IfNone o (IsCut p cut)) c.in_default.is c.in_ok-kind.ensures.holds in
     record {
-      same = c.in_ok-failure_of.ensures.same;
-      before = one_more_before p k c.loop-x.x c.loop-x.line (c.loop-x.line + c.lines_of-line.result) cut mark (next_cut g c) is later c.loop-x.invariant.before;
+      same = c.in_ok-kind.ensures.same;
+      before = one_more_before p k c.loop-x.x c.loop-x.line (c.loop-x.line + c.lines_of-line.result) cut mark (next_cut g (goal.at.loop-x-preserved g c).After-index-marks-x) is later c.loop-x.invariant.before;
       limit = omega (arith, few, c.lines_of-line.ensures.limit, c.loop-x.invariant.limit);
     }
 

@@ -11,6 +11,9 @@ use Rattle.cert_checker.proofs.older.failure_of.Goals as goal
 pub first_failing_on-requires-clause-size : goal.first_failing_on-requires-clause-size
 first_failing_on-requires-clause-size c = c.size-n.ensures.value ∙ ap (λ (p : Problem). p.size) (sym c.requires.same)
 
+pub first_failing_on-requires-clause-few : goal.first_failing_on-requires-clause-few
+first_failing_on-requires-clause-few c = omega (arith, c.size-n.ensures.value, c.size-n.ensures.problem.size_limit)
+
 pub first_failing_on-requires-clause-cut : goal.first_failing_on-requires-clause-cut
 first_failing_on-requires-clause-cut c = subst (λ (n : ℕ). IsCutInRange n c.args.cut.now) (sym c.size-n.ensures.value) c.requires.cut
 
@@ -45,9 +48,9 @@ returns-then-not-branch-clause-fails c =
     let cut = c.args.cut.now in
     let n = c.size-n.result in
     let told = subst (λ (q : Problem). IsFirstFailing q cut.part cut.duals c.first_failing_on.result) c.requires.same c.first_failing_on.ensures.first in (
-      subst (λ (f : Option ℕ). IsFirstFailing p cut.part cut.duals f) c.in-None.is told,
+      subst (λ (f : Option ℕ). IsFirstFailing p cut.part cut.duals f) c.in_default.is told,
       (λ h. false≢true (sym c.if-not-branch.true ∙ c.in_ok-is_within_sums.ensures.1 h)),
-      c.place_of_dual-2.ensures.value
+      c.place_of_dual-then-not-branch.ensures.value
           ∙ ap (λ (m : ℕ). dual_place (version_number c.args.version) m cut.duals c.args.mark.now (m * m - 1)) c.size-n.ensures.value,
     )
 
@@ -56,7 +59,7 @@ returns-clause-holds c =
     let p = c.args.instance.now in
     let cut = c.args.cut.now in
     let told = subst (λ (q : Problem). IsFirstFailing q cut.part cut.duals c.first_failing_on.result) c.requires.same c.first_failing_on.ensures.first in
-    let each = subst (λ (f : Option ℕ). IsFirstFailing p cut.part cut.duals f) c.in-None.is told in
+    let each = subst (λ (f : Option ℕ). IsFirstFailing p cut.part cut.duals f) c.in_default.is told in
     record {
       part_least = c.requires.cut.part_least;
       part_most = c.requires.cut.part_most;
@@ -67,7 +70,7 @@ returns-clause-holds c =
 pub returns-then-not-branch-clause-limit : goal.returns-then-not-branch-clause-limit
 returns-then-not-branch-clause-limit c =
     let some = c.size-n.ensures.problem.some_node in
-    omega (arith, c.place_of_dual-2.ensures.limit, ap (λ (n : ℕ). n * n) c.size-n.ensures.value, mul-pos some some)
+    omega (arith, c.place_of_dual-then-not-branch.ensures.limit, ap (λ (n : ℕ). n * n) c.size-n.ensures.value, mul-pos some some)
 
 pub place_of_dual-requires-clause-some : goal.place_of_dual-requires-clause-some
 place_of_dual-requires-clause-some c = omega (arith, c.size-n.ensures.value, c.size-n.ensures.problem.some_node)
@@ -75,13 +78,13 @@ place_of_dual-requires-clause-some c = omega (arith, c.size-n.ensures.value, c.s
 pub place_of_dual-requires-clause-few : goal.place_of_dual-requires-clause-few
 place_of_dual-requires-clause-few c = omega (arith, c.size-n.ensures.value, c.size-n.ensures.problem.size_limit)
 
-pub place_of_dual-2-requires-clause-some : goal.place_of_dual-2-requires-clause-some
-place_of_dual-2-requires-clause-some c = omega (arith, c.size-n.ensures.value, c.size-n.ensures.problem.some_node)
+pub place_of_dual-requires-then-not-branch-clause-some : goal.place_of_dual-requires-then-not-branch-clause-some
+place_of_dual-requires-then-not-branch-clause-some c = omega (arith, c.size-n.ensures.value, c.size-n.ensures.problem.some_node)
 
-pub place_of_dual-2-requires-clause-few : goal.place_of_dual-2-requires-clause-few
-place_of_dual-2-requires-clause-few c = omega (arith, c.size-n.ensures.value, c.size-n.ensures.problem.size_limit)
+pub place_of_dual-requires-then-not-branch-clause-few : goal.place_of_dual-requires-then-not-branch-clause-few
+place_of_dual-requires-then-not-branch-clause-few c = omega (arith, c.size-n.ensures.value, c.size-n.ensures.problem.size_limit)
 
-pub place_of_dual-2-requires-clause-within : goal.place_of_dual-2-requires-clause-within
-place_of_dual-2-requires-clause-within c =
+pub place_of_dual-requires-then-not-branch-clause-within : goal.place_of_dual-requires-then-not-branch-clause-within
+place_of_dual-requires-then-not-branch-clause-within c =
     let some = c.size-n.ensures.problem.some_node in
     omega (arith, c.requires.cut.one_for_each, ap (λ (n : ℕ). n * n) c.size-n.ensures.value, mul-pos some some)

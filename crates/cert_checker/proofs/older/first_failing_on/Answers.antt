@@ -22,7 +22,8 @@ listed c = c.list_dual.ensures ∙ (λ i. record {
 })
 
 pub returns-then-not-holds-clause-same : goal.returns-then-not-holds-clause-same
-returns-then-not-holds-clause-same c = ap (λ (l : ListedDual). l.problem) c.holds.ensures.same ∙ ap (λ (l : ListedDual). l.problem) (listed c)
+returns-then-not-holds-clause-same c =
+    ap (λ (l : ListedDual). l.problem) (c.holds.ensures.same ∙ listed (goal.at.returns-then-not-holds-clause-same c).After-holds)
 
 pub returns-then-not-holds-clause-first : goal.returns-then-not-holds-clause-first
 returns-then-not-holds-clause-first c =
@@ -32,7 +33,7 @@ returns-then-not-holds-clause-first c =
       within = omega (arith, c.requires.cut.one_for_each);
       before = c.loop-t.invariant.before;
       here = line_fails c.args.duals.now.problem cut.part c.args.n t (slice_index_or cut.duals t no_dual) c.holds.result c.list_dual.new.line c.requires.size
-          (listed c) c.holds.ensures.holds c.if-not-holds.true;
+          (listed (goal.at.returns-then-not-holds-clause-first c).After-holds) c.holds.ensures.holds c.if-not-holds.true;
     }
 
 pub loop-t-preserved : goal.loop-t-preserved
@@ -40,10 +41,11 @@ loop-t-preserved c =
     let p = c.args.duals.now.problem in
     let cut = c.args.cut.now in
     let t = c.loop-t.t in
+    let is = listed (goal.at.loop-t-preserved c).After-holds in
     record {
-      same = ap (λ (l : ListedDual). l.problem) c.holds.ensures.same ∙ ap (λ (l : ListedDual). l.problem) (listed c);
+      same = ap (λ (l : ListedDual). l.problem) (c.holds.ensures.same ∙ is);
       before = one_more p cut.part cut.duals t c.loop-t.invariant.before
-          (line_holds p cut.part c.args.n t (slice_index_or cut.duals t no_dual) c.holds.result c.list_dual.new.line c.requires.size (listed c)
+          (line_holds p cut.part c.args.n t (slice_index_or cut.duals t no_dual) c.holds.result c.list_dual.new.line c.requires.size is
           c.holds.ensures.holds c.if-not-holds.false);
     }
 

@@ -12,11 +12,12 @@ pub returns : goal.returns
 returns c =
     let cut = c.args.cut.now in
     let cs = c.args.instance.now.candidates in
-    let loads = c.in_ok-loads.loads.items in
+    let loads = c.deref.result.now in
     let limit = c.part.result * most_cost in
     let is : limit ≡ cut.part * most_cost = ap (λ (part : ℕ). part * most_cost) c.part.ensures in
-    let to : (k : ℕ) → slice_index loads k ≤ limit → load cut k ≤ cut.part * most_cost = λ k h. omega (arith, h, is, c.in_ok-loads.ensures.are k) in
-    let from : (k : ℕ) → load cut k ≤ cut.part * most_cost → slice_index loads k ≤ limit = λ k h. omega (arith, h, is, c.in_ok-loads.ensures.are k) in
+    let at : (k : ℕ) → slice_index loads k ≡ load cut k = λ k. ap (λ (xs : List ℕ). slice_index xs k) c.deref.ensures.value ∙ c.in_ok-loads.ensures.are k in
+    let to : (k : ℕ) → slice_index loads k ≤ limit → load cut k ≤ cut.part * most_cost = λ k h. omega (arith, h, is, at k) in
+    let from : (k : ℕ) → load cut k ≤ cut.part * most_cost → slice_index loads k ≤ limit = λ k h. omega (arith, h, is, at k) in
     last_decides c.are_loads_within.result c.are_loads_within.ensures
     (λ h. record {
       total_limit = omega (arith, is, c.total.ensures);

@@ -8,14 +8,15 @@ use Rattle.plan_model.specs.Lines.{tree_line_of}
 use Rattle.cert_spec.proofs.ByLines.{parts_said}
 use Rattle.cert_scan.specs.Versions.{version_number}
 use Rattle.cert_format.proofs.Putting.{proved_marks}
-use Rattle.cert_conditions.specs.ListLines.{MayTakeLines}
+use Rattle.cert_conditions.specs.ListLines.{MayTakeLines, TakesLines}
+use Rattle.cert_conditions.specs.declared.checks.Checks.{Checks}
 use Rattle.cert_checker.specs.Walks.{SaysPart, HasSmallDenominator}
 use Rattle.cert_checker.proofs.Walking.{may_first, may_then, then_takes}
 use Rattle.cert_checker.proofs.Holding.{small_denominators}
 use Rattle.cert_checker.proofs.WholeLines.{Parts, ArePartsOf, top_lines, cuts_lines, tree_lines, behind_top, parts_may, whole_taken}
 use Rattle.cert_checker.proofs.walks.take_certificate.Goals as goal
 use Rattle.cert_checker.proofs.walks.take_certificate.Given.{Over}
-use Rattle.cert_checker.proofs.walks.take_certificate.Goals.{After-tree-tree, In_ok-take_top}
+use Rattle.cert_checker.proofs.walks.take_certificate.Goals.{After-tree-tree}
 
 -- what the walk has of the certificate
 abbrev parts : (g : Over) → After-tree-tree g → Parts
@@ -57,47 +58,53 @@ take_top-requires-clause-whole g c =
     ∙ ap (λ (n : ℕ). n * n) (sym c.heading-heading.ensures.value.size)
 
 pub take_top-requires-clause-may : goal.take_top-requires-clause-may
-take_top-requires-clause-may g c = may_first (top_lines (parts g c)) (behind_top (parts g c)) (may_come g c)
+take_top-requires-clause-may g c =
+    let t = (goal.at.take_top-requires-clause-may g c).After-tree-tree in
+    may_first (top_lines (parts g t)) (behind_top (parts g t)) (may_come g t)
 
 -- ---- the cuts
 
-behind_may : (g : Over) (c : In_ok-take_top g) → MayTakeLines c.take_top.new.checks (behind_top (parts g c))
-behind_may g c = may_then (top_lines (parts g c)) (behind_top (parts g c)) (may_come g c) c.in_ok-take_top.ensures.taken
+-- where the top came, the rest may
+behind_may : (g : Over) (c : After-tree-tree g) {now : Checks} → TakesLines c.args.checks.now (top_lines (parts g c)) now
+    → MayTakeLines now (behind_top (parts g c))
+behind_may g c taken = may_then (top_lines (parts g c)) (behind_top (parts g c)) (may_come g c) taken
 
 pub take_cuts-requires-clause-size : goal.take_cuts-requires-clause-size
-take_cuts-requires-clause-size g c = c.size-n.ensures.value ∙ c.requires.size ∙ ap (λ i. i.now.size) (sym c.in_ok-take_top.ensures.instance)
+take_cuts-requires-clause-size g c κs within = c.size-n.ensures.value ∙ c.requires.size ∙ ap (λ i. i.now.size) (sym c.in_ok-take_top.ensures.instance)
 
 pub take_cuts-requires-clause-some : goal.take_cuts-requires-clause-some
-take_cuts-requires-clause-some g c = omega (arith, c.size-n.ensures.value, c.size-n.ensures.in_range.proof.some_node)
+take_cuts-requires-clause-some g c κs within = omega (arith, c.size-n.ensures.value, c.size-n.ensures.in_range.proof.some_node)
 
 pub take_cuts-requires-clause-nodes : goal.take_cuts-requires-clause-nodes
-take_cuts-requires-clause-nodes g c = omega (arith, c.size-n.ensures.value, c.size-n.ensures.in_range.proof.size)
+take_cuts-requires-clause-nodes g c κs within = omega (arith, c.size-n.ensures.value, c.size-n.ensures.in_range.proof.size)
 
 pub take_cuts-requires-clause-few : goal.take_cuts-requires-clause-few
-take_cuts-requires-clause-few g c = omega (arith, ap length c.cuts-cuts.ensures.value, c.cuts-cuts.ensures.in_range.proof.cut_count)
+take_cuts-requires-clause-few g c κs within = omega (arith, ap length c.cuts-cuts.ensures.value, c.cuts-cuts.ensures.in_range.proof.cut_count)
 
 pub take_cuts-requires-clause-cuts : goal.take_cuts-requires-clause-cuts
-take_cuts-requires-clause-cuts g c =
+take_cuts-requires-clause-cuts g c κs within =
     let n = c.size-n.result in
     subst (λ (cs : List Cut). All (IsCutInRange n) cs) (sym c.cuts-cuts.ensures.value)
     (subst (λ (m : ℕ). All (IsCutInRange m) c.args.certificate.now.proof.cuts) (sym c.size-n.ensures.value) c.cuts-cuts.ensures.in_range.proof.cuts)
 
 pub take_cuts-requires-clause-parts : goal.take_cuts-requires-clause-parts
-take_cuts-requires-clause-parts g c =
+take_cuts-requires-clause-parts g c κs within =
     let k = c.args.certificate.now in
     subst (λ (cs : List Cut). All (SaysPart (version_number c.version-version.result)) cs) (sym c.cuts-cuts.ensures.value)
     (subst (λ (v : ℕ). All (SaysPart v) k.proof.cuts) (sym c.version-version.ensures) (parts_said k c.cuts-cuts.ensures.in_range))
 
 pub take_cuts-requires-clause-one_for_each : goal.take_cuts-requires-clause-one_for_each
-take_cuts-requires-clause-one_for_each g c =
+take_cuts-requires-clause-one_for_each g c κs within =
     ap length c.marks-marks.ensures.value ∙ c.marks-marks.ensures.in_range.one_for_each ∙ sym (ap length c.cuts-cuts.ensures.value)
 
 pub take_cuts-requires-clause-proved : goal.take_cuts-requires-clause-proved
-take_cuts-requires-clause-proved g c =
+take_cuts-requires-clause-proved g c κs within =
     proved_marks c.size-n.result c.args.certificate.now c.marks-marks.result.now c.marks-marks.ensures.in_range c.marks-marks.ensures.value c.size-n.ensures.value
 
 pub take_cuts-requires-clause-may : goal.take_cuts-requires-clause-may
-take_cuts-requires-clause-may g c = may_first (cuts_lines (parts g c)) (tree_lines (parts g c)) (behind_may g c)
+take_cuts-requires-clause-may g c κs within =
+    let t = (goal.at.take_cuts-requires-clause-may g c).After-tree-tree in
+    may_first (cuts_lines (parts g t)) (tree_lines (parts g t)) (behind_may g t c.in_ok-take_top.ensures.taken)
 
 -- ---- the tree
 
@@ -119,11 +126,14 @@ take_tree-requires-clause-lines g c =
     (small_denominators k.proof.size _ c.tree-tree.ensures.in_range.proof.tree)
 
 pub take_tree-requires-clause-may : goal.take_tree-requires-clause-may
-take_tree-requires-clause-may g c = may_then (cuts_lines (parts g c)) (tree_lines (parts g c)) (behind_may g c) c.in_ok-take_cuts.ensures.taken
+take_tree-requires-clause-may g c =
+    let t = (goal.at.take_tree-requires-clause-may g c).After-tree-tree in
+    may_then (cuts_lines (parts g t)) (tree_lines (parts g t)) (behind_may g t c.in_ok-take_top.ensures.taken) c.in_ok-take_cuts.ensures.taken
 
 pub returns-clause-taken : goal.returns-clause-taken
 returns-clause-taken g c =
-    let s = parts g c in
-    whole_taken c.args.checks.now c.take_tree.new.checks c.args.certificate.now s (are_parts g c) c.size-n.ensures.in_range c.requires.none
+    let t = (goal.at.returns-clause-taken g c).After-tree-tree in
+    let s = parts g t in
+    whole_taken c.args.checks.now c.take_tree.new.checks c.args.certificate.now s (are_parts g t) c.size-n.ensures.in_range c.requires.none
     (then_takes (top_lines s) (behind_top s) c.in_ok-take_top.ensures.taken
     (then_takes (cuts_lines s) (tree_lines s) c.in_ok-take_cuts.ensures.taken c.in_ok-take_tree.ensures.taken))

@@ -9,8 +9,8 @@ use Rattle.cert_conditions.specs.ListLines.{MayTakeLines, TakesLines}
 use Rattle.cert_checker.specs.Walks.{IsKnownCut}
 use Rattle.cert_checker.proofs.walks.take_cut.Goals as goal
 
-pub known_part-requires : goal.known_part-requires
-known_part-requires g c = subst (λ (n : ℕ). IsCutInRange n c.args.cut.now) c.requires.size c.requires.cut
+pub known_part-known-requires-clause-cut : goal.known_part-known-requires-clause-cut
+known_part-known-requires-clause-cut g c κs within = subst (λ (n : ℕ). IsCutInRange n c.args.cut.now) c.requires.size c.requires.cut
 
 pub take_unmarked-requires-clause-known : goal.take_unmarked-requires-clause-known
 take_unmarked-requires-clause-known g c =

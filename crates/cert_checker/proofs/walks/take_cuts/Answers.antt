@@ -18,23 +18,23 @@ loop-x-init g c = record {
 }
 
 pub take_cut-requires-clause-size : goal.take_cut-requires-clause-size
-take_cut-requires-clause-size g c = c.requires.size ∙ ap (λ i. i.now.size) (sym c.loop-x.invariant.instance)
+take_cut-requires-clause-size g c κs within = c.requires.size ∙ ap (λ i. i.now.size) (sym c.loop-x.invariant.instance)
 
 pub take_cut-requires-clause-cut : goal.take_cut-requires-clause-cut
-take_cut-requires-clause-cut g c =
+take_cut-requires-clause-cut g c κs within =
     subst (IsCutInRange c.args.n) (sym c.index-cuts-x.is) (All-get_or (IsCutInRange c.args.n) c.args.cuts.now c.loop-x.x c.index-cuts-x.result (omega arith) c.requires.cuts)
 
 pub take_cut-requires-clause-part : goal.take_cut-requires-clause-part
-take_cut-requires-clause-part g c =
+take_cut-requires-clause-part g c κs within =
     let P = SaysPart (version_number c.args.version) in
     subst P (sym c.index-cuts-x.is) (All-get_or P c.args.cuts.now c.loop-x.x c.index-cuts-x.result (omega arith) c.requires.parts)
 
 pub take_cut-requires-clause-proved : goal.take_cut-requires-clause-proved
-take_cut-requires-clause-proved g c =
+take_cut-requires-clause-proved g c κs within =
     proved_at c.args.n c.args.marks.now c.loop-x.x c.index-marks-x.result (omega (arith, c.requires.one_for_each)) c.index-marks-x.is c.requires.proved
 
 pub take_cut-requires-clause-may : goal.take_cut-requires-clause-may
-take_cut-requires-clause-may g c =
+take_cut-requires-clause-may g c κs within =
     let v = version_number c.args.version in
     let n = c.args.n in
     let cuts = c.args.cuts.now in

@@ -13,8 +13,8 @@ take_alone-requires c =
     let rest = says_size h.size h.candidates ∷ says_cost h.cost ∷ says_bound h.bound ∷ [] in
     (v, ap (λ x. Version x ∷ []) (version_back h.version), may_first (v ∷ []) rest c.requires)
 
-pub take_alone-2-requires : goal.take_alone-2-requires
-take_alone-2-requires c =
+pub take_alone-requires-2 : goal.take_alone-requires-2
+take_alone-requires-2 c =
     let h = c.args.heading.now in
     let v = says_version (version_number h.version) in
     let s = says_size h.size h.candidates in
@@ -22,8 +22,8 @@ take_alone-2-requires c =
     let may = may_then (v ∷ []) (s ∷ rest) c.requires (c.in_ok-take_alone.ensures.taken v (ap (λ x. Version x ∷ []) (version_back h.version))) in
     (s, refl, may_first (s ∷ []) rest may)
 
-pub take_alone-3-requires : goal.take_alone-3-requires
-take_alone-3-requires c =
+pub take_alone-requires-3 : goal.take_alone-requires-3
+take_alone-requires-3 c =
     let h = c.args.heading.now in
     let v = says_version (version_number h.version) in
     let s = says_size h.size h.candidates in
@@ -33,8 +33,8 @@ take_alone-3-requires c =
     let then = may_then (s ∷ []) (k ∷ rest) may (c.in_ok-take_alone-2.ensures.taken s refl) in
     (k, refl, may_first (k ∷ []) rest then)
 
-pub take_alone-4-requires : goal.take_alone-4-requires
-take_alone-4-requires c =
+pub take_alone-requires-4 : goal.take_alone-requires-4
+take_alone-requires-4 c =
     let h = c.args.heading.now in
     let v = says_version (version_number h.version) in
     let s = says_size h.size h.candidates in

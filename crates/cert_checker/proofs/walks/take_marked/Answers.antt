@@ -32,8 +32,8 @@ loop-t-init c =
       instance = c.in_ok-take_line.ensures.instance;
     }
 
-pub take_line-2-requires-clause-may : goal.take_line-2-requires-clause-may
-take_line-2-requires-clause-may c =
+pub take_line-requires-in-loop-t-clause-may : goal.take_line-requires-in-loop-t-clause-may
+take_line-requires-in-loop-t-clause-may c =
     let n = c.args.n in
     let t = c.loop-t.t in
     let duals = c.args.cut.now.duals in
@@ -44,13 +44,13 @@ take_line-2-requires-clause-may c =
     (sym (next_proved_items n t duals proofs c.dual-dual.result proof (omega arith) c.requires.proved c.dual-dual.ensures
     (get_or_default proofs t no_proof proof (omega (arith, c.requires.proved)))))
 
-pub take_line-2-requires-clause-known : goal.take_line-2-requires-clause-known
-take_line-2-requires-clause-known c =
+pub take_line-requires-in-loop-t-clause-known : goal.take_line-requires-in-loop-t-clause-known
+take_line-requires-in-loop-t-clause-known c =
     dual_known c.args.n c.loop-t.t c.args.cut.now c.dual-dual.result c.args.known (ap (λ i. i.now) c.loop-t.invariant.instance) (omega arith)
     c.dual-dual.ensures c.requires.known
 
-pub take_line-3-requires-clause-may : goal.take_line-3-requires-clause-may
-take_line-3-requires-clause-may c =
+pub take_line-requires-in-loop-t-2-clause-may : goal.take_line-requires-in-loop-t-2-clause-may
+take_line-requires-in-loop-t-2-clause-may c =
     let n = c.args.n in
     let t = c.loop-t.t in
     let duals = c.args.cut.now.duals in

@@ -33,8 +33,8 @@ returns-in-Leaf-clause-taken c =
     subst (λ (l : TreeLine). IfOk c.take_leaf.result (λ _. TakesLines c.args.checks.now (says l ∷ []) c.take_leaf.new.checks)) (sym c.in-Leaf.is)
     c.take_leaf.ensures.taken
 
-pub take_alone-in-Empty-requires : goal.take_alone-in-Empty-requires
-take_alone-in-Empty-requires c =
+pub take_alone-requires-in-Empty : goal.take_alone-requires-in-Empty
+take_alone-requires-in-Empty c =
     (says Empty, refl, subst (λ (l : TreeLine). MayTakeLines c.args.checks.now (says l ∷ [])) c.in-Empty.is c.requires.may)
 
 pub returns-in-Empty-clause-taken : goal.returns-in-Empty-clause-taken
@@ -42,8 +42,8 @@ returns-in-Empty-clause-taken c =
     subst (λ (l : TreeLine). IfOk c.take_alone-in-Empty.result (λ _. TakesLines c.args.checks.now (says l ∷ []) c.take_alone-in-Empty.new.self)) (sym c.in-Empty.is)
     (c.take_alone-in-Empty.ensures.taken (says Empty) refl)
 
-pub take_alone-in-Block-requires : goal.take_alone-in-Block-requires
-take_alone-in-Block-requires c =
+pub take_alone-requires-in-Block : goal.take_alone-requires-in-Block
+take_alone-requires-in-Block c =
     (says (Block c.in-Block.i c.in-Block.j), refl, subst (λ (l : TreeLine). MayTakeLines c.args.checks.now (says l ∷ [])) c.in-Block.is c.requires.may)
 
 pub returns-in-Block-clause-taken : goal.returns-in-Block-clause-taken
@@ -51,8 +51,8 @@ returns-in-Block-clause-taken c =
     subst (λ (l : TreeLine). IfOk c.take_alone-in-Block.result (λ _. TakesLines c.args.checks.now (says l ∷ []) c.take_alone-in-Block.new.self)) (sym c.in-Block.is)
     (c.take_alone-in-Block.ensures.taken (says (Block c.in-Block.i c.in-Block.j)) refl)
 
-pub take_alone-in-Count-requires : goal.take_alone-in-Count-requires
-take_alone-in-Count-requires c =
+pub take_alone-requires-in-Count : goal.take_alone-requires-in-Count
+take_alone-requires-in-Count c =
     (says Count, refl, subst (λ (l : TreeLine). MayTakeLines c.args.checks.now (says l ∷ [])) c.in-Count.is c.requires.may)
 
 pub returns-in-Count-clause-taken : goal.returns-in-Count-clause-taken

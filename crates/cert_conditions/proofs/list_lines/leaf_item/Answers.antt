@@ -1,4 +1,4 @@
-use Rattle.std.proofs.Common.{◌≡◌, ℕ, suc, ◌-◌, ◌×◌, refl, sym, ap, subst, arith}
+use Rattle.std.proofs.Common.{◌≡◌, ℕ, suc, ◌-◌, refl, sym, ap, subst, arith}
 use Rattle.cert_spec.specs.Lines.{says_tree}
 use Rattle.hub_spec.specs.Trees.{leaf_of}
 use Rattle.cert_scan.specs.declared.items.Item.TheVariants.{Leaf, LeafPair}

@@ -6,7 +6,7 @@ use Rattle.cert_conditions.specs.Taken.{HasTaken}
 use Rattle.cert_conditions.specs.ListLines.{TakesLines}
 use Rattle.cert_conditions.proofs.Whole.{may_take_parted, has_taken}
 use Rattle.cert_conditions.proofs.ListLines.{given_alone, parted_whole}
-use Rattle.cert_conditions.proofs.list_lines.Checks.take_alone.Goals as goal
+use Rattle.cert_conditions.proofs.checks.Checks.take_alone.Goals as goal
 
 pub take_item-requires-clause-may : goal.take_item-requires-clause-may
 take_item-requires-clause-may c =

@@ -1,4 +1,4 @@
-use Rattle.std.proofs.Common.{◌≡◌, ℕ, ◌+◌, ◌<◌, [], ◌∷◌, ◌++◌, true, false, refl, sym, ap, subst, ◌∙◌, arith}
+use Rattle.std.proofs.Common.{◌≡◌, ℕ, ◌<◌, [], ◌∷◌, ◌++◌, true, false, refl, sym, ap, subst, ◌∙◌, arith}
 use Rattle.std.specs.Prelude.{IfSome}
 use Rattle.std.proofs.lemmas.Result.{IfOk-weaker}
 use Rattle.hub_spec.specs.Problem.{Problem}
@@ -8,7 +8,7 @@ use Rattle.cert_conditions.specs.Taken.{HasTaken}
 use Rattle.cert_conditions.specs.ListLines.{line_of, open_items, line_item, TakesLines, IsKnownLine}
 use Rattle.cert_conditions.proofs.Whole.{may_take_parted, has_taken}
 use Rattle.cert_conditions.proofs.ListLines.{given_at, may_follow, has_item, at_first, given_more, given_last, parted_more, parted_whole, is_known}
-use Rattle.cert_conditions.proofs.list_lines.Checks.take_line.Goals as goal
+use Rattle.cert_conditions.proofs.checks.Checks.take_line.Goals as goal
 
 pub before_last-count-requires : goal.before_last-count-requires
 before_last-count-requires c =
@@ -57,12 +57,12 @@ loop-at-preserved c =
       instance = c.in_ok-take_item.ensures.instance ∙ c.loop-at.invariant.instance;
     }
 
-pub item-item-2-requires-clause-some : goal.item-item-2-requires-clause-some
-item-item-2-requires-clause-some c =
+pub item-item-requires-2-clause-some : goal.item-item-requires-2-clause-some
+item-item-requires-2-clause-some c =
     let f = may_follow c.requires.may.0 (line_of c.args.line.now) c.requires.may.2 in has_item f.stage c.args.line.now f.wants
 
-pub take_item-2-requires-clause-may : goal.take_item-2-requires-clause-may
-take_item-2-requires-clause-may c =
+pub take_item-requires-2-clause-may : goal.take_item-requires-2-clause-may
+take_item-requires-2-clause-may c =
     let l = line_of c.args.line.now in
     let last = open_items l in
     let at : c.loop-at.at ≡ last = omega (arith, c.loop-at-test.false, c.loop-at.invariant.within, c.before_last-count.ensures) in
@@ -75,8 +75,8 @@ take_item-2-requires-clause-may c =
     (may_take_parted (given_at m.0 l last) (line_item l last true) c.loop-at.self taken
     (parted_whole (m.0 ++ l ∷ []) m.2.0 (given_at m.0 l last ++ line_item l last true ∷ []) m.2.1 (given_last m.0 l some)))
 
-pub take_item-2-requires-clause-known : goal.take_item-2-requires-clause-known
-take_item-2-requires-clause-known c =
+pub take_item-requires-2-clause-known : goal.take_item-requires-2-clause-known
+take_item-requires-2-clause-known c =
     let l = line_of c.args.line.now in
     let last = open_items l in
     let at : c.loop-at.at ≡ last = omega (arith, c.loop-at-test.false, c.loop-at.invariant.within, c.before_last-count.ensures) in

@@ -3,7 +3,7 @@ use Rattle.cert_spec.specs.Lines.{Item as Line}
 use Rattle.cert_conditions.specs.Taken.{HasTaken}
 use Rattle.cert_conditions.specs.ListLines.{line_of, open_items, CanLead, HasLines}
 use Rattle.cert_conditions.proofs.ListLines.{given_at}
-use Rattle.cert_conditions.proofs.list_lines.Checks.take_line.Given as goal
+use Rattle.cert_conditions.proofs.checks.Checks.take_line.Given as goal
 
 abbrev pub invariant-loop-at : goal.invariant-loop-at
 invariant-loop-at l = record {
