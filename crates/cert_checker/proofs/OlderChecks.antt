@@ -1,10 +1,8 @@
 -- What is said of an older certificate.
-use Rattle.std.proofs.Common.{◌≡◌, ℕ, ◌+◌, ◌-◌, ◌*◌, ◌<◌, ◌≤◌, false, List, [], ◌∷◌, ◌++◌, length, Option, Some, None, inl, inr, refl, sym, ap, subst, ◌∙◌, arith}
+use Rattle.std.proofs.Common.{ℕ, ◌≤◌, List, length, Option, Some, None}
 use Rattle.std.specs.Option.{IfSome, IfNone}
 use Rattle.hub_spec.specs.Problem.{Problem}
-use Rattle.hub_spec.specs.Cuts.{Cut, IsWithinSums}
 use Rattle.hub_spec.specs.Certificates.{HasCutsOf}
-use Rattle.core_spec.specs.CoreCuts.{Mark}
 use Rattle.cert_spec.specs.Stated.{Stated, IsStatedInRange}
 use Rattle.cert_spec.specs.Text.{Spells}
 use Rattle.cert_spec.specs.Conditions.{FailsFirst, older_conditions}

@@ -1,11 +1,11 @@
 -- What fails first of the cuts of an older certificate, cut by cut.
-use Rattle.std.proofs.Common.{◌≡◌, ℕ, ◌+◌, ◌-◌, ◌*◌, ◌<◌, ◌≤◌, false, List, [], ◌∷◌, ◌++◌, length, take, drop, zip, get_or, All, Option, Some, None, inl, inr, refl, sym, ap, ap₂, subst, ◌∙◌, mul-pos, arith}
+use Rattle.std.proofs.Common.{◌≡◌, ℕ, ◌+◌, ◌-◌, ◌*◌, ◌<◌, ◌≤◌, false, List, [], ◌∷◌, ◌++◌, length, take, drop, get_or, All, Option, Some, None, inl, inr, refl, sym, ap, ap₂, subst, ◌∙◌, mul-pos, arith}
 use Rattle.std.proofs.lemmas.Bool.{false≢true}
 use Rattle.std.proofs.lemmas.List.{take_more, take_all, drop_more}
 use Rattle.std.proofs.lemmas.List.Elements.{All-push}
 use Rattle.std.proofs.lemmas.Slice.Zip.{get_or-zip, length-zip}
 use Rattle.hub_spec.specs.Problem.{Problem, commodity_at}
-use Rattle.hub_spec.specs.Cuts.{Prices, Cut, IsDual, IsCut, IsWithinSums}
+use Rattle.hub_spec.specs.Cuts.{Cut, IsDual, IsCut, IsWithinSums}
 use Rattle.hub_spec.specs.Certificates.{HasCutsOf}
 use Rattle.core_spec.specs.CoreCuts.{Mark}
 use Rattle.cert_spec.specs.Stated.{Stated, cuts_of, IsStatedInRange}

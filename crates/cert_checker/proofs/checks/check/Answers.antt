@@ -18,16 +18,26 @@ take_certificate-requires-clause-size g c κs within =
     (c.is_of_size.ensures.is.0 c.if-not-is_of_size.false).0 ∙ ap (λ (p : Problem). p.size) (sym c.in_ok-checks.ensures.instance)
 
 pub verdict_by-requires-clause-problem : goal.verdict_by-requires-clause-problem
-verdict_by-requires-clause-problem g c = subst IsProblem (sym (same g c)) c.is_of_size.ensures.problem
+verdict_by-requires-clause-problem g c =
+    let is = same g (goal.at.verdict_by-requires-clause-problem g c).In_ok-take_certificate in
+    subst IsProblem (sym is) c.is_of_size.ensures.problem
 
 pub returns-clause-verdict : goal.returns-clause-verdict
-returns-clause-verdict g c = subst (λ (p : Problem). IsVerdict p c.args.certificate.now c.verdict_by.result) (same g c) c.verdict_by.ensures.verdict
+returns-clause-verdict g c =
+    let is = same g (goal.at.returns-clause-verdict g c).In_ok-take_certificate in
+    subst (λ (p : Problem). IsVerdict p c.args.certificate.now c.verdict_by.result) is c.verdict_by.ensures.verdict
 
 pub returns-clause-bound : goal.returns-clause-bound
-returns-clause-bound g c = subst (λ (p : Problem). ShowsBound p c.args.certificate.now c.verdict_by.result) (same g c) c.verdict_by.ensures.bound
+returns-clause-bound g c =
+    let is = same g (goal.at.returns-clause-bound g c).In_ok-take_certificate in
+    subst (λ (p : Problem). ShowsBound p c.args.certificate.now c.verdict_by.result) is c.verdict_by.ensures.bound
 
 pub returns-clause-optimal : goal.returns-clause-optimal
-returns-clause-optimal g c = subst (λ (p : Problem). ShowsOptimal p c.args.certificate.now c.verdict_by.result) (same g c) c.verdict_by.ensures.optimal
+returns-clause-optimal g c =
+    let is = same g (goal.at.returns-clause-optimal g c).In_ok-take_certificate in
+    subst (λ (p : Problem). ShowsOptimal p c.args.certificate.now c.verdict_by.result) is c.verdict_by.ensures.optimal
 
 pub returns-clause-marks : goal.returns-clause-marks
-returns-clause-marks g c = subst (λ (p : Problem). ShowsMarks p c.args.certificate.now c.verdict_by.result) (same g c) c.verdict_by.ensures.marks
+returns-clause-marks g c =
+    let is = same g (goal.at.returns-clause-marks g c).In_ok-take_certificate in
+    subst (λ (p : Problem). ShowsMarks p c.args.certificate.now c.verdict_by.result) is c.verdict_by.ensures.marks

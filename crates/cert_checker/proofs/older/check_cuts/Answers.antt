@@ -1,22 +1,17 @@
-use Rattle.std.proofs.Common.{◌≡◌, ℕ, ◌+◌, ◌*◌, ◌<◌, ◌≤◌, [], length, List, get_or, All, Option, sym, ap, subst, ◌∙◌, arith}
+use Rattle.std.proofs.Common.{◌≡◌, ℕ, ◌+◌, ◌*◌, ◌≤◌, length, List, get_or, All, Option, sym, ap, subst, ◌∙◌, arith}
 use Rattle.std.specs.Option.{IfSome, IfNone}
 use Rattle.std.proofs.lemmas.Bool.{false≢true}
 use Rattle.std.proofs.lemmas.List.Elements.{All-nil, All-get_or}
 use Rattle.std.proofs.lemmas.Nat.{mul-le}
-use Rattle.hub_spec.specs.Problem.{Problem}
 use Rattle.hub_spec.specs.Cuts.{Cut, IsCut}
 use Rattle.hub_spec.specs.Ranges.{IsCutInRange}
 use Rattle.core_spec.specs.CoreCuts.{Mark}
 use Rattle.dual_lines.specs.Lines.{ListedDual}
-use Rattle.cert_spec.specs.Stated.{Stated, IsStatedInRange}
-use Rattle.cert_spec.specs.Conditions.{FailsFirst}
 use Rattle.cert_spec.proofs.PartConditions.{first_cut_line}
 use Rattle.cert_scan.specs.Versions.{version_number}
 use Rattle.cert_format.specs.Parts.{HasProofs}
 use Rattle.cert_format.proofs.Putting.{proved_marks, proved_at}
-use Rattle.cert_conditions.specs.Kinds.{kind_of}
 use Rattle.cert_conditions.specs.declared.kinds.Kind as code
-use Rattle.cert_checker.specs.Answers.{IsOfSize}
 use Rattle.cert_checker.specs.Older.{cut_lines, CutFails}
 use Rattle.cert_checker.proofs.OlderChecks.{none_fails}
 use Rattle.cert_checker.proofs.OlderCuts.{IsNext, none_before, one_more_before, next_fails, size_fails, all_before}

@@ -1,4 +1,4 @@
-use Rattle.std.proofs.Common.{◌≡◌, ℕ, ◌+◌, ◌-◌, ◌*◌, ◌<◌, ◌≤◌, length, Option, Some, None, sym, ap, subst, ◌∙◌, mul-pos, arith}
+use Rattle.std.proofs.Common.{ℕ, ◌-◌, ◌*◌, Option, sym, ap, subst, ◌∙◌, mul-pos, arith}
 use Rattle.std.proofs.lemmas.Bool.{false≢true}
 use Rattle.hub_spec.specs.Problem.{Problem}
 use Rattle.hub_spec.specs.Ranges.{IsCutInRange}

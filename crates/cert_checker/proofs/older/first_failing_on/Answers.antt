@@ -1,4 +1,4 @@
-use Rattle.std.proofs.Common.{◌≡◌, ℕ, ◌*◌, ◌/◌, ◌%◌, ◌∙◌, slice_index_or, ap, arith}
+use Rattle.std.proofs.Common.{◌≡◌, ◌/◌, ◌%◌, ◌∙◌, slice_index_or, ap, arith}
 use Rattle.dual_lines.specs.Lines.{ListedDual}
 use Rattle.cert_checker.specs.Runs.{no_dual}
 use Rattle.cert_checker.proofs.LineDuals.{line_holds, line_fails, one_more}

@@ -1,10 +1,8 @@
-use Rattle.std.proofs.Common.{◌≡◌, ℕ, ◌*◌, ◌≤◌, ◌↔◌, IsTrue, List, All, true, false, sym, ap, subst, ◌∙◌, arith}
+use Rattle.std.proofs.Common.{◌≡◌, ℕ, ◌*◌, ◌≤◌, List, ap, ◌∙◌, arith}
 use Rattle.std.specs.Prelude.{slice_index}
-use Rattle.std.proofs.lemmas.Bool.{false≢true}
 use Rattle.std.proofs.lemmas.List.Elements.{All-weaker}
 use Rattle.hub_spec.specs.Limits.{most_cost}
-use Rattle.hub_spec.specs.Cuts.{Prices, total, load, IsWithinSums}
-use Rattle.hub_spec.specs.Ranges.{IsDualInRange, IsAmount}
+use Rattle.hub_spec.specs.Cuts.{total, load}
 use Rattle.hub_spec.proofs.AllLoops.{last_decides}
 use Rattle.cert_checker.proofs.older.is_within_sums.Goals as goal
 

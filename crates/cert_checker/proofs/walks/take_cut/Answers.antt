@@ -1,4 +1,4 @@
-use Rattle.std.proofs.Common.{ℕ, ◌*◌, [], ◌∷◌, length, Option, None, Some, subst, sym, ◌∙◌}
+use Rattle.std.proofs.Common.{ℕ, Option, subst, sym, ◌∙◌}
 use Rattle.std.specs.Prelude.{IfSome, IfOk}
 use Rattle.core_spec.specs.CoreCuts.{Mark}
 use Rattle.hub_spec.specs.Ranges.{IsCutInRange}

@@ -1,4 +1,4 @@
-use Rattle.std.proofs.Common.{[], ◌∷◌, refl, ap, ◌∙◌}
+use Rattle.std.proofs.Common.{[], ◌∷◌, refl, ap}
 use Rattle.cert_spec.specs.Lines.{says_version, says_size, says_cost, says_bound}
 use Rattle.cert_scan.specs.Versions.{version_number}
 use Rattle.cert_scan.specs.declared.items.Item.TheVariants.{Version}

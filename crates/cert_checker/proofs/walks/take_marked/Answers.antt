@@ -1,4 +1,4 @@
-use Rattle.std.proofs.Common.{◌≡◌, ◌+◌, List, [], ◌∷◌, ◌++◌, get_or, refl, sym, ap, subst, ◌∙◌, arith}
+use Rattle.std.proofs.Common.{◌+◌, List, [], ◌∷◌, get_or, refl, sym, ap, subst, ◌∙◌, arith}
 use Rattle.std.proofs.lemmas.List.{get_or_default}
 use Rattle.hub_spec.specs.Problem.{commodity_at}
 use Rattle.core_spec.specs.CoreCuts.{CoreProof}
@@ -6,7 +6,7 @@ use Rattle.cert_spec.specs.Lines.{says_marked, says_dual, says_proof}
 use Rattle.cert_spec.specs.Text.{proved_items}
 use Rattle.cert_format.proofs.MarkedLines.{no_proof, proved_from, next_proved_items, none_proved_items}
 use Rattle.cert_conditions.specs.ListLines.{MayTakeLines, TakesLines}
-use Rattle.cert_checker.proofs.Walking.{may_first, may_then, then_takes, front_start, front_more, front_may, front_end}
+use Rattle.cert_checker.proofs.Walking.{may_first, front_start, front_more, front_may, front_end}
 use Rattle.cert_checker.proofs.Holding.{dual_known}
 use Rattle.cert_checker.proofs.walks.take_marked.Goals as goal
 

@@ -1,4 +1,4 @@
-use Rattle.std.proofs.Common.{◌≡◌, ◌+◌, [], ◌∷◌, ◌++◌, drop, refl, sym, ap, ◌∙◌, arith}
+use Rattle.std.proofs.Common.{◌+◌, [], ◌∷◌, drop, refl, sym, ap, ◌∙◌, arith}
 use Rattle.hub_spec.specs.Cuts.{Prices}
 use Rattle.cert_spec.specs.Lines.{says_dual}
 use Rattle.cert_scan.specs.Versions.{version_number}

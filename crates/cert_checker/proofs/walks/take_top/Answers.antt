@@ -1,4 +1,4 @@
-use Rattle.std.proofs.Common.{ℕ, List, [], ◌∷◌, ◌++◌, zip, refl, sym, ap, subst}
+use Rattle.std.proofs.Common.{ℕ, List, [], ◌∷◌, ◌++◌, zip, refl, sym, subst}
 use Rattle.hub_spec.specs.Problem.{commodities}
 use Rattle.cert_spec.specs.Lines.{Item, says_hubs, says_cuts}
 use Rattle.cert_spec.specs.Text.{route_items}
