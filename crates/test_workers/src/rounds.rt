@@ -1,20 +1,24 @@
 //! Rounds of a search by two workers, and the turns of nodes.
 
 ghost use Rattle.std.specs.Prelude.{◌≡◌, ◌≤◌, ◌^◌, None, List, length, All, IfOk};
+ghost use Rattle.hub_spec.specs.Problem.{IsProblem};
+ghost use Rattle.hub_spec.specs.Plans.{IsHubSet};
 ghost use Rattle.hub_spec.specs.Trees.{IsBranch};
 ghost use Rattle.cut_pool.specs.Entries.{Entry};
 ghost use Rattle.search_steps.specs.Pools.{IsPoolOf};
+ghost use Rattle.search_progress.specs.Progressing.{IsGoing};
 ghost use Rattle.node_rounds.specs.Outcomes.{IsPendingOf};
 
 use crate::gates::{Meeting, Watch};
 use crate::instances::{first_alone, limited_triangle};
+use cut_pool::Pool;
 use hub_fixing::Side;
 use hub_io::{Gate, OpenGate};
 use hub_make::made_instance;
 use hub_model::Instance;
 use hub_plain::{is_hub_set, outside};
 use node_rounds::{Outcome, Pending, search_rounds, turn, turns};
-use plan_model::Branch;
+use plan_model::{Branch, HubSet};
 use search_core::Task;
 use search_progress::{Progress, Solo, begin, number_of, separate};
 use search_steps::Plain;
@@ -38,25 +42,52 @@ fn two_workers_meet_in_the_fourth_round(rt: HostRuntime) -> Result<(), Fail> {
     Ok(())
 }
 
-// A search that has begun, and has separated the first node alone, which must be a hub set and not be separated yet.
+// Separates the set, which must not be separated yet.
+fn separate_new(
+    alloc: Global,
+    task: &Task,
+    progress: &mut Progress,
+    separator: &mut Solo,
+    set: HubSet,
+) -> Result<(), Fail>
+    requires going { IsGoing task.now progress.old }
+    requires set { IsHubSet task.now.instance.now set }
+    ensures { IfOk result (λ x. IsGoing task.now progress.new) }
+{
+    if number_of(progress, &set).is_none() {
+        let order = outside(alloc, task.instance, &set)?;
+        separate(alloc, task, progress, separator, set, order)?;
+        Ok(())
+    } else {
+        Err("a set that is known")?
+    }
+}
+
+// A search that has begun, and has separated the first node alone, which must be a hub set.
+fn begun_by(alloc: Global, task: &Task) -> Result<Progress, Fail>
+    requires plain { task.now.instance.now.wanted ≡ None }
+    requires set { IsHubSet task.now.instance.now task.now.instance.now.candidates }
+    ensures { IfOk result (IsGoing task.now) }
+{
+    let mut separator = Solo::new(alloc, task.instance)?;
+    let mut progress = begin(alloc, &Plain, task, &mut separator)?;
+    let set = first_alone(alloc, task.instance)?;
+    separate_new(alloc, task, &mut progress, &mut separator, set)?;
+    Ok(progress)
+}
+
+// The same of an instance in which any number of hubs must do.
 fn begun(alloc: Global, instance: &Instance) -> Result<Progress, Fail>
+    ensures problem { IfOk result (λ s. IsProblem instance.now) }
     ensures plain { IfOk result (λ s. instance.now.wanted ≡ None) }
     ensures pool { IfOk result (λ s. IsPoolOf instance.now s.pool.entries) }
     ensures cost { IfOk result (λ s. s.cost ≤ 10 ^ 30) }
 {
-    if instance.wanted().is_some() || !is_hub_set(instance, instance.candidates()) {
+    if instance.wanted().is_none() && is_hub_set(instance, instance.candidates()) {
+        begun_by(alloc, &Task::new(instance, None))
+    } else {
         Err("another instance")?
     }
-    let task = Task::new(instance, None);
-    let mut separator = Solo::new(alloc, instance)?;
-    let mut progress = begin(alloc, &Plain, &task, &mut separator)?;
-    let set = first_alone(alloc, instance)?;
-    if number_of(&progress, &set).is_some() {
-        Err("a set that is known")?
-    }
-    let order = outside(alloc, instance, &set)?;
-    separate(alloc, &task, &mut progress, &mut separator, set, order)?;
-    Ok(progress)
 }
 
 // The branch in which nothing is decided.
@@ -69,7 +100,6 @@ fn root(alloc: Global, instance: &Instance) -> Result<Branch, AllocError>
 }
 
 // The child of the branch in which the node stays on this side.
-#[tactic(auto, using(hub_spec::proofs::ChildLists::open_branch, hub_spec::proofs::ChildLists::closed_branch))]
 fn child(
     alloc: Global,
     instance: &Instance,
@@ -80,12 +110,13 @@ fn child(
     requires { IsBranch instance.now branch.now }
     ensures { IfOk result (IsBranch instance.now) }
 {
-    if !branch.free().contains(&k) {
+    if branch.free().contains(&k) {
+        match side {
+            Side::In => Ok(branch.open_child(alloc, k)?),
+            Side::Out => Ok(branch.closed_child(alloc, k)?),
+        }
+    } else {
         Err("a node that is not free")?
-    }
-    match side {
-        Side::In => Ok(branch.open_child(alloc, k)?),
-        Side::Out => Ok(branch.closed_child(alloc, k)?),
     }
 }
 
@@ -162,17 +193,34 @@ fn turns_by<R: Threads + Sync, G: Gate>(
     Ok(all_told(alloc, &outcomes)?)
 }
 
-// The same one after another.
+// The turns of these nodes by the cuts of the pool and the incumbent's cost, one after another.
+fn turns_in_order(
+    alloc: Global,
+    instance: &Instance,
+    nodes: &[Pending],
+    pool: &Pool,
+    cost: u128,
+) -> Result<String, AllocError>
+    requires problem { IsProblem instance.now }
+    requires plain { instance.now.wanted ≡ None }
+    requires pool { IsPoolOf instance.now pool.now.entries }
+    requires nodes { All (IsPendingOf instance.now pool.now.entries) nodes.now }
+    requires cost { cost ≤ 10 ^ 30 }
+{
+    let mut text = String::new(alloc);
+    for x in nodes {
+        let outcome = turn(alloc, instance, x, pool, cost)?;
+        text.push_str(told(alloc, &outcome)?.as_str())?;
+    }
+    Ok(text)
+}
+
+// The turns of these nodes in the search that has begun, one after another.
 fn turns_alone(alloc: Global, instance: &Instance, nodes: &[Pending]) -> Result<String, Fail>
     requires { (entries : List Entry) → All (IsPendingOf instance.now entries) nodes.now }
 {
     let s = begun(alloc, instance)?;
-    let mut text = String::new(alloc);
-    for x in nodes {
-        let outcome = turn(alloc, instance, x, &s.pool, s.cost)?;
-        text.push_str(told(alloc, &outcome)?.as_str())?;
-    }
-    Ok(text)
+    Ok(turns_in_order(alloc, instance, nodes, &s.pool, s.cost)?)
 }
 
 // The node with both hubs, that with the second alone, the root, and the root once it has waited twice.
