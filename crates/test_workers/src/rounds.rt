@@ -225,7 +225,7 @@ fn turns_alone(alloc: Global, instance: &Instance, nodes: &[Pending]) -> Result<
 
 // The node with both hubs, that with the second alone, the root, and the root once it has waited twice.
 fn nodes_of_two(alloc: Global, instance: &Instance) -> Result<Vec<Pending>, Fail>
-    ensures nodes { (entries : List Entry) → IfOk result (λ nodes. All (IsPendingOf instance.now entries) nodes.items) }
+    ensures nodes { IfOk result (λ nodes. (entries : List Entry) → All (IsPendingOf instance.now entries) nodes.items) }
     ensures four { IfOk result (λ nodes. length nodes.items ≡ 4) }
 {
     let both = decided(alloc, instance, Side::In, Side::In)?;
@@ -247,23 +247,39 @@ asks [1] over [0], weights [0, 1000000], waited true
 splits, weights [0, 1000000], fixings [(0, Out), (1, In)], point [0, 1]
 ";
 
-// Two workers wait for one another, and each in turn for all draws of the other.
+// Tells whether two workers find the turns of these nodes that are found one after another, where they wait for one another,
+// and where each in turn waits for all draws of the other.
+fn turns_agree<R: Threads + Sync>(
+    rt: &R,
+    alloc: Global,
+    instance: &Instance,
+    nodes: &[Pending],
+) -> Result<bool, Fail>
+    requires nodes { (entries : List Entry) → All (IsPendingOf instance.now entries) nodes.now }
+    requires few { length nodes.now ≤ 8 }
+{
+    let alone = turns_alone(alloc, instance, nodes)?;
+    for awaited in [[1, 1], [3, 1], [1, 3]] {
+        let gate = Watch::new(awaited);
+        let found = turns_by(rt, alloc, instance, nodes, 2, &gate)?;
+        if !gate.saw_all(4) || found != alone || found.as_str() != TURNS_OF_TWO {
+            return Ok(false);
+        }
+    }
+    Ok(true)
+}
+
 #[test]
 fn two_workers_find_the_turns_of_a_round(rt: HostRuntime) -> Result<(), Fail> {
     let instance = made_instance(rt.alloc(), 1, 2)?;
     let nodes = nodes_of_two(rt.alloc(), &instance)?;
-    let alone = turns_alone(rt.alloc(), &instance, &nodes)?;
-    for awaited in [[1, 1], [3, 1], [1, 3]] {
-        let gate = Watch::new(awaited);
-        let found = turns_by(&rt, rt.alloc(), &instance, &nodes, 2, &gate)?;
-        assert!(rt; gate.saw_all(4) && found == alone && found.as_str() == TURNS_OF_TWO);
-    }
+    assert!(rt; turns_agree(&rt, rt.alloc(), &instance, &nodes)?);
     Ok(())
 }
 
 // The node with the third alone, that with the first two, and the root.
 fn nodes_of_three(alloc: Global, instance: &Instance) -> Result<Vec<Pending>, Fail>
-    ensures nodes { (entries : List Entry) → IfOk result (λ nodes. All (IsPendingOf instance.now entries) nodes.items) }
+    ensures nodes { IfOk result (λ nodes. (entries : List Entry) → All (IsPendingOf instance.now entries) nodes.items) }
     ensures three { IfOk result (λ nodes. length nodes.items ≡ 3) }
 {
     let third = decided(alloc, instance, Side::Out, Side::Out)?;
