@@ -7,7 +7,7 @@ ghost use Rattle.plan_model.specs.Lines.{tree_line_of};
 ghost use Rattle.branch_tree.specs.Lines.{HasLine};
 
 use plan_model::TreeLine;
-use search_progress::{Progress, two_more};
+use search_steps::{Progress, two_more};
 use std::alloc::AllocError;
 
 /// Adds a line, unless the tree is as long as a certificate's can be.

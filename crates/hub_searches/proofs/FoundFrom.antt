@@ -2,8 +2,8 @@
 use Rattle.std.proofs.Common.{ℕ, Option}
 use Rattle.hub_spec.specs.Problem.{Problem, IsProblem}
 use Rattle.hub_spec.specs.Plans.{IsHubSet}
-use Rattle.search_progress.proofs.FoundCertificates as findings
-use Rattle.search_progress.specs.Kinds.{minimal, core}
+use Rattle.search_steps.proofs.FoundCertificates as findings
+use Rattle.search_steps.specs.Kinds.{minimal, core}
 use Rattle.branch_tree.proofs.RuleFindings.{rule_searched, again_searched, rule_at_most, again_at_most}
 use Rattle.node_rounds.proofs.RoundFindings.{rounds_searched, rounds_at_most}
 use Rattle.hub_words.specs.Requests.{node_by_node, by_core_cuts, by_rounds}

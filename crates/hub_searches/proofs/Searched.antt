@@ -15,11 +15,11 @@ use Rattle.cert_spec.specs.Stated.{as_second, IsStatedOf}
 use Rattle.cert_spec.specs.Text.{Spells, SpellsUnmarked}
 use Rattle.cut_pool.specs.declared.found.Found.{Found}
 use Rattle.cut_pool.specs.Findings.{IsVersionFor, IsProved, AreRemade, proof_of}
-use Rattle.search_progress.specs.Findings.{IsFound}
+use Rattle.search_steps.specs.Findings.{IsFound}
 use Rattle.proof_text.specs.Texts.{found_text}
 use Rattle.proof_text.specs.Certificates.{mark_said, stated_by}
 use Rattle.proof_text.proofs.StatedFindings.{stated_is_of}
-use Rattle.search_progress.specs.Kinds.{core}
+use Rattle.search_steps.specs.Kinds.{core}
 use Rattle.branch_tree.specs.Findings.{found_by}
 use Rattle.file_spec.specs.Options.{Options}
 use Rattle.file_spec.specs.Instances.{made}

@@ -11,7 +11,7 @@ use Rattle.search_spec.specs.Costs.{IsAtMostOf, first_hubs, IsAtMostBoth}
 use Rattle.core_spec.specs.CoreCuts.{Mark}
 use Rattle.cert_spec.specs.Stated.{IsAsMarked}
 use Rattle.cert_spec.specs.Text.{Spells, SpellsUnmarked}
-use Rattle.search_progress.specs.Kinds.{minimal, core}
+use Rattle.search_steps.specs.Kinds.{minimal, core}
 use Rattle.branch_tree.specs.Findings.{found_by, found_again}
 use Rattle.node_rounds.specs.Findings.{found_by_rounds}
 use Rattle.closing_search.specs.Gaps.{IsWithinGap}

@@ -12,7 +12,7 @@ use Rattle.cert_spec.specs.Verdicts.{Older, serves}
 use Rattle.cert_checker.specs.Shows.{verdict_of}
 use Rattle.cert_checker.specs.declared.texts.Ending.{Ending}
 use Rattle.cut_pool.specs.Findings.{IsProved, AreRemade, proof_of}
-use Rattle.search_progress.specs.Findings.{IsFound}
+use Rattle.search_steps.specs.Findings.{IsFound}
 use Rattle.closing_search.specs.Gaps.{IsWithinGap}
 use Rattle.closing_search.specs.Progressing.{IsBestBound}
 use Rattle.search_core.specs.Starts.{start_seen}

@@ -7,7 +7,7 @@ ghost use Rattle.hub_spec.specs.Plans.{IsHubSet};
 ghost use Rattle.hub_spec.specs.Separation.{IsOrder};
 ghost use Rattle.cut_pool.specs.Entries.{entry_of};
 ghost use Rattle.search_steps.specs.Pools.{IsSumsOf};
-ghost use Rattle.search_progress.specs.Kinds.{minimal};
+ghost use Rattle.search_steps.specs.Kinds.{minimal};
 ghost use Rattle.hub_make.specs.Contents.{made_problem};
 ghost use Rattle.hub_words.specs.Requests.{IsMaking, IsSearch, node_by_node};
 ghost use Rattle.hub_words.specs.Views.{making_seen, search_seen};
@@ -24,8 +24,7 @@ use node_rounds::search_rounds;
 use par_separate::{Crew, separate_sums, workers_for};
 use plan_model::HubSet;
 use search_core::Start;
-use search_progress::{Coring, Separator, Solo};
-use search_steps::{Counted, Plain, Rule};
+use search_steps::{Coring, Counted, Plain, Rule, Separator, Solo};
 use std::alloc::{AllocError, Global};
 use std::thread::Threads;
 

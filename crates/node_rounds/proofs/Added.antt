@@ -14,8 +14,8 @@ use Rattle.search_steps.specs.Pools.{HasGrown}
 use Rattle.search_steps.proofs.GivenPools.{grown_same, grown_twice, weights_stay}
 use Rattle.search_steps.proofs.RuleChoices.{decided_alone, none_alone}
 use Rattle.search_core.specs.declared.tasks.Task.{Task}
-use Rattle.search_progress.specs.declared.progress.Progress.{Progress}
-use Rattle.search_progress.specs.Progressing.{state_of, IsGoing, IsAt}
+use Rattle.search_steps.specs.declared.progress.Progress.{Progress}
+use Rattle.search_steps.specs.Progressing.{state_of, IsGoing, IsAt}
 use Rattle.rounds_spec.specs.Places as places
 use Rattle.rounds_spec.specs.Turns.{fresh, halved, split_up, with_set, taken}
 use Rattle.rounds_spec.proofs.StepCases.{halved_both, split_one}

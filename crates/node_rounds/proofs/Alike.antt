@@ -16,9 +16,9 @@ use Rattle.search_core.specs.declared.tasks.Task.{Task}
 use Rattle.search_steps.specs.Advising.{parts_of}
 use Rattle.search_steps.specs.Pools.{pool_cuts}
 use Rattle.search_steps.specs.Weights.{AreNodeWeights, sides_as}
-use Rattle.search_progress.specs.declared.progress.Progress.{Progress}
-use Rattle.search_progress.specs.Progressing.{state_of}
-use Rattle.search_progress.specs.FixingsLeft.{AreOnFree}
+use Rattle.search_steps.specs.declared.progress.Progress.{Progress}
+use Rattle.search_steps.specs.Progressing.{state_of}
+use Rattle.search_steps.specs.FixingsLeft.{AreOnFree}
 use Rattle.rounds_spec.specs.Places as places
 use Rattle.rounds_spec.specs.Turns.{most_waits, most_turns, turn}
 use Rattle.node_rounds.specs.declared.outcomes.Pending.{Pending}

@@ -12,8 +12,8 @@ use Rattle.search_spec.specs.States.{State, Parts, Grown}
 use Rattle.search_spec.specs.Steps.{unless_ended, stopped_leaf}
 use Rattle.search_steps.specs.Advising.{parts_of}
 use Rattle.search_core.specs.declared.tasks.Task.{Task}
-use Rattle.search_progress.specs.declared.progress.Progress.{Progress}
-use Rattle.search_progress.specs.Progressing.{state_of, IsGoing, IsAt}
+use Rattle.search_steps.specs.declared.progress.Progress.{Progress}
+use Rattle.search_steps.specs.Progressing.{state_of, IsGoing, IsAt}
 use Rattle.rounds_spec.specs.Places as places
 use Rattle.rounds_spec.specs.Places.{line, open_at}
 use Rattle.rounds_spec.specs.Turns.{Closed, closed_up}

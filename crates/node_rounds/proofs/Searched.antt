@@ -9,8 +9,8 @@ use Rattle.search_spec.specs.Laws.{IsStart}
 use Rattle.search_steps.specs.Advising.{parts_of}
 use Rattle.search_steps.proofs.RuleChoices.{parts_sound}
 use Rattle.search_core.specs.declared.tasks.Task.{Task}
-use Rattle.search_progress.specs.declared.progress.Progress.{Progress}
-use Rattle.search_progress.specs.Progressing.{state_of, IsGoing}
+use Rattle.search_steps.specs.declared.progress.Progress.{Progress}
+use Rattle.search_steps.specs.Progressing.{state_of, IsGoing}
 use Rattle.rounds_spec.specs.Places as places
 use Rattle.rounds_spec.specs.Places.{line, open_at, Standing, has_pending}
 use Rattle.rounds_spec.specs.Turns.{Closed, fresh, next_round, goes_on, rounds, closed_up, grown_of, at_root}

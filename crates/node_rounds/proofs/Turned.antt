@@ -14,8 +14,8 @@ use Rattle.search_steps.specs.Advising.{parts_of}
 use Rattle.search_steps.specs.Pools.{HasGrown}
 use Rattle.search_steps.proofs.GivenPools.{grown_same, grown_twice}
 use Rattle.search_core.specs.declared.tasks.Task.{Task}
-use Rattle.search_progress.specs.declared.progress.Progress.{Progress}
-use Rattle.search_progress.specs.Progressing.{state_of}
+use Rattle.search_steps.specs.declared.progress.Progress.{Progress}
+use Rattle.search_steps.specs.Progressing.{state_of}
 use Rattle.rounds_spec.specs.Places as places
 use Rattle.rounds_spec.specs.Places.{line, open_at, Standing}
 use Rattle.rounds_spec.specs.Turns.{taken, turns_taken, next_round, most_turns}

@@ -10,7 +10,7 @@ use Rattle.cut_pool.specs.Entries.{Sums, Entry, entry_of}
 use Rattle.search_steps.specs.Advising.{told_by, parts_of}
 use Rattle.search_steps.specs.Weights.{AreNodeWeights, pairs_of, sides_as}
 use Rattle.search_steps.specs.Pools.{IsSumsOf, InEachStateAt}
-use Rattle.search_progress.specs.FixingsLeft.{AreOnFree}
+use Rattle.search_steps.specs.FixingsLeft.{AreOnFree}
 use Rattle.rounds_spec.specs.Places as places
 use Rattle.rounds_spec.specs.Turns.{most_waits, turn}
 use Rattle.node_rounds.specs.declared.outcomes.Pending.{Pending}

@@ -15,7 +15,7 @@ use crew::{Job, answers};
 use cut_pool::Pool;
 use hub_io::Gate;
 use hub_model::Instance;
-use search_progress::Solo;
+use search_steps::Solo;
 use std::alloc::{AllocError, Global};
 use std::thread::Threads;
 

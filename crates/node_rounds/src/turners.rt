@@ -14,7 +14,7 @@ use crate::rounds::{turns, turns_ahead};
 use crate::searchers::Searcher;
 use hub_io::Gate;
 use search_core::Task;
-use search_progress::Progress;
+use search_steps::Progress;
 use std::alloc::{AllocError, Global};
 use std::thread::Threads;
 

@@ -20,8 +20,7 @@ use hub_plain::outside;
 use pareto_cuts::order_of;
 use plan_model::{Branch, HubSet};
 use search_core::whole_leaf;
-use search_progress::Solo;
-use search_steps::{NodeWeights, Plain, Rule, closes, is_better, leaf_line, node_advice};
+use search_steps::{NodeWeights, Plain, Rule, Solo, closes, is_better, leaf_line, node_advice};
 use std::alloc::{AllocError, Global};
 
 // How often a node may ask for a set by its advice.

@@ -19,8 +19,7 @@ use hub_model::Instance;
 use hub_plain::{best_plan, is_hub_set, set_cost};
 use plan_model::HubSet;
 use search_core::Start;
-use search_progress::Solo;
-use search_steps::Plain;
+use search_steps::{Plain, Solo};
 use std::alloc::{AllocError, Global};
 use test_lines::list;
 

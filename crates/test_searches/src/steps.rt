@@ -9,8 +9,7 @@ use cut_pool::CutSums;
 use hub_model::Instance;
 use hub_plain::{is_hub_set, outside};
 use plan_model::HubSet;
-use search_progress::Solo;
-use search_steps::leaf_line;
+use search_steps::{Solo, leaf_line};
 use std::alloc::{AllocError, Global};
 use test_lines::list;
 

@@ -19,7 +19,7 @@ use hub_plain::outside;
 use par_separate::{Crew, OriginSums, separate, separate_sums, work, work_on_sums, workers_for};
 use pareto_cuts::{Separation, SetTables};
 use plan_model::{Dual, HubSet};
-use search_progress::{Separated, Separator};
+use search_steps::{Separated, Separator};
 use std::alloc::{AllocError, Global};
 use std::test::Fail;
 use std::thread::Threads;

@@ -1,8 +1,8 @@
 use Rattle.std.proofs.Common.{ap, sym, subst, ◌∙◌}
 use Rattle.search_spec.specs.States.{State}
 use Rattle.search_spec.specs.Laws.{IsStart}
-use Rattle.search_progress.specs.Progressing.{state_of}
-use Rattle.search_progress.proofs.FoundCertificates.{IsSearchable, start_is}
+use Rattle.search_steps.specs.Progressing.{state_of}
+use Rattle.search_steps.proofs.FoundCertificates.{IsSearchable, start_is}
 use Rattle.search_steps.specs.Advising.{parts_of}
 use Rattle.hub_spec.specs.Trees.{preorder}
 use Rattle.rounds_spec.specs.Turns.{at_root}

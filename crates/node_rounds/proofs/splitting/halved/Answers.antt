@@ -7,7 +7,7 @@ use Rattle.search_spec.specs.Steps.{two_more}
 use Rattle.search_steps.specs.Advising.{told_by, parts_of}
 use Rattle.search_steps.specs.Weights.{AreNodeWeights, pairs_of}
 use Rattle.search_steps.proofs.GivenPools.{weights_stay, grown_twice}
-use Rattle.search_progress.specs.Progressing.{state_of}
+use Rattle.search_steps.specs.Progressing.{state_of}
 use Rattle.rounds_spec.specs.Places.{line, open_at, Standing}
 use Rattle.rounds_spec.specs.Turns.{fresh}
 use Rattle.rounds_spec.proofs.StepCases.{halved_full}

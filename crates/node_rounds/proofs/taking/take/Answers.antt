@@ -6,7 +6,7 @@ use Rattle.frac_master.specs.Advice.{advice_of_code}
 use Rattle.search_steps.specs.Advising.{told_by, parts_of}
 use Rattle.search_steps.specs.Weights.{pairs_of, sides_as}
 use Rattle.search_steps.proofs.GivenPools.{weights_stay}
-use Rattle.search_progress.specs.Progressing.{state_of}
+use Rattle.search_steps.specs.Progressing.{state_of}
 use Rattle.rounds_spec.specs.Places as places
 use Rattle.rounds_spec.specs.Turns.{with_set, taken, split_up}
 use Rattle.node_rounds.specs.declared.fronts.Front.{Front}
