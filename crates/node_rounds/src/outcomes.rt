@@ -7,7 +7,7 @@ ghost use Rattle.node_rounds.specs.Searchers.{IsAsGood};
 
 use cut_pool::CutSums;
 use frac_master::Advice;
-use hub_fixing::Side;
+use leaf_bound::Side;
 use plan_model::{Branch, HubSet, TreeLine};
 use std::alloc::{AllocError, Global};
 

@@ -13,7 +13,7 @@ ghost use Rattle.node_rounds.specs.Fronts.{IsFront, IsTaken};
 use crate::fronts::{Front, add_branch, add_line, add_node, stop_at};
 use crate::outcomes::Pending;
 use frac_master::Advice;
-use hub_fixing::Side;
+use leaf_bound::Side;
 use search_core::Task;
 use search_steps::{Plain, Rule, leaf_line, may_split, nearest};
 use std::alloc::{AllocError, Global};

@@ -7,8 +7,7 @@ ghost use Rattle.p_hub.specs.Fixing.{counted_closes, counted_fixings, IsBetween}
 use crate::bounds::bound_by_rising;
 use crate::rising::{ROOM, rising_gains};
 use crate::sides::Margins;
-use hub_fixing::Side;
-use leaf_bound::{Weighting, threshold, write_gains_and_base};
+use leaf_bound::{Side, Weighting, threshold, write_gains_and_base};
 use plan_model::Branch;
 use std::alloc::{AllocError, Global};
 

@@ -7,8 +7,8 @@ use Rattle.hub_spec.specs.Problem.{Problem}
 use Rattle.hub_spec.specs.Cuts.{Cut}
 use Rattle.hub_spec.specs.Trees.{Branching}
 use Rattle.hub_spec.proofs.Ascending.{without_keeps}
-use Rattle.hub_fixing.specs.declared.sides.Side as code
-use Rattle.hub_fixing.specs.declared.sides.Side.TheVariants.{In}
+use Rattle.leaf_bound.specs.declared.sides.Side as code
+use Rattle.leaf_bound.specs.declared.sides.Side.TheVariants.{In}
 use Rattle.search_spec.specs.States.{State}
 use Rattle.search_spec.specs.Steps.{Side, stays_open, stays_closed, child_on, fixings}
 use Rattle.search_spec.proofs.Fixings.{AreFixings, fixings_are}

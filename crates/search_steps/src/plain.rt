@@ -6,8 +6,9 @@ use crate::openings::{all_open, blocked_line};
 use crate::{NodeWeights, Rule, picking};
 use assign_sub::lacking;
 use frac_master::Advice;
-use hub_fixing::{Side, fix};
+use hub_fixing::fix;
 use hub_model::Instance;
+use leaf_bound::Side;
 use plan_model::{Branch, HubSet, TreeLine};
 use std::alloc::{AllocError, Global};
 

@@ -16,8 +16,8 @@ ghost use Rattle.search_steps.specs.Weights.{pairs_of, sides_as, AreWeighed};
 
 use crate::NodeWeights;
 use frac_master::Advice;
-use hub_fixing::Side;
 use hub_model::Instance;
+use leaf_bound::Side;
 use plan_model::{Branch, HubSet, TreeLine};
 use std::alloc::{AllocError, Global};
 

@@ -8,11 +8,11 @@ ghost use Rattle.node_rounds.specs.Outcomes.{IsPendingOf};
 
 use crate::gates::{Meeting, Watch};
 use crate::instances::{first_alone, limited_triangle};
-use hub_fixing::Side;
 use hub_io::{Gate, OpenGate};
 use hub_make::made_instance;
 use hub_model::Instance;
 use hub_plain::{is_hub_set, outside};
+use leaf_bound::Side;
 use node_rounds::{Outcome, Pending, search_rounds, turn, turns};
 use plan_model::Branch;
 use search_core::Task;
