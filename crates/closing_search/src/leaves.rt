@@ -20,8 +20,7 @@ use crate::progress::{Progress, end_with, goal, offer};
 use crate::task::Task;
 use crate::walk::Walk;
 use cut_pool::KeptCut;
-use hub_plain::outside;
-use plan_model::{Branch, HubSet, Mix, TreeLine};
+use plan_model::{Branch, HubSet, Mix, TreeLine, outside};
 use search_core::{WHOLE_WEIGHT, lesser, rounded_up, whole_leaf};
 use std::alloc::{AllocError, Global};
 

@@ -18,8 +18,7 @@ use crate::task::{MOST_GAP, Task};
 use assign_sub::{cost_of_set, lacking};
 use cut_pool::KeptCuts;
 use hub_model::Instance;
-use hub_plain::{has_wanted, is_candidate_set};
-use plan_model::{Branch, HubSet, TreeLine};
+use plan_model::{Branch, HubSet, TreeLine, has_wanted, is_candidate_set};
 use search_core::{add_line, lesser};
 use std::alloc::{AllocError, Global};
 

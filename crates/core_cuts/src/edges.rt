@@ -9,7 +9,7 @@ ghost use Rattle.core_cuts.specs.CoreTables.{is_needed, edge_right};
 ghost use Rattle.core_cuts.specs.Bodies.{most_unit};
 
 use hub_model::Instance;
-use hub_plain::least_route;
+use plan_model::least_route;
 use std::alloc::{AllocError, Global};
 
 /// Each node as a single hub.

@@ -1,2 +1,9 @@
 pub mod SignedPairs
 pub mod ListedValues
+pub mod Turns
+pub mod Assigned
+pub mod SignedCosts
+pub mod OutsideNodes
+pub mod ServedCommodities
+pub mod AllowedRoutes
+pub mod CandidateNodes

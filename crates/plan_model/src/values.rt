@@ -1,10 +1,14 @@
 //! Values of nodes, listed as a dual has them.
 
-ghost use Rattle.std.specs.Prelude.{◌≡◌, ◌+◌, ◌^◌, ◌<◌, ◌≤◌, [], ◌∷◌, ◌++◌, length, slice_index, All, vec_len, vec_capacity};
+ghost use Rattle.std.specs.Prelude.{◌≡◌, ◌+◌, ◌^◌, ◌<◌, ◌≤◌, [], ◌∷◌, ◌++◌, length, slice_index, All, vec_len, vec_capacity, IfOk};
+ghost use Rattle.hub_spec.specs.Limits.{most_cost};
 ghost use Rattle.hub_spec.specs.Separation.{values_listed};
 ghost use Rattle.plan_model.specs.Prices.{signed_values};
+ghost use Rattle.plan_model.specs.Values.{listed_dual};
 
-use hub_model::signed;
+use crate::Dual;
+use hub_model::{Instance, signed};
+use std::alloc::{AllocError, Global};
 
 /// Lists the node with its value, if that is above 0. It takes no memory.
 pub fn list_value(node: u32, value: u128, list: &mut Vec<(u32, i128)>)
@@ -32,4 +36,22 @@ pub fn list_values(nodes: &[u32], values: &[u128], list: &mut Vec<(u32, i128)>)
     for k in nodes {
         list_value(*k, values[*k as usize], list);
     }
+}
+
+/// The dual of this price that lists the candidates that have a value in this list by node.
+pub fn listed_dual(
+    alloc: Global,
+    instance: &Instance,
+    price: u128,
+    values: &[u128],
+) -> Result<Dual, AllocError>
+    requires price { price ≤ most_cost }
+    requires by_node { length values.now ≡ instance.now.size }
+    requires values { All (λ v. v ≤ most_cost) values.now }
+    ensures { IfOk result (λ d. d ≡ listed_dual instance.now price values.now) }
+{
+    let candidates = instance.candidates();
+    let mut u = Vec::with_capacity(alloc, candidates.len())?;
+    list_values(candidates, values, &mut u);
+    Ok(Dual::new(signed(price), u))
 }

@@ -11,15 +11,15 @@ use crate::instances::{first_alone, limited_triangle};
 use hub_io::{Gate, OpenGate};
 use hub_make::made_instance;
 use hub_model::Instance;
-use hub_plain::{is_hub_set, outside};
 use leaf_bound::Side;
 use node_rounds::{Outcome, Pending, search_rounds, turn, turns};
-use plan_model::Branch;
+use plan_model::{Branch, outside};
 use search_core::Task;
 use search_steps::{Plain, Progress, Solo, begin, number_of, separate};
 use std::alloc::{AllocError, Global};
 use std::test::Fail;
 use std::thread::Threads;
+use test_plain::is_hub_set;
 
 // The rounds of the smallest made-up instance have one node, one, one and two: those with both hubs and with the first alone,
 // and the turn of each is a leaf. In the last round each worker waits at its node until the other has drawn one.

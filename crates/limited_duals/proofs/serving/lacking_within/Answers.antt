@@ -1,5 +1,5 @@
 use Rattle.std.proofs.Common.{sym, ◌∙◌, arith}
-use Rattle.hub_plain.proofs.ServedCommodities.{lacked_next, lacked_here, none_is_lacked}
+use Rattle.plan_model.proofs.ServedCommodities.{lacked_next, lacked_here, none_is_lacked}
 use Rattle.limited_duals.proofs.NearestHubs.{few_members}
 use Rattle.limited_duals.proofs.serving.lacking_within.Goals as goal
 
