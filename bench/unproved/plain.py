@@ -18,7 +18,7 @@ NAMES = """
     instance_cab instance_ap crew desks unit_duals leg_tables limited_duals assign_sub hub_edges dual_cuts pareto_cuts value_cuts
     cut_pool frac_rows plain_rows core_cuts frac_master leaf_bound hub_fixing p_hub search_advice price_passes search_core
     search_steps par_separate branch_tree node_rounds closing_search cert_scan cert_format
-    dual_lender proof_text node_marks plan_lines tree_lines dual_lines core_lines cert_conditions cert_checker warm_start
+    dual_lender proof_text cert_lines dual_lines core_lines cert_conditions cert_checker warm_start
 """.split()
 STAND_INS = ["claim_board", "itoa", "memchr", "rayon", "rtrb"]
 # Modules that ask for more of the library than the stand-ins have, and that no search needs.
