@@ -10,7 +10,7 @@ ghost use Rattle.plan_model.specs.Assignments.{AreLeastRoutes, plan_of};
 use crate::Assignment;
 use crate::assignments::{PricedRoute, route_without_flow};
 use hub_model::{Instance, signed};
-use limited_duals::least_route;
+use leg_duals::least_route;
 use std::alloc::{AllocError, Global};
 
 /// The cost of the hubs, and the least route of each commodity, of those that are allowed.

@@ -13,5 +13,5 @@ pub fn lacking(instance: &Instance, set: &HubSet) -> Option<(u32, u32)>
     requires { IsCandidateSet instance.now set.now }
     ensures { result ≡ lacking instance.now set.now }
 {
-    limited_duals::lacking(instance, set.members())
+    leg_duals::lacking(instance, set.members())
 }

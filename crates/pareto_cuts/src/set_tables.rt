@@ -9,7 +9,7 @@ ghost use Rattle.unit_duals.specs.Lengths.{no_legs};
 ghost use Rattle.pareto_cuts.specs.Separations.{AreTablesOf};
 
 use hub_model::Instance;
-use leg_tables::SetLegs;
+use leg_duals::SetLegs;
 use plan_model::HubSet;
 use std::alloc::{AllocError, Global};
 use std::marker::Model;

@@ -13,7 +13,7 @@ use Rattle.hub_spec.proofs.Sets.{All-from_contains}
 use Rattle.hub_spec.proofs.Commodities.{length_commodities, take_commodities_more, take_commodities_all, commodity_nodes}
 use Rattle.hub_spec.proofs.Limits.{ceiling_parts, flow_of, flows_by_commodity, flow_within, commodities_are_nodes}
 use Rattle.hub_spec.proofs.SetCutFunction.{IsListed, all_listed, listed_ascends}
-use Rattle.leg_tables.specs.CandidateLegs.{length_ceiling}
+use Rattle.leg_duals.specs.CandidateLegs.{length_ceiling}
 use Rattle.value_cuts.specs.Values.{node_value, value_dual, ValueRows, AreValuesFor, commodity_number, row_for, value_cut}
 use Rattle.value_cuts.specs.Prices.{row_price, AreRowPrices}
 use Rattle.value_cuts.proofs.NodeValues.{node_value_within}

@@ -31,7 +31,7 @@ fn lacked(alloc: Global, instance: &Instance, hubs: &[u32]) -> Result<String, Al
         return String::from_str(alloc, "no candidates");
     }
     let plain = test_plain::lacking(instance, hubs);
-    let fast = limited_duals::lacking(instance, hubs);
+    let fast = leg_duals::lacking(instance, hubs);
     let set = HubSet::of(alloc, hubs)?;
     let of_set = assign_sub::lacking(instance, &set);
     format!(in alloc; "{plain:?} {fast:?} {of_set:?}")

@@ -1,6 +1,6 @@
 use Rattle.std.proofs.Common.{◌≡◌, ◌+◌, slice_index}
 use Rattle.unit_duals.specs.Leasts.{least_of}
-use Rattle.leg_tables.specs.CandidateLegs.{length_ceiling}
+use Rattle.leg_duals.specs.CandidateLegs.{length_ceiling}
 use Rattle.value_cuts.specs.Values.{if_allowed}
 use Rattle.value_cuts.proofs.allowed.least_single.Given as goal
 

@@ -2,7 +2,7 @@ use Rattle.std.proofs.Common.{ℕ, ◌+◌, ◌<◌, ◌≤◌, length, slice_in
 use Rattle.std.proofs.lemmas.List.Elements.{All-get_or}
 use Rattle.unit_duals.specs.Limits.{most_leg}
 use Rattle.value_cuts.specs.Values.{node_value}
-use Rattle.leg_tables.proofs.CandidateTables.{ceiling_limit}
+use Rattle.leg_duals.proofs.CandidateTables.{ceiling_limit}
 use Rattle.value_cuts.proofs.NodeValues.{worked_value, node_value_within}
 use Rattle.value_cuts.proofs.Ends.{ends_none, ends_more, ends_all}
 use Rattle.value_cuts.proofs.pricing.set_ends.Goals as goal
