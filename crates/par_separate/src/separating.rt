@@ -15,11 +15,10 @@ use crate::origin_duals::DualsByOrigin;
 use crate::origins::SumsByOrigin;
 use crew::answers;
 use cut_pool::CutSums;
-use dual_cuts::Cut;
 use hub_io::Gate;
 use hub_model::Instance;
 use pareto_cuts::{Separation, SetTables};
-use plan_model::{Dual, HubSet};
+use plan_model::{Cut, Dual, HubSet};
 use std::alloc::{AllocError, Global};
 use std::thread::Threads;
 

@@ -7,3 +7,6 @@ pub mod OutsideNodes
 pub mod ServedCommodities
 pub mod AllowedRoutes
 pub mod CandidateNodes
+pub mod WholeCuts
+pub mod SignedSums
+pub mod RowLoads

@@ -5,3 +5,4 @@ pub mod Lines
 pub mod Assignments
 pub mod FirstRoutes
 pub mod Values
+pub mod HubCuts
