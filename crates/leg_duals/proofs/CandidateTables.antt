@@ -4,7 +4,6 @@ use Rattle.std.proofs.lemmas.Nat.{mul-le}
 use Rattle.std.proofs.lemmas.List.Elements.{All-get_or, All-head, All-tail}
 use Rattle.hub_spec.specs.Limits.{most_distance, most_factor}
 use Rattle.hub_spec.specs.Problem.{Problem, distance, greatest, IsProblem}
-use Rattle.hub_spec.proofs.Limits.{few_candidates}
 use Rattle.unit_duals.specs.Cells.{cell, IsTable}
 use Rattle.unit_duals.specs.Raised.{IsRowSet}
 use Rattle.unit_duals.specs.Lengths.{IsLegRow}
@@ -12,11 +11,9 @@ use Rattle.unit_duals.specs.Limits.{most_leg, most_length}
 use Rattle.unit_duals.proofs.TableCells.{table_more, cell_within, row_within}
 use Rattle.unit_duals.proofs.SetStretches.{table_row}
 use Rattle.unit_duals.proofs.LegRows.{leg_row}
-use Rattle.leg_duals.specs.CandidateLegs.{candidate_at, collection_length, trunk_length, delivery_length, length_ceiling, IsLegTable}
+use Rattle.plan_model.specs.CandidateLengths.{candidate_at, length_ceiling}
+use Rattle.leg_duals.specs.CandidateLegs.{collection_length, trunk_length, delivery_length, IsLegTable}
 use Rattle.leg_duals.proofs.LegLimits.{distance_limit, leg_limit}
-
-pub few_places : (p : Problem) → IsProblem p → length p.candidates ≤ p.size
-few_places p ok = few_candidates p.candidates p.size ok.candidates_ascend ok.candidates_are_nodes
 
 pub candidate_node : (p : Problem) (x : ℕ) → IsProblem p → x < length p.candidates → candidate_at p x < p.size
 candidate_node p x ok within = All-get_or (λ k. k < p.size) p.candidates x 0 within ok.candidates_are_nodes

@@ -3,7 +3,8 @@ use Rattle.std.specs.Prelude.{◌≡◌, ◌*◌, ◌≤◌, length, vec_capacit
 use Rattle.hub_spec.specs.Problem.{IsProblem, greatest}
 use Rattle.unit_duals.specs.Limits.{most_room}
 use Rattle.unit_duals.specs.Lengths.{UnitLegs, AreLegs}
-use Rattle.leg_duals.specs.CandidateLegs.{collection_length, trunk_length, delivery_length, length_ceiling, IsLegTable}
+use Rattle.plan_model.specs.CandidateLengths.{length_ceiling}
+use Rattle.leg_duals.specs.CandidateLegs.{collection_length, trunk_length, delivery_length, IsLegTable}
 use Rattle.leg_duals.specs.declared.candidate_legs.CandidateLegs.TheInside.{Inside as CandidateInside}
 use Rattle.leg_duals.specs.declared.set_legs.SetLegs.TheInside.{Inside}
 use Rattle.leg_duals.specs.declared.first_legs.FirstLegs.TheInside.{Inside as FirstInside}

@@ -6,7 +6,8 @@ ghost use Rattle.hub_spec.specs.Problem.{IsProblem, greatest};
 ghost use Rattle.unit_duals.specs.Cells.{cell};
 ghost use Rattle.unit_duals.specs.Limits.{most_length};
 ghost use Rattle.unit_duals.specs.Lengths.{IsLegRow};
-ghost use Rattle.leg_duals.specs.CandidateLegs.{collection_length, trunk_length, delivery_length, length_ceiling, IsLegTable};
+ghost use Rattle.plan_model.specs.CandidateLengths.{length_ceiling};
+ghost use Rattle.leg_duals.specs.CandidateLegs.{collection_length, trunk_length, delivery_length, IsLegTable};
 
 use crate::candidate_filling::{
     ceiling_of, farthest_of, places_of, set_between, set_collect, set_deliver,

@@ -6,3 +6,4 @@ pub mod Assignments
 pub mod FirstRoutes
 pub mod Values
 pub mod HubCuts
+pub mod CandidateLengths

@@ -1,7 +1,7 @@
 //! The prices of one origin, as a block of work.
 
 ghost use Rattle.std.specs.Prelude.{◌≡◌, ◌<◌, length};
-ghost use Rattle.value_cuts.specs.Values.{AreValuesFor};
+ghost use Rattle.cut_model.specs.ValueRows.{AreValuesFor};
 ghost use Rattle.value_cuts.specs.Origins.{IsPriceRow};
 
 use crate::{CandidateLegs, PriceScratch, Values, set_origin_prices};

@@ -1,7 +1,7 @@
 //! The prices of all commodities, by workers side by side.
 
 ghost use Rattle.std.specs.Prelude.{◌≡◌, ◌*◌, ◌≤◌, length, OnOk};
-ghost use Rattle.value_cuts.specs.Values.{AreValuesFor};
+ghost use Rattle.cut_model.specs.ValueRows.{AreValuesFor};
 ghost use Rattle.value_cuts.specs.Prices.{AreRowPrices};
 
 use crate::origins::PricesByOrigin;

@@ -1,8 +1,8 @@
 -- The values that are held.
 use Rattle.std.specs.Prelude.{◌≡◌, ℕ, ◌*◌, ◌≤◌, replicate, vec_len}
 use Rattle.hub_spec.specs.Limits.{most_nodes}
-use Rattle.value_cuts.specs.Values.{ValueRows}
-use Rattle.value_cuts.specs.declared.values.Values.TheInside.{Inside}
+use Rattle.cut_model.specs.ValueRows.{ValueRows}
+use Rattle.cut_model.specs.declared.value_rows.Values.TheInside.{Inside}
 
 -- the rows that the fields stand for
 abbrev pub held_rows : Inside → ValueRows

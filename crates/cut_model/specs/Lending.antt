@@ -1,8 +1,8 @@
 -- Values whose rows are lent to be written.
 use Rattle.std.specs.Prelude.{ℕ, List, ◌++◌, length, take, drop}
 use Rattle.std.specs.Borrow.{Lends, MutBor, Fml, Array, u32}
-use Rattle.value_cuts.specs.Values.{ValueRows}
-use Rattle.value_cuts.specs.contracts.values.Values.{the_row}
+use Rattle.cut_model.specs.ValueRows.{ValueRows}
+use Rattle.cut_model.specs.contracts.value_rows.Values.{the_row}
 
 -- a list with these numbers in the place of its own. A list of another length is cut, or filled up from the list's own
 abbrev pub overwritten : List ℕ → List ℕ → List ℕ

@@ -2,10 +2,10 @@
 
 ghost use Rattle.std.specs.Prelude.{◌≡◌, ◌+◌, ◌*◌, ◌<◌, ◌≤◌, length, slice_range, IfOk};
 ghost use Rattle.hub_spec.specs.Limits.{most_nodes};
-ghost use Rattle.value_cuts.specs.Values.{commodity_number, row_for, AreValuesFor};
+ghost use Rattle.cut_model.specs.ValueRows.{commodity_number, row_for, AreValuesFor};
 ghost use Rattle.std.specs.Borrow.{sem};
-ghost use Rattle.value_cuts.specs.HeldRows.{no_values, IsSameShape};
-ghost use Rattle.value_cuts.specs.Lending.{LendsRows, LendsFrom};
+ghost use Rattle.cut_model.specs.HeldRows.{no_values, IsSameShape};
+ghost use Rattle.cut_model.specs.Lending.{LendsRows, LendsFrom};
 
 use hub_model::Instance;
 use std::alloc::{AllocError, Global};
@@ -23,8 +23,8 @@ pub struct Values {
 }
 
 impl Model for Values {
-    ghost use Rattle.value_cuts.specs.Values.{ValueRows};
-    ghost use Rattle.value_cuts.specs.HeldRows.{held_rows, AreHeldRows};
+    ghost use Rattle.cut_model.specs.ValueRows.{ValueRows};
+    ghost use Rattle.cut_model.specs.HeldRows.{held_rows, AreHeldRows};
 
     ghost Value = { ValueRows };
 
@@ -35,7 +35,7 @@ impl Model for Values {
 
 impl Values {
     /// Values in this unit for the instance's commodities and candidates, all 0.
-    #[tactic(auto, using(leg_duals::proofs::CandidateTables::few_places))]
+    #[tactic(auto, using(plan_model::proofs::CandidateNodes::few_places))]
     pub fn new(alloc: Global, instance: &Instance, unit: u32) -> Result<Values, AllocError>
         ensures none { IfOk result (λ v. v ≡ no_values instance.now.size (length instance.now.candidates) unit) }
         ensures fit { IfOk result (AreValuesFor instance.now) }
@@ -130,7 +130,7 @@ impl Values {
     }
 
     /// The row of the commodity of this number.
-    pub(crate) fn row_at(&self, number: usize) -> &[u32]
+    pub fn row_at(&self, number: usize) -> &[u32]
         requires { number < self.now.size * self.now.size }
         ensures row { let start = number * self.now.places in
             result.now ≡ slice_range self.now.items start (start + self.now.places) }

@@ -5,8 +5,8 @@ use Rattle.std.proofs.lemmas.List.Elements.{Contains-get_or}
 use Rattle.hub_spec.specs.Problem.{Problem, IsProblem}
 use Rattle.hub_spec.specs.Cuts.{value_at}
 use Rattle.hub_spec.proofs.Sets.{Contains-head, Contains-later, ascend_head, ascend_tail}
-use Rattle.leg_duals.specs.CandidateLegs.{candidate_at, length_ceiling}
-use Rattle.value_cuts.specs.Values.{node_value}
+use Rattle.plan_model.specs.CandidateLengths.{candidate_at, length_ceiling}
+use Rattle.cut_model.specs.ValueRows.{node_value}
 
 -- no value is above the ceiling
 pub node_value_within : (p : Problem) (unit : ℕ) (row : List ℕ) (k : ℕ) → node_value p unit row k ≤ length_ceiling p
