@@ -13,11 +13,11 @@ use closing_search::{Task, optimize_within};
 use cut_pool::Found;
 use hub_model::Instance;
 use hub_words::Search;
-use old_duals::first_values;
 use price_passes::Adviser;
 use search_advice::Advice;
 use std::alloc::{AllocError, Global};
 use std::thread::Threads;
+use warm_start::first_values;
 
 /// What the search finds for the instance, where all candidates together are feasible for each commodity. The gap that it
 /// may leave is in thousandths of a per cent of the cost. It begins with what the older certificate says, and trusts

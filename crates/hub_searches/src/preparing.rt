@@ -19,10 +19,9 @@ use hub_io::{ReadEnd, Shelf, read_whole};
 use hub_model::Instance;
 use hub_sources::Halt;
 use hub_words::How;
-use old_duals::read_sized;
 use std::alloc::{AllocError, Global};
 use std::thread::Threads;
-use warm_start::start_of;
+use warm_start::{read_sized, start_of};
 
 /// What is prepared for a search.
 #[derive(Drop)]

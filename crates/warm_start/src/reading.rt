@@ -3,7 +3,7 @@
 ghost use Rattle.std.specs.Prelude.{◌≡◌, ◌↔◌, IfOk, IsTrue};
 ghost use Rattle.hub_spec.specs.Problem.{IsProblem};
 ghost use Rattle.cert_checker.specs.Shows.{older_of};
-ghost use Rattle.old_duals.specs.Sized.{IsOfSize, IsSized, IsSizedAs};
+ghost use Rattle.warm_start.specs.Sized.{IsOfSize, IsSized, IsSizedAs};
 
 use cert_checker::{Kind, MOST_CERTIFICATE_BYTES, Older};
 use cert_format::{CertFault, Certificate, read_cert};
