@@ -14,9 +14,9 @@ use Rattle.search_steps.specs.Advising.{parts_of}
 use Rattle.search_core.specs.declared.tasks.Task.{Task}
 use Rattle.search_steps.specs.declared.progress.Progress.{Progress}
 use Rattle.search_steps.specs.Progressing.{state_of, IsGoing, IsAt}
-use Rattle.rounds_spec.specs.Places as places
-use Rattle.rounds_spec.specs.Places.{line, open_at}
-use Rattle.rounds_spec.specs.Turns.{Closed, closed_up}
+use Rattle.search_spec.specs.Places as places
+use Rattle.search_spec.specs.Places.{line, open_at}
+use Rattle.search_spec.specs.Turns.{Closed, closed_up}
 use Rattle.node_rounds.specs.declared.outcomes.Pending.{Pending}
 use Rattle.node_rounds.specs.declared.left.Mark.{Mark}
 use Rattle.node_rounds.specs.declared.left.Mark.TheVariants.{Line, Node}

@@ -7,7 +7,7 @@ use Rattle.cut_pool.specs.Entries.{Entry}
 use Rattle.search_core.specs.declared.tasks.Task.{Task}
 use Rattle.search_steps.specs.Pools.{HasGrown}
 use Rattle.search_steps.specs.Progressing.{state_of, IsGoing}
-use Rattle.rounds_spec.specs.Places as places
+use Rattle.search_spec.specs.Places as places
 use Rattle.node_rounds.specs.declared.fronts.Place.{Place}
 use Rattle.node_rounds.specs.declared.fronts.Place.TheVariants.{Line, Open}
 use Rattle.node_rounds.specs.declared.fronts.Front.{Front}

@@ -8,8 +8,8 @@ use Rattle.cut_pool.specs.Findings.{lines_of}
 use Rattle.search_core.specs.declared.tasks.Task.{Task}
 use Rattle.search_steps.specs.Progressing.{state_of, IsGoing}
 use Rattle.search_steps.specs.declared.progress.Progress.{Progress}
-use Rattle.rounds_spec.specs.Places as places
-use Rattle.rounds_spec.specs.Turns.{most_turns}
+use Rattle.search_spec.specs.Places as places
+use Rattle.search_spec.specs.Turns.{most_turns}
 use Rattle.node_rounds.specs.declared.outcomes.Pending.{Pending}
 use Rattle.node_rounds.specs.declared.left.Mark.{Mark}
 use Rattle.node_rounds.specs.declared.left.Mark.TheVariants.{Line, Node}

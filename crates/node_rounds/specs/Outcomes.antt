@@ -11,8 +11,8 @@ use Rattle.search_steps.specs.Advising.{told_by, parts_of}
 use Rattle.search_steps.specs.Weights.{AreNodeWeights, pairs_of, sides_as}
 use Rattle.search_steps.specs.Pools.{IsSumsOf, InEachStateAt}
 use Rattle.search_steps.specs.FixingsLeft.{AreOnFree}
-use Rattle.rounds_spec.specs.Places as places
-use Rattle.rounds_spec.specs.Turns.{most_waits, turn}
+use Rattle.search_spec.specs.Places as places
+use Rattle.search_spec.specs.Turns.{most_waits, turn}
 use Rattle.node_rounds.specs.declared.outcomes.Pending.{Pending}
 use Rattle.node_rounds.specs.declared.outcomes.Outcome.{Outcome}
 use Rattle.node_rounds.specs.declared.outcomes.Outcome.TheVariants.{Ends, Ask, Split}

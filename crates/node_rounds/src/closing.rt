@@ -8,7 +8,7 @@ ghost use Rattle.search_spec.specs.Steps.{unless_ended, stopped_leaf};
 ghost use Rattle.search_steps.specs.Advising.{parts_of};
 ghost use Rattle.search_steps.specs.Weights.{pairs_of};
 ghost use Rattle.search_steps.specs.Progressing.{state_of, IsGoing, IsAt};
-ghost use Rattle.rounds_spec.specs.Turns.{closed_up};
+ghost use Rattle.search_spec.specs.Turns.{closed_up};
 ghost use Rattle.node_rounds.specs.Outcomes.{IsPendingOf};
 ghost use Rattle.node_rounds.specs.Left.{standing_of, IsLeft};
 

@@ -4,7 +4,7 @@ ghost use Rattle.std.specs.Prelude.{◌≡◌, ◌<◌, ◌≤◌, ◌^◌, None
 ghost use Rattle.std.specs.List.{AllZip};
 ghost use denote.Param.Send.{IsSync};
 ghost use Rattle.hub_spec.specs.Problem.{IsProblem};
-ghost use Rattle.rounds_spec.specs.Turns.{most_turns};
+ghost use Rattle.search_spec.specs.Turns.{most_turns};
 ghost use Rattle.search_steps.specs.Pools.{IsPoolOf};
 ghost use Rattle.node_rounds.specs.Outcomes.{IsPendingOf, IsTurnOf, IsOutcomeOf};
 ghost use Rattle.node_rounds.specs.Rounds.{IsRound, IsTurnAt};

@@ -6,7 +6,7 @@ ghost use Rattle.search_steps.specs.Advising.{told_by, parts_of};
 ghost use Rattle.search_steps.specs.Weights.{sides_as};
 ghost use Rattle.search_steps.specs.Progressing.{state_of};
 ghost use Rattle.search_steps.specs.FixingsLeft.{AreOnFree};
-ghost use Rattle.rounds_spec.specs.Turns.{halved, after_fixings, split_up};
+ghost use Rattle.search_spec.specs.Turns.{halved, after_fixings, split_up};
 ghost use Rattle.node_rounds.specs.Outcomes.{pending_of, IsPendingOf};
 ghost use Rattle.node_rounds.specs.Fronts.{IsFront, IsTaken};
 

@@ -7,7 +7,7 @@ ghost use Rattle.hub_spec.specs.Trees.{IsBranch};
 ghost use Rattle.search_steps.specs.Advising.{parts_of};
 ghost use Rattle.search_steps.specs.Kinds.{minimal};
 ghost use Rattle.search_steps.specs.Progressing.{state_of, IsGoing, IsAt};
-ghost use Rattle.rounds_spec.specs.Turns.{with_set, taken};
+ghost use Rattle.search_spec.specs.Turns.{with_set, taken};
 ghost use Rattle.node_rounds.specs.Outcomes.{pending_of, outcome_of, AreSumsOver, IsOutcomeOf};
 ghost use Rattle.node_rounds.specs.Fronts.{IsFront, IsTaken};
 

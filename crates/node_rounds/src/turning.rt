@@ -10,7 +10,7 @@ ghost use Rattle.search_spec.specs.Steps.{better};
 ghost use Rattle.search_steps.specs.Advising.{parts_of};
 ghost use Rattle.search_steps.specs.Pools.{IsPoolOf, InEachState, InEachStateAt};
 ghost use Rattle.search_steps.specs.Weights.{AreNodeWeights, AreWeighed, pairs_of};
-ghost use Rattle.rounds_spec.specs.Turns.{most_waits, turn_alone, turn_advised};
+ghost use Rattle.search_spec.specs.Turns.{most_waits, turn_alone, turn_advised};
 ghost use Rattle.node_rounds.specs.Outcomes.{pending_of, IsPendingOf, outcome_of, IsTurnOf, IsOutcomeOf};
 
 use crate::outcomes::{Outcome, Pending};

@@ -3,7 +3,7 @@ use Rattle.plan_model.specs.declared.tree_lines.TreeLine as model
 use Rattle.plan_model.specs.Lines.{tree_line_of}
 use Rattle.search_steps.specs.declared.progress.Progress.{Progress}
 use Rattle.search_steps.specs.Progressing.{state_of, IsAt}
-use Rattle.rounds_spec.specs.Turns.{Closed}
+use Rattle.search_spec.specs.Turns.{Closed}
 use Rattle.node_rounds.specs.declared.outcomes.Pending.{Pending}
 use Rattle.node_rounds.specs.declared.left.Mark.{Mark}
 use Rattle.node_rounds.specs.declared.left.Mark.TheVariants.{Line}

@@ -14,9 +14,9 @@ use Rattle.search_steps.proofs.LeafPairs.{weights_fit}
 use Rattle.search_steps.proofs.GivenPools.{weights_stay, grown_twice}
 use Rattle.search_steps.specs.Progressing.{state_of}
 use Rattle.search_steps.specs.FixingsLeft.{AreOnFree}
-use Rattle.rounds_spec.specs.Places.{line, Standing}
-use Rattle.rounds_spec.specs.Turns.{split_up}
-use Rattle.rounds_spec.proofs.StepCases.{more_free, split_none, split_full}
+use Rattle.search_spec.specs.Places.{line, Standing}
+use Rattle.search_spec.specs.Turns.{split_up}
+use Rattle.search_spec.proofs.RoundCases.{more_free, split_none, split_full}
 use Rattle.node_rounds.specs.Outcomes.{pending_of}
 use Rattle.node_rounds.proofs.Added.{taken_then, taken_as, on_child, split_open, split_closed}
 use Rattle.search_steps.proofs.LeftFixings.{first_of, others_of, sides_split, none_left, on_free_in_child}

@@ -7,8 +7,8 @@ use Rattle.search_spec.specs.States.{number_in_pool}
 use Rattle.search_steps.specs.Advising.{parts_of}
 use Rattle.search_steps.specs.Pools.{state_by, InEachState, InEachStateAt}
 use Rattle.search_steps.proofs.ToldChoices.{told_end, told_no_end, told_alone, told_none_alone}
-use Rattle.rounds_spec.specs.Places.{ends}
-use Rattle.rounds_spec.specs.Turns.{turn, turn_alone, turn_advised}
+use Rattle.search_spec.specs.Places.{ends}
+use Rattle.search_spec.specs.Turns.{turn, turn_alone, turn_advised}
 use Rattle.node_rounds.specs.declared.outcomes.Outcome.{Outcome}
 use Rattle.node_rounds.specs.Outcomes.{pending_of, outcome_of}
 use Rattle.node_rounds.proofs.TurnCases.{end_tree, end_is_one, turn_barren, turn_blocked, turn_only, turn_open}
