@@ -11,7 +11,7 @@ ghost use Rattle.node_rounds.specs.Rounds.{IsRound, IsTurnAt};
 
 use crate::outcomes::{Outcome, Pending};
 use crate::turning::{turn, turn_ahead};
-use crew::{Job, answers};
+use claim_board::{Job, answers};
 use cut_pool::Pool;
 use hub_io::Gate;
 use hub_model::Instance;

@@ -4,7 +4,7 @@ ghost use Rattle.std.specs.Prelude.{◌≡◌, ◌<◌, ◌≤◌, IfOk};
 ghost use Rattle.pareto_cuts.specs.UnitCosts.{AreDualsFrom};
 ghost use Rattle.par_separate.specs.Origins.{IsWhole, AreMinimalDualsFrom};
 
-use crew::Job;
+use claim_board::Job;
 use pareto_cuts::{DualBuffer, OriginScratch, Separation};
 use plan_model::Dual;
 use std::alloc::{AllocError, Global};

@@ -13,7 +13,7 @@ use crate::adding::added;
 use crate::joining::joined;
 use crate::origin_duals::DualsByOrigin;
 use crate::origins::SumsByOrigin;
-use crew::answers;
+use claim_board::answers;
 use cut_pool::CutSums;
 use hub_io::Gate;
 use hub_model::Instance;

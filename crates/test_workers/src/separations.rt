@@ -9,8 +9,7 @@ ghost use Rattle.par_separate.specs.Origins.{IsWhole};
 
 use crate::gates::Watch;
 use crate::instances::{first_alone, line_of_three, of_the_plane};
-use claim_board::Board;
-use crew::Row;
+use claim_board::{Board, Row};
 use cut_pool::CutSums;
 use hub_io::{Gate, OpenGate};
 use hub_model::Instance;

@@ -7,7 +7,7 @@ ghost use Rattle.value_cuts.specs.Prices.{AreRowPrices};
 use crate::origins::PricesByOrigin;
 use crate::rows::put_rows;
 use crate::{CandidateLegs, PriceScratch, Values};
-use crew::answers;
+use claim_board::answers;
 use hub_io::OpenGate;
 use std::alloc::{AllocError, Global};
 use std::thread::Threads;
