@@ -5,7 +5,7 @@ ghost use Rattle.hub_spec.specs.Limits.{most_cost};
 ghost use Rattle.hub_spec.specs.Problem.{route_cost, IsProblem};
 ghost use Rattle.hub_spec.specs.Plans.{IsHubSet, IsLeastRoute, IsSetCost, plan_cost};
 ghost use Rattle.hub_model.specs.Amounts.{natural};
-ghost use Rattle.plan_model.specs.Assignments.{AreLeastRoutes, plan_of};
+ghost use Rattle.hub_model.specs.Assignments.{AreLeastRoutes, plan_of};
 
 use crate::Assignment;
 use crate::assignments::{PricedRoute, route_without_flow};

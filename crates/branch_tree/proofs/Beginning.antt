@@ -11,8 +11,8 @@ use Rattle.hub_spec.specs.Lacking.{lacking}
 use Rattle.hub_spec.specs.Cuts.{Cut, load, IsCut}
 use Rattle.hub_spec.specs.Ranges.{IsCutInRange}
 use Rattle.hub_spec.proofs.SumLemmas.{by_test}
-use Rattle.plan_model.specs.Ascending.{IsAscendingSet}
-use Rattle.plan_model.specs.declared.tree_lines.TreeLine.{TreeLine}
+use Rattle.hub_model.specs.Ascending.{IsAscendingSet}
+use Rattle.hub_model.specs.declared.tree_lines.TreeLine.{TreeLine}
 use Rattle.search_spec.specs.States.{State, number_in_pool}
 use Rattle.search_spec.specs.Steps.{separated}
 use Rattle.search_spec.specs.Choices.{has_node, others, begun_for}

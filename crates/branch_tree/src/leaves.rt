@@ -13,7 +13,7 @@ ghost use Rattle.branch_tree.specs.Lines.{IsDone};
 
 use crate::lines::add_line;
 use crate::walk::Walk;
-use plan_model::{Branch, HubSet, outside};
+use hub_model::{Branch, HubSet, outside};
 use search_core::whole_leaf;
 use search_steps::{Rule, Separator, leaf_line, number_of, stopped_leaf};
 use std::alloc::AllocError;

@@ -12,8 +12,8 @@ ghost use Rattle.branch_tree.specs.Rounding.{round_as, IsRound};
 
 use crate::walk::Walk;
 use frac_master::Advice;
+use hub_model::Branch;
 use pareto_cuts::order_of;
-use plan_model::Branch;
 use search_steps::{Rule, Separator, node_advice, number_of};
 use std::alloc::AllocError;
 

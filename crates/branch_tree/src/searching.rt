@@ -15,8 +15,7 @@ ghost use Rattle.search_steps.specs.Kinds.{minimal, parts_for};
 
 use crate::walk::Walk;
 use cut_pool::Found;
-use hub_model::Instance;
-use plan_model::Branch;
+use hub_model::{Branch, Instance};
 use search_core::Task;
 use search_steps::{Progress, Rule, Separator, begin, finish};
 use std::alloc::{AllocError, Global};

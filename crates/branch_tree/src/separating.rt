@@ -9,7 +9,7 @@ ghost use Rattle.search_steps.specs.Kinds.{parts_for};
 ghost use Rattle.search_steps.specs.Progressing.{state_of, IsGoing, IsAt};
 
 use crate::walk::Walk;
-use plan_model::HubSet;
+use hub_model::HubSet;
 use search_steps::{Rule, Separator, separate};
 use std::alloc::AllocError;
 

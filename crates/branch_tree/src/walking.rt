@@ -15,8 +15,8 @@ ghost use Rattle.search_steps.specs.FixingsLeft.{AreOnFree};
 use crate::lines::{add_line, split_on};
 use crate::rounds::RoundEnd;
 use crate::walk::Walk;
+use hub_model::Branch;
 use leaf_bound::Side;
-use plan_model::Branch;
 use search_steps::{Rule, Separator, may_split, nearest};
 use std::alloc::AllocError;
 

@@ -9,8 +9,8 @@ ghost use Rattle.search_steps.specs.Weights.{AreNodeWeights, pairs_of, sides_as}
 ghost use Rattle.search_steps.specs.Progressing.{state_of, IsGoing};
 
 use crate::walk::Walk;
+use hub_model::Branch;
 use leaf_bound::Side;
-use plan_model::Branch;
 use search_steps::{NodeWeights, Rule, closes, is_better};
 use std::alloc::AllocError;
 

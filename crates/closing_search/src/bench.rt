@@ -10,9 +10,8 @@ ghost use Rattle.closing_search.specs.SingleCuts.{AreLoads};
 
 use crate::pricing::Pricing;
 use cut_pool::{KeptCut, PackedValues};
-use hub_model::Instance;
+use hub_model::{HubSet, Instance};
 use pareto_cuts::Scratch;
-use plan_model::HubSet;
 use std::alloc::{AllocError, Global};
 use std::marker::Model;
 use std::thread::Threads;

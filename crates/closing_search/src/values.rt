@@ -11,7 +11,7 @@ ghost use Rattle.closing_search.specs.Walking.{IsWalking, IsSameWalk};
 
 use crate::progress::may_split;
 use crate::walk::Walk;
-use plan_model::Branch;
+use hub_model::Branch;
 use std::alloc::AllocError;
 use std::thread::Threads;
 

@@ -5,7 +5,7 @@ use Rattle.std.proofs.lemmas.List.Elements.{Contains-get_or}
 use Rattle.hub_spec.specs.Problem.{Problem, IsProblem}
 use Rattle.hub_spec.specs.Cuts.{value_at}
 use Rattle.hub_spec.proofs.Sets.{Contains-head, Contains-later, ascend_head, ascend_tail}
-use Rattle.plan_model.specs.CandidateLengths.{candidate_at, length_ceiling}
+use Rattle.hub_model.specs.CandidateLengths.{candidate_at, length_ceiling}
 use Rattle.cut_model.specs.ValueRows.{node_value}
 
 -- no value is above the ceiling

@@ -13,7 +13,7 @@ use Rattle.hub_spec.proofs.Sets.{All-from_contains}
 use Rattle.hub_spec.proofs.Commodities.{length_commodities}
 use Rattle.hub_spec.proofs.Limits.{ceiling_parts, flow_of, flows_by_commodity, flow_within, commodities_are_nodes}
 use Rattle.hub_spec.proofs.SetCutFunction.{IsListed, all_listed, listed_ascends}
-use Rattle.plan_model.specs.CandidateLengths.{length_ceiling}
+use Rattle.hub_model.specs.CandidateLengths.{length_ceiling}
 use Rattle.cut_model.specs.ValueRows.{node_value, value_dual, ValueRows, row_for, value_cut}
 use Rattle.cut_model.proofs.NodeValues.{node_value_within}
 use Rattle.cut_model.proofs.ValueDuals.{price_within, dual_is, dual_price, dual_value_each}

@@ -12,7 +12,7 @@ use Rattle.hub_spec.proofs.SumLemmas.{by_test}
 use Rattle.hub_spec.proofs.SetCutFunction.{IsListed, all_listed, value_at_listed}
 use Rattle.unit_duals.specs.Leasts.{least_of}
 use Rattle.unit_duals.proofs.LeastNumbers.{least_of_le, least_of_le_start, least_of_is}
-use Rattle.plan_model.specs.CandidateLengths.{candidate_at, length_ceiling}
+use Rattle.hub_model.specs.CandidateLengths.{candidate_at, length_ceiling}
 use Rattle.cut_model.specs.ValueRows.{route_length, node_value, valued_length, if_allowed, allowed_price, value_dual}
 use Rattle.cut_model.proofs.NodeValues.{unlisted_none}
 

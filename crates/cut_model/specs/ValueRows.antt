@@ -4,7 +4,7 @@ use Rattle.hub_spec.specs.Problem.{Problem, flow, distance, is_allowed, commodit
 use Rattle.hub_spec.specs.Cuts.{Prices, value_at, Cut, cut_by}
 use Rattle.hub_spec.specs.Separation.{values_listed}
 use Rattle.unit_duals.specs.Leasts.{least_of}
-use Rattle.plan_model.specs.CandidateLengths.{candidate_at, length_ceiling}
+use Rattle.hub_model.specs.CandidateLengths.{candidate_at, length_ceiling}
 
 -- what a unit of flow costs from i to j by way of k first and m last, in 10^-6
 unfoldable pub route_length : Problem → ℕ → ℕ → ℕ → ℕ → ℕ

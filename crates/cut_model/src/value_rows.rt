@@ -35,7 +35,7 @@ impl Model for Values {
 
 impl Values {
     /// Values in this unit for the instance's commodities and candidates, all 0.
-    #[tactic(auto, using(plan_model::proofs::CandidateNodes::few_places))]
+    #[tactic(auto, using(hub_model::proofs::CandidateNodes::few_places))]
     pub fn new(alloc: Global, instance: &Instance, unit: u32) -> Result<Values, AllocError>
         ensures none { IfOk result (λ v. v ≡ no_values instance.now.size (length instance.now.candidates) unit) }
         ensures fit { IfOk result (AreValuesFor instance.now) }

@@ -4,7 +4,7 @@ use Rattle.std.proofs.lemmas.Bool.{cases_lt, cases_eq}
 use Rattle.std.proofs.lemmas.List.{get_or-set_same, get_or-set_other}
 use Rattle.std.proofs.lemmas.List.Kept.{AllPairs-from_increasing}
 use Rattle.hub_spec.specs.Problem.{Problem, IsProblem}
-use Rattle.plan_model.specs.CandidateLengths.{candidate_at}
+use Rattle.hub_model.specs.CandidateLengths.{candidate_at}
 use Rattle.dual_lines.specs.Places.{ArePlaces}
 use Rattle.leg_duals.proofs.CandidateTables.{candidate_node}
 

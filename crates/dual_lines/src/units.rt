@@ -8,7 +8,7 @@ ghost use Rattle.std.specs.Prelude.{◌≡◌, ℕ, ◌+◌, ◌*◌, ◌^◌, �
 ghost use Rattle.hub_spec.specs.Limits.{most_part};
 ghost use Rattle.hub_spec.specs.Ranges.{IsAmount};
 ghost use Rattle.unit_duals.specs.Limits.{most_leg};
-ghost use Rattle.plan_model.specs.CandidateLengths.{candidate_at};
+ghost use Rattle.hub_model.specs.CandidateLengths.{candidate_at};
 ghost use Rattle.dual_lines.specs.Covers.{IsCoveredFirst, IsCovered};
 ghost use Rattle.dual_lines.specs.Units.{most_unit, AreUnits, IsNearestFirst, IsNearestLast, AreNearEnds, IsCoveredInUnits, weighted_flow};
 

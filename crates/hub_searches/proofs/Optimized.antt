@@ -9,7 +9,7 @@ use Rattle.hub_spec.specs.Plans.{NoPlanBelow, IsLeastRoute}
 use Rattle.hub_spec.specs.Trees.{Tree, line_count, preorder}
 use Rattle.hub_spec.proofs.Preorders.{length-preorder}
 use Rattle.hub_spec.proofs.WeakDuality.{no_plan_below_bound}
-use Rattle.plan_model.specs.Lines.{tree_line_of}
+use Rattle.hub_model.specs.Lines.{tree_line_of}
 use Rattle.search_spec.specs.Costs.{IsAtMostOf, first_hubs}
 use Rattle.search_spec.specs.Findings.{AreWithin, IsSpent, IsEnough}
 use Rattle.cert_spec.specs.Text.{SpellsUnmarked}

@@ -8,7 +8,7 @@ use Rattle.hub_spec.specs.Problem.{Problem, IsProblem}
 use Rattle.hub_spec.specs.Plans.{IsHubSet}
 use Rattle.hub_spec.specs.Trees.{line_count}
 use Rattle.hub_spec.proofs.Preorders.{length-preorder}
-use Rattle.plan_model.specs.Lines.{tree_line_of}
+use Rattle.hub_model.specs.Lines.{tree_line_of}
 use Rattle.search_spec.specs.States.{Grown}
 use Rattle.search_spec.specs.Findings.{certificate_of}
 use Rattle.cert_spec.specs.Stated.{as_second, IsStatedOf}

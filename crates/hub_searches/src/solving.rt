@@ -19,10 +19,9 @@ use assign_sub::lacking;
 use cert_checker::Ending;
 use cut_pool::Found;
 use hub_io::{Gate, Shelf};
-use hub_model::Instance;
+use hub_model::{HubSet, Instance};
 use hub_sources::{Halt, read_instance};
 use hub_words::Solving;
-use plan_model::HubSet;
 use std::alloc::{AllocError, Global};
 use std::thread::Threads;
 

@@ -11,7 +11,7 @@ use Rattle.unit_duals.specs.Limits.{most_leg, most_length}
 use Rattle.unit_duals.proofs.TableCells.{table_more, cell_within, row_within}
 use Rattle.unit_duals.proofs.SetStretches.{table_row}
 use Rattle.unit_duals.proofs.LegRows.{leg_row}
-use Rattle.plan_model.specs.CandidateLengths.{candidate_at, length_ceiling}
+use Rattle.hub_model.specs.CandidateLengths.{candidate_at, length_ceiling}
 use Rattle.leg_duals.specs.CandidateLegs.{collection_length, trunk_length, delivery_length, IsLegTable}
 use Rattle.leg_duals.proofs.LegLimits.{distance_limit, leg_limit}
 

@@ -7,7 +7,7 @@ use Rattle.hub_spec.specs.Cuts.{Prices, value_at}
 use Rattle.hub_spec.specs.Separation.{IsOrder, IsMinimalDual, minimal_dual}
 use Rattle.hub_spec.proofs.SetCuts.{value_within}
 use Rattle.hub_spec.proofs.SetCutFunction.{minimal_dual_is, price_same}
-use Rattle.plan_model.proofs.AllowedRoutes.{set_has_route}
+use Rattle.hub_model.proofs.AllowedRoutes.{set_has_route}
 use Rattle.unit_duals.specs.Cells.{cell}
 use Rattle.leg_duals.specs.UnitDuals.{AreUnitDuals}
 use Rattle.leg_duals.proofs.LegLimits.{distance_limit, leg_limit}

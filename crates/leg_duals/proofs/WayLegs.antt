@@ -4,7 +4,7 @@ use Rattle.std.proofs.lemmas.Nat.{mul-add-lt}
 use Rattle.hub_spec.specs.Limits.{most_distance}
 use Rattle.hub_spec.specs.Problem.{Problem, distance}
 use Rattle.hub_spec.proofs.Limits.{hubs_are_nodes}
-use Rattle.plan_model.proofs.Turns.{order_nodes}
+use Rattle.hub_model.proofs.Turns.{order_nodes}
 use Rattle.unit_duals.specs.Limits.{most_leg}
 use Rattle.unit_duals.specs.Lengths.{stops}
 use Rattle.unit_duals.proofs.TableCells.{row_within}

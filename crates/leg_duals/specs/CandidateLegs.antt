@@ -2,7 +2,7 @@
 use Rattle.std.specs.Prelude.{◌≡◌, ℕ, ◌*◌, ◌<◌, List, length}
 use Rattle.hub_spec.specs.Problem.{Problem, distance}
 use Rattle.unit_duals.specs.Cells.{cell}
-use Rattle.plan_model.specs.CandidateLengths.{candidate_at}
+use Rattle.hub_model.specs.CandidateLengths.{candidate_at}
 
 -- collection from i to the candidate at place x
 abbrev pub collection_length : Problem → ℕ → ℕ → ℕ

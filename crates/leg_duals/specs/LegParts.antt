@@ -3,7 +3,7 @@ use Rattle.std.specs.Prelude.{◌≡◌, ◌*◌, ◌≤◌, length, vec_capacit
 use Rattle.hub_spec.specs.Problem.{IsProblem, greatest}
 use Rattle.unit_duals.specs.Limits.{most_room}
 use Rattle.unit_duals.specs.Lengths.{UnitLegs, AreLegs}
-use Rattle.plan_model.specs.CandidateLengths.{length_ceiling}
+use Rattle.hub_model.specs.CandidateLengths.{length_ceiling}
 use Rattle.leg_duals.specs.CandidateLegs.{collection_length, trunk_length, delivery_length, IsLegTable}
 use Rattle.leg_duals.specs.declared.candidate_legs.CandidateLegs.TheInside.{Inside as CandidateInside}
 use Rattle.leg_duals.specs.declared.set_legs.SetLegs.TheInside.{Inside}

@@ -5,14 +5,14 @@ ghost use Rattle.hub_spec.specs.Limits.{most_nodes, most_distance, most_factor};
 ghost use Rattle.hub_spec.specs.Problem.{distance, greatest, IsProblem};
 ghost use Rattle.unit_duals.specs.Limits.{most_length};
 ghost use Rattle.unit_duals.specs.Cells.{IsTable};
-ghost use Rattle.plan_model.specs.CandidateLengths.{candidate_at, length_ceiling};
+ghost use Rattle.hub_model.specs.CandidateLengths.{candidate_at, length_ceiling};
 ghost use Rattle.leg_duals.specs.CandidateLegs.{collection_length, trunk_length, delivery_length};
 
 use crate::filling::{set_row, set_trunk};
 use hub_model::Instance;
 
 /// The number of candidates.
-#[tactic(auto, using(plan_model::proofs::CandidateNodes::few_places))]
+#[tactic(auto, using(hub_model::proofs::CandidateNodes::few_places))]
 pub(crate) fn places_of(instance: &Instance) -> usize
     ensures value { result ≡ length instance.now.candidates }
     ensures limit { result ≤ instance.now.size }
@@ -22,7 +22,7 @@ pub(crate) fn places_of(instance: &Instance) -> usize
 }
 
 /// The ceiling of all lengths by unit of flow, by the greatest distance.
-#[tactic(auto, unfolding(plan_model::specs::CandidateLengths::length_ceiling))]
+#[tactic(auto, unfolding(hub_model::specs::CandidateLengths::length_ceiling))]
 pub(crate) fn ceiling_of(instance: &Instance, farthest: u64) -> u64
     requires value { farthest ≡ greatest instance.now.distances }
     requires limit { farthest ≤ most_distance }

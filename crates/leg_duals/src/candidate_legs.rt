@@ -6,7 +6,7 @@ ghost use Rattle.hub_spec.specs.Problem.{IsProblem, greatest};
 ghost use Rattle.unit_duals.specs.Cells.{cell};
 ghost use Rattle.unit_duals.specs.Limits.{most_length};
 ghost use Rattle.unit_duals.specs.Lengths.{IsLegRow};
-ghost use Rattle.plan_model.specs.CandidateLengths.{length_ceiling};
+ghost use Rattle.hub_model.specs.CandidateLengths.{length_ceiling};
 ghost use Rattle.leg_duals.specs.CandidateLegs.{collection_length, trunk_length, delivery_length, IsLegTable};
 
 use crate::candidate_filling::{

@@ -4,8 +4,8 @@ use Rattle.std.specs.List.{HoldsAt}
 use Rattle.std.proofs.lemmas.List.{drop-map, get_or-map, length-map}
 use Rattle.hub_spec.specs.Cuts.{Cut}
 use Rattle.hub_spec.specs.Problem.{Problem}
-use Rattle.plan_model.specs.declared.tree_lines.TreeLine as model
-use Rattle.plan_model.specs.Lines.{tree_line_of}
+use Rattle.hub_model.specs.declared.tree_lines.TreeLine as model
+use Rattle.hub_model.specs.Lines.{tree_line_of}
 use Rattle.hub_spec.specs.Trees.{TreeLine, Branching}
 use Rattle.cut_pool.specs.Findings.{lines_of}
 use Rattle.cut_pool.proofs.KeptCutLaws.{kept_part_is}

@@ -2,7 +2,7 @@
 use Rattle.std.proofs.Common.{◌≡◌, ℕ, ◌<◌, ◌≤◌, Bool, true, false, not, ◌&&◌, List, [], ◌∷◌, ◌++◌, map, length, All, Option, refl, ap, sym, subst, ◌∙◌, arith}
 use Rattle.hub_spec.specs.Problem.{Problem, IsProblem}
 use Rattle.hub_spec.specs.Trees.{root, TreeLine, preorder}
-use Rattle.plan_model.specs.Lines.{tree_line_of}
+use Rattle.hub_model.specs.Lines.{tree_line_of}
 use Rattle.cut_pool.specs.Findings.{lines_of}
 use Rattle.search_spec.specs.States.{State, is_stopped}
 use Rattle.search_spec.specs.Laws.{IsStart}

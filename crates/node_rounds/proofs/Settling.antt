@@ -3,7 +3,7 @@ use Rattle.std.proofs.Common.{◌≡◌, ◌≤◌, List, [], ◌∷◌, ◌++�
 use Rattle.std.proofs.lemmas.List.Elements.{All-push}
 use Rattle.hub_spec.specs.Limits.{most_tree_lines}
 use Rattle.hub_spec.specs.Problem.{Problem}
-use Rattle.plan_model.specs.declared.tree_lines.TreeLine as model
+use Rattle.hub_model.specs.declared.tree_lines.TreeLine as model
 use Rattle.cut_pool.specs.Entries.{Entry}
 use Rattle.search_core.specs.declared.tasks.Task.{Task}
 use Rattle.search_steps.specs.declared.progress.Progress.{Progress}

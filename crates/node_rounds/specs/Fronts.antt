@@ -1,7 +1,7 @@
 -- What came of the nodes of a round in code, in the words of the definition.
 use Rattle.std.specs.Prelude.{◌≡◌, List, ◌++◌, map, All}
 use Rattle.hub_spec.specs.Problem.{Problem}
-use Rattle.plan_model.specs.Lines.{tree_line_of}
+use Rattle.hub_model.specs.Lines.{tree_line_of}
 use Rattle.cut_pool.specs.Findings.{lines_of}
 use Rattle.cut_pool.specs.Entries.{Entry}
 use Rattle.search_core.specs.declared.tasks.Task.{Task}

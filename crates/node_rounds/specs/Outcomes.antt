@@ -4,7 +4,7 @@ use Rattle.hub_spec.specs.Problem.{Problem}
 use Rattle.hub_spec.specs.Plans.{IsHubSet}
 use Rattle.hub_spec.specs.Separation.{IsOrder}
 use Rattle.hub_spec.specs.Trees.{IsBranch, Tree, leaf, empty, block, count, TreeLine, branch_on, leaf_of, no_hub, no_route, no_count}
-use Rattle.plan_model.specs.Lines.{tree_line_of}
+use Rattle.hub_model.specs.Lines.{tree_line_of}
 use Rattle.frac_master.specs.Advice.{advice_of_code}
 use Rattle.cut_pool.specs.Entries.{Sums, Entry, entry_of}
 use Rattle.search_steps.specs.Advising.{told_by, parts_of}

@@ -2,7 +2,7 @@
 
 ghost use Rattle.std.specs.Prelude.{◌≡◌, ◌∷◌, [], None, IfOk, OnOk};
 ghost use Rattle.hub_spec.specs.Trees.{preorder};
-ghost use Rattle.plan_model.specs.Lines.{tree_line_of};
+ghost use Rattle.hub_model.specs.Lines.{tree_line_of};
 ghost use Rattle.cut_pool.specs.Findings.{lines_of};
 ghost use Rattle.search_spec.specs.Steps.{unless_ended, stopped_leaf};
 ghost use Rattle.search_steps.specs.Advising.{parts_of};
@@ -14,7 +14,7 @@ ghost use Rattle.node_rounds.specs.Left.{standing_of, IsLeft};
 
 use crate::left::{Left, Mark};
 use crate::outcomes::Pending;
-use plan_model::TreeLine;
+use hub_model::TreeLine;
 use search_core::{Task, add_line};
 use search_steps::{Plain, Progress, Rule, stopped_leaf};
 use std::alloc::{AllocError, Global};

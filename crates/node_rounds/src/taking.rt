@@ -15,7 +15,7 @@ use crate::fronts::{Front, add_line, add_node};
 use crate::outcomes::{Outcome, Pending};
 use crate::splitting::split_up;
 use cut_pool::CutSums;
-use plan_model::HubSet;
+use hub_model::HubSet;
 use search_core::Task;
 use search_steps::{Progress, Separated, Separator, keep, number_of, separate};
 use std::alloc::{AllocError, Global};

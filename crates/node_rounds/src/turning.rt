@@ -15,9 +15,8 @@ ghost use Rattle.node_rounds.specs.Outcomes.{pending_of, IsPendingOf, outcome_of
 
 use crate::outcomes::{Outcome, Pending};
 use cut_pool::Pool;
-use hub_model::Instance;
+use hub_model::{Branch, HubSet, Instance, outside};
 use pareto_cuts::order_of;
-use plan_model::{Branch, HubSet, outside};
 use search_core::whole_leaf;
 use search_steps::{NodeWeights, Plain, Rule, Solo, closes, is_better, leaf_line, node_advice};
 use std::alloc::{AllocError, Global};

@@ -8,8 +8,7 @@ ghost use Rattle.search_steps.specs.Pools.{IsSumsOf};
 ghost use Rattle.search_steps.specs.Kinds.{minimal};
 
 use cut_pool::CutSums;
-use hub_model::Instance;
-use plan_model::HubSet;
+use hub_model::{HubSet, Instance};
 use search_steps::{Separated, Separator};
 use std::alloc::{AllocError, Global};
 

@@ -16,9 +16,8 @@ use crate::origins::SumsByOrigin;
 use claim_board::answers;
 use cut_pool::CutSums;
 use hub_io::Gate;
-use hub_model::Instance;
+use hub_model::{Cut, Dual, HubSet, Instance};
 use pareto_cuts::{Separation, SetTables};
-use plan_model::{Cut, Dual, HubSet};
 use std::alloc::{AllocError, Global};
 use std::thread::Threads;
 

@@ -10,8 +10,8 @@ use crate::origin_duals::DualsByOrigin;
 use crate::origins::SumsByOrigin;
 use claim_board::{Board, Crop, Seat};
 use hub_io::Gate;
+use hub_model::Dual;
 use pareto_cuts::Separation;
-use plan_model::Dual;
 use std::alloc::{AllocError, Global};
 
 // The least number of nodes at which workers are worth their start.

@@ -5,7 +5,7 @@ use Rattle.hub_spec.specs.Separation.{minimal_dual}
 use Rattle.hub_spec.proofs.Limits.{hubs_are_nodes}
 use Rattle.hub_spec.proofs.PlanCosts.{any_allowed}
 use Rattle.hub_spec.proofs.SetCutFunction.{price_same}
-use Rattle.plan_model.proofs.Turns.{order_nodes}
+use Rattle.hub_model.proofs.Turns.{order_nodes}
 use Rattle.unit_duals.specs.Cells.{cell}
 use Rattle.unit_duals.specs.Lengths.{stops, alone, way}
 use Rattle.unit_duals.specs.LeastValues.{IsAsked as IsAskedOf, nothing as asked_nothing, by_itself as asked_by_itself, to_hub as asked_to_hub, from_hub as asked_from_hub, to_earlier as asked_to_earlier, from_earlier as asked_from_earlier, IsLeastValue, ArePrices, AreLeastValues}

@@ -8,7 +8,7 @@ use Rattle.hub_spec.specs.Plans.{IsHubSet, IsSetCost}
 use Rattle.hub_spec.specs.Cuts.{Cut}
 use Rattle.hub_spec.proofs.SetCosts.{one_set_cost}
 use Rattle.core_spec.specs.CoreCuts.{Mark}
-use Rattle.plan_model.specs.declared.tree_lines.TreeLine.{TreeLine}
+use Rattle.hub_model.specs.declared.tree_lines.TreeLine.{TreeLine}
 use Rattle.cut_model.specs.MarkedCuts.{MarkedCut}
 use Rattle.cut_pool.specs.Kept.{Kept, kept_set, kept_cut, kept_mark}
 use Rattle.cut_pool.specs.Entries.{Sums, Entry, entry_of}

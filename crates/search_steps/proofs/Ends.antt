@@ -7,8 +7,8 @@ use Rattle.hub_spec.specs.Problem.{Problem, commodities}
 use Rattle.hub_spec.specs.Plans.{Plan, IsLeastRoute}
 use Rattle.hub_spec.specs.Cuts.{Cut}
 use Rattle.hub_spec.specs.Trees.{preorder}
-use Rattle.plan_model.specs.declared.tree_lines.TreeLine as model
-use Rattle.plan_model.specs.Lines.{tree_line_of}
+use Rattle.hub_model.specs.declared.tree_lines.TreeLine as model
+use Rattle.hub_model.specs.Lines.{tree_line_of}
 use Rattle.search_spec.specs.States.{State, Grown, lesser, answer}
 use Rattle.search_steps.specs.Pools.{entry_cut}
 use Rattle.search_core.specs.declared.tasks.Task.{Task}

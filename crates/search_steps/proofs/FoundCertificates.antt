@@ -8,7 +8,7 @@ use Rattle.hub_spec.specs.Cuts.{Cut}
 use Rattle.hub_spec.specs.Trees.{Tree, branch, leaf, empty, block, count, TreeLine, preorder, line_count}
 use Rattle.hub_spec.specs.Ranges.{IsFirstLine}
 use Rattle.hub_spec.proofs.SumLemmas.{by_test}
-use Rattle.plan_model.specs.Lines.{tree_line_of}
+use Rattle.hub_model.specs.Lines.{tree_line_of}
 use Rattle.search_spec.specs.States.{State, Grown, is_stopped, answer}
 use Rattle.search_spec.specs.Laws.{IsStart}
 use Rattle.search_spec.specs.Choices.{begun_for}

@@ -8,8 +8,7 @@ ghost use Rattle.search_steps.specs.Entered.{entry_with, hubs_in, IsEntryOf};
 
 use cut_model::MarkedCut;
 use cut_pool::CutSums;
-use hub_model::Instance;
-use plan_model::HubSet;
+use hub_model::{HubSet, Instance};
 use std::alloc::{AllocError, Global};
 
 /// What was worked out of the cut of a hub set.

@@ -5,8 +5,7 @@ ghost use Rattle.search_steps.specs.Kinds.{minimal, core};
 
 use crate::{Separated, Separator};
 use core_cuts::core_cut;
-use hub_model::Instance;
-use plan_model::HubSet;
+use hub_model::{HubSet, Instance};
 use std::alloc::{AllocError, Global};
 
 /// Separates Pareto-optimal cuts, on the thread that asks. Where a hub set has none, its cut is the one that another

@@ -10,7 +10,7 @@ ghost use Rattle.search_steps.specs.Findings.{IsFound};
 use crate::progress::Progress;
 use assign_sub::assign;
 use cut_pool::Found;
-use plan_model::Plan;
+use hub_model::Plan;
 use search_core::{Task, lesser};
 use std::alloc::{AllocError, Global};
 

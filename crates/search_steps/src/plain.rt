@@ -7,9 +7,8 @@ use crate::{NodeWeights, Rule, picking};
 use assign_sub::lacking;
 use frac_master::Advice;
 use hub_fixing::fix;
-use hub_model::Instance;
+use hub_model::{Branch, HubSet, Instance, TreeLine};
 use leaf_bound::Side;
-use plan_model::{Branch, HubSet, TreeLine};
 use std::alloc::{AllocError, Global};
 
 /// The rule for plans with any number of hubs: a branch ends where every candidate is closed, or where its nodes that

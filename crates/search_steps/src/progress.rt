@@ -6,8 +6,7 @@ ghost use Rattle.search_spec.specs.Steps.{may_split};
 ghost use Rattle.search_steps.specs.Progressing.{state_of, IsGoing};
 
 use cut_pool::Pool;
-use hub_model::MOST_TREE_LINES;
-use plan_model::{HubSet, TreeLine};
+use hub_model::{HubSet, MOST_TREE_LINES, TreeLine};
 use search_core::Task;
 use std::alloc::AllocError;
 

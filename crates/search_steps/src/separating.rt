@@ -18,8 +18,7 @@ use crate::{Separated, Separator};
 use assign_sub::cost_of_set;
 use cut_model::MarkedCut;
 use cut_pool::{CutSums, Pool};
-use hub_model::{Instance, MOST_CUTS};
-use plan_model::HubSet;
+use hub_model::{HubSet, Instance, MOST_CUTS};
 use search_core::Task;
 use std::alloc::{AllocError, Global};
 

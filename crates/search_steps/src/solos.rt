@@ -10,9 +10,8 @@ ghost use Rattle.search_steps.specs.Kinds.{minimal};
 
 use crate::{Separated, Separator};
 use cut_pool::CutSums;
-use hub_model::Instance;
+use hub_model::{HubSet, Instance};
 use pareto_cuts::{Scratch, cut_sums};
-use plan_model::HubSet;
 use std::alloc::{AllocError, Global};
 use std::marker::Model;
 

@@ -13,7 +13,7 @@ use crate::progress::Progress;
 use crate::separating::add_cut;
 use crate::{Rule, Separator};
 use cut_pool::Pool;
-use plan_model::{HubSet, outside};
+use hub_model::{HubSet, outside};
 use search_core::Task;
 use std::alloc::{AllocError, Global};
 

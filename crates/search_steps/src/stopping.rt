@@ -2,14 +2,14 @@
 
 ghost use Rattle.std.specs.Prelude.{◌≡◌, ◌∷◌, [], IfOk, OnOk};
 ghost use Rattle.hub_spec.specs.Trees.{IsBranch, HasRoom, preorder};
-ghost use Rattle.plan_model.specs.Lines.{tree_line_of};
+ghost use Rattle.hub_model.specs.Lines.{tree_line_of};
 ghost use Rattle.search_spec.specs.Steps.{stopped_leaf};
 ghost use Rattle.search_steps.specs.Weights.{AreNodeWeights, pairs_of};
 ghost use Rattle.search_steps.specs.Progressing.{state_of, IsGoing, IsAt};
 
 use crate::progress::Progress;
 use crate::{NodeWeights, Rule, leaf_line};
-use plan_model::{Branch, TreeLine};
+use hub_model::{Branch, TreeLine};
 use search_core::{Task, lesser, rounded_up};
 use std::alloc::{AllocError, Global};
 

@@ -3,10 +3,9 @@
 ghost use Rattle.std.specs.Prelude.{◌≡◌, IfOk, pos};
 ghost use Rattle.hub_spec.specs.Plans.{IsHubSet, IsSetCost, plan_cost};
 ghost use Rattle.hub_model.specs.Amounts.{natural};
-ghost use Rattle.plan_model.specs.Assignments.{AreLeastRoutes, plan_of};
+ghost use Rattle.hub_model.specs.Assignments.{AreLeastRoutes, plan_of};
 
-use hub_model::{Instance, signed};
-use plan_model::{HubSet, least_route};
+use hub_model::{HubSet, Instance, least_route, signed};
 use std::alloc::{AllocError, Global};
 
 /// What a hub set costs, in 10^-12, and for each commodity in order the first and the last hub of its route.

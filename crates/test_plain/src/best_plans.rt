@@ -8,8 +8,7 @@ ghost use Rattle.test_plain.specs.AllSets.{NoneCheaper, NoneOfThemCheaper};
 
 use crate::assignments::assign_to;
 use crate::plans::is_hub_set;
-use hub_model::Instance;
-use plan_model::{Plan, has_wanted, plan_cost};
+use hub_model::{Instance, Plan, has_wanted, plan_cost};
 use std::alloc::{AllocError, Global};
 
 /// An optimal plan, or none where there is no plan, or none with the number of hubs that is wanted.

@@ -4,11 +4,10 @@ ghost use Rattle.std.specs.Prelude.{◌≡◌, ◌<◌, length, slice_index, All
 ghost use Rattle.hub_spec.specs.Problem.{IsProblem};
 ghost use Rattle.hub_spec.specs.Plans.{IsHubSet};
 ghost use Rattle.hub_spec.specs.Separation.{IsOrder, IsMinimalDual, below_price, asked_value, minimal_dual};
-ghost use Rattle.plan_model.specs.Values.{AreInTurn};
+ghost use Rattle.hub_model.specs.Values.{AreInTurn};
 
 use crate::ways::cost_of_edge;
-use hub_model::Instance;
-use plan_model::{Dual, HubSet, cost_of_way, least_route, listed_dual};
+use hub_model::{Dual, HubSet, Instance, cost_of_way, least_route, listed_dual};
 use std::alloc::{AllocError, Global};
 
 /// The minimal dual of the commodity from `i` to `j`: its price is what its least route through the hubs costs, and

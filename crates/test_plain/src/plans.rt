@@ -6,8 +6,7 @@ ghost use Rattle.hub_spec.specs.Problem.{commodities};
 ghost use Rattle.hub_spec.specs.Plans.{IsHubSet, IsRoute, IsPlan};
 
 use crate::serving::lacking;
-use hub_model::Instance;
-use plan_model::{Plan, is_among, is_candidate_set};
+use hub_model::{Instance, Plan, is_among, is_candidate_set};
 
 /// Tells whether this is a plan of the instance, be its hubs as many as are wanted or not.
 pub fn is_plan(instance: &Instance, plan: &Plan) -> bool

@@ -3,8 +3,7 @@
 ghost use Rattle.std.specs.Prelude.{◌≡◌, ◌<◌};
 ghost use Rattle.hub_spec.specs.Edges.{edge_cost};
 
-use hub_model::Instance;
-use plan_model::cost_of_way;
+use hub_model::{Instance, cost_of_way};
 
 /// The cost of the commodity from `i` to `j` through the hub edge of `k` and `m`, in its cheaper direction, if one is
 /// allowed, in 10^-12.

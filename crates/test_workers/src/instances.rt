@@ -3,8 +3,7 @@
 ghost use Rattle.std.specs.Prelude.{◌≡◌, None, IfOk};
 ghost use Rattle.hub_spec.specs.Plans.{IsHubSet};
 
-use hub_model::{Factors, Instance, Parts, Terms};
-use plan_model::HubSet;
+use hub_model::{Factors, HubSet, Instance, Parts, Terms};
 use std::alloc::Global;
 use std::test::Fail;
 use test_plain::is_hub_set;

@@ -8,7 +8,7 @@ use mir.Syntax.{w64}
 use Rattle.unit_duals.specs.Limits.{most_length}
 use Rattle.unit_duals.specs.Leasts.{least_of}
 use Rattle.unit_duals.proofs.LeastNumbers.{least_of_le, least_of_le_start}
-use Rattle.plan_model.specs.CandidateLengths.{candidate_at, length_ceiling}
+use Rattle.hub_model.specs.CandidateLengths.{candidate_at, length_ceiling}
 use Rattle.leg_duals.specs.CandidateLegs.{collection_length, trunk_length, delivery_length}
 use Rattle.cut_model.specs.ValueRows.{route_length, valued_length, if_allowed, allowed_price}
 use Rattle.value_cuts.specs.Ends.{AreEnds, most_end}

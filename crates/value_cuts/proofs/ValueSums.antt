@@ -5,7 +5,7 @@ use Rattle.hub_spec.specs.Limits.{most_cost}
 use Rattle.hub_spec.specs.Problem.{Problem, IsProblem, flow, commodities, commodity_at}
 use Rattle.hub_spec.proofs.Commodities.{take_commodities_more, take_commodities_all, commodity_nodes}
 use Rattle.hub_spec.proofs.Limits.{flow_of}
-use Rattle.plan_model.specs.CandidateLengths.{length_ceiling}
+use Rattle.hub_model.specs.CandidateLengths.{length_ceiling}
 use Rattle.cut_model.specs.ValueRows.{node_value, ValueRows, AreValuesFor, commodity_number, row_for}
 use Rattle.cut_model.proofs.ValueCuts.{price_of, value_of, all_within}
 use Rattle.value_cuts.specs.Prices.{row_price, AreRowPrices}

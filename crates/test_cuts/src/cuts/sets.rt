@@ -5,9 +5,8 @@ ghost use Rattle.hub_spec.specs.Separation.{IsOrder};
 
 use super::{cores, cuts, edges, origins};
 use assign_sub::{assign, set_cost};
-use hub_model::Instance;
+use hub_model::{HubSet, Instance, is_candidate_set, outside};
 use pareto_cuts::order_of;
-use plan_model::{HubSet, is_candidate_set, outside};
 use std::alloc::{AllocError, Global};
 use test_lines::{first, list, node};
 use test_plain::is_hub_set;

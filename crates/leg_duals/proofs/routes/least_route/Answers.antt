@@ -1,7 +1,7 @@
 use Rattle.std.proofs.Common.{ℕ, ◌*◌, ap, ◌∙◌}
 use Rattle.hub_spec.specs.Problem.{flow}
 use Rattle.hub_spec.proofs.Limits.{hubs_are_nodes}
-use Rattle.plan_model.proofs.AllowedRoutes.{set_has_route}
+use Rattle.hub_model.proofs.AllowedRoutes.{set_has_route}
 use Rattle.leg_duals.proofs.LeastRoutes.{some_shortest, unit_costs}
 use Rattle.leg_duals.proofs.routes.least_route.Goals as goal
 

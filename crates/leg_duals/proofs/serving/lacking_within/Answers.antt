@@ -1,5 +1,5 @@
 use Rattle.std.proofs.Common.{sym, ◌∙◌, arith}
-use Rattle.plan_model.proofs.ServedCommodities.{lacked_next, lacked_here, none_is_lacked}
+use Rattle.hub_model.proofs.ServedCommodities.{lacked_next, lacked_here, none_is_lacked}
 use Rattle.leg_duals.proofs.NearestHubs.{few_members}
 use Rattle.leg_duals.proofs.serving.lacking_within.Goals as goal
 

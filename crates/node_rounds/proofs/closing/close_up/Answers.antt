@@ -1,6 +1,6 @@
 use Rattle.std.proofs.Common.{◌++◌, ◌∷◌, [], Vec, Global, ap, sym, subst, ◌∙◌, arith}
-use Rattle.plan_model.specs.declared.tree_lines.TreeLine as model
-use Rattle.plan_model.specs.Lines.{tree_line_of}
+use Rattle.hub_model.specs.declared.tree_lines.TreeLine as model
+use Rattle.hub_model.specs.Lines.{tree_line_of}
 use Rattle.search_steps.specs.declared.progress.Progress.{Progress}
 use Rattle.search_steps.specs.Progressing.{state_of, IsAt}
 use Rattle.search_spec.specs.Turns.{Closed}

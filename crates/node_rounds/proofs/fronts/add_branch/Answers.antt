@@ -1,4 +1,4 @@
-use Rattle.plan_model.specs.declared.tree_lines.TreeLine as model
+use Rattle.hub_model.specs.declared.tree_lines.TreeLine as model
 use Rattle.search_spec.specs.Steps.{two_more}
 use Rattle.search_steps.specs.Progressing.{state_of}
 use Rattle.node_rounds.specs.declared.fronts.Place.TheVariants.{Line}

@@ -1,5 +1,5 @@
 use Rattle.std.proofs.Common.{ℕ, List, ap, ◌∙◌}
-use Rattle.plan_model.specs.Lines.{tree_line_of}
+use Rattle.hub_model.specs.Lines.{tree_line_of}
 use Rattle.search_spec.specs.Steps.{stopped_leaf}
 use Rattle.search_steps.specs.Weights.{pairs_of}
 use Rattle.search_steps.specs.Progressing.{state_of}

@@ -2,7 +2,7 @@ use Rattle.std.proofs.Common.{◌≡◌, ℕ, List, ap, sym, subst, [], ◌∷�
 use Rattle.std.proofs.lemmas.Result.{on_ok_weaker}
 use Rattle.hub_spec.specs.Trees.{IsBranch, Branching, branch_on, leaf_of}
 use Rattle.hub_spec.proofs.ChildLists.{open_branch, closed_branch}
-use Rattle.plan_model.specs.Lines.{tree_line_of}
+use Rattle.hub_model.specs.Lines.{tree_line_of}
 use Rattle.leaf_bound.specs.declared.sides.Side as code
 use Rattle.frac_master.specs.Advice.{advice_of_code}
 use Rattle.search_spec.specs.States.{denominator}

@@ -1,7 +1,7 @@
 use Rattle.std.proofs.Common.{◌≡◌, ℕ, List, ap, sym, refl, subst, [], ◌∷◌, ◌+◌, ◌∙◌, if◌then◌else◌}
 use Rattle.std.proofs.lemmas.Result.{on_ok_weaker}
 use Rattle.leaf_bound.specs.declared.sides.Side as code
-use Rattle.plan_model.specs.Lines.{tree_line_of}
+use Rattle.hub_model.specs.Lines.{tree_line_of}
 use Rattle.frac_master.specs.Advice.{advice_of_code}
 use Rattle.search_steps.specs.Advising.{told_by, parts_of}
 use Rattle.search_steps.specs.Weights.{pairs_of, sides_as}

@@ -1,5 +1,5 @@
 use Rattle.std.proofs.Common.{◌+◌, ◌*◌}
-use Rattle.plan_model.proofs.Assigned.{IsAssigned}
+use Rattle.hub_model.proofs.Assigned.{IsAssigned}
 use Rattle.test_plain.proofs.assignments.assign_to.Given as goal
 
 abbrev pub invariant-loop-j : goal.invariant-loop-j

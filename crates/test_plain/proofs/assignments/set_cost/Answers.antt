@@ -1,5 +1,5 @@
 use Rattle.std.proofs.Common.{arith}
-use Rattle.plan_model.proofs.Assigned.{routed_limit, routed_more, routed_whole}
+use Rattle.hub_model.proofs.Assigned.{routed_limit, routed_more, routed_whole}
 use Rattle.test_plain.proofs.assignments.set_cost.Goals as goal
 
 pub overflow_add-total : goal.overflow_add-total

@@ -1,5 +1,5 @@
 use Rattle.std.proofs.Common.{◌+◌, ◌*◌}
-use Rattle.plan_model.proofs.Assigned.{IsRouted}
+use Rattle.hub_model.proofs.Assigned.{IsRouted}
 use Rattle.test_plain.proofs.assignments.set_cost.Given as goal
 
 abbrev pub invariant-loop-j : goal.invariant-loop-j

@@ -1,6 +1,6 @@
 use Rattle.std.proofs.Common.{◌≡◌, ℕ, List, ap, sym, subst, ◌∙◌, rules}
 use Rattle.hub_spec.specs.Plans.{IsWanted}
-use Rattle.plan_model.proofs.Assigned.{assigned_plan, assigned_cost}
+use Rattle.hub_model.proofs.Assigned.{assigned_plan, assigned_cost}
 use Rattle.test_plain.proofs.best_plans.plan_with.Goals as goal
 use Rattle.test_plain.proofs.best_plans.plan_with.Goals.{After-new}
 

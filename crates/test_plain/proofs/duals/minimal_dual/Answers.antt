@@ -4,9 +4,9 @@ use Rattle.std.proofs.lemmas.Result.{IfOk-weaker}
 use Rattle.hub_spec.specs.Cuts.{Prices}
 use Rattle.hub_spec.specs.Separation.{IsMinimalDual, minimal_dual, values_listed}
 use Rattle.hub_spec.specs.Plans.{HasRoute}
-use Rattle.plan_model.specs.Values.{AreInTurn}
-use Rattle.plan_model.proofs.AllowedRoutes.{set_has_route}
-use Rattle.plan_model.proofs.Turns.{turns_within, listed_is, minimal_from}
+use Rattle.hub_model.specs.Values.{AreInTurn}
+use Rattle.hub_model.proofs.AllowedRoutes.{set_has_route}
+use Rattle.hub_model.proofs.Turns.{turns_within, listed_is, minimal_from}
 use Rattle.test_plain.proofs.duals.minimal_dual.Goals as goal
 use Rattle.test_plain.proofs.duals.minimal_dual.Goals.{After-deref}
 

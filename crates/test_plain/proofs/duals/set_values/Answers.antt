@@ -2,8 +2,8 @@ use Rattle.std.proofs.Common.{◌<◌, List, ℕ, length, slice_index, subst, ar
 use Rattle.std.proofs.lemmas.List.{take_all}
 use Rattle.std.proofs.lemmas.List.Elements.{All-take}
 use Rattle.hub_spec.proofs.Limits.{hubs_are_nodes}
-use Rattle.plan_model.specs.Values.{AreInTurn}
-use Rattle.plan_model.proofs.Turns.{order_node, order_nodes, turns_start, turns_more}
+use Rattle.hub_model.specs.Values.{AreInTurn}
+use Rattle.hub_model.proofs.Turns.{order_node, order_nodes, turns_start, turns_more}
 use Rattle.test_plain.proofs.duals.set_values.Goals as goal
 
 pub asked_value-requires-clause-node : goal.asked_value-requires-clause-node

@@ -1,5 +1,5 @@
 use Rattle.std.proofs.Common.{take}
-use Rattle.plan_model.specs.Values.{AreInTurn}
+use Rattle.hub_model.specs.Values.{AreInTurn}
 use Rattle.test_plain.proofs.duals.set_values.Given as goal
 
 abbrev pub invariant-loop-t : goal.invariant-loop-t

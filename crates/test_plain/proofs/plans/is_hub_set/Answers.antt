@@ -1,7 +1,7 @@
 use Rattle.std.proofs.Common.{sym, ◌∙◌}
 use Rattle.std.proofs.lemmas.Bool.{OnTrue_at}
 use Rattle.hub_spec.proofs.Lacking.{tells}
-use Rattle.plan_model.proofs.ServedCommodities.{none_when, when_none}
+use Rattle.hub_model.proofs.ServedCommodities.{none_when, when_none}
 use Rattle.test_plain.proofs.plans.is_hub_set.Goals as goal
 
 pub lacking-requires : goal.lacking-requires

@@ -1,5 +1,5 @@
 use Rattle.std.proofs.Common.{sym, ◌∙◌, arith}
-use Rattle.plan_model.proofs.ServedCommodities.{lacked_next, lacked_here, none_is_lacked}
+use Rattle.hub_model.proofs.ServedCommodities.{lacked_next, lacked_here, none_is_lacked}
 use Rattle.test_plain.proofs.serving.lacking.Goals as goal
 
 pub returns-then-not-serves : goal.returns-then-not-serves

@@ -1,6 +1,6 @@
 use Rattle.std.proofs.Common.{◌≡◌, ◌+◌, slice_index}
 use Rattle.unit_duals.specs.Leasts.{least_of}
-use Rattle.plan_model.specs.CandidateLengths.{length_ceiling}
+use Rattle.hub_model.specs.CandidateLengths.{length_ceiling}
 use Rattle.cut_model.specs.ValueRows.{if_allowed}
 use Rattle.value_cuts.proofs.allowed.least_single.Given as goal
 

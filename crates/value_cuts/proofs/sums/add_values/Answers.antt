@@ -5,7 +5,7 @@ use mir.Syntax.{w128}
 use Rattle.hub_spec.specs.Limits.{most_flow}
 use Rattle.hub_spec.specs.Problem.{Problem}
 use Rattle.unit_duals.specs.Limits.{most_length}
-use Rattle.plan_model.specs.CandidateLengths.{candidate_at}
+use Rattle.hub_model.specs.CandidateLengths.{candidate_at}
 use Rattle.cut_model.specs.ValueRows.{node_value}
 use Rattle.leg_duals.proofs.CandidateTables.{candidate_node}
 use Rattle.cut_model.proofs.NodeValues.{worked_value, unlisted_none}

@@ -1,5 +1,5 @@
 use Rattle.std.proofs.lemmas.Result.{on_ok_weaker}
-use Rattle.plan_model.specs.Lines.{tree_line_of}
+use Rattle.hub_model.specs.Lines.{tree_line_of}
 use Rattle.search_steps.specs.Advising.{parts_of}
 use Rattle.search_steps.specs.Progressing.{state_of}
 use Rattle.branch_tree.proofs.AddedLines.{line_done, done_as}

@@ -1,7 +1,7 @@
 use Rattle.std.proofs.Common.{◌≡◌, None, ◌+◌, length, ◌∷◌, [], ap, sym, ◌∙◌, rules, arith}
 use Rattle.std.proofs.lemmas.Result.{on_ok_weaker}
 use Rattle.hub_spec.specs.Trees.{leaf, TreeLine}
-use Rattle.plan_model.specs.Lines.{tree_line_of}
+use Rattle.hub_model.specs.Lines.{tree_line_of}
 use Rattle.search_spec.specs.States.{denominator, whole_on}
 use Rattle.search_spec.specs.Steps.{separated}
 use Rattle.search_steps.specs.Kinds.{parts_for}

@@ -1,5 +1,5 @@
 use Rattle.std.proofs.Common.{arith}
-use Rattle.plan_model.proofs.CandidateNodes.{few_places}
+use Rattle.hub_model.proofs.CandidateNodes.{few_places}
 use Rattle.leg_duals.proofs.candidate_legs.CandidateLegs.places.Goals as goal
 
 pub returns-clause-limit : goal.returns-clause-limit
