@@ -4,7 +4,7 @@ use Rattle.std.specs.List.{concat}
 use Rattle.text_spec.specs.Fixed.{fixed_text}
 use Rattle.cert_spec.specs.Grammar.{bad_line, ended}
 use Rattle.cert_spec.specs.Verdicts.{Verdict, optimal, bounds, fails, misread, too_long, Older, serves, serves_not, unread, over_limit}
-use Rattle.cert_checker.specs.Answers.{kind_name}
+use Rattle.cert_conditions.specs.Kinds.{kind_name}
 
 -- that a plan of this cost is optimal; costs have 12 decimals
 unfoldable pub optimal_line : ℕ → List ℕ

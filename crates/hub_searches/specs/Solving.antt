@@ -10,7 +10,7 @@ use Rattle.search_spec.specs.Costs.{IsAtMostOf, first_hubs}
 use Rattle.cert_spec.specs.Stated.{Stated}
 use Rattle.cert_spec.specs.Verdicts.{Older, serves}
 use Rattle.cert_checker.specs.Shows.{verdict_of}
-use Rattle.cert_checker.specs.declared.texts.Ending.{Ending}
+use Rattle.cert_checker.specs.declared.verdicts.Ending.{Ending}
 use Rattle.cut_pool.specs.Findings.{IsProved, AreRemade, proof_of}
 use Rattle.search_steps.specs.Findings.{IsFound}
 use Rattle.closing_search.specs.Gaps.{IsWithinGap}
