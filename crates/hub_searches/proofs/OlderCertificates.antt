@@ -12,7 +12,7 @@ use Rattle.cert_spec.specs.Verdicts.{Why, too_long, certificate_limit, Older, se
 use Rattle.cert_spec.proofs.OlderTexts.{one_older_from}
 use Rattle.cert_spec.proofs.OneText.{one_certificate_lem}
 use Rattle.cert_spec.proofs.TextOrFault.{each_is_text_or_fault_lem}
-use Rattle.warm_start.proofs.Sizes.{IsServing, still_serving}
+use Rattle.cert_checker.proofs.Sizes.{IsServing, still_serving}
 use Rattle.hub_words.specs.Requests.{How, follow, again, freely, older_named}
 use Rattle.hub_searches.specs.Methods.{warm}
 use Rattle.hub_searches.specs.Older.{IsSaid, HoldsOlder, MayBegin, BegunAt}

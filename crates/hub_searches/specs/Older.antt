@@ -7,7 +7,7 @@ use Rattle.search_spec.specs.Costs.{IsAtMostOf}
 use Rattle.cert_spec.specs.Stated.{Stated}
 use Rattle.cert_spec.specs.Verdicts.{Older, serves, IsOlder}
 use Rattle.hub_words.specs.Requests.{Search, Solving, How, follow, again, freely, older_named}
-use Rattle.warm_start.specs.Sized.{IsSized}
+use Rattle.cert_checker.specs.Sized.{IsSized}
 use Rattle.hub_sources.specs.Sources.{alone, WhereTold}
 use Rattle.hub_sources.specs.Named.{IsFileOf}
 use Rattle.hub_searches.specs.Methods.{Method, method_of, warm}

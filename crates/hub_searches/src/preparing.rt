@@ -13,7 +13,7 @@ ghost use Rattle.hub_searches.specs.Solving.{IsPrepared, IsReadingAs, IsReadingO
 ghost use Rattle.hub_sources.specs.Told.{LacksFile};
 
 use crate::searching::Course;
-use cert_checker::{Ending, MOST_CERTIFICATE_BYTES, Older, read_older};
+use cert_checker::{Ending, MOST_CERTIFICATE_BYTES, Older, read_older, read_sized};
 use cert_format::Certificate;
 use hub_io::{ReadEnd, Shelf, read_whole};
 use hub_model::Instance;
@@ -21,7 +21,7 @@ use hub_sources::Halt;
 use hub_words::How;
 use std::alloc::{AllocError, Global};
 use std::thread::Threads;
-use warm_start::{read_sized, start_of};
+use warm_start::start_of;
 
 /// What is prepared for a search.
 #[derive(Drop)]

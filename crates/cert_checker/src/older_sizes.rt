@@ -1,11 +1,11 @@
-//! An older certificate's bytes.
+//! An older certificate's bytes, by their size alone.
 
 ghost use Rattle.std.specs.Prelude.{◌≡◌, ◌↔◌, IfOk, IsTrue};
 ghost use Rattle.hub_spec.specs.Problem.{IsProblem};
 ghost use Rattle.cert_checker.specs.Shows.{older_of};
-ghost use Rattle.warm_start.specs.Sized.{IsOfSize, IsSized, IsSizedAs};
+ghost use Rattle.cert_checker.specs.Sized.{IsOfSize, IsSized, IsSizedAs};
 
-use cert_checker::{Kind, MOST_CERTIFICATE_BYTES, Older};
+use crate::{Kind, MOST_CERTIFICATE_BYTES, Older};
 use cert_format::{CertFault, Certificate, read_cert};
 use hub_model::Instance;
 use std::alloc::{AllocError, Global};

@@ -7,7 +7,7 @@ use Rattle.cert_spec.specs.Conditions.{Kind, FailsFirst}
 use Rattle.cert_spec.proofs.OneText.{one_certificate_lem}
 use Rattle.cert_spec.proofs.TextOrFault.{each_is_text_or_fault_lem}
 use Rattle.cert_spec.specs.Verdicts.{certificate_limit, Older, serves, serves_not, unread, over_limit}
-use Rattle.warm_start.specs.Sized.{size_claim, IsOfSize, IsSized, IsSizedAs}
+use Rattle.cert_checker.specs.Sized.{size_claim, IsOfSize, IsSized, IsSizedAs}
 
 pub sized_by : (p : Problem) (bytes : List ℕ) (k : Stated) (said : Older) → length bytes ≤ certificate_limit → Spells bytes k
     → IsSizedAs p k said → IsSized p bytes said
