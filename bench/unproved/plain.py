@@ -14,15 +14,17 @@ from pathlib import Path
 HERE = Path(__file__).resolve().parent
 CRATES = HERE.parents[1] / "crates"
 NAMES = """
-    hub_io dec_text fixed_distance hub_model plan_model cut_model hub_make hub_plain token_reader
-    instance_cab instance_ap crew desks unit_duals leg_tables limited_duals assign_sub hub_edges dual_cuts pareto_cuts value_cuts
+    hub_io dec_text fixed_distance hub_model cut_model hub_make token_reader
+    instance_cab instance_ap claim_board desks unit_duals leg_duals assign_sub hub_edges dual_cuts pareto_cuts value_cuts
     cut_pool frac_rows plain_rows core_cuts frac_master leaf_bound hub_fixing p_hub search_advice price_passes search_core
-    search_steps search_progress par_separate branch_tree node_rounds closing_search cert_scan cert_format
-    dual_lender proof_text node_marks plan_lines tree_lines dual_lines core_lines cert_conditions cert_checker warm_start
+    search_steps par_separate branch_tree node_rounds closing_search cert_scan cert_format
+    dual_lender proof_text cert_lines dual_lines core_lines cert_conditions cert_checker warm_start
 """.split()
-STAND_INS = ["claim_board", "itoa", "memchr", "rayon", "rtrb"]
+STAND_INS = ["draw_board", "itoa", "memchr", "rayon", "rtrb"]
 # Modules that ask for more of the library than the stand-ins have, and that no search needs.
 LEFT_OUT = {"mem_shelf", "row_layout"}
+# Modules of a crate for which a stand-in is taken, and the names of it.
+STOOD_FOR = {"claim_board": ({"boards", "hands", "laws", "rules", "seats", "steps"}, "pub use crate::draw_board::{Board, Seat};\n")}
 # What is written otherwise, each the form of Rattle and that of Rust.
 REWRITTEN = [
     (r"vec!\[in ([a-z.]+); ", r"rattle_vec![\1; "),
@@ -92,6 +94,9 @@ def plain(crate: str, text: str, own: set[str]) -> str:
     for name in LEFT_OUT:
         text = re.sub(rf"^(pub )?(mod|use) (self::|crate::\w+::)?{name}\b.*;\n", "", text, flags=re.M)
     text = text.replace("crate::crate::", "crate::")
+    if crate in STOOD_FOR and re.search(r"^mod \w+;$", text, re.M):
+        modules, names = STOOD_FOR[crate]
+        text = re.sub(rf"^(pub )?(mod|use) ({'|'.join(sorted(modules))})\b[^;]*;\n", "", text, flags=re.M) + names
     # A map of Rust takes memory without a word.
     text = text.replace(".insert(commodity, listed).map_err(AllocError::from)?", ".insert(commodity, listed)")
     return "use crate::rattle_std::prelude::*;\n" + text
@@ -100,14 +105,14 @@ def plain(crate: str, text: str, own: set[str]) -> str:
 def main() -> None:
     out = Path(sys.argv[1])
     for crate in NAMES:
-        files = sorted((CRATES / crate / "src").rglob("*.rt"))
+        left_out = LEFT_OUT | STOOD_FOR.get(crate, (set(), ""))[0]
+        files = sorted(file for file in (CRATES / crate / "src").rglob("*.rt") if file.stem not in left_out)
         own = {file.stem for file in files}
         for file in files:
-            if file.stem not in LEFT_OUT:
-                name = "mod.rs" if file.name == "lib.rt" else str(file.relative_to(CRATES / crate / "src").with_suffix(".rs"))
-                target = out / crate / name
-                target.parent.mkdir(parents=True, exist_ok=True)
-                target.write_text(plain(crate, file.read_text(), own))
+            name = "mod.rs" if file.name == "lib.rt" else str(file.relative_to(CRATES / crate / "src").with_suffix(".rs"))
+            target = out / crate / name
+            target.parent.mkdir(parents=True, exist_ok=True)
+            target.write_text(plain(crate, file.read_text(), own))
     for file in (HERE / "stand_ins").glob("*.rs"):
         shutil.copy(file, out / file.name)
     mods = "".join(f"mod {name};\n" for name in NAMES + STAND_INS)

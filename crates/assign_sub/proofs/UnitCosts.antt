@@ -10,7 +10,7 @@ use Rattle.hub_spec.proofs.PlanCosts.{any_allowed}
 use Rattle.unit_duals.specs.Limits.{most_leg}
 use Rattle.unit_duals.specs.Leasts.{least_of}
 use Rattle.unit_duals.proofs.LeastNumbers.{least_of_le_start, least_of_le, least_of_is}
-use Rattle.leg_tables.proofs.LegLimits.{distance_limit, leg_limit}
+use Rattle.leg_duals.proofs.LegLimits.{distance_limit, leg_limit}
 use Rattle.assign_sub.specs.LeastLengths.{reach_by, least_reach, length_by, least_length}
 
 -- ---- limits

@@ -5,13 +5,12 @@ ghost use Rattle.hub_spec.specs.Limits.{most_cost};
 ghost use Rattle.hub_spec.specs.Problem.{route_cost, IsProblem};
 ghost use Rattle.hub_spec.specs.Plans.{IsHubSet, IsLeastRoute, IsSetCost, plan_cost};
 ghost use Rattle.hub_model.specs.Amounts.{natural};
-ghost use Rattle.hub_plain.specs.Assignments.{AreLeastRoutes, plan_of};
-ghost use Rattle.leg_tables.specs.StopLegs.{AreLegsOf, AreFirstLegsOf};
+ghost use Rattle.hub_model.specs.Assignments.{AreLeastRoutes, plan_of};
+ghost use Rattle.leg_duals.specs.StopLegs.{AreLegsOf, AreFirstLegsOf};
 
 use crate::limited::assign_limited;
-use hub_model::{Instance, signed};
-use leg_tables::{FirstLegs, SetLegs};
-use plan_model::HubSet;
+use hub_model::{HubSet, Instance, signed};
+use leg_duals::{FirstLegs, SetLegs};
 use std::alloc::{AllocError, Global};
 use unit_duals::Hops;
 

@@ -5,12 +5,12 @@ ghost use Rattle.hub_spec.specs.Limits.{most_cost};
 ghost use Rattle.hub_spec.specs.Problem.{route_cost, IsProblem};
 ghost use Rattle.hub_spec.specs.Plans.{IsHubSet, IsLeastRoute, IsSetCost, plan_cost};
 ghost use Rattle.hub_model.specs.Amounts.{natural};
-ghost use Rattle.hub_plain.specs.Assignments.{AreLeastRoutes, plan_of};
+ghost use Rattle.hub_model.specs.Assignments.{AreLeastRoutes, plan_of};
 
 use crate::Assignment;
 use crate::assignments::{PricedRoute, route_without_flow};
 use hub_model::{Instance, signed};
-use limited_duals::least_route;
+use leg_duals::least_route;
 use std::alloc::{AllocError, Global};
 
 /// The cost of the hubs, and the least route of each commodity, of those that are allowed.

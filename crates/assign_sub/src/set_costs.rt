@@ -9,8 +9,7 @@ ghost use Rattle.unit_duals.specs.Limits.{most_leg};
 ghost use Rattle.assign_sub.specs.LeastLengths.{AreReaches, least_reach, least_length};
 
 use crate::limited::cost_of_limited;
-use hub_model::{Instance, signed};
-use plan_model::HubSet;
+use hub_model::{HubSet, Instance, signed};
 
 /// The most hubs that there may be: as many as nodes.
 const MOST_HUBS: usize = 200;

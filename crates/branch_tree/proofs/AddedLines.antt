@@ -8,9 +8,9 @@ use Rattle.search_spec.specs.States.{State, Grown}
 use Rattle.search_steps.specs.Pools.{IsPoolOf, HasGrown, state_by}
 use Rattle.search_steps.proofs.GivenPools.{grown_same, grown_twice}
 use Rattle.search_core.specs.declared.tasks.Task.{Task}
-use Rattle.search_progress.specs.declared.progress.Progress.{Progress}
+use Rattle.search_steps.specs.declared.progress.Progress.{Progress}
 use Rattle.cut_pool.specs.Findings.{lines_of}
-use Rattle.search_progress.specs.Progressing.{state_of, IsGoing, IsAt}
+use Rattle.search_steps.specs.Progressing.{state_of, IsGoing, IsAt}
 use Rattle.branch_tree.specs.Lines.{HasLine, IsDone}
 
 -- the state after the line

@@ -11,8 +11,8 @@ use Rattle.hub_spec.specs.Lacking.{lacking}
 use Rattle.hub_spec.specs.Cuts.{Cut, load, IsCut}
 use Rattle.hub_spec.specs.Ranges.{IsCutInRange}
 use Rattle.hub_spec.proofs.SumLemmas.{by_test}
-use Rattle.plan_model.specs.Ascending.{IsAscendingSet}
-use Rattle.plan_model.specs.declared.tree_lines.TreeLine.{TreeLine}
+use Rattle.hub_model.specs.Ascending.{IsAscendingSet}
+use Rattle.hub_model.specs.declared.tree_lines.TreeLine.{TreeLine}
 use Rattle.search_spec.specs.States.{State, number_in_pool}
 use Rattle.search_spec.specs.Steps.{separated}
 use Rattle.search_spec.specs.Choices.{has_node, others, begun_for}
@@ -20,14 +20,14 @@ use Rattle.search_spec.specs.Again.{Start, has_wanted, is_tried, tried, with_giv
 use Rattle.search_spec.proofs.Beginnings.{all_has, all_in, one_by_one}
 use Rattle.cut_pool.specs.Entries.{given_entry}
 use Rattle.search_steps.specs.Advising.{parts_of}
-use Rattle.search_progress.specs.Kinds.{CutKind, parts_for}
+use Rattle.search_steps.specs.Kinds.{CutKind, parts_for}
 use Rattle.search_steps.specs.Pools.{IsSumsOf, IsPoolOf, state_by}
 use Rattle.search_steps.proofs.GivenPools.{grown_same, grown_twice, added_is_given}
 use Rattle.search_core.specs.declared.tasks.Task.{Task}
 use Rattle.cut_pool.specs.Findings.{lines_of}
-use Rattle.search_progress.specs.declared.progress.Progress.{Progress}
-use Rattle.search_progress.specs.Progressing.{state_of, IsGoing, IsAt}
-use Rattle.search_progress.proofs.Orders.{parts_ascending}
+use Rattle.search_steps.specs.declared.progress.Progress.{Progress}
+use Rattle.search_steps.specs.Progressing.{state_of, IsGoing, IsAt}
+use Rattle.search_steps.proofs.Orders.{parts_ascending}
 
 -- ---- given cuts
 

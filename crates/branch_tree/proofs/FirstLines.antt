@@ -12,7 +12,7 @@ use Rattle.search_spec.specs.Steps.{closes_at, full_by, full_on, may_split, two_
 use Rattle.search_spec.specs.Choices.{all_closed, barren_end, begun_for}
 use Rattle.cut_pool.specs.Findings.{IsUnlimited}
 use Rattle.search_steps.specs.Advising.{parts_of}
-use Rattle.search_progress.specs.Kinds.{CutKind, parts_for}
+use Rattle.search_steps.specs.Kinds.{CutKind, parts_for}
 use Rattle.search_steps.proofs.OpenBranches.{never_blocked}
 use Rattle.search_steps.proofs.RuleChoices.{barren_is, some_open}
 use Rattle.branch_tree.specs.Findings.{found_by}

@@ -10,11 +10,11 @@ use Rattle.search_spec.specs.Steps.{separated, full_on}
 use Rattle.search_spec.proofs.StepCases.{full_found, full_new}
 use Rattle.search_steps.specs.Pools.{entry_cut, pool_cuts}
 use Rattle.search_core.specs.declared.tasks.Task.{Task}
-use Rattle.search_progress.specs.declared.progress.Progress.{Progress}
+use Rattle.search_steps.specs.declared.progress.Progress.{Progress}
 use Rattle.search_steps.specs.Advising.{parts_of}
-use Rattle.search_progress.specs.Kinds.{CutKind, parts_for}
-use Rattle.search_progress.specs.Progressing.{state_of, IsAt}
-use Rattle.search_progress.proofs.Orders.{parts_ascending, outside_is}
+use Rattle.search_steps.specs.Kinds.{CutKind, parts_for}
+use Rattle.search_steps.specs.Progressing.{state_of, IsAt}
+use Rattle.search_steps.proofs.Orders.{parts_ascending, outside_is}
 
 -- ---- the one set of a branch
 

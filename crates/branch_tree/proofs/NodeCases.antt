@@ -11,13 +11,13 @@ use Rattle.search_spec.specs.Choices.{rule_parts, nearest_half}
 use Rattle.search_spec.proofs.StepCases.{rounds_over, rounds_more, node_is, handled_barren, handled_stopped, handled_blocked, handled_full, handled_on, explored_is, parted_only, parted_full, parted_split, halved_is, fixed_none, fixed_only, fixed_full, fixed_one}
 use Rattle.search_steps.specs.Pools.{InEachStateAt}
 use Rattle.search_core.specs.declared.tasks.Task.{Task}
-use Rattle.search_progress.specs.declared.progress.Progress.{Progress}
+use Rattle.search_steps.specs.declared.progress.Progress.{Progress}
 use Rattle.search_steps.specs.Advising.{parts_of}
-use Rattle.search_progress.specs.Kinds.{CutKind, parts_for}
-use Rattle.search_progress.proofs.KindCuts.{goes_on_for}
+use Rattle.search_steps.specs.Kinds.{CutKind, parts_for}
+use Rattle.search_steps.proofs.KindCuts.{goes_on_for}
 use Rattle.search_steps.proofs.RuleChoices.{parts_sound}
 use Rattle.branch_tree.specs.Lines.{handling}
-use Rattle.search_progress.specs.Progressing.{state_of}
+use Rattle.search_steps.specs.Progressing.{state_of}
 
 -- ---- a branch that goes on
 

@@ -7,9 +7,9 @@ use Rattle.search_spec.specs.Steps.{better, closes_at, separated, round, rounds}
 use Rattle.search_spec.specs.Choices.{rule_parts, order_by_point, by_falling, others}
 use Rattle.search_spec.proofs.StepCases.{round_over, round_new}
 use Rattle.search_steps.specs.Advising.{master_advising, parts_of}
-use Rattle.search_progress.specs.Kinds.{CutKind, parts_for}
+use Rattle.search_steps.specs.Kinds.{CutKind, parts_for}
 use Rattle.search_core.specs.declared.tasks.Task.{Task}
-use Rattle.search_progress.specs.declared.progress.Progress.{Progress}
+use Rattle.search_steps.specs.declared.progress.Progress.{Progress}
 use Rattle.branch_tree.specs.declared.rounds.RoundEnd.{RoundEnd}
 use Rattle.branch_tree.specs.Rounding.{round_as, IsRound}
 

@@ -10,16 +10,16 @@ use Rattle.search_spec.specs.Costs.{IsAtMostOf, first_hubs, IsAtMostBoth}
 use Rattle.search_spec.proofs.FallingCosts.{cost_falls, least_to, begun_most, again_most}
 use Rattle.search_spec.proofs.WholeSearches.{begun_by, search_proof, search_counted, search_stopped, enough_nodes}
 use Rattle.search_spec.proofs.Beginnings.{again_start, rule_of_sets}
-use Rattle.search_progress.specs.Kinds.{CutKind, minimal, parts_for}
-use Rattle.search_progress.proofs.KindCuts.{kind_is_sound}
+use Rattle.search_steps.specs.Kinds.{CutKind, minimal, parts_for}
+use Rattle.search_steps.proofs.KindCuts.{kind_is_sound}
 use Rattle.cut_pool.specs.Findings.{AreRemade}
 use Rattle.cut_pool.specs.declared.found.Found.{Found}
 use Rattle.branch_tree.specs.Findings.{found_by, found_again}
-use Rattle.search_progress.specs.Findings.{IsFound}
+use Rattle.search_steps.specs.Findings.{IsFound}
 use Rattle.branch_tree.proofs.FirstLines.{first_from}
 use Rattle.branch_tree.proofs.Unmarked.{HasNoMark, found_unmarked}
-use Rattle.search_progress.proofs.KeptPools.{own_by_sets}
-use Rattle.search_progress.proofs.FoundCertificates.{IsSearchable, IsSearched}
+use Rattle.search_steps.proofs.KeptPools.{own_by_sets}
+use Rattle.search_steps.proofs.FoundCertificates.{IsSearchable, IsSearched}
 
 -- so it is from any start
 searched_from : (kind : CutKind) (p : Problem) (n : Option ℕ) (s : State) → IsProblem p → IsStart p s → IsSearched p n (searched p (parts_for kind p) n s)

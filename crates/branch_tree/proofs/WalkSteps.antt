@@ -7,9 +7,9 @@ use Rattle.search_spec.specs.Steps.{two_more, stays_open, stays_closed, with_lea
 use Rattle.search_steps.specs.Pools.{HasGrown}
 use Rattle.search_steps.proofs.GivenPools.{grown_twice}
 use Rattle.search_core.specs.declared.tasks.Task.{Task}
-use Rattle.search_progress.specs.declared.progress.Progress.{Progress}
+use Rattle.search_steps.specs.declared.progress.Progress.{Progress}
 use Rattle.cut_pool.specs.Findings.{lines_of}
-use Rattle.search_progress.specs.Progressing.{state_of}
+use Rattle.search_steps.specs.Progressing.{state_of}
 use Rattle.branch_tree.specs.Lines.{HasLine, IsDone}
 use Rattle.branch_tree.proofs.AddedLines.{line_kept, line_state}
 

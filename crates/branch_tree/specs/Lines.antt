@@ -7,9 +7,9 @@ use Rattle.search_spec.specs.Steps.{node}
 use Rattle.search_steps.specs.Pools.{HasGrown}
 use Rattle.search_core.specs.declared.tasks.Task.{Task}
 use Rattle.cut_pool.specs.Findings.{lines_of}
-use Rattle.search_progress.specs.Kinds.{CutKind, parts_for}
-use Rattle.search_progress.specs.declared.progress.Progress.{Progress}
-use Rattle.search_progress.specs.Progressing.{state_of, IsGoing}
+use Rattle.search_steps.specs.Kinds.{CutKind, parts_for}
+use Rattle.search_steps.specs.declared.progress.Progress.{Progress}
+use Rattle.search_steps.specs.Progressing.{state_of, IsGoing}
 
 -- how the rule by these cuts handles a branch with fewer free nodes than this depth
 abbrev pub handling : CutKind → Task → ℕ → Handling

@@ -7,10 +7,10 @@ use Rattle.search_steps.specs.Advising.{told_by}
 use Rattle.search_steps.specs.Pools.{HasGrown}
 use Rattle.search_steps.specs.Weights.{AreNodeWeights, pairs_of}
 use Rattle.search_core.specs.declared.tasks.Task.{Task}
-use Rattle.search_progress.specs.declared.progress.Progress.{Progress}
+use Rattle.search_steps.specs.declared.progress.Progress.{Progress}
 use Rattle.branch_tree.specs.declared.rounds.RoundEnd.{RoundEnd}
 use Rattle.cut_pool.specs.Findings.{lines_of}
-use Rattle.search_progress.specs.Progressing.{state_of, IsGoing}
+use Rattle.search_steps.specs.Progressing.{state_of, IsGoing}
 
 -- what the code's round leaves, with what the search has after it
 abbrev pub round_as : Problem → Progress → RoundEnd → steps.Round

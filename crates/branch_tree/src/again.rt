@@ -10,22 +10,19 @@ ghost use Rattle.search_spec.specs.Costs.{IsAtMostBoth};
 ghost use Rattle.search_spec.specs.Findings.{certificate_of, AreWithin, IsSpent, IsEnough};
 ghost use Rattle.search_core.specs.Starts.{start_seen};
 ghost use Rattle.cut_pool.specs.Entries.{Lacks};
-ghost use Rattle.search_progress.specs.Kinds.{parts_for};
+ghost use Rattle.search_steps.specs.Kinds.{parts_for};
 ghost use Rattle.cut_pool.specs.Findings.{lines_of, proof_of, IsProved};
-ghost use Rattle.search_progress.specs.Progressing.{state_of, IsGoing, IsAt};
+ghost use Rattle.search_steps.specs.Progressing.{state_of, IsGoing, IsAt};
 ghost use Rattle.branch_tree.specs.Findings.{found_again};
-ghost use Rattle.search_progress.specs.Findings.{IsFound};
+ghost use Rattle.search_steps.specs.Findings.{IsFound};
 
 use crate::searching::search_on;
 use assign_sub::lacking;
 use cut_model::StatedCut;
 use cut_pool::Found;
-use hub_model::{Instance, MOST_CUTS};
-use hub_plain::outside;
-use plan_model::{HubSet, are_among};
+use hub_model::{HubSet, Instance, MOST_CUTS, are_among, outside};
 use search_core::{Start, Task};
-use search_progress::{Progress, Separator, begin, number_of, separate};
-use search_steps::Rule;
+use search_steps::{Progress, Rule, Separator, begin, number_of, separate};
 use std::alloc::{AllocError, Global};
 
 /// What the rule of the search, which serves the instance, finds that begins with these cuts beside its own, and tries

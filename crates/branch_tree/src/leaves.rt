@@ -7,17 +7,15 @@ ghost use Rattle.search_spec.specs.States.{denominator};
 ghost use Rattle.search_spec.specs.Steps.{full_on, stopped_leaf, ended};
 ghost use Rattle.search_steps.specs.Weights.{AreNodeWeights, pairs_of};
 ghost use Rattle.search_steps.specs.Advising.{parts_of};
-ghost use Rattle.search_progress.specs.Kinds.{parts_for};
-ghost use Rattle.search_progress.specs.Progressing.{state_of, IsGoing};
+ghost use Rattle.search_steps.specs.Kinds.{parts_for};
+ghost use Rattle.search_steps.specs.Progressing.{state_of, IsGoing};
 ghost use Rattle.branch_tree.specs.Lines.{IsDone};
 
 use crate::lines::add_line;
 use crate::walk::Walk;
-use hub_plain::outside;
-use plan_model::{Branch, HubSet};
+use hub_model::{Branch, HubSet, outside};
 use search_core::whole_leaf;
-use search_progress::{Separator, number_of, stopped_leaf};
-use search_steps::{Rule, leaf_line};
+use search_steps::{Rule, Separator, leaf_line, number_of, stopped_leaf};
 use std::alloc::AllocError;
 
 impl<R: Rule> Walk<'_, R> {

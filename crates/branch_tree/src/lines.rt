@@ -3,11 +3,11 @@
 ghost use Rattle.std.specs.Prelude.{◌≡◌, ◌≤◌, ◌+◌, OnOk};
 ghost use Rattle.hub_spec.specs.Limits.{most_tree_lines};
 ghost use Rattle.hub_spec.specs.Trees.{branch_on};
-ghost use Rattle.plan_model.specs.Lines.{tree_line_of};
+ghost use Rattle.hub_model.specs.Lines.{tree_line_of};
 ghost use Rattle.branch_tree.specs.Lines.{HasLine};
 
-use plan_model::TreeLine;
-use search_progress::{Progress, two_more};
+use hub_model::TreeLine;
+use search_steps::{Progress, two_more};
 use std::alloc::AllocError;
 
 /// Adds a line, unless the tree is as long as a certificate's can be.

@@ -8,18 +8,16 @@ ghost use Rattle.search_spec.specs.Steps.{searched};
 ghost use Rattle.search_spec.specs.Costs.{IsAtMostOf, first_hubs};
 ghost use Rattle.search_spec.specs.Findings.{certificate_of, AreWithin, IsSpent, IsEnough};
 ghost use Rattle.cut_pool.specs.Findings.{lines_of, proof_of, AreRemade, IsProved};
-ghost use Rattle.search_progress.specs.Progressing.{state_of, IsGoing};
+ghost use Rattle.search_steps.specs.Progressing.{state_of, IsGoing};
 ghost use Rattle.branch_tree.specs.Findings.{found_by};
-ghost use Rattle.search_progress.specs.Findings.{IsFound};
-ghost use Rattle.search_progress.specs.Kinds.{minimal, parts_for};
+ghost use Rattle.search_steps.specs.Findings.{IsFound};
+ghost use Rattle.search_steps.specs.Kinds.{minimal, parts_for};
 
 use crate::walk::Walk;
 use cut_pool::Found;
-use hub_model::Instance;
-use plan_model::Branch;
+use hub_model::{Branch, Instance};
 use search_core::Task;
-use search_progress::{Progress, Separator, begin, finish};
-use search_steps::Rule;
+use search_steps::{Progress, Rule, Separator, begin, finish};
 use std::alloc::{AllocError, Global};
 
 /// What the rule of the search, which serves the instance, finds: a wanted plan with its cost, a bound that no wanted

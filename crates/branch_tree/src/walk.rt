@@ -1,7 +1,7 @@
 //! A walk over the tree: what it is to do, by which rule, and what it has.
 
 use search_core::Task;
-use search_progress::Progress;
+use search_steps::Progress;
 use std::alloc::Global;
 
 /// A walk over the tree: its task, the rule, and what the search has so far.

@@ -6,19 +6,18 @@ ghost use Rattle.frac_master.specs.Advice.{advice_of_code};
 ghost use Rattle.search_spec.specs.Choices.{nearest_half};
 ghost use Rattle.search_spec.specs.Steps.{fixed, halved};
 ghost use Rattle.search_steps.specs.Advising.{told_by};
-ghost use Rattle.search_progress.specs.Kinds.{parts_for};
+ghost use Rattle.search_steps.specs.Kinds.{parts_for};
 ghost use Rattle.search_steps.specs.Weights.{AreNodeWeights, pairs_of, sides_as};
 ghost use Rattle.branch_tree.specs.Lines.{handling, IsDone};
-ghost use Rattle.search_progress.specs.Progressing.{state_of, IsGoing};
-ghost use Rattle.search_progress.specs.FixingsLeft.{AreOnFree};
+ghost use Rattle.search_steps.specs.Progressing.{state_of, IsGoing};
+ghost use Rattle.search_steps.specs.FixingsLeft.{AreOnFree};
 
 use crate::lines::{add_line, split_on};
 use crate::rounds::RoundEnd;
 use crate::walk::Walk;
-use hub_fixing::Side;
-use plan_model::Branch;
-use search_progress::{Separator, may_split};
-use search_steps::{Rule, nearest};
+use hub_model::Branch;
+use leaf_bound::Side;
+use search_steps::{Rule, Separator, may_split, nearest};
 use std::alloc::AllocError;
 
 impl<R: Rule> Walk<'_, R> {

@@ -6,11 +6,11 @@ ghost use Rattle.search_spec.specs.Laws.{GoesOn};
 ghost use Rattle.search_spec.specs.Steps.{better, closes_at, fixings};
 ghost use Rattle.search_steps.specs.Advising.{parts_of};
 ghost use Rattle.search_steps.specs.Weights.{AreNodeWeights, pairs_of, sides_as};
-ghost use Rattle.search_progress.specs.Progressing.{state_of, IsGoing};
+ghost use Rattle.search_steps.specs.Progressing.{state_of, IsGoing};
 
 use crate::walk::Walk;
-use hub_fixing::Side;
-use plan_model::Branch;
+use hub_model::Branch;
+use leaf_bound::Side;
 use search_steps::{NodeWeights, Rule, closes, is_better};
 use std::alloc::AllocError;
 

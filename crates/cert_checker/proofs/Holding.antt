@@ -12,8 +12,8 @@ use Rattle.hub_spec.specs.Problem.{Problem, commodity_at}
 use Rattle.hub_spec.specs.Cuts.{Prices, Cut, IsDual}
 use Rattle.hub_spec.specs.Trees as Tree
 use Rattle.hub_spec.specs.Ranges.{IsLineInRange}
-use Rattle.plan_model.specs.Lines.{tree_line_of}
-use Rattle.plan_model.specs.declared.tree_lines.TreeLine.{TreeLine}
+use Rattle.hub_model.specs.Lines.{tree_line_of}
+use Rattle.hub_model.specs.declared.tree_lines.TreeLine.{TreeLine}
 use Rattle.cert_spec.specs.Lines.{Item, says_dual, says_tree, says_end}
 use Rattle.cert_scan.specs.Versions.{version_number, version_of}
 use Rattle.cert_scan.specs.declared.items.Version.{Version}

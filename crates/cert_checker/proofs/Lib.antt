@@ -16,3 +16,4 @@ mod RunClaims
 mod MarkedClaims
 mod OlderChecks
 mod OlderCuts
+pub mod Sizes

@@ -4,8 +4,8 @@ use Rattle.hub_spec.specs.Plans.{Plan}
 use Rattle.hub_spec.specs.Cuts.{Cut}
 use Rattle.hub_spec.specs.Trees.{preorder}
 use Rattle.core_spec.specs.CoreCuts.{Mark}
-use Rattle.plan_model.specs.Lines.{tree_line_of}
-use Rattle.plan_model.specs.declared.tree_lines.TreeLine.{TreeLine}
+use Rattle.hub_model.specs.Lines.{tree_line_of}
+use Rattle.hub_model.specs.declared.tree_lines.TreeLine.{TreeLine}
 use Rattle.cert_spec.specs.Lines.{Item}
 use Rattle.cert_spec.specs.Grammar.{want_nothing}
 use Rattle.cert_spec.specs.Stated.{Stated, IsStatedInRange}

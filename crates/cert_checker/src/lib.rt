@@ -9,7 +9,9 @@
 //!
 //! Of an older certificate, whose cuts a search is to begin with, [`check_cuts`] tries its size and its cuts for the present
 //! instance, and neither its bound, plan, tree nor marks. [`read_older`] reads bytes as such a certificate, and gives it where
-//! its size is the instance's and its cuts are cuts of the instance; else it says what is against it.
+//! its size is the instance's and its cuts are cuts of the instance; else it says what is against it. [`read_sized`] tries the
+//! text and the size line alone: the duals may be of an instance with other fixed costs, numbers of hubs or factors, since a
+//! search that takes advice trusts none of them.
 #![tactic(auto)]
 
 // What is answered.
@@ -28,6 +30,7 @@ mod texts;
 
 // An older certificate.
 mod older;
+mod older_sizes;
 mod runs;
 
 pub use cert_conditions::Kind;
@@ -35,6 +38,7 @@ pub use checks::check;
 pub use endings::NoEnding;
 pub use held::check_held;
 pub use older::{Older, check_cuts, read_older};
+pub use older_sizes::read_sized;
 pub use streams::Stream;
 pub use texts::{MOST_CERTIFICATE_BYTES, check_text};
 pub use verdicts::{Ending, Verdict};

@@ -8,7 +8,7 @@ ghost use Rattle.hub_spec.specs.Ranges.{IsCutInRange};
 ghost use Rattle.cert_spec.specs.Lines.{says_marked, says_tree};
 ghost use Rattle.cert_spec.specs.Stated.{IsStatedInRange};
 ghost use Rattle.cert_spec.specs.Text.{route_items, dual_items, proved_items, cut_items_as, top_items, cuts_items, tree_items};
-ghost use Rattle.plan_model.specs.Lines.{tree_line_of};
+ghost use Rattle.hub_model.specs.Lines.{tree_line_of};
 ghost use Rattle.cert_scan.specs.Parts.{items_of};
 ghost use Rattle.cert_scan.specs.Versions.{version_number};
 ghost use Rattle.cert_format.specs.Parts.{HasProofs};
@@ -22,7 +22,7 @@ use cert_conditions::{Checks, ListLine};
 use cert_format::{Certificate, DualRow, Heading, run_at};
 use cert_scan::{Item, Version};
 use cut_model::{Mark, StatedCut};
-use plan_model::{Mix, Plan, TreeLine};
+use hub_model::{Mix, Plan, TreeLine};
 use std::alloc::{AllocError, Global};
 use std::thread::Threads;
 

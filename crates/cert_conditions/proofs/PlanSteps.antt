@@ -11,8 +11,8 @@ use Rattle.cert_spec.specs.Lines.{says_version, says_size, says_cost, says_bound
 use Rattle.cert_spec.specs.Grammar.{Shape, want_version, want_size, want_cost, want_bound, want_hubs, want_route}
 use Rattle.cert_spec.specs.Conditions.{claim, Size, BoundOverCost, Hubs, Number, Route, Length, Cost, if_time}
 use Rattle.cert_spec.specs.Progress.{Progress}
-use Rattle.plan_lines.specs.Tallies.{PlanTally, no_plan, with_hub, with_route, IsTallyOf}
-use Rattle.plan_lines.proofs.PlanTallies.{costs_plan, has_route}
+use Rattle.cert_lines.specs.PlanTallies.{PlanTally, no_plan, with_hub, with_route, IsTallyOf}
+use Rattle.cert_lines.proofs.PlanTallies.{costs_plan, has_route}
 use Rattle.cert_conditions.specs.Steps.{ended, Ends, size_tests, bound_tests, route_tests, hubbed, routed, HubTaken}
 use Rattle.cert_conditions.specs.Taken.{nothing, some_hubs, StandsFirm, HubsStand, Keeps}
 use Rattle.cert_conditions.specs.declared.checks.Checks.{Checks}

@@ -13,10 +13,10 @@ use Rattle.cert_spec.specs.Grammar.{Shape, want_nodes, want_tree, want_end, IsOp
 use Rattle.cert_spec.specs.Conditions.{Kind, Claim, claim, AllHold, Empty, Block, Count, CutNumber, Multiple, Weight, Leaf, tree_conditions}
 use Rattle.cert_spec.specs.Progress.{Progress, filled}
 use Rattle.cert_conditions.specs.declared.kinds.Kind as code
-use Rattle.tree_lines.specs.Trails.{undecided}
-use Rattle.tree_lines.specs.Paths.{next, behind_next}
-use Rattle.tree_lines.specs.Tallies.{Tally, IsMultipleOf, IsBegun, IsAdded, tally_bound, AreSumsOf}
-use Rattle.tree_lines.proofs.TallyBounds.{bounds_leaf}
+use Rattle.cert_lines.specs.Trails.{undecided}
+use Rattle.cert_lines.specs.Paths.{next, behind_next}
+use Rattle.cert_lines.specs.Tallies.{Tally, IsMultipleOf, IsBegun, IsAdded, tally_bound, AreSumsOf}
+use Rattle.cert_lines.proofs.TallyBounds.{bounds_leaf}
 use Rattle.cert_conditions.specs.Sums.{CutTally, no_sums, numbered}
 use Rattle.cert_conditions.specs.Steps.{Tried, ended, Ends, rooted, branched, path_filled, BranchTaken, empty_tests, block_tests, count_tests, leaf_with, LeafFound, LeafEnds, no_multiple, IsWeighed, no_cut, not_multiple, failed, too_much, added}
 use Rattle.cert_conditions.specs.Taken.{nothing, some_weights, StandsFirm, AreSumsOfCut, AreCutSums, TreeStands, AreNumbers, WeightsStand, Sized, Cutted, Keeps}

@@ -14,11 +14,11 @@ use Rattle.core_lines.specs.Tests.{IsListed, Proves}
 use Rattle.cert_conditions.specs.Kinds.{kind_of}
 use Rattle.cert_conditions.specs.declared.kinds.Kind as code
 use Rattle.cert_scan.specs.declared.items.Item as item
-use Rattle.plan_lines.specs.Tallies.{with_hub, with_route}
+use Rattle.cert_lines.specs.PlanTallies.{with_hub, with_route}
 use Rattle.dual_lines.specs.Lines.{ListedDual}
-use Rattle.tree_lines.specs.Trails.{undecided}
-use Rattle.tree_lines.specs.Paths.{next, behind_next}
-use Rattle.tree_lines.specs.Tallies.{Tally, IsMultipleOf, IsBegun, IsAdded, tally_bound}
+use Rattle.cert_lines.specs.Trails.{undecided}
+use Rattle.cert_lines.specs.Paths.{next, behind_next}
+use Rattle.cert_lines.specs.Tallies.{Tally, IsMultipleOf, IsBegun, IsAdded, tally_bound}
 use Rattle.cert_conditions.specs.Sums.{CutTally, most_duals, IsNoDual, AreWithin, last_of, numbered, IsLastAdded}
 use Rattle.cert_conditions.specs.declared.checks.Checks.{Checks}
 

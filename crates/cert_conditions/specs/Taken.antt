@@ -19,10 +19,10 @@ use Rattle.cert_conditions.specs.declared.kinds.Kind as code
 use Rattle.cert_scan.specs.Parts.{parts_of, open_hubs, open_mark, open_values, open_ways, open_weights}
 use Rattle.cert_scan.specs.declared.items.Item.{Item}
 use Rattle.cert_scan.specs.declared.items.Item.TheVariants.{Cut as cut_item, Dual, Proof, Leaf}
-use Rattle.plan_lines.specs.Tallies.{PlanTally, IsTallyOf, no_plan}
+use Rattle.cert_lines.specs.PlanTallies.{PlanTally, IsTallyOf, no_plan}
 use Rattle.dual_lines.specs.Lines.{ListedDual}
 use Rattle.core_lines.specs.Tallies.{ProofTally, IsTallyOf as IsProofTallyOf}
-use Rattle.tree_lines.specs.Tallies.{Tally, AreSumsOf as AreLeafSumsOf}
+use Rattle.cert_lines.specs.Tallies.{Tally, AreSumsOf as AreLeafSumsOf}
 use Rattle.cert_conditions.specs.Sums.{CutTally, AreSumsOf, AreWithin, last_of}
 use Rattle.cert_conditions.specs.Marks.{MarkTally}
 use Rattle.cert_conditions.specs.declared.checks.Checks.{Checks}

@@ -15,12 +15,11 @@ ghost use Rattle.cert_conditions.specs.Taken.{HasTaken, TellsFirst};
 use crate::cut_lists::CutList;
 use crate::kinds::Kind;
 use crate::marks::MarkLine;
+use cert_lines::{LeafSums, PlanSums, TreePath};
 use cert_scan::Item;
 use dual_lines::DualLine;
 use hub_model::Instance;
-use plan_lines::PlanSums;
 use std::alloc::{AllocError, Global};
-use tree_lines::{LeafSums, TreePath};
 
 /// The check of a certificate of an instance, of which some items have come. Amounts are in 10^-12.
 #[derive(Drop)]

@@ -9,7 +9,7 @@ ghost use Rattle.cert_conditions.specs.ListLines.{line_of, HasItem, open_items, 
 use crate::checks::Checks;
 use cert_scan::Item;
 use cut_model::{DualProof, StatedDual};
-use plan_model::Mix;
+use hub_model::Mix;
 use std::alloc::{AllocError, Global};
 
 /// A line that lists something. Nodes count from 0, cuts from 1.

@@ -13,9 +13,9 @@ ghost use Rattle.core_lines.specs.Tests.{IsListed, Proves};
 ghost use Rattle.cert_conditions.specs.Marks.{MarkTally};
 
 use crate::sums::add_values;
+use cert_lines::is_candidate;
 use core_lines::ProofLine;
 use hub_model::Instance;
-use plan_lines::is_candidate;
 use std::alloc::{AllocError, Global};
 use std::marker::Model;
 

@@ -1,7 +1,7 @@
 //! The conditions from the size of the instance to the last route of the plan.
 
 ghost use Rattle.std.specs.Prelude.{◌≡◌, ◌^◌, ◌-◌, ◌<◌, ◌↔◌, Bool, IsTrue, None, Contains};
-ghost use Rattle.plan_lines.specs.Tallies.{with_hub};
+ghost use Rattle.cert_lines.specs.PlanTallies.{with_hub};
 ghost use Rattle.cert_conditions.specs.Steps.{
   Tried,
   ended,
@@ -19,7 +19,7 @@ ghost use Rattle.cert_conditions.specs.Steps.{
 
 use crate::checks::Checks;
 use crate::kinds::Kind;
-use plan_lines::is_candidate;
+use cert_lines::is_candidate;
 
 impl<'a> Checks<'a> {
     pub(crate) fn take_size(&mut self, n: u32, q: u32)

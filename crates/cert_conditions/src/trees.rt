@@ -26,7 +26,7 @@ ghost use Rattle.cert_conditions.specs.Steps.{
 
 use crate::checks::Checks;
 use crate::kinds::Kind;
-use tree_lines::is_multiple;
+use cert_lines::is_multiple;
 
 impl<'a> Checks<'a> {
     pub(crate) fn take_nodes(&mut self)

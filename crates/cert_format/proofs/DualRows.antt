@@ -11,13 +11,13 @@ use Rattle.hub_spec.specs.Cuts.{Prices}
 use Rattle.hub_spec.proofs.SumLemmas.{by_test}
 use Rattle.cert_spec.specs.Lines.{says_dual}
 use Rattle.cert_spec.specs.Runs.{ends_row, joined, runs, spread, before_at, AreRuns}
-use Rattle.plan_model.specs.Prices.{natural_values, signed_values}
+use Rattle.hub_model.specs.Prices.{natural_values, signed_values}
 use Rattle.cert_spec.specs.Text.{line_bytes, same_prices, is_first, singles, run_items, dual_items}
 use Rattle.cert_spec.proofs.RunLaws.{runs_are, spread_runs, runs_spread}
 use Rattle.cert_spec.proofs.SamePrices.{prices_told}
 use Rattle.cert_spec.proofs.Leads.{length-spread, spread_singles}
 use Rattle.cert_format.proofs.Joined.{texts_joined}
-use Rattle.plan_model.proofs.ListedValues.{listed_again}
+use Rattle.hub_model.proofs.ListedValues.{listed_again}
 use Rattle.cert_format.specs.DualItems.{runs_from, row_items_from, row_items, dual_row, no_dual, BeginsOther, IsRunAt, row_of, all_dual_items}
 
 -- ---- runs of a list that begins with equal ones

@@ -18,8 +18,8 @@ use Rattle.cert_spec.specs.Lines.{Item, says_version, says_size, says_cost, says
 use Rattle.cert_spec.specs.Text.{line_bytes, route_items, part_said, dual_items, cut_items_as, cut_items, top_items, cuts_items, tree_items, certificate_items, certificate_text}
 use Rattle.cert_spec.proofs.Items.{certificate_items-parts}
 use Rattle.cert_scan.specs.Versions.{version_number}
-use Rattle.plan_model.specs.Lines.{tree_line_of}
-use Rattle.plan_model.specs.declared.tree_lines.TreeLine.{TreeLine}
+use Rattle.hub_model.specs.Lines.{tree_line_of}
+use Rattle.hub_model.specs.declared.tree_lines.TreeLine.{TreeLine}
 use Rattle.cert_format.specs.Spaced.{words_line}
 use Rattle.cert_format.specs.Parts.{HasProofs, IsHeadingOf}
 use Rattle.cert_format.specs.declared.headings.Heading.{Heading}

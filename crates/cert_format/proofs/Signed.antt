@@ -7,7 +7,7 @@ use Rattle.std.proofs.lemmas.List.Elements.{All-from_recursion, recursion_from_A
 use Rattle.hub_spec.specs.Trees.{leaf_of}
 use Rattle.hub_spec.specs.Ranges.{IsShort, IsLineInRange}
 use Rattle.hub_model.specs.Amounts.{natural}
-use Rattle.plan_model.specs.Mixtures.{natural_weights, IsSignedMixture}
+use Rattle.hub_model.specs.Mixtures.{natural_weights, IsSignedMixture}
 
 above_0 : (z : ℤ) → 1 ≤ natural z → pos 1 ≤ℤ z
 above_0 (pos n) h = omega (arith, ints)

@@ -8,9 +8,9 @@ use Rattle.hub_spec.specs.Trees.{leaf_of}
 use Rattle.cert_spec.specs.Lines.{Item, says_hubs, says_dual, says_tree, keyword, numbers, words_behind, run_numbers, value_numbers, weight_numbers, line_text}
 use Rattle.cert_spec.specs.Text.{line_bytes}
 use Rattle.hub_model.specs.Amounts.{natural, IsNatural}
-use Rattle.plan_model.specs.Prices.{natural_values, signed_values}
+use Rattle.hub_model.specs.Prices.{natural_values, signed_values}
 use Rattle.cert_format.proofs.Amounts.{natural_pos}
-use Rattle.plan_model.proofs.ListedValues.{listed_again}
+use Rattle.hub_model.proofs.ListedValues.{listed_again}
 use Rattle.cert_format.specs.Spaced.{spaced, words_text, words_line, spaced_node, spaced_value, spaced_entry, spaced_weight, run_text}
 
 pub words_joined : (word ns : List ℕ) → words_text word ns ≡ join_with_byte 32 (word ∷ map decimal ns)

@@ -1,8 +1,8 @@
 -- What a gathering holds.
 use Rattle.std.specs.Prelude.{ℕ, ℤ, List, map, Some, None}
 use Rattle.core_spec.specs.CoreCuts.{Way}
-use Rattle.plan_model.specs.Mixtures.{natural_weights}
-use Rattle.plan_model.specs.Lines.{tree_line_of}
+use Rattle.hub_model.specs.Mixtures.{natural_weights}
+use Rattle.hub_model.specs.Lines.{tree_line_of}
 use Rattle.cert_scan.specs.Versions.{version_number}
 use Rattle.cert_format.specs.Gathered.{Marking, no_cut, cut_begun, Gathered, Begun, no_line, dual_begun, proof_begun, leaf_begun, Standing}
 use Rattle.cert_format.specs.declared.begun.BegunLine.{BegunLine}

@@ -6,8 +6,8 @@ use Rattle.hub_spec.specs.Trees.{preorder}
 use Rattle.hub_spec.specs.Certificates.{Proof}
 use Rattle.core_spec.specs.CoreCuts.{Mark}
 use Rattle.cert_spec.specs.Stated.{Stated, IsStatedInRange}
-use Rattle.plan_model.specs.Lines.{tree_line_of}
-use Rattle.plan_model.specs.declared.tree_lines.TreeLine.{TreeLine}
+use Rattle.hub_model.specs.Lines.{tree_line_of}
+use Rattle.hub_model.specs.declared.tree_lines.TreeLine.{TreeLine}
 use Rattle.cert_scan.specs.Versions.{version_number}
 use Rattle.cert_format.specs.Growing.{tree_of}
 use Rattle.cert_format.specs.declared.headings.Heading.{Heading}

@@ -1,14 +1,14 @@
 ghost use Rattle.std.specs.Prelude.{◌≡◌, map};
 ghost use Rattle.hub_spec.specs.Trees.{preorder};
 ghost use Rattle.cert_spec.specs.Stated.{IsStatedInRange};
-ghost use Rattle.plan_model.specs.Lines.{tree_line_of};
+ghost use Rattle.hub_model.specs.Lines.{tree_line_of};
 ghost use Rattle.cert_scan.specs.Versions.{version_number};
 ghost use Rattle.cert_format.specs.Parts.{stated_of, AreCertificateParts, IsHeadingOf};
 
 use crate::Heading;
 use cert_scan::Version;
 use cut_model::{Mark, StatedCut};
-use plan_model::{Plan, TreeLine};
+use hub_model::{Plan, TreeLine};
 use std::marker::Model;
 
 /// A certificate within the ranges of the grammar: a plan and its cost, and cuts with a tree that are to show that no plan

@@ -10,8 +10,7 @@ use crate::begun_marks::BegunMark;
 use crate::{Certificate, Heading};
 use cert_scan::{Item, Version};
 use cut_model::{DualProof, Mark, StatedCut};
-use hub_model::signed;
-use plan_model::{Mix, Plan, TreeLine};
+use hub_model::{Mix, Plan, TreeLine, signed};
 use std::alloc::{AllocError, Global};
 use std::mem;
 

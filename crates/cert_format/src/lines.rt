@@ -6,8 +6,8 @@ ghost use Rattle.cert_spec.specs.Lines.{says_hubs, says_route, says_cut, says_du
 ghost use Rattle.cert_spec.specs.Text.{part_said};
 ghost use Rattle.hub_io.specs.Outside.{PutsThrough};
 ghost use Rattle.hub_model.specs.Amounts.{natural, IsNatural};
-ghost use Rattle.plan_model.specs.Prices.{natural_values};
-ghost use Rattle.plan_model.specs.Lines.{tree_line_of};
+ghost use Rattle.hub_model.specs.Prices.{natural_values};
+ghost use Rattle.hub_model.specs.Lines.{tree_line_of};
 ghost use Rattle.cert_scan.specs.Versions.{version_number};
 ghost use Rattle.cert_format.specs.Spaced.{spaced_node, spaced_value, spaced_entry, spaced_weight, run_text};
 ghost use Rattle.cert_format.specs.Puts.{PutsLine};
@@ -16,8 +16,7 @@ use crate::spaced::{put_line, put_number, put_pair, put_words};
 use cert_scan::Version;
 use cut_model::StatedDual;
 use hub_io::{Buffer, Failed, Sink};
-use hub_model::unsigned;
-use plan_model::{Mix, TreeLine};
+use hub_model::{Mix, TreeLine, unsigned};
 
 // Puts the line of the hubs.
 pub(crate) fn put_hubs<K: Sink>(

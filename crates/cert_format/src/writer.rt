@@ -5,7 +5,7 @@ ghost use Rattle.hub_spec.specs.Problem.{commodities};
 ghost use Rattle.cert_spec.specs.Lines.{says_version, says_size, says_cost, says_bound, says_tree};
 ghost use Rattle.cert_spec.specs.Text.{route_items, cut_items_as, top_items, cuts_items, tree_items, certificate_items, certificate_text};
 ghost use Rattle.hub_io.specs.Outside.{Puts};
-ghost use Rattle.plan_model.specs.Lines.{tree_line_of};
+ghost use Rattle.hub_model.specs.Lines.{tree_line_of};
 ghost use Rattle.cert_scan.specs.Versions.{version_number};
 ghost use Rattle.cert_format.specs.Parts.{HasProofs};
 ghost use Rattle.cert_format.specs.Puts.{PutsLines};
@@ -18,7 +18,7 @@ use crate::{Certificate, Heading};
 use cert_scan::Version;
 use cut_model::{Mark, StatedCut};
 use hub_io::{Buffer, Failed, Sink};
-use plan_model::{Plan, TreeLine};
+use hub_model::{Plan, TreeLine};
 
 /// Puts the text of a certificate, in puts of about 8192 bytes each. It takes no memory but for those bytes.
 pub fn write_cert<K: Sink>(certificate: &Certificate, sink: &mut K) -> Result<(), Failed>

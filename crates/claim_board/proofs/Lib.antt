@@ -3,3 +3,5 @@ mod Sounds
 mod Runs
 mod Moves
 mod Closings
+mod Rows
+mod Together

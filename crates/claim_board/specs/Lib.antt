@@ -2,3 +2,4 @@ pub mod Hands
 pub mod Draws
 pub mod Rules
 pub mod Places
+pub mod Crops

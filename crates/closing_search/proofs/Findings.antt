@@ -18,7 +18,7 @@ use Rattle.hub_spec.proofs.SumLemmas.{by_test}
 use Rattle.hub_spec.proofs.SetCosts.{plan_of_least, set_cost_is, one_set_cost}
 use Rattle.hub_spec.proofs.Sets.{is_in, part_is_filter}
 use Rattle.hub_spec.proofs.WeakDuality.{Agrees-root, tree_weak, no_plan_below_bound}
-use Rattle.plan_model.specs.Lines.{tree_line_of}
+use Rattle.hub_model.specs.Lines.{tree_line_of}
 use Rattle.search_spec.specs.States.{lesser}
 use Rattle.search_spec.specs.Laws.{IsWantedSet}
 use Rattle.search_spec.specs.Costs.{IsAtMostOf, first_hubs}

@@ -8,8 +8,8 @@ use Rattle.hub_spec.specs.Plans.{IsHubSet, HasWanted, IsSetCost}
 use Rattle.hub_spec.specs.Cuts.{Cut}
 use Rattle.hub_spec.specs.Trees.{Branching, root, open_child, closed_child, TreeLine, branch_on}
 use Rattle.hub_spec.specs.Ranges.{IsFirstLine, IsLineInRange}
-use Rattle.plan_model.specs.declared.tree_lines.TreeLine as model
-use Rattle.plan_model.specs.Lines.{tree_line_of}
+use Rattle.hub_model.specs.declared.tree_lines.TreeLine as model
+use Rattle.hub_model.specs.Lines.{tree_line_of}
 use Rattle.search_spec.specs.States.{lesser}
 use Rattle.search_spec.specs.Findings.{AreWithin, IsSpent, IsEnough}
 use Rattle.search_spec.specs.Costs.{first_hubs}

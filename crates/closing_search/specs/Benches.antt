@@ -1,7 +1,7 @@
 -- What a search works with.
 use Rattle.std.specs.Prelude.{◌≡◌, ℕ, ◌*◌, List, length}
 use Rattle.hub_spec.specs.Problem.{Problem, IsProblem}
-use Rattle.value_cuts.specs.Values.{ValueRows, AreValuesFor}
+use Rattle.cut_model.specs.ValueRows.{ValueRows, AreValuesFor}
 use Rattle.closing_search.specs.declared.pricing.Pricing.{Pricing}
 
 -- the instance, the values that were taken last, and the loads of the cut that was worked out last

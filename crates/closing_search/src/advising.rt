@@ -7,8 +7,7 @@ ghost use Rattle.closing_search.specs.Walking.{IsWalking, IsSameWalk};
 
 use crate::progress::{goal, offer_nodes};
 use crate::walker::Walker;
-use hub_model::signed;
-use plan_model::Branch;
+use hub_model::{Branch, signed};
 use search_advice::Advice;
 use std::alloc::AllocError;
 use std::thread::Threads;

@@ -4,15 +4,14 @@ ghost use Rattle.std.specs.Prelude.{◌≡◌, ◌≤◌, length, IfOk};
 ghost use Rattle.hub_spec.specs.Problem.{Problem};
 ghost use Rattle.hub_spec.specs.Plans.{IsHubSet};
 ghost use Rattle.hub_spec.specs.Separation.{IsOrder, set_cut};
-ghost use Rattle.value_cuts.specs.Values.{AreValuesFor, value_cut};
+ghost use Rattle.cut_model.specs.ValueRows.{AreValuesFor, value_cut};
 ghost use Rattle.cut_pool.specs.Kept.{kept_of, by_values};
 ghost use Rattle.closing_search.specs.SingleCuts.{AreLoads};
 
 use crate::pricing::Pricing;
 use cut_pool::{KeptCut, PackedValues};
-use hub_model::Instance;
+use hub_model::{HubSet, Instance};
 use pareto_cuts::Scratch;
-use plan_model::HubSet;
 use std::alloc::{AllocError, Global};
 use std::marker::Model;
 use std::thread::Threads;

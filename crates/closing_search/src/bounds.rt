@@ -15,10 +15,9 @@ ghost use Rattle.closing_search.specs.SingleCuts.{AreLoads, AreLentOf, IsOnCut, 
 use crate::progress::{Progress, goal};
 use crate::task::Task;
 use crate::walk::Walk;
-use hub_model::Instance;
+use hub_model::{Branch, Instance};
 use leaf_bound::{Weighting, bound, threshold};
 use p_hub::bound_p;
-use plan_model::Branch;
 use search_core::WHOLE_WEIGHT;
 use std::alloc::AllocError;
 

@@ -3,13 +3,12 @@
 ghost use Rattle.std.specs.Prelude.{◌≡◌, ◌≤◌, ◌+◌, length, None, Some, IfOk, IfSome};
 ghost use Rattle.hub_spec.specs.Problem.{IsProblem};
 ghost use Rattle.hub_spec.specs.Trees.{IsBranch, HasRoom};
-ghost use Rattle.plan_model.specs.Lines.{tree_line_of};
+ghost use Rattle.hub_model.specs.Lines.{tree_line_of};
 ghost use Rattle.search_spec.specs.Choices.{all_open};
 ghost use Rattle.closing_search.specs.Ends.{IsBarren, IsOpen, IsLastSet};
 
 use assign_sub::lacking;
-use hub_model::Instance;
-use plan_model::{Branch, HubSet, TreeLine};
+use hub_model::{Branch, HubSet, Instance, TreeLine};
 use std::alloc::{AllocError, Global};
 
 /// The line of a branch in which no wanted hub set is left, if none is: it has too many hubs or too few nodes for the

@@ -1,6 +1,6 @@
 //! Who advises a search, asked in nodes in place of places.
 
-use plan_model::{Branch, HubSet};
+use hub_model::{Branch, HubSet};
 use search_advice::{Advice, Side};
 use std::alloc::{AllocError, Global};
 

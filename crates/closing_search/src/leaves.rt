@@ -5,7 +5,7 @@ ghost use Rattle.hub_spec.specs.Limits.{most_cost};
 ghost use Rattle.hub_spec.specs.Problem.{opening_cost};
 ghost use Rattle.hub_spec.specs.Plans.{IsHubSet, HasWanted, IsSetCost};
 ghost use Rattle.hub_spec.specs.Trees.{IsBranch, HasRoom, leaf_of, leaf_bound, cut_at};
-ghost use Rattle.plan_model.specs.Lines.{tree_line_of};
+ghost use Rattle.hub_model.specs.Lines.{tree_line_of};
 ghost use Rattle.leaf_bound.specs.Weighing.{most_bound, IsWithin};
 ghost use Rattle.search_spec.specs.States.{denominator};
 ghost use Rattle.search_spec.specs.Findings.{IsSpent};
@@ -20,8 +20,7 @@ use crate::progress::{Progress, end_with, goal, offer};
 use crate::task::Task;
 use crate::walk::Walk;
 use cut_pool::KeptCut;
-use hub_plain::outside;
-use plan_model::{Branch, HubSet, Mix, TreeLine};
+use hub_model::{Branch, HubSet, Mix, TreeLine, outside};
 use search_core::{WHOLE_WEIGHT, lesser, rounded_up, whole_leaf};
 use std::alloc::{AllocError, Global};
 

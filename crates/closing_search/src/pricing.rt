@@ -2,7 +2,7 @@
 
 ghost use Rattle.std.specs.Prelude.{◌≤◌, IfOk, OnOk};
 ghost use Rattle.hub_spec.specs.Problem.{Problem};
-ghost use Rattle.value_cuts.specs.Values.{value_cut};
+ghost use Rattle.cut_model.specs.ValueRows.{value_cut};
 ghost use Rattle.value_cuts.specs.Prices.{AreRowPrices};
 ghost use Rattle.closing_search.specs.SingleCuts.{AreLoads};
 ghost use Rattle.closing_search.specs.Benches.{IsPricingFor};

@@ -5,7 +5,7 @@ ghost use Rattle.hub_spec.specs.Limits.{most_cost};
 ghost use Rattle.hub_spec.specs.Plans.{IsHubSet, HasWanted, IsSetCost};
 ghost use Rattle.hub_spec.specs.Trees.{IsBranch};
 ghost use Rattle.hub_spec.specs.Ranges.{IsFirstLine, IsLineInRange};
-ghost use Rattle.plan_model.specs.Lines.{tree_line_of};
+ghost use Rattle.hub_model.specs.Lines.{tree_line_of};
 ghost use Rattle.search_spec.specs.Laws.{IsWantedSet};
 ghost use Rattle.search_spec.specs.Findings.{AreWithin, IsSpent};
 ghost use Rattle.search_spec.specs.Walks.{IsSoundLine};
@@ -17,9 +17,7 @@ ghost use Rattle.closing_search.specs.Progressing.{cuts_of, target_of, IsWantedA
 use crate::task::{MOST_GAP, Task};
 use assign_sub::{cost_of_set, lacking};
 use cut_pool::KeptCuts;
-use hub_model::Instance;
-use hub_plain::{has_wanted, is_candidate_set};
-use plan_model::{Branch, HubSet, TreeLine};
+use hub_model::{Branch, HubSet, Instance, TreeLine, has_wanted, is_candidate_set};
 use search_core::{add_line, lesser};
 use std::alloc::{AllocError, Global};
 

@@ -2,7 +2,7 @@
 
 ghost use Rattle.std.specs.Prelude.{◌≡◌, ◌≤◌, length, IsTrue, false, IfOk, OnOk};
 ghost use Rattle.hub_spec.specs.Trees.{IsBranch, HasRoom, cut_at};
-ghost use Rattle.value_cuts.specs.Values.{AreValuesFor, value_cut};
+ghost use Rattle.cut_model.specs.ValueRows.{AreValuesFor, value_cut};
 ghost use Rattle.search_spec.specs.Findings.{IsSpent};
 ghost use Rattle.closing_search.specs.Gaps.{goal_of};
 ghost use Rattle.closing_search.specs.Progressing.{cuts_of, IsGoing, IsAt, IsDone, IsAdvised};
@@ -11,7 +11,7 @@ ghost use Rattle.closing_search.specs.Walking.{IsWalking, IsSameWalk};
 
 use crate::progress::may_split;
 use crate::walk::Walk;
-use plan_model::Branch;
+use hub_model::Branch;
 use std::alloc::AllocError;
 use std::thread::Threads;
 

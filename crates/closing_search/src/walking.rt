@@ -9,7 +9,7 @@ ghost use Rattle.closing_search.specs.Walking.{IsWalking, IsSameWalk};
 use crate::ends::{barren_line, last_set};
 use crate::progress::{end_with, split_on};
 use crate::walker::Walker;
-use plan_model::Branch;
+use hub_model::Branch;
 use search_advice::Advice;
 use std::alloc::AllocError;
 use std::thread::Threads;

@@ -8,8 +8,7 @@ ghost use Rattle.core_cuts.specs.Brought.{most_found, most_sum, IsDualWithin};
 ghost use Rattle.core_cuts.specs.FoundCuts.{times_dual, brought};
 
 use crate::core_duals::CoreDual;
-use hub_model::signed;
-use plan_model::Dual;
+use hub_model::{Dual, signed};
 use std::alloc::{AllocError, Global};
 
 /// The dual brought to the part, if its price and its values are then at most so much.

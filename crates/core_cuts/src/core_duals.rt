@@ -19,9 +19,8 @@ use crate::unit_prices::UnitPrices;
 use crate::ways::Ways;
 use cut_model::DualProof;
 use frac_rows::Ended;
-use hub_model::Instance;
+use hub_model::{Dual, HubSet, Instance};
 use plain_rows::PlainRows;
-use plan_model::{Dual, HubSet};
 use std::alloc::{AllocError, Global};
 use std::marker::Model;
 

@@ -8,8 +8,7 @@ ghost use Rattle.core_spec.specs.CoreCuts.{pair_cost};
 ghost use Rattle.core_cuts.specs.CoreTables.{is_needed, edge_right};
 ghost use Rattle.core_cuts.specs.Bodies.{most_unit};
 
-use hub_model::Instance;
-use hub_plain::least_route;
+use hub_model::{Instance, least_route};
 use std::alloc::{AllocError, Global};
 
 /// Each node as a single hub.

@@ -15,8 +15,7 @@ use crate::common_parts::common_part;
 use crate::core_duals::CoreDual;
 use crate::found_duals::{found_duals, may_be_marked, proofs_of};
 use cut_model::{Mark, MarkedCut};
-use hub_model::Instance;
-use plan_model::HubSet;
+use hub_model::{HubSet, Instance};
 use std::alloc::{AllocError, Global};
 
 /// The Pareto-optimal cut of this hub set. There is none where cuts may not be marked, where a commodity has no

@@ -11,8 +11,7 @@ ghost use Rattle.core_cuts.specs.Readings.{IsFound, IsNotFound};
 use crate::ahead::{next_dual, nothing_ahead};
 use crate::core_duals::CoreDual;
 use cut_model::DualProof;
-use hub_model::Instance;
-use plan_model::HubSet;
+use hub_model::{HubSet, Instance};
 use std::alloc::{AllocError, Global};
 
 /// Tells whether cuts may be marked: there are 3 to 20 candidates, and neither the length of routes nor the number of hubs is

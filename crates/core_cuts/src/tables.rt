@@ -5,8 +5,8 @@ ghost use Rattle.frac_rows.specs.Starts.{start};
 ghost use Rattle.core_cuts.specs.CoreTables.{through, counts, price_column, value_column};
 ghost use Rattle.core_cuts.specs.Bodies.{most_unit, way_row, objective_row};
 
+use hub_model::is_among;
 use plain_rows::PlainRows;
-use plan_model::is_among;
 use std::alloc::{AllocError, Global};
 
 /// The rows for these ways with these right sides. The variables are the price and the value of each candidate, and last

@@ -4,14 +4,13 @@ ghost use Rattle.std.specs.Prelude.{◌≡◌, ◌↔◌, ◌+◌, ◌*◌, ◌<
 ghost use Rattle.hub_spec.specs.Cuts.{value_at};
 ghost use Rattle.hub_spec.specs.Limits.{most_flow};
 ghost use Rattle.hub_spec.specs.Separation.{values_listed};
-ghost use Rattle.plan_model.specs.Prices.{signed_values};
+ghost use Rattle.hub_model.specs.Prices.{signed_values};
 ghost use Rattle.core_cuts.specs.Readings.{most_units, dual_of};
 ghost use Rattle.core_cuts.specs.BasicRatios.{whole_at, reading_at, IsWithinUnits};
 
 use crate::least_parts::times_part;
 use crate::ratios::Ratio;
-use hub_model::{Instance, signed};
-use plan_model::{Dual, list_value};
+use hub_model::{Dual, Instance, list_value, signed};
 use std::alloc::{AllocError, Global};
 use std::marker::Model;
 

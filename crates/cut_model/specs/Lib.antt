@@ -3,3 +3,6 @@ pub mod Values
 pub mod Runs
 pub mod CutParts
 pub mod MarkedCuts
+pub mod ValueRows
+pub mod HeldRows
+pub mod Lending

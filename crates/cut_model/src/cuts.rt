@@ -11,7 +11,7 @@ use crate::StatedDual;
 use crate::runs::{Run, lend, place_of, push_listed, push_values};
 use crate::sums::{loads_of, total_of};
 use crate::values::StatedValue;
-use plan_model::Dual;
+use hub_model::Dual;
 use std::alloc::{AllocError, Global};
 use std::marker::Model;
 

@@ -9,7 +9,7 @@ ghost use Rattle.cut_model.specs.Runs.{run_dual, HaveEnds, IsRunAt, IsRunOf};
 
 use crate::StatedDual;
 use crate::values::StatedValue;
-use plan_model::Dual;
+use hub_model::Dual;
 use std::alloc::AllocError;
 
 /// A run of commodities with one dual: its price, how many commodities it is for, how many there are up to its end, and

@@ -6,8 +6,8 @@ use Rattle.hub_spec.specs.Cuts.{IsCut}
 use Rattle.hub_spec.specs.Ranges.{IsCutInRange, IsFirstCut}
 use Rattle.hub_spec.specs.Separation.{set_cut}
 use Rattle.search_spec.proofs.SetCosts.{set_cut_serves}
-use Rattle.value_cuts.proofs.ValueSums.{cut_is, cut_in_range, cut_is_first}
-use Rattle.value_cuts.specs.Values.{value_cut}
+use Rattle.cut_model.proofs.ValueCuts.{cut_is, cut_in_range, cut_is_first}
+use Rattle.cut_model.specs.ValueRows.{value_cut}
 use Rattle.cut_pool.specs.Kept.{Kept, by_values, by_set, cored, given, kept_cut, kept_part, kept_mark, IsRemade, IsKeptFor}
 use Rattle.cut_pool.specs.Theorems.{IsMarkedBy}
 use Rattle.cut_pool.proofs.FirstCuts.{whole_is_first}

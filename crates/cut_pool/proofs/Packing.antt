@@ -7,7 +7,7 @@ use Rattle.std.proofs.lemmas.List.{append-nil, append_assoc, flat_map_more, leng
 use Rattle.hub_spec.specs.Limits.{most_nodes}
 use Rattle.hub_spec.specs.Problem.{Problem, IsProblem}
 use Rattle.hub_spec.proofs.Limits.{few_candidates}
-use Rattle.value_cuts.specs.Values.{ValueRows}
+use Rattle.cut_model.specs.ValueRows.{ValueRows}
 use Rattle.cut_pool.specs.Packed.{written, unpacked, all_unpacked, AreRowsFrom}
 use Rattle.cut_pool.specs.PackedParts.{packed_rows, ArePackedRows}
 use Rattle.cut_pool.specs.Items.{Item}

@@ -9,7 +9,7 @@ use Rattle.hub_spec.specs.Separation.{IsOrder, set_cut}
 use Rattle.core_spec.specs.CoreCuts.{Mark, IsCoreCut}
 use Rattle.core_spec.specs.MarkRanges.{IsMarkInRange}
 use Rattle.cut_model.specs.MarkedCuts.{MarkedCut}
-use Rattle.value_cuts.specs.Values.{ValueRows, AreValuesFor, value_cut}
+use Rattle.cut_model.specs.ValueRows.{ValueRows, AreValuesFor, value_cut}
 use Rattle.cut_pool.specs.declared.kept.KeptCut.{KeptCut}
 use Rattle.cut_pool.specs.declared.kept.KeptCut.TheVariants.{Values, Set, Core, Given}
 

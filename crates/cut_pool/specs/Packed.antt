@@ -2,7 +2,7 @@
 use Rattle.std.specs.Prelude.{◌≡◌, ℕ, ◌+◌, ◌*◌, ◌<◌, List, [], ◌∷◌, length, replicate, slice_range, slice_set, flat_map}
 use Rattle.std.specs.declared.vec.Vec.{Vec}
 use Rattle.std.specs.declared.alloc.Global.{Global}
-use Rattle.value_cuts.specs.Values.{ValueRows, row_for}
+use Rattle.cut_model.specs.ValueRows.{ValueRows, row_for}
 use Rattle.cut_pool.specs.Items.{Item}
 
 -- a list with the items' numbers written into it, one after another

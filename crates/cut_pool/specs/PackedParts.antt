@@ -1,7 +1,7 @@
 -- What packed values stand for.
 use Rattle.std.specs.Prelude.{◌≡◌, ◌*◌, ◌≤◌, length}
 use Rattle.hub_spec.specs.Limits.{most_nodes}
-use Rattle.value_cuts.specs.Values.{ValueRows}
+use Rattle.cut_model.specs.ValueRows.{ValueRows}
 use Rattle.cut_pool.specs.Packed.{all_unpacked}
 use Rattle.cut_pool.specs.declared.packed.PackedValues.TheInside.{Inside}
 

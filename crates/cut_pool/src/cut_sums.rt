@@ -2,7 +2,7 @@
 
 ghost use Rattle.std.specs.Prelude.{◌≡◌, IfOk};
 
-use plan_model::HubSet;
+use hub_model::HubSet;
 use std::alloc::{AllocError, Global};
 use std::marker::Model;
 

@@ -3,7 +3,7 @@
 ghost use Rattle.std.specs.Prelude.{◌≡◌};
 
 use crate::KeptCuts;
-use plan_model::{Plan, TreeLine};
+use hub_model::{Plan, TreeLine};
 
 /// A plan with the cuts and the tree that bound what any plan costs: what a search comes to, whether it follows a fixed
 /// rule or none.

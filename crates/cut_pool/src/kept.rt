@@ -5,7 +5,7 @@ ghost use Rattle.cut_pool.specs.Kept.{kept_of, kept_at, kept_part, kept_mark};
 
 use crate::{CutStore, PackedValues};
 use cut_model::{Mark, MarkedCut, StatedCut};
-use plan_model::HubSet;
+use hub_model::HubSet;
 use std::alloc::{AllocError, Global};
 use std::marker::Model;
 

@@ -2,13 +2,13 @@
 
 ghost use Rattle.std.specs.Prelude.{◌≡◌, ◌*◌, ◌<◌, ◌≤◌, [], ◌∷◌, ◌++◌, length, slice_set, IfOk, OnOk};
 ghost use Rattle.hub_spec.specs.Limits.{most_nodes};
-ghost use Rattle.value_cuts.specs.Values.{AreValuesFor};
+ghost use Rattle.cut_model.specs.ValueRows.{AreValuesFor};
 ghost use Rattle.cut_pool.specs.Packed.{unpacked, ArePacked, AreRowsFrom};
 
+use cut_model::Values;
 use hub_model::Instance;
 use std::alloc::{AllocError, Global};
 use std::marker::Model;
-use value_cuts::Values;
 
 /// A number above 0 in a row of numbers, and where it stands, counted from 0. The number is held by its bytes, so that
 /// an item takes six, and not eight for where a number may begin.
@@ -61,7 +61,7 @@ pub struct PackedValues {
 }
 
 impl Model for PackedValues {
-    ghost use Rattle.value_cuts.specs.Values.{ValueRows};
+    ghost use Rattle.cut_model.specs.ValueRows.{ValueRows};
     ghost use Rattle.cut_pool.specs.PackedParts.{packed_rows, ArePackedRows};
 
     ghost Value = { ValueRows };

@@ -15,7 +15,7 @@ use crate::stated_sums::StatedSums;
 use crate::unit_columns::{UnitColumns, for_one_unit};
 use crate::{CutStore, CutSums, KeptCut, KeptCuts, ShortLoads};
 use cut_model::{MarkedCut, StatedCut};
-use plan_model::HubSet;
+use hub_model::HubSet;
 use std::alloc::{AllocError, Global};
 use std::marker::Model;
 

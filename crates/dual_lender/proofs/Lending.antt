@@ -9,7 +9,7 @@ use Rattle.hub_spec.specs.Ranges.{IsAmount, IsDualInRange}
 use Rattle.hub_spec.specs.Separation.{set_cut}
 use Rattle.hub_spec.proofs.Commodities.{commodity_index, commodity_at, commodity_at_index, length_commodities}
 use Rattle.hub_spec.proofs.Limits.{few_candidates}
-use Rattle.value_cuts.specs.Values.{value_cut}
+use Rattle.cut_model.specs.ValueRows.{value_cut}
 use Rattle.cut_pool.specs.Kept.{Kept, by_values, by_set, cored, given, kept_cut, kept_part, IsKeptFor}
 use Rattle.cut_pool.proofs.KeptCutLaws.{kept_in_range}
 use Rattle.dual_lender.specs.Lenders.{no_dual, stated_dual, kept_dual, LenderState, HasLegsOf, HasRowOf, IsReady, HasDuals, made_dual}

@@ -6,8 +6,8 @@ use Rattle.std.proofs.lemmas.Bool.{and_parts, and_from}
 use Rattle.std.proofs.lemmas.Bool.Decides.{Decides-eqb, Decides-int_eq}
 use Rattle.std.proofs.lemmas.Slice.Eq.{slice_eq-Decides}
 use Rattle.hub_spec.specs.Cuts.{Prices}
-use Rattle.plan_model.specs.Prices.{natural_values, signed_values}
-use Rattle.plan_model.proofs.ListedValues.{listed_again}
+use Rattle.hub_model.specs.Prices.{natural_values, signed_values}
+use Rattle.hub_model.proofs.ListedValues.{listed_again}
 
 abbrev same_entry : ℕ × ℤ → ℕ × ℤ → Bool
 same_entry x y = nat_eq x.0 y.0 && int_eq x.1 y.1

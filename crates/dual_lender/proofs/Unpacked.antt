@@ -2,7 +2,7 @@
 use Rattle.std.proofs.Common.{◌≡◌, ℕ, ℤ, ◌+◌, ◌<◌, ◌≤◌, pos, false, nat_eq, List, [], ◌∷◌, ◌++◌, length, get_or, take, sym, ap, ap₂, ◌∙◌, ne_eqb, arith}
 use Rattle.std.proofs.lemmas.List.{take_more, map-append}
 use Rattle.hub_spec.specs.Separation.{values_listed}
-use Rattle.plan_model.specs.Prices.{signed_values}
+use Rattle.hub_model.specs.Prices.{signed_values}
 
 abbrev signed_entry : ℕ × ℕ → ℕ × ℤ
 signed_entry e = (e.0, pos e.1)

@@ -2,7 +2,7 @@
 use Rattle.std.specs.Prelude.{◌≤◌, vec_capacity}
 use Rattle.hub_spec.specs.Cuts.{Prices}
 use Rattle.hub_model.specs.Amounts.{natural}
-use Rattle.plan_model.specs.Prices.{natural_values, AreSignedPrices}
+use Rattle.hub_model.specs.Prices.{natural_values, AreSignedPrices}
 use Rattle.dual_lender.specs.declared.held_duals.HeldDual.TheInside.{Inside}
 
 -- its price and its values

@@ -3,7 +3,7 @@ use Rattle.std.specs.Prelude.{◌≡◌, ℕ, ◌+◌, ◌*◌, List, [], slice_
 use Rattle.hub_spec.specs.Problem.{Problem}
 use Rattle.hub_spec.specs.Cuts.{Prices, Cut}
 use Rattle.hub_spec.specs.Separation.{minimal_dual}
-use Rattle.value_cuts.specs.Values.{ValueRows, row_for, value_dual}
+use Rattle.cut_model.specs.ValueRows.{ValueRows, row_for, value_dual}
 use Rattle.value_cuts.specs.Prices.{ArePricesFrom}
 use Rattle.pareto_cuts.specs.Scratches.{ScratchParts, IsReadyFor, HasDualsFrom}
 use Rattle.cut_pool.specs.Kept.{Kept, by_values, by_set, cored, given}

@@ -4,11 +4,10 @@ ghost use Rattle.std.specs.Prelude.{◌≡◌, ◌≤◌, ◌↔◌, pos, length
 ghost use Rattle.hub_spec.specs.Cuts.{Prices};
 ghost use Rattle.hub_spec.specs.Separation.{AreListedValues};
 ghost use Rattle.hub_model.specs.Amounts.{natural};
-ghost use Rattle.plan_model.specs.Prices.{natural_values, signed_values, AreSignedPrices};
+ghost use Rattle.hub_model.specs.Prices.{natural_values, signed_values, AreSignedPrices};
 
 use cut_model::StatedDual;
-use hub_model::signed;
-use plan_model::list_value;
+use hub_model::{list_value, signed};
 use std::alloc::{AllocError, Global};
 use std::marker::Model;
 

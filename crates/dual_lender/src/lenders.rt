@@ -4,7 +4,7 @@ ghost use Rattle.std.specs.Prelude.{◌≡◌, ◌+◌, ◌*◌, ◌<◌, ◌≤
 ghost use Rattle.hub_spec.specs.Problem.{IsProblem};
 ghost use Rattle.hub_spec.specs.Ranges.{IsCutInRange};
 ghost use Rattle.hub_spec.specs.Separation.{AreListedValues};
-ghost use Rattle.plan_model.specs.Prices.{signed_values};
+ghost use Rattle.hub_model.specs.Prices.{signed_values};
 ghost use Rattle.cut_pool.specs.Kept.{kept_of, IsKeptFor};
 ghost use Rattle.dual_lender.specs.Lenders.{stated_dual, kept_dual, IsLenderFor, IsReady, HasDuals, made_dual};
 ghost use Rattle.dual_lender.specs.LenderParts.{lender_with};

@@ -2,8 +2,8 @@
 
 ghost use Rattle.std.specs.Prelude.{◌≡◌, ◌+◌, ◌*◌, ◌<◌, ◌≤◌, pos, length, IfOk};
 ghost use Rattle.hub_spec.specs.Separation.{AreListedValues};
-ghost use Rattle.plan_model.specs.Prices.{signed_values};
-ghost use Rattle.value_cuts.specs.Values.{AreValuesFor};
+ghost use Rattle.hub_model.specs.Prices.{signed_values};
+ghost use Rattle.cut_model.specs.ValueRows.{AreValuesFor};
 ghost use Rattle.value_cuts.specs.Prices.{ArePricesFrom};
 ghost use Rattle.cut_pool.specs.Packed.{row_of, AreRowsFrom};
 ghost use Rattle.dual_lender.specs.Lenders.{commodity_dual, HasPricesFrom};

@@ -10,7 +10,7 @@ use Rattle.hub_spec.specs.Ranges.{IsAmount, IsDualInRange}
 use Rattle.hub_spec.proofs.Ascending.{ascend_nil, ascend_push}
 use Rattle.hub_spec.proofs.Limits.{few_candidates}
 use Rattle.hub_spec.proofs.ListedValues.{push_other, push_fresh}
-use Rattle.leg_tables.specs.CandidateLegs.{candidate_at}
+use Rattle.hub_model.specs.CandidateLengths.{candidate_at}
 use Rattle.dual_lines.specs.Steps.{most_steps, AreStepValues}
 use Rattle.dual_lines.specs.Places.{ArePlaces, IsPlaceOf, IsWithinListed}
 use Rattle.dual_lines.specs.LineParts.{AreAmounts, HasPlace}

@@ -4,7 +4,7 @@ use Rattle.std.proofs.lemmas.Bool.{cases_lt}
 use Rattle.std.proofs.lemmas.List.Elements.{All-nil, All-push, Contains-append_left, Contains-append_right}
 use Rattle.hub_spec.specs.Problem.{Problem}
 use Rattle.hub_spec.proofs.Sets.{Contains-head}
-use Rattle.leg_tables.specs.CandidateLegs.{delivery_length}
+use Rattle.leg_duals.specs.CandidateLegs.{delivery_length}
 use Rattle.dual_lines.specs.Units.{most_unit, IsNearestFirst, IsFar, AreNearEnds}
 
 -- the places below `upto` are far or listed

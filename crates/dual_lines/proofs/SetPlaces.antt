@@ -4,9 +4,9 @@ use Rattle.std.proofs.lemmas.Bool.{cases_lt, cases_eq}
 use Rattle.std.proofs.lemmas.List.{get_or-set_same, get_or-set_other}
 use Rattle.std.proofs.lemmas.List.Kept.{AllPairs-from_increasing}
 use Rattle.hub_spec.specs.Problem.{Problem, IsProblem}
-use Rattle.leg_tables.specs.CandidateLegs.{candidate_at}
+use Rattle.hub_model.specs.CandidateLengths.{candidate_at}
 use Rattle.dual_lines.specs.Places.{ArePlaces}
-use Rattle.leg_tables.proofs.CandidateTables.{candidate_node}
+use Rattle.leg_duals.proofs.CandidateTables.{candidate_node}
 
 -- the places of the first candidates stand, and no other
 pub record ArePlacesUpTo (p : Problem) (upto : ℕ) (places : List ℕ) : Type 0 where

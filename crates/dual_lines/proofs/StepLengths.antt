@@ -9,7 +9,7 @@ use Rattle.hub_spec.specs.Problem.{Problem, IsProblem, distance, flow, is_within
 use Rattle.hub_spec.proofs.Mixes.{candidate_is_node}
 use Rattle.unit_duals.specs.Cells.{cell}
 use Rattle.unit_duals.proofs.TableCells.{cell_within}
-use Rattle.leg_tables.specs.CandidateLegs.{candidate_at}
+use Rattle.hub_model.specs.CandidateLengths.{candidate_at}
 use Rattle.dual_lines.specs.Steps.{most_steps, AreInSteps, IsStepTable, MayGo}
 use Rattle.dual_lines.specs.Lengths.{LengthsInSteps, distance_between, distance_beyond, AreBetween, IsStepLimit}
 

@@ -3,7 +3,7 @@ use Rattle.std.proofs.Common.{◌≡◌, ℕ, ◌+◌, ◌*◌, ◌<◌, ◌≤�
 use Rattle.std.proofs.lemmas.List.Elements.{All-get_or, All-from_get_or}
 use Rattle.unit_duals.specs.Cells.{cell}
 use Rattle.unit_duals.proofs.TableCells.{cell_within, row_within}
-use Rattle.leg_tables.specs.CandidateLegs.{IsLegTable}
+use Rattle.leg_duals.specs.CandidateLegs.{IsLegTable}
 use Rattle.dual_lines.specs.Steps.{most_steps, AreInSteps, IsStepTable, IsStepRow}
 
 -- a whole table

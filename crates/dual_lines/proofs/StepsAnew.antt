@@ -7,7 +7,7 @@ use Rattle.std.proofs.lemmas.List.Elements.{All-get_or, All-from_get_or}
 use Rattle.hub_spec.specs.Problem.{Problem}
 use Rattle.hub_spec.specs.Cuts.{value_at}
 use Rattle.hub_spec.proofs.ListedValues.{first_value_within, next_value, IsNextValue}
-use Rattle.leg_tables.specs.CandidateLegs.{candidate_at}
+use Rattle.hub_model.specs.CandidateLengths.{candidate_at}
 use Rattle.dual_lines.specs.Steps.{most_steps, AreStepValues}
 use Rattle.dual_lines.specs.Places.{ArePlaces}
 

@@ -2,7 +2,8 @@
 use Rattle.std.proofs.Common.{◌≡◌, ℕ, ap, ◌+◌, ◌*◌, ◌<◌, ◌≤◌, List, length, slice_index, inr, ⊎_elim, mul-le-mul_left, arith}
 use Rattle.std.proofs.lemmas.List.Elements.{All-from_get_or}
 use Rattle.hub_spec.specs.Problem.{Problem, flow, route_cost}
-use Rattle.leg_tables.specs.CandidateLegs.{candidate_at, collection_length, trunk_length, delivery_length}
+use Rattle.hub_model.specs.CandidateLengths.{candidate_at}
+use Rattle.leg_duals.specs.CandidateLegs.{collection_length, trunk_length, delivery_length}
 use Rattle.dual_lines.specs.Covers.{IsCoveredBy, IsCoveredFirst}
 use Rattle.dual_lines.specs.Units.{weighted_flow, AreUnits, IsCoveredInUnits}
 use Rattle.dual_lines.specs.Steps.{LegsInSteps, IsStepCost, AreStepValues, IsCoveredInSteps}

@@ -1,7 +1,7 @@
 -- Lengths of routes in steps, so that they fit 32 bits. A step is so many times 10^-3.
 use Rattle.std.specs.Prelude.{◌≡◌, ℕ, ◌+◌, ◌*◌, ◌/◌, ◌%◌, ◌<◌, ◌≤◌, true, List, length, slice_index}
 use Rattle.hub_spec.specs.Problem.{Problem, distance, is_within}
-use Rattle.leg_tables.specs.CandidateLegs.{candidate_at}
+use Rattle.hub_model.specs.CandidateLengths.{candidate_at}
 use Rattle.dual_lines.specs.Steps.{most_steps}
 
 -- an instance, the step that its distances are told in, and how long a route may be in steps

@@ -1,6 +1,6 @@
 -- What the tables of an instance in steps hold.
 use Rattle.std.specs.Prelude.{◌≤◌, length}
-use Rattle.leg_tables.specs.CandidateLegs.{collection_length, trunk_length, delivery_length}
+use Rattle.leg_duals.specs.CandidateLegs.{collection_length, trunk_length, delivery_length}
 use Rattle.dual_lines.specs.Steps.{most_step, IsStepTable}
 use Rattle.dual_lines.specs.declared.step_tables.StepLegs.TheInside.{Inside}
 

@@ -2,7 +2,8 @@
 use Rattle.std.specs.Prelude.{◌≡◌, ℕ, ◌+◌, ◌*◌, ◌^◌, ◌<◌, ◌≤◌, true, List, length, slice_index, All, ◌⊎◌}
 use Rattle.hub_spec.specs.Problem.{Problem, is_allowed}
 use Rattle.unit_duals.specs.Cells.{cell}
-use Rattle.leg_tables.specs.CandidateLegs.{candidate_at, collection_length, trunk_length, delivery_length}
+use Rattle.hub_model.specs.CandidateLengths.{candidate_at}
+use Rattle.leg_duals.specs.CandidateLegs.{collection_length, trunk_length, delivery_length}
 
 -- of a leg, and of a value
 abbrev pub most_steps : ℕ

@@ -1,7 +1,8 @@
 -- Prices and values by unit of flow, in 10^-6, that stand for what is listed.
 use Rattle.std.specs.Prelude.{◌≡◌, ℕ, ◌+◌, ◌*◌, ◌^◌, ◌<◌, ◌≤◌, List, length, slice_index, All, Contains, ◌⊎◌}
 use Rattle.hub_spec.specs.Problem.{Problem, flow}
-use Rattle.leg_tables.specs.CandidateLegs.{candidate_at, collection_length, trunk_length, delivery_length}
+use Rattle.hub_model.specs.CandidateLengths.{candidate_at}
+use Rattle.leg_duals.specs.CandidateLegs.{collection_length, trunk_length, delivery_length}
 
 -- what a price or a value by unit of flow is cut to: no route is as long
 abbrev pub most_unit : ℕ

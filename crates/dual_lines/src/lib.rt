@@ -3,7 +3,7 @@
 //! A certificate lists for a run of commodities a price and values of nodes; they are a feasible dual where no route that
 //! is allowed by way of candidates costs, times the part of the cut, less than the price, with the values of its hubs
 //! added. `lines` has the dual that is listed for a run, and tells whether it holds of each commodity, to which `commodity_lines`
-//! turns. The instance's legs are those of `leg_tables`, made once; a place is the number of a candidate in their
+//! turns. The instance's legs are those of `leg_duals`, made once; a place is the number of a candidate in their
 //! order, from 0, and `places` writes and clears what a dual lists by place.
 //!
 //! `steps` tests in small numbers, told in steps of one length, with the price rounded up and the values rounded down:

@@ -8,7 +8,8 @@ ghost use Rattle.std.specs.Prelude.{◌≡◌, ℕ, ◌+◌, ◌*◌, ◌^◌, �
 ghost use Rattle.hub_spec.specs.Limits.{most_part};
 ghost use Rattle.hub_spec.specs.Problem.{flow};
 ghost use Rattle.hub_spec.specs.Ranges.{IsAmount};
-ghost use Rattle.leg_tables.specs.CandidateLegs.{delivery_length, candidate_at};
+ghost use Rattle.hub_model.specs.CandidateLengths.{candidate_at};
+ghost use Rattle.leg_duals.specs.CandidateLegs.{delivery_length};
 ghost use Rattle.dual_lines.specs.Covers.{IsCoveredFirst, IsCovered};
 ghost use Rattle.dual_lines.specs.Units.{weighted_flow};
 ghost use Rattle.dual_lines.specs.Steps.{most_steps, IsStepCost, AreStepValues, IsCoveredInSteps};

@@ -7,8 +7,7 @@ ghost use Rattle.hub_spec.specs.Ranges.{IsDualInRange};
 
 use crate::amounts::{Priced, is_covered_by_amounts};
 use cut_model::StatedDual;
-use hub_model::{Instance, MOST_NODES};
-use plan_model::is_among;
+use hub_model::{Instance, MOST_NODES, is_among};
 
 /// Room for an amount of each node.
 const ROOM: usize = MOST_NODES as usize;

@@ -5,7 +5,7 @@
 
 ghost use Rattle.std.specs.Prelude.{◌≡◌, ℕ, ◌*◌, ◌<◌, ◌≤◌, Some, length, slice_index, IfOk, IfSome};
 ghost use Rattle.hub_spec.specs.Problem.{distance};
-ghost use Rattle.leg_tables.specs.CandidateLegs.{candidate_at};
+ghost use Rattle.hub_model.specs.CandidateLengths.{candidate_at};
 ghost use Rattle.dual_lines.specs.Steps.{most_steps, IsStepRow};
 ghost use Rattle.dual_lines.specs.Lengths.{distance_between, distance_beyond, AreBetween, IsStepLimit};
 

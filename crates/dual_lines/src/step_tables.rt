@@ -3,12 +3,12 @@
 ghost use Rattle.std.specs.Prelude.{◌≡◌, ℕ, ◌+◌, ◌*◌, ◌<◌, ◌≤◌, length, slice_index, IfOk};
 ghost use Rattle.hub_spec.specs.Limits.{most_nodes};
 ghost use Rattle.unit_duals.specs.Cells.{cell};
-ghost use Rattle.leg_tables.specs.CandidateLegs.{collection_length, trunk_length, delivery_length};
+ghost use Rattle.leg_duals.specs.CandidateLegs.{collection_length, trunk_length, delivery_length};
 ghost use Rattle.dual_lines.specs.Steps.{most_step, IsStepRow};
 
 use crate::stepping::{in_steps, step_of};
 use hub_model::Instance;
-use leg_tables::CandidateLegs;
+use leg_duals::CandidateLegs;
 use std::alloc::{AllocError, Global};
 use std::marker::Model;
 

@@ -6,7 +6,7 @@
 ghost use Rattle.std.specs.Prelude.{◌≡◌, ℕ, ◌+◌, ◌*◌, ◌^◌, ◌<◌, ◌≤◌, ◌↔◌, List, length, slice_index, IsTrue, IfSome, All};
 ghost use Rattle.hub_spec.specs.Limits.{most_part};
 ghost use Rattle.hub_spec.specs.Ranges.{IsAmount};
-ghost use Rattle.leg_tables.specs.CandidateLegs.{delivery_length};
+ghost use Rattle.leg_duals.specs.CandidateLegs.{delivery_length};
 ghost use Rattle.dual_lines.specs.Covers.{IsCovered};
 ghost use Rattle.dual_lines.specs.Units.{weighted_flow};
 ghost use Rattle.dual_lines.specs.Steps.{most_steps, IsStepCost, AreStepValues, AreStepEnds, IsCoveredInSteps};

@@ -8,12 +8,12 @@ ghost use Rattle.std.specs.Prelude.{◌≡◌, ℕ, ◌+◌, ◌*◌, ◌^◌, �
 ghost use Rattle.hub_spec.specs.Limits.{most_part};
 ghost use Rattle.hub_spec.specs.Ranges.{IsAmount};
 ghost use Rattle.unit_duals.specs.Limits.{most_leg};
-ghost use Rattle.leg_tables.specs.CandidateLegs.{candidate_at};
+ghost use Rattle.hub_model.specs.CandidateLengths.{candidate_at};
 ghost use Rattle.dual_lines.specs.Covers.{IsCoveredFirst, IsCovered};
 ghost use Rattle.dual_lines.specs.Units.{most_unit, AreUnits, IsNearestFirst, IsNearestLast, AreNearEnds, IsCoveredInUnits, weighted_flow};
 
 use crate::amounts::{Priced, is_covered_by_amounts, is_covered_first};
-use leg_tables::CandidateLegs;
+use leg_duals::CandidateLegs;
 
 /// A price by unit of flow, with what covers it: a value for each place, what the ends of last hubs are at least, a leg of
 /// delivery and the value together, and the ends that not every first hub covers.

@@ -9,7 +9,7 @@ use crate::masters::rows_under;
 use crate::reading::{point_of, scale_of, weights_of};
 use crate::scaling::{greatest_by_totals, greatest_number};
 use crate::short_rows::ShortRows;
-use plan_model::Branch;
+use hub_model::Branch;
 use std::alloc::{AllocError, Global};
 
 /// What the last table of a master's run advises.

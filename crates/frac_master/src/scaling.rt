@@ -3,7 +3,7 @@
 ghost use Rattle.std.specs.Prelude.{◌≡◌, ◌<◌, ◌≤◌, length, map, fold, max, All};
 ghost use Rattle.frac_master.specs.Masters.{AreMasterNumbers, AreWithinTotals, master_of, candidates_of, at_nodes, greatest_number, most_scaled, halved, halvings};
 
-use plan_model::Branch;
+use hub_model::Branch;
 
 /// The greatest scaled number.
 const MOST_SCALED: u128 = 4095;

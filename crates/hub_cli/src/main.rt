@@ -4,7 +4,7 @@
 ghost use Rattle.std.specs.Prelude.{◌≡◌, ◌⊎◌};
 ghost use Rattle.std.specs.Io.KnownBytes.{Appends};
 ghost use Rattle.hub_io.specs.Outside.{Rose};
-ghost use Rattle.hub_checks.specs.declared.status.Status.TheVariants.{Memory, Write};
+ghost use Rattle.hub_commands.specs.declared.status.Status.TheVariants.{Memory, Write};
 ghost use Rattle.hub_top.specs.Texts.{memory_text};
 
 use hub_io::{OpenGate, Sink};

@@ -12,7 +12,7 @@ use Rattle.hub_spec.specs.Plans.{IsHubSet}
 use Rattle.hub_spec.proofs.NeededEdges.{needed_is_least}
 use Rattle.hub_spec.proofs.SetCutFunction.{least_cost_is}
 use Rattle.hub_spec.proofs.Ways.{edge_turned, if_some}
-use Rattle.hub_plain.proofs.AllowedRoutes.{set_has_route}
+use Rattle.hub_model.proofs.AllowedRoutes.{set_has_route}
 use Rattle.hub_model.specs.Amounts.{natural}
 use Rattle.hub_edges.specs.Rows.{Entry, IsBefore, IsDirection, IsSingleEntry, IsEdgeEntry, IsEdgeRow, IsInside, IsFirstInside}
 use Rattle.hub_edges.proofs.CheaperCosts.{one_is_first}

@@ -10,8 +10,7 @@ ghost use Rattle.hub_edges.specs.Rows.{Entry, IsBefore, IsEdgeRow, IsInside, Row
 
 use crate::entries::entries_of;
 use crate::picking::first_inside;
-use hub_model::Instance;
-use plan_model::HubSet;
+use hub_model::{HubSet, Instance};
 use std::alloc::{AllocError, Global};
 use std::marker::Model;
 

@@ -1,18 +1,15 @@
 -- The bounds of a candidate's two children, and the side that they leave it.
-use Rattle.std.proofs.Common.{◌≡◌, ℕ, ℤ, pos, ◌+◌, ◌*◌, ◌<◌, ◌+ℤ◌, ◌-ℤ◌, FitsSigned, to_z, of_z, Bool, true, false, cond, List, [], ◌∷◌, ◌++◌, length, take, get_or, Contains, refl, sym, ap, ap₂, ◌∙◌, subst, append-nil, arith}
-use Rattle.std.specs.Prelude.{int_lt, Option, Some, None, filter_map}
+use Rattle.std.proofs.Common.{◌≡◌, ℕ, ℤ, pos, ◌+◌, ◌*◌, ◌+ℤ◌, ◌-ℤ◌, FitsSigned, to_z, of_z, Bool, true, false, cond, Contains, refl, ap, ap₂, ◌∙◌, subst, arith}
+use Rattle.std.specs.Prelude.{int_lt, Option, Some, None}
 use Rattle.std.specs.Int.{w128, int_min, int_max}
-use Rattle.std.specs.Option.{option_map}
 use Rattle.std.proofs.lemmas.Int.{ints, clamps, to_z-of_z}
-use Rattle.std.proofs.lemmas.List.{take_more}
-use Rattle.std.proofs.lemmas.List.Elements.{filter_map-append}
 use Rattle.hub_spec.specs.Trees.{Branching, open_child, closed_child}
 use Rattle.hub_spec.proofs.Children.{bound_of_open, bound_of_closed, bound_of_two}
 use Rattle.leaf_bound.specs.Bounds.{Weighting, weighted_total, gain_of, bound_of}
 use Rattle.leaf_bound.specs.Weighing.{most_gain, most_bound, IsWithin}
 use Rattle.leaf_bound.proofs.LentNumbers.{within_fits}
-use Rattle.hub_fixing.specs.declared.sides.Side.{Side}
-use Rattle.hub_fixing.specs.declared.sides.Side.TheVariants.{In, Out}
+use Rattle.leaf_bound.specs.declared.sides.Side.{Side}
+use Rattle.leaf_bound.specs.declared.sides.Side.TheVariants.{In, Out}
 use Rattle.hub_fixing.specs.Fixing.{closes_by, side_of, side_by}
 
 closed_is : (m : Weighting) (b : Branching) (k : ℕ) → Contains b.free k → bound_of m b -ℤ int_min (gain_of m k) (pos 0) ≡ bound_of m (closed_child b k)
@@ -112,21 +109,3 @@ side_found m target b k whole gain threshold found free whole_is gain_is thresho
     rw (to_z-of_z w128 whole fits_whole, to_z-of_z w128 gain fits_gain, to_z-of_z w128 threshold fits_threshold) at is
     ∙ ap (λ (z : ℤ). side_by z gain threshold) whole_is ∙ ap (λ (z : ℤ). side_by (bound_of m b) z threshold) gain_is
     ∙ ap (side_by (bound_of m b) (gain_of m k)) threshold_is ∙ side_is m target b k free
-
--- ---- one candidate more
-
-abbrev pub with_side : (ℕ → Option Side) → ℕ → Option (ℕ × Side)
-with_side side k = option_map (λ (s : Side). (k, s)) (side k)
-
-pub side_pushed : (side : ℕ → Option Side) (ks : List ℕ) (i : ℕ) (sides : List (ℕ × Side)) (s : Side) → i < length ks
-    → sides ≡ filter_map (with_side side) (take i ks) → Some s ≡ side (get_or ks i 0)
-    → sides ++ (get_or ks i 0, s) ∷ [] ≡ filter_map (with_side side) (take (i + 1) ks)
-side_pushed side ks i sides s low so_far is =
-    rw (take_more ks i 0 low, filter_map-append (with_side side) (take i ks) (get_or ks i 0 ∷ []), ← is, so_far) refl
-
-pub side_passed : (side : ℕ → Option Side) (ks : List ℕ) (i : ℕ) (sides : List (ℕ × Side)) → i < length ks
-    → sides ≡ filter_map (with_side side) (take i ks) → None ≡ side (get_or ks i 0)
-    → sides ≡ filter_map (with_side side) (take (i + 1) ks)
-side_passed side ks i sides low so_far is =
-    rw (take_more ks i 0 low, filter_map-append (with_side side) (take i ks) (get_or ks i 0 ∷ []), ← is, so_far)
-    (sym (append-nil (filter_map (with_side side) (take i ks))))

@@ -1,14 +1,14 @@
 -- What the sides say of the branch and of its plans; each statement is the contract of the public function of its name.
-use Rattle.std.specs.Prelude.{◌≡◌, ℕ, ◌≤◌, true, false, List, sum, All, Contains}
-use Rattle.hub_spec.specs.Limits.{most_denominator}
+use Rattle.std.specs.Prelude.{◌≡◌, ℕ, ◌≤◌, true, false, List, All, Contains}
 use Rattle.hub_spec.specs.Problem.{Problem, IsProblem}
 use Rattle.hub_spec.specs.Plans.{Plan, IsPlan, plan_cost}
 use Rattle.hub_spec.specs.Cuts.{Cut, IsCut}
 use Rattle.hub_spec.specs.Trees.{Branching, IsBranch, open_child, closed_child, Closes}
-use Rattle.leaf_bound.specs.Bounds.{Weighting, AreMultiples, bound_of}
+use Rattle.leaf_bound.specs.Bounds.{Weighting, bound_of}
 use Rattle.leaf_bound.specs.Theorems.{IsWeightingOf}
-use Rattle.hub_fixing.specs.declared.sides.Side.{Side}
-use Rattle.hub_fixing.specs.declared.sides.Side.TheVariants.{In, Out}
+use Rattle.leaf_bound.specs.Shares.{AreShares, KeepsTo}
+use Rattle.leaf_bound.specs.declared.sides.Side.{Side}
+use Rattle.leaf_bound.specs.declared.sides.Side.TheVariants.{In, Out}
 use Rattle.hub_fixing.specs.Fixing.{closes_by, fixings}
 
 -- the child on the other side of the candidate closes the target
@@ -25,18 +25,6 @@ SidesClose = (m : Weighting) (target : ℕ) (b : Branching) (k : ℕ) (side : Si
 abbrev pub NeverBoth : Type 0
 NeverBoth = (m : Weighting) (target : ℕ) (b : Branching) (k : ℕ) → Contains b.free k → closes_by m target b ≡ false
     → closes_by m target (open_child b k) ≡ true → closes_by m target (closed_child b k) ≡ true → ⊥
-
--- the weights are shares of the denominator, which is within its limits, each a multiple of its cut's part
-pub record AreShares (m : Weighting) : Type 0 where
-  pub denom_least : 1 ≤ m.denom
-  pub denom_most : m.denom ≤ most_denominator
-  pub weights_limit : sum m.weights ≤ m.denom
-  pub multiples : AreMultiples m.weights m.parts
-
--- the plan keeps to the branch: each node inside is one of its hubs, and no node outside is
-pub record KeepsTo (plan : Plan) (b : Branching) : Type 0 where
-  pub inside : All (Contains plan.hubs) b.inside
-  pub outside : All (λ k. Contains plan.hubs k → ⊥) b.outside
 
 -- the plans of the branch without the candidate, and with it, as the bounds of the two children tell
 pub record IsSoundAt (p : Problem) (m : Weighting) (target : ℕ) (b : Branching) (k : ℕ) : Type 0 where

@@ -4,10 +4,9 @@ ghost use Rattle.std.specs.Prelude.{◌≡◌, ◌^◌, ◌≤◌, false, IfOk};
 ghost use Rattle.leaf_bound.specs.Numbers.{AreWeightingNumbers, IsBranchWithin, weighting_of};
 ghost use Rattle.hub_fixing.specs.Fixing.{closes_by, fixings};
 
-use crate::sides::{Side, side_by};
-use hub_model::MOST_NODES;
-use leaf_bound::{Weighting, bound_by, threshold, write_gains_and_base};
-use plan_model::Branch;
+use crate::sides::side_by;
+use hub_model::{Branch, MOST_NODES};
+use leaf_bound::{Side, Weighting, bound_by, threshold, write_gains_and_base};
 use std::alloc::{AllocError, Global};
 
 // Room for a number of each node.

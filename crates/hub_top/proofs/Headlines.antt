@@ -5,15 +5,15 @@ use Rattle.hub_io.specs.Outside.{Files}
 use Rattle.hub_spec.specs.Problem.{Problem}
 use Rattle.cert_spec.specs.Verdicts.{Verdict, optimal, bounds, misread, too_long, certificate_limit}
 use Rattle.cert_spec.specs.Verdicts as verdicts
-use Rattle.hub_checks.specs.declared.status.Status.{Status}
-use Rattle.hub_checks.specs.declared.status.Status.TheVariants.{Done, Stopped, Memory}
+use Rattle.hub_commands.specs.declared.status.Status.{Status}
+use Rattle.hub_commands.specs.declared.status.Status.TheVariants.{Done, Stopped, Memory}
 use Rattle.hub_words.specs.Requests.{Source, Solving, Request, solve, check}
-use Rattle.hub_checks.specs.Lines.{optimal_line, verdict_text}
+use Rattle.hub_commands.specs.Lines.{optimal_line, verdict_text}
 use Rattle.hub_sources.specs.Sources.{HoldsInstance}
-use Rattle.hub_searches.specs.Instances.{SolvesInstance, StopsInstance}
-use Rattle.hub_checks.specs.Checks.{JudgesFile}
+use Rattle.hub_commands.specs.Instances.{SolvesInstance, StopsInstance}
+use Rattle.hub_commands.specs.Checks.{JudgesFile}
 use Rattle.cert_checker.specs.Shows.{ProvesOptimal}
-use Rattle.hub_checks.specs.Statuses.{verdict_status}
+use Rattle.hub_commands.specs.VerdictStatuses.{verdict_status}
 use Rattle.hub_top.specs.Answers.{Answers}
 use Rattle.hub_top.specs.Meanings.{Answered, Means}
 use Rattle.hub_sources.specs.Sources.{IsSameInstance}

@@ -7,14 +7,14 @@ use Rattle.proof_text.specs.Texts.{found_text}
 use Rattle.hub_make.specs.Contents.{made_problem}
 use Rattle.hub_make.specs.DemoTexts as lines
 use Rattle.hub_words.specs.Requests.{node_by_node, Making, Search, Solving, IsSolving, solve, demo}
-use Rattle.hub_checks.specs.declared.status.Status.{Status}
-use Rattle.hub_searches.specs.Methods.{cold, demo_method}
-use Rattle.hub_searches.specs.Searches.{rule_certificate}
-use Rattle.hub_searches.specs.Statuses.{Demonstrates, finding_status}
-use Rattle.hub_searches.specs.Solving.{IsSearched, IsSolution}
-use Rattle.hub_searches.proofs.RuleCertificates.{rule_solves, rule_stops}
-use Rattle.hub_searches.proofs.Searched.{by_status, five_lines, searchable}
-use Rattle.hub_searches.proofs.Solutions.{by_how}
+use Rattle.hub_commands.specs.declared.status.Status.{Status}
+use Rattle.hub_commands.specs.Methods.{cold, demo_method}
+use Rattle.hub_commands.specs.Searches.{rule_certificate}
+use Rattle.hub_commands.specs.Statuses.{Demonstrates, finding_status}
+use Rattle.hub_commands.specs.Solving.{IsSearched, IsSolution}
+use Rattle.hub_commands.proofs.RuleCertificates.{rule_solves, rule_stops}
+use Rattle.hub_commands.proofs.Searched.{by_status, five_lines, searchable}
+use Rattle.hub_commands.proofs.Solutions.{by_how}
 use Rattle.hub_top.specs.Answers.{Answers}
 
 -- the text of what was found solves the instance, or stops

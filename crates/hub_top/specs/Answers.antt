@@ -5,15 +5,15 @@ use Rattle.cert_spec.specs.Verdicts.{Verdict, Older}
 use Rattle.hub_make.specs.Texts.{made_text}
 use Rattle.hub_make.specs.Contents.{made_problem}
 use Rattle.hub_words.specs.Requests.{Source, Solving, Request, solve, check, report, make, demo}
-use Rattle.hub_checks.specs.declared.status.Status.{Status}
-use Rattle.hub_checks.specs.declared.status.Status.TheVariants.{Done, Stopped, No}
-use Rattle.hub_checks.specs.Lines.{verdict_text, older_line}
-use Rattle.hub_searches.specs.Methods.{demo_method}
-use Rattle.hub_searches.specs.Searches.{Solves, Stops}
-use Rattle.hub_searches.specs.Instances.{SolvesInstance, StopsInstance, RefusesOlder}
-use Rattle.hub_checks.specs.Checks.{JudgesFile, ReportsFile}
-use Rattle.hub_checks.specs.Statuses.{verdict_status}
-use Rattle.hub_searches.specs.Statuses.{Demonstrates}
+use Rattle.hub_commands.specs.declared.status.Status.{Status}
+use Rattle.hub_commands.specs.declared.status.Status.TheVariants.{Done, Stopped, No}
+use Rattle.hub_commands.specs.Lines.{verdict_text, older_line}
+use Rattle.hub_commands.specs.Methods.{demo_method}
+use Rattle.hub_commands.specs.Searches.{Solves, Stops}
+use Rattle.hub_commands.specs.Instances.{SolvesInstance, StopsInstance, RefusesOlder}
+use Rattle.hub_commands.specs.Checks.{JudgesFile, ReportsFile}
+use Rattle.hub_commands.specs.VerdictStatuses.{verdict_status}
+use Rattle.hub_commands.specs.Statuses.{Demonstrates}
 
 -- the text is the line that tells why the older certificate that is named does not serve
 pub record TellsOlder (held : Option Files) (s : Solving) (text : List ℕ) : Type 0 where

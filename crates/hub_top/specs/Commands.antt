@@ -2,8 +2,8 @@
 use Rattle.std.specs.Prelude.{◌⊎◌}
 use Rattle.hub_io.specs.Outside.{Files}
 use Rattle.hub_words.specs.Requests.{Request, solve, check, report, make, demo}
-use Rattle.hub_checks.specs.Checks.{LacksCertificate}
-use Rattle.hub_searches.specs.Instances.{LacksOlder}
+use Rattle.hub_commands.specs.Checks.{LacksCertificate}
+use Rattle.hub_commands.specs.Instances.{LacksOlder}
 use Rattle.hub_sources.specs.Sources.{LacksSource}
 
 -- a file that the request names is not held, when its turn comes

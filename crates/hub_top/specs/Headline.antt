@@ -4,12 +4,12 @@ use Rattle.std.specs.Io.KnownBytes.{Appends}
 use Rattle.hub_io.specs.Outside.{Files}
 use Rattle.hub_spec.specs.Problem.{Problem}
 use Rattle.cert_spec.specs.Verdicts.{certificate_limit}
-use Rattle.hub_checks.specs.declared.status.Status.{Status}
-use Rattle.hub_checks.specs.declared.status.Status.TheVariants.{Done, Stopped, Memory}
+use Rattle.hub_commands.specs.declared.status.Status.{Status}
+use Rattle.hub_commands.specs.declared.status.Status.TheVariants.{Done, Stopped, Memory}
 use Rattle.hub_words.specs.Requests.{Source, Solving, Request, solve, check}
-use Rattle.hub_checks.specs.Lines.{optimal_line}
+use Rattle.hub_commands.specs.Lines.{optimal_line}
 use Rattle.hub_sources.specs.Sources.{HoldsInstance, IsSameInstance}
-use Rattle.hub_searches.specs.Instances.{SolvesInstance, StopsInstance}
+use Rattle.hub_commands.specs.Instances.{SolvesInstance, StopsInstance}
 use Rattle.cert_checker.specs.Shows.{ProvesOptimal}
 
 -- the headline, for what the words ask for, the files held, what out took, whether no fault rose, and the status

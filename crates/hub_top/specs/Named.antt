@@ -2,7 +2,7 @@
 use Rattle.std.specs.Prelude.{◌≡◌, ℕ, List, Option, Some, None, ◌⊎◌}
 use Rattle.hub_words.specs.Requests.{Request, solve, check, report, make, demo, instance}
 use Rattle.hub_sources.specs.Named.{IsFileOf}
-use Rattle.hub_searches.specs.Older.{IsNamedBy}
+use Rattle.hub_commands.specs.Older.{IsNamedBy}
 
 -- the request names the file
 abbrev pub Names : Request → List ℕ → Type 0

@@ -3,13 +3,13 @@ use Rattle.std.specs.Prelude.{◌≡◌, ℕ, List, [], Option, Some, None, Ok, 
 use Rattle.hub_io.specs.Outside.{Files, Rose, Puts}
 use Rattle.hub_io.specs.declared.Failed.{Failed}
 use Rattle.file_spec.specs.Faults.{Fault}
-use Rattle.hub_checks.specs.declared.status.Status.{Status}
-use Rattle.hub_checks.specs.declared.status.Status.TheVariants.{Usage, Instance, Memory, Read, Write, Lacking}
+use Rattle.hub_commands.specs.declared.status.Status.{Status}
+use Rattle.hub_commands.specs.declared.status.Status.TheVariants.{Usage, Instance, Memory, Read, Write, Lacking}
 use Rattle.hub_words.specs.Requests.{Source, Request, solve, instance}
 use Rattle.hub_top.specs.Texts.{usage_text, fault_text, no_network_text, memory_text, read_text}
 use Rattle.hub_sources.specs.Sources.{Blame, HasBlame, WhereTold}
 use Rattle.hub_top.specs.Commands.{Lacks}
-use Rattle.hub_searches.specs.Instances.{LacksNetwork}
+use Rattle.hub_commands.specs.Instances.{LacksNetwork}
 use Rattle.hub_top.specs.Answers.{Answers}
 use Rattle.hub_sources.specs.Shelves.{FailsFor}
 

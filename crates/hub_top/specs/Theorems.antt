@@ -4,9 +4,9 @@ use Rattle.hub_spec.specs.Problem.{Problem, IsProblem}
 use Rattle.cert_spec.specs.Verdicts.{Verdict, optimal, bounds, Why, certificate_limit}
 use Rattle.hub_io.specs.Outside.{Files}
 use Rattle.hub_words.specs.Requests.{How, follow, again, freely, Search}
-use Rattle.hub_searches.specs.Methods.{Method}
-use Rattle.hub_searches.specs.Searches.{SpellsBy, Solves, Stops, Optimizes, Bounds}
-use Rattle.hub_searches.specs.Instances.{SolvesBy}
+use Rattle.hub_commands.specs.Methods.{Method}
+use Rattle.hub_commands.specs.Searches.{SpellsBy, Solves, Stops, Optimizes, Bounds}
+use Rattle.hub_commands.specs.Instances.{SolvesBy}
 
 -- the verdict is the one on the text, and no other
 abbrev pub IsOneVerdict : Problem → List ℕ → Verdict → Type 0

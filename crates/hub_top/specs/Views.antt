@@ -11,19 +11,19 @@ use Rattle.proof_text.specs.Texts.{found_text}
 use Rattle.network_report.specs.Texts.{report_text}
 use Rattle.hub_make.specs.DemoTexts.{demo_text}
 use Rattle.cert_checker.specs.Shows.{verdict_of}
-use Rattle.hub_checks.specs.declared.status.Status.{Status}
-use Rattle.hub_checks.specs.declared.status.Status.TheVariants.{Done}
+use Rattle.hub_commands.specs.declared.status.Status.{Status}
+use Rattle.hub_commands.specs.declared.status.Status.TheVariants.{Done}
 use Rattle.hub_sources.specs.declared.halts.Halt.{Halt}
 use Rattle.hub_top.specs.declared.answers.Answer.{Answer}
 use Rattle.hub_top.specs.declared.answers.Answer.TheVariants.{Judged, Reported, Made, Demonstrated}
 use Rattle.hub_top.specs.declared.outcomes.Settled.{Settled}
 use Rattle.hub_top.specs.declared.outcomes.Settled.TheVariants.{Answered, Found, NoNetwork, Usage, Halted}
 use Rattle.hub_top.specs.declared.outcomes.Intended.{Intended}
-use Rattle.hub_checks.specs.Lines.{verdict_text}
-use Rattle.hub_checks.specs.Statuses.{verdict_status}
+use Rattle.hub_commands.specs.Lines.{verdict_text}
+use Rattle.hub_commands.specs.VerdictStatuses.{verdict_status}
 use Rattle.hub_top.specs.Outcomes.{Outcome, answered, usage, faulty, no_network, memory, read}
 use Rattle.hub_sources.specs.Blames.{blame_of}
-use Rattle.hub_searches.specs.Statuses.{finding_status}
+use Rattle.hub_commands.specs.Statuses.{finding_status}
 use Rattle.hub_sources.specs.declared.halts.Halt.TheVariants as halts
 use Rattle.hub_top.specs.declared.outcomes.Intended.TheVariants as intended
 

@@ -3,14 +3,14 @@
 ghost use Rattle.std.specs.Prelude.{◌≡◌};
 ghost use Rattle.hub_io.specs.Outside.{Puts};
 ghost use Rattle.hub_top.specs.Views.{IsWritable, answer_status, answer_text};
-ghost use Rattle.hub_searches.specs.Statuses.{finding_status};
+ghost use Rattle.hub_commands.specs.Statuses.{finding_status};
 ghost use Rattle.hub_top.specs.declared.answers.Answer.TheVariants.{Demonstrated};
 
 use crate::Status;
 use cert_checker::Ending;
 use cert_format::Certificate;
 use cut_pool::Found;
-use hub_checks::{put_ending, status_of_ending};
+use hub_commands::{put_ending, status_of_ending};
 use hub_io::{Failed, Sink};
 use hub_make::put_demo;
 use hub_model::Instance;

@@ -11,8 +11,8 @@ ghost use Rattle.hub_words.specs.Views.{search_seen};
 ghost use Rattle.hub_top.specs.Texts.{no_network_text, usage_text};
 ghost use Rattle.hub_top.specs.Outcomes.{IsTold, Written, err_text, memory, status_of};
 ghost use Rattle.hub_top.specs.Views.{CanBeWritten, IsReady, IsWritable, answer_status, answer_text, came_to, halted, outcome};
-ghost use Rattle.hub_searches.specs.Statuses.{finding_status};
-ghost use Rattle.hub_checks.specs.declared.status.Status.TheVariants.{Lacking, Usage};
+ghost use Rattle.hub_commands.specs.Statuses.{finding_status};
+ghost use Rattle.hub_commands.specs.declared.status.Status.TheVariants.{Lacking, Usage};
 
 use crate::Status;
 use crate::answers::{Answer, put_answer, status_of_answer, status_of_finding};

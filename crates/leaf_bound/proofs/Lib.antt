@@ -1,3 +1,5 @@
 pub mod WeightedSums
 pub mod LentNumbers
 pub mod LeafWeights
+pub mod BranchHubs
+pub mod SideLists

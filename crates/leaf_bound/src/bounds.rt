@@ -9,8 +9,7 @@ ghost use Rattle.leaf_bound.specs.Weighing.{most_gain, most_bound, IsWithin, Are
 
 use crate::Weighting;
 use crate::gains::{ROOM, sum_of_gains, sum_of_losses, write_gains_and_base};
-use hub_model::{difference, signed};
-use plan_model::Branch;
+use hub_model::{Branch, difference, signed};
 
 /// The bound of the branch under these weights, in 10^-12, times the denominator.
 pub fn bound(weighting: &Weighting, branch: &Branch) -> i128

@@ -6,6 +6,8 @@
 //! node inside and the negative gains of free nodes; bounds and gains are in 10^-12, times D. A branch is fathomed at a
 //! cutoff t where its bound is above D * (t - 1): then none of its plans costs less than t.
 //!
+//! A [`Side`] of a free candidate stays where the child on its other side is fathomed; `hub_fixing` and `p_hub` find it.
+//!
 //! Weights stand in the order of the cuts, and missing ones count as 0. Limits are asked of the branch's own nodes. No call
 //! takes memory.
 #![tactic(auto)]
@@ -13,10 +15,12 @@
 mod bounds;
 mod gains;
 mod laws;
+mod sides;
 mod weighing;
 mod weightings;
 
 pub use bounds::{bound, bound_by, closes, threshold};
 pub use gains::{gain, sum_of_gains, write_gains, write_gains_and_base};
 pub use laws::{leaf_has_this_bound, pairs_are_a_mix};
+pub use sides::Side;
 pub use weightings::Weighting;

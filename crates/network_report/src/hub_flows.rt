@@ -5,8 +5,7 @@ ghost use Rattle.hub_spec.specs.Problem.{IsProblem};
 ghost use Rattle.hub_spec.specs.Plans.{IsPlan};
 ghost use Rattle.network_report.specs.Parts.{collected_flow, delivered_flow};
 
-use hub_model::Instance;
-use plan_model::Plan;
+use hub_model::{Instance, Plan};
 
 /// The most hubs that there may be: as many as nodes.
 pub(crate) const MOST_HUBS: usize = 200;

@@ -5,8 +5,7 @@ ghost use Rattle.hub_spec.specs.Problem.{IsProblem};
 ghost use Rattle.hub_spec.specs.Plans.{IsPlan};
 ghost use Rattle.network_report.specs.Parts.{collection_leg, trunk_leg, delivery_leg, collection_cost, trunk_cost, delivery_cost};
 
-use hub_model::Instance;
-use plan_model::Plan;
+use hub_model::{Instance, Plan};
 
 /// The costs of routes by their legs, in 10^-12.
 #[derive(Clone, Copy)]

@@ -12,8 +12,7 @@ use crate::legs::Legs;
 use cert_format::Certificate;
 use dec_text::{Piece, put_pieces};
 use hub_io::{Buffer, Failed, Sink};
-use hub_model::Instance;
-use plan_model::Plan;
+use hub_model::{Instance, Plan};
 
 // The decimals of a cost, and of a flow.
 const COST_PLACES: u32 = 12;

@@ -14,11 +14,11 @@ use Rattle.search_steps.specs.Pools.{HasGrown}
 use Rattle.search_steps.proofs.GivenPools.{grown_same, grown_twice, weights_stay}
 use Rattle.search_steps.proofs.RuleChoices.{decided_alone, none_alone}
 use Rattle.search_core.specs.declared.tasks.Task.{Task}
-use Rattle.search_progress.specs.declared.progress.Progress.{Progress}
-use Rattle.search_progress.specs.Progressing.{state_of, IsGoing, IsAt}
-use Rattle.rounds_spec.specs.Places as places
-use Rattle.rounds_spec.specs.Turns.{fresh, halved, split_up, with_set, taken}
-use Rattle.rounds_spec.proofs.StepCases.{halved_both, split_one}
+use Rattle.search_steps.specs.declared.progress.Progress.{Progress}
+use Rattle.search_steps.specs.Progressing.{state_of, IsGoing, IsAt}
+use Rattle.search_spec.specs.Places as places
+use Rattle.search_spec.specs.Turns.{fresh, halved, split_up, with_set, taken}
+use Rattle.search_spec.proofs.RoundCases.{halved_both, split_one}
 use Rattle.node_rounds.specs.declared.outcomes.Pending.{Pending}
 use Rattle.node_rounds.specs.declared.outcomes.Outcome.{Outcome}
 use Rattle.node_rounds.specs.declared.outcomes.Outcome.TheVariants.{Ends, Ask, Split}

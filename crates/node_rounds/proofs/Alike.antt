@@ -4,8 +4,8 @@ use Rattle.std.specs.List.{HoldsAt}
 use Rattle.std.proofs.lemmas.List.{drop-map, get_or-map, length-map}
 use Rattle.hub_spec.specs.Cuts.{Cut}
 use Rattle.hub_spec.specs.Problem.{Problem}
-use Rattle.plan_model.specs.declared.tree_lines.TreeLine as model
-use Rattle.plan_model.specs.Lines.{tree_line_of}
+use Rattle.hub_model.specs.declared.tree_lines.TreeLine as model
+use Rattle.hub_model.specs.Lines.{tree_line_of}
 use Rattle.hub_spec.specs.Trees.{TreeLine, Branching}
 use Rattle.cut_pool.specs.Findings.{lines_of}
 use Rattle.cut_pool.proofs.KeptCutLaws.{kept_part_is}
@@ -16,11 +16,11 @@ use Rattle.search_core.specs.declared.tasks.Task.{Task}
 use Rattle.search_steps.specs.Advising.{parts_of}
 use Rattle.search_steps.specs.Pools.{pool_cuts}
 use Rattle.search_steps.specs.Weights.{AreNodeWeights, sides_as}
-use Rattle.search_progress.specs.declared.progress.Progress.{Progress}
-use Rattle.search_progress.specs.Progressing.{state_of}
-use Rattle.search_progress.specs.FixingsLeft.{AreOnFree}
-use Rattle.rounds_spec.specs.Places as places
-use Rattle.rounds_spec.specs.Turns.{most_waits, most_turns, turn}
+use Rattle.search_steps.specs.declared.progress.Progress.{Progress}
+use Rattle.search_steps.specs.Progressing.{state_of}
+use Rattle.search_steps.specs.FixingsLeft.{AreOnFree}
+use Rattle.search_spec.specs.Places as places
+use Rattle.search_spec.specs.Turns.{most_waits, most_turns, turn}
 use Rattle.node_rounds.specs.declared.outcomes.Pending.{Pending}
 use Rattle.node_rounds.specs.declared.outcomes.Outcome.{Outcome}
 use Rattle.node_rounds.specs.declared.outcomes.Outcome.TheVariants.{Ends, Ask, Split}
@@ -29,7 +29,7 @@ use Rattle.node_rounds.specs.declared.left.Mark.{Mark}
 use Rattle.node_rounds.specs.declared.left.Mark.TheVariants.{Line, Node}
 use Rattle.node_rounds.specs.Outcomes.{pending_of, IsTurnOf, IsOutcomeOf}
 use Rattle.node_rounds.specs.Left.{AreMatched, placed, left_of, lines_first, standing_of, IsLeft, turned_of}
-use Rattle.rounds_spec.specs.Turns.{next_round, at_root}
+use Rattle.search_spec.specs.Turns.{next_round, at_root}
 use Rattle.node_rounds.specs.declared.posts.Worked.{Worked}
 use Rattle.node_rounds.specs.Searchers.{IsTurnBy, IsAsGood, first_state, after_rounds, IsTurnIn, IsWorked}
 

@@ -5,18 +5,18 @@ use Rattle.std.proofs.lemmas.List.Elements.{All-weaker}
 use Rattle.hub_spec.specs.Limits.{most_tree_lines}
 use Rattle.hub_spec.specs.Problem.{Problem}
 use Rattle.hub_spec.specs.Trees.{TreeLine, preorder}
-use Rattle.plan_model.specs.declared.tree_lines.TreeLine as model
-use Rattle.plan_model.specs.Lines.{tree_line_of}
+use Rattle.hub_model.specs.declared.tree_lines.TreeLine as model
+use Rattle.hub_model.specs.Lines.{tree_line_of}
 use Rattle.cut_pool.specs.Findings.{lines_of}
 use Rattle.search_spec.specs.States.{State, Parts, Grown}
 use Rattle.search_spec.specs.Steps.{unless_ended, stopped_leaf}
 use Rattle.search_steps.specs.Advising.{parts_of}
 use Rattle.search_core.specs.declared.tasks.Task.{Task}
-use Rattle.search_progress.specs.declared.progress.Progress.{Progress}
-use Rattle.search_progress.specs.Progressing.{state_of, IsGoing, IsAt}
-use Rattle.rounds_spec.specs.Places as places
-use Rattle.rounds_spec.specs.Places.{line, open_at}
-use Rattle.rounds_spec.specs.Turns.{Closed, closed_up}
+use Rattle.search_steps.specs.declared.progress.Progress.{Progress}
+use Rattle.search_steps.specs.Progressing.{state_of, IsGoing, IsAt}
+use Rattle.search_spec.specs.Places as places
+use Rattle.search_spec.specs.Places.{line, open_at}
+use Rattle.search_spec.specs.Turns.{Closed, closed_up}
 use Rattle.node_rounds.specs.declared.outcomes.Pending.{Pending}
 use Rattle.node_rounds.specs.declared.left.Mark.{Mark}
 use Rattle.node_rounds.specs.declared.left.Mark.TheVariants.{Line, Node}

@@ -16,12 +16,12 @@ use Rattle.cut_pool.specs.Findings.{IsUnlimited}
 use Rattle.search_steps.specs.Advising.{parts_of}
 use Rattle.search_steps.proofs.OpenBranches.{never_blocked}
 use Rattle.search_steps.proofs.RuleChoices.{parts_sound, barren_is, some_open}
-use Rattle.rounds_spec.specs.Places.{Pending, Place, line, open_at, Outcome, ends, asks, splits, Standing, lines_of}
-use Rattle.rounds_spec.specs.Turns.{on_some, most_waits, turn_alone, turn_advised, turn, waited, fresh, stops_at, halved, after_fixings, child_of, beside_leaf, split_up, taken, turns_taken, most_turns, next_round, goes_on, rounds, Closed, closed_up, grown_of, at_root}
-use Rattle.rounds_spec.specs.Lasting.{turns_of, stood, searched_by_rounds}
-use Rattle.rounds_spec.proofs.Leading.{Leads, tree_is}
-use Rattle.rounds_spec.proofs.Turning.{on_some_both}
-use Rattle.rounds_spec.proofs.WholeRounds.{last_is}
+use Rattle.search_spec.specs.Places.{Pending, Place, line, open_at, Outcome, ends, asks, splits, Standing, lines_of}
+use Rattle.search_spec.specs.Turns.{on_some, most_waits, turn_alone, turn_advised, turn, waited, fresh, stops_at, halved, after_fixings, child_of, beside_leaf, split_up, taken, turns_taken, most_turns, next_round, goes_on, rounds, Closed, closed_up, grown_of, at_root}
+use Rattle.search_spec.specs.Lasting.{turns_of, stood, searched_by_rounds}
+use Rattle.search_spec.proofs.Leading.{Leads, tree_is}
+use Rattle.search_spec.proofs.Turning.{on_some_both}
+use Rattle.search_spec.proofs.WholeRounds.{last_is}
 
 abbrev IsFirst : Tree → Type 0
 IsFirst tree = All IsFirstLine (preorder tree)

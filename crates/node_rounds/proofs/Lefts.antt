@@ -2,10 +2,10 @@
 use Rattle.std.proofs.Common.{◌≡◌, Bool, false, nat_eq, true≢false, ◌+◌, ◌≤◌, List, [], ◌∷◌, ◌++◌, length, map, All, refl, ap, sym, subst, ◌∙◌, append_assoc, arith}
 use Rattle.std.proofs.lemmas.List.Elements.{All-nil, All-cons, All-head, All-tail}
 use Rattle.std.proofs.lemmas.List.{map-append, length_push}
-use Rattle.plan_model.specs.declared.tree_lines.TreeLine as model
-use Rattle.plan_model.specs.Lines.{tree_line_of}
+use Rattle.hub_model.specs.declared.tree_lines.TreeLine as model
+use Rattle.hub_model.specs.Lines.{tree_line_of}
 use Rattle.cut_pool.specs.Findings.{lines_of}
-use Rattle.rounds_spec.specs.Places as places
+use Rattle.search_spec.specs.Places as places
 use Rattle.node_rounds.specs.declared.outcomes.Pending.{Pending}
 use Rattle.node_rounds.specs.declared.fronts.Place.{Place}
 use Rattle.node_rounds.specs.declared.left.Mark.{Mark}

@@ -10,10 +10,10 @@ use Rattle.search_spec.specs.Steps.{separated, may_split, two_more, Side, stoppe
 use Rattle.search_spec.specs.Choices.{rule_parts, begun_for}
 use Rattle.search_spec.specs.Findings.{AreOfSets}
 use Rattle.search_steps.specs.Advising.{master_advising, parts_of}
-use Rattle.rounds_spec.specs.Places.{Pending, Place, line, open_at, lines_of, Outcome, ends, asks, splits, Standing}
-use Rattle.rounds_spec.specs.Turns.{with_set, waited, fresh, stops_at, halved, after_fixings, child_of, beside_leaf, split_up, taken, turn, turns_taken, most_turns, next_round, goes_on, rounds, closed_up, at_root}
-use Rattle.rounds_spec.specs.Lasting.{turns_of, stood, searched_by_rounds, rule_by_rounds}
-use Rattle.rounds_spec.proofs.Turning.{on_some_both}
+use Rattle.search_spec.specs.Places.{Pending, Place, line, open_at, lines_of, Outcome, ends, asks, splits, Standing}
+use Rattle.search_spec.specs.Turns.{with_set, waited, fresh, stops_at, halved, after_fixings, child_of, beside_leaf, split_up, taken, turn, turns_taken, most_turns, next_round, goes_on, rounds, closed_up, at_root}
+use Rattle.search_spec.specs.Lasting.{turns_of, stood, searched_by_rounds, rule_by_rounds}
+use Rattle.search_spec.proofs.Turning.{on_some_both}
 
 -- ---- the steps
 

@@ -7,16 +7,16 @@ use Rattle.search_spec.specs.Choices.{begun_for}
 use Rattle.search_spec.specs.Costs.{IsAtMostOf, first_hubs}
 use Rattle.search_spec.proofs.FallingCosts.{least_to, begun_most}
 use Rattle.search_steps.specs.Advising.{parts_of}
-use Rattle.search_progress.specs.Kinds.{CutKind, minimal, parts_for}
+use Rattle.search_steps.specs.Kinds.{CutKind, minimal, parts_for}
 use Rattle.search_steps.proofs.RuleChoices.{parts_sound}
 use Rattle.cut_pool.specs.Findings.{AreRemade}
 use Rattle.cut_pool.specs.declared.found.Found.{Found}
-use Rattle.search_progress.specs.Findings.{IsFound}
-use Rattle.search_progress.proofs.KeptPools.{own_by_sets}
-use Rattle.search_progress.proofs.FoundCertificates.{start_of, IsSearchable, start_is, IsSearched}
-use Rattle.rounds_spec.specs.Lasting.{searched_by_rounds, rule_by_rounds}
-use Rattle.rounds_spec.proofs.WholeRounds.{search_proof, search_counted, search_stopped, enough_nodes}
-use Rattle.rounds_spec.proofs.Costs.{cost_falls}
+use Rattle.search_steps.specs.Findings.{IsFound}
+use Rattle.search_steps.proofs.KeptPools.{own_by_sets}
+use Rattle.search_steps.proofs.FoundCertificates.{start_of, IsSearchable, start_is, IsSearched}
+use Rattle.search_spec.specs.Lasting.{searched_by_rounds, rule_by_rounds}
+use Rattle.search_spec.proofs.WholeRounds.{search_proof, search_counted, search_stopped, enough_nodes}
+use Rattle.search_spec.proofs.RoundCosts.{cost_falls}
 use Rattle.node_rounds.specs.Findings.{found_by_rounds}
 use Rattle.node_rounds.proofs.OfSets.{rule_rounds_own}
 use Rattle.node_rounds.proofs.FirstPlaces.{rounds_first}

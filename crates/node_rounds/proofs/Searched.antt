@@ -2,24 +2,24 @@
 use Rattle.std.proofs.Common.{◌≡◌, ℕ, ◌<◌, ◌≤◌, Bool, true, false, not, ◌&&◌, List, [], ◌∷◌, ◌++◌, map, length, All, Option, refl, ap, sym, subst, ◌∙◌, arith}
 use Rattle.hub_spec.specs.Problem.{Problem, IsProblem}
 use Rattle.hub_spec.specs.Trees.{root, TreeLine, preorder}
-use Rattle.plan_model.specs.Lines.{tree_line_of}
+use Rattle.hub_model.specs.Lines.{tree_line_of}
 use Rattle.cut_pool.specs.Findings.{lines_of}
 use Rattle.search_spec.specs.States.{State, is_stopped}
 use Rattle.search_spec.specs.Laws.{IsStart}
 use Rattle.search_steps.specs.Advising.{parts_of}
 use Rattle.search_steps.proofs.RuleChoices.{parts_sound}
 use Rattle.search_core.specs.declared.tasks.Task.{Task}
-use Rattle.search_progress.specs.declared.progress.Progress.{Progress}
-use Rattle.search_progress.specs.Progressing.{state_of, IsGoing}
-use Rattle.rounds_spec.specs.Places as places
-use Rattle.rounds_spec.specs.Places.{line, open_at, Standing, has_pending}
-use Rattle.rounds_spec.specs.Turns.{Closed, fresh, next_round, goes_on, rounds, closed_up, grown_of, at_root}
-use Rattle.rounds_spec.specs.Lasting.{turns_of, turns_left, stood, searched_by_rounds}
-use Rattle.rounds_spec.proofs.Rounding.{IsStanding, round_stands, going_when}
-use Rattle.rounds_spec.proofs.Ending.{round_falls}
-use Rattle.rounds_spec.proofs.Leading.{Leads, tree_is}
-use Rattle.rounds_spec.proofs.WholeRounds.{root_stands, root_turns, last_is}
-use Rattle.rounds_spec.proofs.StepCases.{rounds_step, rounds_over}
+use Rattle.search_steps.specs.declared.progress.Progress.{Progress}
+use Rattle.search_steps.specs.Progressing.{state_of, IsGoing}
+use Rattle.search_spec.specs.Places as places
+use Rattle.search_spec.specs.Places.{line, open_at, Standing, has_pending}
+use Rattle.search_spec.specs.Turns.{Closed, fresh, next_round, goes_on, rounds, closed_up, grown_of, at_root}
+use Rattle.search_spec.specs.Lasting.{turns_of, turns_left, stood, searched_by_rounds}
+use Rattle.search_spec.proofs.Rounding.{IsStanding, round_stands, going_when}
+use Rattle.search_spec.proofs.Ending.{round_falls}
+use Rattle.search_spec.proofs.Leading.{Leads, tree_is}
+use Rattle.search_spec.proofs.WholeRounds.{root_stands, root_turns, last_is}
+use Rattle.search_spec.proofs.RoundCases.{rounds_step, rounds_over}
 use Rattle.node_rounds.specs.declared.outcomes.Pending.{Pending}
 use Rattle.node_rounds.specs.declared.fronts.Front.{Front}
 use Rattle.node_rounds.specs.declared.left.Mark.{Mark}

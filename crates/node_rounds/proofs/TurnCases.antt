@@ -9,9 +9,9 @@ use Rattle.search_spec.specs.Steps.{closes_at, better, Side, fixings}
 use Rattle.search_spec.specs.Laws.{GoesOn}
 use Rattle.search_spec.specs.Choices.{rule_parts, order_by_point, by_falling, others}
 use Rattle.search_steps.specs.Advising.{master_advising, parts_of}
-use Rattle.search_progress.proofs.ToldChoices.{HasEnd}
-use Rattle.rounds_spec.specs.Places.{line, lines_of, Pending, Outcome, ends, asks, splits}
-use Rattle.rounds_spec.specs.Turns.{most_waits, turn, turn_alone, turn_advised}
+use Rattle.search_steps.proofs.ToldChoices.{HasEnd}
+use Rattle.search_spec.specs.Places.{line, lines_of, Pending, Outcome, ends, asks, splits}
+use Rattle.search_spec.specs.Turns.{most_waits, turn, turn_alone, turn_advised}
 use Rattle.node_rounds.specs.Outcomes.{tree_of}
 
 -- ---- lines that end a node

@@ -6,20 +6,20 @@ use Rattle.std.proofs.lemmas.List.Elements.{All-weaker, All-nil}
 use Rattle.hub_spec.specs.Problem.{Problem}
 use Rattle.hub_spec.specs.Trees.{TreeLine}
 use Rattle.hub_spec.proofs.SumLemmas.{by_test}
-use Rattle.plan_model.specs.declared.tree_lines.TreeLine as model
-use Rattle.plan_model.specs.Lines.{tree_line_of}
+use Rattle.hub_model.specs.declared.tree_lines.TreeLine as model
+use Rattle.hub_model.specs.Lines.{tree_line_of}
 use Rattle.cut_pool.specs.Findings.{lines_of}
 use Rattle.search_spec.specs.States.{State, Parts, is_stopped}
 use Rattle.search_steps.specs.Advising.{parts_of}
 use Rattle.search_steps.specs.Pools.{HasGrown}
 use Rattle.search_steps.proofs.GivenPools.{grown_same, grown_twice}
 use Rattle.search_core.specs.declared.tasks.Task.{Task}
-use Rattle.search_progress.specs.declared.progress.Progress.{Progress}
-use Rattle.search_progress.specs.Progressing.{state_of}
-use Rattle.rounds_spec.specs.Places as places
-use Rattle.rounds_spec.specs.Places.{line, open_at, Standing}
-use Rattle.rounds_spec.specs.Turns.{taken, turns_taken, next_round, most_turns}
-use Rattle.rounds_spec.proofs.StepCases.{turned_lines, turned_stopped, turned_none, turned_first}
+use Rattle.search_steps.specs.declared.progress.Progress.{Progress}
+use Rattle.search_steps.specs.Progressing.{state_of}
+use Rattle.search_spec.specs.Places as places
+use Rattle.search_spec.specs.Places.{line, open_at, Standing}
+use Rattle.search_spec.specs.Turns.{taken, turns_taken, next_round, most_turns}
+use Rattle.search_spec.proofs.RoundCases.{turned_lines, turned_stopped, turned_none, turned_first}
 use Rattle.node_rounds.specs.declared.outcomes.Pending.{Pending}
 use Rattle.node_rounds.specs.declared.outcomes.Outcome.{Outcome}
 use Rattle.node_rounds.specs.declared.fronts.Front.{Front}

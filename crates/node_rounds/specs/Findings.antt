@@ -3,7 +3,7 @@ use Rattle.std.specs.Prelude.{ℕ, Option}
 use Rattle.hub_spec.specs.Problem.{Problem}
 use Rattle.search_spec.specs.States.{Grown}
 use Rattle.search_steps.specs.Advising.{master_advising}
-use Rattle.rounds_spec.specs.Lasting.{rule_by_rounds}
+use Rattle.search_spec.specs.Lasting.{rule_by_rounds}
 
 -- what the rule by rounds finds with the master's advice, where this is the most nodes
 abbrev pub found_by_rounds : Problem → Option ℕ → Grown

@@ -1,13 +1,13 @@
 -- What came of the nodes of a round in code, in the words of the definition.
 use Rattle.std.specs.Prelude.{◌≡◌, List, ◌++◌, map, All}
 use Rattle.hub_spec.specs.Problem.{Problem}
-use Rattle.plan_model.specs.Lines.{tree_line_of}
+use Rattle.hub_model.specs.Lines.{tree_line_of}
 use Rattle.cut_pool.specs.Findings.{lines_of}
 use Rattle.cut_pool.specs.Entries.{Entry}
 use Rattle.search_core.specs.declared.tasks.Task.{Task}
 use Rattle.search_steps.specs.Pools.{HasGrown}
-use Rattle.search_progress.specs.Progressing.{state_of, IsGoing}
-use Rattle.rounds_spec.specs.Places as places
+use Rattle.search_steps.specs.Progressing.{state_of, IsGoing}
+use Rattle.search_spec.specs.Places as places
 use Rattle.node_rounds.specs.declared.fronts.Place.{Place}
 use Rattle.node_rounds.specs.declared.fronts.Place.TheVariants.{Line, Open}
 use Rattle.node_rounds.specs.declared.fronts.Front.{Front}

@@ -2,14 +2,14 @@
 use Rattle.std.specs.Prelude.{◌≡◌, ℕ, ◌+◌, ◌-◌, List, [], ◌∷◌, ◌++◌, map, length, drop, min, All}
 use Rattle.std.specs.List.{AllZip}
 use Rattle.hub_spec.specs.Problem.{Problem}
-use Rattle.plan_model.specs.declared.tree_lines.TreeLine.{TreeLine}
-use Rattle.plan_model.specs.Lines.{tree_line_of}
+use Rattle.hub_model.specs.declared.tree_lines.TreeLine.{TreeLine}
+use Rattle.hub_model.specs.Lines.{tree_line_of}
 use Rattle.cut_pool.specs.Findings.{lines_of}
 use Rattle.search_core.specs.declared.tasks.Task.{Task}
-use Rattle.search_progress.specs.Progressing.{state_of, IsGoing}
-use Rattle.search_progress.specs.declared.progress.Progress.{Progress}
-use Rattle.rounds_spec.specs.Places as places
-use Rattle.rounds_spec.specs.Turns.{most_turns}
+use Rattle.search_steps.specs.Progressing.{state_of, IsGoing}
+use Rattle.search_steps.specs.declared.progress.Progress.{Progress}
+use Rattle.search_spec.specs.Places as places
+use Rattle.search_spec.specs.Turns.{most_turns}
 use Rattle.node_rounds.specs.declared.outcomes.Pending.{Pending}
 use Rattle.node_rounds.specs.declared.left.Mark.{Mark}
 use Rattle.node_rounds.specs.declared.left.Mark.TheVariants.{Line, Node}

@@ -4,15 +4,15 @@ use Rattle.hub_spec.specs.Problem.{Problem}
 use Rattle.hub_spec.specs.Plans.{IsHubSet}
 use Rattle.hub_spec.specs.Separation.{IsOrder}
 use Rattle.hub_spec.specs.Trees.{IsBranch, Tree, leaf, empty, block, count, TreeLine, branch_on, leaf_of, no_hub, no_route, no_count}
-use Rattle.plan_model.specs.Lines.{tree_line_of}
+use Rattle.hub_model.specs.Lines.{tree_line_of}
 use Rattle.frac_master.specs.Advice.{advice_of_code}
 use Rattle.cut_pool.specs.Entries.{Sums, Entry, entry_of}
 use Rattle.search_steps.specs.Advising.{told_by, parts_of}
 use Rattle.search_steps.specs.Weights.{AreNodeWeights, pairs_of, sides_as}
 use Rattle.search_steps.specs.Pools.{IsSumsOf, InEachStateAt}
-use Rattle.search_progress.specs.FixingsLeft.{AreOnFree}
-use Rattle.rounds_spec.specs.Places as places
-use Rattle.rounds_spec.specs.Turns.{most_waits, turn}
+use Rattle.search_steps.specs.FixingsLeft.{AreOnFree}
+use Rattle.search_spec.specs.Places as places
+use Rattle.search_spec.specs.Turns.{most_waits, turn}
 use Rattle.node_rounds.specs.declared.outcomes.Pending.{Pending}
 use Rattle.node_rounds.specs.declared.outcomes.Outcome.{Outcome}
 use Rattle.node_rounds.specs.declared.outcomes.Outcome.TheVariants.{Ends, Ask, Split}

@@ -7,13 +7,13 @@ use Rattle.search_spec.specs.States.{State}
 use Rattle.search_spec.specs.Choices.{begun_for}
 use Rattle.search_core.specs.declared.tasks.Task.{Task}
 use Rattle.search_steps.specs.Advising.{parts_of}
-use Rattle.search_progress.specs.declared.progress.Progress.{Progress}
-use Rattle.search_progress.specs.Progressing.{state_of, IsGoing}
+use Rattle.search_steps.specs.declared.progress.Progress.{Progress}
+use Rattle.search_steps.specs.Progressing.{state_of, IsGoing}
 use Rattle.cut_pool.specs.Findings.{lines_of}
 use Rattle.hub_spec.specs.Trees.{preorder}
-use Rattle.rounds_spec.specs.Lasting.{searched_by_rounds}
-use Rattle.rounds_spec.specs.Places as places
-use Rattle.rounds_spec.specs.Turns.{next_round, at_root}
+use Rattle.search_spec.specs.Lasting.{searched_by_rounds}
+use Rattle.search_spec.specs.Places as places
+use Rattle.search_spec.specs.Turns.{next_round, at_root}
 use Rattle.node_rounds.specs.declared.outcomes.Pending.{Pending}
 use Rattle.node_rounds.specs.declared.outcomes.Outcome.{Outcome}
 use Rattle.node_rounds.specs.declared.left.Left.{Left}

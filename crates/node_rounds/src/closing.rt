@@ -2,22 +2,21 @@
 
 ghost use Rattle.std.specs.Prelude.{◌≡◌, ◌∷◌, [], None, IfOk, OnOk};
 ghost use Rattle.hub_spec.specs.Trees.{preorder};
-ghost use Rattle.plan_model.specs.Lines.{tree_line_of};
+ghost use Rattle.hub_model.specs.Lines.{tree_line_of};
 ghost use Rattle.cut_pool.specs.Findings.{lines_of};
 ghost use Rattle.search_spec.specs.Steps.{unless_ended, stopped_leaf};
 ghost use Rattle.search_steps.specs.Advising.{parts_of};
 ghost use Rattle.search_steps.specs.Weights.{pairs_of};
-ghost use Rattle.search_progress.specs.Progressing.{state_of, IsGoing, IsAt};
-ghost use Rattle.rounds_spec.specs.Turns.{closed_up};
+ghost use Rattle.search_steps.specs.Progressing.{state_of, IsGoing, IsAt};
+ghost use Rattle.search_spec.specs.Turns.{closed_up};
 ghost use Rattle.node_rounds.specs.Outcomes.{IsPendingOf};
 ghost use Rattle.node_rounds.specs.Left.{standing_of, IsLeft};
 
 use crate::left::{Left, Mark};
 use crate::outcomes::Pending;
-use plan_model::TreeLine;
+use hub_model::TreeLine;
 use search_core::{Task, add_line};
-use search_progress::{Progress, stopped_leaf};
-use search_steps::{Plain, Rule};
+use search_steps::{Plain, Progress, Rule, stopped_leaf};
 use std::alloc::{AllocError, Global};
 
 /// Ends each node that is left, and adds all lines to the tree.

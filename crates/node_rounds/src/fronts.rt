@@ -2,20 +2,19 @@
 
 ghost use Rattle.std.specs.Prelude.{◌≡◌, None, [], ◌∷◌, OnOk};
 ghost use Rattle.hub_spec.specs.Trees.{branch_on};
-ghost use Rattle.plan_model.specs.Lines.{tree_line_of};
+ghost use Rattle.hub_model.specs.Lines.{tree_line_of};
 ghost use Rattle.search_spec.specs.Steps.{two_more};
-ghost use Rattle.search_progress.specs.Progressing.{state_of};
-ghost use Rattle.rounds_spec.specs.Places.{line, open_at};
-ghost use Rattle.rounds_spec.specs.Turns.{stops_at};
+ghost use Rattle.search_steps.specs.Progressing.{state_of};
+ghost use Rattle.search_spec.specs.Places.{line, open_at};
+ghost use Rattle.search_spec.specs.Turns.{stops_at};
 ghost use Rattle.search_steps.specs.Weights.{pairs_of};
 ghost use Rattle.node_rounds.specs.Outcomes.{pending_of, IsPendingOf};
 ghost use Rattle.node_rounds.specs.Fronts.{IsFront, IsTaken};
 
 use crate::outcomes::Pending;
-use plan_model::TreeLine;
+use hub_model::TreeLine;
 use search_core::Task;
-use search_progress::{Progress, stopped_leaf, two_more};
-use search_steps::Plain;
+use search_steps::{Plain, Progress, stopped_leaf, two_more};
 use std::alloc::{AllocError, Global};
 
 /// A place of the tree: a finished line, or a node that is pending.

@@ -10,7 +10,7 @@ ghost use Rattle.node_rounds.specs.Left.{left_of, lines_first, AreMatched};
 
 use crate::fronts::Place;
 use crate::outcomes::Pending;
-use plan_model::TreeLine;
+use hub_model::TreeLine;
 use search_core::add_line;
 use std::alloc::AllocError;
 

@@ -8,7 +8,7 @@
 //! Where an evaluation is long, the workers meet for each round. Where it is short, each worker runs the whole search and
 //! sends its evaluations to the others.
 //!
-//! Evaluations and rounds are those of `rounds_spec`, which knows no workers: the finding is the same for every number of
+//! Evaluations and rounds are those of `search_spec`, which knows no workers: the finding is the same for every number of
 //! workers, schedule and gate. Costs are in 10^-12 and weights in 10^-6; nodes are `u32`, counted from 0, cuts from 1.
 //!
 //! In the order of reading: `outcomes`, `turning` (one node), `rounds` (the nodes of a round), `fronts`, `splitting` and

@@ -1,14 +1,14 @@
 //! A node that is still to be handled, and what its turn comes to.
 
 ghost use Rattle.std.specs.Prelude.{◌≡◌, IfOk};
-ghost use Rattle.plan_model.specs.Lines.{tree_line_of};
+ghost use Rattle.hub_model.specs.Lines.{tree_line_of};
 ghost use Rattle.frac_master.specs.Advice.{advice_of_code};
 ghost use Rattle.node_rounds.specs.Searchers.{IsAsGood};
 
 use cut_pool::CutSums;
 use frac_master::Advice;
-use hub_fixing::Side;
-use plan_model::{Branch, HubSet, TreeLine};
+use hub_model::{Branch, HubSet, TreeLine};
+use leaf_bound::Side;
 use std::alloc::{AllocError, Global};
 
 /// A node that is still to be handled.

@@ -4,18 +4,18 @@ ghost use Rattle.std.specs.Prelude.{◌≡◌, ◌<◌, ◌≤◌, ◌^◌, None
 ghost use Rattle.std.specs.List.{AllZip};
 ghost use denote.Param.Send.{IsSync};
 ghost use Rattle.hub_spec.specs.Problem.{IsProblem};
-ghost use Rattle.rounds_spec.specs.Turns.{most_turns};
+ghost use Rattle.search_spec.specs.Turns.{most_turns};
 ghost use Rattle.search_steps.specs.Pools.{IsPoolOf};
 ghost use Rattle.node_rounds.specs.Outcomes.{IsPendingOf, IsTurnOf, IsOutcomeOf};
 ghost use Rattle.node_rounds.specs.Rounds.{IsRound, IsTurnAt};
 
 use crate::outcomes::{Outcome, Pending};
 use crate::turning::{turn, turn_ahead};
-use crew::{Job, answers};
+use claim_board::{Job, answers};
 use cut_pool::Pool;
 use hub_io::Gate;
 use hub_model::Instance;
-use search_progress::Solo;
+use search_steps::Solo;
 use std::alloc::{AllocError, Global};
 use std::thread::Threads;
 

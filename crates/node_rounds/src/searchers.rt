@@ -10,7 +10,7 @@ ghost use Rattle.std.specs.List.{AllZip, HoldsAt};
 ghost use denote.Param.Send.{IsSync};
 ghost use Rattle.hub_spec.specs.Plans.{IsHubSet};
 ghost use Rattle.search_steps.specs.Advising.{parts_of};
-ghost use Rattle.rounds_spec.specs.Turns.{most_turns, next_round};
+ghost use Rattle.search_spec.specs.Turns.{most_turns, next_round};
 ghost use Rattle.node_rounds.specs.Outcomes.{IsTurnOf, IsOutcomeOf};
 ghost use Rattle.node_rounds.specs.Left.{standing_of, IsLeft, turned_of};
 ghost use Rattle.node_rounds.specs.Searchers.{IsTurnBy, IsSearcher, IsWholeSearch};
@@ -25,7 +25,7 @@ use crate::turning::turn_ahead;
 use desks::{Desk, Partner, Tickets, desks};
 use hub_io::Gate;
 use search_core::Task;
-use search_progress::{Progress, Solo};
+use search_steps::{Progress, Solo};
 use std::alloc::{AllocError, Global};
 use std::thread::{Threads, join};
 

@@ -4,19 +4,18 @@ ghost use Rattle.std.specs.Prelude.{◌≡◌, ◌≤◌, None, length, OnOk};
 ghost use Rattle.frac_master.specs.Advice.{advice_of_code};
 ghost use Rattle.search_steps.specs.Advising.{told_by, parts_of};
 ghost use Rattle.search_steps.specs.Weights.{sides_as};
-ghost use Rattle.search_progress.specs.Progressing.{state_of};
-ghost use Rattle.search_progress.specs.FixingsLeft.{AreOnFree};
-ghost use Rattle.rounds_spec.specs.Turns.{halved, after_fixings, split_up};
+ghost use Rattle.search_steps.specs.Progressing.{state_of};
+ghost use Rattle.search_steps.specs.FixingsLeft.{AreOnFree};
+ghost use Rattle.search_spec.specs.Turns.{halved, after_fixings, split_up};
 ghost use Rattle.node_rounds.specs.Outcomes.{pending_of, IsPendingOf};
 ghost use Rattle.node_rounds.specs.Fronts.{IsFront, IsTaken};
 
 use crate::fronts::{Front, add_branch, add_line, add_node, stop_at};
 use crate::outcomes::Pending;
 use frac_master::Advice;
-use hub_fixing::Side;
+use leaf_bound::Side;
 use search_core::Task;
-use search_progress::may_split;
-use search_steps::{Plain, Rule, leaf_line, nearest};
+use search_steps::{Plain, Rule, leaf_line, may_split, nearest};
 use std::alloc::{AllocError, Global};
 
 /// Makes the fixings one by one, each with a leaf as the other child, and then parts the branch that is left.

@@ -5,9 +5,9 @@ ghost use Rattle.hub_spec.specs.Plans.{IsHubSet};
 ghost use Rattle.hub_spec.specs.Separation.{IsOrder};
 ghost use Rattle.hub_spec.specs.Trees.{IsBranch};
 ghost use Rattle.search_steps.specs.Advising.{parts_of};
-ghost use Rattle.search_progress.specs.Kinds.{minimal};
-ghost use Rattle.search_progress.specs.Progressing.{state_of, IsGoing, IsAt};
-ghost use Rattle.rounds_spec.specs.Turns.{with_set, taken};
+ghost use Rattle.search_steps.specs.Kinds.{minimal};
+ghost use Rattle.search_steps.specs.Progressing.{state_of, IsGoing, IsAt};
+ghost use Rattle.search_spec.specs.Turns.{with_set, taken};
 ghost use Rattle.node_rounds.specs.Outcomes.{pending_of, outcome_of, AreSumsOver, IsOutcomeOf};
 ghost use Rattle.node_rounds.specs.Fronts.{IsFront, IsTaken};
 
@@ -15,9 +15,9 @@ use crate::fronts::{Front, add_line, add_node};
 use crate::outcomes::{Outcome, Pending};
 use crate::splitting::split_up;
 use cut_pool::CutSums;
-use plan_model::HubSet;
+use hub_model::HubSet;
 use search_core::Task;
-use search_progress::{Progress, Separated, Separator, keep, number_of, separate};
+use search_steps::{Progress, Separated, Separator, keep, number_of, separate};
 use std::alloc::{AllocError, Global};
 
 /// Takes the outcome of a node: what comes in the node's place is added to the front.

@@ -2,7 +2,7 @@
 
 ghost use Rattle.std.specs.Prelude.{◌≡◌, ◌≤◌, None, length, IfOk, OnOk};
 ghost use Rattle.std.specs.List.{AllZip};
-ghost use Rattle.rounds_spec.specs.Turns.{most_turns, next_round};
+ghost use Rattle.search_spec.specs.Turns.{most_turns, next_round};
 ghost use Rattle.search_steps.specs.Advising.{parts_of};
 ghost use Rattle.node_rounds.specs.Outcomes.{IsTurnOf, IsOutcomeOf};
 ghost use Rattle.node_rounds.specs.Left.{standing_of, IsLeft, turned_of};
@@ -14,7 +14,7 @@ use crate::rounds::{turns, turns_ahead};
 use crate::searchers::Searcher;
 use hub_io::Gate;
 use search_core::Task;
-use search_progress::Progress;
+use search_steps::Progress;
 use std::alloc::{AllocError, Global};
 use std::thread::Threads;
 

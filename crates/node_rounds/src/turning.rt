@@ -10,18 +10,15 @@ ghost use Rattle.search_spec.specs.Steps.{better};
 ghost use Rattle.search_steps.specs.Advising.{parts_of};
 ghost use Rattle.search_steps.specs.Pools.{IsPoolOf, InEachState, InEachStateAt};
 ghost use Rattle.search_steps.specs.Weights.{AreNodeWeights, AreWeighed, pairs_of};
-ghost use Rattle.rounds_spec.specs.Turns.{most_waits, turn_alone, turn_advised};
+ghost use Rattle.search_spec.specs.Turns.{most_waits, turn_alone, turn_advised};
 ghost use Rattle.node_rounds.specs.Outcomes.{pending_of, IsPendingOf, outcome_of, IsTurnOf, IsOutcomeOf};
 
 use crate::outcomes::{Outcome, Pending};
 use cut_pool::Pool;
-use hub_model::Instance;
-use hub_plain::outside;
+use hub_model::{Branch, HubSet, Instance, outside};
 use pareto_cuts::order_of;
-use plan_model::{Branch, HubSet};
 use search_core::whole_leaf;
-use search_progress::Solo;
-use search_steps::{NodeWeights, Plain, Rule, closes, is_better, leaf_line, node_advice};
+use search_steps::{NodeWeights, Plain, Rule, Solo, closes, is_better, leaf_line, node_advice};
 use std::alloc::{AllocError, Global};
 
 // How often a node may ask for a set by its advice.

@@ -13,9 +13,9 @@ use Rattle.leaf_bound.specs.Bounds.{Weighting, weighted_total, gain_of}
 use Rattle.leaf_bound.specs.Numbers.{IsNodeWithin, weighting_of}
 use Rattle.leaf_bound.specs.Weighing.{most_gain, most_bound, IsWithin}
 use Rattle.leaf_bound.proofs.LentNumbers.{within_fits, AreGainsOf, read_gains}
-use Rattle.hub_fixing.specs.declared.sides.Side.{Side}
-use Rattle.hub_fixing.specs.declared.sides.Side.TheVariants.{In, Out}
-use Rattle.hub_fixing.proofs.ListedSides.{listed, closed_first, then_opened, below}
+use Rattle.leaf_bound.specs.declared.sides.Side.{Side}
+use Rattle.leaf_bound.specs.declared.sides.Side.TheVariants.{In, Out}
+use Rattle.leaf_bound.proofs.SideLists.{listed, closed_first, then_opened, below}
 use Rattle.p_hub.specs.Counted.{counted_of, gain_in, AreRising}
 use Rattle.p_hub.specs.Fixing.{counted_closes, counted_side, counted_fixings, IsBetween, side_by}
 use Rattle.p_hub.specs.Theorems.{OtherSideCloses}

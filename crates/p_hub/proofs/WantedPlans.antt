@@ -10,8 +10,8 @@ use Rattle.hub_spec.proofs.ChildLists.{open_branch, closed_branch}
 use Rattle.hub_spec.proofs.WeakDuality.{hub_gains, Agrees, Agrees-open, Agrees-closed, counted_gains, target_reached}
 use Rattle.leaf_bound.specs.Bounds.{Weighting}
 use Rattle.leaf_bound.specs.Theorems.{weight_pairs, IsWeightingOf}
-use Rattle.hub_fixing.specs.Theorems.{AreShares}
-use Rattle.hub_fixing.proofs.BranchPlans.{hubs_agree, branch_below, shares_mix}
+use Rattle.leaf_bound.specs.Shares.{AreShares}
+use Rattle.leaf_bound.proofs.BranchHubs.{hubs_agree, branch_below, shares_mix}
 use Rattle.p_hub.specs.Counted.{counted_of}
 use Rattle.p_hub.specs.Theorems.{IsSoundAt}
 use Rattle.p_hub.proofs.CountedBounds.{pairs_counted}

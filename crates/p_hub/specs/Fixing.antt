@@ -4,8 +4,8 @@ use Rattle.std.specs.Int.{int_max}
 use Rattle.std.specs.Option.{option_map}
 use Rattle.hub_spec.specs.Trees.{Branching, open_child, closed_child}
 use Rattle.leaf_bound.specs.Bounds.{Weighting}
-use Rattle.hub_fixing.specs.declared.sides.Side.{Side}
-use Rattle.hub_fixing.specs.declared.sides.Side.TheVariants.{In, Out}
+use Rattle.leaf_bound.specs.declared.sides.Side.{Side}
+use Rattle.leaf_bound.specs.declared.sides.Side.TheVariants.{In, Out}
 use Rattle.p_hub.specs.Counted.{counted_of}
 
 -- whether the bound of the branch closes the target

@@ -7,9 +7,9 @@ use Rattle.hub_spec.specs.Trees.{Branching, IsBranch, leaf_bound, open_child, cl
 use Rattle.leaf_bound.specs.Bounds.{Weighting}
 use Rattle.leaf_bound.specs.Numbers.{IsBranchBelow}
 use Rattle.leaf_bound.specs.Theorems.{weight_pairs, IsWeightingOf}
-use Rattle.hub_fixing.specs.declared.sides.Side.{Side}
-use Rattle.hub_fixing.specs.declared.sides.Side.TheVariants.{In, Out}
-use Rattle.hub_fixing.specs.Theorems.{AreShares, KeepsTo}
+use Rattle.leaf_bound.specs.declared.sides.Side.{Side}
+use Rattle.leaf_bound.specs.declared.sides.Side.TheVariants.{In, Out}
+use Rattle.leaf_bound.specs.Shares.{AreShares, KeepsTo}
 use Rattle.p_hub.specs.Counted.{counted_of}
 use Rattle.p_hub.specs.Fixing.{counted_closes, counted_fixings, IsBetween}
 

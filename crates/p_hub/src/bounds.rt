@@ -8,9 +8,8 @@ ghost use Rattle.leaf_bound.specs.Weighing.{most_gain, most_bound, IsWithin, Are
 ghost use Rattle.p_hub.specs.Counted.{counted_of, gain_in, AreRising};
 
 use crate::rising::{ROOM, rising_gains};
-use hub_model::signed;
+use hub_model::{Branch, signed};
 use leaf_bound::{Weighting, sum_of_gains, threshold, write_gains_and_base};
-use plan_model::Branch;
 
 /// The bound of the branch with `p` wanted hubs under these weights, in 10^-12, times the denominator. The branch has
 /// room for the hubs.

@@ -7,9 +7,8 @@ ghost use Rattle.p_hub.specs.Fixing.{counted_closes, counted_fixings, IsBetween}
 use crate::bounds::bound_by_rising;
 use crate::rising::{ROOM, rising_gains};
 use crate::sides::Margins;
-use hub_fixing::Side;
-use leaf_bound::{Weighting, threshold, write_gains_and_base};
-use plan_model::Branch;
+use hub_model::Branch;
+use leaf_bound::{Side, Weighting, threshold, write_gains_and_base};
 use std::alloc::{AllocError, Global};
 
 /// The free candidates of the branch, ascending, of which a side stays with `p` wanted hubs under these weights, each

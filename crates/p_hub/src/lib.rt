@@ -5,7 +5,7 @@
 //! has room for p hubs where at most p nodes are inside, and at least p are inside or free.
 //!
 //! [`bound_p`] and [`closes_p`] take no memory. [`fix_p`] is variable fixing by these bounds, and [`pick`] rounds a point
-//! to p hubs. Units and limits are those of `leaf_bound`, the sides those of `hub_fixing`.
+//! to p hubs. Units, limits and sides are those of `leaf_bound`.
 #![tactic(auto)]
 
 mod bounds;

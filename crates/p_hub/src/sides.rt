@@ -4,7 +4,7 @@ ghost use Rattle.std.specs.Prelude.{◌≡◌};
 ghost use Rattle.leaf_bound.specs.Weighing.{most_gain, most_bound, IsWithin};
 ghost use Rattle.p_hub.specs.Fixing.{side_by};
 
-use hub_fixing::Side;
+use leaf_bound::Side;
 
 /// What tells the sides of the free candidates of a branch.
 #[derive(Clone, Copy)]

@@ -6,8 +6,8 @@ ghost use Rattle.hub_spec.specs.Cuts.{cut_by};
 ghost use Rattle.hub_spec.specs.Separation.{set_cut};
 ghost use Rattle.par_separate.specs.Origins.{AreMinimalDualsFrom};
 
+use hub_model::Dual;
 use pareto_cuts::Separation;
-use plan_model::Dual;
 use std::alloc::{AllocError, Global};
 
 /// The duals of the cut, one for each commodity in order, where those of each origin stand in the order of the origins.

@@ -4,9 +4,9 @@ ghost use Rattle.std.specs.Prelude.{◌≡◌, ◌<◌, ◌≤◌, IfOk};
 ghost use Rattle.pareto_cuts.specs.UnitCosts.{AreDualsFrom};
 ghost use Rattle.par_separate.specs.Origins.{IsWhole, AreMinimalDualsFrom};
 
-use crew::Job;
+use claim_board::Job;
+use hub_model::Dual;
 use pareto_cuts::{DualBuffer, OriginScratch, Separation};
-use plan_model::Dual;
 use std::alloc::{AllocError, Global};
 
 /// What a worker makes duals in: those of an origin by unit of flow, and one of them as it is handed on.

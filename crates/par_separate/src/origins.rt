@@ -3,7 +3,7 @@
 ghost use Rattle.std.specs.Prelude.{◌<◌, ◌≤◌};
 ghost use Rattle.par_separate.specs.Origins.{IsWhole, AreSumsFrom};
 
-use crew::Job;
+use claim_board::Job;
 use pareto_cuts::{OriginScratch, Separation};
 use std::alloc::{AllocError, Global};
 

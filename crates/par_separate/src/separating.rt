@@ -13,13 +13,11 @@ use crate::adding::added;
 use crate::joining::joined;
 use crate::origin_duals::DualsByOrigin;
 use crate::origins::SumsByOrigin;
-use crew::answers;
+use claim_board::answers;
 use cut_pool::CutSums;
-use dual_cuts::Cut;
 use hub_io::Gate;
-use hub_model::Instance;
+use hub_model::{Cut, Dual, HubSet, Instance};
 use pareto_cuts::{Separation, SetTables};
-use plan_model::{Dual, HubSet};
 use std::alloc::{AllocError, Global};
 use std::thread::Threads;
 

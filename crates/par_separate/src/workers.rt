@@ -2,17 +2,16 @@
 
 ghost use Rattle.std.specs.Prelude.{◌≡◌, ◌≤◌, [], nat_lt, if◌then◌else◌, IfOk};
 ghost use Rattle.claim_board.specs.Places.{hand_of, IsSeatOf};
-ghost use Rattle.crew.specs.Crops.{IsCropOf};
+ghost use Rattle.claim_board.specs.Crops.{IsCropOf};
 ghost use Rattle.par_separate.specs.Origins.{IsWhole, AreMinimalDualsFrom, AreSumsFrom, least_shared};
 
 use crate::OriginSums;
 use crate::origin_duals::DualsByOrigin;
 use crate::origins::SumsByOrigin;
-use claim_board::{Board, Seat};
-use crew::Crop;
+use claim_board::{Board, Crop, Seat};
 use hub_io::Gate;
+use hub_model::Dual;
 use pareto_cuts::Separation;
-use plan_model::Dual;
 use std::alloc::{AllocError, Global};
 
 // The least number of nodes at which workers are worth their start.
@@ -47,7 +46,7 @@ pub fn work<G: Gate>(
     requires whole { IsWhole separation.now }
     ensures { IfOk result (IsCropOf (λ i duals. AreMinimalDualsFrom separation.now i duals.items) board.now (hand_of seat).share) }
 {
-    crew::work(
+    claim_board::work(
         alloc,
         board,
         seat,
@@ -73,7 +72,7 @@ pub fn work_on_sums<G: Gate>(
     requires whole { IsWhole separation.now }
     ensures { IfOk result (IsCropOf (AreSumsFrom separation.now) board.now (hand_of seat).share) }
 {
-    crew::work(
+    claim_board::work(
         alloc,
         board,
         seat,

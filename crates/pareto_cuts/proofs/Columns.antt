@@ -10,7 +10,7 @@ use Rattle.hub_spec.proofs.Sets.{is_in, is_in-yes, Contains-from_is_in}
 use Rattle.hub_spec.proofs.SetCuts.{unlisted_value}
 use Rattle.hub_spec.proofs.SumLemmas.{by_test}
 use Rattle.unit_duals.specs.Cells.{cell}
-use Rattle.limited_duals.proofs.MinimalDuals.{minimal_dual_of}
+use Rattle.leg_duals.proofs.MinimalDuals.{minimal_dual_of}
 use Rattle.pareto_cuts.specs.AddedRows.{row_sum, AreRowsAdded}
 use Rattle.pareto_cuts.specs.Separations.{SetSeparation, IsSeparation, sum_of, origin_load, origin_total}
 use Rattle.pareto_cuts.specs.UnitCosts.{AreDualsFrom}

@@ -5,15 +5,15 @@ use Rattle.hub_spec.specs.Separation.{minimal_dual}
 use Rattle.hub_spec.proofs.Limits.{hubs_are_nodes}
 use Rattle.hub_spec.proofs.PlanCosts.{any_allowed}
 use Rattle.hub_spec.proofs.SetCutFunction.{price_same}
-use Rattle.hub_plain.proofs.Turns.{order_nodes}
+use Rattle.hub_model.proofs.Turns.{order_nodes}
 use Rattle.unit_duals.specs.Cells.{cell}
 use Rattle.unit_duals.specs.Lengths.{stops, alone, way}
 use Rattle.unit_duals.specs.LeastValues.{IsAsked as IsAskedOf, nothing as asked_nothing, by_itself as asked_by_itself, to_hub as asked_to_hub, from_hub as asked_from_hub, to_earlier as asked_to_earlier, from_earlier as asked_from_earlier, IsLeastValue, ArePrices, AreLeastValues}
-use Rattle.leg_tables.specs.StopLegs.{stop_node, AreFirstLegsOf}
-use Rattle.leg_tables.proofs.StopNodes.{stop_is_node}
-use Rattle.leg_tables.proofs.RouteLengths.{way_costs}
-use Rattle.leg_tables.proofs.LeastRoutes.{price_is_least}
-use Rattle.leg_tables.proofs.PlaceValues.{AreWaysPriced, IsAsked, nothing, by_itself, to_hub, from_hub, to_earlier, from_earlier, IsLeastAsked, values_of_minimal}
+use Rattle.leg_duals.specs.StopLegs.{stop_node, AreFirstLegsOf}
+use Rattle.leg_duals.proofs.StopNodes.{stop_is_node}
+use Rattle.leg_duals.proofs.RouteLengths.{way_costs}
+use Rattle.leg_duals.proofs.StopRoutes.{price_is_least}
+use Rattle.leg_duals.proofs.PlaceValues.{AreWaysPriced, IsAsked, nothing, by_itself, to_hub, from_hub, to_earlier, from_earlier, IsLeastAsked, values_of_minimal}
 use Rattle.pareto_cuts.specs.Separations.{SetSeparation, IsSeparation}
 use Rattle.pareto_cuts.specs.UnitCosts.{AreDualsFrom}
 use Rattle.pareto_cuts.proofs.Columns.{minimal_of}

@@ -12,7 +12,7 @@ use Rattle.hub_spec.specs.Problem.{Problem, IsProblem}
 use Rattle.hub_spec.specs.Plans.{IsHubSet}
 use Rattle.hub_spec.specs.Separation.{IsOrder}
 use Rattle.hub_spec.proofs.Limits.{hubs_are_nodes}
-use Rattle.hub_plain.proofs.Turns.{order_nodes}
+use Rattle.hub_model.proofs.Turns.{order_nodes}
 
 -- two stops at different places are different nodes
 apart : (p : Problem) (hubs order : List ℕ) (i j d : ℕ) → IsHubSet p hubs → IsOrder p hubs order → i < j → j < length (order ++ hubs)

@@ -2,7 +2,7 @@
 use Rattle.std.specs.Prelude.{ℕ, ◌≤◌, vec_capacity}
 use Rattle.hub_spec.specs.Cuts.{Prices}
 use Rattle.hub_model.specs.Amounts.{natural}
-use Rattle.plan_model.specs.Prices.{natural_values, AreSignedPrices}
+use Rattle.hub_model.specs.Prices.{natural_values, AreSignedPrices}
 use Rattle.pareto_cuts.specs.declared.buffers.DualBuffer.TheInside.{Inside}
 
 -- a dual, and how many nodes there may be

@@ -4,7 +4,7 @@ use Rattle.hub_spec.specs.Problem.{Problem}
 use Rattle.hub_spec.specs.Cuts.{Prices}
 use Rattle.unit_duals.specs.Lengths.{UnitLegs}
 use Rattle.pareto_cuts.specs.Separations.{AreTablesOf}
-use Rattle.leg_tables.specs.UnitDuals.{AreUnitDuals}
+use Rattle.leg_duals.specs.UnitDuals.{AreUnitDuals}
 
 -- the room for nodes, the legs of the tables, the duals of an origin by unit of flow, and the dual that was made last
 pub record ScratchParts : Type 0 where

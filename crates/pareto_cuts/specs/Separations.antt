@@ -5,7 +5,7 @@ use Rattle.hub_spec.specs.Plans.{IsHubSet}
 use Rattle.hub_spec.specs.Cuts.{value_at}
 use Rattle.hub_spec.specs.Separation.{IsOrder, minimal_dual}
 use Rattle.unit_duals.specs.Lengths.{UnitLegs}
-use Rattle.leg_tables.specs.StopLegs.{AreLegsOf}
+use Rattle.leg_duals.specs.StopLegs.{AreLegsOf}
 
 -- the legs between the hubs and the candidates of the order, and to n destinations from `start` on
 pub record AreTablesOf (p : Problem) (hubs order : List ℕ) (start n : ℕ) (l : UnitLegs) : Type 0 where

@@ -2,7 +2,7 @@
 use Rattle.std.specs.Prelude.{◌≡◌, ℕ, ◌+◌, List, slice_index}
 use Rattle.hub_spec.specs.Cuts.{value_at}
 use Rattle.hub_spec.specs.Separation.{minimal_dual}
-use Rattle.leg_tables.specs.UnitDuals.{AreUnitDuals}
+use Rattle.leg_duals.specs.UnitDuals.{AreUnitDuals}
 use Rattle.pareto_cuts.specs.Separations.{SetSeparation}
 
 -- prices and values by unit of flow are of the separation's hubs, order and destinations

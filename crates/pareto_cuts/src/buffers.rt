@@ -3,13 +3,12 @@
 ghost use Rattle.std.specs.Prelude.{◌≡◌, ◌+◌, ◌*◌, ◌<◌, ◌≤◌, [], pos, length, slice_index, All, IfOk, vec_len, vec_capacity};
 ghost use Rattle.hub_spec.specs.Limits.{most_cost};
 ghost use Rattle.hub_spec.specs.Separation.{minimal_dual, values_listed, AreListedValues};
-ghost use Rattle.plan_model.specs.Prices.{signed_values, AreSignedPrices};
+ghost use Rattle.hub_model.specs.Prices.{signed_values, AreSignedPrices};
 ghost use Rattle.pareto_cuts.specs.UnitCosts.{AreDualsFrom, AreValuesOf};
 
 use crate::flows::{flows_from, set_column};
 use crate::{OriginScratch, Separation};
-use hub_model::signed;
-use plan_model::list_values;
+use hub_model::{list_values, signed};
 use std::alloc::{AllocError, Global};
 use std::marker::Model;
 

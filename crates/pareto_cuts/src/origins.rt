@@ -2,12 +2,11 @@
 
 ghost use Rattle.std.specs.Prelude.{◌≡◌, ◌+◌, ◌*◌, ◌<◌, ◌≤◌, [], length, IfOk};
 ghost use Rattle.unit_duals.specs.Limits.{most_room};
-ghost use Rattle.leg_tables.specs.StopLegs.{AreFirstLegsOf};
+ghost use Rattle.leg_duals.specs.StopLegs.{AreFirstLegsOf};
 ghost use Rattle.pareto_cuts.specs.UnitCosts.{AreDualsFrom};
 
 use crate::Separation;
-use leg_tables::FirstLegs;
-use limited_duals::{LimitedDuals, Ways};
+use leg_duals::{FirstLegs, LimitedDuals, Ways};
 use std::alloc::{AllocError, Global};
 use std::marker::Model;
 use unit_duals::UnitDuals;

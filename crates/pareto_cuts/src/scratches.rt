@@ -4,14 +4,13 @@ ghost use Rattle.std.specs.Prelude.{◌≡◌, ℕ, ◌+◌, ◌^◌, ◌<◌, �
 ghost use Rattle.hub_spec.specs.Problem.{IsProblem};
 ghost use Rattle.hub_spec.specs.Plans.{IsHubSet};
 ghost use Rattle.hub_spec.specs.Separation.{IsOrder, minimal_dual, AreListedValues};
-ghost use Rattle.plan_model.specs.Prices.{signed_values};
+ghost use Rattle.hub_model.specs.Prices.{signed_values};
 ghost use Rattle.unit_duals.specs.Lengths.{no_legs};
 ghost use Rattle.pareto_cuts.specs.Scratches.{IsReadyFor, HasDualsFrom};
 ghost use Rattle.pareto_cuts.specs.Separations.{origin_total, origin_load};
 
 use crate::{DualBuffer, OriginScratch, Separation, SetTables};
-use hub_model::Instance;
-use plan_model::HubSet;
+use hub_model::{HubSet, Instance};
 use std::alloc::{AllocError, Global};
 use std::marker::Model;
 

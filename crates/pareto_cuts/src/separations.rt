@@ -4,7 +4,7 @@ ghost use Rattle.std.specs.Prelude.{◌≡◌, ◌+◌, ◌≤◌, length, None,
 ghost use Rattle.hub_spec.specs.Problem.{IsProblem};
 ghost use Rattle.hub_spec.specs.Plans.{IsHubSet};
 ghost use Rattle.hub_spec.specs.Separation.{IsOrder};
-ghost use Rattle.leg_tables.specs.StopLegs.{AreLegsOf};
+ghost use Rattle.leg_duals.specs.StopLegs.{AreLegsOf};
 ghost use Rattle.pareto_cuts.specs.Separations.{IsSeparation};
 
 use crate::SetTables;

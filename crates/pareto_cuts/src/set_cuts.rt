@@ -8,9 +8,7 @@ ghost use Rattle.hub_spec.specs.Separation.{IsOrder, IsSetCut, set_cut};
 
 use crate::Scratch;
 use crate::strong_duals::lent_dual;
-use dual_cuts::Cut;
-use hub_model::Instance;
-use plan_model::{Dual, HubSet};
+use hub_model::{Cut, Dual, HubSet, Instance};
 use std::alloc::{AllocError, Global};
 
 /// The cut of the hub set over this order of the candidates outside it.

@@ -8,9 +8,8 @@ ghost use Rattle.unit_duals.specs.Limits.{most_room};
 ghost use Rattle.unit_duals.specs.Lengths.{no_legs};
 ghost use Rattle.pareto_cuts.specs.Separations.{AreTablesOf};
 
-use hub_model::Instance;
-use leg_tables::SetLegs;
-use plan_model::HubSet;
+use hub_model::{HubSet, Instance};
+use leg_duals::SetLegs;
 use std::alloc::{AllocError, Global};
 use std::marker::Model;
 use unit_duals::{Legs, Tables};

@@ -6,8 +6,7 @@ ghost use Rattle.hub_spec.specs.Cuts.{IsDual};
 ghost use Rattle.hub_spec.specs.Separation.{IsOrder, IsMinimalDual, minimal_dual};
 
 use crate::Scratch;
-use hub_model::Instance;
-use plan_model::{Dual, HubSet};
+use hub_model::{Dual, HubSet, Instance};
 use std::alloc::{AllocError, Global};
 
 /// Makes the minimal dual of the commodity from `i` to `j` in the scratch, which has room for the instance's nodes.

@@ -6,7 +6,7 @@ use crate::routes::SetRoutes;
 use crate::rows::{
     FAR, at, fill, gather, is_marked, least_sum, put, row, short, weighed, weighed_by,
 };
-use crew::{Job, answers};
+use claim_board::{Job, answers};
 use hub_io::OpenGate;
 use std::alloc::{AllocError, Global};
 use std::thread::Threads;

@@ -7,7 +7,7 @@ use crate::places::{Commodity, PlaceValues};
 use crate::ramps::{NO_TURN, Turn, set_order};
 use crate::routes::{Detours, Route, SetRoutes};
 use crate::rows::{add_weighed, at, copy, is_marked, marked, put, row, row_mut};
-use crew::Job;
+use claim_board::Job;
 use std::alloc::{AllocError, Global};
 
 /// The shortest route of a commodity over a set, the price that is tight at it, and the values of the route's hubs; where

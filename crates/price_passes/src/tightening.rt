@@ -11,7 +11,7 @@ use crate::rows::{amount_at, copy, put, row, row_mut, short};
 use crate::state::{State, Sums};
 use crate::tight::{TightDuals, TightOrigins, TightRoute, TightSet};
 use crate::waits::Quote;
-use crew::answers;
+use claim_board::answers;
 use hub_io::OpenGate;
 use search_advice::Side;
 use std::alloc::{AllocError, Global};

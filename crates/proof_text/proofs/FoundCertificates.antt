@@ -6,8 +6,8 @@ use Rattle.hub_spec.specs.Cuts.{Cut}
 use Rattle.hub_spec.specs.Trees.{Tree, empty, preorder}
 use Rattle.core_spec.specs.CoreCuts.{Mark}
 use Rattle.cert_spec.specs.Stated.{Stated, IsStatedInRange}
-use Rattle.plan_model.specs.Lines.{tree_line_of}
-use Rattle.plan_model.specs.declared.tree_lines.TreeLine.{TreeLine}
+use Rattle.hub_model.specs.Lines.{tree_line_of}
+use Rattle.hub_model.specs.declared.tree_lines.TreeLine.{TreeLine}
 use Rattle.cut_pool.specs.Kept.{kept_cuts}
 use Rattle.cut_pool.specs.declared.found.Found.{Found}
 use Rattle.cut_pool.specs.Findings.{lines_of, proof_of as found_proof}

@@ -7,7 +7,7 @@ use Rattle.hub_spec.specs.Problem.{Problem}
 use Rattle.hub_spec.specs.Plans.{Plan}
 use Rattle.hub_spec.specs.Cuts.{Cut}
 use Rattle.hub_spec.specs.Trees.{Tree, empty, preorder}
-use Rattle.plan_model.specs.declared.tree_lines.TreeLine as model
+use Rattle.hub_model.specs.declared.tree_lines.TreeLine as model
 use Rattle.core_spec.specs.CoreCuts.{Mark}
 use Rattle.cert_spec.specs.Lines.{Item, says_marked}
 use Rattle.cert_spec.specs.Text.{line_bytes, cut_items_as, top_items, cuts_items, tree_items, certificate_text}

@@ -9,8 +9,8 @@ use Rattle.hub_spec.proofs.Commodities.{commodity_index, length_commodities, com
 use Rattle.core_spec.specs.CoreCuts.{CoreProof}
 use Rattle.cert_spec.specs.Lines.{Item, says_dual, says_proof}
 use Rattle.cert_spec.specs.Text.{line_bytes, proved_items}
-use Rattle.plan_model.specs.Prices.{natural_values, signed_values}
-use Rattle.plan_model.proofs.ListedValues.{listed_again}
+use Rattle.hub_model.specs.Prices.{natural_values, signed_values}
+use Rattle.hub_model.proofs.ListedValues.{listed_again}
 use Rattle.cert_format.specs.DualItems.{no_dual}
 use Rattle.proof_text.specs.Texts.{no_proof, proved_pair, proved_from}
 use Rattle.proof_text.proofs.Ranges.{at_number, same_each, shifted, rows_joined}

@@ -2,7 +2,7 @@
 use Rattle.std.proofs.Common.{◌≡◌, ◌≢◌, ℕ, zero, suc, ◌+◌, ◌-◌, ◌<◌, ◌≤◌, ℤ, List, [], ◌∷◌, ◌++◌, drop, flat_map, get_or, replicate, refl, sym, ap, subst, ◌∙◌, append-nil, arith}
 use Rattle.std.proofs.lemmas.List.{drop_more, drop_all}
 use Rattle.hub_spec.specs.Cuts.{Prices}
-use Rattle.plan_model.specs.Prices.{natural_values, signed_values}
+use Rattle.hub_model.specs.Prices.{natural_values, signed_values}
 use Rattle.cert_spec.specs.Lines.{says_dual}
 use Rattle.cert_spec.specs.Text.{line_bytes}
 use Rattle.cert_format.specs.DualItems.{row_items_from, no_dual, BeginsOther, IsRunAt, row_of}

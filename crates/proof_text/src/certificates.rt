@@ -12,8 +12,7 @@ use cert_format::{Certificate, Version};
 use cut_model::StatedCut;
 use cut_pool::{Found, KeptCut, KeptCuts};
 use dual_lender::DualLender;
-use hub_model::Instance;
-use plan_model::{Dual, Plan, TreeLine};
+use hub_model::{Dual, Instance, Plan, TreeLine};
 use std::alloc::{AllocError, Global};
 
 /// The certificate of what a search of the instance found in this version, with the duals of each cut computed again, and

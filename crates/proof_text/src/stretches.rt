@@ -9,7 +9,7 @@ ghost use Rattle.proof_text.specs.Stretches.{IsStretch, IsTextAt, Serves};
 
 use crate::memory_texts::MemoryText;
 use crate::places::CutLines;
-use crew::Job;
+use claim_board::Job;
 use dual_lender::DualLender;
 use hub_io::{Buffer, Failed, Sink};
 use std::alloc::{AllocError, Global};

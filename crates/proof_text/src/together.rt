@@ -11,7 +11,7 @@ ghost use Rattle.proof_text.specs.Stretches.{IsStretch, items_along};
 
 use crate::places::CutLines;
 use crate::stretches::Stretch;
-use crew::answers;
+use claim_board::answers;
 use dual_lender::DualLender;
 use hub_io::{Buffer, Failed, OpenGate, Sink};
 use std::alloc::Global;

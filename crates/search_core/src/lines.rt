@@ -3,12 +3,11 @@
 ghost use Rattle.std.specs.Prelude.{◌≡◌, ◌≤◌, [], ◌∷◌, ◌++◌, length, IfOk, OnOk};
 ghost use Rattle.hub_spec.specs.Limits.{most_tree_lines};
 ghost use Rattle.hub_spec.specs.Trees.{leaf_of};
-ghost use Rattle.plan_model.specs.Lines.{tree_line_of};
+ghost use Rattle.hub_model.specs.Lines.{tree_line_of};
 ghost use Rattle.search_spec.specs.States.{denominator, whole_on};
 
 use crate::WHOLE_WEIGHT;
-use hub_model::MOST_TREE_LINES;
-use plan_model::{Mix, TreeLine};
+use hub_model::{MOST_TREE_LINES, Mix, TreeLine};
 use std::alloc::{AllocError, Global};
 
 /// Adds a line, unless the tree is as long as a certificate's can be.

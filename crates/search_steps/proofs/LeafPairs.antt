@@ -9,7 +9,7 @@ use Rattle.std.proofs.lemmas.List.Elements.{All-map, All-weaker, All-filter, All
 use Rattle.hub_spec.proofs.Ascending.{ascend_nil, ascend_cons}
 use Rattle.hub_spec.proofs.SumLemmas.{by_test}
 use Rattle.hub_model.specs.Amounts.{natural}
-use Rattle.plan_model.specs.Mixtures.{natural_weights, signed_weights, IsSignedMixture}
+use Rattle.hub_model.specs.Mixtures.{natural_weights, signed_weights, IsSignedMixture}
 use Rattle.leaf_bound.specs.Theorems.{weight_pairs}
 use Rattle.search_spec.specs.States.{denominator}
 use Rattle.search_steps.specs.Weights.{pairs_of}

@@ -9,3 +9,14 @@ pub mod Choosing
 pub mod LeafPairs
 pub mod RuleChoices
 pub mod OpenBranches
+pub mod ToldChoices
+pub mod Orders
+pub mod Stops
+pub mod AddedCuts
+pub mod KeptPools
+pub mod FoundCertificates
+pub mod Starts
+pub mod Ends
+pub mod LeftFixings
+pub mod KindCuts
+pub mod WholeCuts

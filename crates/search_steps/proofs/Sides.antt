@@ -10,8 +10,8 @@ use Rattle.hub_spec.proofs.Sets.{Contains-head, Contains-later}
 use Rattle.search_spec.specs.States.{State}
 use Rattle.search_spec.specs.Steps as steps
 use Rattle.search_spec.specs.Steps.{closes_at, fixed_side, fixing, fixings}
-use Rattle.hub_fixing.specs.declared.sides.Side.{Side}
-use Rattle.hub_fixing.specs.declared.sides.Side.TheVariants.{In, Out}
+use Rattle.leaf_bound.specs.declared.sides.Side.{Side}
+use Rattle.leaf_bound.specs.declared.sides.Side.TheVariants.{In, Out}
 use Rattle.search_steps.specs.Weights.{side_as, sides_as}
 
 -- the node with its side as the search has it

@@ -4,3 +4,10 @@ pub mod Starts
 pub mod Choosing
 pub mod Weights
 pub mod Theorems
+pub mod Progressing
+pub mod Separating
+pub mod FixingsLeft
+pub mod Findings
+pub mod Kinds
+pub mod Entered
+pub mod KindTheorems

@@ -10,8 +10,8 @@ use Rattle.search_spec.specs.Steps as steps
 use Rattle.cut_pool.specs.Entries.{Entry, entry_part}
 use Rattle.search_steps.specs.Pools.{IsPoolOf}
 use Rattle.search_steps.specs.declared.weightings.NodeWeights.{NodeWeights}
-use Rattle.hub_fixing.specs.declared.sides.Side.{Side}
-use Rattle.hub_fixing.specs.declared.sides.Side.TheVariants.{In, Out}
+use Rattle.leaf_bound.specs.declared.sides.Side.{Side}
+use Rattle.leaf_bound.specs.declared.sides.Side.TheVariants.{In, Out}
 
 -- weights on the first of the entries: each is a multiple of its cut's part, and together they are at most 10^6, as is each
 pub record AreNodeWeights (entries : List Entry) (weights : List ℕ) : Type 0 where

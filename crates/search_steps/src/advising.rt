@@ -12,8 +12,7 @@ ghost use Rattle.search_steps.specs.Weights.{AreNodeWeights};
 use crate::Rule;
 use cut_pool::Pool;
 use frac_master::{Advice, ShortRows, advise_by_totals};
-use hub_model::Instance;
-use plan_model::Branch;
+use hub_model::{Branch, Instance};
 use std::alloc::{AllocError, Global};
 
 /// What the master of the branch advises, by the cuts of the pool, asked with the fixed costs that the rule has for an

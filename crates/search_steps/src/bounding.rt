@@ -7,8 +7,8 @@ ghost use Rattle.search_steps.specs.Pools.{InEachState, InEachStateAt};
 ghost use Rattle.search_steps.specs.Weights.{AreNodeWeights, AreWeighed, pairs_of};
 
 use crate::{NodeWeights, Rule};
+use hub_model::Branch;
 use leaf_bound::threshold;
-use plan_model::Branch;
 use search_core::WHOLE_WEIGHT;
 
 /// Tells whether the bound of the branch under the advised weights is above that under the present ones: then a search

@@ -5,10 +5,9 @@ ghost use Rattle.std.specs.Prelude.{◌≡◌, Some};
 use crate::openings::{all_open, blocked_line};
 use crate::{NodeWeights, Rule};
 use frac_master::Advice;
-use hub_fixing::Side;
-use hub_model::Instance;
+use hub_model::{Branch, HubSet, Instance, TreeLine};
+use leaf_bound::Side;
 use p_hub::{bound_p, fix_p};
-use plan_model::{Branch, HubSet, TreeLine};
 use std::alloc::{AllocError, Global};
 
 /// The rule for plans with exactly p hubs: a branch ends where it cannot have so many, and is one hub set where its

@@ -2,12 +2,11 @@
 
 ghost use Rattle.std.specs.Prelude.{◌≡◌, ◌^◌, ◌<◌, All, IfOk};
 ghost use Rattle.hub_spec.specs.Trees.{leaf_of};
-ghost use Rattle.plan_model.specs.Lines.{tree_line_of};
+ghost use Rattle.hub_model.specs.Lines.{tree_line_of};
 ghost use Rattle.search_spec.specs.States.{denominator};
 ghost use Rattle.search_steps.specs.Weights.{pairs_of};
 
-use hub_model::signed;
-use plan_model::{Mix, TreeLine};
+use hub_model::{Mix, TreeLine, signed};
 use search_core::WHOLE_WEIGHT;
 use std::alloc::{AllocError, Global};
 

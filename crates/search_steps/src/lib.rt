@@ -1,4 +1,4 @@
-//! What `solve` does at one node: master, bound, fixing, branching. Which plans are wanted is a trait (`Rule`).
+//! What `solve` does at one node, and the state of its search: master, bound, fixing, branching, separation, beginning, end.
 //!
 //! At a node a search has a branch, the pool of cuts, and weights on the first cuts of the pool in 10^-6, each a multiple
 //! of its cut's part. `node_advice` solves the master for other weights and a point; `is_better` tells whether they give a
@@ -9,28 +9,57 @@
 //! bounds, fixing, the hub set that is separated, and the fixed costs of the master. [`Plain`] is for any number of hubs,
 //! [`Counted`] for exactly p.
 //!
+//! [`Progress`] is the state of a search's definition (`search_spec`), with the lines of the tree that are finished.
+//! [`begin`] separates the sets with which a rule begins, [`separate`] a set, whose cut becomes the next of the pool
+//! ([`keep`] does the same where the cut is there already), and [`stopped_leaf`] makes a leaf of a branch at a stop;
+//! each leaves the state that the step of its name leaves. What [`finish`] gives is what is found where the state is that
+//! of the definition at its end and the lines are those of its tree in preorder.
+//!
+//! Cuts are asked of a [`Separator`] (`asking`), which works out the cut of its kind of a hub set over an order: by one
+//! thread ([`Solo`]), by several side by side, or Pareto-optimal cuts where there are ([`Coring`]). So no search depends
+//! on who worked a cut out.
+//!
 //! Each call is proved equal to the step of its name in `search_spec`; that the choices are unique are laws
-//! (`greatest_is_one`, `nearest_is_one`, `picked_is_one`). Costs, totals and loads are in 10^-12, bounds in 10^-12 times
-//! 10^6; nodes are `u32`, counted from 0.
+//! (`greatest_is_one`, `nearest_is_one`, `picked_is_one`), and what holds of each kind of cuts stands in `kind_laws`.
+//! Costs, totals and loads are in 10^-12, bounds in 10^-12 times 10^6; nodes are `u32`, counted from 0, and cuts are
+//! counted from 1.
 #![tactic(auto)]
 
 mod advising;
+mod asking;
 mod bounding;
+mod coring;
 mod counted;
+mod finishing;
+mod kind_laws;
 mod laws;
 mod leaves;
 mod openings;
 mod picking;
 mod plain;
+mod progress;
 mod rules;
+mod separating;
+mod solos;
+mod starting;
+mod stopping;
 mod weightings;
 
 pub use advising::node_advice;
+pub use asking::{Separated, Separator};
 pub use bounding::{closes, is_better};
+pub use coring::Coring;
 pub use counted::Counted;
+pub use finishing::finish;
+pub use kind_laws::{kept_is_of_set, minimal_is_rule, parts_are_sound};
 pub use laws::{advising_is_sound, greatest_is_one, nearest_is_one, picked_is_one};
 pub use leaves::leaf_line;
 pub use picking::nearest;
 pub use plain::Plain;
+pub use progress::{Progress, may_split, two_more};
 pub use rules::Rule;
+pub use separating::{keep, number_of, separate};
+pub use solos::Solo;
+pub use starting::begin;
+pub use stopping::stopped_leaf;
 pub use weightings::NodeWeights;

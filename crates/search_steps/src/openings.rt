@@ -3,14 +3,13 @@
 ghost use Rattle.std.specs.Prelude.{◌≡◌, ◌∷◌, [], None, not, option_map, IfOk};
 ghost use Rattle.hub_spec.specs.Problem.{IsProblem};
 ghost use Rattle.hub_spec.specs.Trees.{IsBranch, preorder};
-ghost use Rattle.plan_model.specs.Lines.{tree_line_of};
+ghost use Rattle.hub_model.specs.Lines.{tree_line_of};
 ghost use Rattle.search_spec.specs.Choices.{has_node, all_open};
 ghost use Rattle.search_steps.specs.Advising.{parts_of};
 
 use crate::picking::has_node;
 use assign_sub::lacking;
-use hub_model::Instance;
-use plan_model::{Branch, HubSet, TreeLine};
+use hub_model::{Branch, HubSet, Instance, TreeLine};
 use std::alloc::{AllocError, Global};
 
 /// The hubs of the branch with all its free nodes, ascending.

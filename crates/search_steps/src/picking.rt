@@ -12,8 +12,7 @@ ghost use Rattle.frac_master.specs.Advice.{advice_of_code};
 ghost use Rattle.search_steps.specs.Advising.{told_by};
 
 use frac_master::Advice;
-use hub_model::{Instance, unsigned};
-use plan_model::Branch;
+use hub_model::{Branch, Instance, unsigned};
 use std::alloc::{AllocError, Global};
 
 /// The hubs of the branch, and its free nodes whose point is at least half of the scale; where that is no node, the free

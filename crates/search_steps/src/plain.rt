@@ -6,9 +6,9 @@ use crate::openings::{all_open, blocked_line};
 use crate::{NodeWeights, Rule, picking};
 use assign_sub::lacking;
 use frac_master::Advice;
-use hub_fixing::{Side, fix};
-use hub_model::Instance;
-use plan_model::{Branch, HubSet, TreeLine};
+use hub_fixing::fix;
+use hub_model::{Branch, HubSet, Instance, TreeLine};
+use leaf_bound::Side;
 use std::alloc::{AllocError, Global};
 
 /// The rule for plans with any number of hubs: a branch ends where every candidate is closed, or where its nodes that

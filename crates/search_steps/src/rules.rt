@@ -4,7 +4,7 @@ ghost use Rattle.std.specs.Prelude.{◌≡◌, ◌≤◌, ◌^◌, [], ◌∷◌
 ghost use Rattle.hub_spec.specs.Problem.{Problem, IsProblem};
 ghost use Rattle.hub_spec.specs.Plans.{IsHubSet};
 ghost use Rattle.hub_spec.specs.Trees.{IsBranch, HasRoom, preorder};
-ghost use Rattle.plan_model.specs.Lines.{tree_line_of};
+ghost use Rattle.hub_model.specs.Lines.{tree_line_of};
 ghost use Rattle.leaf_bound.specs.Weighing.{most_bound, IsWithin};
 ghost use Rattle.frac_master.specs.Advice.{advice_of_code};
 ghost use Rattle.search_spec.specs.Laws.{GoesOn};
@@ -16,9 +16,8 @@ ghost use Rattle.search_steps.specs.Weights.{pairs_of, sides_as, AreWeighed};
 
 use crate::NodeWeights;
 use frac_master::Advice;
-use hub_fixing::Side;
-use hub_model::Instance;
-use plan_model::{Branch, HubSet, TreeLine};
+use hub_model::{Branch, HubSet, Instance, TreeLine};
+use leaf_bound::Side;
 use std::alloc::{AllocError, Global};
 
 /// The rule of a search: its choices, as far as they hang on the plans that are wanted. Costs are in 10^-12.

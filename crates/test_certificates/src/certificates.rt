@@ -1,5 +1,5 @@
 //! Certificates, a case a line of standard input: their texts scanned (`cert_scan`), read and written (`cert_format`),
-//! checked whole (`cert_checker`) and as they come (`cert_conditions`), tried as older ones (`cert_checker`, `old_duals`),
+//! checked whole (`cert_checker`) and as they come (`cert_conditions`), tried as older ones (`cert_checker`, `warm_start`),
 //! and reported (`network_report`).
 //!
 //! Each line is printed back, and below it what the calls gave. A line that begins with `#` and an empty one are only

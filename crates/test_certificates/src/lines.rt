@@ -1,5 +1,5 @@
-//! Lines of a certificate tried one by one, a case a line of standard input: duals (`dual_lines`), plans (`plan_lines`),
-//! trees and leaves (`tree_lines`), and sets of nodes (`node_marks`).
+//! Lines of a certificate tried one by one, a case a line of standard input: duals (`dual_lines`), plans,
+//! trees and leaves, and sets of nodes (`cert_lines`).
 //!
 //! Each line is printed back, and below it what the calls gave. A line that begins with `#` is only printed back, an
 //! empty one passed over. Nodes count from 0, costs, prices, values and loads are in 10^-12.

@@ -1,4 +1,4 @@
-//! Cases of `hub_edges`, `unit_duals`, `leg_tables`, `assign_sub`, `dual_cuts`, `pareto_cuts`, `core_cuts` and `value_cuts`, a line
+//! Cases of `hub_edges`, `unit_duals`, `leg_duals`, `assign_sub`, `dual_cuts`, `pareto_cuts`, `core_cuts` and `value_cuts`, a line
 //! of standard input each. Each is printed, with its answer behind it; comments are printed as they are.
 //!
 //! The line `instance` of a paragraph makes the instance that its lines ask of. It has numbers behind words: `size`,

@@ -1,4 +1,4 @@
-//! Cases of `hub_model`, of `test_instances` and of `hub_plain`, a line of standard input each. Each is printed, with its
+//! Cases of `hub_model`, of `test_lines` and of `test_plain`, a line of standard input each. Each is printed, with its
 //! answer behind it; comments are printed as they are.
 //!
 //! The first line `instance` of a paragraph makes the instance that its lines ask of; each tells its instance, or why there

@@ -2,10 +2,10 @@
 
 ghost use Rattle.std.specs.Prelude.{◌≡◌, ◌*◌, ◌^◌, pos, ◌≤ℤ◌, None, IfOk, IfSome};
 
+use crate::NoInstance;
 use crate::words::{list, node, number};
 use hub_model::{Factors, Instance, Nodes, Parts, Terms, is_node_list};
 use std::alloc::{AllocError, Global};
-use test_instances::NoInstance;
 
 // The factors of a file.
 const AS_THEY_ARE: Factors = Factors {

@@ -1,6 +1,6 @@
 //! Cases of searches and of the texts of what they find.
 //!
-//! Of `hub_model` the fixed costs of an instance, of `search_steps` a leaf, of `search_progress` the sums of cuts, of
+//! Of `hub_model` the fixed costs of an instance, of `search_steps` a leaf and the sums of cuts, of
 //! `branch_tree` whole searches, also begun again, and of `proof_text` the texts of what they found, also where a put fails.
 //! The other steps are taken by each search.
 //!

@@ -15,14 +15,12 @@ use branch_tree::{search, search_from};
 use core_cuts::core_cut;
 use cut_model::{MarkedCut, StatedCut};
 use cut_pool::{Found, KeptCut};
-use hub_model::Instance;
-use hub_plain::{best_plan, is_hub_set, set_cost};
-use plan_model::HubSet;
+use hub_model::{HubSet, Instance};
 use search_core::Start;
-use search_progress::Solo;
-use search_steps::Plain;
+use search_steps::{Plain, Solo};
 use std::alloc::{AllocError, Global};
 use test_lines::list;
+use test_plain::{best_plan, is_hub_set, set_cost};
 
 /// What the search of the instance finds with the most nodes that the line names.
 pub(crate) fn found_of(alloc: Global, instance: &Instance, line: &str) -> Result<Found, AllocError>

@@ -6,13 +6,11 @@ ghost use Rattle.hub_spec.specs.Plans.{IsHubSet};
 use crate::instances::instance_of;
 use crate::texts::tree_text;
 use cut_pool::CutSums;
-use hub_model::Instance;
-use hub_plain::{is_hub_set, outside};
-use plan_model::HubSet;
-use search_progress::Solo;
-use search_steps::leaf_line;
+use hub_model::{HubSet, Instance, outside};
+use search_steps::{Solo, leaf_line};
 use std::alloc::{AllocError, Global};
 use test_lines::list;
+use test_plain::is_hub_set;
 
 /// The fixed costs of the nodes.
 pub(crate) fn fixed(alloc: Global, instance: &Instance) -> Result<String, AllocError> {

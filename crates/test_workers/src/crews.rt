@@ -3,8 +3,7 @@
 ghost use Rattle.std.specs.Prelude.{◌≡◌, ◌*◌, ◌<◌};
 
 use crate::gates::Watch;
-use claim_board::Board;
-use crew::{Job, answers, work};
+use claim_board::{Board, Job, answers, work};
 use hub_io::OpenGate;
 use std::alloc::{AllocError, Global};
 use std::test::Fail;

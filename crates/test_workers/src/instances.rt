@@ -3,11 +3,10 @@
 ghost use Rattle.std.specs.Prelude.{◌≡◌, None, IfOk};
 ghost use Rattle.hub_spec.specs.Plans.{IsHubSet};
 
-use hub_model::{Factors, Instance, Parts, Terms};
-use hub_plain::is_hub_set;
-use plan_model::HubSet;
+use hub_model::{Factors, HubSet, Instance, Parts, Terms};
 use std::alloc::Global;
 use std::test::Fail;
+use test_plain::is_hub_set;
 
 /// Two nodes of the plane, at (38, 62) and (78, 246).
 pub(crate) fn of_the_plane(alloc: Global) -> Result<Instance, Fail> {

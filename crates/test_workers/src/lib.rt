@@ -1,7 +1,7 @@
 //! Tests of threads: boards, pools, separation and rounds by several workers.
 //!
 //! - `boards`: of `claim_board`
-//! - `crews`: of `crew`
+//! - `crews`: of `claim_board`
 //! - `separations`: of `par_separate`
 //! - `rounds`: of `node_rounds`
 //! - `prices`: of `value_cuts`

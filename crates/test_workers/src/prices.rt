@@ -1,8 +1,8 @@
 //! Prices of all commodities, by workers.
 
 ghost use Rattle.std.specs.Prelude.{◌≡◌, ◌*◌, ◌≤◌, length, IfOk};
-ghost use Rattle.value_cuts.specs.Values.{AreValuesFor};
-ghost use Rattle.value_cuts.specs.HeldRows.{IsSameShape};
+ghost use Rattle.cut_model.specs.ValueRows.{AreValuesFor};
+ghost use Rattle.cut_model.specs.HeldRows.{IsSameShape};
 
 use hub_make::made_instance;
 use hub_model::Instance;

@@ -6,25 +6,23 @@ ghost use Rattle.hub_spec.specs.Plans.{IsHubSet};
 ghost use Rattle.hub_spec.specs.Trees.{IsBranch};
 ghost use Rattle.cut_pool.specs.Entries.{Entry};
 ghost use Rattle.search_steps.specs.Pools.{IsPoolOf};
-ghost use Rattle.search_progress.specs.Progressing.{IsGoing};
+ghost use Rattle.search_steps.specs.Progressing.{IsGoing};
 ghost use Rattle.node_rounds.specs.Outcomes.{IsPendingOf};
 
 use crate::gates::{Meeting, Watch};
 use crate::instances::{first_alone, limited_triangle};
 use cut_pool::Pool;
-use hub_fixing::Side;
 use hub_io::{Gate, OpenGate};
 use hub_make::made_instance;
-use hub_model::Instance;
-use hub_plain::{is_hub_set, outside};
+use hub_model::{Branch, HubSet, Instance, outside};
+use leaf_bound::Side;
 use node_rounds::{Outcome, Pending, search_rounds, turn, turns};
-use plan_model::{Branch, HubSet};
 use search_core::Task;
-use search_progress::{Progress, Solo, begin, number_of, separate};
-use search_steps::Plain;
+use search_steps::{Plain, Progress, Solo, begin, number_of, separate};
 use std::alloc::{AllocError, Global};
 use std::test::Fail;
 use std::thread::Threads;
+use test_plain::is_hub_set;
 
 // The rounds of the smallest made-up instance have one node, one, one and two: those with both hubs and with the first alone,
 // and the turn of each is a leaf. In the last round each worker waits at its node until the other has drawn one.

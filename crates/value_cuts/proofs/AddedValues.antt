@@ -7,7 +7,7 @@ use Rattle.std.proofs.lemmas.List.Kept.{AllPairs-from_increasing}
 use Rattle.hub_spec.specs.Problem.{Problem, IsProblem}
 use Rattle.hub_spec.proofs.Sets.{is_in, is_in-yes, Contains-from_is_in}
 use Rattle.hub_spec.proofs.SumLemmas.{by_test}
-use Rattle.leg_tables.specs.CandidateLegs.{candidate_at}
+use Rattle.hub_model.specs.CandidateLengths.{candidate_at}
 
 -- the candidates at the first x places have these numbers added to their own, and the others have their own
 pub record AreAdded (p : Problem) (x : ℕ) (added : ℕ → ℕ) (old new : List ℕ) : Type 0 where

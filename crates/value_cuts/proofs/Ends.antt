@@ -5,7 +5,7 @@ use Rattle.std.proofs.lemmas.List.{get_or-set_same, get_or-set_other}
 use Rattle.std.proofs.lemmas.List.Elements.{All-from_get_or}
 use Rattle.hub_spec.specs.Problem.{Problem}
 use Rattle.unit_duals.specs.Limits.{most_leg, most_length}
-use Rattle.leg_tables.specs.CandidateLegs.{candidate_at, length_ceiling}
+use Rattle.hub_model.specs.CandidateLengths.{candidate_at, length_ceiling}
 use Rattle.value_cuts.specs.Ends.{most_end, AreEnds}
 
 -- ---- set one by one

@@ -8,11 +8,12 @@ use mir.Syntax.{w64}
 use Rattle.unit_duals.specs.Limits.{most_length}
 use Rattle.unit_duals.specs.Leasts.{least_of}
 use Rattle.unit_duals.proofs.LeastNumbers.{least_of_le, least_of_le_start}
-use Rattle.leg_tables.specs.CandidateLegs.{candidate_at, collection_length, trunk_length, delivery_length, length_ceiling}
-use Rattle.value_cuts.specs.Values.{route_length, valued_length, if_allowed, allowed_price}
+use Rattle.hub_model.specs.CandidateLengths.{candidate_at, length_ceiling}
+use Rattle.leg_duals.specs.CandidateLegs.{collection_length, trunk_length, delivery_length}
+use Rattle.cut_model.specs.ValueRows.{route_length, valued_length, if_allowed, allowed_price}
 use Rattle.value_cuts.specs.Ends.{AreEnds, most_end}
-use Rattle.leg_tables.proofs.CandidateTables.{candidate_node}
-use Rattle.value_cuts.proofs.ValueDuals.{MayGo, length_or_ceiling, whichever, price_within, price_below, price_above, length_alone, length_by_two}
+use Rattle.leg_duals.proofs.CandidateTables.{candidate_node}
+use Rattle.cut_model.proofs.ValueDuals.{MayGo, length_or_ceiling, whichever, price_within, price_below, price_above, length_alone, length_by_two}
 
 -- a length by an end fits 64 bits
 pub end_fits : (n : ℕ) → n ≤ most_end + most_length → Fits w64 n

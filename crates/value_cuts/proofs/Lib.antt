@@ -1,5 +1,3 @@
-pub mod NodeValues
-pub mod ValueDuals
 pub mod ValueSums
 pub mod Ends
 pub mod LeastLengths

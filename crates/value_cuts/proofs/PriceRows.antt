@@ -6,7 +6,7 @@ use Rattle.std.proofs.lemmas.List.{get_or-set_same, get_or-set_other, places}
 use Rattle.std.proofs.lemmas.Nat.{same_from_place}
 use Rattle.hub_spec.specs.Problem.{Problem}
 use Rattle.unit_duals.specs.Cells.{cell, IsTable}
-use Rattle.value_cuts.specs.Values.{ValueRows}
+use Rattle.cut_model.specs.ValueRows.{ValueRows}
 use Rattle.value_cuts.specs.Prices.{row_price, ArePricesFrom}
 
 pub no_prices : (p : Problem) (w : ValueRows) (i : ℕ) (prices : List ℕ) → ArePricesFrom p w i prices 0

@@ -1,7 +1,7 @@
 -- The ends of routes: legs with the values of their candidates, by unit of flow, in 10^-6.
 use Rattle.std.specs.Prelude.{◌≡◌, ℕ, ◌+◌, ◌*◌, ◌^◌, ◌<◌, ◌≤◌, List, length, slice_index, All}
 use Rattle.hub_spec.specs.Problem.{Problem}
-use Rattle.leg_tables.specs.CandidateLegs.{candidate_at}
+use Rattle.hub_model.specs.CandidateLengths.{candidate_at}
 
 -- a leg and the greatest value together
 abbrev pub most_end : ℕ

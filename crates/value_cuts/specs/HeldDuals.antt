@@ -2,7 +2,7 @@
 use Rattle.std.specs.Prelude.{ℕ, ◌≤◌, vec_capacity}
 use Rattle.hub_spec.specs.Cuts.{Prices}
 use Rattle.hub_model.specs.Amounts.{natural}
-use Rattle.plan_model.specs.Prices.{natural_values, AreSignedPrices}
+use Rattle.hub_model.specs.Prices.{natural_values, AreSignedPrices}
 use Rattle.value_cuts.specs.declared.duals.DualScratch.TheInside.{Inside}
 
 -- a dual, and for how many values there is room

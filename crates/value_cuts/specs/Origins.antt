@@ -1,7 +1,7 @@
 -- What one origin adds to the prices of all.
 use Rattle.std.specs.Prelude.{◌≡◌, ℕ, List, length}
 use Rattle.hub_spec.specs.Problem.{Problem}
-use Rattle.value_cuts.specs.Values.{ValueRows}
+use Rattle.cut_model.specs.ValueRows.{ValueRows}
 use Rattle.value_cuts.specs.Prices.{ArePricesFrom}
 
 -- a price for each destination, of the commodities from i

@@ -2,7 +2,7 @@
 use Rattle.std.specs.Prelude.{◌≡◌, ℕ, ◌*◌, ◌<◌, List, length, slice_index}
 use Rattle.hub_spec.specs.Problem.{Problem}
 use Rattle.unit_duals.specs.Cells.{IsTable}
-use Rattle.value_cuts.specs.Values.{ValueRows, row_for, node_value, allowed_price}
+use Rattle.cut_model.specs.ValueRows.{ValueRows, row_for, node_value, allowed_price}
 
 -- the price of the commodity by unit of flow, by its row
 abbrev pub row_price : Problem → ValueRows → ℕ × ℕ → ℕ

@@ -3,8 +3,8 @@ use Rattle.std.specs.Prelude.{◌≡◌, ℕ, ◌*◌, ◌≤◌, List, Contains
 use Rattle.hub_spec.specs.Problem.{Problem, IsProblem, flow}
 use Rattle.hub_spec.specs.Cuts.{Prices, value_at, IsDual, IsCut}
 use Rattle.hub_spec.specs.Ranges.{IsCutInRange, IsFirstCut}
-use Rattle.leg_tables.specs.CandidateLegs.{length_ceiling}
-use Rattle.value_cuts.specs.Values.{value_dual, ValueRows, value_cut}
+use Rattle.hub_model.specs.CandidateLengths.{length_ceiling}
+use Rattle.cut_model.specs.ValueRows.{value_dual, ValueRows, value_cut}
 
 -- whatever the row lists, its dual is feasible
 abbrev pub ValueDualIsDual : Type 0

@@ -6,8 +6,9 @@ ghost use Rattle.std.specs.Prelude.{◌≡◌, ℕ, ◌+◌, ◌<◌, ◌≤◌,
 ghost use Rattle.hub_spec.specs.Problem.{is_allowed};
 ghost use Rattle.unit_duals.specs.Leasts.{least_of};
 ghost use Rattle.unit_duals.specs.Lengths.{IsLegRow};
-ghost use Rattle.leg_tables.specs.CandidateLegs.{candidate_at, collection_length, trunk_length, delivery_length, length_ceiling};
-ghost use Rattle.value_cuts.specs.Values.{if_allowed, allowed_price};
+ghost use Rattle.hub_model.specs.CandidateLengths.{candidate_at, length_ceiling};
+ghost use Rattle.leg_duals.specs.CandidateLegs.{collection_length, trunk_length, delivery_length};
+ghost use Rattle.cut_model.specs.ValueRows.{if_allowed, allowed_price};
 ghost use Rattle.value_cuts.specs.Ends.{most_end, AreEnds};
 
 use crate::CandidateLegs;

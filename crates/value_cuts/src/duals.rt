@@ -4,13 +4,12 @@ ghost use Rattle.std.specs.Prelude.{◌≡◌, ◌+◌, ◌*◌, ◌<◌, ◌≤
 ghost use Rattle.hub_spec.specs.Limits.{most_flow};
 ghost use Rattle.hub_spec.specs.Problem.{IsProblem, flow};
 ghost use Rattle.hub_spec.specs.Separation.{values_listed, AreListedValues};
-ghost use Rattle.plan_model.specs.Prices.{signed_values, AreSignedPrices};
-ghost use Rattle.value_cuts.specs.Values.{node_value, allowed_price, value_dual};
+ghost use Rattle.hub_model.specs.Prices.{signed_values, AreSignedPrices};
+ghost use Rattle.cut_model.specs.ValueRows.{node_value, allowed_price, value_dual};
 
 use crate::CandidateLegs;
 use crate::pricing::value_of;
-use hub_model::signed;
-use plan_model::list_value;
+use hub_model::{list_value, signed};
 use std::alloc::{AllocError, Global};
 use std::marker::Model;
 

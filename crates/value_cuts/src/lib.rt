@@ -6,10 +6,11 @@
 //! commodities are a cut of the instance, within its sums (`laws`). Nothing of the advice is trusted. Workers side by side
 //! set the prices that one worker sets, whatever their number and however their threads run.
 //!
-//! In the order of reading: `values` (a row of small numbers for each commodity, over the tables of `leg_tables`), `pricing`
-//! (the prices), `allowed` (the same where the length of routes is limited), `origins`, `rows` and `workers` (a row of prices
-//! for each origin, by a crew), `sums` (total and loads of the cut), `duals` (its duals, lent one by one). A place is the
-//! number of a candidate in their order, from 0. Lengths and values by unit of flow are in 10^-6, costs in 10^-12.
+//! Values are those of `cut_model`: a row of small numbers for each commodity, over the tables of `leg_duals`. In the order
+//! of reading: `pricing` (the prices), `allowed` (the same where the length of routes is limited), `origins`, `rows` and
+//! `workers` (a row of prices for each origin, by a worker pool), `sums` (total and loads of the cut), `duals` (its duals, lent
+//! one by one). A place is the number of a candidate in their order, from 0. Lengths and values by unit of flow are in 10^-6,
+//! costs in 10^-12.
 #![tactic(auto)]
 
 mod allowed;
@@ -19,16 +20,15 @@ mod origins;
 mod pricing;
 mod rows;
 mod sums;
-mod values;
 mod workers;
 
+pub use cut_model::Values;
 pub use duals::DualScratch;
 pub use laws::{
     no_greater_price, value_cut_is_cut, value_cut_is_first, value_cut_is_in_range,
     value_dual_is_dual,
 };
-pub use leg_tables::CandidateLegs;
+pub use leg_duals::CandidateLegs;
 pub use pricing::{PriceScratch, price, set_origin_prices, set_prices};
 pub use sums::{cut_sums, sums_of};
-pub use values::Values;
 pub use workers::set_prices_by_workers;

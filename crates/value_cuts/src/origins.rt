@@ -1,11 +1,11 @@
 //! The prices of one origin, as a block of work.
 
 ghost use Rattle.std.specs.Prelude.{◌≡◌, ◌<◌, length};
-ghost use Rattle.value_cuts.specs.Values.{AreValuesFor};
+ghost use Rattle.cut_model.specs.ValueRows.{AreValuesFor};
 ghost use Rattle.value_cuts.specs.Origins.{IsPriceRow};
 
 use crate::{CandidateLegs, PriceScratch, Values, set_origin_prices};
-use crew::Job;
+use claim_board::Job;
 use std::alloc::{AllocError, Global};
 
 /// The origins as a crew's work, for the prices of each: block i is origin i.

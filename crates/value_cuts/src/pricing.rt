@@ -10,8 +10,9 @@ ghost use Rattle.hub_spec.specs.Problem.{IsProblem};
 ghost use Rattle.unit_duals.specs.Limits.{most_leg, most_length};
 ghost use Rattle.unit_duals.specs.Leasts.{least_of};
 ghost use Rattle.unit_duals.specs.Lengths.{IsLegRow};
-ghost use Rattle.leg_tables.specs.CandidateLegs.{collection_length, delivery_length, length_ceiling};
-ghost use Rattle.value_cuts.specs.Values.{node_value, allowed_price, AreValuesFor};
+ghost use Rattle.hub_model.specs.CandidateLengths.{length_ceiling};
+ghost use Rattle.leg_duals.specs.CandidateLegs.{collection_length, delivery_length};
+ghost use Rattle.cut_model.specs.ValueRows.{node_value, allowed_price, AreValuesFor};
 ghost use Rattle.value_cuts.specs.Ends.{most_end, AreEnds};
 ghost use Rattle.value_cuts.specs.Prices.{AreRowPrices, ArePricesFrom};
 

@@ -3,7 +3,7 @@
 ghost use Rattle.std.specs.Prelude.{◌≡◌, ℕ, ◌+◌, ◌*◌, ◌^◌, ◌<◌, ◌≤◌, length, slice_index, All};
 ghost use Rattle.hub_spec.specs.Limits.{most_flow};
 ghost use Rattle.hub_spec.specs.Cuts.{total, load};
-ghost use Rattle.value_cuts.specs.Values.{AreValuesFor, node_value, value_cut};
+ghost use Rattle.cut_model.specs.ValueRows.{AreValuesFor, node_value, value_cut};
 ghost use Rattle.value_cuts.specs.Prices.{AreRowPrices};
 
 use crate::pricing::value_of;

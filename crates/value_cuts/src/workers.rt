@@ -1,13 +1,13 @@
 //! The prices of all commodities, by workers side by side.
 
 ghost use Rattle.std.specs.Prelude.{◌≡◌, ◌*◌, ◌≤◌, length, OnOk};
-ghost use Rattle.value_cuts.specs.Values.{AreValuesFor};
+ghost use Rattle.cut_model.specs.ValueRows.{AreValuesFor};
 ghost use Rattle.value_cuts.specs.Prices.{AreRowPrices};
 
 use crate::origins::PricesByOrigin;
 use crate::rows::put_rows;
 use crate::{CandidateLegs, PriceScratch, Values};
-use crew::answers;
+use claim_board::answers;
 use hub_io::OpenGate;
 use std::alloc::{AllocError, Global};
 use std::thread::Threads;

@@ -1,13 +1,13 @@
 //! Older certificates, whose cuts or values a search may begin with.
 
 use super::names::text_in;
-use cert_checker::{Older, check_cuts, read_older};
+use cert_checker::{Older, check_cuts, read_older, read_sized};
 use cert_format::{Certificate, read_cert};
 use hub_model::Instance;
-use old_duals::{first_values, read_sized};
 use std::alloc::Global;
 use std::io;
 use std::thread::Threads;
+use warm_start::first_values;
 
 /// What is said of the text by its cuts, and by its size alone; and where it is a certificate, what fails of its cuts.
 pub fn older<R: Print + Threads + Sync>(

@@ -6,10 +6,10 @@ ghost use Rattle.hub_spec.specs.Ranges.{IsShort};
 
 use super::numbers::{MOST_PART, amount, amounts, number_behind};
 use super::trees::behind;
+use cert_lines::{LeafSums, is_multiple};
 use hub_model::{Instance, MOST_COST, MOST_DENOMINATOR};
 use std::alloc::{AllocError, Global};
 use std::io;
-use tree_lines::{LeafSums, is_multiple};
 
 /// Whether the weighted cuts close the target at the branch behind the lines, and whether the target raised by 1.
 pub fn closed(rt: &impl Print, alloc: Global, instance: &Instance, text: &str) -> io::Result<()> {

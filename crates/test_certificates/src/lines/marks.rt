@@ -1,7 +1,7 @@
 //! Sets of nodes.
 
 use super::numbers::node;
-use node_marks::NodeMarks;
+use cert_lines::NodeMarks;
 use std::alloc::Global;
 use std::io;
 

@@ -2,8 +2,8 @@
 
 ghost use Rattle.std.specs.Prelude.{◌≡◌, ◌<◌, []};
 
+use cert_lines::{PlanSums, is_candidate};
 use hub_model::Instance;
-use plan_lines::{PlanSums, is_candidate};
 use std::alloc::{AllocError, Global};
 use std::io;
 use test_lines::nodes;

@@ -3,10 +3,10 @@
 ghost use Rattle.std.specs.Prelude.{◌≡◌, ◌≢◌, [], IfOk};
 
 use super::numbers::node;
+use cert_lines::TreePath;
 use hub_model::Instance;
 use std::alloc::{AllocError, Global};
 use std::io;
-use tree_lines::TreePath;
 
 // The nodes that are looked at are those below this one.
 const LIMIT: u32 = 4;

@@ -10,8 +10,7 @@ use super::texts::dual_told;
 use core_cuts::{core_cut, core_dual};
 use cut_model::{DualProof, MarkedCut, StatedCut, StatedDual};
 use cut_pool::Pool;
-use hub_model::Instance;
-use plan_model::HubSet;
+use hub_model::{HubSet, Instance};
 use std::alloc::{AllocError, Global};
 
 /// The part of the commodity's Pareto-optimal dual, the dual, and the turns, the scale and the ways of its proof.

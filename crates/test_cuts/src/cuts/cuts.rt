@@ -5,9 +5,8 @@ ghost use Rattle.hub_spec.specs.Plans.{IsHubSet};
 ghost use Rattle.hub_spec.specs.Separation.{IsOrder};
 
 use super::texts::dual_told;
-use hub_model::Instance;
+use hub_model::{HubSet, Instance};
 use pareto_cuts::{cut_of, strong_dual};
-use plan_model::HubSet;
 use std::alloc::{AllocError, Global};
 
 /// The minimal dual of the commodity.

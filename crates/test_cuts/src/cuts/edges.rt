@@ -7,8 +7,7 @@ ghost use Rattle.hub_spec.specs.Separation.{IsOrder};
 use super::texts::dual_told;
 use dual_cuts::dual_of;
 use hub_edges::EdgeRow;
-use hub_model::Instance;
-use plan_model::HubSet;
+use hub_model::{HubSet, Instance};
 use std::alloc::{AllocError, Global};
 use test_lines::node;
 

@@ -1,7 +1,7 @@
-//! Legs of an instance's routes by unit of flow (`leg_tables`), between the node 1 and the hubs 0 and 2.
+//! Legs of an instance's routes by unit of flow (`leg_duals`), between the node 1 and the hubs 0 and 2.
 
 use hub_model::Instance;
-use leg_tables::{FirstLegs, SetLegs};
+use leg_duals::{FirstLegs, SetLegs};
 use std::alloc::{AllocError, Global};
 
 // The stops are the node 1, which is the order's, and then the hubs.

@@ -5,9 +5,8 @@ ghost use Rattle.hub_spec.specs.Plans.{IsHubSet};
 ghost use Rattle.hub_spec.specs.Separation.{IsOrder};
 ghost use Rattle.pareto_cuts.specs.UnitCosts.{AreDualsFrom};
 
-use hub_model::Instance;
+use hub_model::{HubSet, Instance};
 use pareto_cuts::{DualBuffer, OriginScratch, Separation, SetTables};
-use plan_model::HubSet;
 use std::alloc::{AllocError, Global};
 
 /// The sum of the prices from `i` and the dual of the commodity, by tables, an origin's scratch and a buffer.

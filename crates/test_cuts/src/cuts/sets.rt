@@ -5,12 +5,11 @@ ghost use Rattle.hub_spec.specs.Separation.{IsOrder};
 
 use super::{cores, cuts, edges, origins};
 use assign_sub::{assign, set_cost};
-use hub_model::Instance;
-use hub_plain::{is_candidate_set, is_hub_set, outside};
+use hub_model::{HubSet, Instance, is_candidate_set, outside};
 use pareto_cuts::order_of;
-use plan_model::HubSet;
 use std::alloc::{AllocError, Global};
 use test_lines::{first, list, node};
+use test_plain::is_hub_set;
 
 /// What is asked of the hubs that the line names.
 pub fn asked(alloc: Global, instance: &Instance, line: &str) -> Result<String, AllocError> {
@@ -30,8 +29,8 @@ fn lacked(alloc: Global, instance: &Instance, hubs: &[u32]) -> Result<String, Al
     if !is_candidate_set(instance, hubs) {
         return String::from_str(alloc, "no candidates");
     }
-    let plain = hub_plain::lacking(instance, hubs);
-    let fast = limited_duals::lacking(instance, hubs);
+    let plain = test_plain::lacking(instance, hubs);
+    let fast = leg_duals::lacking(instance, hubs);
     let set = HubSet::of(alloc, hubs)?;
     let of_set = assign_sub::lacking(instance, &set);
     format!(in alloc; "{plain:?} {fast:?} {of_set:?}")

@@ -1,8 +1,8 @@
 //! Cuts of any values of the candidates (`value_cuts`).
 
 ghost use Rattle.std.specs.Prelude.{◌≡◌, ◌<◌, ◌≤◌, length, IfOk};
-ghost use Rattle.value_cuts.specs.Values.{AreValuesFor, allowed_price, node_value};
-ghost use Rattle.value_cuts.specs.HeldRows.{IsSameShape};
+ghost use Rattle.cut_model.specs.ValueRows.{AreValuesFor, allowed_price, node_value};
+ghost use Rattle.cut_model.specs.HeldRows.{IsSameShape};
 
 use super::texts::{dual_told, sums_told};
 use hub_model::Instance;

@@ -8,9 +8,9 @@ ghost use Rattle.p_hub.specs.Fixing.{counted_closes, IsBetween};
 
 use super::fields::{Lent, branch, cuts_of, numbers, parted};
 use super::weighing::serve;
+use hub_model::Branch;
 use leaf_bound::Weighting;
 use p_hub::{bound_p, closes_p, fix_p, pick};
-use plan_model::Branch;
 use std::alloc::{AllocError, Global};
 
 // The greatest target that there may be.

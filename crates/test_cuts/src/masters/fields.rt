@@ -1,7 +1,6 @@
 //! What the fields of a line give.
 
-use hub_model::{Factors, Instance, Nodes, Parts, Refusal, Terms, is_node_list};
-use plan_model::Branch;
+use hub_model::{Branch, Factors, Instance, Nodes, Parts, Refusal, Terms, is_node_list};
 use std::alloc::{AllocError, Global};
 use std::str::FromStr;
 

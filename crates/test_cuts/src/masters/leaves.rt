@@ -6,8 +6,8 @@ ghost use Rattle.leaf_bound.specs.Numbers.{AreWeightingNumbers, IsNodeWithin, Is
 use super::fields::{Lent, branch, cuts_of, numbers, parted};
 use super::weighing::serve;
 use hub_fixing::fix;
+use hub_model::Branch;
 use leaf_bound::{Weighting, bound, closes, gain};
-use plan_model::Branch;
 use std::alloc::{AllocError, Global};
 
 // The greatest target that there may be.

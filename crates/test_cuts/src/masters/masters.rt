@@ -7,7 +7,7 @@ use super::fields::{Lent, branch, cuts_of, parted};
 use super::limits::are_below;
 use super::tables;
 use frac_master::{Advice, advise, advise_by_totals, rows_of};
-use plan_model::Branch;
+use hub_model::Branch;
 use std::alloc::{AllocError, Global};
 
 /// What is asked of the master of a line: its first table, what it advises, or what it advises by totals.

@@ -2,8 +2,7 @@
 
 use super::fields::{numbers, parted};
 use cut_pool::{CutSums, KeptCut, Pool};
-use hub_model::is_node_list;
-use plan_model::HubSet;
+use hub_model::{HubSet, is_node_list};
 use std::alloc::{AllocError, Global};
 
 /// What the steps of the line give, made on a pool in turn.

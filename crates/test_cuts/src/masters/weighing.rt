@@ -7,8 +7,8 @@ ghost use Rattle.leaf_bound.specs.Bounds.{AreMultiples};
 ghost use Rattle.leaf_bound.specs.Numbers.{rows_of, IsSumOf, AreWeightingNumbers, IsNodeWithin, IsBranchWithin};
 
 use super::limits::are_below;
+use hub_model::Branch;
 use leaf_bound::Weighting;
-use plan_model::Branch;
 
 // The most that a fixed cost may be, and a sum of a cut for each unit of its part.
 const MOST_COST: u128 = 100_000_000_000_000_000_000_000_000_000;

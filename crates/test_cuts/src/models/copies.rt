@@ -1,7 +1,6 @@
 //! Copies of what a tree and a file are made of.
 
-use hub_model::Numbers;
-use plan_model::{Mix, TreeLine};
+use hub_model::{Mix, Numbers, TreeLine};
 use std::alloc::{AllocError, Global};
 
 /// A copy of a leaf, and a copy of its weights.

@@ -2,8 +2,7 @@
 
 use hub_model::Instance;
 use std::alloc::{AllocError, Global};
-use test_instances::{LINE_OF_THREE, NoInstance, THREE_COSTS, instance};
-use test_lines::{behind, named_instance};
+use test_lines::{LINE_OF_THREE, NoInstance, THREE_COSTS, behind, instance, named_instance};
 
 /// The instance of a line, as it stands, or what is wrong with it.
 pub fn told(alloc: Global, line: &str) -> Result<String, AllocError> {

@@ -3,14 +3,10 @@
 ghost use Rattle.std.specs.Prelude.{◌<◌};
 ghost use Rattle.hub_spec.specs.Plans.{IsHubSet};
 
-use hub_model::Instance;
-use hub_plain::{
-    assign, best_plan, is_hub_set, is_plan, least_route, minimal_dual, outside, set_cost,
-    set_cut_rows,
-};
-use plan_model::{HubSet, plan_cost};
+use hub_model::{HubSet, Instance, least_route, outside, plan_cost};
 use std::alloc::{AllocError, Global};
 use test_lines::{first, list, node};
+use test_plain::{assign, best_plan, is_hub_set, is_plan, minimal_dual, set_cost, set_cut_rows};
 
 /// What an optimal plan costs, by its routes, if there is one.
 pub fn best(alloc: Global, instance: &Instance) -> Result<String, AllocError> {

@@ -1,7 +1,6 @@
 //! Routes and branches of an instance.
 
-use hub_model::{Instance, route_cost};
-use plan_model::Branch;
+use hub_model::{Branch, Instance, route_cost};
 use std::alloc::{AllocError, Global};
 use test_lines::{first, node};
 

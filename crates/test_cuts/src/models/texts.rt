@@ -2,7 +2,7 @@
 
 use hub_model::{InstanceFault, Refusal, Wanted};
 use std::alloc::{AllocError, Global};
-use test_instances::{TWO_NODES_CERTIFICATE, TWO_NODES_OTHER_PLAN, TWO_NODES_PLAN, changed};
+use test_lines::{TWO_NODES_CERTIFICATE, TWO_NODES_OTHER_PLAN, TWO_NODES_PLAN, changed};
 
 /// One of each kind.
 const REFUSALS: [Refusal; 14] = [

@@ -1,5 +1,5 @@
 use Rattle.std.proofs.Common.{◌≡◌, ◌+◌, ◌*◌}
-use Rattle.hub_plain.proofs.Assigned.{IsAssigned}
+use Rattle.hub_model.proofs.Assigned.{IsAssigned}
 use Rattle.assign_sub.proofs.assignments.assign_any_length.Given as goal
 
 abbrev pub invariant-loop-i : goal.invariant-loop-i

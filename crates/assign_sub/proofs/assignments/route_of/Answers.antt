@@ -2,8 +2,8 @@ use Rattle.std.proofs.Common.{◌≡◌, ℕ, ◌+◌, ◌*◌, ◌≤◌, [], s
 use Rattle.hub_spec.specs.Problem.{flow, route_cost}
 use Rattle.hub_spec.specs.Plans.{IsLeastRoute}
 use Rattle.unit_duals.specs.Lengths.{way}
-use Rattle.leg_tables.proofs.RouteLengths.{way_costs}
-use Rattle.leg_tables.proofs.LeastRoutes.{first_route_least, no_flow_cost, no_flow_route}
+use Rattle.leg_duals.proofs.RouteLengths.{way_costs}
+use Rattle.leg_duals.proofs.StopRoutes.{first_route_least, no_flow_cost, no_flow_route}
 use Rattle.assign_sub.proofs.assignments.route_of.Goals as goal
 
 pub returns-then-flow-eq0-clause-least : goal.returns-then-flow-eq0-clause-least

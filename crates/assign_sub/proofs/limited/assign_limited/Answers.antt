@@ -1,8 +1,8 @@
 use Rattle.std.proofs.Common.{ℕ, pos, subst, sym, ap, ◌∙◌, arith}
 use Rattle.hub_spec.specs.Plans.{IsSetCost}
 use Rattle.hub_model.specs.Amounts.{natural}
-use Rattle.hub_plain.proofs.Assigned.{assigned_limit, assigned_more, assigned_whole, IsWhole}
-use Rattle.hub_plain.proofs.SignedCosts.{handed_on}
+use Rattle.hub_model.proofs.Assigned.{assigned_limit, assigned_more, assigned_whole, IsWhole}
+use Rattle.hub_model.proofs.SignedCosts.{handed_on}
 use Rattle.assign_sub.proofs.limited.assign_limited.Goals as goal
 use Rattle.assign_sub.proofs.limited.assign_limited.Goals.{After-loop-i}
 

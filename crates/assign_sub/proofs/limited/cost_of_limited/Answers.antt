@@ -1,5 +1,5 @@
 use Rattle.std.proofs.Common.{arith}
-use Rattle.hub_plain.proofs.Assigned.{routed_limit, routed_more, assigned_whole, IsWhole}
+use Rattle.hub_model.proofs.Assigned.{routed_limit, routed_more, assigned_whole, IsWhole}
 use Rattle.assign_sub.proofs.limited.cost_of_limited.Goals as goal
 use Rattle.assign_sub.proofs.limited.cost_of_limited.Goals.{After-loop-i}
 

@@ -1,5 +1,5 @@
 use Rattle.std.proofs.Common.{◌+◌, ◌*◌}
-use Rattle.hub_plain.proofs.Assigned.{IsRouted}
+use Rattle.hub_model.proofs.Assigned.{IsRouted}
 use Rattle.assign_sub.proofs.limited.cost_of_limited.Given as goal
 
 abbrev pub invariant-loop-i : goal.invariant-loop-i

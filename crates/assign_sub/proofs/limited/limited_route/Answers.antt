@@ -1,5 +1,5 @@
 use Rattle.std.proofs.Common.{slice_index, sym, arith}
-use Rattle.leg_tables.proofs.LeastRoutes.{no_flow_cost, no_flow_route}
+use Rattle.leg_duals.proofs.StopRoutes.{no_flow_cost, no_flow_route}
 use Rattle.assign_sub.proofs.limited.limited_route.Goals as goal
 
 pub returns-then-flow-eq0-clause-least : goal.returns-then-flow-eq0-clause-least

@@ -4,7 +4,7 @@ use Rattle.std.proofs.lemmas.Iterator.Adapters.{YieldsList-from_vec}
 use Rattle.std.proofs.lemmas.Iterator.Consumers.{YieldsList-end}
 use Rattle.hub_spec.specs.Cuts.{Cut}
 use Rattle.search_spec.specs.Again.{with_given}
-use Rattle.search_progress.specs.Progressing.{state_of, IsAt}
+use Rattle.search_steps.specs.Progressing.{state_of, IsAt}
 use Rattle.branch_tree.proofs.Beginning.{given_none_at, given_next}
 use Rattle.branch_tree.proofs.again.give.Goals as goal
 

@@ -1,5 +1,5 @@
 use Rattle.search_spec.specs.Again.{with_given}
-use Rattle.search_progress.specs.Progressing.{state_of, IsAt}
+use Rattle.search_steps.specs.Progressing.{state_of, IsAt}
 use Rattle.branch_tree.proofs.again.give.Given as goal
 
 abbrev pub invariant-loop-cut : goal.invariant-loop-cut

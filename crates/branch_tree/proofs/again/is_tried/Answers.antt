@@ -1,5 +1,5 @@
 use Rattle.std.proofs.Common.{ℕ, not, Bool, Option, is_some, ap, sym, ◌∙◌}
-use Rattle.search_progress.specs.Progressing.{state_of}
+use Rattle.search_steps.specs.Progressing.{state_of}
 use Rattle.branch_tree.proofs.Beginning.{candidates_told, candidate_set, other_way, not_candidates, lacks_some, not_wanted, by_number}
 use Rattle.branch_tree.proofs.again.is_tried.Goals as goal
 

@@ -4,8 +4,8 @@ use Rattle.search_spec.specs.States.{Grown}
 use Rattle.search_core.specs.Starts.{start_seen}
 use Rattle.branch_tree.specs.Findings.{found_again}
 use Rattle.search_spec.proofs.FallingCosts.{both_to}
-use Rattle.search_progress.specs.Findings.{IsFound}
-use Rattle.search_progress.proofs.FoundCertificates.{IsSearchable, IsToldOf, told_of}
+use Rattle.search_steps.specs.Findings.{IsFound}
+use Rattle.search_steps.proofs.FoundCertificates.{IsSearchable, IsToldOf, told_of}
 use Rattle.branch_tree.proofs.RuleFindings.{again_searched, again_at_most}
 use Rattle.branch_tree.proofs.WholeSearch.{again_from}
 use Rattle.branch_tree.proofs.again.search_from.Goals as goal

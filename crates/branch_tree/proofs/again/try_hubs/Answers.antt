@@ -2,9 +2,9 @@ use Rattle.std.proofs.Common.{◌≤◌, List, ℕ, length, sym, subst, ◌∙�
 use Rattle.std.specs.List.Sorted.{IsStrictlyIncreasing}
 use Rattle.std.proofs.lemmas.Result.{on_ok_weaker}
 use Rattle.search_spec.proofs.Beginnings.{tried_set}
-use Rattle.search_progress.specs.Progressing.{state_of}
+use Rattle.search_steps.specs.Progressing.{state_of}
 use Rattle.branch_tree.proofs.Beginning.{not_tried, tried_at}
-use Rattle.search_progress.proofs.Orders.{outside_is}
+use Rattle.search_steps.proofs.Orders.{outside_is}
 use Rattle.branch_tree.proofs.again.try_hubs.Goals as goal
 
 pub returns-then-not-is_tried-clause-at : goal.returns-then-not-is_tried-clause-at

@@ -1,5 +1,5 @@
 use Rattle.branch_tree.specs.Findings.{found_again}
-use Rattle.search_progress.proofs.FoundCertificates.{told_of}
+use Rattle.search_steps.proofs.FoundCertificates.{told_of}
 use Rattle.branch_tree.proofs.RuleFindings.{again_searched}
 use Rattle.branch_tree.proofs.laws.again_is_proved.Goals as goal
 

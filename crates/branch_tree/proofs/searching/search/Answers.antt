@@ -4,8 +4,8 @@ use Rattle.search_spec.specs.States.{Grown}
 use Rattle.branch_tree.specs.Findings.{found_by}
 use Rattle.search_spec.specs.Costs.{first_hubs}
 use Rattle.search_spec.proofs.FallingCosts.{least_to}
-use Rattle.search_progress.specs.Findings.{IsFound}
-use Rattle.search_progress.proofs.FoundCertificates.{IsSearchable, IsToldOf, told_of}
+use Rattle.search_steps.specs.Findings.{IsFound}
+use Rattle.search_steps.proofs.FoundCertificates.{IsSearchable, IsToldOf, told_of}
 use Rattle.branch_tree.proofs.RuleFindings.{rule_searched, rule_at_most, found_remade}
 use Rattle.branch_tree.proofs.WholeSearch.{found_from}
 use Rattle.branch_tree.proofs.searching.search.Goals as goal

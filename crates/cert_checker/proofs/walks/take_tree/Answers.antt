@@ -3,7 +3,7 @@ use Rattle.std.proofs.lemmas.List.{drop_all, length-map, get_or-map}
 use Rattle.std.proofs.lemmas.List.Elements.{All-get_or}
 use Rattle.cert_spec.specs.Lines.{says_nodes, says_tree, says_end}
 use Rattle.cert_scan.specs.declared.items.Item.TheVariants.{Nodes}
-use Rattle.plan_model.specs.Lines.{tree_line_of}
+use Rattle.hub_model.specs.Lines.{tree_line_of}
 use Rattle.cert_checker.specs.Walks.{HasSmallDenominator}
 use Rattle.cert_checker.proofs.Walking.{may_first, front_start, front_more, front_may, front_end}
 use Rattle.cert_checker.proofs.Holding.{tree_left, next_tree_line}

@@ -1,6 +1,6 @@
 use Rattle.std.proofs.Common.{◌≡◌, drop, map}
 use Rattle.cert_spec.specs.Text.{tree_items}
-use Rattle.plan_model.specs.Lines.{tree_line_of}
+use Rattle.hub_model.specs.Lines.{tree_line_of}
 use Rattle.cert_checker.proofs.Walking.{HasFront}
 use Rattle.cert_checker.proofs.Holding.{tree_left}
 use Rattle.cert_checker.proofs.walks.take_tree.Given as goal

@@ -1,8 +1,8 @@
 use Rattle.std.proofs.Common.{[], ◌∷◌, refl, sym, subst}
 use Rattle.std.specs.Prelude.{IfOk}
-use Rattle.plan_model.specs.Lines.{tree_line_of}
-use Rattle.plan_model.specs.declared.tree_lines.TreeLine.{TreeLine}
-use Rattle.plan_model.specs.declared.tree_lines.TreeLine.TheVariants.{BranchOn, Empty, Block, Count}
+use Rattle.hub_model.specs.Lines.{tree_line_of}
+use Rattle.hub_model.specs.declared.tree_lines.TreeLine.{TreeLine}
+use Rattle.hub_model.specs.declared.tree_lines.TreeLine.TheVariants.{BranchOn, Empty, Block, Count}
 use Rattle.cert_spec.specs.Lines.{Item, says_tree}
 use Rattle.cert_conditions.specs.ListLines.{MayTakeLines, TakesLines}
 use Rattle.cert_checker.specs.Walks.{HasSmallDenominator}

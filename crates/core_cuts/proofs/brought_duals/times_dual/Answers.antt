@@ -4,8 +4,8 @@ use Rattle.std.proofs.lemmas.List.{take_all}
 use Rattle.std.proofs.Math.Nat.{mul-le-mul}
 use Rattle.hub_spec.specs.Cuts.{Prices}
 use Rattle.hub_model.specs.Amounts.{natural}
-use Rattle.plan_model.specs.Prices.{natural_values, signed_values, AreSignedPrices}
-use Rattle.plan_model.proofs.ListedValues.{as_natural, listed_again, signed_listed}
+use Rattle.hub_model.specs.Prices.{natural_values, signed_values, AreSignedPrices}
+use Rattle.hub_model.proofs.ListedValues.{as_natural, listed_again, signed_listed}
 use Rattle.core_cuts.specs.FoundCuts.{times_values}
 use Rattle.core_cuts.proofs.TimesDuals.{listed_times}
 use Rattle.core_cuts.proofs.brought_duals.times_dual.Goals as goal

@@ -1,5 +1,5 @@
 use Rattle.std.proofs.Common.{◌≡◌, take}
-use Rattle.plan_model.specs.Prices.{signed_values}
+use Rattle.hub_model.specs.Prices.{signed_values}
 use Rattle.core_cuts.specs.FoundCuts.{times_values}
 use Rattle.core_cuts.proofs.brought_duals.times_dual.Given as goal
 

@@ -2,7 +2,7 @@ use Rattle.std.proofs.Common.{◌≡◌, ℕ, ◌*◌, ◌<◌, ◌≤◌, ◌^�
 use Rattle.std.proofs.lemmas.Nat.{mul-le}
 use Rattle.hub_spec.specs.Limits.{most_flow}
 use Rattle.hub_spec.specs.Cuts.{value_at}
-use Rattle.plan_model.proofs.ListedValues.{listed_more}
+use Rattle.hub_model.proofs.ListedValues.{listed_more}
 use Rattle.core_cuts.specs.Readings.{most_units}
 use Rattle.core_cuts.proofs.Zipped.{value_at_limit}
 use Rattle.core_cuts.proofs.unit_prices.list_times.Goals as goal

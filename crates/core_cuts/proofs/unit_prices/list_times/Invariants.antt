@@ -1,6 +1,6 @@
 use Rattle.std.proofs.Common.{◌*◌, ◌≤◌, zip, vec_len, vec_capacity}
 use Rattle.hub_spec.specs.Cuts.{value_at}
-use Rattle.plan_model.proofs.ListedValues.{AreListedUpTo}
+use Rattle.hub_model.proofs.ListedValues.{AreListedUpTo}
 use Rattle.core_cuts.proofs.unit_prices.list_times.Given as goal
 
 abbrev pub invariant-loop-k : goal.invariant-loop-k

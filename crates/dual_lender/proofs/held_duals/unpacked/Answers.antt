@@ -4,8 +4,8 @@ use Rattle.std.proofs.lemmas.List.{take_all}
 use Rattle.std.proofs.lemmas.List.Elements.{All-get_or, All-weaker}
 use Rattle.hub_spec.specs.Limits.{most_nodes}
 use Rattle.hub_spec.specs.Ranges.{IsAmount}
-use Rattle.plan_model.specs.Prices.{signed_values}
-use Rattle.plan_model.proofs.ListedValues.{signed_listed}
+use Rattle.hub_model.specs.Prices.{signed_values}
+use Rattle.hub_model.proofs.ListedValues.{signed_listed}
 use Rattle.dual_lender.proofs.Unpacked.{entry_more}
 use Rattle.dual_lender.proofs.held_duals.unpacked.Goals as goal
 

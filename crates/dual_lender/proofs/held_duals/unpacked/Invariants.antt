@@ -1,5 +1,5 @@
 use Rattle.std.proofs.Common.{◌≡◌, ◌≤◌, take, vec_len, vec_capacity}
-use Rattle.plan_model.specs.Prices.{signed_values}
+use Rattle.hub_model.specs.Prices.{signed_values}
 use Rattle.dual_lender.proofs.held_duals.unpacked.Given as goal
 
 abbrev pub invariant-loop-at : goal.invariant-loop-at

@@ -1,6 +1,6 @@
 use Rattle.std.proofs.Common.{◌≡◌, ℕ, ◌<◌, List, ap, ap₂, sym, ◌∙◌, arith}
 use Rattle.hub_spec.specs.Problem.{Problem}
-use Rattle.value_cuts.specs.Values.{row_for, node_value, allowed_price}
+use Rattle.cut_model.specs.ValueRows.{row_for, node_value, allowed_price}
 use Rattle.value_cuts.specs.Prices.{row_price}
 use Rattle.value_cuts.proofs.PriceRows.{price_more_from}
 use Rattle.cut_pool.specs.Packed.{row_of}

@@ -1,6 +1,6 @@
 use Rattle.std.proofs.Common.{ℕ, ◌<◌, Fits, List, length, slice_index, ap, rules, arith}
 use mir.Syntax.{w32}
-use Rattle.leg_tables.proofs.CandidateTables.{few_places}
+use Rattle.hub_model.proofs.CandidateNodes.{few_places}
 use Rattle.dual_lines.proofs.SetPlaces.{places_more}
 use Rattle.dual_lines.proofs.places.set_places.Goals as goal
 

@@ -1,6 +1,6 @@
 use Rattle.std.proofs.Common.{ℕ, ◌+◌, ◌-◌, ◌≤◌, slice_index, ⊎_elim, arith}
 use Rattle.std.proofs.lemmas.List.Elements.{All-contains}
-use Rattle.leg_tables.specs.CandidateLegs.{delivery_length}
+use Rattle.leg_duals.specs.CandidateLegs.{delivery_length}
 use Rattle.dual_lines.proofs.units.is_covered_in_units.Goals as goal
 
 pub returns-else-first-least_end : goal.returns-else-first-least_end

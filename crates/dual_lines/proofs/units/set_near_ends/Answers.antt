@@ -5,7 +5,7 @@ use Rattle.std.proofs.lemmas.List.{take-set}
 use Rattle.std.proofs.lemmas.List.Elements.{All-get_or}
 use Rattle.unit_duals.specs.Limits.{most_leg}
 use Rattle.dual_lines.specs.Units.{most_unit}
-use Rattle.leg_tables.specs.CandidateLegs.{delivery_length}
+use Rattle.leg_duals.specs.CandidateLegs.{delivery_length}
 use Rattle.dual_lines.proofs.NearEnds.{near_far, near_listed}
 use Rattle.dual_lines.proofs.units.set_near_ends.Goals as goal
 

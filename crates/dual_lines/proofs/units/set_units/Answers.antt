@@ -1,7 +1,7 @@
 use Rattle.std.proofs.Common.{◌≡◌, ℕ, ◌*◌, ◌<◌, ◌≤◌, List, length, slice_index, take, ap, subst, sym, arith}
 use Rattle.std.proofs.lemmas.List.{length-take-le, get_or-take}
 use Rattle.std.proofs.lemmas.List.Elements.{All-from_get_or}
-use Rattle.leg_tables.specs.CandidateLegs.{candidate_at}
+use Rattle.hub_model.specs.CandidateLengths.{candidate_at}
 use Rattle.dual_lines.specs.Units.{most_unit}
 use Rattle.dual_lines.proofs.units.set_units.Goals as goal
 

@@ -1,5 +1,5 @@
 use Rattle.std.proofs.Common.{ℕ, ◌*◌, ◌<◌, ◌≤◌, slice_index}
-use Rattle.leg_tables.specs.CandidateLegs.{candidate_at}
+use Rattle.hub_model.specs.CandidateLengths.{candidate_at}
 use Rattle.dual_lines.specs.Units.{most_unit}
 use Rattle.dual_lines.proofs.units.set_units.Given as goal
 

@@ -4,9 +4,10 @@ use Rattle.std.proofs.lemmas.List.Elements.{Contains-get_or, All-contains}
 use Rattle.leaf_bound.specs.Numbers.{IsNodeWithin, weighting_of}
 use Rattle.leaf_bound.specs.Weighing.{most_gain}
 use Rattle.leaf_bound.proofs.LentNumbers.{branch_gains, within_fits, bound_read}
-use Rattle.hub_fixing.specs.declared.sides.Side.{Side}
+use Rattle.leaf_bound.specs.declared.sides.Side.{Side}
 use Rattle.hub_fixing.specs.Fixing.{side_of}
-use Rattle.hub_fixing.proofs.ChildBounds.{side_found, side_pushed, side_passed}
+use Rattle.leaf_bound.proofs.SideLists.{side_pushed, side_passed}
+use Rattle.hub_fixing.proofs.ChildBounds.{side_found}
 use Rattle.hub_fixing.proofs.fixing.fix.Goals as goal
 use Rattle.hub_fixing.proofs.fixing.fix.Goals.{After-side_by, in-Some+in_ok-push, in_default}
 

@@ -2,7 +2,7 @@ use Rattle.std.proofs.Common.{◌≡◌, ℕ, take}
 use Rattle.std.specs.Prelude.{filter_map}
 use Rattle.std.specs.Option.{option_map}
 use Rattle.leaf_bound.specs.Numbers.{weighting_of}
-use Rattle.hub_fixing.specs.declared.sides.Side.{Side}
+use Rattle.leaf_bound.specs.declared.sides.Side.{Side}
 use Rattle.hub_fixing.specs.Fixing.{side_of}
 use Rattle.hub_fixing.proofs.fixing.fix.Given as goal
 

@@ -1,6 +1,6 @@
-use Rattle.plan_model.specs.declared.tree_lines.TreeLine as model
+use Rattle.hub_model.specs.declared.tree_lines.TreeLine as model
 use Rattle.search_spec.specs.Steps.{two_more}
-use Rattle.search_progress.specs.Progressing.{state_of}
+use Rattle.search_steps.specs.Progressing.{state_of}
 use Rattle.node_rounds.specs.declared.fronts.Place.TheVariants.{Line}
 use Rattle.node_rounds.specs.declared.fronts.Front.{Front}
 use Rattle.node_rounds.proofs.Added.{pushed_at, at_two_more}

@@ -1,9 +1,9 @@
 use Rattle.std.proofs.Common.{ℕ, List, ap, ◌∙◌}
-use Rattle.plan_model.specs.Lines.{tree_line_of}
+use Rattle.hub_model.specs.Lines.{tree_line_of}
 use Rattle.search_spec.specs.Steps.{stopped_leaf}
 use Rattle.search_steps.specs.Weights.{pairs_of}
-use Rattle.search_progress.specs.Progressing.{state_of}
-use Rattle.rounds_spec.specs.Turns.{stops_at}
+use Rattle.search_steps.specs.Progressing.{state_of}
+use Rattle.search_spec.specs.Turns.{stops_at}
 use Rattle.node_rounds.specs.declared.fronts.Place.TheVariants.{Line}
 use Rattle.node_rounds.specs.declared.fronts.Front.{Front}
 use Rattle.node_rounds.proofs.Added.{pushed_at, taken_as, any_room, one_line}

@@ -1,7 +1,7 @@
 use Rattle.std.proofs.Common.{◌≡◌, ℕ, nat_eq, false, length, is_some, [], ap, refl, sym, subst, ◌∙◌, rules, arith}
 use Rattle.std.proofs.lemmas.List.Elements.{All-weaker}
-use Rattle.search_progress.specs.Progressing.{state_of}
-use Rattle.rounds_spec.specs.Turns.{goes_on}
+use Rattle.search_steps.specs.Progressing.{state_of}
+use Rattle.search_spec.specs.Turns.{goes_on}
 use Rattle.node_rounds.specs.Outcomes.{IsPendingOf}
 use Rattle.node_rounds.specs.Left.{standing_of}
 use Rattle.node_rounds.proofs.Added.{pending_kept}

@@ -1,6 +1,6 @@
 use Rattle.search_steps.specs.Advising.{parts_of}
-use Rattle.search_progress.specs.Progressing.{state_of}
-use Rattle.rounds_spec.specs.Lasting.{turns_left}
+use Rattle.search_steps.specs.Progressing.{state_of}
+use Rattle.search_spec.specs.Lasting.{turns_left}
 use Rattle.node_rounds.specs.Left.{left_of, lines_first, standing_of}
 use Rattle.node_rounds.proofs.Searched.{IsSearching}
 use Rattle.node_rounds.specs.Searchers.{IsTurnerAt}

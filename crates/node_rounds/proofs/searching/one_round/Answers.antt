@@ -1,7 +1,7 @@
 use Rattle.std.proofs.Common.{◌-◌, length, min, take, drop, sym, subst, arith}
 use Rattle.std.proofs.lemmas.List.{take-append-drop, length-drop}
 use Rattle.std.proofs.lemmas.Slice.Zip.{AllZip-long}
-use Rattle.rounds_spec.specs.Turns.{most_turns}
+use Rattle.search_spec.specs.Turns.{most_turns}
 use Rattle.node_rounds.specs.Outcomes.{IsTurnOf}
 use Rattle.node_rounds.specs.Left.{turned_of}
 use Rattle.node_rounds.specs.Searchers.{IsTurnerAt}

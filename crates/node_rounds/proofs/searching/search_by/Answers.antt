@@ -1,12 +1,12 @@
 use Rattle.std.proofs.Common.{ap, sym, subst, ◌∙◌}
 use Rattle.search_spec.specs.States.{State}
 use Rattle.search_spec.specs.Laws.{IsStart}
-use Rattle.search_progress.specs.Progressing.{state_of}
-use Rattle.search_progress.proofs.FoundCertificates.{IsSearchable, start_is}
+use Rattle.search_steps.specs.Progressing.{state_of}
+use Rattle.search_steps.proofs.FoundCertificates.{IsSearchable, start_is}
 use Rattle.search_steps.specs.Advising.{parts_of}
 use Rattle.hub_spec.specs.Trees.{preorder}
-use Rattle.rounds_spec.specs.Turns.{at_root}
-use Rattle.rounds_spec.specs.Lasting.{searched_by_rounds}
+use Rattle.search_spec.specs.Turns.{at_root}
+use Rattle.search_spec.specs.Lasting.{searched_by_rounds}
 use Rattle.node_rounds.proofs.RoundFindings.{begun_minimal}
 use Rattle.node_rounds.specs.Searchers.{IsTurnerAt}
 use Rattle.node_rounds.proofs.searching.search_by.Goals as goal

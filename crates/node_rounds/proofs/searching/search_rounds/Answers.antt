@@ -4,9 +4,9 @@ use Rattle.search_spec.specs.States.{Grown}
 use Rattle.search_steps.specs.Advising.{parts_of}
 use Rattle.search_spec.specs.Costs.{first_hubs}
 use Rattle.search_spec.proofs.FallingCosts.{least_to}
-use Rattle.search_progress.specs.Findings.{IsFound}
-use Rattle.search_progress.proofs.FoundCertificates.{IsSearchable, IsToldOf, told_of}
-use Rattle.rounds_spec.specs.Lasting.{searched_by_rounds}
+use Rattle.search_steps.specs.Findings.{IsFound}
+use Rattle.search_steps.proofs.FoundCertificates.{IsSearchable, IsToldOf, told_of}
+use Rattle.search_spec.specs.Lasting.{searched_by_rounds}
 use Rattle.node_rounds.specs.Findings.{found_by_rounds}
 use Rattle.node_rounds.specs.Searchers.{first_state}
 use Rattle.node_rounds.proofs.RoundFindings.{rounds_searched, rounds_at_most, rounds_remade, found_from}

@@ -2,8 +2,8 @@ use Rattle.std.proofs.Common.{◌≡◌, ℕ, List, ap, sym, subst, [], ◌∷�
 use Rattle.std.proofs.lemmas.Result.{on_ok_weaker}
 use Rattle.hub_spec.specs.Trees.{IsBranch, Branching, branch_on, leaf_of}
 use Rattle.hub_spec.proofs.ChildLists.{open_branch, closed_branch}
-use Rattle.plan_model.specs.Lines.{tree_line_of}
-use Rattle.hub_fixing.specs.declared.sides.Side as code
+use Rattle.hub_model.specs.Lines.{tree_line_of}
+use Rattle.leaf_bound.specs.declared.sides.Side as code
 use Rattle.frac_master.specs.Advice.{advice_of_code}
 use Rattle.search_spec.specs.States.{denominator}
 use Rattle.search_spec.specs.Steps as steps
@@ -12,14 +12,14 @@ use Rattle.search_steps.specs.Advising.{told_by, master_advising, parts_of}
 use Rattle.search_steps.specs.Weights.{pairs_of, side_as, sides_as}
 use Rattle.search_steps.proofs.LeafPairs.{weights_fit}
 use Rattle.search_steps.proofs.GivenPools.{weights_stay, grown_twice}
-use Rattle.search_progress.specs.Progressing.{state_of}
-use Rattle.search_progress.specs.FixingsLeft.{AreOnFree}
-use Rattle.rounds_spec.specs.Places.{line, Standing}
-use Rattle.rounds_spec.specs.Turns.{split_up}
-use Rattle.rounds_spec.proofs.StepCases.{more_free, split_none, split_full}
+use Rattle.search_steps.specs.Progressing.{state_of}
+use Rattle.search_steps.specs.FixingsLeft.{AreOnFree}
+use Rattle.search_spec.specs.Places.{line, Standing}
+use Rattle.search_spec.specs.Turns.{split_up}
+use Rattle.search_spec.proofs.RoundCases.{more_free, split_none, split_full}
 use Rattle.node_rounds.specs.Outcomes.{pending_of}
 use Rattle.node_rounds.proofs.Added.{taken_then, taken_as, on_child, split_open, split_closed}
-use Rattle.search_progress.proofs.LeftFixings.{first_of, others_of, sides_split, none_left, on_free_in_child}
+use Rattle.search_steps.proofs.LeftFixings.{first_of, others_of, sides_split, none_left, on_free_in_child}
 use Rattle.node_rounds.proofs.splitting.+split.Goals as goal
 
 pub returns-in-empty : goal.returns-in-empty

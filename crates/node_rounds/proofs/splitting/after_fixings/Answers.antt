@@ -1,11 +1,11 @@
 use Rattle.std.proofs.Common.{true, false, ◌∙◌}
 use Rattle.std.proofs.lemmas.Result.{on_ok_weaker}
-use Rattle.plan_model.specs.Lines.{tree_line_of}
+use Rattle.hub_model.specs.Lines.{tree_line_of}
 use Rattle.frac_master.specs.Advice.{advice_of_code}
 use Rattle.search_steps.specs.Advising.{told_by, parts_of}
-use Rattle.search_progress.specs.Progressing.{state_of}
-use Rattle.search_progress.proofs.ToldChoices.{told_end, told_no_end}
-use Rattle.rounds_spec.proofs.StepCases.{after_barren, after_alone, after_more}
+use Rattle.search_steps.specs.Progressing.{state_of}
+use Rattle.search_steps.proofs.ToldChoices.{told_end, told_no_end}
+use Rattle.search_spec.proofs.RoundCases.{after_barren, after_alone, after_more}
 use Rattle.node_rounds.specs.Outcomes.{pending_of}
 use Rattle.node_rounds.proofs.Added.{taken_as, one_line, only_one, only_more, told_empty}
 use Rattle.node_rounds.proofs.splitting.after_fixings.Goals as goal

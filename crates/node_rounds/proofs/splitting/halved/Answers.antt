@@ -7,10 +7,10 @@ use Rattle.search_spec.specs.Steps.{two_more}
 use Rattle.search_steps.specs.Advising.{told_by, parts_of}
 use Rattle.search_steps.specs.Weights.{AreNodeWeights, pairs_of}
 use Rattle.search_steps.proofs.GivenPools.{weights_stay, grown_twice}
-use Rattle.search_progress.specs.Progressing.{state_of}
-use Rattle.rounds_spec.specs.Places.{line, open_at, Standing}
-use Rattle.rounds_spec.specs.Turns.{fresh}
-use Rattle.rounds_spec.proofs.StepCases.{halved_full}
+use Rattle.search_steps.specs.Progressing.{state_of}
+use Rattle.search_spec.specs.Places.{line, open_at, Standing}
+use Rattle.search_spec.specs.Turns.{fresh}
+use Rattle.search_spec.proofs.RoundCases.{halved_full}
 use Rattle.node_rounds.specs.Outcomes.{pending_of}
 use Rattle.node_rounds.proofs.Added.{taken_then, taken_as, halved_as}
 use Rattle.node_rounds.proofs.splitting.halved.Goals as goal

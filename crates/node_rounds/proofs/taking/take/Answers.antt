@@ -1,14 +1,14 @@
 use Rattle.std.proofs.Common.{◌≡◌, ℕ, List, ap, sym, refl, subst, [], ◌∷◌, ◌+◌, ◌∙◌, if◌then◌else◌}
 use Rattle.std.proofs.lemmas.Result.{on_ok_weaker}
-use Rattle.hub_fixing.specs.declared.sides.Side as code
-use Rattle.plan_model.specs.Lines.{tree_line_of}
+use Rattle.leaf_bound.specs.declared.sides.Side as code
+use Rattle.hub_model.specs.Lines.{tree_line_of}
 use Rattle.frac_master.specs.Advice.{advice_of_code}
 use Rattle.search_steps.specs.Advising.{told_by, parts_of}
 use Rattle.search_steps.specs.Weights.{pairs_of, sides_as}
 use Rattle.search_steps.proofs.GivenPools.{weights_stay}
-use Rattle.search_progress.specs.Progressing.{state_of}
-use Rattle.rounds_spec.specs.Places as places
-use Rattle.rounds_spec.specs.Turns.{with_set, taken, split_up}
+use Rattle.search_steps.specs.Progressing.{state_of}
+use Rattle.search_spec.specs.Places as places
+use Rattle.search_spec.specs.Turns.{with_set, taken, split_up}
 use Rattle.node_rounds.specs.declared.fronts.Front.{Front}
 use Rattle.node_rounds.specs.declared.outcomes.Outcome.{Outcome}
 use Rattle.node_rounds.specs.Outcomes.{pending_of, outcome_of, tree_of, IsOutcomeOf}

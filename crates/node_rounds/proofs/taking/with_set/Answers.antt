@@ -5,9 +5,9 @@ use Rattle.hub_spec.specs.Plans.{IsHubSet}
 use Rattle.cut_pool.specs.Entries.{Sums, Lacks}
 use Rattle.search_spec.specs.Steps.{separated}
 use Rattle.search_steps.specs.Advising.{parts_of}
-use Rattle.search_progress.specs.Kinds.{CutKind, minimal, parts_for}
-use Rattle.search_progress.specs.Progressing.{state_of, IsAt}
-use Rattle.rounds_spec.proofs.StepCases.{with_known, with_new}
+use Rattle.search_steps.specs.Kinds.{CutKind, minimal, parts_for}
+use Rattle.search_steps.specs.Progressing.{state_of, IsAt}
+use Rattle.search_spec.proofs.RoundCases.{with_known, with_new}
 use Rattle.node_rounds.specs.Outcomes.{AreSumsOver}
 use Rattle.node_rounds.proofs.Added.{at_same}
 use Rattle.node_rounds.proofs.taking.with_set.Goals as goal

@@ -1,6 +1,6 @@
 use Rattle.std.proofs.Common.{◌-◌, length, min, arith}
 use Rattle.std.proofs.lemmas.List.{length-drop}
-use Rattle.rounds_spec.specs.Turns.{most_turns}
+use Rattle.search_spec.specs.Turns.{most_turns}
 use Rattle.node_rounds.proofs.turners.turned.Goals as goal
 
 pub returns-clause-few : goal.returns-clause-few

@@ -2,17 +2,17 @@ use Rattle.std.proofs.Common.{◌≡◌, ℕ, List, Some, ap, sym, subst, ◌∙
 use Rattle.std.proofs.lemmas.Result.{IfOk-weaker}
 use Rattle.hub_spec.specs.Plans.{IsHubSet}
 use Rattle.hub_spec.specs.Trees.{Tree}
-use Rattle.plan_model.specs.Lines.{tree_line_of}
+use Rattle.hub_model.specs.Lines.{tree_line_of}
 use Rattle.search_spec.specs.States.{number_in_pool}
 use Rattle.search_steps.specs.Advising.{parts_of}
 use Rattle.search_steps.specs.Pools.{state_by, InEachState, InEachStateAt}
-use Rattle.search_progress.proofs.ToldChoices.{told_end, told_no_end, told_alone, told_none_alone}
-use Rattle.rounds_spec.specs.Places.{ends}
-use Rattle.rounds_spec.specs.Turns.{turn, turn_alone, turn_advised}
+use Rattle.search_steps.proofs.ToldChoices.{told_end, told_no_end, told_alone, told_none_alone}
+use Rattle.search_spec.specs.Places.{ends}
+use Rattle.search_spec.specs.Turns.{turn, turn_alone, turn_advised}
 use Rattle.node_rounds.specs.declared.outcomes.Outcome.{Outcome}
 use Rattle.node_rounds.specs.Outcomes.{pending_of, outcome_of}
 use Rattle.node_rounds.proofs.TurnCases.{end_tree, end_is_one, turn_barren, turn_blocked, turn_only, turn_open}
-use Rattle.search_progress.proofs.ToldChoices.{goes_on, alone_is_set}
+use Rattle.search_steps.proofs.ToldChoices.{goes_on, alone_is_set}
 use Rattle.node_rounds.proofs.turning.turn.Goals as goal
 
 pub returns-in-Some-clause-turn : goal.returns-in-Some-clause-turn

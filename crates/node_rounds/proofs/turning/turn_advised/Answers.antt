@@ -8,10 +8,10 @@ use Rattle.search_steps.specs.Pools.{state_by}
 use Rattle.search_steps.specs.Advising.{told_by}
 use Rattle.search_steps.specs.Weights.{pairs_of, sides_as}
 use Rattle.search_steps.proofs.LeafPairs.{weights_fit}
-use Rattle.search_progress.specs.FixingsLeft.{AreOnFree}
-use Rattle.rounds_spec.specs.Places.{ends}
+use Rattle.search_steps.specs.FixingsLeft.{AreOnFree}
+use Rattle.search_spec.specs.Places.{ends}
 use Rattle.node_rounds.specs.Outcomes.{pending_of, tree_of}
-use Rattle.search_progress.proofs.LeftFixings.{fixings_on_free}
+use Rattle.search_steps.proofs.LeftFixings.{fixings_on_free}
 use Rattle.node_rounds.proofs.TurnCases.{few_waits, IsAdvisedBy, advised_leaf, advised_ask, advised_split}
 use Rattle.node_rounds.proofs.turning.turn_advised.Goals as goal
 

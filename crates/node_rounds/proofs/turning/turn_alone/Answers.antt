@@ -6,8 +6,8 @@ use Rattle.search_steps.specs.Advising.{parts_of}
 use Rattle.search_steps.specs.Pools.{state_by}
 use Rattle.search_steps.specs.Weights.{pairs_of}
 use Rattle.search_steps.proofs.GivenPools.{find_is_number}
-use Rattle.search_progress.proofs.Orders.{outside_is, parts_ascending}
-use Rattle.rounds_spec.specs.Places.{ends, asks}
+use Rattle.search_steps.proofs.Orders.{outside_is, parts_ascending}
+use Rattle.search_spec.specs.Places.{ends, asks}
 use Rattle.node_rounds.specs.Outcomes.{pending_of, tree_of}
 use Rattle.node_rounds.proofs.TurnCases.{alone_known, alone_new}
 use Rattle.node_rounds.proofs.turning.turn_alone.Goals as goal

@@ -5,8 +5,8 @@ use Rattle.std.proofs.lemmas.List.Elements.{Contains-get_or}
 use Rattle.leaf_bound.specs.Numbers.{IsNodeWithin, weighting_of}
 use Rattle.leaf_bound.specs.Weighing.{most_gain, most_bound, IsWithin, IsGain, AreGains}
 use Rattle.leaf_bound.proofs.LentNumbers.{few_listed, within_nodes, branch_gains, within_fits}
-use Rattle.hub_fixing.specs.declared.sides.Side.{Side}
-use Rattle.hub_fixing.proofs.ChildBounds.{side_pushed, side_passed}
+use Rattle.leaf_bound.specs.declared.sides.Side.{Side}
+use Rattle.leaf_bound.proofs.SideLists.{side_pushed, side_passed}
 use Rattle.p_hub.specs.Fixing.{counted_side, side_by}
 use Rattle.p_hub.proofs.RisingGains.{value_within}
 use Rattle.p_hub.proofs.CountedBounds.{counted_read}

@@ -1,7 +1,7 @@
 use Rattle.std.proofs.Common.{◌≡◌, take}
 use Rattle.std.specs.Prelude.{filter_map}
 use Rattle.leaf_bound.specs.Numbers.{weighting_of}
-use Rattle.hub_fixing.proofs.ChildBounds.{with_side}
+use Rattle.leaf_bound.proofs.SideLists.{with_side}
 use Rattle.p_hub.specs.Fixing.{counted_side}
 use Rattle.p_hub.proofs.fixing.fix_p.Given as goal
 

@@ -2,8 +2,8 @@ use Rattle.std.proofs.Common.{◌≡◌, ℤ, pos, SFits, to_z, of_z, to_z-of_z,
 use mir.Syntax.{w128}
 use Rattle.hub_spec.specs.Cuts.{Prices}
 use Rattle.hub_model.specs.Amounts.{natural}
-use Rattle.plan_model.specs.Prices.{natural_values, signed_values}
-use Rattle.plan_model.proofs.ListedValues.{listed_again, signed_listed}
+use Rattle.hub_model.specs.Prices.{natural_values, signed_values}
+use Rattle.hub_model.proofs.ListedValues.{listed_again, signed_listed}
 use Rattle.par_separate.proofs.origin_duals.lent_dual.Goals as goal
 use Rattle.par_separate.proofs.origin_duals.lent_dual.Goals.{In_ok-to_vec}
 

@@ -1,7 +1,7 @@
 use Rattle.hub_spec.specs.Cuts.{cut_by}
 use Rattle.hub_spec.proofs.SetCuts.{set_cut_is_cut}
 use Rattle.hub_spec.proofs.SetCutFunction.{set_cut_is_one_lem}
-use Rattle.dual_cuts.proofs.WholeCuts.{one_for_each, set_cut_in_range}
+use Rattle.hub_model.proofs.WholeCuts.{one_for_each, set_cut_in_range}
 use Rattle.par_separate.proofs.separating.separate.Goals as goal
 
 pub gather-requires-clause-one_each : goal.gather-requires-clause-one_each

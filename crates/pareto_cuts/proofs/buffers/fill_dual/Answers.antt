@@ -5,8 +5,8 @@ use Rattle.hub_spec.specs.Limits.{most_cost}
 use Rattle.hub_spec.specs.Separation.{values_listed, minimal_dual}
 use Rattle.pareto_cuts.proofs.Columns.{minimal_of}
 use Rattle.hub_spec.proofs.Limits.{few_candidates}
-use Rattle.plan_model.specs.Prices.{signed_values}
-use Rattle.plan_model.proofs.ListedValues.{signed_listed}
+use Rattle.hub_model.specs.Prices.{signed_values}
+use Rattle.hub_model.proofs.ListedValues.{signed_listed}
 use Rattle.pareto_cuts.proofs.DualLists.{value_limit, values_are_listed}
 use Rattle.pareto_cuts.proofs.buffers.fill_dual.Goals as goal
 

@@ -1,7 +1,7 @@
 use Rattle.std.proofs.Common.{◌≡◌, ℕ, ◌+◌, ◌*◌, pos, slice_index, ap, ap₂, ◌∙◌, arith}
 use Rattle.hub_spec.specs.Problem.{Problem, flow}
 use Rattle.hub_spec.specs.Separation.{minimal_dual}
-use Rattle.hub_plain.proofs.SignedCosts.{handed_on}
+use Rattle.hub_model.proofs.SignedCosts.{handed_on}
 use Rattle.pareto_cuts.proofs.Columns.{minimal_of}
 use Rattle.pareto_cuts.proofs.DualLists.{price_limit}
 use Rattle.pareto_cuts.proofs.buffers.price_of.Goals as goal

@@ -2,7 +2,7 @@ use Rattle.std.proofs.Common.{◌≡◌, ℕ, ◌+◌, ◌*◌, ◌<◌, List, l
 use Rattle.hub_spec.specs.Problem.{Problem, flow}
 use Rattle.hub_spec.specs.Cuts.{value_at}
 use Rattle.hub_spec.specs.Separation.{minimal_dual}
-use Rattle.hub_plain.proofs.Turns.{order_nodes}
+use Rattle.hub_model.proofs.Turns.{order_nodes}
 use Rattle.unit_duals.specs.Cells.{cell}
 use Rattle.pareto_cuts.specs.AddedRows.{AreRowsAdded}
 use Rattle.pareto_cuts.proofs.Columns.{minimal_of, column_is}

@@ -1,5 +1,5 @@
 use Rattle.std.proofs.Common.{ℕ, List, ap, length, arith}
-use Rattle.limited_duals.specs.Ways.{stop_count}
+use Rattle.leg_duals.specs.Ways.{stop_count}
 use Rattle.pareto_cuts.proofs.StopCounts.{stops_within}
 use Rattle.pareto_cuts.proofs.origins.work_out_limited.Goals as goal
 

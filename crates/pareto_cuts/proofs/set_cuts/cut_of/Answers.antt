@@ -4,8 +4,8 @@ use Rattle.hub_spec.specs.Problem.{opening_cost}
 use Rattle.hub_spec.specs.Plans.{IsSetCost}
 use Rattle.hub_spec.specs.Cuts.{cut_by, IsTight, total, load}
 use Rattle.hub_spec.proofs.SetCuts.{no_load_on_hubs, set_cut_cost, set_cut_is_tight}
-use Rattle.dual_cuts.specs.HubCuts.{HubCut}
-use Rattle.dual_cuts.proofs.WholeCuts.{one_for_each, set_cut_in_range}
+use Rattle.hub_model.specs.HubCuts.{HubCut}
+use Rattle.hub_model.proofs.WholeCuts.{one_for_each, set_cut_in_range}
 use Rattle.pareto_cuts.proofs.set_cuts.cut_of.Goals as goal
 
 pub returns-clause-no_load : goal.returns-clause-no_load

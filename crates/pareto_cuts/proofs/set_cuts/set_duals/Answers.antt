@@ -7,7 +7,7 @@ use Rattle.hub_spec.specs.Separation.{IsMinimalDual, IsSetCut}
 use Rattle.hub_spec.proofs.Commodities.{next_route, length_commodities}
 use Rattle.hub_spec.proofs.SetCuts.{set_cut_is_cut}
 use Rattle.hub_spec.proofs.SetCutFunction.{set_cut_is_one_lem}
-use Rattle.limited_duals.proofs.MinimalDuals.{minimal_dual_of}
+use Rattle.leg_duals.proofs.MinimalDuals.{minimal_dual_of}
 use Rattle.pareto_cuts.proofs.set_cuts.set_duals.Goals as goal
 use Rattle.pareto_cuts.proofs.set_cuts.set_duals.Goals.{After-loop-i}
 

@@ -3,8 +3,8 @@ use Rattle.std.proofs.lemmas.List.{take_more, take_all}
 use mir.Syntax.{w128}
 use Rattle.hub_spec.specs.Cuts.{Prices}
 use Rattle.hub_model.specs.Amounts.{natural}
-use Rattle.plan_model.specs.Prices.{natural_values, signed_values}
-use Rattle.plan_model.proofs.ListedValues.{listed_again, signed_listed}
+use Rattle.hub_model.specs.Prices.{natural_values, signed_values}
+use Rattle.hub_model.proofs.ListedValues.{listed_again, signed_listed}
 use Rattle.pareto_cuts.proofs.strong_duals.lent_dual.Goals as goal
 use Rattle.pareto_cuts.proofs.strong_duals.lent_dual.Goals.{After-loop-value}
 

@@ -2,7 +2,7 @@ use Rattle.std.proofs.Common.{subst, sym, ℕ}
 use Rattle.hub_spec.specs.Cuts.{IsDual}
 use Rattle.hub_spec.specs.Separation.{IsMinimalDual}
 use Rattle.hub_spec.proofs.MinimalDuals.{minimal_is_dual}
-use Rattle.limited_duals.proofs.MinimalDuals.{minimal_dual_of}
+use Rattle.leg_duals.proofs.MinimalDuals.{minimal_dual_of}
 use Rattle.pareto_cuts.proofs.strong_duals.strong_dual_in.Goals as goal
 
 pub returns-clause-minimal : goal.returns-clause-minimal

@@ -1,6 +1,6 @@
 use Rattle.std.proofs.Common.{ℕ, ◌+◌, ◌<◌, List, length, All, ap₂, sym, subst, ◌∙◌, arith}
 use Rattle.hub_spec.specs.Problem.{Problem, flow}
-use Rattle.hub_plain.proofs.Turns.{order_nodes}
+use Rattle.hub_model.proofs.Turns.{order_nodes}
 use Rattle.pareto_cuts.specs.AddedRows.{row_sum, AreRowsAdded}
 use Rattle.pareto_cuts.proofs.Columns.{loads_added}
 use Rattle.pareto_cuts.proofs.sums.add_loads_to.Goals as goal

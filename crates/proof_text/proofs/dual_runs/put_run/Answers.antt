@@ -1,7 +1,7 @@
 use Rattle.std.proofs.Common.{ℕ, List, ap, ap₂, ◌∙◌, rules}
 use Rattle.hub_model.specs.Amounts.{natural}
-use Rattle.plan_model.specs.Prices.{natural_values}
-use Rattle.plan_model.proofs.ListedValues.{listed_again}
+use Rattle.hub_model.specs.Prices.{natural_values}
+use Rattle.hub_model.proofs.ListedValues.{listed_again}
 use Rattle.cert_spec.specs.Lines.{says_dual}
 use Rattle.cert_spec.specs.Text.{line_bytes}
 use Rattle.cert_format.proofs.Amounts.{same_amount}

@@ -1,7 +1,7 @@
 use Rattle.std.proofs.Common.{◌≡◌, ℕ, ℤ, List, Vec, Global, ap, ◌∙◌, rules, arith}
 use Rattle.std.proofs.lemmas.List.{take_all}
 use Rattle.hub_spec.specs.Trees.{leaf_of}
-use Rattle.plan_model.specs.Mixtures.{Mixture, signed_weights}
+use Rattle.hub_model.specs.Mixtures.{Mixture, signed_weights}
 use Rattle.search_steps.specs.Weights.{pairs_of}
 use Rattle.search_steps.proofs.LeafPairs.{pair_passed, pair_pushed, signed_mixture, mixture_weights}
 use Rattle.search_steps.proofs.leaves.leaf_line.Goals as goal

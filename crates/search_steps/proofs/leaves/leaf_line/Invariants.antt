@@ -1,5 +1,5 @@
 use Rattle.std.proofs.Common.{◌≡◌, take}
-use Rattle.plan_model.specs.Mixtures.{signed_weights}
+use Rattle.hub_model.specs.Mixtures.{signed_weights}
 use Rattle.search_steps.specs.Weights.{pairs_of}
 use Rattle.search_steps.proofs.leaves.leaf_line.Given as goal
 

@@ -2,8 +2,9 @@ use Rattle.std.proofs.Common.{◌≡◌, ℕ, ◌+◌, ◌-◌, ◌≤◌, lengt
 use Rattle.std.proofs.lemmas.List.Elements.{All-get_or}
 use Rattle.unit_duals.specs.Leasts.{least_of}
 use Rattle.unit_duals.proofs.LeastNumbers.{least_of_le_start}
-use Rattle.leg_tables.specs.CandidateLegs.{trunk_length, length_ceiling}
-use Rattle.value_cuts.specs.Values.{if_allowed}
+use Rattle.hub_model.specs.CandidateLengths.{length_ceiling}
+use Rattle.leg_duals.specs.CandidateLegs.{trunk_length}
+use Rattle.cut_model.specs.ValueRows.{if_allowed}
 use Rattle.value_cuts.specs.Ends.{most_end}
 use Rattle.value_cuts.proofs.LeastLengths.{end_fits, one_or_ceiling, two_or_ceiling, least_start, least_kept, least_lowered, onward_where, beyond_where, least_is_price}
 use Rattle.value_cuts.proofs.allowed.least_allowed_length.Goals as goal

@@ -1,5 +1,5 @@
 use Rattle.std.proofs.Common.{length}
-use Rattle.leg_tables.specs.CandidateLegs.{length_ceiling}
+use Rattle.hub_model.specs.CandidateLengths.{length_ceiling}
 use Rattle.value_cuts.proofs.LeastLengths.{IsLeastSoFar, one_or_ceiling, two_or_ceiling}
 use Rattle.value_cuts.proofs.allowed.least_allowed_length.Given as goal
 

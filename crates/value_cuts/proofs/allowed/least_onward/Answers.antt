@@ -1,7 +1,7 @@
 use Rattle.std.proofs.Common.{◌≡◌, ℕ, ◌+◌, ◌≤◌, min, length, slice_index, inl, inr, refl, sym, ◌∙◌, arith}
 use Rattle.unit_duals.proofs.LeastNumbers.{least_of-none, least_of_le_start, least_step, least_all}
-use Rattle.leg_tables.specs.CandidateLegs.{trunk_length}
-use Rattle.value_cuts.specs.Values.{if_allowed}
+use Rattle.leg_duals.specs.CandidateLegs.{trunk_length}
+use Rattle.cut_model.specs.ValueRows.{if_allowed}
 use Rattle.value_cuts.proofs.LeastLengths.{least_by_allowed, least_by_none}
 use Rattle.value_cuts.proofs.allowed.least_onward.Goals as goal
 use Rattle.value_cuts.proofs.allowed.least_onward.Goals.{then-sum-least+then-may_go, else-sum-least, else-sum-least-via-then-sum-least+else-may_go, else-sum-least-via-else-sum-least}

@@ -1,7 +1,7 @@
 use Rattle.std.proofs.Common.{◌≡◌, ◌+◌, slice_index}
 use Rattle.unit_duals.specs.Leasts.{least_of}
-use Rattle.leg_tables.specs.CandidateLegs.{trunk_length}
-use Rattle.value_cuts.specs.Values.{if_allowed}
+use Rattle.leg_duals.specs.CandidateLegs.{trunk_length}
+use Rattle.cut_model.specs.ValueRows.{if_allowed}
 use Rattle.value_cuts.proofs.allowed.least_onward.Given as goal
 
 abbrev pub invariant-loop-y : goal.invariant-loop-y

@@ -1,7 +1,7 @@
 use Rattle.std.proofs.Common.{◌≡◌, ◌+◌, slice_index}
 use Rattle.unit_duals.specs.Leasts.{least_of}
-use Rattle.leg_tables.specs.CandidateLegs.{length_ceiling}
-use Rattle.value_cuts.specs.Values.{if_allowed}
+use Rattle.hub_model.specs.CandidateLengths.{length_ceiling}
+use Rattle.cut_model.specs.ValueRows.{if_allowed}
 use Rattle.value_cuts.proofs.allowed.least_single.Given as goal
 
 abbrev pub invariant-loop-x : goal.invariant-loop-x

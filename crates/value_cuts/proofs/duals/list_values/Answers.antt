@@ -2,11 +2,11 @@ use Rattle.std.proofs.Common.{◌≡◌, ℕ, ◌*◌, ◌<◌, ◌≤◌, List,
 use Rattle.std.proofs.lemmas.Nat.{mul-le}
 use Rattle.hub_spec.specs.Limits.{most_flow}
 use Rattle.hub_spec.specs.Problem.{Problem}
-use Rattle.plan_model.proofs.ListedValues.{listed_more}
+use Rattle.hub_model.proofs.ListedValues.{listed_more}
 use Rattle.unit_duals.specs.Limits.{most_length}
-use Rattle.leg_tables.specs.CandidateLegs.{candidate_at}
-use Rattle.value_cuts.specs.Values.{node_value}
-use Rattle.value_cuts.proofs.NodeValues.{worked_value}
+use Rattle.hub_model.specs.CandidateLengths.{candidate_at}
+use Rattle.cut_model.specs.ValueRows.{node_value}
+use Rattle.cut_model.proofs.NodeValues.{worked_value}
 use Rattle.value_cuts.proofs.duals.list_values.Goals as goal
 
 pub list_value-requires-clause-limit : goal.list_value-requires-clause-limit

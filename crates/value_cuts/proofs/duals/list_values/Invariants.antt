@@ -1,6 +1,6 @@
 use Rattle.std.proofs.Common.{◌*◌, ◌≤◌, vec_len, vec_capacity}
-use Rattle.value_cuts.specs.Values.{node_value}
-use Rattle.plan_model.proofs.ListedValues.{AreListedUpTo}
+use Rattle.cut_model.specs.ValueRows.{node_value}
+use Rattle.hub_model.proofs.ListedValues.{AreListedUpTo}
 use Rattle.value_cuts.proofs.duals.list_values.Given as goal
 
 abbrev pub invariant-loop-x : goal.invariant-loop-x

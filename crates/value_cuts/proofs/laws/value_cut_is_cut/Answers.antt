@@ -1,4 +1,4 @@
-use Rattle.value_cuts.proofs.ValueSums.{cut_is}
+use Rattle.cut_model.proofs.ValueCuts.{cut_is}
 use Rattle.value_cuts.proofs.laws.value_cut_is_cut.Goals as goal
 
 pub returns : goal.returns

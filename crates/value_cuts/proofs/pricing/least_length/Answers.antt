@@ -2,7 +2,8 @@ use Rattle.std.proofs.Common.{◌≡◌, ℕ, ◌+◌, ◌-◌, ◌≤◌, lengt
 use Rattle.std.proofs.lemmas.List.Elements.{All-get_or}
 use Rattle.unit_duals.specs.Leasts.{least_of}
 use Rattle.unit_duals.proofs.LeastNumbers.{least_of_le_start}
-use Rattle.leg_tables.specs.CandidateLegs.{trunk_length, delivery_length, length_ceiling}
+use Rattle.hub_model.specs.CandidateLengths.{length_ceiling}
+use Rattle.leg_duals.specs.CandidateLegs.{trunk_length, delivery_length}
 use Rattle.value_cuts.specs.Ends.{most_end}
 use Rattle.value_cuts.proofs.LeastLengths.{end_fits, least_start, least_kept, least_lowered, least_of_any, least_is_price}
 use Rattle.value_cuts.proofs.pricing.least_length.Goals as goal

@@ -1,5 +1,6 @@
 use Rattle.std.proofs.Common.{◌+◌, length, slice_index}
-use Rattle.leg_tables.specs.CandidateLegs.{trunk_length, delivery_length, length_ceiling}
+use Rattle.hub_model.specs.CandidateLengths.{length_ceiling}
+use Rattle.leg_duals.specs.CandidateLegs.{trunk_length, delivery_length}
 use Rattle.value_cuts.proofs.LeastLengths.{IsLeastSoFar}
 use Rattle.value_cuts.proofs.pricing.least_length.Given as goal
 

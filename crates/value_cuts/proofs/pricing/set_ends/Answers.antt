@@ -1,9 +1,9 @@
 use Rattle.std.proofs.Common.{ℕ, ◌+◌, ◌<◌, ◌≤◌, length, slice_index, ap, arith}
 use Rattle.std.proofs.lemmas.List.Elements.{All-get_or}
 use Rattle.unit_duals.specs.Limits.{most_leg}
-use Rattle.value_cuts.specs.Values.{node_value}
-use Rattle.leg_tables.proofs.CandidateTables.{ceiling_limit}
-use Rattle.value_cuts.proofs.NodeValues.{worked_value, node_value_within}
+use Rattle.cut_model.specs.ValueRows.{node_value}
+use Rattle.leg_duals.proofs.CandidateTables.{ceiling_limit}
+use Rattle.cut_model.proofs.NodeValues.{worked_value, node_value_within}
 use Rattle.value_cuts.proofs.Ends.{ends_none, ends_more, ends_all}
 use Rattle.value_cuts.proofs.pricing.set_ends.Goals as goal
 

@@ -1,5 +1,5 @@
 use Rattle.std.proofs.Common.{slice_index}
-use Rattle.value_cuts.specs.Values.{node_value}
+use Rattle.cut_model.specs.ValueRows.{node_value}
 use Rattle.value_cuts.proofs.Ends.{AreEndsSet}
 use Rattle.value_cuts.proofs.pricing.set_ends.Given as goal
 

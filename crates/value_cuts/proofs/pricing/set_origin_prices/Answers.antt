@@ -1,6 +1,6 @@
 use Rattle.std.proofs.Common.{◌≡◌, ℕ, List, ap, ap₂, ◌∙◌, arith}
 use Rattle.hub_spec.specs.Problem.{Problem}
-use Rattle.value_cuts.specs.Values.{node_value, allowed_price}
+use Rattle.cut_model.specs.ValueRows.{node_value, allowed_price}
 use Rattle.value_cuts.specs.Prices.{row_price}
 use Rattle.value_cuts.proofs.PriceRows.{price_more_from}
 use Rattle.value_cuts.proofs.pricing.set_origin_prices.Goals as goal

@@ -5,10 +5,10 @@ use mir.Syntax.{w128}
 use Rattle.hub_spec.specs.Limits.{most_flow}
 use Rattle.hub_spec.specs.Problem.{Problem}
 use Rattle.unit_duals.specs.Limits.{most_length}
-use Rattle.leg_tables.specs.CandidateLegs.{candidate_at}
-use Rattle.value_cuts.specs.Values.{node_value}
-use Rattle.leg_tables.proofs.CandidateTables.{candidate_node}
-use Rattle.value_cuts.proofs.NodeValues.{worked_value, unlisted_none}
+use Rattle.hub_model.specs.CandidateLengths.{candidate_at}
+use Rattle.cut_model.specs.ValueRows.{node_value}
+use Rattle.leg_duals.proofs.CandidateTables.{candidate_node}
+use Rattle.cut_model.proofs.NodeValues.{worked_value, unlisted_none}
 use Rattle.value_cuts.proofs.AddedValues.{next_fresh, added_more, added_all}
 use Rattle.value_cuts.proofs.sums.add_values.Goals as goal
 

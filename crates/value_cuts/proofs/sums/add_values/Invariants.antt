@@ -1,5 +1,5 @@
 use Rattle.std.proofs.Common.{◌*◌}
-use Rattle.value_cuts.specs.Values.{node_value}
+use Rattle.cut_model.specs.ValueRows.{node_value}
 use Rattle.value_cuts.proofs.AddedValues.{AreAdded}
 use Rattle.value_cuts.proofs.sums.add_values.Given as goal
 

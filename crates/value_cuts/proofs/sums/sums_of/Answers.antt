@@ -3,8 +3,9 @@ use Rattle.std.proofs.lemmas.List.Elements.{All-from_get_or}
 use mir.Syntax.{w128}
 use Rattle.hub_spec.specs.Limits.{most_cost}
 use Rattle.hub_spec.specs.Problem.{Problem, commodity_at}
-use Rattle.value_cuts.specs.Values.{node_value}
-use Rattle.value_cuts.proofs.ValueSums.{price_of, value_of, price_of_within, value_of_within, front_within, sum_more, sum_all, price_more, value_more, row_number, total_by_commodities, load_by_commodities}
+use Rattle.cut_model.specs.ValueRows.{node_value}
+use Rattle.cut_model.proofs.ValueCuts.{price_of, value_of, price_of_within, value_of_within, total_by_commodities, load_by_commodities}
+use Rattle.value_cuts.proofs.ValueSums.{front_within, sum_more, sum_all, price_more, value_more, row_number}
 use Rattle.value_cuts.proofs.sums.sums_of.Goals as goal
 
 fits : (n : ℕ) → n ≤ most_cost → Fits w128 n

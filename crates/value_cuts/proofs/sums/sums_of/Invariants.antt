@@ -1,6 +1,6 @@
 use Rattle.std.proofs.Common.{◌≡◌, ℕ, ◌<◌, take, sum_by, slice_index}
 use Rattle.hub_spec.specs.Problem.{commodities}
-use Rattle.value_cuts.proofs.ValueSums.{price_of, value_of}
+use Rattle.cut_model.proofs.ValueCuts.{price_of, value_of}
 use Rattle.value_cuts.proofs.sums.sums_of.Given as goal
 
 abbrev pub invariant-loop-t : goal.invariant-loop-t

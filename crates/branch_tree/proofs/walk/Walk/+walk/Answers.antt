@@ -2,8 +2,8 @@ use Rattle.std.proofs.Common.{◌≡◌, ◌+◌, ◌-◌, ℕ, List, ◌∷◌,
 use Rattle.std.proofs.lemmas.Result.{on_ok_weaker}
 use Rattle.hub_spec.specs.Trees.{Branching, IsBranch, HasRoom, branch_on, leaf}
 use Rattle.hub_spec.proofs.ChildLists.{open_branch, closed_branch}
-use Rattle.plan_model.specs.Lines.{tree_line_of}
-use Rattle.hub_fixing.specs.declared.sides.Side as code
+use Rattle.hub_model.specs.Lines.{tree_line_of}
+use Rattle.leaf_bound.specs.declared.sides.Side as code
 use Rattle.frac_master.specs.Advice.{advice_of_code}
 use Rattle.search_spec.specs.States.{State, denominator}
 use Rattle.search_spec.specs.Steps as steps
@@ -12,21 +12,21 @@ use Rattle.search_spec.specs.Laws.{GoesOn}
 use Rattle.search_spec.proofs.StepCases.{after_closed, after_open}
 use Rattle.search_spec.proofs.Parting.{length-without}
 use Rattle.search_steps.specs.Advising.{told_by, parts_of}
-use Rattle.search_progress.specs.Kinds.{parts_for}
+use Rattle.search_steps.specs.Kinds.{parts_for}
 use Rattle.search_steps.specs.Weights.{pairs_of, side_as, sides_as, AreNodeWeights}
 use Rattle.search_steps.proofs.GivenPools.{weights_stay, grown_twice}
 use Rattle.search_steps.proofs.RuleChoices.{room_when}
 use Rattle.search_core.specs.declared.tasks.Task.{Task}
 use Rattle.branch_tree.specs.Lines.{handling}
-use Rattle.search_progress.specs.Progressing.{state_of}
+use Rattle.search_steps.specs.Progressing.{state_of}
 use Rattle.branch_tree.specs.Rounding.{round_as}
-use Rattle.search_progress.specs.FixingsLeft.{AreOnFree}
+use Rattle.search_steps.specs.FixingsLeft.{AreOnFree}
 use Rattle.branch_tree.proofs.AddedLines.{line_done, line_going, line_kept, done_as, done_by, going_as, branch_as, room_as}
-use Rattle.search_progress.proofs.ToldChoices.{told_end, told_no_end, told_alone, told_none_alone}
-use Rattle.search_progress.proofs.ToldChoices.{goes_on, alone_is_set}
+use Rattle.search_steps.proofs.ToldChoices.{told_end, told_no_end, told_alone, told_none_alone}
+use Rattle.search_steps.proofs.ToldChoices.{goes_on, alone_is_set}
 use Rattle.branch_tree.proofs.NodeCases.{some_free, child_room, node_ended, node_stopped, node_blocked, node_full, node_explored, fixed_alone, fixed_stopped, fixed_halved, fixed_next, halved_both}
 use Rattle.branch_tree.proofs.WalkSteps.{begun_state, both_done, open_done, closed_done, later_done}
-use Rattle.search_progress.proofs.LeftFixings.{first_of, others_of, sides_split, none_left, fixings_on_free, on_free_in_child}
+use Rattle.search_steps.proofs.LeftFixings.{first_of, others_of, sides_split, none_left, fixings_on_free, on_free_in_child}
 use Rattle.branch_tree.proofs.walk.Walk.+walk.Goals as goal
 
 -- ---- fixed

@@ -1,10 +1,10 @@
 use Rattle.std.proofs.lemmas.Result.{on_ok_weaker}
-use Rattle.plan_model.specs.Lines.{tree_line_of}
+use Rattle.hub_model.specs.Lines.{tree_line_of}
 use Rattle.search_steps.specs.Advising.{parts_of}
-use Rattle.search_progress.specs.Progressing.{state_of}
+use Rattle.search_steps.specs.Progressing.{state_of}
 use Rattle.branch_tree.proofs.AddedLines.{line_done, done_as}
-use Rattle.search_progress.proofs.ToldChoices.{told_end, told_no_end}
-use Rattle.search_progress.proofs.ToldChoices.{alone_is_set}
+use Rattle.search_steps.proofs.ToldChoices.{told_end, told_no_end}
+use Rattle.search_steps.proofs.ToldChoices.{alone_is_set}
 use Rattle.branch_tree.proofs.NodeCases.{ended_line, ended_blocked, ended_full}
 use Rattle.branch_tree.proofs.walk.Walk.end_branch.Goals as goal
 

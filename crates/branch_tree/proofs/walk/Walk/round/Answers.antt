@@ -7,7 +7,7 @@ use Rattle.search_steps.specs.Advising.{told_by}
 use Rattle.search_steps.specs.Weights.{pairs_of}
 use Rattle.search_steps.proofs.GivenPools.{weights_stay, grown_same}
 use Rattle.search_steps.proofs.RuleChoices.{room_when}
-use Rattle.search_progress.specs.Progressing.{state_of}
+use Rattle.search_steps.specs.Progressing.{state_of}
 use Rattle.branch_tree.proofs.RoundSteps.{IsTaken, round_ends, round_goes}
 use Rattle.branch_tree.proofs.walk.Walk.round.Goals as goal
 

@@ -2,9 +2,9 @@ use Rattle.std.proofs.Common.{ap, ◌∙◌}
 use Rattle.std.proofs.lemmas.Result.{IfOk-weaker}
 use Rattle.search_spec.specs.Steps.{rounds, round}
 use Rattle.search_steps.specs.Weights.{pairs_of}
-use Rattle.search_progress.specs.Kinds.{parts_for}
+use Rattle.search_steps.specs.Kinds.{parts_for}
 use Rattle.search_steps.proofs.GivenPools.{grown_twice}
-use Rattle.search_progress.specs.Progressing.{state_of}
+use Rattle.search_steps.specs.Progressing.{state_of}
 use Rattle.branch_tree.proofs.NodeCases.{two_rounds}
 use Rattle.branch_tree.proofs.RoundSteps.{next_by}
 use Rattle.branch_tree.proofs.walk.Walk.rounds.Goals as goal

@@ -1,8 +1,8 @@
 use Rattle.std.proofs.lemmas.Result.{on_ok_weaker}
-use Rattle.plan_model.specs.Lines.{tree_line_of}
+use Rattle.hub_model.specs.Lines.{tree_line_of}
 use Rattle.search_spec.specs.Steps.{stopped_leaf}
 use Rattle.search_steps.specs.Weights.{pairs_of}
-use Rattle.search_progress.specs.Progressing.{state_of}
+use Rattle.search_steps.specs.Progressing.{state_of}
 use Rattle.branch_tree.proofs.AddedLines.{line_at}
 use Rattle.branch_tree.proofs.walk.Walk.stopped_leaf.Goals as goal
 

@@ -1,6 +1,6 @@
 use Rattle.std.proofs.Common.{◌≡◌, ℕ, List, None, refl, arith, ap, subst, ◌∙◌}
 use Rattle.std.proofs.lemmas.Grind.{common_steps}
-use Rattle.tree_lines.specs.Tallies.{IsMultipleOf, IsAdded}
+use Rattle.cert_lines.specs.Tallies.{IsMultipleOf, IsAdded}
 use Rattle.cert_conditions.specs.Sums.{CutTally, numbered}
 use Rattle.cert_conditions.specs.Steps.{added}
 use Rattle.cert_conditions.proofs.checks.Checks.add_weight.Goals as goal

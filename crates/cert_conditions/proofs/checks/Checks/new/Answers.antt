@@ -1,6 +1,6 @@
 use Rattle.std.proofs.Common.{[], ap, refl, sym, subst, arith}
 use Rattle.dual_lines.specs.Lines.{ListedDual}
-use Rattle.tree_lines.specs.Paths.{Pending}
+use Rattle.cert_lines.specs.Paths.{Pending}
 use Rattle.cert_conditions.specs.Taken.{AreCutSums}
 use Rattle.cert_conditions.proofs.Whole.{new_taken}
 use Rattle.cert_conditions.proofs.checks.Checks.new.Goals as goal

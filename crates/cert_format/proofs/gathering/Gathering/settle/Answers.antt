@@ -1,7 +1,7 @@
 use Rattle.std.proofs.Common.{◌≡◌, ℤ, List, subst, rules}
 use Rattle.hub_spec.specs.Trees.{leaf_of}
 use Rattle.hub_spec.specs.Ranges.{IsLineInRange}
-use Rattle.plan_model.specs.Mixtures.{natural_weights}
+use Rattle.hub_model.specs.Mixtures.{natural_weights}
 use Rattle.cert_format.specs.Gathered.{IsFit}
 use Rattle.cert_format.specs.Gatherings.{begun_by}
 use Rattle.cert_format.proofs.Amounts.{passed_on}

@@ -1,5 +1,5 @@
 use Rattle.std.proofs.Common.{◌≡◌, length, sym, subst, rules}
-use Rattle.value_cuts.specs.Values.{value_cut}
+use Rattle.cut_model.specs.ValueRows.{value_cut}
 use Rattle.closing_search.specs.SingleCuts.{AreLoads}
 use Rattle.closing_search.proofs.SetLeaves.{taken, value_loads}
 use Rattle.closing_search.proofs.pricing.Pricing.sum.Goals as goal

@@ -3,7 +3,7 @@ use Rattle.std.specs.Int.{w128}
 use Rattle.std.proofs.lemmas.Int.{to_z-of_z}
 use Rattle.std.proofs.lemmas.List.{length-map}
 use Rattle.hub_spec.specs.Trees.{Closes, cut_at}
-use Rattle.plan_model.specs.Lines.{tree_line_of}
+use Rattle.hub_model.specs.Lines.{tree_line_of}
 use Rattle.search_spec.specs.States.{denominator, lesser, rounded_up}
 use Rattle.cut_pool.specs.Kept.{kept_cut}
 use Rattle.closing_search.specs.Gaps.{IsWithinGap, goal_of}

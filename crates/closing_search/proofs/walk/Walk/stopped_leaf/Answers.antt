@@ -2,7 +2,7 @@ use Rattle.std.proofs.Common.{◌≡◌, ℕ, true, Some, true≢false, refl, sy
 use Rattle.std.specs.Int.{w128}
 use Rattle.std.proofs.lemmas.Int.{to_z-of_z}
 use Rattle.std.proofs.lemmas.List.{length-map}
-use Rattle.plan_model.specs.Lines.{tree_line_of}
+use Rattle.hub_model.specs.Lines.{tree_line_of}
 use Rattle.search_spec.specs.States.{lesser, rounded_up}
 use Rattle.cut_pool.specs.Kept.{kept_cut}
 use Rattle.hub_spec.specs.Trees.{Closes, leaf_bound}

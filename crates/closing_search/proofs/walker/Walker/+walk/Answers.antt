@@ -4,8 +4,8 @@ use Rattle.hub_spec.specs.Trees.{Branching, IsBranch}
 use Rattle.hub_spec.proofs.ChildLists.{open_branch, closed_branch}
 use Rattle.search_spec.proofs.Parting.{length-without}
 use Rattle.closing_search.specs.declared.task.Task.{Task}
-use Rattle.plan_model.specs.declared.tree_lines.TreeLine as model
-use Rattle.plan_model.specs.Lines.{tree_line_of}
+use Rattle.hub_model.specs.declared.tree_lines.TreeLine as model
+use Rattle.hub_model.specs.Lines.{tree_line_of}
 use Rattle.closing_search.specs.Ends.{IsBarren}
 use Rattle.closing_search.specs.Progressing.{cuts_of, target_of, IsDone, IsAdvised}
 use Rattle.closing_search.proofs.Steps.{at_done, halved_done}

@@ -7,8 +7,8 @@ use Rattle.hub_spec.specs.Problem.{flow}
 use Rattle.hub_spec.specs.Cuts.{Prices, value_at}
 use Rattle.hub_spec.specs.Separation.{values_listed}
 use Rattle.hub_model.specs.Amounts.{natural}
-use Rattle.plan_model.specs.Prices.{natural_values, AreSignedPrices}
-use Rattle.plan_model.proofs.ListedValues.{as_natural, listed_again, values_are_listed, signed_listed}
+use Rattle.hub_model.specs.Prices.{natural_values, AreSignedPrices}
+use Rattle.hub_model.proofs.ListedValues.{as_natural, listed_again, values_are_listed, signed_listed}
 use Rattle.core_cuts.specs.Readings.{Reading, most_units, dual_of}
 use Rattle.core_cuts.proofs.unit_prices.UnitPrices.times_flow.Goals as goal
 use Rattle.core_cuts.proofs.unit_prices.UnitPrices.times_flow.Goals.{After-signed}

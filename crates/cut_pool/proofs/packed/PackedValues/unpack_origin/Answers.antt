@@ -1,5 +1,5 @@
 use Rattle.std.proofs.Common.{ℕ, ◌*◌, ◌<◌, ap, sym, ◌∙◌, arith}
-use Rattle.value_cuts.specs.Values.{ValueRows}
+use Rattle.cut_model.specs.ValueRows.{ValueRows}
 use Rattle.cut_pool.specs.Packed.{unpacked}
 use Rattle.cut_pool.proofs.Packing.{rows_unpacked}
 use Rattle.cut_pool.proofs.packed.PackedValues.unpack_origin.Goals as goal

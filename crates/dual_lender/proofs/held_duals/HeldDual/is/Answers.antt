@@ -1,7 +1,7 @@
 use Rattle.std.proofs.Common.{◌≡◌, sym, ap, ◌∙◌, rules, arith}
 use Rattle.hub_model.specs.Amounts.{natural}
-use Rattle.plan_model.specs.Prices.{signed_values}
-use Rattle.plan_model.proofs.SignedPairs.{signed_values_again}
+use Rattle.hub_model.specs.Prices.{signed_values}
+use Rattle.hub_model.proofs.SignedPairs.{signed_values_again}
 use Rattle.pareto_cuts.specs.Buffers.{RoomedDual}
 use Rattle.dual_lender.proofs.SameDuals.{same_duals}
 use Rattle.dual_lender.proofs.held_duals.HeldDual.is.Goals as goal

@@ -2,8 +2,8 @@ use Rattle.std.proofs.Common.{ℕ, ℤ, SFits, to_z-of_z, List, ap, ap₂, sym, 
 use mir.Syntax.{w128}
 use Rattle.hub_spec.specs.Cuts.{Prices}
 use Rattle.hub_model.specs.Amounts.{natural}
-use Rattle.plan_model.specs.Prices.{natural_values, AreSignedPrices}
-use Rattle.plan_model.proofs.ListedValues.{listed_again}
+use Rattle.hub_model.specs.Prices.{natural_values, AreSignedPrices}
+use Rattle.hub_model.proofs.ListedValues.{listed_again}
 use Rattle.dual_lender.proofs.held_duals.HeldDual.unpack.Goals as goal
 
 pub invariant_of-self : goal.invariant_of-self

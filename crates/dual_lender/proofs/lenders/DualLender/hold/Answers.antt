@@ -2,8 +2,8 @@ use Rattle.std.proofs.Common.{◌≡◌, ℕ, ℤ, pos, SFits, to_z, of_z, to_z-
 use mir.Syntax.{w128}
 use Rattle.hub_spec.specs.Cuts.{Prices}
 use Rattle.hub_model.specs.Amounts.{natural}
-use Rattle.plan_model.specs.Prices.{natural_values}
-use Rattle.plan_model.proofs.ListedValues.{listed_again, signed_listed}
+use Rattle.hub_model.specs.Prices.{natural_values}
+use Rattle.hub_model.proofs.ListedValues.{listed_again, signed_listed}
 use Rattle.cut_pool.specs.Kept.{kept_of}
 use Rattle.dual_lender.specs.Lenders.{LenderState, made_dual}
 use Rattle.dual_lender.specs.LenderParts.{lender_with}

@@ -1,7 +1,7 @@
 use Rattle.std.proofs.Common.{ℕ, ◌≡◌, length, ap, subst, arith}
 use Rattle.std.proofs.lemmas.List.{with_items_is}
 use Rattle.hub_spec.specs.Problem.{Problem}
-use Rattle.leg_tables.specs.CandidateLegs.{candidate_at}
+use Rattle.hub_model.specs.CandidateLengths.{candidate_at}
 use Rattle.dual_lines.specs.Steps.{IsStepCost}
 use Rattle.dual_lines.proofs.HeldLines.{range_begun, amounts_begun, steps_begun, candidates_begun, places_lent, steps_lent}
 use Rattle.dual_lines.proofs.commodity_lines.CommodityLine.begin.Goals as goal

@@ -3,7 +3,7 @@ use mir.Syntax.{w32}
 use Rattle.std.proofs.lemmas.List.{with_items_is}
 use Rattle.hub_spec.specs.Problem.{Problem}
 use Rattle.dual_lines.specs.Steps.{LegsInSteps, IsStepCost}
-use Rattle.leg_tables.proofs.CandidateTables.{few_places}
+use Rattle.hub_model.proofs.CandidateNodes.{few_places}
 use Rattle.dual_lines.proofs.HeldLines.{range_begun, amounts_begun, steps_begun, candidates_begun, zeros}
 use Rattle.dual_lines.proofs.commodity_lines.CommodityLine.new.Goals as goal
 

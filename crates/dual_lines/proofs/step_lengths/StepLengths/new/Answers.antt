@@ -2,7 +2,7 @@ use Rattle.std.proofs.Common.{◌≡◌, ℕ, ◌*◌, ◌≤◌, Fits, List, le
 use mir.Syntax.{w64}
 use Rattle.std.proofs.lemmas.List.{with_items_is}
 use Rattle.std.proofs.lemmas.Nat.{mul-le}
-use Rattle.leg_tables.proofs.CandidateTables.{few_places}
+use Rattle.hub_model.proofs.CandidateNodes.{few_places}
 use Rattle.dual_lines.specs.Steps.{AreInSteps}
 use Rattle.dual_lines.specs.Lengths.{AreBetween}
 use Rattle.dual_lines.proofs.StepLengths.{between_table, step_limit}

@@ -1,5 +1,5 @@
 use Rattle.std.proofs.Common.{length}
-use Rattle.leg_tables.specs.CandidateLegs.{collection_length, trunk_length, delivery_length}
+use Rattle.leg_duals.specs.CandidateLegs.{collection_length, trunk_length, delivery_length}
 use Rattle.dual_lines.proofs.StepTables.{step_table}
 use Rattle.dual_lines.proofs.step_tables.StepLegs.new.Goals as goal
 

@@ -1,7 +1,7 @@
 use Rattle.std.proofs.Common.{ℕ, List, length, ap, sym, ◌∙◌, arith}
 use Rattle.std.specs.List.{HoldsAt}
 use Rattle.search_steps.specs.Advising.{parts_of}
-use Rattle.rounds_spec.specs.Turns.{next_round}
+use Rattle.search_spec.specs.Turns.{next_round}
 use Rattle.node_rounds.specs.declared.outcomes.Pending.{Pending}
 use Rattle.node_rounds.specs.declared.outcomes.Outcome.{Outcome}
 use Rattle.node_rounds.specs.Outcomes.{IsTurnOf, IsOutcomeOf}

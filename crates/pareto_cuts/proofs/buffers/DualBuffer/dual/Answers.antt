@@ -1,7 +1,7 @@
 use Rattle.std.proofs.Common.{◌∙◌, ap, subst}
 use Rattle.hub_spec.specs.Separation.{AreListedValues}
-use Rattle.plan_model.specs.Prices.{signed_values}
-use Rattle.plan_model.proofs.SignedPairs.{signed_values_again, signed_prices}
+use Rattle.hub_model.specs.Prices.{signed_values}
+use Rattle.hub_model.proofs.SignedPairs.{signed_values_again, signed_prices}
 use Rattle.pareto_cuts.specs.Buffers.{RoomedDual}
 use Rattle.pareto_cuts.proofs.buffers.DualBuffer.dual.Goals as goal
 

@@ -3,8 +3,8 @@ use mir.Syntax.{w128}
 use Rattle.hub_spec.specs.Cuts.{Prices}
 use Rattle.hub_spec.specs.Separation.{minimal_dual}
 use Rattle.hub_model.specs.Amounts.{natural}
-use Rattle.plan_model.specs.Prices.{natural_values, AreSignedPrices}
-use Rattle.plan_model.proofs.ListedValues.{listed_again}
+use Rattle.hub_model.specs.Prices.{natural_values, AreSignedPrices}
+use Rattle.hub_model.proofs.ListedValues.{listed_again}
 use Rattle.pareto_cuts.proofs.buffers.DualBuffer.make.Goals as goal
 
 pub invariant_of-self : goal.invariant_of-self

@@ -1,7 +1,7 @@
 use Rattle.std.proofs.Common.{ℕ, ◌<◌, List, length, All, ap, sym, subst, arith}
 use Rattle.hub_spec.specs.Problem.{Problem}
 use Rattle.hub_spec.proofs.Limits.{hubs_are_nodes}
-use Rattle.hub_plain.proofs.Turns.{order_nodes}
+use Rattle.hub_model.proofs.Turns.{order_nodes}
 use Rattle.unit_duals.specs.Lengths.{UnitLegs}
 use Rattle.unit_duals.specs.LeastValues.{OriginDuals}
 use Rattle.pareto_cuts.proofs.StopCounts.{stops_within}

@@ -1,6 +1,6 @@
 use Rattle.std.proofs.Common.{ap, arith}
 use Rattle.hub_spec.proofs.Limits.{hubs_are_nodes}
-use Rattle.hub_plain.proofs.Turns.{order_nodes}
+use Rattle.hub_model.proofs.Turns.{order_nodes}
 use Rattle.unit_duals.specs.Lengths.{UnitLegs, RoomedLegs}
 use Rattle.pareto_cuts.proofs.StopCounts.{stops_within}
 use Rattle.pareto_cuts.proofs.set_tables.SetTables.fill_legs.Goals as goal

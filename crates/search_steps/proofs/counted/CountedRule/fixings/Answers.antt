@@ -2,7 +2,7 @@ use Rattle.std.proofs.Common.{◌≡◌, ℕ, [], None, Vec, Global, ap, ◌∙�
 use Rattle.std.proofs.lemmas.Result.{IfOk-weaker}
 use Rattle.leaf_bound.specs.Numbers.{weighting_of}
 use Rattle.search_spec.specs.Steps as steps
-use Rattle.hub_fixing.specs.declared.sides.Side.{Side}
+use Rattle.leaf_bound.specs.declared.sides.Side.{Side}
 use Rattle.p_hub.specs.Counted.{counted_of}
 use Rattle.p_hub.specs.Fixing.{counted_closes, counted_fixings}
 use Rattle.search_steps.specs.Pools.{state_by, InEachStateAt}

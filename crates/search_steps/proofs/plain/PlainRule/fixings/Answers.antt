@@ -3,7 +3,7 @@ use Rattle.std.proofs.lemmas.Result.{IfOk-weaker}
 use Rattle.leaf_bound.specs.Bounds.{bound_of}
 use Rattle.leaf_bound.specs.Numbers.{weighting_of}
 use Rattle.search_spec.specs.Steps as steps
-use Rattle.hub_fixing.specs.declared.sides.Side.{Side}
+use Rattle.leaf_bound.specs.declared.sides.Side.{Side}
 use Rattle.hub_fixing.specs.Fixing.{closes_by, fixings}
 use Rattle.search_steps.specs.Pools.{state_by, InEachStateAt}
 use Rattle.search_steps.specs.Weights.{pairs_of, sides_as}

@@ -4,9 +4,9 @@ use Rattle.hub_spec.specs.Cuts.{Prices}
 use Rattle.hub_spec.specs.Problem.{flow}
 use Rattle.hub_spec.specs.Separation.{values_listed}
 use Rattle.hub_model.specs.Amounts.{natural}
-use Rattle.plan_model.specs.Prices.{natural_values}
-use Rattle.plan_model.proofs.ListedValues.{listed_again, values_are_listed, signed_listed}
-use Rattle.value_cuts.specs.Values.{node_value, value_dual}
+use Rattle.hub_model.specs.Prices.{natural_values}
+use Rattle.hub_model.proofs.ListedValues.{listed_again, values_are_listed, signed_listed}
+use Rattle.cut_model.specs.ValueRows.{node_value, value_dual}
 use Rattle.value_cuts.proofs.duals.DualScratch.make.Goals as goal
 
 pub invariant_of-self : goal.invariant_of-self

@@ -1,0 +1,10 @@
+use Rattle.std.proofs.Common.{◌≡◌, ◌*◌, ◌≤◌, sum_by, take, slice_index}
+use Rattle.hub_spec.specs.Limits.{most_denominator, most_cost}
+use Rattle.cert_lines.specs.Marks.{marked}
+use Rattle.cert_lines.proofs.sums.loads_of.Given as goal
+
+abbrev pub invariant-loop-k : goal.invariant-loop-k
+invariant-loop-k l = record {
+  value : l.sum ≡ sum_by (slice_index l.loads) (marked (take l.k l.marks));
+  limit : l.sum ≤ l.k * (most_denominator * most_cost);
+}

@@ -1,0 +1,9 @@
+pub mod Trails
+pub mod Paths
+pub mod Blocks
+pub mod LeastGains
+pub mod Tallies
+pub mod Theorems
+pub mod Marks
+pub mod PlanTallies
+pub mod PlanTheorems

@@ -1,0 +1,11 @@
+pub mod Statuses
+pub mod Methods
+pub mod Searches
+pub mod Older
+pub mod Instances
+pub mod Solving
+pub mod VerdictStatuses
+pub mod Checks
+pub mod Judging
+pub mod Lines
+pub mod Reporting

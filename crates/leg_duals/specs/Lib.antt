@@ -1,0 +1,13 @@
+pub mod Ways
+pub mod Lowered
+pub mod Duals
+pub mod Parts
+pub mod ReachRoom
+pub mod DualRoom
+pub mod Routes
+pub mod Nearest
+pub mod StopLegs
+pub mod CandidateLegs
+pub mod UnitDuals
+pub mod LegParts
+pub mod Theorems

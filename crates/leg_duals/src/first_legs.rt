@@ -1,0 +1,63 @@
+//! The legs from one origin.
+
+ghost use Rattle.std.specs.Prelude.{◌≡◌, ◌+◌, ◌<◌, ◌≤◌, [], length, All, IfOk};
+ghost use Rattle.unit_duals.specs.Limits.{most_room};
+ghost use Rattle.leg_duals.specs.StopLegs.{AreFirstLegsOf};
+
+use crate::filling::{fit, set_first};
+use hub_model::Instance;
+use std::alloc::{AllocError, Global};
+use std::marker::Model;
+
+/// The legs from one origin to the stops, by unit of flow, with the room that was taken for them: so many stops there
+/// may be. A worker has its own.
+#[derive(Drop)]
+pub struct FirstLegs {
+    room: usize,
+    items: Vec<u64>,
+}
+
+impl Model for FirstLegs {
+    ghost use Rattle.leg_duals.specs.StopLegs.{RoomedFirst};
+
+    ghost Value = { RoomedFirst };
+
+    ghost use Rattle.leg_duals.specs.LegParts.{HasFirstRoom};
+
+    ghost view = { λ s. record { room = s.room; items = s.items.items } };
+
+    ghost invariant = { HasFirstRoom };
+}
+
+impl FirstLegs {
+    /// Legs with room for this many stops, as yet to none.
+    pub fn new(alloc: Global, room: usize) -> Result<FirstLegs, AllocError>
+        requires { room ≤ most_room }
+        ensures { IfOk result (λ f. f ≡ record { room = room; items = [] }) }
+    {
+        Ok(FirstLegs {
+            room,
+            items: Vec::with_capacity(alloc, room)?,
+        })
+    }
+
+    /// Makes these the legs from the origin `i` to the places of the order and the hubs. It takes no memory.
+    pub fn fill(&mut self, instance: &Instance, hubs: &[u32], order: &[u32], i: u32)
+        requires hubs { All (λ k. k < instance.now.size) hubs.now }
+        requires order { All (λ k. k < instance.now.size) order.now }
+        requires origin { i < instance.now.size }
+        requires room_stops { length order.now + length hubs.now ≤ self.old.room }
+        ensures room { self.new.room ≡ self.old.room }
+        ensures legs { AreFirstLegsOf instance.now hubs.now order.now i self.new.items }
+    {
+        fit(&mut self.items, order.len() + hubs.len());
+        set_first(instance, hubs, order, i, &mut self.items);
+    }
+
+    /// The legs, one for each stop.
+    pub fn as_slice(&self) -> &[u64]
+        ensures { result.now ≡ self.now.items }
+    {
+        &self.items
+    }
+}

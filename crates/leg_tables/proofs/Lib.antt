@@ -1,8 +1,0 @@
-pub mod StopNodes
-pub mod LegLimits
-pub mod LegRows
-pub mod CandidateTables
-pub mod FilledLegs
-pub mod RouteLengths
-pub mod LeastRoutes
-pub mod PlaceValues

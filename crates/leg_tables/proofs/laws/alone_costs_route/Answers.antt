@@ -1,5 +1,0 @@
-use Rattle.leg_tables.proofs.RouteLengths.{alone_costs}
-use Rattle.leg_tables.proofs.laws.alone_costs_route.Goals as goal
-
-pub returns : goal.returns
-returns c = alone_costs

@@ -1,5 +1,0 @@
-use Rattle.leg_tables.proofs.LeastRoutes.{no_flow_route}
-use Rattle.leg_tables.proofs.laws.first_hub_serves_no_flow.Goals as goal
-
-pub returns : goal.returns
-returns c = no_flow_route

@@ -1,5 +1,0 @@
-use Rattle.leg_tables.proofs.LeastRoutes.{first_route_least}
-use Rattle.leg_tables.proofs.laws.first_route_is_least.Goals as goal
-
-pub returns : goal.returns
-returns c = first_route_least

@@ -1,5 +1,0 @@
-use Rattle.leg_tables.proofs.LeastRoutes.{price_is_least}
-use Rattle.leg_tables.proofs.laws.price_is_least_cost.Goals as goal
-
-pub returns : goal.returns
-returns c = price_is_least

@@ -1,5 +1,0 @@
-use Rattle.leg_tables.proofs.RouteLengths.{way_costs}
-use Rattle.leg_tables.proofs.laws.ways_cost_routes.Goals as goal
-
-pub returns : goal.returns
-returns c = way_costs

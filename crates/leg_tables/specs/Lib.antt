@@ -1,5 +1,0 @@
-pub mod StopLegs
-pub mod CandidateLegs
-pub mod UnitDuals
-pub mod LegParts
-pub mod Theorems

@@ -1,6 +1,0 @@
-use Rattle.std.proofs.Common.{sym}
-use Rattle.limited_duals.proofs.NearestHubs.{none_lacked_any}
-use Rattle.limited_duals.proofs.serving.lacking.Goals as goal
-
-pub returns-in-None : goal.returns-in-None
-returns-in-None c = none_lacked_any c.args.instance.now c.args.hubs.now c.requires (sym c.in-None.ensures.value)

@@ -1,2 +1,0 @@
-pub mod SignedPairs
-pub mod ListedValues

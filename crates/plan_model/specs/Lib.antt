@@ -1,4 +1,0 @@
-pub mod Ascending
-pub mod Prices
-pub mod Mixtures
-pub mod Lines

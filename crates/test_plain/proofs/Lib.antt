@@ -1,0 +1,3 @@
+pub mod AllSets
+pub mod SetSearch
+pub mod PlanRoutes

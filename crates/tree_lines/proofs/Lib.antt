@@ -1,5 +1,0 @@
-pub mod Walking
-pub mod Blocked
-pub mod LeastGains
-pub mod TallyBounds
-pub mod Shares

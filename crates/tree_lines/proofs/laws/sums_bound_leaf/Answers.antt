@@ -1,5 +1,0 @@
-use Rattle.tree_lines.proofs.TallyBounds.{bounds_leaf}
-use Rattle.tree_lines.proofs.laws.sums_bound_leaf.Goals as goal
-
-pub returns : goal.returns
-returns c = bounds_leaf
