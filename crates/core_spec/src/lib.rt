@@ -8,7 +8,7 @@
 
 ghost use Rattle.core_spec.specs.Theorems.{CoreIsTight, CoreIsUndominated, CoreIsScaled};
 
-/// A Pareto-optimal cut says at its hubs just what their routes cost.
+/// A Pareto-optimal cut is tight: at its hubs it equals their routing cost.
 pub fn core_is_tight()
     ensures { CoreIsTight }
 {}
@@ -18,7 +18,7 @@ pub fn core_is_undominated()
     ensures { CoreIsUndominated }
 {}
 
-/// A Pareto-optimal dual brought to a greater part is one by the same proof.
+/// A Pareto-optimal dual scaled to a greater part is Pareto-optimal by the same proof.
 pub fn core_is_scaled()
     ensures { CoreIsScaled }
 {}

@@ -4,7 +4,7 @@ ghost use Rattle.hub_io.specs.Outside.{Puts};
 
 use crate::Failed;
 
-/// What takes bytes, one piece after another.
+/// Takes bytes, one piece after another.
 pub trait Sink {
     /// The bytes taken so far, where the sink tells.
     ghost taken: { Self → Option (List ℕ) };

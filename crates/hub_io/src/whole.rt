@@ -15,14 +15,14 @@ pub enum ReadEnd {
     ReadFault,
     /// The file has more bytes than the limit.
     TooLong,
-    /// The bytes find no room in memory.
+    /// The allocation for the bytes failed.
     OutOfMemory,
 }
 
 /// The bytes of the file of that name, at most `limit` of them.
 ///
-/// No other file is begun. Where no count of faults rose and memory sufficed, the answer is `TooLong` exactly where the file
-/// has more than `limit` bytes, and else its bytes: so the clauses say together.
+/// No other file is begun. Without a fault of the shelf, and with enough memory, the result is `TooLong` exactly where
+/// the file has more than `limit` bytes.
 pub fn read_whole<S: Shelf>(
     alloc: Global,
     shelf: &mut S,

@@ -10,43 +10,43 @@
 
 ghost use Rattle.rounds_spec.specs.Theorems.{SearchIsSound, SearchIsCounted, StopIsForNodes, EnoughNodesSuffice, CostNeverRises, EachRoundFalls, RoundsAreOver, RoundIsByOutcomes};
 
-/// What a search by rounds finds shows its answer: the cuts are cuts, the tree is sound for the answer, and the incumbent
-/// costs what it says. This is so whatever number of nodes is allowed.
+/// A finding of the search by rounds proves its lower bound: its cuts are Benders cuts, its tree is sound for the
+/// bound, and the incumbent has the cost that is named. This holds for every limit on the number of nodes.
 pub fn search_is_sound()
     ensures { SearchIsSound }
 {}
 
-/// The tree has a line for each node that was made, no more than are allowed, and no more than a whole tree has.
+/// The tree has one line for each node that was made: no more than the node limit, and no more than a whole tree.
 pub fn search_is_counted()
     ensures { SearchIsCounted }
 {}
 
-/// A search stops only where two nodes more are not allowed. Where it did not stop, its answer is its cost.
+/// A search stops early only where two more nodes pass the limit. Where it did not, its lower bound is its cost.
 pub fn stop_is_for_nodes()
     ensures { StopIsForNodes }
 {}
 
-/// With no number of nodes, or as many as a whole tree has, a search does not stop.
+/// With no node limit, or with as many nodes as a whole tree has, a search does not stop early.
 pub fn enough_nodes_suffice()
     ensures { EnoughNodesSuffice }
 {}
 
-/// What a search finds costs at most what it began with.
+/// A search finds a cost no greater than that of its first incumbent.
 pub fn cost_never_rises()
     ensures { CostNeverRises }
 {}
 
-/// Each round of a search leaves fewer turns than there were, so that the rounds end.
+/// Each round decreases the number of node evaluations that may be left, so the rounds end.
 pub fn each_round_falls()
     ensures { EachRoundFalls }
 {}
 
-/// After the rounds of a search no other follows: no node is pending, or the search is stopped.
+/// After the rounds of a search no other round follows: no node is pending, or the search stopped early.
 pub fn rounds_are_over()
     ensures { RoundsAreOver }
 {}
 
-/// A round is all turns by the state at its start, and then what is taken of their outcomes in order.
+/// A round evaluates all its nodes in the state at its start, and then applies their outcomes in order.
 pub fn round_is_by_outcomes()
     ensures { RoundIsByOutcomes }
 {}
