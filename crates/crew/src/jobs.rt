@@ -1,9 +1,9 @@
-//! What work is.
+//! What a job is.
 ghost use Rattle.std.specs.Prelude.{ℕ, IfOk};
 
 use std::alloc::{AllocError, Global};
 
-/// Work in blocks, each of which is done by itself.
+/// Work in independent blocks.
 pub trait Job<T> {
     /// What blocks are worked out in. Each worker has one of its own, for all of its blocks.
     type Scratch: Send + Drop;

@@ -1,8 +1,8 @@
-//! What may be told.
+//! What may be sent.
 
 ghost use Rattle.std.specs.Prelude.{ℕ};
 
-/// Something that may be told under a key.
+/// An item that may be sent where it holds under the key.
 pub trait Told<K> {
     // What holds of it under a key.
     ghost holds: { K → Self → Type 0 };

@@ -10,8 +10,7 @@ use hub_model::Instance;
 use plan_model::{Dual, HubSet};
 use std::alloc::{AllocError, Global};
 
-/// Makes the minimal dual of the commodity from `i` to `j` in the scratch, which has room for the instance's nodes.
-/// It takes no memory.
+/// Makes the minimal dual of the commodity from `i` to `j` in the workspace. It allocates nothing.
 pub fn strong_dual_in(
     scratch: &mut Scratch,
     instance: &Instance,
@@ -33,7 +32,7 @@ pub fn strong_dual_in(
     scratch.make_single(instance, set, order, i, j);
 }
 
-/// The minimal dual of the commodity from `i` to `j`.
+/// The minimal dual of the commodity from `i` to `j`, strengthened in this order. It fails where memory runs out.
 pub fn strong_dual(
     alloc: Global,
     instance: &Instance,
