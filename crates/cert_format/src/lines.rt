@@ -66,8 +66,8 @@ pub(crate) fn put_route<K: Sink>(
     put_line(b"route", &[i, j, k, m], buffer, sink)
 }
 
-/// Puts the line that begins the cut of this number, counted from 1, and of this part, which is not marked. The first
-/// version says no part.
+/// Puts the first line of an unmarked cut, with its number, counted from 1, and its part. The first version has no
+/// parts.
 pub fn put_cut<K: Sink>(
     version: Version,
     x: u64,
@@ -89,8 +89,8 @@ pub fn put_cut<K: Sink>(
     }
 }
 
-/// Puts the line of the dual of a run of so many commodities from node i, the first of which goes to node j: its price
-/// `a`, and some nodes with their values. In the first version each run is of one commodity.
+/// Puts the line of the dual of a run of commodities from node `i`, the first of which goes to node `j`. It has the
+/// price `a`, and some nodes with their values. In the first version each run is one commodity.
 pub fn put_dual<K: Sink>(
     i: u32,
     j: u32,

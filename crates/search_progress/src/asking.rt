@@ -1,4 +1,4 @@
-//! What a search asks.
+//! The interface of separation.
 
 ghost use Rattle.std.specs.Prelude.{◌≡◌, IfOk};
 ghost use Rattle.hub_spec.specs.Plans.{IsHubSet};
@@ -12,7 +12,7 @@ use hub_model::Instance;
 use plan_model::HubSet;
 use std::alloc::{AllocError, Global};
 
-/// What was worked out of the cut of a hub set.
+/// The separated cut of a hub set.
 #[derive(Drop)]
 pub enum Separated {
     /// The sums of a cut whose duals can be computed again.
@@ -33,7 +33,7 @@ impl Separated {
     }
 }
 
-/// Something that separates hub sets: it works out their cuts.
+/// Separates hub sets: computes their Benders cuts.
 pub trait Separator {
     // Which cuts it works out.
     ghost kind: { CutKind };

@@ -1,4 +1,4 @@
-//! The choices of a search that hang on the plans that are wanted.
+//! The choices of a search that depend on the wanted number of hubs.
 
 ghost use Rattle.std.specs.Prelude.{◌≡◌, ◌≤◌, ◌^◌, [], ◌∷◌, false, None, option_map, IfOk};
 ghost use Rattle.hub_spec.specs.Problem.{Problem, IsProblem};
@@ -21,10 +21,10 @@ use hub_model::Instance;
 use plan_model::{Branch, HubSet, TreeLine};
 use std::alloc::{AllocError, Global};
 
-/// The rule of a search: its choices, as far as they hang on the plans that are wanted. Costs are in 10^-12.
+/// The rule of a search: its choices that depend on the wanted number of hubs. Costs are in 10^-12.
 ///
-/// Each choice is that of the search's definition, for the instances that the rule serves. A branch has room where it
-/// can have as many hubs as are wanted, if a number is: a search bounds no other.
+/// Each choice is that of the search's definition, for the instances of the rule. A branch has room where it can have
+/// the wanted number of hubs, or where none is wanted. A search bounds no other branch.
 pub trait Rule {
     // The instances that it is the rule of.
     ghost serves: { Self → Problem → Type 0 };
