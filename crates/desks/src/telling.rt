@@ -7,6 +7,6 @@ pub trait Told<K> {
     // What holds of it under a key.
     ghost holds: { K → Self → Type 0 };
 
-    /// The number of the turn that it is of.
+    /// The number of the task whose result this is.
     fn turn(&self) -> u64;
 }

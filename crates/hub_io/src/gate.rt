@@ -3,7 +3,7 @@
 /// What a worker passes before each block of its work. A gate in a test may hold a worker, so that every schedule can
 /// be tried. No result depends on it.
 pub trait Gate: Sync {
-    /// The worker of this number is about to do the block of this number, both counted from 0.
+    /// Worker number `worker` is about to do block number `block`, both counted from 0.
     fn at(&self, worker: u32, block: u32);
 }
 

@@ -37,8 +37,8 @@ pub trait Shelf {
         ensures stays_sound { sound self.old → sound self.new }
         ensures sound_begins { sound self.old → TellsOf (held self.old) name.now → OnErr result ⊥ };
 
-    /// Reads on in the file that was begun, and answers how many bytes it wrote to the front of `into`:
-    /// at least one, or none at the end of the file.
+    /// Reads on in the file that was begun. It returns the number of bytes written to the beginning of `into`: at least
+    /// one, or none at the end of the file.
     fn read(&mut self, into: &mut [u8]) -> Result<usize, Failed>
         requires { 0 < length into.old }
         ensures bound { ReadsAtMost result into.new }

@@ -12,9 +12,9 @@ pub trait Sink {
     /// How often the sink has failed.
     ghost faults: { Self → ℕ };
 
-    /// Takes all of the piece or fails, and then a front of it may have been taken.
+    /// Takes all of the piece, or fails. On failure a prefix of it may have been taken.
     ///
-    /// A call fails only where the count of faults rose in that call, or stands at its last value 2^64 - 1.
+    /// A call fails only where the count of faults rose in that call, or is at its last value 2^64 - 1.
     fn put(&mut self, piece: &[u8]) -> Result<(), Failed>
         ensures { Puts taken faults self.old self.new result piece.now };
 }

@@ -15,9 +15,9 @@ use token_reader::Reader;
 /// Reads an instance file in the layout of Australia Post: its contents, or the first fault in the order of tokens.
 ///
 /// The file has the number of nodes n, n pairs of coordinates, n * n flows row by row, the listed number of hubs, and
-/// the factors of collection, trunk and delivery. With the option `tail`, fixed costs of the n nodes follow and nothing
-/// more; else the rest is ignored. Coordinates, flows and fixed costs are read in 10^-6 and factors in 10^-3, all
-/// truncated. A distance is the Euclidean one, divided by the option `divide` and rounded down.
+/// the factors of collection, trunk and delivery. The option `tail` says what follows: fixed costs of the n nodes and
+/// nothing more, or anything, which is ignored. Coordinates, flows and fixed costs are read in 10^-6 and factors in
+/// 10^-3, all truncated. A distance is the Euclidean one, divided by the option `divide` and rounded down.
 pub fn read_ap(alloc: Global, bytes: &[u8], terms: &Terms) -> Result<Parts, Refusal>
     ensures contents { IfOk result (λ parts. HasContents australia_post terms.now bytes.now parts) }
     ensures fault { IfErr result (IsRefused australia_post terms.now bytes.now) }

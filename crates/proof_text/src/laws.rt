@@ -7,7 +7,7 @@ pub fn found_text_is_certificate()
     ensures { FoundTextIsCertificate }
 {}
 
-/// The certificate has no mark before the third version, nor where no cut is Pareto-optimal.
+/// The certificate has no mark before the third version, nor where no stored cut has one.
 pub fn stated_is_unmarked()
     ensures { StatedIsUnmarked }
 {}

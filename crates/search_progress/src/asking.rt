@@ -41,7 +41,7 @@ pub trait Separator {
     // What holds of a separator that may be asked.
     ghost ready: { Self → Type 0 };
 
-    /// The cut of the hub set over this order of the candidates outside it: its sums, in 10^-12, or the Pareto-optimal cut.
+    /// The cut of the hub set over this order of the other candidates: its sums, in 10^-12, or the Pareto-optimal cut.
     fn separate(
         &mut self,
         alloc: Global,

@@ -10,8 +10,8 @@
 //! - `text NAME LINES`: a text, or more of it
 //! - `items TEXT`: the items that a scan gives, and its fault
 //! - `fault TEXT`: the fault of a scan, and that of a reading
-//! - `write CALL COUNT TEXT`: the text read and written again; put number CALL fails, with COUNT bytes of it taken (0
-//!   0: none fails)
+//! - `write CALL COUNT TEXT`: the text read and written again; put number CALL fails, with COUNT bytes of it taken; for
+//!   `0 0` none fails
 //! - `instance COLLECT TRUNK DELIVER / CANDIDATES / FLOWS / DISTANCES / FIXED COSTS / HUBS LISTED`: the instance for
 //!   the lines below, its factors in 10^-3, the other numbers whole, row by row; HUBS LISTED is optional
 //! - `check TEXT`: how the check of the whole text ends, and that of its pieces of 7 bytes

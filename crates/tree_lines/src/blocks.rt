@@ -10,7 +10,7 @@ use hub_model::Instance;
 
 impl TreePath {
     /// Tells whether each allowed route of the commodity from `i` to `j` has a closed hub in the next branch. The path
-    /// is one of the instance. Its time is that of all pairs of candidates that are not closed.
+    /// is one of the instance. Routes are measured only for pairs of candidates that are not closed.
     pub fn is_blocked(&self, instance: &Instance, i: u32, j: u32) -> bool
         requires some { self.now.pending ≢ [] }
         requires candidates { self.now.candidates ≡ instance.now.candidates }

@@ -12,10 +12,10 @@ use crate::turns::pull_values;
 use std::alloc::{AllocError, Global};
 use std::marker::Model;
 
-/// The minimal duals of all commodities of one origin, per unit of flow: a price for each destination, and a row of
-/// values for each position of the order, with one value for each destination. The workspace is allocated once.
+/// The minimal duals of all commodities of one origin, per unit of flow. There is a price for each destination, and a
+/// row of values for each position of the order, with one value for each destination.
 ///
-/// A worker has its own, and computes one origin after another.
+/// The workspace is allocated once. A worker has its own, and computes one origin after another.
 #[derive(Drop)]
 pub struct UnitDuals {
     room: usize,
