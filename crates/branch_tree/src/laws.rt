@@ -13,7 +13,8 @@ pub fn again_is_proved()
     ensures { AgainIsProved }
 {}
 
-/// Without a length limit and a wanted number of hubs, the tree has only lines of the first version of certificates.
+/// With neither a length limit nor a wanted number of hubs, the tree has only lines of the first version of
+/// certificates.
 pub fn unlimited_is_first()
     ensures { UnlimitedIsFirst }
 {}
