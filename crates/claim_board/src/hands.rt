@@ -6,9 +6,9 @@ use std::collections::LinkedList;
 pub struct Hand {
     /// The numbers drawn, in the order of the draws.
     pub drawn: LinkedList<u32>,
-    /// The part of the board's seats that this seat stands for.
-    pub share: u32,
     /// The share of the board's seats that it represents.
+    pub share: u32,
+    /// Whether it drew past the last number.
     pub ended: bool,
 }
 
