@@ -2,7 +2,7 @@
 
 ghost use Rattle.search_steps.specs.Theorems.{AdvisingIsSound, GreatestIsOne, NearestIsOne, PickedIsOne};
 
-/// The master's weights are a convex combination of the cuts, listed as a leaf lists it.
+/// The master's weights are a mix of the cuts (at most 1 together), listed as a leaf lists it.
 pub fn advising_is_sound()
     ensures { AdvisingIsSound }
 {}
