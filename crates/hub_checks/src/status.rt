@@ -6,8 +6,8 @@ ghost use Rattle.hub_checks.specs.Statuses.{number_of};
 /// The exit status of a run.
 #[derive(Clone, Copy, Debug, PartialEq, Eq)]
 pub enum Status {
-    /// `solve`, `resolve`, `optimize`, `demo`: the bound is the cost. `check`: the bytes certify an optimal plan. `report`: they
-    /// certify. `make`: the text was written.
+    /// `solve`, `resolve`, `optimize`, `demo`: the bound is the cost. `check`: the bytes certify an optimal plan.
+    /// `report`: they certify. `make`: the text was written.
     Done,
     /// `solve`, `resolve`, `optimize`, `demo`: the bound is below the cost, since the node limit was reached, or for
     /// `optimize` since the bound is within the gap. `check`: the bytes certify a plan with a bound below its cost.

@@ -6,7 +6,7 @@ ghost use Rattle.search_spec.specs.States.{lesser, rounded_up};
 
 use hub_model::unsigned;
 
-/// The sum of the weights of a leaf, in 10^-6: the denominator of every leaf that a search makes.
+/// The greatest sum of the weights of a leaf, in 10^-6: the denominator of every leaf that a search makes.
 pub const WHOLE_WEIGHT: u128 = 1_000_000;
 
 /// The lesser of the two numbers, or the first where there is no other.

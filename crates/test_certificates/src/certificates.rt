@@ -13,7 +13,7 @@
 //! - `write CALL COUNT TEXT`: the text read and written again; put number CALL fails, with COUNT bytes of it taken; for
 //!   `0 0` none fails
 //! - `instance COLLECT TRUNK DELIVER / CANDIDATES / FLOWS / DISTANCES / FIXED COSTS / HUBS LISTED`: the instance for
-//!   the lines below, its factors in 10^-3, the other numbers whole, row by row; HUBS LISTED is optional
+//!   the lines below. Factors are in 10^-3, the other numbers whole, row by row; HUBS LISTED is optional
 //! - `check TEXT`: how the check of the whole text ends, and that of its pieces of 7 bytes
 //! - `older TEXT`: the verdict on the text as an older certificate, by its cuts and by its size alone
 //! - `values UNIT TEXT`: the dual values for a heuristic, in this unit, from the cuts of the text
@@ -22,7 +22,7 @@
 //! - `report CALL COUNT TEXT`: the report, where the certificate holds; CALL and COUNT as above
 //! - `reads TEXT`: checks of the text on a shelf, by reads of each length
 //! - `held COPIES MOST TEXT`: checks of the text on a shelf, with its one cut COPIES times, by reads of at most MOST
-//!   bytes: one in which call 1 of the shelf fails, one in which call 2 does, and so on up to the last call
+//!   bytes. In one check call 1 of the shelf fails, in the next call 2, and so on up to the last call
 //! - `name NAME TEXT`: the check of the file NAME of a shelf, then of the file `g`, which has the text
 
 mod checks;
