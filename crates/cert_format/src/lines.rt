@@ -1,4 +1,4 @@
-// The lines of a certificate put through a buffer.
+//! The lines of a certificate put through a buffer.
 ghost use Rattle.std.specs.Prelude.{◌≡◌, ◌+◌, ◌≤◌, ℕ, flat_map, All};
 ghost use Rattle.hub_spec.specs.Problem.{commodity_at};
 ghost use Rattle.hub_spec.specs.Trees.{leaf_of};

@@ -1,4 +1,4 @@
-// The lines of a marked cut put through a buffer.
+//! The lines of a marked cut put through a buffer.
 ghost use Rattle.std.specs.Prelude.{◌≡◌, ◌≤◌, ◌∷◌, length, flat_map};
 ghost use Rattle.cert_spec.specs.Lines.{says_marked, says_proof};
 ghost use Rattle.cert_spec.specs.Text.{proved_items};

@@ -1,4 +1,4 @@
-// The lines of a cut's duals, origin by origin.
+//! The lines of a cut's duals, origin by origin.
 ghost use Rattle.std.specs.Prelude.{◌≡◌, ◌+◌, ◌*◌, ◌≤◌, ◌<◌, ◌↔◌, length, slice_index_or, IsTrue};
 ghost use Rattle.hub_spec.specs.Limits.{most_nodes};
 ghost use Rattle.cert_spec.specs.Text.{dual_items};

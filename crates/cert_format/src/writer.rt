@@ -1,4 +1,4 @@
-// A certificate's text put part by part.
+//! A certificate's text put part by part.
 ghost use Rattle.std.specs.Prelude.{◌≡◌, ◌+◌, ◌*◌, ◌≤◌, ◌<◌, ◌^◌, ℕ, [], ◌∷◌, length, map, zip, All, None};
 ghost use Rattle.hub_spec.specs.Limits.{most_nodes};
 ghost use Rattle.hub_spec.specs.Problem.{commodities};

@@ -1,4 +1,4 @@
-// Many small puts joined into few large ones.
+//! Many small puts joined into few large ones.
 ghost use Rattle.std.specs.Prelude.{◌≡◌, ◌+◌, ◌<◌, ◌≤◌, [], ◌++◌, length, OnOk};
 ghost use Rattle.hub_io.specs.Outside.{PutsThrough};
 

@@ -1,4 +1,4 @@
-// Where the workers of the program pass.
+//! Where the workers of the program pass.
 
 /// What a worker passes before each block of its work. A gate in a test may hold a worker, so that every schedule can
 /// be tried. No result depends on it.

@@ -1,4 +1,4 @@
-// A shelf in memory, which fails where it is told to.
+//! A shelf in memory, which fails where it is told to.
 ghost use Rattle.std.specs.Prelude.{◌≡◌, ◌+◌, ◌-◌, ◌^◌, ◌<◌, ◌≤◌, ◌↔◌, ◌++◌, min, Contains, IsTrue, ℕ, Option, None, Some, [], length, take, drop, All, slice_get, string_bytes, false, IfOk, IfSome};
 ghost use Rattle.hub_io.specs.MemShelf.{Finds, held_bytes, left_bytes, most_given, ReadsOn};
 

@@ -1,4 +1,4 @@
-// A sink in memory, which fails where it is told to and past its room.
+//! A sink in memory, which fails where it is told to and past its room.
 ghost use Rattle.std.specs.Prelude.{◌≡◌, ◌+◌, ◌-◌, ◌^◌, ◌<◌, ◌≤◌, ◌++◌, min, ℕ, [], None, Some, All, length, take, IfOk, IsOk, vec_capacity};
 ghost use Rattle.hub_io.specs.Outside.{Puts};
 ghost use Rattle.hub_io.specs.Partial.{partial_at};

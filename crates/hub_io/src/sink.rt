@@ -1,4 +1,4 @@
-// Where texts are put.
+//! Where texts are put.
 ghost use Rattle.std.specs.Prelude.{ℕ, List, Option};
 ghost use Rattle.hub_io.specs.Outside.{Puts};
 

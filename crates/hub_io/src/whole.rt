@@ -1,4 +1,4 @@
-// A whole file, up to a limit.
+//! A whole file, up to a limit.
 ghost use Rattle.std.specs.Prelude.{◌≡◌, ◌≤◌, length, IfOk};
 ghost use Rattle.hub_io.specs.Outside.{Holds, HoldsMore, LeavesRest, Rose, TellsOf, with_name};
 

@@ -1,11 +1,10 @@
-//! Branch and bound by rounds of eight nodes, evaluated side by side, as a function with its theorems. No code;
-//! `node_rounds` is its code.
+//! Branch and bound by rounds of eight nodes, evaluated side by side, as a function with its theorems.
 //!
-//! The definitions stand in `specs/`, in the order of reading: `Places` (what a search by rounds has of its tree), `Turns`
-//! (the rule: a node's turn, what is taken of its outcome, a round, the end), `Outcomes` (a round by the list of its
-//! outcomes), `Lasting` (how long it lasts, and the whole search), `Theorems`. States, parts and single steps are those of
-//! `search_spec`. There is no code: each function is empty, and its contract is a theorem. `proofs/StepCases` has each step
-//! by its cases, for the code that does what the rule says.
+//! The definitions stand in `specs/`, in the order of reading: `Places` (the pending nodes and the tree), `Turns` (the
+//! rule: a node's evaluation, its outcome applied, a round, the end), `Outcomes` (a round by the list of its outcomes),
+//! `Lasting` (how long it lasts, and the whole search), `Theorems`. States, parts and single steps are those of
+//! `search_spec`. There is no code: each function is empty, and its contract is a theorem; `node_rounds` is the code.
+//! `proofs/StepCases` has each step by its cases, for that code.
 #![tactic(auto)]
 
 ghost use Rattle.rounds_spec.specs.Theorems.{SearchIsSound, SearchIsCounted, StopIsForNodes, EnoughNodesSuffice, CostNeverRises, EachRoundFalls, RoundsAreOver, RoundIsByOutcomes};
